@@ -2,16 +2,9 @@
 use Rattle.std.proofs.Common.{◌≡◌, ℕ, ◌+◌, ◌*◌, List, [], ◌∷◌, ◌++◌}
 use Rattle.std.proofs.Common.{length, map, drop, Option, ◌∙◌, subst, append_assoc, arith}
 use Rattle.std.proofs.Common.{length-append}
-use Rattle.std.proofs.lemmas.List.FromFn.{length-map-range_with_len}
-use Rattle.std.specs.Io.KnownBytes.{Appends}
-use Rattle.ps_words.specs.Words.{blocks}
-use Rattle.ps_words.specs.declared.order.Order.{Order}
-use Rattle.ps_words.specs.declared.edit.Edit.{Edit}
-use Rattle.ps_resolve.specs.Plans.{Origin}
-use Rattle.ps_patch.specs.Patched.{patched_or_zero}
-use Rattle.ps_linkfile.specs.LinkedFile.{all_blocks, padded_code}
-use Rattle.ps_linkfile.specs.Writing.{extent_of_origin, padded_codes, HaveEdits}
-use Rattle.ps_linkfile.specs.Outcomes.{AppendsPrefix}
+use Rattle.ps_linkfile.proofs.Words.{length-map-range_with_len, Appends, blocks, Order, Edit}
+use Rattle.ps_linkfile.proofs.Words.{Origin, patched_or_zero, all_blocks, padded_code}
+use Rattle.ps_linkfile.proofs.Words.{extent_of_origin, padded_codes, HaveEdits, AppendsPrefix}
 use Rattle.ps_linkfile.proofs.Extents.{all_blocks-cons}
 use Rattle.ps_linkfile.proofs.Prefixes.{appends_twice, prefix_more}
 
@@ -32,38 +25,32 @@ pub record IsAt (os : List Origin) (ds : List (List Edit)) (count : ℕ) (o : Or
 pub edits_here : (os : List Origin) (ds : List (List Edit)) (count : ℕ) (o : Origin)
     (d : List Edit) → IsAt os ds count o d → HaveEdits (drop count os) (drop count ds)
     → HaveEdits (o ∷ drop (count + 1) os) (d ∷ drop (count + 1) ds)
-edits_here os ds count o d at h =
-    subst (λ (es : List (List Edit)). HaveEdits (o ∷ drop (count + 1) os) es) at.edits
-    (subst (λ (ps : List Origin). HaveEdits ps (drop count ds)) at.origin h)
+edits_here os ds count o d at h = subst (λ (es : List (List Edit)). HaveEdits (o ∷ drop (count
+    + 1) os) es) at.edits (subst (λ (ps : List Origin). HaveEdits ps (drop count ds)) at.origin h)
 
 -- the codes so far, the code of this source and those after it are all codes
-joined_here : (order : Order) (os : List Origin) (ds : List (List Edit)) (count : ℕ) (o : Origin)
-    (d : List Edit) (prefix : List ℕ) → IsAt os ds count o d
+joined_here : (order : Order) (os : List Origin) (ds : List (List Edit))
+    (count : ℕ) (o : Origin) (d : List Edit) (prefix : List ℕ) → IsAt os ds count o d
     → prefix ++ padded_codes order (drop count os) (drop count ds) ≡ padded_codes order os ds
     → prefix ++ (padded_code order o.code d
-    ++ padded_codes order (drop (count + 1) os) (drop (count + 1) ds))
-    ≡ padded_codes order os ds
+    ++ padded_codes order (drop (count + 1) os) (drop (count + 1) ds)) ≡ padded_codes order os ds
 joined_here order os ds count o d prefix at h = grind arith
 
--- one code more
-pub codes_more : (order : Order) (os : List Origin) (ds : List (List Edit)) (count : ℕ)
-    (a b c : Option (List ℕ)) (prefix : List ℕ) (o : Origin) (d : List Edit)
-    → IsAt os ds count o d → CodesSoFar order os ds count a b prefix
-    → Appends b c (padded_code order o.code d)
-    → CodesSoFar order os ds (count + 1) a c (prefix ++ padded_code order o.code d)
-codes_more order os ds count a b c prefix o d at h k =
-    grind (arith, edits_here, append_assoc, joined_here, appends_twice)
+module _ (order : Order) (os : List Origin) (ds : List (List Edit)) (count : ℕ)
+    (a b c : Option (List ℕ)) (prefix : List ℕ) (o : Origin) (d : List Edit) where
+  -- one code more
+  pub codes_more : IsAt os ds count o d
+      → CodesSoFar order os ds count a b prefix → Appends b c (padded_code order o.code d)
+      → CodesSoFar order os ds (count + 1) a c (prefix ++ padded_code order o.code d)
+  codes_more at h k = grind (arith, edits_here, append_assoc, joined_here, appends_twice)
 
--- a prefix of one code more
-pub codes_prefix : (order : Order) (os : List Origin) (ds : List (List Edit)) (count : ℕ)
-    (a b c : Option (List ℕ)) (prefix : List ℕ) (o : Origin) (d : List Edit)
-    → IsAt os ds count o d → CodesSoFar order os ds count a b prefix
-    → AppendsPrefix b c (padded_code order o.code d)
-    → AppendsPrefix a c (padded_codes order os ds)
-codes_prefix order os ds count a b c prefix o d at h k =
-    prefix_more a b c prefix (padded_code order o.code d)
-    (padded_codes order (drop (count + 1) os) (drop (count + 1) ds)) (padded_codes order os ds)
-    (joined_here order os ds count o d prefix at h.joined) h.written k
+  -- a prefix of one code more
+  pub codes_prefix : IsAt os ds count o d
+      → CodesSoFar order os ds count a b prefix → AppendsPrefix b c (padded_code order o.code d)
+      → AppendsPrefix a c (padded_codes order os ds)
+  codes_prefix at h k = prefix_more a b c prefix
+      (padded_code order o.code d) (padded_codes order (drop (count + 1) os) (drop (count + 1) ds))
+      (padded_codes order os ds) (joined_here order os ds count o d prefix at h.joined) h.written k
 
 -- the codes are whole blocks
 pub codes_len : (order : Order) (os : List Origin) (ds : List (List Edit)) → HaveEdits os ds

@@ -1,22 +1,14 @@
 -- The blocks of codes whose slots ascend.
-use Rattle.std.proofs.Common.{◌≡◌, ℕ, zero, suc, ◌+◌, ◌*◌, ◌≤◌, ◌<◌}
-use Rattle.std.proofs.Common.{◌==◌, List, [], ◌∷◌, ◌++◌, length, length-append, map}
-use Rattle.std.proofs.Common.{take, drop, Option, Some, None, true, false, refl, sym, ◌∙◌, ap}
-use Rattle.std.proofs.Common.{subst, add-one, arith}
-use Rattle.std.specs.Prelude.{nat_lt, All}
-use Rattle.std.specs.List.{filter, find}
-use Rattle.std.specs.Option.{option_map_or}
+use Rattle.std.proofs.Common.{◌≡◌, ◌≤◌, ◌==◌, ◌∷◌, length-append, ◌∙◌}
+use Rattle.std.proofs.Common.{ℕ, suc, List, map, take, drop, Some, None, true, refl, sym, ap}
+use Rattle.std.proofs.Common.{zero, ◌+◌, ◌*◌, ◌<◌, [], ◌++◌, length, add-one, arith}
+use Rattle.ps_linkfile.proofs.Words.{nat_lt, filter, find, blocks, Order, Extent, pair_of, Ascend}
+use Rattle.ps_linkfile.proofs.Words.{All, All-nil, All-cons, All-head, All-tail, MAX_WORD, block_of}
+use Rattle.ps_linkfile.proofs.Words.{option_map_or, nat_tests, word_bytes, all_blocks, starts_of}
 use Rattle.std.proofs.lemmas.Bool.{eq-eqb}
-use Rattle.std.proofs.lemmas.Bool.Decides.{nat_tests}
 use Rattle.std.proofs.lemmas.List.{map-append, take_all}
 use Rattle.std.proofs.lemmas.List.Sums.{sum_by-cons}
-use Rattle.std.proofs.lemmas.List.Elements.{All-nil, All-cons, All-head, All-tail}
-use Rattle.ps_words.specs.declared.words.TheConstants.{MAX_WORD}
-use Rattle.ps_words.specs.Words.{word_bytes, blocks}
-use Rattle.ps_words.specs.declared.order.Order.{Order}
 use Rattle.ps_codefile.specs.declared.code_layout.TheConstants.{MAX_CODE_LEN, MAX_CODE_BLOCKS}
-use Rattle.ps_linkfile.specs.LinkedFile.{Extent, all_blocks, block_of, pair_of}
-use Rattle.ps_linkfile.specs.Writing.{starts_of, Ascend}
 
 pub all_blocks-cons : (c : Extent) (cs : List Extent)
     → all_blocks (c ∷ cs) ≡ blocks c.size + all_blocks cs
@@ -50,16 +42,13 @@ pub none_before : (from : ℕ) (cs : List Extent) (slot : ℕ) → Ascend from c
     → filter (λ c. nat_lt c.slot slot) cs ≡ []
 none_before from [] slot h k = refl
 none_before from (c ∷ cs) slot h k =
-    let no : nat_lt c.slot slot ≡ false = grind (arith, nat_tests, h.0) in
-    rw no (none_before (c.slot + 1) cs slot h.2 (omega (arith, h.0)))
+    grind (arith, nat_tests, none_before (c.slot + 1) cs slot h.2)
 
 -- where slots ascend from a number on, no code has a slot below it
 pub none_there : (from : ℕ) (cs : List Extent) (slot : ℕ) → Ascend from cs → slot < from
     → find (λ c. c.slot == slot) cs ≡ None
 none_there from [] slot h k = refl
-none_there from (c ∷ cs) slot h k =
-    let no : (c.slot == slot) ≡ false = grind (arith, nat_tests, h.0) in
-    rw no (none_there (c.slot + 1) cs slot h.2 (omega (arith, h.0)))
+none_there from (c ∷ cs) slot h k = grind (arith, nat_tests, none_there (c.slot + 1) cs slot h.2)
 
 -- From a slot on, the codes that are left decide where all are; the first of them begins in this
 -- block.
@@ -73,43 +62,41 @@ pub record Left (all : List Extent) (from block : ℕ) (rest : List Extent) : Ty
 pub left_start : (all : List Extent) → Ascend 0 all → Left all 0 1 all
 left_start all h = record { ascend = h; behind = λ slot k. refl; found = λ slot k. refl }
 
--- the first of those that are left is passed over
-pub left_more : (all : List Extent) (from block : ℕ) (c : Extent) (rest : List Extent)
-    → Left all from block (c ∷ rest) → Left all (c.slot + 1) (block + blocks c.size) rest
-left_more all from block c rest h = grind (arith, nat_tests, all_blocks-cons)
+module _ (all : List Extent) (from block : ℕ) (c : Extent) (rest : List Extent) where
+  -- the first of those that are left is passed over
+  pub left_more : Left all from block (c ∷ rest)
+      → Left all (c.slot + 1) (block + blocks c.size) rest
+  left_more h = grind (arith, nat_tests, all_blocks-cons)
 
--- its code begins in this block
-pub first_block : (all : List Extent) (from block : ℕ) (c : Extent) (rest : List Extent)
-    → Left all from block (c ∷ rest) → block_of all c.slot ≡ block
-first_block all from block c rest h = grind (arith, none_before)
+  -- its code begins in this block
+  pub first_block : Left all from block (c ∷ rest) → block_of all c.slot ≡ block
+  first_block h = grind (arith, none_before)
 
--- what the dictionary says of it
-pub first_pair : (order : Order) (all : List Extent) (from block : ℕ) (c : Extent)
-    (rest : List Extent) → Left all from block (c ∷ rest)
-    → pair_of order all c.slot ≡ word_bytes order block ++ word_bytes order c.size
-first_pair order all from block c rest h =
-    let is : (c.slot == c.slot) ≡ true = eq-eqb c.slot c.slot refl in
-    let there : find (λ (d : Extent). d.slot == c.slot) all ≡ Some c =
-    h.found c.slot h.ascend.0 ∙ rw is in
-    ap (λ (o : Option Extent). option_map_or
-    (λ d. word_bytes order (block_of all c.slot) ++ word_bytes order d.size) o
-    (0 ∷ 0 ∷ 0 ∷ 0 ∷ [])) there
-    ∙ ap (λ b. word_bytes order b ++ word_bytes order c.size)
-    (first_block all from block c rest h)
+module _ (order : Order) (all : List Extent) (from block : ℕ) where
+  -- what the dictionary says of it
+  pub first_pair : (c : Extent) (rest : List Extent) → Left all from block (c ∷ rest)
+      → pair_of order all c.slot ≡ word_bytes order block ++ word_bytes order c.size
+  first_pair c rest h =
+      let is : (c.slot == c.slot) ≡ true = eq-eqb c.slot c.slot refl in
+      let there : find (λ (d : Extent). d.slot == c.slot) all ≡ Some c =
+      h.found c.slot h.ascend.0 ∙ rw is in
+      ap (λ o. option_map_or (λ d. word_bytes order (block_of all c.slot)
+      ++ word_bytes order d.size) o (0 ∷ 0 ∷ 0 ∷ 0 ∷ [])) there ∙ ap
+      (λ b. word_bytes order b ++ word_bytes order c.size) (first_block all from block c rest h)
 
--- what it says of a slot before the first that is left
-pub no_pair : (order : Order) (all : List Extent) (from block : ℕ) (rest : List Extent)
-    (next slot : ℕ) → Left all from block rest → Ascend next rest → from ≤ slot
-    → slot < next → pair_of order all slot ≡ 0 ∷ 0 ∷ 0 ∷ 0 ∷ []
-no_pair order all from block rest next slot h k le lt = grind (arith, none_there)
+  -- what it says of a slot before the first that is left
+  pub no_pair : (rest : List Extent) (next slot : ℕ)
+      → Left all from block rest → Ascend next rest
+      → from ≤ slot → slot < next → pair_of order all slot ≡ 0 ∷ 0 ∷ 0 ∷ 0 ∷ []
+  no_pair rest next slot h k le lt = grind (arith, none_there)
 
 -- so many of a list and the next
 next_taken : {X : Type 0} (xs : List X) (i : ℕ) (x : X) → drop i xs ≡ x ∷ drop (suc i) xs
     → take (suc i) xs ≡ take i xs ++ x ∷ []
 next_taken [] zero x h = cc
 next_taken [] (suc i) x h = cc
-next_taken {X} (y ∷ ys) zero x h = let is : y ≡ x = cc in ap (λ (z : X). z ∷ []) is
-next_taken {X} (y ∷ ys) (suc i) x h = ap (λ (zs : List X). y ∷ zs) (next_taken ys i x h)
+next_taken {X} (y ∷ ys) zero x h = grind arith
+next_taken {X} (y ∷ ys) (suc i) x h = grind (arith, next_taken ys i x h)
 
 took : {X : Type 0} (xs : List X) (i : ℕ) (x : X) → drop i xs ≡ x ∷ drop (i + 1) xs
     → take (i + 1) xs ≡ take i xs ++ x ∷ []
@@ -135,54 +122,50 @@ pub record LaidSoFar (all : List Extent) (count : ℕ) (starts : List ℕ)
 pub laid_none : (all : List Extent) → Ascend 0 all → LaidSoFar all 0 [] 1 0
 laid_none all h = grind arith
 
-laid_here : (all : List Extent) (count : ℕ) (starts : List ℕ) (block from : ℕ) (c : Extent)
-    → drop count all ≡ c ∷ drop (count + 1) all → LaidSoFar all count starts block from
-    → Left all from block (c ∷ drop (count + 1) all)
-laid_here all count starts block from c is h =
-    subst (λ (cs : List Extent). Left all from block cs) is h.left
+module _ (all : List Extent) (count : ℕ) (starts : List ℕ) (block from : ℕ) where
+  laid_here : (c : Extent) → drop count all ≡ c ∷ drop (count + 1) all
+      → LaidSoFar all count starts block from → Left all from block (c ∷ drop (count + 1) all)
+  laid_here c is h = rw is at h.left
 
--- where a code is left, fewer than sixteen are laid out, and its first block is a word
-pub laid_next : (all : List Extent) (count : ℕ) (starts : List ℕ) (block from : ℕ)
-    (c : Extent) → drop count all ≡ c ∷ drop (count + 1) all
-    → LaidSoFar all count starts block from → (count < 16) × (block ≤ MAX_WORD)
-laid_next all count starts block from c is h = grind arith
+  -- where a code is left, fewer than sixteen are laid out, and its first block is a word
+  pub laid_next : (c : Extent) → drop count all ≡ c ∷ drop (count + 1) all
+      → LaidSoFar all count starts block from → (count < 16) × (block ≤ MAX_WORD)
+  laid_next c is h = grind arith
 
--- with one code more laid out, its start is the block that was reached, and the next begins after
--- its blocks
-pub laid_more : (all : List Extent) (count : ℕ) (starts : List ℕ) (block from : ℕ)
-    (c : Extent)
-    → drop count all ≡ c ∷ drop (count + 1) all → c.size ≤ MAX_CODE_LEN
-    → LaidSoFar all count starts block from
-    → LaidSoFar all (count + 1) (starts ++ block ∷ []) (block + blocks c.size) (c.slot + 1)
-laid_more all count starts block from c is size h =
-    let at = laid_here all count starts block from c is h in
-    let more : take (count + 1) all ≡ take count all ++ c ∷ [] = took all count c is in
-    let begins : block_of all c.slot ≡ block =
-    first_block all from block c (drop (count + 1) all) at in
-    let start : Extent → ℕ = λ d. block_of all d.slot in
-    let sum_is : all_blocks (take (count + 1) all) ≡ all_blocks (take count all) + blocks c.size =
-    ap (λ (cs : List Extent). all_blocks cs) more ∙ blocks_more (take count all) c in
-    let low : from ≤ c.slot = at.ascend.0 in
-    let few = h.few in
-    let small = h.small in
-    let many = h.many in
-    let so_far = h.blocks in
-    record {
-      left = left_more all from block c (drop (count + 1) all) at;
-      few = omega arith;
-      small = omega arith;
-      many = length-append starts (block ∷ []) ∙ omega arith;
-      begins = ap (λ (bs : List ℕ). bs ++ block ∷ []) h.begins
-          ∙ (ap (λ b. map start (take count all) ++ b ∷ []) (sym begins)
-          ∙ (sym (map-append start (take count all) (c ∷ []))
-          ∙ ap (λ (cs : List Extent). map start cs) (sym more)));
-      blocks = omega arith;
-    }
+  -- with one code more laid out, its start is the block that was reached, and the next begins after
+  -- its blocks
+  pub laid_more : (c : Extent) → drop count all ≡ c ∷ drop (count + 1) all
+      → c.size ≤ MAX_CODE_LEN → LaidSoFar all count starts block from
+      → LaidSoFar all (count + 1) (starts ++ block ∷ []) (block + blocks c.size) (c.slot + 1)
+  laid_more c is size h =
+      let at = laid_here c is h in
+      let more : take (count + 1) all ≡ take count all ++ c ∷ [] = took all count c is in
+      let begins : block_of all c.slot ≡ block =
+      first_block all from block c (drop (count + 1) all) at in
+      let start : Extent → ℕ = λ d. block_of all d.slot in
+      let sum_is : all_blocks (take (count + 1) all)
+      ≡ all_blocks (take count all) + blocks c.size =
+      ap (λ cs. all_blocks cs) more ∙ blocks_more (take count all) c in
+      let low : from ≤ c.slot = at.ascend.0 in
+      let few = h.few in
+      let small = h.small in
+      let many = h.many in
+      let so_far = h.blocks in
+      record {
+        left = left_more all from block c (drop (count + 1) all) at;
+        few = omega arith;
+        small = omega arith;
+        many = length-append starts (block ∷ []) ∙ omega arith;
+        begins = ap (λ bs. bs ++ block ∷ []) h.begins
+            ∙ (ap (λ b. map start (take count all) ++ b ∷ []) (sym begins)
+            ∙ (sym (map-append start (take count all) (c ∷ []))
+            ∙ ap (λ cs. map start cs) (sym more)));
+        blocks = omega arith;
+      }
 
--- once all codes are laid out, the starts are the first blocks of all of them, and the block that
--- was reached is
--- the number of all blocks, the dictionary's counted
-pub laid_done : (all : List Extent) (count : ℕ) (starts : List ℕ) (block from : ℕ)
-    → length all ≤ count → LaidSoFar all count starts block from
-    → (starts ≡ starts_of all) × (block ≡ 1 + all_blocks all)
-laid_done all count starts block from le h = grind (arith, take_all)
+  -- once all codes are laid out, the starts are the first blocks of all of them, and the block that
+  -- was reached is
+  -- the number of all blocks, the dictionary's counted
+  pub laid_done : length all ≤ count → LaidSoFar all count starts block from
+      → (starts ≡ starts_of all) × (block ≡ 1 + all_blocks all)
+  laid_done le h = grind (arith, take_all)

@@ -1,16 +1,13 @@
 -- A list that is given in pieces.
 use Rattle.std.proofs.Common.{◌≡◌, ℕ, ◌+◌, List, ◌++◌, take, drop, sym, ◌∙◌}
 use Rattle.std.proofs.Common.{ap}
-use Rattle.std.specs.List.{flat_map}
+use Rattle.ps_linkfile.proofs.Words.{flat_map, drop-drop, take-append-drop}
 use Rattle.std.proofs.lemmas.Grind.{flat_map-append}
-use Rattle.std.proofs.lemmas.List.{drop-drop, take-append-drop}
 
 -- the text of the items from i on is that of a piece and of those after it
 pub one_piece : {X : Type 0} (line_of : X → List ℕ) (xs : List X) (i n : ℕ)
     → flat_map line_of (take n (drop i xs)) ++ flat_map line_of (drop (i + n) xs)
     ≡ flat_map line_of (drop i xs)
-one_piece line_of xs i n =
-    ap (λ ys. flat_map line_of (take n (drop i xs)) ++ flat_map line_of ys)
-    (sym (drop-drop n i xs))
-    ∙ (sym (flat_map-append line_of (take n (drop i xs)) (drop n (drop i xs)))
-    ∙ ap (flat_map line_of) (take-append-drop n (drop i xs)))
+one_piece line_of xs i n = ap (λ ys. flat_map line_of (take n (drop i xs)) ++ flat_map line_of ys)
+    (sym (drop-drop n i xs)) ∙ (sym (flat_map-append line_of (take n (drop i xs))
+    (drop n (drop i xs))) ∙ ap (flat_map line_of) (take-append-drop n (drop i xs)))

@@ -1,3 +1,4 @@
+pub mod Words
 pub mod Prefixes
 pub mod Extents
 pub mod Rising

@@ -1,73 +1,56 @@
 -- The sixteen pairs of a segment dictionary, byte by byte.
-use Rattle.std.proofs.Common.{◌≡◌, ◌≢◌, ℕ, zero, suc, ◌+◌, ◌-◌, ◌*◌}
-use Rattle.std.proofs.Common.{◌/◌, ◌%◌, ◌≤◌, ◌<◌, List, [], ◌∷◌, ◌++◌}
-use Rattle.std.proofs.Common.{length, get_or, drop, replicate, sym, ◌∙◌, ap, subst, inl, inr}
-use Rattle.std.proofs.Common.{arith, length-append}
-use Rattle.std.specs.List.{flat_map, range_with_len}
-use Rattle.std.proofs.lemmas.Bool.{cases_lt}
-use Rattle.std.proofs.lemmas.List.{get_or-replicate, length-replicate, get_or_append_left}
-use Rattle.std.proofs.lemmas.List.{get_or-append_right, ext_get_or, drop_all}
-use Rattle.ps_words.specs.Words.{word_bytes, blocks}
-use Rattle.ps_words.specs.declared.order.Order.{Order}
-use Rattle.ps_codefile.specs.Dictionary.{slots}
+use Rattle.std.proofs.Common.{◌≡◌, ◌≢◌, ℕ, zero, suc, ◌+◌, ◌*◌, ◌/◌}
+use Rattle.std.proofs.Common.{◌%◌, ◌≤◌, ◌<◌, List, [], ◌∷◌, ◌++◌, length}
+use Rattle.std.proofs.Common.{get_or, drop, replicate, sym, ◌∙◌, ap, subst, inl, inr, arith}
+use Rattle.std.proofs.Common.{length-append}
+use Rattle.ps_linkfile.proofs.Words.{flat_map, range_with_len, cases_lt, word_bytes, blocks, Order}
+use Rattle.ps_linkfile.proofs.Words.{slots, Ascend, get_or-replicate, length-replicate}
+use Rattle.ps_linkfile.proofs.Words.{get_or_append_left, ext_get_or, drop_all}
+use Rattle.std.proofs.lemmas.List.{get_or-append_right}
 use Rattle.ps_linkfile.specs.LinkedFile.{Extent, block_of, pair_of, all_pairs}
-use Rattle.ps_linkfile.specs.Writing.{Ascend}
 use Rattle.ps_linkfile.proofs.Extents.{Left, left_start, left_more, first_block, first_pair}
 use Rattle.ps_linkfile.proofs.Extents.{no_pair}
 
--- place j of what f gives of the s-th number, where it gives four bytes of each
-pub four_at : (f : ℕ → List ℕ) → ((s : ℕ) → length (f s) ≡ 4) → (n a s j : ℕ)
-    → s < n → j < 4 → get_or (flat_map f (range_with_len a n)) (4 * s + j) 0
-    ≡ get_or (f (a + s)) j 0
-four_at f h zero a s j k l = absurd (omega arith)
-four_at f h (suc n) a zero j k l = grind (arith, get_or_append_left)
-four_at f h (suc n) a (suc s) j k l =
-    let rest = flat_map f (range_with_len (a + 1) n) in
-    let at : 4 * suc s + j - 4 ≡ 4 * s + j = omega arith in
-    let is : a + 1 + s ≡ a + suc s = omega arith in
-    get_or-append_right (f a) rest 4 (4 * suc s + j) 0 (h a) (omega arith)
-    ∙ (ap (λ i. get_or rest i 0) at ∙
-    (four_at f h n (a + 1) s j (omega arith) l ∙ ap (λ i. get_or (f i) j 0) is))
+module _ (f : ℕ → List ℕ) where
+  -- place j of what f gives of the s-th number, where it gives four bytes of each
+  pub four_at : ((s : ℕ) → length (f s) ≡ 4) → (n a s j : ℕ) → s < n → j < 4
+      → get_or (flat_map f (range_with_len a n)) (4 * s + j) 0 ≡ get_or (f (a + s)) j 0
+  four_at h zero a s j k l = absurd (omega arith)
+  four_at h (suc n) a zero j k l = grind (arith, get_or_append_left)
+  four_at h (suc n) a (suc s) j k l = grind (arith, get_or-append_right, four_at h n (a + 1) s j)
 
--- where f gives four bytes of each number, it gives 4 * n bytes of n numbers
-pub four_each : (f : ℕ → List ℕ) → ((s : ℕ) → length (f s) ≡ 4) → (n a : ℕ)
-    → length (flat_map f (range_with_len a n)) ≡ 4 * n
-four_each f h zero a = omega arith
-four_each f h (suc n) a =
-    let rest = four_each f h n (a + 1) in
-    length-append (f a) (flat_map f (range_with_len (a + 1) n)) ∙ omega (arith, h a, rest)
+  -- where f gives four bytes of each number, it gives 4 * n bytes of n numbers
+  pub four_each : ((s : ℕ) → length (f s) ≡ 4)
+      → (n a : ℕ) → length (flat_map f (range_with_len a n)) ≡ 4 * n
+  four_each h zero a = omega arith
+  four_each h (suc n) a =
+      let rest = four_each h n (a + 1) in
+      length-append (f a) (flat_map f (range_with_len (a + 1) n)) ∙ omega (arith, h a, rest)
 
--- the pair of a slot has four bytes
-pub pair_four : (order : Order) (all : List Extent) (slot : ℕ)
-    → length (pair_of order all slot) ≡ 4
-pair_four order all slot = grind arith
+module _ (order : Order) (all : List Extent) where
+  -- the pair of a slot has four bytes
+  pub pair_four : (slot : ℕ) → length (pair_of order all slot) ≡ 4
+  pair_four slot = grind arith
 
--- the sixteen pairs, slot by slot and byte by byte
-pub pairs_at : (order : Order) (all : List Extent) (slot j : ℕ) → slot < 16 → j < 4
-    → get_or (flat_map (pair_of order all) slots) (4 * slot + j) 0
-    ≡ get_or (pair_of order all slot) j 0
-pairs_at order all slot j k l =
-    let is : 0 + slot ≡ slot = omega arith in
-    four_at (pair_of order all) (pair_four order all) 16 0 slot j k l
-    ∙ ap (λ s. get_or (pair_of order all s) j 0) is
+  -- the sixteen pairs, slot by slot and byte by byte
+  pub pairs_at : (slot j : ℕ) → slot < 16 → j < 4 → get_or
+      (flat_map (pair_of order all) slots) (4 * slot + j) 0 ≡ get_or (pair_of order all slot) j 0
+  pairs_at slot j k l =
+      let is : 0 + slot ≡ slot = omega arith in
+      four_at (pair_of order all) (pair_four) 16 0 slot j k l
+      ∙ ap (λ s. get_or (pair_of order all s) j 0) is
 
-pub pairs_len : (order : Order) (all : List Extent)
-    → length (flat_map (pair_of order all) slots) ≡ 64
-pairs_len order all = four_each (pair_of order all) (pair_four order all) 16 0
+  pub pairs_len : length (flat_map (pair_of order all) slots) ≡ 64
+  pairs_len = four_each (pair_of order all) (pair_four) 16 0
 
--- 64 bytes that have those of each slot's pair at its place are the sixteen pairs
-pub pairs_are : (order : Order) (all : List Extent) (xs : List ℕ) → length xs ≡ 64
-    → ((slot j : ℕ) → slot < 16 → j < 4
-    → get_or xs (4 * slot + j) 0 ≡ get_or (pair_of order all slot) j 0)
-    → xs ≡ flat_map (pair_of order all) slots
-pairs_are order all xs len h =
-    ext_get_or 0 xs (flat_map (pair_of order all) slots) (len ∙ sym (pairs_len order all))
-    (λ i lt.
-    let parts : 4 * (i / 4) + i % 4 ≡ i = omega arith in
-    let slot : i / 4 < 16 = omega arith in
-    let within : i % 4 < 4 = omega arith in
-    subst (λ (k : ℕ). get_or xs k 0 ≡ get_or (flat_map (pair_of order all) slots) k 0) parts
-    (h (i / 4) (i % 4) slot within ∙ sym (pairs_at order all (i / 4) (i % 4) slot within)))
+  -- 64 bytes that have those of each slot's pair at its place are the sixteen pairs
+  pub pairs_are : (xs : List ℕ) → length xs ≡ 64 → ((slot j : ℕ) → slot < 16
+      → j < 4 → get_or xs (4 * slot + j) 0 ≡ get_or (pair_of order all slot) j 0)
+      → xs ≡ flat_map (pair_of order all) slots
+  pairs_are xs len h = ext_get_or 0 xs (flat_map (pair_of order all) slots)
+      (len ∙ sym (pairs_len)) (λ i lt. let parts : 4 * (i / 4) + i % 4 ≡ i =
+      omega arith in let slot : i / 4 < 16 = omega arith in let within : i % 4 < 4 = omega arith in
+      rw parts at (h (i / 4) (i % 4) slot within ∙ sym (pairs_at (i / 4) (i % 4) slot within)))
 
 -- what storing a word leaves
 pub record IsPut (order : Order) (old new : List ℕ) (place v : ℕ) : Type 0 where
@@ -99,74 +82,72 @@ pub record PairsSoFar (order : Order) (all : List Extent) (count : ℕ) (pairs :
   pub empty : (slot j : ℕ) → from ≤ slot → slot < 16 → j < 4
       → get_or pairs (4 * slot + j) 0 ≡ 0
 
--- none is stored
-pub pairs_none : (order : Order) (all : List Extent) → Ascend 0 all
-    → PairsSoFar order all 0 (replicate 64 0) 1 0
-pairs_none order all h = record {
-  size = length-replicate {A = ℕ} 64 0;
-  left = left_start all h;
-  stored = λ slot j lt l. absurd (omega arith);
-  empty = λ slot j le lt l. get_or-replicate {A = ℕ} 64 (4 * slot + j) 0 0 (omega arith);
-}
+module _ (order : Order) (all : List Extent) where
+  -- none is stored
+  pub pairs_none : Ascend 0 all → PairsSoFar order all 0 (replicate 64 0) 1 0
+  pairs_none h = record {
+    size = length-replicate {A = ℕ} 64 0;
+    left = left_start all h;
+    stored = λ slot j lt l. absurd (omega arith);
+    empty = λ slot j le lt l. get_or-replicate {A = ℕ} 64 (4 * slot + j) 0 0 (omega arith);
+  }
 
--- the pair of one code more
-pub pairs_more : (order : Order) (all : List Extent) (count : ℕ) (old mid new : List ℕ)
-    (block from start : ℕ) (c : Extent)
-    → drop count all ≡ c ∷ drop (count + 1) all → start ≡ block_of all c.slot
-    → PairsSoFar order all count old block from
-    → IsPut order old mid (4 * c.slot) start → IsPut order mid new (4 * c.slot + 2) c.size
-    → PairsSoFar order all (count + 1) new (block + blocks c.size) (c.slot + 1)
-pairs_more order all count old mid new block from start c is start_is h put second =
-    let rest = drop (count + 1) all in
-    let here : Left all from block (c ∷ rest) =
-    subst (λ (cs : List Extent). Left all from block cs) is h.left in
-    let first : IsPut order old mid (4 * c.slot) block =
-    subst (λ (b : ℕ). IsPut order old mid (4 * c.slot) b)
-    (start_is ∙ first_block all from block c rest here) put in
-    let low : from ≤ c.slot = here.ascend.0 in
-    let same : (slot j : ℕ) → slot ≢ c.slot → j < 4
-    → get_or new (4 * slot + j) 0 ≡ get_or old (4 * slot + j) 0 = λ slot j ne lt.
-    second.others (4 * slot + j) (omega arith) (omega arith)
-    ∙ first.others (4 * slot + j) (omega arith) (omega arith) in
-    record {
-      size = second.size ∙ (first.size ∙ h.size);
-      left = left_more all from block c rest here;
-      stored = λ slot j lt l.
-          elim (cases_lt slot c.slot) [
-            | inl below ↦ same slot j (omega arith) l ∙ elim (cases_lt slot from) [
-              | inl before ↦ h.stored slot j before l
-              | inr behind ↦ h.empty slot j behind (omega (arith, here.ascend.1)) l
+  -- the pair of one code more
+  pub pairs_more : (count : ℕ) (old mid new : List ℕ) (block from start : ℕ) (c : Extent)
+      → drop count all ≡ c ∷ drop (count + 1) all
+      → start ≡ block_of all c.slot → PairsSoFar order all count old block from
+      → IsPut order old mid (4 * c.slot) start → IsPut order mid new (4 * c.slot + 2) c.size
+      → PairsSoFar order all (count + 1) new (block + blocks c.size) (c.slot + 1)
+  pairs_more count old mid new block from start c is start_is h put second =
+      let rest = drop (count + 1) all in
+      let here : Left all from block (c ∷ rest) =
+      rw is at h.left in
+      let first : IsPut order old mid (4 * c.slot) block =
+      rw (start_is ∙ first_block all from block c rest here) at put in
+      let low : from ≤ c.slot = here.ascend.0 in
+      let same : (slot j : ℕ) → slot ≢ c.slot → j < 4
+      → get_or new (4 * slot + j) 0 ≡ get_or old (4 * slot + j) 0 = λ slot j ne lt.
+      second.others (4 * slot + j) (omega arith) (omega arith)
+      ∙ first.others (4 * slot + j) (omega arith) (omega arith) in
+      record {
+        size = second.size ∙ (first.size ∙ h.size);
+        left = left_more all from block c rest here;
+        stored = λ slot j lt l.
+            elim (cases_lt slot c.slot) [
+              | inl below ↦ same slot j (omega arith) l ∙ elim (cases_lt slot from) [
+                | inl before ↦ h.stored slot j before l
+                | inr behind ↦ h.empty slot j behind (omega (arith, here.ascend.1)) l
+                    ∙ sym (ap (λ (bs : List ℕ). get_or bs j 0)
+                    (no_pair order all from block (c ∷ rest) c.slot slot here
+                    (omega arith, here.ascend.1, here.ascend.2) behind below) ∙ zeros_at j)
+              ]
+              | inr above ↦
+                  let it : slot ≡ c.slot = omega arith in
+                  rw (← it) at (pair_put order old mid new (4 * c.slot) block c.size j first
+                  second l
                   ∙ sym (ap (λ (bs : List ℕ). get_or bs j 0)
-                  (no_pair order all from block (c ∷ rest) c.slot slot here
-                  (omega arith, here.ascend.1, here.ascend.2) behind below) ∙ zeros_at j)
-            ]
-            | inr above ↦
-                let it : slot ≡ c.slot = omega arith in
-                subst (λ (s : ℕ). get_or new (4 * s + j) 0 ≡ get_or (pair_of order all s) j 0)
-                (sym it)
-                (pair_put order old mid new (4 * c.slot) block c.size j first second l
-                ∙ sym (ap (λ (bs : List ℕ). get_or bs j 0)
-                (first_pair order all from block c rest here)))
-          ];
-      empty = λ slot j le lt l. same slot j (omega arith) l ∙ h.empty slot j (omega arith) lt l;
-    }
+                  (first_pair order all from block c rest here)))
+            ];
+        empty = λ slot j le lt l. same slot j (omega arith) l
+            ∙ h.empty slot j (omega arith) lt l;
+      }
 
--- all pairs
-pub pairs_done : (order : Order) (all : List Extent) (pairs : List ℕ) (block from : ℕ)
-    → PairsSoFar order all (length all) pairs block from → pairs ≡ all_pairs order all
-unfolding all_pairs
-pairs_done order all pairs block from h =
-    pairs_are order all pairs h.size (λ slot j k l.
-    elim (cases_lt slot from) [
-      | inl below ↦ h.stored slot j below l
-      | inr behind ↦ h.empty slot j behind k l
-          ∙ sym (ap (λ (bs : List ℕ). get_or bs j 0) (ends slot behind) ∙ zeros_at j)
-    ])
-  where
-    none_left : drop (length all) all ≡ []
-    none_left = drop_all (length all) all (omega arith)
+  -- all pairs
+  pub pairs_done : (pairs : List ℕ) (block from : ℕ)
+      → PairsSoFar order all (length all) pairs block from → pairs ≡ all_pairs order all
+  unfolding all_pairs
+  pairs_done pairs block from h =
+      pairs_are order all pairs h.size (λ slot j k l.
+      elim (cases_lt slot from) [
+        | inl below ↦ h.stored slot j below l
+        | inr behind ↦ h.empty slot j behind k l
+            ∙ sym (ap (λ bs. get_or bs j 0) (ends slot behind) ∙ zeros_at j)
+      ])
+    where
+      none_left : drop (length all) all ≡ []
+      none_left = drop_all (length all) all (omega arith)
 
-    ends : (slot : ℕ) → from ≤ slot → pair_of order all slot ≡ 0 ∷ 0 ∷ 0 ∷ 0 ∷ []
-    ends slot behind = no_pair order all from block (drop (length all) all) (slot + 1) slot h.left
-        (subst (λ (cs : List Extent). Ascend (slot + 1) cs) (sym none_left) tt) behind
-        (omega arith)
+      ends : (slot : ℕ)
+          → from ≤ slot → pair_of order all slot ≡ 0 ∷ 0 ∷ 0 ∷ 0 ∷ []
+      ends slot behind = no_pair order all from block (drop (length all) all) (slot + 1) slot h.left
+          (subst (λ cs. Ascend (slot + 1) cs) (sym none_left) tt) behind (omega arith)

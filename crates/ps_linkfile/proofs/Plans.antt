@@ -1,31 +1,24 @@
 -- A plan of a link can be written, and its file is the linked file.
 use Rattle.std.proofs.Common.{arith, ◌≡◌, ℕ, ◌+◌, ◌≤◌, ◌<◌, List, []}
-use Rattle.std.proofs.Common.{◌∷◌, ◌++◌, length, map, refl, sym, ◌∙◌, ap, subst}
-use Rattle.std.proofs.lemmas.List.{length-map}
-use Rattle.std.specs.Prelude.{All}
-use Rattle.std.specs.List.{flat_map}
-use Rattle.std.proofs.lemmas.List.Elements.{All-nil, All-cons, All-head, All-tail}
-use Rattle.ps_words.specs.Edits.{patched_byte}
-use Rattle.ps_words.specs.declared.order.Order.{Order}
-use Rattle.ps_words.specs.declared.edit.Edit.{Edit}
+use Rattle.std.proofs.Common.{◌∷◌, length, map, refl, sym, ap, subst}
+use Rattle.ps_linkfile.proofs.Words.{length-map, All, flat_map, All-nil, All-cons, All-head}
+use Rattle.ps_linkfile.proofs.Words.{All-tail, patched_byte, Order, Edit, private_words, Segment}
+use Rattle.ps_linkfile.proofs.Words.{order_of, Known, Planned, origin_of, LinkSegments, IsPlan}
+use Rattle.ps_linkfile.proofs.Words.{Extent, extents, linked_segments, padded_code, padded_segment}
+use Rattle.ps_linkfile.proofs.Words.{linked_file, extent_of_origin, extents_in, padded_codes}
+use Rattle.ps_linkfile.proofs.Words.{file_in, Ascend, HaveEdits}
 use Rattle.ps_codefile.specs.Dictionary.{block_len}
 use Rattle.ps_resolve.specs.Added.{segments, slot_names}
-use Rattle.ps_resolve.specs.Privates.{private_words}
-use Rattle.ps_resolve.specs.Sources.{Segment, order_of}
-use Rattle.ps_resolve.specs.References.{Known}
 use Rattle.ps_resolve.specs.Linking.{Edited, edited_from, segment_edits}
-use Rattle.ps_resolve.specs.Plans.{Planned, origin_of, LinkSegments, IsPlan}
-use Rattle.ps_linkfile.specs.LinkedFile.{Extent, extent_of, extents, linked_segments, padded_code}
-use Rattle.ps_linkfile.specs.LinkedFile.{padded_segment, linked_file, summary_of}
-use Rattle.ps_linkfile.specs.Writing.{extent_of_origin, extents_in, padded_codes, file_in}
-use Rattle.ps_linkfile.specs.Writing.{summary_in, Ascend, HaveEdits, IsReady}
+use Rattle.ps_linkfile.specs.LinkedFile.{extent_of, summary_of}
+use Rattle.ps_linkfile.specs.Writing.{summary_in, IsReady}
 use Rattle.ps_linkfile.proofs.Slots.{extent_at, segments_ascend, segments_small}
 
 -- extents of segments, of segments with their edits, and of a plan's origins
 pub of_origins : (ss : List Segment) → map extent_of_origin (map origin_of ss)
     ≡ map extent_at ss
 of_origins [] = refl
-of_origins (s ∷ ss) = ap (λ (cs : List Extent). extent_at s ∷ cs) (of_origins ss)
+of_origins (s ∷ ss) = ap (λ cs. extent_at s ∷ cs) (of_origins ss)
 
 abbrev pub extent_of_edited : Edited → Extent
 extent_of_edited e = extent_of e.segment
@@ -33,42 +26,36 @@ extent_of_edited e = extent_of e.segment
 of_edited : (order : Order) (known : Known) (words free : ℕ) (ss : List Segment)
     → map extent_of_edited (edited_from order known words free ss) ≡ map extent_at ss
 of_edited order known words free [] = refl
-of_edited order known words free (s ∷ ss) =
-    ap (λ (cs : List Extent). extent_at s ∷ cs)
+of_edited order known words free (s ∷ ss) = ap (λ cs. extent_at s ∷ cs)
     (of_edited order known words (free + private_words s.records) ss)
 
-pub extents_are : (host : List ℕ) (libs : List (List ℕ))
-    → extents host libs ≡ map extent_at (segments (order_of host) host libs)
-extents_are host libs = refl
+module _ (host : List ℕ) (libs : List (List ℕ)) where
+  pub extents_are : extents host libs ≡ map extent_at (segments (order_of host) host libs)
+  extents_are = refl
 
--- the extents of the linked segments with their edits are those of the link
-pub edited_extents : (host : List ℕ) (libs : List (List ℕ))
-    → map extent_of_edited (linked_segments host libs) ≡ extents host libs
-edited_extents host libs = grind (arith, of_edited)
+  -- the extents of the linked segments with their edits are those of the link
+  pub edited_extents : map extent_of_edited (linked_segments host libs) ≡ extents host libs
+  edited_extents = grind (arith, of_edited)
 
--- what holds of each segment with its edits holds of each segment, and the other way round
-pub of_all_edited : (P : Segment → Type 0) (order : Order) (known : Known) (words free : ℕ)
-    (ss : List Segment) → All (λ (e : Edited). P e.segment)
-    (edited_from order known words free ss) → All P ss
-of_all_edited P order known words free [] h = All-nil P
-of_all_edited P order known words free (s ∷ ss) h =
-    let e : Edited = record { segment = s; edits = segment_edits order known words free s } in
-    let rest = edited_from order known words (free + private_words s.records) ss in
-    All-cons P s ss (All-head (λ (e : Edited). P e.segment) e rest h)
-    (of_all_edited P order known words (free + private_words s.records) ss
-    (All-tail (λ (e : Edited). P e.segment) e rest h))
+module _ (P : Segment → Type 0) (order : Order) (known : Known) (words : ℕ) where
+  -- what holds of each segment with its edits holds of each segment, and the other way round
+  pub of_all_edited : (free : ℕ) (ss : List Segment)
+      → All (λ (e : Edited). P e.segment) (edited_from order known words free ss) → All P ss
+  of_all_edited free [] h = All-nil P
+  of_all_edited free (s ∷ ss) h =
+      let e : Edited = record { segment = s; edits = segment_edits order known words free s } in
+      let rest = edited_from order known words (free + private_words s.records) ss in
+      All-cons P s ss (All-head (λ (e : Edited). P e.segment) e rest h) (of_all_edited
+      (free + private_words s.records) ss (All-tail (λ (e : Edited). P e.segment) e rest h))
 
--- what holds of each segment holds of each segment with its edits
-pub to_all_edited : (P : Segment → Type 0) (order : Order) (known : Known) (words free : ℕ)
-    (ss : List Segment) → All P ss → All (λ (e : Edited). P e.segment)
-    (edited_from order known words free ss)
-to_all_edited P order known words free [] h = All-nil (λ (e : Edited). P e.segment)
-to_all_edited P order known words free (s ∷ ss) h =
-    All-cons (λ (e : Edited). P e.segment)
-    (record { segment = s; edits = segment_edits order known words free s })
-    (edited_from order known words (free + private_words s.records) ss)
-    (All-head P s ss h) (to_all_edited P order known words (free + private_words s.records) ss
-    (All-tail P s ss h))
+  -- what holds of each segment holds of each segment with its edits
+  pub to_all_edited : (free : ℕ) (ss : List Segment)
+      → All P ss → All (λ (e : Edited). P e.segment) (edited_from order known words free ss)
+  to_all_edited free [] h = All-nil (λ (e : Edited). P e.segment)
+  to_all_edited free (s ∷ ss) h = All-cons (λ (e : Edited). P e.segment)
+      (record { segment = s; edits = segment_edits order known words free s })
+      (edited_from order known words (free + private_words s.records) ss)
+      (All-head P s ss h) (to_all_edited (free + private_words s.records) ss (All-tail P s ss h))
 
 pub extents_ascend : (host : List ℕ) (libs : List (List ℕ)) → Ascend 0 (extents host libs)
 extents_ascend host libs = subst (λ (cs : List Extent). Ascend 0 cs) (sym (extents_are host libs))
@@ -102,37 +89,30 @@ codes_are : (order : Order) (known : Known) (words free : ℕ) (ss : List Segmen
     → padded_codes order (map origin_of ss) ds
     ≡ flat_map (padded_segment order) (edited_from order known words free ss)
 codes_are order known words free [] [] h = refl
-codes_are order known words free (s ∷ ss) (d ∷ ds) h =
-    ap (λ (bs : List ℕ). bs ++ padded_codes order (map origin_of ss) ds)
-    (padded_alike order s.code d (segment_edits order known words free s) h.0.bytes)
-    ∙ ap (λ (bs : List ℕ). padded_code order s.code (segment_edits order known words free s)
-    ++ bs) (codes_are order known words (free + private_words s.records) ss ds h.1)
+codes_are order known words free (s ∷ ss) (d ∷ ds) h = grind
+    (arith, padded_alike, codes_are order known words (free + private_words s.records) ss ds h.1)
 codes_are order known words free ss ds h = absurd h
 
--- of a plan of a link
-pub plan_extents : (host : List ℕ) (libs : List (List ℕ)) (plan : Planned)
-    → IsPlan host libs plan → extents_in plan ≡ extents host libs
-plan_extents host libs plan h = grind (arith, of_origins, extents_are)
+module _ (host : List ℕ) (libs : List (List ℕ)) (plan : Planned) where
+  -- of a plan of a link
+  pub plan_extents : IsPlan host libs plan → extents_in plan ≡ extents host libs
+  plan_extents h = grind (arith, of_origins, extents_are)
 
--- the padded codes of a plan of a link are those of the link's segments with their edits
-plan_codes : (host : List ℕ) (libs : List (List ℕ)) (plan : Planned) → IsPlan host libs plan
-    → padded_codes plan.order plan.origins plan.edits
-    ≡ flat_map (padded_segment (order_of host)) (linked_segments host libs)
-plan_codes host libs plan h = grind (arith, codes_are)
+  -- the padded codes of a plan of a link are those of the link's segments with their edits
+  plan_codes : IsPlan host libs plan → padded_codes plan.order plan.origins plan.edits
+      ≡ flat_map (padded_segment (order_of host)) (linked_segments host libs)
+  plan_codes h = grind (arith, codes_are)
 
--- the file of a plan of a link is the linked file
-pub plan_file : (host : List ℕ) (libs : List (List ℕ)) (plan : Planned)
-    → IsPlan host libs plan → file_in plan ≡ linked_file host libs
-plan_file host libs plan h = grind (arith, plan_extents, plan_codes)
+  -- the file of a plan of a link is the linked file
+  pub plan_file : IsPlan host libs plan → file_in plan ≡ linked_file host libs
+  plan_file h = grind (arith, plan_extents, plan_codes)
 
--- a plan of a link whose host has a whole dictionary can be written
-pub plan_ready : (host : List ℕ) (libs : List (List ℕ)) (plan : Planned)
-    → IsPlan host libs plan → block_len ≤ length plan.host → IsReady plan
-unfolding slot_names
-plan_ready host libs plan h long = grind
-    (arith, extent_at, plan_extents, extents_are, segments_ascend, segments_small, have_edits)
+  -- a plan of a link whose host has a whole dictionary can be written
+  pub plan_ready : IsPlan host libs plan → block_len ≤ length plan.host → IsReady plan
+  unfolding slot_names
+  plan_ready h long = grind
+      (arith, extent_at, plan_extents, extents_are, segments_ascend, segments_small, have_edits)
 
--- the summary of a plan of a link is that of the link
-pub plan_summary : (host : List ℕ) (libs : List (List ℕ)) (plan : Planned)
-    → IsPlan host libs plan → summary_in plan ≡ summary_of host libs
-plan_summary host libs plan h = grind (arith, length-map, plan_extents)
+  -- the summary of a plan of a link is that of the link
+  pub plan_summary : IsPlan host libs plan → summary_in plan ≡ summary_of host libs
+  plan_summary h = grind (arith, length-map, plan_extents)

@@ -3,12 +3,10 @@ use Rattle.std.proofs.Common.{◌≡◌, ℕ, zero, suc, ◌+◌, ◌-◌, ◌<�
 use Rattle.std.proofs.Common.{◌∷◌, ◌++◌, length, take, drop, map, get_or, Option, Some}
 use Rattle.std.proofs.Common.{None, Result, Ok, Err, OnErr, refl, sym, ◌∙◌, ap, subst}
 use Rattle.std.proofs.Common.{append_assoc, arith, length-drop}
+use Rattle.ps_linkfile.proofs.Words.{length-map-range_with_len, get_or-map-range_with_len, Appends}
+use Rattle.ps_linkfile.proofs.Words.{range_with_len, AppendsPrefix}
 use Rattle.std.proofs.lemmas.List.{append-nil, take_all, take-append-drop, ext_get_or}
 use Rattle.std.proofs.Math.Seq.{take-append_seam, take-add}
-use Rattle.std.proofs.lemmas.List.FromFn.{length-map-range_with_len, get_or-map-range_with_len}
-use Rattle.std.specs.Io.KnownBytes.{Appends}
-use Rattle.std.specs.List.{range_with_len}
-use Rattle.ps_linkfile.specs.Outcomes.{AppendsPrefix}
 
 -- what stays as it was grew by nothing
 pub appends_none : (o : Option (List ℕ)) → Appends o o []
@@ -41,21 +39,17 @@ prefix_from a c prefix rest bs e h = (length prefix, rw (← e, take-append_seam
 -- some bytes, and then a prefix of more, of which still more may follow
 pub prefix_more : (a b c : Option (List ℕ)) (xs ys zs bs : List ℕ) → xs ++ (ys ++ zs) ≡ bs
     → Appends a b xs → AppendsPrefix b c ys → AppendsPrefix a c bs
-prefix_more a b c xs ys zs bs e h k =
-    prefix_from a c (xs ++ take k.0 ys) (drop k.0 ys ++ zs) bs
-    (append_assoc xs (take k.0 ys) (drop k.0 ys ++ zs)
-    ∙ (ap (λ (us : List ℕ). xs ++ us)
-    (sym (append_assoc (take k.0 ys) (drop k.0 ys) zs)
-    ∙ ap (λ (us : List ℕ). us ++ zs) (take-append-drop k.0 ys)) ∙ e))
-    (appends_twice a b c xs (take k.0 ys) h k.1)
+prefix_more a b c xs ys zs bs e h k = prefix_from a c (xs ++ take k.0 ys) (drop k.0 ys ++ zs) bs
+    (append_assoc xs (take k.0 ys) (drop k.0 ys ++ zs) ∙ (ap (λ us. xs ++ us)
+    (sym (append_assoc (take k.0 ys) (drop k.0 ys) zs) ∙ ap (λ us. us ++ zs)
+    (take-append-drop k.0 ys)) ∙ e)) (appends_twice a b c xs (take k.0 ys) h k.1)
 
 -- a prefix, of which more may follow
 pub prefix_then : (a c : Option (List ℕ)) (ys zs : List ℕ) → AppendsPrefix a c ys
     → AppendsPrefix a c (ys ++ zs)
 prefix_then a c ys zs k =
-    prefix_from a c (take k.0 ys) (drop k.0 ys ++ zs) (ys ++ zs)
-    (sym (append_assoc (take k.0 ys) (drop k.0 ys) zs)
-    ∙ ap (λ (us : List ℕ). us ++ zs) (take-append-drop k.0 ys)) k.1
+    prefix_from a c (take k.0 ys) (drop k.0 ys ++ zs) (ys ++ zs) (sym (append_assoc (take k.0 ys)
+    (drop k.0 ys) zs) ∙ ap (λ (us : List ℕ). us ++ zs) (take-append-drop k.0 ys)) k.1
 
 -- some bytes, and then a prefix of the rest
 pub prefix_last : (a b c : Option (List ℕ)) (xs ys : List ℕ) → Appends a b xs
@@ -66,16 +60,14 @@ prefix_last a b c xs ys h k = prefix_more a b c xs ys [] (xs ++ ys)
 -- what is f of its place, from a on
 pub image_is : (f : ℕ → ℕ) (a n : ℕ) (xs : List ℕ) → length xs ≡ n
     → ((k : ℕ) → k < n → get_or xs k 0 ≡ f (a + k)) → xs ≡ map f (range_with_len a n)
-image_is f a n xs len h =
-    ext_get_or 0 xs (map f (range_with_len a n)) (len ∙ sym (length-map-range_with_len f a n))
-    (λ i lt. let within : i < n = omega arith in
-    h i within ∙ sym (get_or-map-range_with_len f a n i (a + i) 0 within refl))
+image_is f a n xs len h = ext_get_or 0 xs (map f (range_with_len a n))
+    (len ∙ sym (length-map-range_with_len f a n)) (λ i lt. let within : i < n =
+    omega arith in h i within ∙ sym (get_or-map-range_with_len f a n i (a + i) 0 within refl))
 
 -- m places from a on, and n more
 pub image_split : (f : ℕ → ℕ) (a m n k b : ℕ) → k ≡ m + n → b ≡ a + m
     → map f (range_with_len a k) ≡ map f (range_with_len a m) ++ map f (range_with_len b n)
-image_split f a zero n k b e g = let x : k ≡ n = omega arith in let y : b ≡ a = omega arith in
-    rw (x, y)
+image_split f a zero n k b e g = grind arith
 image_split f a (suc m) n k b e g =
     let x : k ≡ suc (m + n) = omega arith in
     rw x (ap (λ (us : List ℕ). f a ∷ us)

@@ -2,14 +2,11 @@
 use Rattle.std.proofs.Common.{◌≡◌, ℕ, ◌+◌, ◌-◌, ◌<◌, ◌≤◌, ◌++◌, List}
 use Rattle.std.proofs.Common.{◌∷◌, length, take, drop, get_or, sym, ◌∙◌, ap, arith}
 use Rattle.std.proofs.Common.{add-one, refl}
+use Rattle.ps_linkfile.proofs.Words.{flat_map, MAX_WORD, reference, PIECE_REFERENCES}
 use Rattle.std.specs.Prelude.{decimal, min}
-use Rattle.std.specs.List.{flat_map}
 use Rattle.std.proofs.lemmas.Fmt.{length-decimal-le}
 use Rattle.std.proofs.lemmas.List.{length-drop, take_min}
-use Rattle.ps_words.specs.declared.words.TheConstants.{MAX_WORD}
-use Rattle.ps_linkfile.specs.ShowText.{reference}
 use Rattle.ps_resolve.proofs.Takes.{drop_one}
-use Rattle.ps_linkfile.specs.declared.pieces.TheConstants.{PIECE_REFERENCES}
 
 pub digits_few : (n : ℕ) → n ≤ MAX_WORD → length (decimal n) ≤ 5
 digits_few n h = length-decimal-le 5 n (omega arith) (omega (arith, h)) (omega (arith, h))
@@ -21,14 +18,13 @@ take_one x xs n = rw add-one refl
 pub one_more : (xs : List ℕ) (i n : ℕ) → i < length xs
     → reference (get_or xs i 0) ++ flat_map reference (take n (drop (i + 1) xs))
     ≡ flat_map reference (take (n + 1) (drop i xs))
-one_more xs i n h = sym (ap (λ (ys : List ℕ). flat_map reference (take (n + 1) ys))
+one_more xs i n h = sym (ap (λ ys. flat_map reference (take (n + 1) ys))
     (drop_one xs i h) ∙ ap (flat_map reference) (take_one (get_or xs i 0) (drop (i + 1) xs) n))
 
 -- a piece has all that are left, and at most PIECE_REFERENCES
-pub piece_is : (xs : List ℕ) (i end : ℕ) → i ≤ length xs
-    → end ≡ min (length xs) (i + PIECE_REFERENCES)
-    → take (end - i) (drop i xs) ≡ take PIECE_REFERENCES (drop i xs)
+pub piece_is : (xs : List ℕ) (i end : ℕ) → i ≤ length xs → end ≡ min (length xs)
+    (i + PIECE_REFERENCES) → take (end - i) (drop i xs) ≡ take PIECE_REFERENCES (drop i xs)
 piece_is xs i end h is =
     let count : end - i ≡ min PIECE_REFERENCES (length (drop i xs)) =
     omega (arith, h, is, length-drop i xs) in
-    ap (λ (n : ℕ). take n (drop i xs)) count ∙ take_min PIECE_REFERENCES (drop i xs)
+    ap (λ n. take n (drop i xs)) count ∙ take_min PIECE_REFERENCES (drop i xs)

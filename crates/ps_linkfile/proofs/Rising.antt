@@ -2,18 +2,12 @@
 use Rattle.std.proofs.Common.{rules, ◌≡◌, ◌≢◌, ◌∙◌, ℕ, ◌+◌, ◌*◌}
 use Rattle.std.proofs.Common.{◌-◌, ◌≤◌, ◌<◌, List, [], ◌∷◌, length, map, drop}
 use Rattle.std.proofs.Common.{Ok, ap, refl, arith}
-use Rattle.std.specs.Prelude.{All, min}
+use Rattle.ps_linkfile.proofs.Words.{All, min, blocks, MAX_CODE_LEN, Origin, Counts, WriteFault}
+use Rattle.ps_linkfile.proofs.Words.{Extent, all_blocks, extent_of_origin, Ascend}
 use Rattle.std.specs.declared.io.Error.{Error}
-use Rattle.ps_words.specs.Words.{blocks}
-use Rattle.ps_codefile.specs.declared.code_layout.TheConstants.{MAX_CODE_LEN}
 use Rattle.ps_linkfile.specs.declared.block_layout.TheConstants.{MAX_FILE_BLOCKS}
 use Rattle.ps_linkfile.specs.Counts.{AreAtMost, CanCount, counts_after, Rises, NoneFailed, OneError}
 use Rattle.ps_linkfile.specs.Counts.{OneStall, OneFailed, IfDevice, IfStalled}
-use Rattle.ps_resolve.specs.Plans.{Origin}
-use Rattle.ps_linkfile.specs.declared.counts.Counts.{Counts}
-use Rattle.ps_linkfile.specs.declared.error.WriteFault.{WriteFault}
-use Rattle.ps_linkfile.specs.LinkedFile.{Extent, all_blocks}
-use Rattle.ps_linkfile.specs.Writing.{extent_of_origin, Ascend}
 use Rattle.ps_linkfile.proofs.Extents.{all_blocks-cons, few_codes, few_blocks}
 
 -- the counts after the first i of so many bytes went out; while some are left, each write was short
@@ -34,25 +28,25 @@ progress old mid size i taken left h lt is le ne = grind arith
 pub rises_none : (c : Counts) → Rises c c 0 0
 rises_none c = record { by_bytes = omega arith; by_pieces = omega arith; shorts = omega arith }
 
--- some pieces, and then more, of a file that has still more
-pub rises_then : (a b c : Counts) (m x n y size pieces : ℕ) → Rises a b m x → Rises b c n y
-    → m + n ≤ size → x + y ≤ pieces → Rises a c size pieces
-rises_then a b c m x n y size pieces h k le few = grind arith
+module _ (a b c : Counts) where
+  -- some pieces, and then more, of a file that has still more
+  pub rises_then : (m x n y size pieces : ℕ) → Rises a b m x
+      → Rises b c n y → m + n ≤ size → x + y ≤ pieces → Rises a c size pieces
+  rises_then m x n y size pieces h k le few = grind arith
 
-pub none_after : (a b c : Counts) → NoneFailed a b → NoneFailed b c → NoneFailed a c
-none_after a b c h k = record { errors = k.errors ∙ h.errors; stalls = k.stalls ∙ h.stalls }
+  pub none_after : NoneFailed a b → NoneFailed b c → NoneFailed a c
+  none_after h k = record { errors = k.errors ∙ h.errors; stalls = k.stalls ∙ h.stalls }
 
-pub one_after : (a b c : Counts) (fault : WriteFault) → NoneFailed a b → OneFailed fault b c
-    → OneFailed fault a c
-one_after a b c fault h k = grind arith
+  pub one_after : (fault : WriteFault)
+      → NoneFailed a b → OneFailed fault b c → OneFailed fault a c
+  one_after fault h k = grind arith
 
-pub if_device : (old new : Counts) (fault : WriteFault) → OneFailed fault old new
-    → IfDevice fault (OneError old new)
-if_device old new fault h = grind arith
+module _ (old new : Counts) (fault : WriteFault) where
+  pub if_device : OneFailed fault old new → IfDevice fault (OneError old new)
+  if_device h = grind arith
 
-pub if_stalled : (old new : Counts) (fault : WriteFault) → OneFailed fault old new
-    → IfStalled fault (OneStall old new)
-if_stalled old new fault h = grind arith
+  pub if_stalled : OneFailed fault old new → IfStalled fault (OneStall old new)
+  if_stalled h = grind arith
 
 -- small counts have room for a file
 pub room_for : (c : Counts) (n : ℕ) → AreAtMost c 4294967296 → n ≤ 4294967296
@@ -79,14 +73,12 @@ pub record BlocksSoFar (os : List Origin) (count n : ℕ) (old new : Counts) : T
   pub none : NoneFailed old new
 
 -- the blocks so far, those of one source more and those that are left are the blocks of all sources
-next_blocks : (os : List Origin) (count n : ℕ) (o : Origin)
-    → drop count os ≡ o ∷ drop (count + 1) os
-    → n + blocks_in (drop count os) ≡ blocks_in os
+next_blocks : (os : List Origin) (count n : ℕ) (o : Origin) → drop count os
+    ≡ o ∷ drop (count + 1) os → n + blocks_in (drop count os) ≡ blocks_in os
     → n + blocks (length o.code) + blocks_in (drop (count + 1) os) ≡ blocks_in os
 next_blocks os count n o at h = sum (blocks_in os) (blocks_in (drop count os))
-    (blocks_in (drop (count + 1) os)) (blocks (length o.code)) h
-    (ap blocks_in at ∙ all_blocks-cons (extent_of_origin o)
-    (map extent_of_origin (drop (count + 1) os)))
+    (blocks_in (drop (count + 1) os)) (blocks (length o.code)) h (ap blocks_in at
+    ∙ all_blocks-cons (extent_of_origin o) (map extent_of_origin (drop (count + 1) os)))
   where
     sum : (all here rest one : ℕ) → n + here ≡ all → here ≡ one + rest
         → n + one + rest ≡ all
@@ -101,41 +93,38 @@ blocks_none os c = record {
       record { errors = refl; stalls = refl };
 }
 
--- the blocks of one source more
-pub blocks_more : (os : List Origin) (count n : ℕ) (o : Origin) (a b c : Counts)
-    → drop count os ≡ o ∷ drop (count + 1) os → BlocksSoFar os count n a b
-    → Rises b c (512 * blocks (length o.code)) (blocks (length o.code)) → NoneFailed b c
-    → BlocksSoFar os (count + 1) (n + blocks (length o.code)) a c
-blocks_more os count n o a b c at h k none = search (rules, next_blocks, rises_then, none_after)
+module _ (os : List Origin) (count n : ℕ) (o : Origin) (a b : Counts) where
+  -- the blocks of one source more
+  pub blocks_more : (c : Counts) → drop count os ≡ o ∷ drop (count + 1) os → BlocksSoFar
+      os count n a b → Rises b c (512 * blocks (length o.code)) (blocks (length o.code))
+      → NoneFailed b c → BlocksSoFar os (count + 1) (n + blocks (length o.code)) a c
+  blocks_more c at h k none = search (rules, next_blocks, rises_then, none_after)
 
--- some blocks of one source more, at which the file stops
-pub blocks_stop : (os : List Origin) (count n : ℕ) (o : Origin) (a b c : Counts)
-    → drop count os ≡ o ∷ drop (count + 1) os → BlocksSoFar os count n a b
-    → Rises b c (512 * blocks (length o.code)) (blocks (length o.code))
-    → Rises a c (512 * blocks_in os) (blocks_in os)
-blocks_stop os count n o a b c at h k =
-    let one = blocks (length o.code) in
-    let fits = within n one (blocks_in (drop (count + 1) os)) (blocks_in os)
-    (next_blocks os count n o at h.sum) in
-    rises_then a b c (512 * n) n (512 * one) one (512 * blocks_in os)
-    (blocks_in os) h.rises k fits.0 fits.1
-  where
-    within : (x y rest all : ℕ) → x + y + rest ≡ all
-        → (512 * x + 512 * y ≤ 512 * all) × (x + y ≤ all)
-    within x y rest all h = (omega arith, omega arith)
+  -- some blocks of one source more, at which the file stops
+  pub blocks_stop : (c : Counts) → drop count os ≡ o ∷ drop (count + 1) os
+      → BlocksSoFar os count n a b → Rises b c (512 * blocks (length o.code))
+      (blocks (length o.code)) → Rises a c (512 * blocks_in os) (blocks_in os)
+  blocks_stop c at h k =
+      let one = blocks (length o.code) in
+      let fits = within n one (blocks_in (drop (count + 1) os)) (blocks_in os)
+      (next_blocks os count n o at h.sum) in
+      rises_then a b c (512 * n) n (512 * one) one (512 * blocks_in os)
+      (blocks_in os) h.rises k fits.0 fits.1
+    where
+      within : (x y rest all : ℕ) → x + y + rest ≡ all
+          → (512 * x + 512 * y ≤ 512 * all) × (x + y ≤ all)
+      within x y rest all h = (omega arith, omega arith)
 
--- there is room for the blocks of one source more
-pub blocks_room : (os : List Origin) (count n : ℕ) (o : Origin) (a b : Counts)
-    → drop count os ≡ o ∷ drop (count + 1) os → BlocksSoFar os count n a b
-    → CanCount a (512 * blocks_in os) → CanCount b (512 * blocks (length o.code))
-blocks_room os count n o a b at h room =
-    let one = blocks (length o.code) in
-    room_left a b (512 * blocks_in os) (512 * n) n (512 * one) room h.rises h.none
-    (within n one (blocks_in (drop (count + 1) os)) (blocks_in os)
-    (next_blocks os count n o at h.sum))
-  where
-    within : (x y rest all : ℕ) → x + y + rest ≡ all → 512 * x + 512 * y ≤ 512 * all
-    within x y rest all h = omega arith
+  -- there is room for the blocks of one source more
+  pub blocks_room : drop count os ≡ o ∷ drop (count + 1) os → BlocksSoFar os count n a b
+      → CanCount a (512 * blocks_in os) → CanCount b (512 * blocks (length o.code))
+  blocks_room at h room =
+      let one = blocks (length o.code) in
+      room_left a b (512 * blocks_in os) (512 * n) n (512 * one) room h.rises h.none (within n one
+      (blocks_in (drop (count + 1) os)) (blocks_in os) (next_blocks os count n o at h.sum))
+    where
+      within : (x y rest all : ℕ) → x + y + rest ≡ all → 512 * x + 512 * y ≤ 512 * all
+      within x y rest all h = omega arith
 
 -- all are written
 pub blocks_done : (os : List Origin) (count n : ℕ) (a b : Counts) → drop count os ≡ []

@@ -1,14 +1,10 @@
 -- Text that is gathered in front of a writer, and sent to it.
-use Rattle.std.proofs.Common.{◌≡◌, ℕ, List, [], ◌++◌, true, false, Option, Some, None}
-use Rattle.std.proofs.Common.{append_assoc, append-nil, sym, ◌∙◌, ap, subst}
-use Rattle.std.specs.Prelude.{is_some}
+use Rattle.std.proofs.Common.{arith, ◌≡◌, ℕ, List, [], ◌++◌, true, false, Option, Some}
+use Rattle.std.proofs.Common.{None, append_assoc, append-nil, sym, ◌∙◌, ap, subst}
+use Rattle.ps_linkfile.proofs.Words.{is_some, Appends, failures_with, AppendsPrefix, WriteFault}
+use Rattle.ps_linkfile.proofs.Words.{Failures}
 use Rattle.std.proofs.lemmas.Bool.{false≢true}
-use Rattle.std.specs.Io.KnownBytes.{Appends}
 use Rattle.ps_linkfile.specs.Adding.{IsNoted, IsSent, IsKept}
-use Rattle.ps_linkfile.specs.Failures.{failures_with}
-use Rattle.ps_linkfile.specs.Outcomes.{AppendsPrefix}
-use Rattle.ps_linkfile.specs.declared.error.WriteFault.{WriteFault}
-use Rattle.ps_linkfile.specs.declared.failures.Failures.{Failures}
 use Rattle.ps_linkfile.proofs.Prefixes.{appends_twice, prefix_last, prefix_then}
 
 -- of what was gathered and of these bytes, some was sent, and the rest is gathered
@@ -23,7 +19,7 @@ pub sends_both : (a b c : Option (List ℕ)) (gathered bytes none : List ℕ)
 sends_both a b c gathered bytes none h e k = (
   gathered ++ bytes,
   appends_twice a b c gathered bytes h k,
-  ap (λ (xs : List ℕ). (gathered ++ bytes) ++ xs) e ∙ append-nil (gathered ++ bytes),
+  ap (λ xs. (gathered ++ bytes) ++ xs) e ∙ append-nil (gathered ++ bytes),
 )
 
 module _ (first old new : Option (List ℕ)) (text gathered bytes : List ℕ) where
@@ -31,38 +27,26 @@ module _ (first old new : Option (List ℕ)) (text gathered bytes : List ℕ) wh
   pub sent_more : (rest : List ℕ) (fault : Option WriteFault) → is_some fault ≡ false
       → IsSent first text old gathered fault → Sends old new gathered bytes rest
       → IsSent first (text ++ bytes) new rest fault
-  sent_more rest None e h k = (
-    h.0 ++ k.0,
-    appends_twice first old new h.0 k.0 h.1 k.1,
-    append_assoc h.0 k.0 rest ∙ (ap (λ (xs : List ℕ). h.0 ++ xs) k.2
-        ∙ (sym (append_assoc h.0 gathered bytes) ∙ ap (λ (xs : List ℕ). xs ++ bytes) h.2)),
-  )
-  sent_more rest (Some fault) e h k = absurd (false≢true (sym e))
+  sent_more rest fault h1 h2 h3 = grind (arith, appends_twice, append_assoc, false≢true)
 
   -- where a write fails, a prefix of all was sent
   pub sent_prefix : (fault : Option WriteFault) → is_some fault ≡ false
       → IsSent first text old gathered fault → AppendsPrefix old new (gathered ++ bytes)
       → AppendsPrefix first new (text ++ bytes)
-  sent_prefix None e h k =
-      subst (λ (xs : List ℕ). AppendsPrefix first new xs)
-      (sym (append_assoc h.0 gathered bytes) ∙ ap (λ (xs : List ℕ). xs ++ bytes) h.2)
+  sent_prefix None e h k = subst (λ xs. AppendsPrefix first new xs)
+      (sym (append_assoc h.0 gathered bytes) ∙ ap (λ xs. xs ++ bytes) h.2)
       (prefix_last first old new h.0 (gathered ++ bytes) h.1 k)
   sent_prefix (Some fault) e h k = absurd (false≢true (sym e))
 
--- what was gathered at the end is sent, or a prefix of it
-pub sent_all : (first mid last : Option (List ℕ)) (text gathered : List ℕ)
-    → IsSent first text mid gathered None → Appends mid last gathered
-    → Appends first last text
-sent_all first mid last text gathered h k =
-    subst (λ (xs : List ℕ). Appends first last xs) h.2
-    (appends_twice first mid last h.0 gathered h.1 k)
+module _ (first mid last : Option (List ℕ)) (text gathered : List ℕ) where
+  -- what was gathered at the end is sent, or a prefix of it
+  pub sent_all : IsSent first text mid gathered None
+      → Appends mid last gathered → Appends first last text
+  sent_all h k = rw h.2 at (appends_twice first mid last h.0 gathered h.1 k)
 
-pub sent_front : (first mid last : Option (List ℕ)) (text gathered : List ℕ)
-    → IsSent first text mid gathered None → AppendsPrefix mid last gathered
-    → AppendsPrefix first last text
-sent_front first mid last text gathered h k =
-    subst (λ (xs : List ℕ). AppendsPrefix first last xs) h.2
-    (prefix_last first mid last h.0 gathered h.1 k)
+  pub sent_front : IsSent first text mid gathered None
+      → AppendsPrefix mid last gathered → AppendsPrefix first last text
+  sent_front h k = rw h.2 at (prefix_last first mid last h.0 gathered h.1 k)
 
 -- where a write has failed, what is added is not sent
 pub sent_no_more : (first now : Option (List ℕ)) (text gathered bytes : List ℕ)
@@ -71,23 +55,22 @@ pub sent_no_more : (first now : Option (List ℕ)) (text gathered bytes : List �
 sent_no_more first now text gathered bytes None e h = absurd (false≢true e)
 sent_no_more first now text gathered bytes (Some fault) e h = prefix_then first now text bytes h
 
--- where no write had failed, and none did or one does
-pub noted_more : (first old new : Failures) (fault : Option WriteFault) → is_some fault ≡ false
-    → IsNoted first old fault → new ≡ old → IsNoted first new fault
-noted_more first old new None e h k = k ∙ h
-noted_more first old new (Some fault) e h k = absurd (false≢true (sym e))
+module _ (first old new : Failures) where
+  -- where no write had failed, and none did or one does
+  pub noted_more : (fault : Option WriteFault) → is_some fault ≡ false
+      → IsNoted first old fault → new ≡ old → IsNoted first new fault
+  noted_more None e h k = k ∙ h
+  noted_more (Some fault) e h k = absurd (false≢true (sym e))
 
-pub noted_fault : (first old new : Failures) (before : Option WriteFault) (fault : WriteFault)
-    → is_some before ≡ false → IsNoted first old before → new ≡ failures_with fault old
-    → new ≡ failures_with fault first
-noted_fault first old new None fault e h k =
-    k ∙ ap (λ (failures : Failures). failures_with fault failures) h
-noted_fault first old new (Some before) fault e h k = absurd (false≢true (sym e))
+  pub noted_fault : (before : Option WriteFault) (fault : WriteFault)
+      → is_some before ≡ false → IsNoted first old before
+      → new ≡ failures_with fault old → new ≡ failures_with fault first
+  noted_fault None fault e h k = k ∙ ap (λ failures. failures_with fault failures) h
+  noted_fault (Some before) fault e h k = absurd (false≢true (sym e))
 
 -- where memory was refused, what is added is not kept
-pub kept_no_more : {E : Type 0} (first text now bytes : List ℕ) (error : Option E)
-    → is_some error ≡ true → IsKept first text now error
-    → IsKept first (text ++ bytes) now error
+pub kept_no_more : {E : Type 0} (first text now bytes : List ℕ) (error : Option E) → is_some
+    error ≡ true → IsKept first text now error → IsKept first (text ++ bytes) now error
 kept_no_more {E} first text now bytes None e h = absurd (false≢true e)
 kept_no_more {E} first text now bytes (Some error) e h = tt
 
@@ -95,6 +78,4 @@ kept_no_more {E} first text now bytes (Some error) e h = tt
 pub kept_more : {E : Type 0} (first text now bytes new : List ℕ) (error : Option E)
     → is_some error ≡ false → new ≡ now ++ bytes → IsKept first text now error
     → IsKept first (text ++ bytes) new error
-kept_more {E} first text now bytes new None e k h =
-    k ∙ (ap (λ (xs : List ℕ). xs ++ bytes) h ∙ append_assoc first text bytes)
-kept_more {E} first text now bytes new (Some error) e k h = absurd (false≢true (sym e))
+kept_more first text now bytes new error h1 h2 h3 = grind (arith, append_assoc, false≢true)

@@ -4,20 +4,14 @@ use Rattle.std.proofs.Common.{◌≡◌, ℕ, suc, ◌+◌, ◌-◌, ◌<◌, �
 use Rattle.std.proofs.Common.{◌∷◌, ◌++◌, length, length-append, map, append_assoc}
 use Rattle.std.proofs.Common.{append-nil, Bool, true, if◌then◌else◌, Option, Some, None}
 use Rattle.std.proofs.Common.{Result, Ok, Err, refl, sym, ◌∙◌, ap, arith}
-use Rattle.std.specs.List.{flat_map, filter, enumerate_from, range_with_len}
-use Rattle.ps_words.specs.FaultPlaces.{in_file}
+use Rattle.ps_linkfile.proofs.Words.{flat_map, filter, enumerate_from, range_with_len, in_file}
+use Rattle.ps_linkfile.proofs.Words.{Order, Reason, reading, items_of, Record, known_order}
+use Rattle.ps_linkfile.proofs.Words.{OpenedFile, FileOrder, Ordered, file_order, opened_as}
+use Rattle.ps_linkfile.proofs.Words.{entry_at, code_of, information_of}
 use Rattle.std.specs.Prelude.{codes}
-use Rattle.ps_words.specs.declared.order.Order.{Order}
 use Rattle.ps_words.specs.declared.order.Order.TheVariants.{Little}
-use Rattle.ps_words.specs.declared.fault.Reason.{Reason}
 use Rattle.ps_words.specs.declared.fault.Reason.TheVariants as reason
-use Rattle.ps_codefile.specs.Dictionary.{OpenedFile, FileOrder, Zero, Ordered, file_order}
-use Rattle.ps_codefile.specs.Dictionary.{opened_as, opened_beside_as, entry_at, code_of}
-use Rattle.ps_codefile.specs.Dictionary.{information_of}
-use Rattle.ps_linkinfo.specs.Records.{reading}
-use Rattle.ps_linkinfo.specs.Left.{items_of}
-use Rattle.ps_linkinfo.specs.declared.record.LinkRecord.{LinkRecord as Record}
-use Rattle.ps_resolve.specs.Sources.{known_order}
+use Rattle.ps_codefile.specs.Dictionary.{Zero, opened_beside_as}
 use Rattle.ps_linkfile.specs.Lines.{line, two_digits, fault_words}
 use Rattle.ps_linkfile.specs.ShowText.{unit_names, record_line, record_lines, fault_line, has_links}
 use Rattle.ps_linkfile.specs.ShowText.{links_lines, shown_file, show_of, order_fault}
@@ -29,32 +23,32 @@ pub record Shows (short : Bool) (of : FileOrder) (file : List ℕ) (shown : File
   pub dict : o ≡ record { order = known_order of; file = file }
   pub sound : (if short then Some (in_file 0 reason.ShortFile) else order_fault of) ≡ None
 
--- a file that is opened by itself shows the order in which its words are read
-pub read_shows : (short : Bool) (of : FileOrder) (file : List ℕ) (o : OpenedFile)
-    → (if short then Err reason.ShortFile else opened_as file of) ≡ Ok o
-    → Shows short of file (Ordered o.order) o
-read_shows short of file o h = grind arith
+module _ (short : Bool) (of : FileOrder) (file : List ℕ) where
+  -- a file that is opened by itself shows the order in which its words are read
+  pub read_shows : (o : OpenedFile) → (if short then Err reason.ShortFile else opened_as file of)
+      ≡ Ok o → Shows short of file (Ordered o.order) o
+  read_shows o h = grind arith
 
--- a file that is not opened by itself, but beside a little-endian one, shows no order
-pub beside_shows : (short : Bool) (of : FileOrder) (file : List ℕ) (why : Reason) (o : OpenedFile)
-    → (if short then Err reason.ShortFile else opened_as file of) ≡ Err why
-    → (if short then Err reason.ShortFile else opened_beside_as Little file of) ≡ Ok o
-    → Shows short of file Zero o
-beside_shows short of file why o h k = grind arith
+  -- a file that is not opened by itself, but beside a little-endian one, shows no order
+  pub beside_shows : (why : Reason) (o : OpenedFile)
+      → (if short then Err reason.ShortFile else opened_as file of) ≡ Err why
+      → (if short then Err reason.ShortFile else opened_beside_as Little file of) ≡ Ok o
+      → Shows short of file Zero o
+  beside_shows why o h k = grind arith
 
--- where it is not opened beside one either, the reason for that is why it cannot be shown
-pub beside_fault : (short : Bool) (of : FileOrder) (file : List ℕ) (why other : Reason)
-    → (if short then Err reason.ShortFile else opened_as file of) ≡ Err why
-    → (if short then Err reason.ShortFile else opened_beside_as Little file of) ≡ Err other
-    → (if short then Some (in_file 0 reason.ShortFile) else order_fault of)
-    ≡ Some (in_file 0 other)
-beside_fault short of file why other h k = grind arith
+  -- where it is not opened beside one either, the reason for that is why it cannot be shown
+  pub beside_fault : (why other : Reason)
+      → (if short then Err reason.ShortFile else opened_as file of) ≡ Err why
+      → (if short then Err reason.ShortFile else opened_beside_as Little file of) ≡ Err other
+      → (if short then Some (in_file 0 reason.ShortFile) else order_fault of)
+      ≡ Some (in_file 0 other)
+  beside_fault why other h k = grind arith
 
 pub shown_is : (file : List ℕ) (found : FileOrder) (o : OpenedFile) → found ≡ file_order file
     → o ≡ record { order = known_order (file_order file); file = file }
     → shown_file found o.order o.file ≡ show_of file
 unfolding show_of
-shown_is file found o h k = ap (λ (f : FileOrder). shown_file f o.order o.file) h
+shown_is file found o h k = ap (λ f. shown_file f o.order o.file) h
     ∙ ap (λ (q : OpenedFile). shown_file (file_order file) q.order q.file) k
 
 -- the names of those that pass, with one number more
@@ -64,10 +58,9 @@ pub names_more : {X : Type 0} (test : ℕ → Bool) (name : ℕ → X) (xs new a
     → new ++ map name (filter test (range_with_len (i + 1) (n - (i + 1)))) ≡ all
 names_more {X} test name xs new all i n lt h e =
     let left : n - i ≡ suc (n - (i + 1)) = omega arith in
-    ap (λ (ys : List X). ys ++ map name (filter test rest)) e
-    ∙ (append_assoc xs (if test i then name i ∷ [] else []) (map name (filter test rest))
-    ∙ (ap (λ (ys : List X). xs ++ ys) (by (test i) refl)
-    ∙ (ap (λ (k : ℕ). xs ++ map name (filter test (range_with_len i k))) (sym left) ∙ h)))
+    ap (λ ys. ys ++ map name (filter test rest)) e ∙ (append_assoc xs (if test i then name i
+    ∷ [] else []) (map name (filter test rest)) ∙ (ap (λ ys. xs ++ ys) (by (test i) refl)
+    ∙ (ap (λ k. xs ++ map name (filter test (range_with_len i k))) (sym left) ∙ h)))
   where
     rest : List ℕ
     rest = range_with_len (i + 1) (n - (i + 1))
@@ -100,14 +93,7 @@ lines_of_items : (units : List (List ℕ)) (n : ℕ) (rs : List Record) (why : O
 lines_of_items units n [] None = refl
 lines_of_items units n [] (Some why) = grind (arith, append-nil)
 lines_of_items units n (r ∷ rs) why =
-    let at : n + 1 + length rs ≡ n + length (r ∷ rs) = omega arith in
-    ap (λ (xs : List ℕ). record_line units (n, r) ++ xs)
-    (lines_of_items units (n + 1) rs why
-    ∙ ap (λ (k : ℕ). flat_map (record_line units) (enumerate_from (n + 1) rs)
-    ++ fault_line k why) at)
-    ∙ sym (append_assoc (record_line units (n, r))
-    (flat_map (record_line units) (enumerate_from (n + 1) rs))
-    (fault_line (n + length (r ∷ rs)) why))
+    grind (arith, append_assoc, lines_of_items units (n + 1) rs why)
 
 -- the lines of a reading's items are those of its records, and of its fault
 pub lines_of_reading : (units : List (List ℕ)) (read : List Record × Option Reason)
@@ -119,31 +105,25 @@ module _ (units : List (List ℕ)) (n : ℕ) (i : Result Record Reason)
   -- the line of a record, and those after it
   pub record_next : (r : Record) → old ≡ i ∷ items → i ≡ Ok r
       → item_lines units n old ≡ record_line units (n, r) ++ item_lines units (n + 1) items
-  record_next r p q = ap (item_lines units n)
-      (p ∙ ap (λ (j : Result Record Reason). j ∷ items) q)
+  record_next r p q = ap (item_lines units n) (p ∙ ap (λ j. j ∷ items) q)
 
   -- the line of a fault, and those after it
   pub fault_next : (why : Reason) → old ≡ i ∷ items → i ≡ Err why
       → item_lines units n old ≡ fault_line n (Some why) ++ item_lines units n items
-  fault_next why p q = ap (item_lines units n)
-      (p ∙ ap (λ (j : Result Record Reason). j ∷ items) q)
+  fault_next why p q = ap (item_lines units n) (p ∙ ap (λ j. j ∷ items) q)
 
--- the lines of a slot whose code is refused
-pub links_of_fault : (order : Order) (file : List ℕ) (slot : ℕ) (why : Reason)
-    → has_links (entry_at order file slot) ≡ true
-    → code_of file (entry_at order file slot) ≡ Err why
-    → line (codes "links " ++ two_digits slot) ++ line (fault_words why)
-    ≡ links_lines order file slot
-unfolding links_lines
-links_of_fault order file slot why h k = rw (h, k) refl
+module _ (order : Order) (file : List ℕ) (slot : ℕ) where
+  -- the lines of a slot whose code is refused
+  pub links_of_fault : (why : Reason) → has_links (entry_at order file slot) ≡ true
+      → code_of file (entry_at order file slot) ≡ Err why → line
+      (codes "links " ++ two_digits slot) ++ line (fault_words why) ≡ links_lines order file slot
+  unfolding links_lines
+  links_of_fault why h k = rw (h, k) refl
 
--- the lines of a slot whose code is in the file
-pub links_of_records : (order : Order) (file : List ℕ) (slot : ℕ) (code : List ℕ)
-    → has_links (entry_at order file slot) ≡ true
-    → code_of file (entry_at order file slot) ≡ Ok code
-    → line (codes "links " ++ two_digits slot)
-    ++ record_lines (unit_names order file)
-    (reading order (information_of file (entry_at order file slot)))
-    ≡ links_lines order file slot
-unfolding links_lines
-links_of_records order file slot code h k = rw (h, k) refl
+  -- the lines of a slot whose code is in the file
+  pub links_of_records : (code : List ℕ) → has_links (entry_at order file slot) ≡ true
+      → code_of file (entry_at order file slot) ≡ Ok code → line
+      (codes "links " ++ two_digits slot) ++ record_lines (unit_names order file) (reading order
+      (information_of file (entry_at order file slot))) ≡ links_lines order file slot
+  unfolding links_lines
+  links_of_records code h k = rw (h, k) refl

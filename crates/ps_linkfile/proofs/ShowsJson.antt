@@ -1,17 +1,11 @@
 -- The JSON show of a file: the items of a walk over records, and the link information of a slot.
 use Rattle.std.proofs.Common.{◌≡◌, ℕ, ◌+◌, List, [], ◌∷◌, ◌++◌, length}
 use Rattle.std.proofs.Common.{append_assoc, append-nil, true, Option, Some, None, Result, Ok, Err}
-use Rattle.std.proofs.Common.{refl, sym, ◌∙◌, ap, arith}
+use Rattle.std.proofs.Common.{refl, ◌∙◌, ap, arith}
+use Rattle.ps_linkfile.proofs.Words.{flat_map, enumerate_from, Order, Reason, OpenedFile, FileOrder}
+use Rattle.ps_linkfile.proofs.Words.{file_order, entry_at, code_of, information_of, reading}
+use Rattle.ps_linkfile.proofs.Words.{items_of, Record, known_order}
 use Rattle.std.specs.Prelude.{codes}
-use Rattle.std.specs.List.{flat_map, enumerate_from}
-use Rattle.ps_words.specs.declared.order.Order.{Order}
-use Rattle.ps_words.specs.declared.fault.Reason.{Reason}
-use Rattle.ps_codefile.specs.Dictionary.{OpenedFile, FileOrder, file_order, entry_at, code_of}
-use Rattle.ps_codefile.specs.Dictionary.{information_of}
-use Rattle.ps_linkinfo.specs.Records.{reading}
-use Rattle.ps_linkinfo.specs.Left.{items_of}
-use Rattle.ps_linkinfo.specs.declared.record.LinkRecord.{LinkRecord as Record}
-use Rattle.ps_resolve.specs.Sources.{known_order}
 use Rattle.ps_linkfile.specs.JsonText.{json_reason}
 use Rattle.ps_linkfile.specs.ShowJson.{fault_item, links_members, record_item, record_items}
 use Rattle.ps_linkfile.specs.ShowJson.{show_json_of, shown_json}
@@ -21,7 +15,7 @@ pub json_is : (file : List ℕ) (found : FileOrder) (o : OpenedFile) → found �
     → o ≡ record { order = known_order (file_order file); file = file }
     → shown_json found o.order o.file ≡ show_json_of file
 unfolding show_json_of
-json_is file found o h k = ap (λ (f : FileOrder). shown_json f o.order o.file) h
+json_is file found o h k = ap (λ f. shown_json f o.order o.file) h
     ∙ ap (λ (q : OpenedFile). shown_json (file_order file) q.order q.file) k
 
 -- the items of records in a file with these units, the first of which has the index rec
@@ -38,15 +32,7 @@ of_items : (units : List (List ℕ)) (n : ℕ) (rs : List Record) (why : Option 
     ≡ flat_map (record_item units) (enumerate_from n rs) ++ fault_item (n + length rs) why
 of_items units n [] None = refl
 of_items units n [] (Some why) = grind (arith, append-nil)
-of_items units n (r ∷ rs) why =
-    let at : n + 1 + length rs ≡ n + length (r ∷ rs) = omega arith in
-    ap (λ (xs : List ℕ). record_item units (n, r) ++ xs)
-    (of_items units (n + 1) rs why ∙ ap
-    (λ (k : ℕ). flat_map (record_item units) (enumerate_from (n + 1) rs) ++ fault_item k why)
-    at)
-    ∙ sym (append_assoc (record_item units (n, r))
-    (flat_map (record_item units) (enumerate_from (n + 1) rs))
-    (fault_item (n + length (r ∷ rs)) why))
+of_items units n (r ∷ rs) why = grind (arith, append_assoc, of_items units (n + 1) rs why)
 
 pub of_reading : (units : List (List ℕ)) (read : List Record × Option Reason)
     → walk_items units 0 (items_of read) ≡ record_items units read
@@ -57,35 +43,29 @@ module _ (units : List (List ℕ)) (n : ℕ) (i : Result Record Reason)
   -- the item of a record, and those after it
   pub record_more : (r : Record) → old ≡ i ∷ items → i ≡ Ok r
       → walk_items units n old ≡ record_item units (n, r) ++ walk_items units (n + 1) items
-  record_more r p q = ap (walk_items units n)
-      (p ∙ ap (λ (j : Result Record Reason). j ∷ items) q)
+  record_more r p q = ap (walk_items units n) (p ∙ ap (λ j. j ∷ items) q)
 
   -- the item of a fault, and those after it
   pub fault_more : (why : Reason) → old ≡ i ∷ items → i ≡ Err why
       → walk_items units n old ≡ fault_item n (Some why) ++ walk_items units n items
-  fault_more why p q = ap (walk_items units n)
-      (p ∙ ap (λ (j : Result Record Reason). j ∷ items) q)
+  fault_more why p q = ap (walk_items units n) (p ∙ ap (λ j. j ∷ items) q)
 
--- the members of a slot whose code is refused
-pub members_of_fault : (order : Order) (file : List ℕ) (slot : ℕ) (why : Reason)
-    → has_links (entry_at order file slot) ≡ true
-    → code_of file (entry_at order file slot) ≡ Err why
-    → (codes ",\"fault\":" ++ json_reason why) ++ codes ",\"records\":[]"
-    ≡ links_members order file slot
-unfolding links_members
-members_of_fault order file slot why h k =
-    rw (h, k) (append_assoc (codes ",\"fault\":") (json_reason why) (codes ",\"records\":[]"))
+module _ (order : Order) (file : List ℕ) (slot : ℕ) where
+  -- the members of a slot whose code is refused
+  pub members_of_fault : (why : Reason) → has_links (entry_at order file slot) ≡ true
+      → code_of file (entry_at order file slot) ≡ Err why → (codes ",\"fault\":"
+      ++ json_reason why) ++ codes ",\"records\":[]" ≡ links_members order file slot
+  unfolding links_members
+  members_of_fault why h k =
+      rw (h, k) (append_assoc (codes ",\"fault\":") (json_reason why) (codes ",\"records\":[]"))
 
--- those of a slot whose code is in the file
-pub members_of_records : (order : Order) (file : List ℕ) (slot : ℕ) (code : List ℕ)
-    → has_links (entry_at order file slot) ≡ true
-    → code_of file (entry_at order file slot) ≡ Ok code
-    → (codes ",\"fault\":null,\"records\":["
-    ++ record_items (unit_names order file)
-    (reading order (information_of file (entry_at order file slot)))) ++ codes "\n]"
-    ≡ links_members order file slot
-unfolding links_members
-members_of_records order file slot code h k =
-    rw (h, k) (append_assoc (codes ",\"fault\":null,\"records\":[")
-    (record_items (unit_names order file)
-    (reading order (information_of file (entry_at order file slot)))) (codes "\n]"))
+  -- those of a slot whose code is in the file
+  pub members_of_records : (code : List ℕ) → has_links (entry_at order file slot) ≡ true
+      → code_of file (entry_at order file slot) ≡ Ok code
+      → (codes ",\"fault\":null,\"records\":[" ++ record_items (unit_names order file)
+      (reading order (information_of file (entry_at order file slot)))) ++ codes "\n]"
+      ≡ links_members order file slot
+  unfolding links_members
+  members_of_records code h k =
+      rw (h, k) (append_assoc (codes ",\"fault\":null,\"records\":[") (record_items (unit_names
+      order file) (reading order (information_of file (entry_at order file slot)))) (codes "\n]"))

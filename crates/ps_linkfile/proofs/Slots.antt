@@ -1,11 +1,8 @@
 -- The segments of a link are by slot, and no code is longer than MAX_CODE_LEN bytes.
 use Rattle.std.proofs.Common.{ℕ, ◌+◌, ◌<◌, ◌≤◌, List, [], ◌∷◌, length, map}
 use Rattle.std.proofs.Common.{sym, subst, inl, inr, arith}
-use Rattle.std.specs.Prelude.{All}
+use Rattle.ps_linkfile.proofs.Words.{All, Order, entry_at, MAX_CODE_LEN, Extent, Ascend}
 use Rattle.std.proofs.lemmas.List.Elements.{All-map, All-tail}
-use Rattle.ps_words.specs.declared.order.Order.{Order}
-use Rattle.ps_codefile.specs.Dictionary.{entry_at}
-use Rattle.ps_codefile.specs.declared.code_layout.TheConstants.{MAX_CODE_LEN}
 use Rattle.ps_codefile.specs.declared.entry.Role.{Role}
 use Rattle.ps_codefile.specs.declared.entry.Role.TheVariants.{Wanted}
 use Rattle.ps_resolve.specs.Added.{segments, segment_at, added_segments}
@@ -15,8 +12,6 @@ use Rattle.ps_resolve.proofs.EachSegment.{IsMade, added_made, at_slot, each_slot
 use Rattle.ps_resolve.proofs.OfRounds.{each_added}
 use Rattle.ps_resolve.proofs.ReadingCodes.{whole}
 use Rattle.ps_resolve.proofs.ReadingKnown.{ascend, slot_parts}
-use Rattle.ps_linkfile.specs.LinkedFile.{Extent}
-use Rattle.ps_linkfile.specs.Writing.{Ascend}
 
 abbrev pub extent_at : Segment → Extent
 extent_at s = record { slot = s.slot; size = length s.code }
@@ -24,40 +19,37 @@ extent_at s = record { slot = s.slot; size = length s.code }
 abbrev IsSmall : Segment → Type 0
 IsSmall s = length s.code ≤ MAX_CODE_LEN
 
-made_small : (order : Order) (host : List ℕ) (libs : List (List ℕ)) (slot : ℕ)
-    (name : List ℕ) (r : Role) (at : ℕ × ℕ) (s : Segment)
-    → IsMade order host libs slot name r at s → IsSmall s
-made_small order host libs slot name r at s h =
-    let is = whole (file_at host libs at.0)
-    (entry_at order (file_at host libs at.0) at.1) h.code h.given in
-    let small : length h.code ≤ MAX_CODE_LEN = omega (arith, is.len, is.small) in
-    subst IsSmall (sym h.is) small
+module _ (order : Order) (host : List ℕ) (libs : List (List ℕ)) where
+  made_small : (slot : ℕ) (name : List ℕ) (r : Role) (at : ℕ × ℕ) (s : Segment)
+      → IsMade order host libs slot name r at s → IsSmall s
+  made_small slot name r at s h =
+      let is = whole (file_at host libs at.0)
+      (entry_at order (file_at host libs at.0) at.1) h.code h.given in
+      let small : length h.code ≤ MAX_CODE_LEN = omega (arith, is.len, is.small) in
+      subst IsSmall (sym h.is) small
 
--- no code is longer than MAX_CODE_LEN bytes
-all_small : (order : Order) (host : List ℕ) (libs : List (List ℕ))
-    → All IsSmall (segments order host libs)
-unfolding segments
-all_small order host libs = each_slot IsSmall (segment_at order host libs)
-    (λ x s lt h. elim (at_slot order host libs IsSmall added x s h) [
-      | inl own ↦ (let t = own_made order host libs x s own in
-          made_small order host libs x (entry_at order host x).name t.0 t.2 s t.3)
-      | inr t ↦ t.2
-    ])
-  where
-    added : All IsSmall (added_segments order host libs)
-    added = each_added order host libs IsSmall
-        (λ j g s round. let t = added_made order host libs g s.slot s round.brought in
-        subst IsSmall (sym t.2) (made_small order host libs s.slot g.name Wanted t.0 t.1 t.3))
+  -- no code is longer than MAX_CODE_LEN bytes
+  all_small : All IsSmall (segments order host libs)
+  unfolding segments
+  all_small = each_slot IsSmall (segment_at order host libs)
+      (λ x s lt h. elim (at_slot order host libs IsSmall added x s h) [
+        | inl own ↦ (let t = own_made order host libs x s own in
+            made_small x (entry_at order host x).name t.0 t.2 s t.3)
+        | inr t ↦ t.2
+      ])
+    where
+      added : All IsSmall (added_segments order host libs)
+      added = each_added order host libs IsSmall
+          (λ j g s round. let t = added_made order host libs g s.slot s round.brought in
+          subst IsSmall (sym t.2) (made_small s.slot g.name Wanted t.0 t.1 t.3))
 
-all_within : (order : Order) (host : List ℕ) (libs : List (List ℕ))
-    → All (λ s. s.slot < 16) (segments order host libs)
-unfolding segments
-all_within order host libs = each_slot (λ (s : Segment). s.slot < 16) (segment_at order host libs)
-    (λ x s lt h. let at = (slot_parts order host libs x s h).0 in omega arith)
+  all_within : All (λ s. s.slot < 16) (segments order host libs)
+  unfolding segments
+  all_within = each_slot (λ (s : Segment). s.slot < 16) (segment_at order host libs)
+      (λ x s lt h. let at = (slot_parts order host libs x s h).0 in omega arith)
 
-extents_ascend : (from : ℕ) (ss : List Segment)
-    → AscendFrom from (map (λ (s : Segment). s.slot) ss) → All (λ s. s.slot < 16) ss
-    → Ascend from (map extent_at ss)
+extents_ascend : (from : ℕ) (ss : List Segment) → AscendFrom from (map
+    (λ (s : Segment). s.slot) ss) → All (λ s. s.slot < 16) ss → Ascend from (map extent_at ss)
 extents_ascend from [] rises within = tt
 extents_ascend from (s ∷ ss) rises within = (
   rises.0,
@@ -66,12 +58,12 @@ extents_ascend from (s ∷ ss) rises within = (
       (All-tail (λ (q : Segment). q.slot < 16) s ss within),
 )
 
-pub segments_ascend : (order : Order) (host : List ℕ) (libs : List (List ℕ))
-    → Ascend 0 (map extent_at (segments order host libs))
-segments_ascend order host libs = extents_ascend 0 (segments order host libs)
-    (ascend order host libs) (all_within order host libs)
+module _ (order : Order) (host : List ℕ) (libs : List (List ℕ)) where
+  pub segments_ascend : Ascend 0 (map extent_at (segments order host libs))
+  segments_ascend = extents_ascend 0 (segments order host libs)
+      (ascend order host libs) (all_within order host libs)
 
-pub segments_small : (order : Order) (host : List ℕ) (libs : List (List ℕ))
-    → All (λ c. c.size ≤ MAX_CODE_LEN) (map extent_at (segments order host libs))
-segments_small order host libs = All-map (λ (c : Extent). c.size ≤ MAX_CODE_LEN) extent_at
-    (segments order host libs) (all_small order host libs)
+  pub segments_small : All
+      (λ c. c.size ≤ MAX_CODE_LEN) (map extent_at (segments order host libs))
+  segments_small = All-map (λ (c : Extent). c.size ≤ MAX_CODE_LEN) extent_at
+      (segments order host libs) (all_small order host libs)

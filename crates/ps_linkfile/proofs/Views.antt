@@ -1,16 +1,10 @@
 -- The sources of a plan, seen as codes of the file.
-use Rattle.std.proofs.Common.{arith, ◌≡◌, ℕ, ◌+◌, ◌≤◌, ◌<◌, List, []}
-use Rattle.std.proofs.Common.{◌∷◌, length, map, get_or, drop, Some, false, refl, sym}
-use Rattle.std.proofs.Common.{◌∙◌, ap, subst}
-use Rattle.std.specs.Prelude.{All, slice_get}
+use Rattle.std.proofs.Common.{arith, ℕ, List, [], map, get_or, drop, Some, false, refl, sym, ap}
+use Rattle.std.proofs.Common.{◌≡◌, ◌+◌, ◌≤◌, ◌<◌, ◌∷◌, length, ◌∙◌}
+use Rattle.ps_linkfile.proofs.Words.{All, slice_get, Edit, MAX_CODE_LEN, Origin, origin_of_source}
+use Rattle.ps_linkfile.proofs.Words.{Source, Extent, block_of, extent_of_origin, starts_of, Ascend}
 use Rattle.std.proofs.lemmas.List.{drop-map, drop_more, length-map, get_or-map}
 use Rattle.std.proofs.lemmas.Option.{get_or_from_slice_get, slice_get_within}
-use Rattle.ps_words.specs.declared.edit.Edit.{Edit}
-use Rattle.ps_codefile.specs.declared.code_layout.TheConstants.{MAX_CODE_LEN}
-use Rattle.ps_resolve.specs.Plans.{Origin, origin_of_source}
-use Rattle.ps_resolve.specs.declared.plan.Source.{Source}
-use Rattle.ps_linkfile.specs.LinkedFile.{Extent, block_of}
-use Rattle.ps_linkfile.specs.Writing.{extent_of_origin, starts_of, Ascend}
 use Rattle.ps_linkfile.proofs.Extents.{slots_below}
 use Rattle.ps_linkfile.proofs.Codes.{IsAt}
 
@@ -38,74 +32,66 @@ view_at {X} {Y} f xs i d lt = grind (arith, drop-map, drop_more)
 both_views : (ss : List Source) → map extent_of_origin (map origin_of_source ss)
     ≡ map extent_of_source ss
 both_views [] = refl
-both_views (s ∷ ss) = ap (λ (cs : List Extent). extent_of_source s ∷ cs) (both_views ss)
+both_views (s ∷ ss) = ap (λ cs. extent_of_source s ∷ cs) (both_views ss)
 
--- a source, among the origins of its plan
-pub source_at : (ss : List Source) (os : List Origin) (i : ℕ) → map origin_of_source ss ≡ os
-    → i < length ss → drop i os ≡ origin_of_source (get_or ss i no_source) ∷ drop (i + 1) os
-source_at ss os i h lt = subst (λ (ps : List Origin). drop i ps
-    ≡ origin_of_source (get_or ss i no_source) ∷ drop (i + 1) ps) h
-    (view_at origin_of_source ss i no_source lt)
+module _ (ss : List Source) (os : List Origin) where
+  -- a source, among the origins of its plan
+  pub source_at : (i : ℕ) → map origin_of_source ss ≡ os → i < length ss
+      → drop i os ≡ origin_of_source (get_or ss i no_source) ∷ drop (i + 1) os
+  source_at i h lt = rw h at (view_at origin_of_source ss i no_source lt)
 
-pub seen : (ss : List Source) (os : List Origin) → map origin_of_source ss ≡ os
-    → map extent_of_origin os ≡ map extent_of_source ss
-seen ss os h = ap (λ (ps : List Origin). map extent_of_origin ps) (sym h) ∙ both_views ss
+  pub seen : map origin_of_source ss ≡ os → map extent_of_origin os ≡ map extent_of_source ss
+  seen h = ap (λ ps. map extent_of_origin ps) (sym h) ∙ both_views ss
 
-pub seen_ascend : (ss : List Source) (os : List Origin) → map origin_of_source ss ≡ os
-    → Ascend 0 (map extent_of_origin os) → Ascend 0 (map extent_of_source ss)
-seen_ascend ss os h k = subst (λ (cs : List Extent). Ascend 0 cs) (seen ss os h) k
+  pub seen_ascend : map origin_of_source ss ≡ os
+      → Ascend 0 (map extent_of_origin os) → Ascend 0 (map extent_of_source ss)
+  seen_ascend h k = rw (seen h) at k
 
-pub seen_small : (ss : List Source) (os : List Origin) → map origin_of_source ss ≡ os
-    → All (λ c. c.size ≤ MAX_CODE_LEN) (map extent_of_origin os)
-    → All (λ c. c.size ≤ MAX_CODE_LEN) (map extent_of_source ss)
-seen_small ss os h k = subst (λ (cs : List Extent). All (λ c. c.size ≤ MAX_CODE_LEN) cs)
-    (seen ss os h) k
+  pub seen_small : map origin_of_source ss ≡ os → All (λ c. c.size ≤ MAX_CODE_LEN)
+      (map extent_of_origin os) → All (λ c. c.size ≤ MAX_CODE_LEN) (map extent_of_source ss)
+  seen_small h k = rw (seen h) at k
 
--- a source's code is small
-pub size_at : (ss : List Source) (i : ℕ)
-    → All (λ c. c.size ≤ MAX_CODE_LEN) (map extent_of_source ss) → i < length ss
-    → length (get_or ss i no_source).code.now ≤ MAX_CODE_LEN
-size_at ss i h lt =
-    let within : i < length (map extent_of_source ss) =
-    subst (λ (n : ℕ). i < n) (sym (length-map ss extent_of_source)) lt in
-    subst (λ (c : Extent). c.size ≤ MAX_CODE_LEN)
-    (get_or-map extent_of_source ss i no_source (extent_of_source no_source) lt)
-    (h i (extent_of_source no_source) within)
+module _ (ss : List Source) where
+  -- a source's code is small
+  pub size_at : (i : ℕ) → All (λ c. c.size ≤ MAX_CODE_LEN) (map extent_of_source ss)
+      → i < length ss → length (get_or ss i no_source).code.now ≤ MAX_CODE_LEN
+  size_at i h lt =
+      let within : i < length (map extent_of_source ss) =
+      rw (← (length-map ss extent_of_source)) at lt in
+      rw (get_or-map extent_of_source ss i no_source
+      (extent_of_source no_source) lt) at (h i (extent_of_source no_source) within)
 
--- its slot is one of sixteen
-pub slot_at : (ss : List Source) (i : ℕ) → Ascend 0 (map extent_of_source ss) → i < length ss
-    → (get_or ss i no_source).slot < 16
-slot_at ss i h lt =
-    let within : i < length (map extent_of_source ss) =
-    subst (λ (n : ℕ). i < n) (sym (length-map ss extent_of_source)) lt in
-    subst (λ (c : Extent). c.slot < 16)
-    (get_or-map extent_of_source ss i no_source (extent_of_source no_source) lt)
-    (slots_below 0 (map extent_of_source ss) h i (extent_of_source no_source) within)
+  -- its slot is one of sixteen
+  pub slot_at : (i : ℕ)
+      → Ascend 0 (map extent_of_source ss) → i < length ss → (get_or ss i no_source).slot < 16
+  slot_at i h lt =
+      let within : i < length (map extent_of_source ss) =
+      rw (← (length-map ss extent_of_source)) at lt in
+      rw (get_or-map extent_of_source ss i no_source (extent_of_source no_source) lt) at
+      (slots_below 0 (map extent_of_source ss) h i (extent_of_source no_source) within)
 
--- the first block of its code, among those of all
-pub many_starts : (ss : List Source) (starts : List ℕ)
-    → starts ≡ starts_of (map extent_of_source ss) → length starts ≡ length ss
-many_starts ss starts h = grind (arith, length-map)
+  -- the first block of its code, among those of all
+  pub many_starts : (starts : List ℕ)
+      → starts ≡ starts_of (map extent_of_source ss) → length starts ≡ length ss
+  many_starts starts h = grind (arith, length-map)
 
--- the start at a source's place is the first block of the source's code
-pub start_at : (ss : List Source) (starts : List ℕ) (i : ℕ)
-    → starts ≡ starts_of (map extent_of_source ss) → i < length ss
-    → get_or starts i 0 ≡ block_of (map extent_of_source ss) (get_or ss i no_source).slot
-start_at ss starts i h lt =
-    let all = map extent_of_source ss in
-    let within : i < length all = subst (λ (n : ℕ). i < n)
-    (sym (length-map ss extent_of_source)) lt in
-    ap (λ (bs : List ℕ). get_or bs i 0) h
-    ∙ (get_or-map (λ (c : Extent). block_of all c.slot) all i
-    (extent_of_source no_source) 0 within
-    ∙ ap (λ (c : Extent). block_of all c.slot)
-    (get_or-map extent_of_source ss i no_source (extent_of_source no_source) lt))
+  -- the start at a source's place is the first block of the source's code
+  pub start_at : (starts : List ℕ) (i : ℕ)
+      → starts ≡ starts_of (map extent_of_source ss) → i < length ss
+      → get_or starts i 0 ≡ block_of (map extent_of_source ss) (get_or ss i no_source).slot
+  start_at starts i h lt =
+      let all = map extent_of_source ss in
+      let within : i < length all = rw (← (length-map ss extent_of_source)) at lt in
+      ap (λ (bs : List ℕ). get_or bs i 0) h
+      ∙ (get_or-map (λ (c : Extent). block_of all c.slot) all i
+      (extent_of_source no_source) 0 within ∙ ap (λ (c : Extent). block_of all c.slot)
+      (get_or-map extent_of_source ss i no_source (extent_of_source no_source) lt))
 
 -- an item and those after it
 pub got : {X : Type 0} (xs : List X) (i : ℕ) (x : X) → slice_get xs i ≡ Some x
     → drop i xs ≡ x ∷ drop (i + 1) xs
 got {X} xs i x h = drop_more xs i x (slice_get_within xs i x h)
-    ∙ ap (λ (y : X). y ∷ drop (i + 1) xs) (get_or_from_slice_get xs i x x h)
+    ∙ ap (λ y. y ∷ drop (i + 1) xs) (get_or_from_slice_get xs i x x h)
 
 -- a source and its edits
 pub is_at : (ss : List Source) (os : List Origin) (ds : List (List Edit)) (i : ℕ) (d : List Edit)

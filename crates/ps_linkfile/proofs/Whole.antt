@@ -4,27 +4,21 @@ use Rattle.std.proofs.Common.{[], ◌∷◌, ◌++◌, length, map, get_or, take
 use Rattle.std.proofs.Common.{Option, Some, None, Result, Err, Bool, true, false, cond, refl, sym}
 use Rattle.std.proofs.Common.{◌∙◌, ap, subst, inl, inr, arith, append_assoc, length-append}
 use Rattle.std.proofs.Common.{length-take, length-drop}
+use Rattle.ps_linkfile.proofs.Words.{flat_map, length-map-range_with_len, get_or-map-range_with_len}
+use Rattle.ps_linkfile.proofs.Words.{nat_tests, file_order, ext_get_or, all_blocks, LinkedFile}
+use Rattle.ps_linkfile.proofs.Words.{All-nil, in_file, next_of, Segment, Ascend, drop_all, block_of}
+use Rattle.ps_linkfile.proofs.Words.{All-cons, All-head, All-tail, opened_as, order_of, drop-drop}
+use Rattle.ps_linkfile.proofs.Words.{blocks, get_or_append_left, get_or-replicate, length-replicate}
+use Rattle.ps_linkfile.proofs.Words.{Order, Fault, slots, Extent, pair_of, extents, Reason}
+use Rattle.ps_linkfile.proofs.Words.{total_words, host_records, padded_segment, linked_file}
+use Rattle.ps_linkfile.proofs.Words.{OpenedFile, patched_or_zero, take-append-drop, linked_segments}
 use Rattle.std.specs.Prelude.{All, nat_lt, slice_range}
-use Rattle.std.specs.List.{flat_map}
 use Rattle.std.specs.Option.{option_map}
 use Rattle.std.specs.Result.{result_err}
 use Rattle.std.proofs.lemmas.Bool.{cases_lt, ltb-false, le-ltb}
-use Rattle.std.proofs.lemmas.Bool.Decides.{nat_tests}
-use Rattle.std.proofs.lemmas.List.{append-nil, get_or-take, get_or-drop, get_or_append_left}
-use Rattle.std.proofs.lemmas.List.{get_or-append-add, get_or-replicate, length-replicate}
-use Rattle.std.proofs.lemmas.List.{take-append-drop, drop-drop, drop_all, take_at, drop_at}
-use Rattle.std.proofs.lemmas.List.{ext_get_or}
-use Rattle.std.proofs.lemmas.List.FromFn.{length-map-range_with_len, get_or-map-range_with_len}
-use Rattle.std.proofs.lemmas.List.Elements.{All-nil, All-cons, All-head, All-tail}
-use Rattle.ps_words.specs.Words.{blocks}
-use Rattle.ps_words.specs.declared.order.Order.{Order}
-use Rattle.ps_words.specs.declared.fault.Reason.{Reason}
+use Rattle.std.proofs.lemmas.List.{append-nil, get_or-take, get_or-drop, get_or-append-add, take_at}
+use Rattle.std.proofs.lemmas.List.{drop_at}
 use Rattle.ps_words.specs.declared.fault.Reason.TheVariants as reason
-use Rattle.ps_words.specs.declared.fault.Fault.{Fault}
-use Rattle.ps_words.specs.FaultPlaces.{in_file}
-use Rattle.ps_codefile.specs.Dictionary.{slots, OpenedFile, file_order, opened_as}
-use Rattle.ps_linkinfo.specs.RecordCounts.{next_of}
-use Rattle.ps_resolve.specs.Privates.{total_words}
 use Rattle.ps_resolve.specs.LinkedBytes.{IsLinkedByte, segments_of, HaveLinkedBytes}
 use Rattle.ps_resolve.specs.LinkedBytes.{HaveOneLinkedByte}
 use Rattle.ps_resolve.specs.Standing.{NoneStands, NoneStandsInReading, FaultAt, IsFirst}
@@ -33,15 +27,10 @@ use Rattle.ps_resolve.specs.Parts.{HasItsParts}
 use Rattle.ps_resolve.specs.Plans.{IsStopped}
 use Rattle.ps_resolve.specs.declared.linkage.Stop.{Stop}
 use Rattle.ps_resolve.specs.Added.{segments, slot_names}
-use Rattle.ps_resolve.specs.Sources.{Segment, order_of, host_records}
 use Rattle.ps_resolve.specs.Linking.{Edited, known_of, linked_byte}
 use Rattle.ps_resolve.specs.Faults.{host_fault}
 use Rattle.ps_resolve.specs.AllFaults.{first_fault, reading_fault}
-use Rattle.ps_patch.specs.Patched.{patched_or_zero}
-use Rattle.ps_linkfile.specs.LinkedFile.{Extent, all_blocks, block_of, pair_of, linked_segments}
-use Rattle.ps_linkfile.specs.LinkedFile.{extents, LinkedFile, all_pairs, dictionary, padded_segment}
-use Rattle.ps_linkfile.specs.LinkedFile.{linked_file}
-use Rattle.ps_linkfile.specs.Writing.{Ascend}
+use Rattle.ps_linkfile.specs.LinkedFile.{all_pairs, dictionary}
 use Rattle.ps_linkfile.specs.Outcomes.{NamesFirst, error_of}
 use Rattle.ps_linkfile.proofs.Extents.{Left, left_start, left_more, first_block, all_blocks-cons}
 use Rattle.ps_linkfile.proofs.Pairs.{pair_four, pairs_at, pairs_len, pairs_are}
@@ -60,13 +49,11 @@ pub part_len : (xs : List ℕ) (a b : ℕ) → b ≤ length xs
 part_len xs a b h = length-take (b - a) (drop a xs) ∙ omega (arith, length-drop a xs)
 
 -- a list that has these bytes at the places of a part has them as that part
-part_is : (xs ys : List ℕ) (a b : ℕ) → length ys ≡ b - a → b ≤ length xs
-    → ((j : ℕ) → j < b - a → get_or xs (a + j) 0 ≡ get_or ys j 0)
-    → slice_range xs a b ≡ ys
-part_is xs ys a b len le h =
-    ext_get_or 0 (slice_range xs a b) ys (part_len xs a b le ∙ sym len)
-    (λ j lt. let within : j < b - a = omega (arith, part_len xs a b le) in
-    get_or-take (b - a) (drop a xs) j 0 within ∙ (get_or-drop a xs j 0 ∙ h j within))
+part_is : (xs ys : List ℕ) (a b : ℕ) → length ys ≡ b - a → b ≤ length xs → ((j : ℕ)
+    → j < b - a → get_or xs (a + j) 0 ≡ get_or ys j 0) → slice_range xs a b ≡ ys
+part_is xs ys a b len le h = ext_get_or 0 (slice_range xs a b) ys (part_len xs a b le ∙ sym len)
+    (λ j lt. let within : j < b - a = omega (arith, part_len xs a b le) in get_or-take
+    (b - a) (drop a xs) j 0 within ∙ (get_or-drop a xs j 0 ∙ h j within))
 
 -- the part after so many
 behind : (xs ys : List ℕ) (n j : ℕ) → length xs ≡ n
@@ -91,162 +78,151 @@ HasPadding file all e = (p : ℕ) → length e.segment.code ≤ p
     → p < 512 * blocks (length e.segment.code)
     → get_or file (512 * block_of all e.segment.slot + p) 0 ≡ 0
 
-inside : (order : Order) (e : Edited) (p : ℕ) → p < length e.segment.code
-    → patched_or_zero order e.segment.code e.edits p ≡ linked_byte order e p
-inside order e p lt = let yes : nat_lt p (length e.segment.code) ≡ true = grind (arith, nat_tests)
-    in rw yes
+module _ (order : Order) where
+  inside : (e : Edited) (p : ℕ) → p < length e.segment.code
+      → patched_or_zero order e.segment.code e.edits p ≡ linked_byte order e p
+  inside e p lt = let yes : nat_lt p (length e.segment.code) ≡ true = grind (arith, nat_tests)
+      in rw yes
 
-past : (order : Order) (e : Edited) (p : ℕ) → length e.segment.code ≤ p
-    → patched_or_zero order e.segment.code e.edits p ≡ 0
-past order e p le = let no : nat_lt p (length e.segment.code) ≡ false =
-    le-ltb p (length e.segment.code) le in rw no
+  past : (e : Edited) (p : ℕ)
+      → length e.segment.code ≤ p → patched_or_zero order e.segment.code e.edits p ≡ 0
+  past e p le = let no : nat_lt p (length e.segment.code) ≡ false =
+      le-ltb p (length e.segment.code) le in rw no
 
--- codes that are at the blocks of their slots, with zeros after each, are laid out one after
--- another
-to_laid : (order : Order) (file : List ℕ) (all : List Extent) (from block : ℕ)
-    (es : List Edited) → Left all from block (map extent_of_edited es)
-    → All (HasCode order file all) es → All (HasPadding file all) es
-    → Laid order file block es
-to_laid order file all from block [] h codes zeros = tt
-to_laid order file all from block (e ∷ es) h codes zeros =
-    let at : block_of all e.segment.slot ≡ block =
-    first_block all from block (extent_of_edited e) (map extent_of_edited es) h in
-    let code = All-head (HasCode order file all) e es codes in
-    let zero = All-head (HasPadding file all) e es zeros in (
-      (λ p lt.
-          ap (λ b. get_or file (512 * b + p) 0) (sym at)
-          ∙ elim (cases_lt p (length e.segment.code)) [
-            | inl within ↦ code p within ∙ sym (inside order e p within)
-            | inr beyond ↦ zero p beyond lt ∙ sym (past order e p beyond)
-          ]),
-      to_laid order file all (e.segment.slot + 1) (block + blocks (length e.segment.code)) es
-          (left_more all from block (extent_of_edited e) (map extent_of_edited es) h)
-          (All-tail (HasCode order file all) e es codes)
-          (All-tail (HasPadding file all) e es zeros),
-    )
+  -- codes that are at the blocks of their slots, with zeros after each, are laid out one after
+  -- another
+  to_laid : (file : List ℕ) (all : List Extent) (from block : ℕ) (es : List Edited)
+      → Left all from block (map extent_of_edited es) → All (HasCode order file all) es
+      → All (HasPadding file all) es → Laid order file block es
+  to_laid file all from block [] h codes zeros = tt
+  to_laid file all from block (e ∷ es) h codes zeros =
+      let at : block_of all e.segment.slot ≡ block =
+      first_block all from block (extent_of_edited e) (map extent_of_edited es) h in
+      let code = All-head (HasCode order file all) e es codes in
+      let zero = All-head (HasPadding file all) e es zeros in (
+        (λ p lt.
+            ap (λ b. get_or file (512 * b + p) 0) (sym at)
+            ∙ elim (cases_lt p (length e.segment.code)) [
+              | inl within ↦ code p within ∙ sym (inside e p within)
+              | inr beyond ↦ zero p beyond lt ∙ sym (past e p beyond)
+            ]),
+        to_laid file all (e.segment.slot + 1) (block + blocks (length e.segment.code)) es
+            (left_more all from block (extent_of_edited e) (map extent_of_edited es) h)
+            (All-tail (HasCode order file all) e es codes)
+            (All-tail (HasPadding file all) e es zeros),
+      )
 
--- of codes that are laid out one after another, each is with its edits at the block of its slot
-laid_codes : (order : Order) (file : List ℕ) (all : List Extent) (from block : ℕ)
-    (es : List Edited) → Left all from block (map extent_of_edited es)
-    → Laid order file block es → All (HasCode order file all) es
-laid_codes order file all from block [] h laid = All-nil (HasCode order file all)
-laid_codes order file all from block (e ∷ es) h laid =
-    let at : block_of all e.segment.slot ≡ block =
-    first_block all from block (extent_of_edited e) (map extent_of_edited es) h in
-    All-cons (HasCode order file all) e es
-    (λ p within. ap (λ b. get_or file (512 * b + p) 0) at
-    ∙ (laid.0 p (omega arith) ∙ inside order e p within))
-    (laid_codes order file all (e.segment.slot + 1) (block + blocks (length e.segment.code)) es
-    (left_more all from block (extent_of_edited e) (map extent_of_edited es) h) laid.1)
+  -- of codes that are laid out one after another, each is with its edits at the block of its slot
+  laid_codes : (file : List ℕ) (all : List Extent) (from block : ℕ) (es : List Edited)
+      → Left all from block (map extent_of_edited es)
+      → Laid order file block es → All (HasCode order file all) es
+  laid_codes file all from block [] h laid = All-nil (HasCode order file all)
+  laid_codes file all from block (e ∷ es) h laid =
+      let at : block_of all e.segment.slot ≡ block =
+      first_block all from block (extent_of_edited e) (map extent_of_edited es) h in
+      All-cons (HasCode order file all) e es (λ p within. ap (λ b. get_or file (512 * b + p) 0) at
+      ∙ (laid.0 p (omega arith) ∙ inside e p within))
+      (laid_codes file all (e.segment.slot + 1) (block + blocks (length e.segment.code)) es
+      (left_more all from block (extent_of_edited e) (map extent_of_edited es) h) laid.1)
 
--- and each has zeros after it, up to the end of its last block
-laid_padding : (order : Order) (file : List ℕ) (all : List Extent) (from block : ℕ)
-    (es : List Edited) → Left all from block (map extent_of_edited es)
-    → Laid order file block es → All (HasPadding file all) es
-laid_padding order file all from block [] h laid = All-nil (HasPadding file all)
-laid_padding order file all from block (e ∷ es) h laid =
-    let at : block_of all e.segment.slot ≡ block =
-    first_block all from block (extent_of_edited e) (map extent_of_edited es) h in
-    All-cons (HasPadding file all) e es
-    (λ p beyond lt. ap (λ b. get_or file (512 * b + p) 0) at
-    ∙ (laid.0 p lt ∙ past order e p beyond))
-    (laid_padding order file all (e.segment.slot + 1) (block + blocks (length e.segment.code)) es
-    (left_more all from block (extent_of_edited e) (map extent_of_edited es) h) laid.1)
+  -- and each has zeros after it, up to the end of its last block
+  laid_padding : (file : List ℕ) (all : List Extent) (from block : ℕ) (es : List Edited)
+      → Left all from block (map extent_of_edited es)
+      → Laid order file block es → All (HasPadding file all) es
+  laid_padding file all from block [] h laid = All-nil (HasPadding file all)
+  laid_padding file all from block (e ∷ es) h laid =
+      let at : block_of all e.segment.slot ≡ block =
+      first_block all from block (extent_of_edited e) (map extent_of_edited es) h in
+      All-cons (HasPadding file all) e es (λ p beyond lt. ap (λ b. get_or file (512 * b + p) 0) at
+      ∙ (laid.0 p lt ∙ past e p beyond))
+      (laid_padding file all (e.segment.slot + 1) (block + blocks (length e.segment.code)) es
+      (left_more all from block (extent_of_edited e) (map extent_of_edited es) h) laid.1)
 
-padded_len : (order : Order) (e : Edited)
-    → length (padded_segment order e) ≡ 512 * blocks (length e.segment.code)
-padded_len order e = length-map-range_with_len (patched_or_zero order e.segment.code e.edits) 0
-    (512 * blocks (length e.segment.code))
+  padded_len : (e : Edited)
+      → length (padded_segment order e) ≡ 512 * blocks (length e.segment.code)
+  padded_len e = length-map-range_with_len (patched_or_zero order e.segment.code e.edits) 0
+      (512 * blocks (length e.segment.code))
 
-padded_at : (order : Order) (e : Edited) (p : ℕ) → p < 512 * blocks (length e.segment.code)
-    → get_or (padded_segment order e) p 0 ≡ patched_or_zero order e.segment.code e.edits p
-padded_at order e p lt = get_or-map-range_with_len (patched_or_zero order e.segment.code e.edits) 0
-    (512 * blocks (length e.segment.code)) p p 0 lt (omega arith)
+  padded_at : (e : Edited) (p : ℕ) → p < 512 * blocks (length e.segment.code)
+      → get_or (padded_segment order e) p 0 ≡ patched_or_zero order e.segment.code e.edits p
+  padded_at e p lt = get_or-map-range_with_len (patched_or_zero order e.segment.code e.edits) 0
+      (512 * blocks (length e.segment.code)) p p 0 lt (omega arith)
 
--- all codes, each in whole blocks, take 512 bytes for each of their blocks
-codes_len : (order : Order) (es : List Edited)
-    → length (flat_map (padded_segment order) es) ≡ 512 * all_blocks (map extent_of_edited es)
-codes_len order [] = omega arith
-codes_len order (e ∷ es) =
-    length-append (padded_segment order e) (flat_map (padded_segment order) es)
-    ∙ omega (
-      arith,
-      padded_len order e,
-      codes_len order es,
-      all_blocks-cons (extent_of_edited e) (map extent_of_edited es),
-    )
+  -- all codes, each in whole blocks, take 512 bytes for each of their blocks
+  codes_len : (es : List Edited)
+      → length (flat_map (padded_segment order) es) ≡ 512 * all_blocks (map extent_of_edited es)
+  codes_len [] = omega arith
+  codes_len (e ∷ es) =
+      length-append (padded_segment order e) (flat_map (padded_segment order) es)
+      ∙ omega (
+        arith,
+        padded_len e,
+        codes_len es,
+        all_blocks-cons (extent_of_edited e) (map extent_of_edited es),
+      )
 
--- what is after a block is the codes
-laid_is : (order : Order) (file : List ℕ) (block : ℕ) (es : List Edited)
-    → length file ≡ 512 * (block + all_blocks (map extent_of_edited es))
-    → Laid order file block es → drop (512 * block) file ≡ flat_map (padded_segment order) es
-laid_is order file block [] len laid = drop_all (512 * block) file (omega (arith, len))
-laid_is order file block (e ∷ es) len laid =
-    let n = blocks (length e.segment.code) in
-    let f = patched_or_zero order e.segment.code e.edits in
-    let rest = drop (512 * block) file in
-    let blocks_are : all_blocks (extent_of_edited e ∷ map extent_of_edited es)
-    ≡ n + all_blocks (map extent_of_edited es) =
-    all_blocks-cons (extent_of_edited e) (map extent_of_edited es) in
-    let room : length rest ≡ 512 * (n + all_blocks (map extent_of_edited es)) =
-    length-drop (512 * block) file ∙ omega (arith, len, blocks_are) in
-    let first : take (512 * n) rest ≡ padded_segment order e =
-    image_is f 0 (512 * n) (take (512 * n) rest)
-    (length-take (512 * n) rest ∙ omega (arith, room))
-    (λ k lt. let at : k ≡ 0 + k = omega arith in
-    get_or-take (512 * n) rest k 0 lt
-    ∙ (get_or-drop (512 * block) file k 0 ∙ (laid.0 k lt ∙ ap f at))) in
-    let behind_it : drop (512 * n) rest ≡ drop (512 * (block + n)) file =
-    drop-drop (512 * n) (512 * block) file
-    ∙ ap (λ k. drop k file) (let e : 512 * block + 512 * n ≡ 512 * (block + n) =
-    omega arith in e) in
-    let others : drop (512 * (block + n)) file ≡ flat_map (padded_segment order) es =
-    laid_is order file (block + n) es (omega (arith, len, blocks_are)) laid.1 in
-    sym (take-append-drop (512 * n) rest)
-    ∙ (ap (λ (xs : List ℕ). xs ++ drop (512 * n) rest) first
-    ∙ ap (λ (xs : List ℕ). padded_segment order e ++ xs) (behind_it ∙ others))
+  -- what is after a block is the codes
+  laid_is : (file : List ℕ) (block : ℕ) (es : List Edited) → length file
+      ≡ 512 * (block + all_blocks (map extent_of_edited es)) → Laid order file block es
+      → drop (512 * block) file ≡ flat_map (padded_segment order) es
+  laid_is file block [] len laid = drop_all (512 * block) file (omega (arith, len))
+  laid_is file block (e ∷ es) len laid =
+      let n = blocks (length e.segment.code) in
+      let f = patched_or_zero order e.segment.code e.edits in
+      let rest = drop (512 * block) file in
+      let blocks_are : all_blocks (extent_of_edited e ∷ map extent_of_edited es)
+      ≡ n + all_blocks (map extent_of_edited es) =
+      all_blocks-cons (extent_of_edited e) (map extent_of_edited es) in
+      let room : length rest ≡ 512 * (n + all_blocks (map extent_of_edited es)) =
+      length-drop (512 * block) file ∙ omega (arith, len, blocks_are) in
+      let first : take (512 * n) rest ≡ padded_segment order e = image_is f 0
+      (512 * n) (take (512 * n) rest) (length-take (512 * n) rest ∙ omega (arith, room))
+      (λ k lt. let at : k ≡ 0 + k = omega arith in get_or-take (512 * n) rest k 0 lt
+      ∙ (get_or-drop (512 * block) file k 0 ∙ (laid.0 k lt ∙ ap f at))) in
+      let behind_it : drop (512 * n) rest ≡ drop (512 * (block + n)) file =
+      drop-drop (512 * n) (512 * block) file ∙ ap (λ k. drop k file)
+      (let e : 512 * block + 512 * n ≡ 512 * (block + n) = omega arith in e) in
+      let others : drop (512 * (block + n)) file ≡ flat_map (padded_segment order) es =
+      laid_is file (block + n) es (omega (arith, len, blocks_are)) laid.1 in
+      sym (take-append-drop (512 * n) rest) ∙ (ap (λ xs. xs ++ drop (512 * n) rest)
+      first ∙ ap (λ xs. padded_segment order e ++ xs) (behind_it ∙ others))
 
--- the codes are where they are put
-codes_laid : (order : Order) (prefix : List ℕ) (block : ℕ) (es : List Edited)
-    → length prefix ≡ 512 * block → Laid order
-    (prefix ++ flat_map (padded_segment order) es) block es
-codes_laid order prefix block [] len = tt
-codes_laid order prefix block (e ∷ es) len =
-    let n = blocks (length e.segment.code) in
-    let code = padded_segment order e in
-    let rest = flat_map (padded_segment order) es in
-    let joined : (prefix ++ code) ++ rest ≡ prefix ++ (code ++ rest) =
-    append_assoc prefix code rest in (
-      (λ p lt. behind prefix (code ++ rest) (512 * block) p len
-          ∙ (get_or_append_left code rest 0 p (omega (arith, padded_len order e))
-          ∙ padded_at order e p lt)),
-      subst (λ (file : List ℕ). Laid order file (block + n) es) joined
-          (codes_laid order (prefix ++ code) (block + n) es
-          (length-append prefix code ∙ omega (arith, len, padded_len order e))),
-    )
+  -- the codes are where they are put
+  codes_laid : (prefix : List ℕ) (block : ℕ) (es : List Edited) → length prefix
+      ≡ 512 * block → Laid order (prefix ++ flat_map (padded_segment order) es) block es
+  codes_laid prefix block [] len = tt
+  codes_laid prefix block (e ∷ es) len =
+      let n = blocks (length e.segment.code) in
+      let code = padded_segment order e in
+      let rest = flat_map (padded_segment order) es in
+      let joined : (prefix ++ code) ++ rest ≡ prefix ++ (code ++ rest) =
+      append_assoc prefix code rest in (
+        (λ p lt. behind prefix (code ++ rest) (512 * block) p len
+            ∙ (get_or_append_left code rest 0 p (omega (arith, padded_len e))
+            ∙ padded_at e p lt)),
+        rw joined at (codes_laid (prefix ++ code) (block + n) es
+            (length-append prefix code ∙ omega (arith, len, padded_len e))),
+      )
 
-whole_test : (short : Bool) (of : Result OpenedFile Reason)
-    → option_map (in_file 0) (result_err (cond short (Err reason.ShortFile) of)) ≡ None
-    → short ≡ false
+whole_test : (short : Bool) (of : Result OpenedFile Reason) → option_map
+    (in_file 0) (result_err (cond short (Err reason.ShortFile) of)) ≡ None → short ≡ false
 whole_test short of h = grind arith
 
 whole_host : (host : List ℕ) → host_fault host ≡ None → 512 ≤ length host
 whole_host host h = ltb-false (length host) 512
     (whole_test (nat_lt (length host) 512) (opened_as host (file_order host)) h)
 
-host_first : (host : List ℕ) (libs : List (List ℕ)) → reading_fault host libs ≡ None
-    → host_fault host ≡ None
-unfolding reading_fault
-host_first host libs h = neither_first (host_fault host) _ h
+module _ (host : List ℕ) (libs : List (List ℕ)) where
+  host_first : reading_fault host libs ≡ None → host_fault host ≡ None
+  unfolding reading_fault
+  host_first h = neither_first (host_fault host) _ h
 
-pub reading_first : (host : List ℕ) (libs : List (List ℕ)) → first_fault host libs ≡ None
-    → reading_fault host libs ≡ None
-unfolding first_fault
-reading_first host libs h = neither_first (reading_fault host libs) _ h
+  pub reading_first : first_fault host libs ≡ None → reading_fault host libs ≡ None
+  unfolding first_fault
+  reading_first h = neither_first (reading_fault host libs) _ h
 
-pub long_host : (host : List ℕ) (libs : List (List ℕ)) → first_fault host libs ≡ None
-    → 512 ≤ length host
-long_host host libs h = whole_host host (host_first host libs (reading_first host libs h))
+  pub long_host : first_fault host libs ≡ None → 512 ≤ length host
+  long_host h = whole_host host (host_first (reading_first h))
 
 -- a file that begins with a dictionary: its parts
 record Parts (pairs names tail codes file : List ℕ) : Type 0 where
@@ -300,49 +276,36 @@ parts_at pairs names tail codes file h =
 -- the parts of a dictionary that were stored in a block of zeros, one after another
 pub stored_parts : (z d1 d2 d3 pairs names mid tail : List ℕ) → length z ≡ 512
     → slice_range z 192 256 ≡ mid → length pairs ≡ 64 → length names ≡ 128
-    → length tail ≡ 256
-    → d1 ≡ take 0 z ++ (pairs ++ drop (0 + length pairs) z)
-    → d2 ≡ take 64 d1 ++ (names ++ drop (64 + length names) d1)
-    → d3 ≡ take 256 d2 ++ (tail ++ drop (256 + length tail) d2)
-    → d3 ≡ pairs ++ (names ++ (mid ++ tail))
+    → length tail ≡ 256 → d1 ≡ take 0 z ++ (pairs ++ drop (0 + length pairs) z)
+    → d2 ≡ take 64 d1 ++ (names ++ drop (64 + length names) d1) → d3 ≡ take 256 d2
+    ++ (tail ++ drop (256 + length tail) d2) → d3 ≡ pairs ++ (names ++ (mid ++ tail))
 stored_parts z d1 d2 d3 pairs names mid tail lz hm lp ln lt h1 h2 h3 =
     let at1 : 0 + length pairs ≡ 64 = omega (arith, lp) in
     let first : d1 ≡ pairs ++ drop 64 z = h1 ∙ ap (λ n. pairs ++ drop n z) at1 in
     let prefix1 : take 64 d1 ≡ pairs =
-    ap (λ (xs : List ℕ). take 64 xs) first ∙ take_at pairs (drop 64 z) 64 lp in
-    let rest1 : drop (64 + length names) d1 ≡ drop 192 z =
-    ap (λ n. drop (64 + n) d1) ln
-    ∙ (ap (λ (xs : List ℕ). drop (64 + 128) xs) first
-    ∙ (sym (drop-drop 128 64 (pairs ++ drop 64 z))
-    ∙ (ap (λ (xs : List ℕ). drop 128 xs) (drop_at pairs (drop 64 z) 64 lp)
-    ∙ drop-drop 128 64 z))) in
-    let second : d2 ≡ pairs ++ (names ++ drop 192 z) =
-    h2 ∙ (ap (λ (xs : List ℕ). xs ++ (names ++ drop (64 + length names) d1)) prefix1
-    ∙ ap (λ (xs : List ℕ). pairs ++ (names ++ xs)) rest1) in
-    let parted : drop 192 z ≡ mid ++ drop 256 z =
-    sym (take-append-drop 64 (drop 192 z))
-    ∙ (ap (λ (xs : List ℕ). xs ++ drop 64 (drop 192 z)) hm
-    ∙ ap (λ (xs : List ℕ). mid ++ xs) (drop-drop 64 192 z)) in
-    let third : d2 ≡ (pairs ++ (names ++ mid)) ++ drop 256 z =
-    second ∙ (ap (λ (xs : List ℕ). pairs ++ (names ++ xs)) parted
-    ∙ regrouped pairs names mid (drop 256 z)) in
-    let mid_len : length mid ≡ 64 = ap (λ (xs : List ℕ). length xs) (sym hm)
+    ap (λ xs. take 64 xs) first ∙ take_at pairs (drop 64 z) 64 lp in
+    let rest1 : drop (64 + length names) d1 ≡ drop 192 z = ap (λ n. drop (64 + n) d1) ln
+    ∙ (ap (λ xs. drop (64 + 128) xs) first ∙ (sym (drop-drop 128 64 (pairs ++ drop 64 z))
+    ∙ (ap (λ xs. drop 128 xs) (drop_at pairs (drop 64 z) 64 lp) ∙ drop-drop 128 64 z))) in
+    let second : d2 ≡ pairs ++ (names ++ drop 192 z) = h2 ∙ (ap (λ xs. xs ++ (names
+    ++ drop (64 + length names) d1)) prefix1 ∙ ap (λ xs. pairs ++ (names ++ xs)) rest1) in
+    let parted : drop 192 z ≡ mid ++ drop 256 z = sym (take-append-drop 64 (drop 192 z)) ∙ (ap
+    (λ xs. xs ++ drop 64 (drop 192 z)) hm ∙ ap (λ xs. mid ++ xs) (drop-drop 64 192 z)) in
+    let third : d2 ≡ (pairs ++ (names ++ mid)) ++ drop 256 z = second ∙ (ap (λ
+    (xs : List ℕ). pairs ++ (names ++ xs)) parted ∙ regrouped pairs names mid (drop 256 z)) in
+    let mid_len : length mid ≡ 64 = ap (λ xs. length xs) (sym hm)
     ∙ (length-take 64 (drop 192 z) ∙ omega (arith, length-drop 192 z, lz)) in
-    let prefix_len : length (pairs ++ (names ++ mid)) ≡ 256 =
-    length-append pairs (names ++ mid)
+    let prefix_len : length (pairs ++ (names ++ mid)) ≡ 256 = length-append pairs (names ++ mid)
     ∙ omega (arith, length-append names mid, lp, ln, mid_len) in
-    let prefix2 : take 256 d2 ≡ pairs ++ (names ++ mid) =
-    ap (λ (xs : List ℕ). take 256 xs) third
+    let prefix2 : take 256 d2 ≡ pairs ++ (names ++ mid) = ap (λ xs. take 256 xs) third
     ∙ take_at (pairs ++ (names ++ mid)) (drop 256 z) 256 prefix_len in
-    let whole_len : length d2 ≡ 512 = ap (λ (xs : List ℕ). length xs) third
-    ∙ (length-append (pairs ++ (names ++ mid)) (drop 256 z)
-    ∙ omega (arith, prefix_len, length-drop 256 z, lz)) in
+    let whole_len : length d2 ≡ 512 = ap (λ xs. length xs) third ∙ (length-append
+    (pairs ++ (names ++ mid)) (drop 256 z) ∙ omega (arith, prefix_len, length-drop 256 z, lz)) in
     let rest2 : drop (256 + length tail) d2 ≡ [] =
     drop_all (256 + length tail) d2 (omega (arith, whole_len, lt)) in
-    h3 ∙ (ap (λ (xs : List ℕ). xs ++ (tail ++ drop (256 + length tail) d2)) prefix2
-    ∙ (ap (λ (xs : List ℕ). (pairs ++ (names ++ mid)) ++ (tail ++ xs)) rest2
-    ∙ (ap (λ (xs : List ℕ). (pairs ++ (names ++ mid)) ++ xs) (append-nil tail)
-    ∙ sym (regrouped pairs names mid tail))))
+    h3 ∙ (ap (λ xs. xs ++ (tail ++ drop (256 + length tail) d2)) prefix2
+    ∙ (ap (λ xs. (pairs ++ (names ++ mid)) ++ (tail ++ xs)) rest2 ∙ (ap (λ xs. (pairs
+    ++ (names ++ mid)) ++ xs) (append-nil tail) ∙ sym (regrouped pairs names mid tail))))
   where
     regrouped : (a b c d : List ℕ) → a ++ (b ++ (c ++ d)) ≡ (a ++ (b ++ c)) ++ d
     regrouped a b c d = simp append_assoc
@@ -352,11 +315,10 @@ unfolding all_pairs
 all_pairs_len order all = pairs_len order all
 
 -- so they are the dictionary
-pub dictionary_is : (order : Order) (all_names : List (List ℕ)) (host : List ℕ)
-    (all : List Extent) (d pairs names tail : List ℕ)
-    → d ≡ pairs ++ (names ++ (replicate 64 0 ++ tail)) → pairs ≡ all_pairs order all
-    → names ≡ flat_map (λ name. name) all_names → tail ≡ slice_range host 256 512
-    → d ≡ dictionary order all_names host all
+pub dictionary_is : (order : Order) (all_names : List (List ℕ)) (host : List ℕ) (all : List
+    Extent) (d pairs names tail : List ℕ) → d ≡ pairs ++ (names ++ (replicate 64 0 ++ tail))
+    → pairs ≡ all_pairs order all → names ≡ flat_map (λ name. name) all_names
+    → tail ≡ slice_range host 256 512 → d ≡ dictionary order all_names host all
 unfolding dictionary
 dictionary_is order all_names host all d pairs names tail h p n t = grind arith
 
@@ -372,41 +334,35 @@ pub record IsFile (order : Order) (names : List (List ℕ)) (host : List ℕ) (a
   pub codes : All (HasCode order file all) es
   pub padding : All (HasPadding file all) es
 
--- a pair, in the sixteen pairs
-pair_part : (order : Order) (all : List Extent) (file : List ℕ) → 512 ≤ length file
-    → ((j : ℕ) → j < 64 → get_or file j 0
-    ≡ get_or (flat_map (pair_of order all) slots) j 0) → (slot : ℕ) → slot < 16
-    → slice_range file (4 * slot) (4 * slot + 4) ≡ pair_of order all slot
-pair_part order all file long h slot lt =
-    let width : 4 * slot + 4 - 4 * slot ≡ 4 = omega arith in
-    part_is file (pair_of order all slot) (4 * slot) (4 * slot + 4)
-    (pair_four order all slot ∙ sym width) (omega arith)
-    (λ j l. let within : j < 4 = omega arith in
-    h (4 * slot + j) (omega arith) ∙ pairs_at order all slot j lt within)
+module _ (order : Order) (all : List Extent) (file : List ℕ) where
+  -- a pair, in the sixteen pairs
+  pair_part : 512 ≤ length file → ((j : ℕ) → j < 64
+      → get_or file j 0 ≡ get_or (flat_map (pair_of order all) slots) j 0) → (slot : ℕ)
+      → slot < 16 → slice_range file (4 * slot) (4 * slot + 4) ≡ pair_of order all slot
+  pair_part long h slot lt =
+      let width : 4 * slot + 4 - 4 * slot ≡ 4 = omega arith in
+      part_is file (pair_of order all slot) (4 * slot) (4 * slot + 4)
+      (pair_four order all slot ∙ sym width) (omega arith) (λ j l. let within : j < 4 =
+      omega arith in h (4 * slot + j) (omega arith) ∙ pairs_at order all slot j lt within)
 
--- a file that has the pair of each slot begins with the sixteen pairs
-sixteen : (order : Order) (all : List Extent) (file : List ℕ) → 512 ≤ length file
-    → ((slot : ℕ) → slot < 16 → slice_range file (4 * slot) (4 * slot + 4)
-    ≡ pair_of order all slot) → slice_range file 0 64 ≡ flat_map (pair_of order all) slots
-sixteen order all file long h =
-    pairs_are order all (slice_range file 0 64) (part_len file 0 64 (omega arith))
-    (λ slot j lt l.
-    let first : slice_range file 0 64 ≡ slice_range file 0 64 = refl in
-    let at : 0 + (4 * slot + j) ≡ 4 * slot + j = omega arith in
-    let within : 4 * slot + j < 64 - 0 = omega arith in
-    let width : j < 4 * slot + 4 - 4 * slot = omega arith in
-    sym (part_at file (slice_range file 0 64) 0 64 (4 * slot + j) first within)
-    ∙ (ap (λ i. get_or file i 0) at ∙ part_at file (pair_of order all slot) (4 * slot)
-    (4 * slot + 4) j (h slot lt) width))
+  -- a file that has the pair of each slot begins with the sixteen pairs
+  sixteen : 512 ≤ length file → ((slot : ℕ)
+      → slot < 16 → slice_range file (4 * slot) (4 * slot + 4) ≡ pair_of order all slot)
+      → slice_range file 0 64 ≡ flat_map (pair_of order all) slots
+  sixteen long h = pairs_are order all (slice_range file 0 64) (part_len file 0 64 (omega arith))
+      (λ slot j lt l. let first : slice_range file 0 64 ≡ slice_range file 0 64 =
+      refl in let at : 0 + (4 * slot + j) ≡ 4 * slot + j = omega arith in let within : 4
+      * slot + j < 64 - 0 = omega arith in let width : j < 4 * slot + 4 - 4 * slot =
+      omega arith in sym (part_at file (slice_range file 0 64) 0 64 (4 * slot + j) first within)
+      ∙ (ap (λ i. get_or file i 0) at
+      ∙ part_at file (pair_of order all slot) (4 * slot) (4 * slot + 4) j (h slot lt) width))
 
 -- where each byte from 192 to 255 is 0, that part of the file is 64 zeros
-zeros_part : (file : List ℕ) → 512 ≤ length file
-    → ((p : ℕ) → 192 ≤ p → p < 256 → get_or file p 0 ≡ 0)
-    → slice_range file 192 256 ≡ replicate 64 0
+zeros_part : (file : List ℕ) → 512 ≤ length file → ((p : ℕ) → 192 ≤ p
+    → p < 256 → get_or file p 0 ≡ 0) → slice_range file 192 256 ≡ replicate 64 0
 zeros_part file long h =
-    part_is file (replicate 64 0) 192 256 (length-replicate {A = ℕ} 64 0) (omega arith)
-    (λ j l. h (192 + j) (omega arith) (omega arith)
-    ∙ sym (get_or-replicate {A = ℕ} 64 j 0 0 l))
+    part_is file (replicate 64 0) 192 256 (length-replicate {A = ℕ} 64 0) (omega arith) (λ
+    j l. h (192 + j) (omega arith) (omega arith) ∙ sym (get_or-replicate {A = ℕ} 64 j 0 0 l))
 
 -- where the 64 bytes from 192 on are 0, so is the byte at each place from 192 to 255
 zero_at : (file : List ℕ) → ((j : ℕ) → j < 64 → get_or file (192 + j) 0 ≡ 0)
@@ -414,7 +370,7 @@ zero_at : (file : List ℕ) → ((j : ℕ) → j < 64 → get_or file (192 + j) 
 zero_at file h p le lt =
     let at : 192 + (p - 192) ≡ p = omega arith in
     let within : p - 192 < 64 = omega arith in
-    subst (λ (k : ℕ). get_or file k 0 ≡ 0) at (h (p - 192) within)
+    subst (λ k. get_or file k 0 ≡ 0) at (h (p - 192) within)
 
 -- pairs, names, 64 zeros and a tail of these lengths take one block
 head_len : (pairs names tail : List ℕ) → length pairs ≡ 64 → length names ≡ 128
@@ -427,33 +383,31 @@ whole_size head codes n h k = length-append head codes ∙ omega (arith, h, k)
 
 -- the list has these facts
 pub file_there : (order : Order) (all_names : List (List ℕ)) (host : List ℕ) (all : List Extent)
-    (es : List Edited) → map extent_of_edited es ≡ all → Ascend 0 all
-    → length (flat_map (λ name. name) all_names) ≡ 128 → 512 ≤ length host
-    → IsFile order all_names host all es
-    (dictionary order all_names host all ++ flat_map (padded_segment order) es)
+    (es : List Edited) → map extent_of_edited es ≡ all → Ascend 0 all → length
+    (flat_map (λ name. name) all_names) ≡ 128 → 512 ≤ length host → IsFile order all_names
+    host all es (dictionary order all_names host all ++ flat_map (padded_segment order) es)
 unfolding dictionary all_pairs
 file_there order all_names host all es is ascend named long =
     made (flat_map (pair_of order all) slots) (flat_map (λ name. name) all_names)
     (slice_range host 256 512) (flat_map (padded_segment order) es) refl refl refl refl
   where
     left : Left all 0 1 (map extent_of_edited es)
-    left = subst (λ (cs : List Extent). Left all 0 1 cs) (sym is) (left_start all ascend)
+    left = subst (λ cs. Left all 0 1 cs) (sym is) (left_start all ascend)
 
     made : (pairs names tail codes : List ℕ) → pairs ≡ flat_map (pair_of order all) slots
         → names ≡ flat_map (λ name. name) all_names → tail ≡ slice_range host 256 512
-        → codes ≡ flat_map (padded_segment order) es
-        → IsFile order all_names host all es
+        → codes ≡ flat_map (padded_segment order) es → IsFile order all_names host all es
         ((pairs ++ (names ++ (replicate 64 0 ++ tail))) ++ codes)
     made pairs names tail codes p n t c =
         let file = (pairs ++ (names ++ (replicate 64 0 ++ tail))) ++ codes in
         let pairs_64 : length pairs ≡ 64 =
-        ap (λ (xs : List ℕ). length xs) p ∙ pairs_len order all in
-        let names_128 : length names ≡ 128 = ap (λ (xs : List ℕ). length xs) n ∙ named in
+        ap (λ xs. length xs) p ∙ pairs_len order all in
+        let names_128 : length names ≡ 128 = ap (λ xs. length xs) n ∙ named in
         let tail_256 : length tail ≡ 256 =
-        ap (λ (xs : List ℕ). length xs) t ∙ part_len host 256 512 (omega (arith, long)) in
+        ap (λ xs. length xs) t ∙ part_len host 256 512 (omega (arith, long)) in
         let codes_are : length codes ≡ 512 * all_blocks all =
-        ap (λ (xs : List ℕ). length xs) c
-        ∙ (codes_len order es ∙ ap (λ (cs : List Extent). 512 * all_blocks cs) is) in
+        ap (λ xs. length xs) c
+        ∙ (codes_len order es ∙ ap (λ cs. 512 * all_blocks cs) is) in
         let prefix : length (pairs ++ (names ++ (replicate 64 0 ++ tail))) ≡ 512 =
         head_len pairs names tail pairs_64 names_128 tail_256 in
         let size : length file ≡ 512 * (1 + all_blocks all) =
@@ -469,13 +423,13 @@ file_there order all_names host all es is ascend named long =
               tail_256;
         }) in
         let laid : Laid order file 1 es =
-        subst (λ (xs : List ℕ). Laid order
+        subst (λ xs. Laid order
         ((pairs ++ (names ++ (replicate 64 0 ++ tail))) ++ xs) 1 es) (sym c)
         (codes_laid order (pairs ++ (names ++ (replicate 64 0 ++ tail))) 1 es prefix) in
         record {
           size = size;
           pairs = pair_part order all file room
-              (λ j l. at.in_pairs j l ∙ ap (λ (xs : List ℕ). get_or xs j 0) p);
+              (λ j l. at.in_pairs j l ∙ ap (λ xs. get_or xs j 0) p);
           names_are = part_is file names 64 192 names_128
               (names_room (length file) room) at.in_names ∙ n;
           zeros = zero_at file at.in_zeros;
@@ -494,8 +448,7 @@ file_there order all_names host all es is ascend named long =
 cut : (xs : List ℕ) (a b : ℕ) → a ≤ b → drop a xs ≡ slice_range xs a b ++ drop b xs
 cut xs a b le =
     let end : a + (b - a) ≡ b = omega arith in
-    sym (take-append-drop (b - a) (drop a xs))
-    ∙ ap (λ (ys : List ℕ). slice_range xs a b ++ ys)
+    sym (take-append-drop (b - a) (drop a xs)) ∙ ap (λ ys. slice_range xs a b ++ ys)
     (drop-drop (b - a) a xs ∙ ap (λ k. drop k xs) end)
 
 -- a file whose ranges are these parts is the parts, one after another
@@ -504,21 +457,14 @@ joined : (file pairs names zeros tail codes : List ℕ) → slice_range file 0 6
     → slice_range file 256 512 ≡ tail → drop 512 file ≡ codes
     → file ≡ (pairs ++ (names ++ (zeros ++ tail))) ++ codes
 joined file pairs names zeros tail codes p n z t c =
-    let last : drop 256 file ≡ tail ++ codes =
-    cut file 256 512 (omega arith) ∙
-    (ap (λ (xs : List ℕ). xs ++ drop 512 file) t ∙ ap (λ (xs : List ℕ). tail ++ xs) c)
-    in
-    let third : drop 192 file ≡ zeros ++ (tail ++ codes) =
-    cut file 192 256 (omega arith) ∙
-    (ap (λ (xs : List ℕ). xs ++ drop 256 file) z
-    ∙ ap (λ (xs : List ℕ). zeros ++ xs) last) in
-    let second : drop 64 file ≡ names ++ (zeros ++ (tail ++ codes)) =
-    cut file 64 192 (omega arith) ∙
-    (ap (λ (xs : List ℕ). xs ++ drop 192 file) n
-    ∙ ap (λ (xs : List ℕ). names ++ xs) third) in
-    let first : drop 0 file ≡ pairs ++ (names ++ (zeros ++ (tail ++ codes))) =
-    cut file 0 64 (omega arith) ∙ (ap (λ (xs : List ℕ). xs ++ drop 64 file) p
-    ∙ ap (λ (xs : List ℕ). pairs ++ xs) second) in
+    let last : drop 256 file ≡ tail ++ codes = cut file 256 512 (omega arith)
+    ∙ (ap (λ xs. xs ++ drop 512 file) t ∙ ap (λ xs. tail ++ xs) c) in
+    let third : drop 192 file ≡ zeros ++ (tail ++ codes) = cut file 192 256 (omega arith)
+    ∙ (ap (λ xs. xs ++ drop 256 file) z ∙ ap (λ xs. zeros ++ xs) last) in
+    let second : drop 64 file ≡ names ++ (zeros ++ (tail ++ codes)) = cut file 64 192
+    (omega arith) ∙ (ap (λ xs. xs ++ drop 192 file) n ∙ ap (λ xs. names ++ xs) third) in
+    let first : drop 0 file ≡ pairs ++ (names ++ (zeros ++ (tail ++ codes))) = cut file 0 64
+    (omega arith) ∙ (ap (λ xs. xs ++ drop 64 file) p ∙ ap (λ xs. pairs ++ xs) second) in
     first ∙ sym (flat_parts pairs names zeros tail codes)
 
 -- no other list has them
@@ -529,10 +475,10 @@ pub file_one : (order : Order) (all_names : List (List ℕ)) (host : List ℕ) (
 unfolding dictionary all_pairs
 file_one order all_names host all es file is ascend h =
     let left : Left all 0 1 (map extent_of_edited es) =
-    subst (λ (cs : List Extent). Left all 0 1 cs) (sym is) (left_start all ascend) in
+    subst (λ cs. Left all 0 1 cs) (sym is) (left_start all ascend) in
     let laid : Laid order file 1 es = to_laid order file all 0 1 es left h.codes h.padding in
     let size : length file ≡ 512 * (1 + all_blocks (map extent_of_edited es)) =
-    h.size ∙ ap (λ (cs : List Extent). 512 * (1 + all_blocks cs)) (sym is) in
+    h.size ∙ ap (λ cs. 512 * (1 + all_blocks cs)) (sym is) in
     let room : 512 ≤ length file = room_of (length file) (all_blocks all) h.size in
     joined file (flat_map (pair_of order all) slots) (flat_map (λ name. name) all_names)
     (replicate 64 0) (slice_range host 256 512) (flat_map (padded_segment order) es)
@@ -563,10 +509,9 @@ NoneFound = (host : List ℕ) (libs : List (List ℕ)) → first_fault host libs
     → NoneStands host libs
 
 -- where none applies, no first fault is computed
-pub none_found : ((host : List ℕ) (libs : List (List ℕ)) (f : Fault)
-    → first_fault host libs ≡ Some f → IsFirst host libs f)
-    → (host : List ℕ) (libs : List (List ℕ)) → NoneStands host libs
-    → first_fault host libs ≡ None
+pub none_found : ((host : List ℕ) (libs : List (List ℕ)) (f : Fault) → first_fault host libs
+    ≡ Some f → IsFirst host libs f) → (host : List ℕ) (libs : List (List ℕ))
+    → NoneStands host libs → first_fault host libs ≡ None
 none_found first host libs none = go (first_fault host libs) refl
   where
     go : (o : Option Fault) → first_fault host libs ≡ o → o ≡ None
@@ -598,11 +543,9 @@ module _ (host : List ℕ) (libs : List (List ℕ)) where
   codes_linked : (file : List ℕ) → HaveLinkedBytes host libs
       → All (HasCode (order_of host) file (extents host libs)) (linked_segments host libs)
       → All (IsLinked file) (segments_of host libs)
-  codes_linked file made codes =
-      of_all (IsLinked file) (λ k d lt p within. subst
-      (λ (b : ℕ). IsLinkedByte (order_of host) (segments_of host libs)
-      (get_or (linked_segments host libs) k d).segment p b) (sym (codes k d lt p within))
-      (made k d lt p within))
+  codes_linked file made codes = of_all (IsLinked file) (λ k d lt p within. subst
+      (λ (b : ℕ). IsLinkedByte (order_of host) (segments_of host libs) (get_or (linked_segments
+      host libs) k d).segment p b) (sym (codes k d lt p within)) (made k d lt p within))
 
   -- and what has the linked bytes has the codes with their edits
   linked_codes : (file : List ℕ) → HaveLinkedBytes host libs → HaveOneLinkedByte host libs
@@ -661,7 +604,6 @@ pub names_first : ((host : List ℕ) (libs : List (List ℕ)) (f : Fault)
     → ((host : List ℕ) (libs : List (List ℕ)) (step : Step) (f : Fault)
     → FaultAt host libs step f → HasItsParts (order_of host) host libs f)
     → ((host : List ℕ) (libs : List (List ℕ)) → reading_fault host libs ≡ None
-    → NoneStandsInReading host libs)
-    → (host : List ℕ) (libs : List (List ℕ)) (why : Stop) → IsStopped host libs why
-    → NamesFirst host libs (error_of why)
+    → NoneStandsInReading host libs) → (host : List ℕ) (libs : List (List ℕ)) (why : Stop)
+    → IsStopped host libs why → NamesFirst host libs (error_of why)
 names_first h k m host libs why p = grind arith

@@ -12,31 +12,21 @@ pub overflow_cast-blocks : goal.overflow_cast-blocks
 overflow_cast-blocks c =
     let ss = c.args.sources.now in
     let i = c.loop-source.source-index in
-    let (count, block) = laid_next (map extent_of_source ss) i _ _ _
-    (extent_of_source (get_or ss i no_source))
-    (view_at extent_of_source ss i no_source c.loop-source-test.true) c.loop-source.invariant.1
-    in
+    let (count, block) =
+    laid_next (map extent_of_source ss) i _ _ _ (extent_of_source (get_or ss i no_source))
+    (view_at extent_of_source ss i no_source c.loop-source-test.true) c.loop-source.invariant.1 in
     omega (arith, block)
 
 pub overflow_add-blocks : goal.overflow_add-blocks
-overflow_add-blocks c =
-    let ss = c.args.sources.now in
-    let i = c.loop-source.source-index in
-    let (count, block) = laid_next (map extent_of_source ss) i _ _ _
-    (extent_of_source (get_or ss i no_source))
-    (view_at extent_of_source ss i no_source c.loop-source-test.true) c.loop-source.invariant.1
-    in
-    let size = size_at ss i c.requires.sizes c.loop-source-test.true in
-    omega (arith, block, size, c.blocks_of-blocks.ensures)
+overflow_add-blocks c = grind (arith, laid_next, extent_of_source, no_source, view_at, size_at)
 
 pub push-requires : goal.push-requires
 push-requires c =
     let ss = c.args.sources.now in
     let i = c.loop-source.source-index in
-    let (count, block) = laid_next (map extent_of_source ss) i _ _ _
-    (extent_of_source (get_or ss i no_source))
-    (view_at extent_of_source ss i no_source c.loop-source-test.true) c.loop-source.invariant.1
-    in
+    let (count, block) =
+    laid_next (map extent_of_source ss) i _ _ _ (extent_of_source (get_or ss i no_source))
+    (view_at extent_of_source ss i no_source c.loop-source-test.true) c.loop-source.invariant.1 in
     omega (arith, count, c.loop-source.invariant.1.many)
 
 pub loop-source-preserved : goal.loop-source-preserved
@@ -56,6 +46,5 @@ returns-clause-starts c = grind (arith, laid_done, extent_of_source, length-map)
 pub returns-clause-blocks : goal.returns-clause-blocks
 returns-clause-blocks c =
     let ss = c.args.sources.now in
-    (laid_done (map extent_of_source ss) c.loop-source.source-index _ _ _
-    (omega (arith, length-map ss extent_of_source, c.loop-source-test.false))
-    c.loop-source.invariant.1).1
+    (laid_done (map extent_of_source ss) c.loop-source.source-index _ _ _ (omega
+    (arith, length-map ss extent_of_source, c.loop-source-test.false)) c.loop-source.invariant.1).1

@@ -1,6 +1,5 @@
 use Rattle.std.proofs.Common.{ℕ, map}
-use Rattle.ps_resolve.specs.Plans.{origin_of_source}
-use Rattle.ps_linkfile.specs.Writing.{extent_of_origin}
+use Rattle.ps_linkfile.proofs.Words.{origin_of_source, extent_of_origin}
 use Rattle.ps_linkfile.proofs.Extents.{LaidSoFar}
 use Rattle.ps_linkfile.proofs.block_layout.layout_of.Given as goal
 

@@ -1,23 +1,18 @@
-use Rattle.std.proofs.Common.{◌≡◌, ◌*◌, ◌∙◌, ℕ, List, length, map, replicate}
-use Rattle.std.proofs.Common.{refl, sym, ap, arith}
-use Rattle.std.specs.List.{flat_map}
-use Rattle.std.proofs.lemmas.List.{length-replicate}
-use Rattle.ps_words.specs.declared.order.Order.{Order}
-use Rattle.ps_linkfile.specs.LinkedFile.{Extent, all_pairs}
-use Rattle.ps_linkfile.specs.Writing.{extents_in, starts_of}
+use Rattle.std.proofs.Common.{◌≡◌, ◌*◌, ◌∙◌, ℕ, length, map, replicate, refl, sym}
+use Rattle.std.proofs.Common.{ap, arith}
+use Rattle.ps_linkfile.proofs.Words.{flat_map, length-replicate, extents_in, starts_of}
+use Rattle.ps_linkfile.specs.LinkedFile.{all_pairs}
 use Rattle.ps_linkfile.proofs.Views.{extent_of_source, seen, seen_ascend, seen_small}
 use Rattle.ps_linkfile.proofs.Whole.{part_len, all_pairs_len, stored_parts, dictionary_is}
 use Rattle.ps_linkfile.proofs.dictionary.dictionary_of.Goals as goal
 
 pub pairs_of-pairs-requires-clause-slots : goal.pairs_of-pairs-requires-clause-slots
-pairs_of-pairs-requires-clause-slots g c =
-    seen_ascend c.sources.result.now c.args.plan.now.origins c.sources.ensures.origins
-    c.requires.ready.slots
+pairs_of-pairs-requires-clause-slots g c = seen_ascend
+    c.sources.result.now c.args.plan.now.origins c.sources.ensures.origins c.requires.ready.slots
 
 pub pairs_of-pairs-requires-clause-sizes : goal.pairs_of-pairs-requires-clause-sizes
-pairs_of-pairs-requires-clause-sizes g c =
-    seen_small c.sources.result.now c.args.plan.now.origins c.sources.ensures.origins
-    c.requires.ready.sizes
+pairs_of-pairs-requires-clause-sizes g c = seen_small
+    c.sources.result.now c.args.plan.now.origins c.sources.ensures.origins c.requires.ready.sizes
 
 pub pairs_of-pairs-requires-clause-starts : goal.pairs_of-pairs-requires-clause-starts
 pairs_of-pairs-requires-clause-starts g c =
@@ -30,7 +25,7 @@ store-requires-2 g c = grind arith
 pub store-requires-3 : goal.store-requires-3
 store-requires-3 g c =
     let tail_256 : length c.tail.result.now ≡ 256 =
-    ap (λ (xs : List ℕ). length xs) c.tail.ensures
+    ap (λ xs. length xs) c.tail.ensures
     ∙ part_len c.args.plan.now.host 256 512 (omega (arith, c.requires.ready.host)) in
     omega (
       arith,
@@ -44,28 +39,22 @@ pub returns : goal.returns
 returns g c =
     let plan = c.args.plan.now in
     let pairs_64 : length c.pairs_of-pairs.result ≡ 64 =
-    ap (λ (xs : List ℕ). length xs) c.pairs_of-pairs.ensures ∙ all_pairs_len _ _ in
+    ap (λ xs. length xs) c.pairs_of-pairs.ensures ∙ all_pairs_len _ _ in
     let flat : length c.as_flattened.result.now ≡ length c.names.result.now * 8 =
     c.as_flattened.ensures.len in
     let sixteen : length c.names.result.now ≡ 16 =
-    ap (λ (names : List (List ℕ)). length names) c.names.ensures ∙ c.requires.ready.names
-    in
+    ap (λ names. length names) c.names.ensures ∙ c.requires.ready.names in
     let names_128 : length c.as_flattened.result.now ≡ 128 = omega (arith, flat, sixteen) in
     let names_are = c.as_flattened.ensures.value
-    ∙ ap (λ (names : List (List ℕ)). flat_map (λ name. name) names) c.names.ensures in
-    let tail_256 : length c.tail.result.now ≡ 256 =
-    ap (λ (xs : List ℕ). length xs) c.tail.ensures
-    ∙ part_len plan.host 256 512 (omega (arith, c.requires.ready.host)) in
+    ∙ ap (λ names. flat_map (λ name. name) names) c.names.ensures in
+    let tail_256 : length c.tail.result.now ≡ 256 = ap (λ xs. length xs)
+    c.tail.ensures ∙ part_len plan.host 256 512 (omega (arith, c.requires.ready.host)) in
     let pairs_are : c.pairs_of-pairs.result ≡ all_pairs plan.order (extents_in plan) =
-    c.pairs_of-pairs.ensures
-    ∙ (ap (λ (o : Order). all_pairs o (map extent_of_source c.sources.result.now))
-    c.order.ensures
-    ∙ ap (λ (cs : List Extent). all_pairs plan.order cs)
+    c.pairs_of-pairs.ensures ∙ (ap (λ o. all_pairs o (map extent_of_source
+    c.sources.result.now)) c.order.ensures ∙ ap (λ cs. all_pairs plan.order cs)
     (sym (seen c.sources.result.now plan.origins c.sources.ensures.origins))) in
-    dictionary_is plan.order plan.names plan.host
-    (extents_in plan) _ c.pairs_of-pairs.result c.as_flattened.result.now c.tail.result.now
-    (stored_parts (replicate 512 0) _ _ _ c.pairs_of-pairs.result c.as_flattened.result.now
-    (replicate 64 0) c.tail.result.now
+    dictionary_is plan.order plan.names plan.host (extents_in plan) _ c.pairs_of-pairs.result
+    c.as_flattened.result.now c.tail.result.now (stored_parts (replicate 512 0)
+    _ _ _ c.pairs_of-pairs.result c.as_flattened.result.now (replicate 64 0) c.tail.result.now
     (length-replicate {A = ℕ} 512 0) refl pairs_64 names_128 tail_256 c.store.ensures.stored
-    c.store-2.ensures.stored c.store-3.ensures.stored)
-    pairs_are names_are c.tail.ensures
+    c.store-2.ensures.stored c.store-3.ensures.stored) pairs_are names_are c.tail.ensures

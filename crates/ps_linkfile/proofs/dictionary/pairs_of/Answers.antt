@@ -1,8 +1,7 @@
-use Rattle.std.proofs.Common.{◌≡◌, ◌+◌, ◌*◌, ℕ, length, map, get_or, sym, ◌∙◌}
-use Rattle.std.proofs.Common.{subst, arith}
-use Rattle.std.proofs.lemmas.List.{length-map}
-use Rattle.ps_words.specs.Words.{blocks}
-use Rattle.ps_linkfile.proofs.Pairs.{IsPut, PairsSoFar, pairs_none, pairs_more, pairs_done}
+use Rattle.std.proofs.Common.{◌≡◌, ◌+◌, ◌*◌, length, map, get_or, sym, ◌∙◌}
+use Rattle.std.proofs.Common.{arith}
+use Rattle.ps_linkfile.proofs.Words.{length-map, blocks}
+use Rattle.ps_linkfile.proofs.Pairs.{IsPut, pairs_none, pairs_more, pairs_done}
 use Rattle.ps_linkfile.proofs.Views.{extent_of_source, no_source, view_at, size_at, slot_at}
 use Rattle.ps_linkfile.proofs.Views.{many_starts, start_at}
 use Rattle.ps_linkfile.proofs.dictionary.pairs_of.Goals as goal
@@ -69,5 +68,4 @@ returns c =
     let (block, from, so_far) = c.loop-k.invariant in
     let end : c.loop-k.k ≡ length ss = omega (arith, c.loop-k-test.false, c.loop-k.auto.k-end) in
     let count : c.loop-k.k ≡ length all = end ∙ sym (length-map ss extent_of_source) in
-    pairs_done c.args.order all c.loop-k.pairs block from
-    (subst (λ (n : ℕ). PairsSoFar c.args.order all n c.loop-k.pairs block from) count so_far)
+    pairs_done c.args.order all c.loop-k.pairs block from (rw count at so_far)

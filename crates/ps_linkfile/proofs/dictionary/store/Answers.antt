@@ -1,14 +1,10 @@
-use Rattle.std.proofs.Common.{◌≡◌, ℕ, ◌+◌, List, ◌++◌, length, take, drop, ap}
-use Rattle.std.proofs.Common.{◌∙◌, arith}
+use Rattle.std.proofs.Common.{◌≡◌, ℕ, ◌+◌, List, ◌++◌, length, take, drop, arith}
 use Rattle.std.proofs.lemmas.List.{drop-drop}
 use Rattle.ps_linkfile.proofs.dictionary.store.Goals as goal
 
 put : (a k : ℕ) (xs ys zs : List ℕ) → ys ≡ zs → k ≡ length zs
     → take a xs ++ (ys ++ drop k (drop a xs)) ≡ take a xs ++ (zs ++ drop (a + length zs) xs)
-put a k xs ys zs e h =
-    ap (λ (us : List ℕ). take a xs ++ (us ++ drop k (drop a xs))) e
-    ∙ ap (λ (us : List ℕ). take a xs ++ (zs ++ us))
-    (drop-drop k a xs ∙ ap (λ n. drop (a + n) xs) h)
+put a k xs ys zs e h = grind (arith, drop-drop)
 
 pub returns-clause-stored : goal.returns-clause-stored
 returns-clause-stored c = put c.args.place _ c.args.dictionary.now _ c.args.part.now

@@ -1,6 +1,5 @@
-use Rattle.std.proofs.lemmas.Result.{err_from_is_err_and}
-use Rattle.std.proofs.Common.{◌≤◌, List, ℕ, length, map, sym, subst}
-use Rattle.ps_linkfile.specs.LinkedFile.{LinkedFile}
+use Rattle.ps_linkfile.proofs.Words.{err_from_is_err_and}
+use Rattle.std.proofs.Common.{arith, map}
 use Rattle.ps_linkfile.proofs.Plans.{plan_ready, plan_file, plan_summary}
 use Rattle.ps_linkfile.proofs.Maps.{plan_map}
 use Rattle.ps_linkfile.proofs.MapsJson.{plan_json}
@@ -8,11 +7,7 @@ use Rattle.ps_linkfile.proofs.Whole.{names_first, there, long_host}
 use Rattle.ps_linkfile.proofs.linked.prepare.Goals as goal
 
 pub invariant_of-result : goal.invariant_of-result
-invariant_of-result g c =
-    let plan = c.in_ok-plan.ensures.plan in
-    plan_ready _ _ c.in_ok-plan.plan plan
-    (subst (λ (bytes : List ℕ). 512 ≤ length bytes) (sym plan.of_host)
-    (long_host _ _ c.in_ok-plan.ensures.sound))
+invariant_of-result g c = grind (arith, plan_ready, long_host)
 
 pub returns-clause-linked : goal.returns-clause-linked
 returns-clause-linked g c =
@@ -20,8 +15,7 @@ returns-clause-linked g c =
     let libs = map (λ lib. lib.now) c.args.libs.now in
     let plan = c.in_ok-plan.ensures.plan in
     record {
-      file = subst (λ (file : List ℕ). LinkedFile host libs file)
-          (sym (plan_file host libs c.in_ok-plan.plan plan))
+      file = rw (← (plan_file host libs c.in_ok-plan.plan plan)) at
           (there host libs c.slot_names_are_whole.ensures c.first_of_all.ensures.none
           c.bytes_are_linked.ensures.made c.in_ok-plan.ensures.sound);
       summary = plan_summary host libs c.in_ok-plan.plan plan;

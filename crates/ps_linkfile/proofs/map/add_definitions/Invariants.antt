@@ -1,6 +1,5 @@
 use Rattle.std.proofs.Common.{drop}
-use Rattle.std.specs.List.{flat_map}
-use Rattle.ps_linkfile.specs.MapText.{definition_line}
+use Rattle.ps_linkfile.proofs.Words.{flat_map, definition_line}
 use Rattle.ps_linkfile.proofs.Written.{Written}
 use Rattle.ps_linkfile.proofs.map.add_definitions.Given as goal
 

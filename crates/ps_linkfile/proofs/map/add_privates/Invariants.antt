@@ -1,6 +1,5 @@
 use Rattle.std.proofs.Common.{drop}
-use Rattle.std.specs.List.{flat_map}
-use Rattle.ps_linkfile.specs.MapText.{private_line}
+use Rattle.ps_linkfile.proofs.Words.{flat_map, private_line}
 use Rattle.ps_linkfile.proofs.Written.{Written}
 use Rattle.ps_linkfile.proofs.map.add_privates.Given as goal
 

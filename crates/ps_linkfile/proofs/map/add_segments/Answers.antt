@@ -1,17 +1,14 @@
 use Rattle.std.proofs.Common.{◌≡◌, ◌+◌, ◌++◌, ◌∙◌, ℕ, List, [], length, drop}
 use Rattle.std.proofs.Common.{get_or, refl, sym, ap, arith}
-use Rattle.std.specs.List.{flat_map}
-use Rattle.std.proofs.lemmas.List.{length-map}
-use Rattle.ps_resolve.specs.Plans.{origin_of_source}
-use Rattle.ps_linkfile.specs.MapText.{code_line, source_line}
-use Rattle.ps_linkfile.specs.Writing.{extents_in}
+use Rattle.ps_linkfile.proofs.Words.{flat_map, length-map, origin_of_source, code_line, source_line}
+use Rattle.ps_linkfile.proofs.Words.{extents_in}
 use Rattle.ps_linkfile.proofs.Maps.{line_at}
 use Rattle.ps_linkfile.proofs.Views.{many_starts, no_source, seen, seen_ascend, slot_at, source_at}
 use Rattle.ps_linkfile.proofs.Written.{all_written, items_left, items_over, none_yet, some_more}
 use Rattle.ps_linkfile.proofs.map.add_segments.Goals as goal
 
 pub loop-k-init : goal.loop-k-init
-loop-k-init g c = none_yet _ c.args.text.now _ _ refl
+loop-k-init g c = none_yet refl
 
 pub bounds-names-source : goal.bounds-names-source
 bounds-names-source g c = grind (arith, slot_at, seen_ascend)
@@ -28,18 +25,14 @@ loop-k-preserved g c =
     let line_of = source_line plan.names (extents_in plan) in
     let origins = c.sources-source-items.ensures.origins in
     let rest = flat_map line_of (drop (k + 1) plan.origins) in
-    let written : List (List ℕ) → List ℕ =
-    λ names. code_line o.slot (get_or names o.slot []) o.file o.index
-    (get_or c.args.starts.now k 0) (length o.code) o.added in
+    let written : List (List ℕ) → List ℕ = λ names. code_line o.slot (get_or names o.slot
+    []) o.file o.index (get_or c.args.starts.now k 0) (length o.code) o.added in
     let line : written c.names-names.result.now ≡ line_of o =
-    ap written c.names-names.ensures
-    ∙ line_at plan.names c.args.starts.now ss plan.origins k origins c.requires.starts
-    c.loop-k-test.true in
-    let left = items_left line_of plan.origins k o
-    (source_at ss plan.origins k origins c.loop-k-test.true) in
-    some_more _ _ _ c.loop-k.text _ _ _ _
-    (left ∙ ap (λ (bs : List ℕ). bs ++ rest) (sym line)) c.loop-k.invariant
-    c.add_segment.ensures
+    ap written c.names-names.ensures ∙ line_at
+    plan.names c.args.starts.now ss plan.origins k origins c.requires.starts c.loop-k-test.true in
+    let left =
+    items_left line_of plan.origins k o (source_at ss plan.origins k origins c.loop-k-test.true) in
+    some_more (left ∙ ap (λ bs. bs ++ rest) (sym line)) c.loop-k.invariant c.add_segment.ensures
 
 pub returns : goal.returns
 returns g c = grind (arith, length-map, all_written, items_over)

@@ -1,7 +1,5 @@
 use Rattle.std.proofs.Common.{drop}
-use Rattle.std.specs.List.{flat_map}
-use Rattle.ps_linkfile.specs.MapText.{source_line}
-use Rattle.ps_linkfile.specs.Writing.{extents_in}
+use Rattle.ps_linkfile.proofs.Words.{flat_map, source_line, extents_in}
 use Rattle.ps_linkfile.proofs.Written.{Written}
 use Rattle.ps_linkfile.proofs.map.add_segments.Given as goal
 

@@ -12,10 +12,9 @@ returns-in_err-in_memory-clause-error g c =
 
 pub returns-in_err-in_memory-clause-first : goal.returns-in_err-in_memory-clause-first
 returns-in_err-in_memory-clause-first g c =
-    let p = err_from_is_err_and c.from_residual-in_err-in_memory.result
-    c.from_residual-in_err-in_memory.ensures.1 in
-    rw (p.1, p.2) (c.first_of_all.ensures.read _ _
-    (reading_first _ _
+    let p = err_from_is_err_and
+    c.from_residual-in_err-in_memory.result c.from_residual-in_err-in_memory.ensures.1 in
+    rw (p.1, p.2) (c.first_of_all.ensures.read _ _ (reading_first _ _
     (none_found c.first_of_all.ensures.some _ _ c.in_ok-linked.ensures.accepted)))
 
 pub returns-clause-text : goal.returns-clause-text

@@ -1,6 +1,5 @@
 use Rattle.std.proofs.Common.{drop}
-use Rattle.std.specs.List.{enumerate_from, flat_map}
-use Rattle.ps_linkfile.specs.MapJson.{definition_item}
+use Rattle.ps_linkfile.proofs.Words.{enumerate_from, flat_map, definition_item}
 use Rattle.ps_linkfile.proofs.Written.{Written}
 use Rattle.ps_linkfile.proofs.map_json.add_definitions.Given as goal
 

@@ -1,25 +1,22 @@
 use Rattle.std.proofs.Common.{arith, refl}
-use Rattle.std.proofs.lemmas.List.{drop_more}
-use Rattle.ps_linkfile.specs.MapJson.{private_item}
+use Rattle.ps_linkfile.proofs.Words.{drop_more, private_item}
 use Rattle.ps_linkfile.proofs.Numbered.{numbered_left, numbered_over}
 use Rattle.ps_linkfile.proofs.Written.{all_stopped, all_written, none_yet, some_more}
 use Rattle.ps_linkfile.proofs.map_json.add_privates.Goals as goal
 
 pub loop-i-init : goal.loop-i-init
-loop-i-init g c = none_yet _ c.args.text.now _ _ refl
+loop-i-init g c = none_yet refl
 
 pub loop-i-preserved : goal.loop-i-preserved
 loop-i-preserved g c =
     let ps = c.args.privates.now in
-    some_more _ _ _ c.loop-i.text _ _ _ _
-    (numbered_left private_item ps c.loop-i.i _ (drop_more ps c.loop-i.i _ c.loop-i-test.true))
-    c.loop-i.invariant c.add_private.ensures
+    some_more (numbered_left private_item ps c.loop-i.i _
+    (drop_more ps c.loop-i.i _ c.loop-i-test.true)) c.loop-i.invariant c.add_private.ensures
 
 pub returns : goal.returns
-returns g c =
-    all_written _ _ _ c.loop-i.text _ (numbered_over private_item c.args.privates.now c.loop-i.i
+returns g c = all_written (numbered_over private_item c.args.privates.now c.loop-i.i
     (omega (arith, c.loop-i-test.false))) c.loop-i.invariant
 
 pub returns-then-has_failed : goal.returns-then-has_failed
-returns-then-has_failed g c = all_stopped _ _ _ c.loop-i.text _ c.loop-i.invariant
+returns-then-has_failed g c = all_stopped c.loop-i.invariant
     (c.has_failed.ensures c.if-has_failed.true _)

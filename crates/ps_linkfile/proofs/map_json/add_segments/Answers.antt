@@ -7,7 +7,7 @@ use Rattle.ps_linkfile.proofs.Written.{all_written, none_yet, some_more}
 use Rattle.ps_linkfile.proofs.map_json.add_segments.Goals as goal
 
 pub loop-k-init : goal.loop-k-init
-loop-k-init g c = none_yet _ c.args.text.now _ _ refl
+loop-k-init g c = none_yet refl
 
 pub bounds-names-source : goal.bounds-names-source
 bounds-names-source g c = grind (arith, slot_at, seen_ascend)

@@ -1,8 +1,7 @@
 use Rattle.std.proofs.Common.{◌≡◌, ◌≤◌, ◌+◌, ◌-◌, ◌++◌, ◌∙◌, ℕ}
 use Rattle.std.proofs.Common.{List, [], drop, take, length, get_or, ap, sym, arith}
-use Rattle.std.specs.List.{flat_map}
+use Rattle.ps_linkfile.proofs.Words.{flat_map, reference}
 use Rattle.std.proofs.Math.ListN.{drop_of_length-le}
-use Rattle.ps_linkfile.specs.ShowText.{reference}
 use Rattle.ps_linkfile.proofs.ReferenceText.{one_more}
 use Rattle.ps_linkfile.proofs.pieces.write_piece.Goals as goal
 
@@ -30,10 +29,10 @@ loop-step-preserved c =
       begins = omega (arith, inv.begins, written.begins);
       inside = omega (arith, inv.inside, written.before);
       text = written.text
-          ∙ (ap (λ (n : ℕ). reference n ++ old) c.get.ensures
-          ∙ (ap (λ (ys : List ℕ). reference (get_or refs i 0) ++ ys)
-          (inv.text ∙ ap (λ (n : ℕ). flat_map reference (take step (drop n refs)))
+          ∙ (ap (λ n. reference n ++ old) c.get.ensures
+          ∙ (ap (λ ys. reference (get_or refs i 0) ++ ys)
+          (inv.text ∙ ap (λ n. flat_map reference (take step (drop n refs)))
           (sym behind))
           ∙ (one_more refs i step (omega arith)
-          ∙ ap (λ (n : ℕ). flat_map reference (take (step + 1) (drop n refs))) next)));
+          ∙ ap (λ n. flat_map reference (take (step + 1) (drop n refs))) next)));
     }

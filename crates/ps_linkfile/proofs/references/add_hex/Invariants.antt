@@ -1,6 +1,5 @@
 use Rattle.std.proofs.Common.{drop}
-use Rattle.std.specs.List.{flat_map}
-use Rattle.ps_linkfile.specs.ReferencesText.{hex_byte}
+use Rattle.ps_linkfile.proofs.Words.{flat_map, hex_byte}
 use Rattle.ps_linkfile.proofs.Written.{Written}
 use Rattle.ps_linkfile.proofs.references.add_hex.Given as goal
 

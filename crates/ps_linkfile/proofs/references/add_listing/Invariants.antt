@@ -1,6 +1,5 @@
 use Rattle.std.proofs.Common.{drop}
-use Rattle.std.specs.List.{flat_map, enumerate_from}
-use Rattle.ps_linkfile.specs.ReferencesText.{listed_lines, place_line}
+use Rattle.ps_linkfile.proofs.Words.{flat_map, enumerate_from, listed_lines, place_line}
 use Rattle.ps_linkfile.proofs.Written.{Written}
 use Rattle.ps_linkfile.proofs.references.add_listing.Given as goal
 

@@ -1,6 +1,5 @@
 use Rattle.std.proofs.Common.{◌≡◌, drop}
-use Rattle.std.specs.List.{enumerate_from, flat_map}
-use Rattle.ps_linkfile.specs.ReferencesJson.{listed_items}
+use Rattle.ps_linkfile.proofs.Words.{enumerate_from, flat_map, listed_items}
 use Rattle.ps_linkfile.proofs.Written.{Written}
 use Rattle.ps_linkfile.proofs.references_json.add_listings.Given as goal
 

@@ -1,6 +1,5 @@
 use Rattle.std.proofs.Common.{◌-◌}
-use Rattle.std.specs.List.{flat_map, range_with_len}
-use Rattle.ps_codefile.specs.Dictionary.{slots}
+use Rattle.ps_linkfile.proofs.Words.{flat_map, range_with_len, slots}
 use Rattle.ps_linkfile.specs.ShowText.{links_lines}
 use Rattle.ps_linkfile.proofs.Written.{Written}
 use Rattle.ps_linkfile.proofs.show.add_all_links.Given as goal

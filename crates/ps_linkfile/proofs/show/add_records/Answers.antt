@@ -16,5 +16,5 @@ pub returns : goal.returns
 returns g c = grind (arith, all_written, item_lines)
 
 pub returns-then-has_failed : goal.returns-then-has_failed
-returns-then-has_failed g c = all_stopped _ _ _ c.loop-item.text _ c.loop-item.invariant.lines
+returns-then-has_failed g c = all_stopped c.loop-item.invariant.lines
     (c.has_failed.ensures c.if-has_failed.true _)

@@ -1,7 +1,6 @@
 use Rattle.std.proofs.Common.{◌≤◌, ◌+◌, ◌/◌, length}
-use Rattle.ps_linkinfo.specs.Records.{reading}
+use Rattle.ps_linkfile.proofs.Words.{reading, record_lines}
 use Rattle.ps_linkinfo.specs.Left.{items_left}
-use Rattle.ps_linkfile.specs.ShowText.{record_lines}
 use Rattle.ps_linkfile.proofs.Shows.{item_lines}
 use Rattle.ps_linkfile.proofs.Written.{Written}
 use Rattle.ps_linkfile.proofs.show.add_records.Given as goal

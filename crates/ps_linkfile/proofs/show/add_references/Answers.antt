@@ -1,26 +1,22 @@
 use Rattle.std.proofs.Common.{◌≡◌, ◌++◌, ◌+◌, ◌*◌, ◌∙◌, ℕ, List, drop}
 use Rattle.std.proofs.Common.{take, ap, arith, refl, sym}
-use Rattle.std.specs.List.{flat_map}
-use Rattle.ps_linkfile.specs.ShowText.{reference, references}
+use Rattle.ps_linkfile.proofs.Words.{flat_map, reference, PIECE_REFERENCES}
 use Rattle.ps_linkfile.proofs.InPieces.{one_piece}
 use Rattle.ps_linkfile.proofs.Written.{none_yet, some_more}
-use Rattle.ps_linkfile.specs.declared.pieces.TheConstants.{PIECE_REFERENCES}
 use Rattle.ps_linkfile.proofs.show.add_references.Goals as goal
 
 pub loop-index-init : goal.loop-index-init
 loop-index-init g c =
     let refs : List ℕ = c.args.refs.now in
-    some_more _ _ _ c.args.text.now _ _ (references refs) (flat_map reference refs) refl
-    (none_yet _ c.args.text.now (references refs) (references refs) refl) c.add.ensures
+    some_more refl (none_yet refl) c.add.ensures
 
 pub loop-index-preserved : goal.loop-index-preserved
 loop-index-preserved g c =
     let refs : List ℕ = c.args.refs.now in
     let i : ℕ = c.loop-index.index in
-    let next : PIECE_REFERENCES * (i + 1) ≡ PIECE_REFERENCES * i + PIECE_REFERENCES = omega arith
-    in
-    let split = ap (λ (n : ℕ). flat_map reference
-    (take PIECE_REFERENCES (drop (PIECE_REFERENCES * i) refs))
-    ++ flat_map reference (drop n refs)) next
+    let next : PIECE_REFERENCES * (i + 1) ≡ PIECE_REFERENCES * i + PIECE_REFERENCES =
+    omega arith in
+    let split = ap (λ n. flat_map reference (take PIECE_REFERENCES
+    (drop (PIECE_REFERENCES * i) refs)) ++ flat_map reference (drop n refs)) next
     ∙ one_piece reference refs (PIECE_REFERENCES * i) PIECE_REFERENCES in
-    some_more _ _ _ c.loop-index.text _ _ _ _ (sym split) c.loop-index.invariant c.add_piece.ensures
+    some_more (sym split) c.loop-index.invariant c.add_piece.ensures

@@ -1,8 +1,6 @@
 use Rattle.std.proofs.Common.{◌*◌, ℕ, List, drop}
-use Rattle.std.specs.List.{flat_map}
-use Rattle.ps_linkfile.specs.ShowText.{reference, references}
+use Rattle.ps_linkfile.proofs.Words.{flat_map, reference, references, PIECE_REFERENCES}
 use Rattle.ps_linkfile.proofs.Written.{Written}
-use Rattle.ps_linkfile.specs.declared.pieces.TheConstants.{PIECE_REFERENCES}
 use Rattle.ps_linkfile.proofs.show.add_references.Given as goal
 
 -- the references that are left are still to be written

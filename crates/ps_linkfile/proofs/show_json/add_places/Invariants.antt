@@ -1,6 +1,5 @@
 use Rattle.std.proofs.Common.{ℕ, List, drop}
-use Rattle.std.specs.List.{enumerate_from, flat_map}
-use Rattle.ps_linkfile.specs.ShowJson.{reference_item}
+use Rattle.ps_linkfile.proofs.Words.{enumerate_from, flat_map, reference_item}
 use Rattle.ps_linkfile.proofs.Written.{Written}
 use Rattle.ps_linkfile.proofs.show_json.add_places.Given as goal
 

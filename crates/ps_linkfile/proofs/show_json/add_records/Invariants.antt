@@ -1,7 +1,6 @@
 use Rattle.std.proofs.Common.{◌≤◌, ◌+◌, ◌/◌, length}
-use Rattle.ps_linkinfo.specs.Records.{reading}
+use Rattle.ps_linkfile.proofs.Words.{reading, record_items}
 use Rattle.ps_linkinfo.specs.Left.{items_left}
-use Rattle.ps_linkfile.specs.ShowJson.{record_items}
 use Rattle.ps_linkfile.proofs.ShowsJson.{walk_items}
 use Rattle.ps_linkfile.proofs.Written.{Written}
 use Rattle.ps_linkfile.proofs.show_json.add_records.Given as goal

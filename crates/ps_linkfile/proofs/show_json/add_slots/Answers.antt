@@ -4,16 +4,13 @@ use Rattle.ps_linkfile.proofs.Written.{none_yet, some_more, all_written, slots_l
 use Rattle.ps_linkfile.proofs.show_json.add_slots.Goals as goal
 
 pub loop-slot-init : goal.loop-slot-init
-loop-slot-init g c = none_yet _ c.args.text.now _ _ refl
+loop-slot-init g c = none_yet refl
 
 pub loop-slot-preserved : goal.loop-slot-preserved
 loop-slot-preserved g c =
-    some_more _ _ _ c.loop-slot.text _ _ _ _
-    (slots_left (slot_item c.args.dict.now.order c.args.dict.now.file) c.loop-slot.slot 16
-    c.loop-slot-test.true) c.loop-slot.invariant c.add_slot.ensures
+    some_more (slots_left (slot_item c.args.dict.now.order c.args.dict.now.file)
+    c.loop-slot.slot 16 c.loop-slot-test.true) c.loop-slot.invariant c.add_slot.ensures
 
 pub returns : goal.returns
-returns g c =
-    all_written _ _ _ c.loop-slot.text _
-    (slots_over (slot_item c.args.dict.now.order c.args.dict.now.file) c.loop-slot.slot 16
-    c.loop-slot-test.false) c.loop-slot.invariant
+returns g c = all_written (slots_over (slot_item c.args.dict.now.order c.args.dict.now.file)
+    c.loop-slot.slot 16 c.loop-slot-test.false) c.loop-slot.invariant

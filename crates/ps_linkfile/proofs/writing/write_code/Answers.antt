@@ -1,11 +1,6 @@
 use Rattle.std.proofs.Common.{◌≡◌, ◌∙◌, ◌*◌, ◌+◌, ◌++◌, ◌-◌, ◌<◌}
-use Rattle.std.proofs.Common.{ℕ, List, length, map, ap, subst, refl, sym, arith, get_or}
-use Rattle.std.specs.Prelude.{min}
-use Rattle.std.specs.List.{range_with_len}
-use Rattle.std.specs.Io.KnownBytes.{Appends}
-use Rattle.ps_linkfile.specs.Outcomes.{AppendsPrefix}
-use Rattle.ps_words.specs.Words.{blocks}
-use Rattle.ps_patch.specs.Patched.{patched_or_zero}
+use Rattle.std.proofs.Common.{ℕ, length, map, ap, refl, sym, arith, get_or}
+use Rattle.ps_linkfile.proofs.Words.{min, range_with_len, blocks, patched_or_zero}
 use Rattle.ps_patch.specs.Patcher.{Patching}
 use Rattle.ps_linkfile.proofs.Prefixes.{appends_twice, image_is, image_split, prefix_more}
 use Rattle.ps_linkfile.proofs.Prefixes.{on_err_always}
@@ -20,19 +15,16 @@ loop-patcher-preserved g c =
     let task : ℕ → Patching = λ m. record
     { order = c.args.order; code = c.args.code.now; edits = c.args.edits.now; position = m } in
     let some : c.fill.result ≡ min 512 (n - min (512 * at) n) =
-    subst (λ (t : Patching). c.fill.result ≡ min 512 (length t.code - t.position)) inv.is
-    c.fill.ensures.count in
+    rw inv.is at c.fill.ensures.count in
     let below : 512 * at < n = omega (arith, some, c.loop-patcher-test.true) in
     let here : min (512 * at) n ≡ 512 * at = omega (arith, below) in
     let is : c.loop-patcher.patcher ≡ task (512 * at) = inv.is ∙ ap task here in
     let bytes : (k : ℕ) → k < 512 → get_or c.fill.new.block k 0 ≡ f (512 * at + k) =
     λ k lt.
-    subst (λ (t : Patching). get_or c.fill.new.block k 0
-    ≡ patched_or_zero t.order t.code t.edits (t.position + k)) is (c.fill.ensures.block k lt)
+    rw is at (c.fill.ensures.block k lt)
     in
     let moved : c.fill.new.self ≡ task (512 * at + c.fill.result) =
-    subst (λ (t : Patching). c.fill.new.self
-    ≡ record t { position = t.position + c.fill.result }) is c.fill.ensures.moves in
+    rw is at c.fill.ensures.moves in
     let next : 512 * at + c.fill.result ≡ min (512 * (at + 1)) n = omega (arith, some, below) in
     let block = image_is f (512 * at) 512 c.fill.new.block (omega arith) bytes in (
       at + 1,
@@ -42,9 +34,7 @@ loop-patcher-preserved g c =
         written = rw (image_split f 0 (512 * at) 512 (512 * (at + 1)) (512 * at) (omega arith)
             (omega arith))
             (appends_twice _ _ _ _ _ inv.written
-            (subst (λ (xs : List ℕ). Appends (g.W.Write.contents c.loop-patcher.out)
-            (g.W.Write.contents c.write_all_of.new.out) xs) block
-            c.in_ok-write_all_of.ensures.all));
+            (rw block at c.in_ok-write_all_of.ensures.all));
         rises = rises_then _ _ _ (512 * at) at (length c.fill.new.block)
             (min 1 (length c.fill.new.block)) (512 * (at + 1))
             (at + 1) inv.rises c.write_all_of.ensures.writes (omega arith) (omega arith);
@@ -60,26 +50,18 @@ returns-in_err-write_all_of-clause-prefix g c =
     let task : ℕ → Patching = λ m. record
     { order = c.args.order; code = c.args.code.now; edits = c.args.edits.now; position = m } in
     let some : c.fill.result ≡ min 512 (n - min (512 * at) n) =
-    subst (λ (t : Patching). c.fill.result ≡ min 512 (length t.code - t.position)) inv.is
-    c.fill.ensures.count in
+    rw inv.is at c.fill.ensures.count in
     let below : 512 * at < n = omega (arith, some, c.loop-patcher-test.true) in
     let here : min (512 * at) n ≡ 512 * at = omega (arith, below) in
     let is : c.loop-patcher.patcher ≡ task (512 * at) = inv.is ∙ ap task here in
     let bytes : (k : ℕ) → k < 512 → get_or c.fill.new.block k 0 ≡ f (512 * at + k) =
-    λ k lt.
-    subst (λ (t : Patching). get_or c.fill.new.block k 0
-    ≡ patched_or_zero t.order t.code t.edits (t.position + k)) is (c.fill.ensures.block k lt)
-    in
+    λ k lt. rw is at (c.fill.ensures.block k lt) in
     let block = image_is f (512 * at) 512 c.fill.new.block (omega arith) bytes in
     let whole = 512 * blocks n in
     let rest = map f (range_with_len (512 * at + 512) (whole - (512 * at + 512))) in
-    on_err_always c.from_residual.result
-    (prefix_more _ _ _ (map f (range_with_len 0 (512 * at)))
-    (map f (range_with_len (512 * at) 512)) rest _
-    (ap (λ us. map f (range_with_len 0 (512 * at)) ++ us)
-    (sym (image_split f (512 * at) 512 (whole - (512 * at + 512)) (whole - 512 * at)
-    (512 * at + 512) (omega (arith, below)) refl))
-    ∙ sym (image_split f 0 (512 * at) (whole - 512 * at) whole (512 * at) (omega (arith, below))
-    (omega arith)))
-    inv.written (subst (λ (xs : List ℕ). AppendsPrefix (g.W.Write.contents c.loop-patcher.out)
-    (g.W.Write.contents c.write_all_of.new.out) xs) block c.in_err-write_all_of.ensures.prefix))
+    on_err_always c.from_residual.result (prefix_more _ _ _ (map f (range_with_len 0 (512 * at)))
+    (map f (range_with_len (512 * at) 512)) rest _ (ap (λ us. map f (range_with_len 0 (512 * at))
+    ++ us) (sym (image_split f (512 * at) 512 (whole - (512 * at + 512)) (whole - 512 * at)
+    (512 * at + 512) (omega (arith, below)) refl)) ∙ sym (image_split f 0 (512 * at)
+    (whole - 512 * at) whole (512 * at) (omega (arith, below)) (omega arith))) inv.written
+    (rw block at c.in_err-write_all_of.ensures.prefix))

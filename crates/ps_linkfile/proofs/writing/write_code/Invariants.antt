@@ -1,10 +1,6 @@
 use Rattle.std.proofs.Common.{◌≡◌, ◌≤◌, ◌*◌, ◌-◌, ℕ, length, map}
-use Rattle.std.specs.Prelude.{min}
-use Rattle.std.specs.List.{range_with_len}
-use Rattle.std.specs.Io.KnownBytes.{Appends}
-use Rattle.ps_words.specs.Words.{blocks}
-use Rattle.ps_patch.specs.Patched.{patched_or_zero}
-use Rattle.ps_linkfile.specs.Counts.{NoneFailed, Rises}
+use Rattle.ps_linkfile.proofs.Words.{min, range_with_len, Appends, blocks, patched_or_zero}
+use Rattle.ps_linkfile.proofs.Words.{NoneFailed, Rises}
 use Rattle.ps_linkfile.proofs.writing.write_code.Given as goal
 
 -- so many blocks were appended, and the patcher is after them

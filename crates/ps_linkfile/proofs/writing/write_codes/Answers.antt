@@ -1,13 +1,6 @@
-use Rattle.std.proofs.Common.{◌≡◌, ◌∙◌, ◌+◌, List, [], ◌++◌, ap, arith, get_or}
-use Rattle.std.proofs.Common.{length, refl, subst, sym}
-use Rattle.std.proofs.lemmas.List.{drop_all, length-map}
-use Rattle.std.proofs.lemmas.Result.{err_from_is_err_and}
-use Rattle.std.specs.Io.KnownBytes.{Appends}
-use Rattle.ps_words.specs.Words.{blocks}
-use Rattle.ps_words.specs.declared.order.Order.{Order}
-use Rattle.ps_resolve.specs.Plans.{Origin, origin_of_source}
-use Rattle.ps_linkfile.specs.LinkedFile.{padded_code}
-use Rattle.ps_linkfile.specs.Outcomes.{AppendsPrefix}
+use Rattle.std.proofs.Common.{◌+◌, ◌++◌, arith, get_or, length}
+use Rattle.ps_linkfile.proofs.Words.{drop_all, length-map, err_from_is_err_and, blocks}
+use Rattle.ps_linkfile.proofs.Words.{origin_of_source, padded_code}
 use Rattle.ps_linkfile.proofs.Prefixes.{appends_none, on_err_always}
 use Rattle.ps_linkfile.proofs.Codes.{edits_here, codes_more, codes_prefix}
 use Rattle.ps_linkfile.proofs.Views.{no_source, is_at}
@@ -16,66 +9,39 @@ use Rattle.ps_linkfile.proofs.Rising.{blocks_stop, one_after}
 use Rattle.ps_linkfile.proofs.writing.write_codes.Goals as goal
 
 pub loop-k-init : goal.loop-k-init
-loop-k-init g c = record {
-  codes = (
-    [],
-    record {
-      left = c.requires.edits;
-      joined = refl;
-      written =
-          appends_none (g.W.Write.contents c.args.out.now);
-    },
-  );
-  counts = (
-    0,
-    blocks_none c.args.plan.now.origins
-        (g.T.WriteCounter.counts c.args.counter.now c.args.out.now),
-  );
-}
+loop-k-init g c = grind (arith, appends_none, blocks_none)
 
 pub write_code-requires-clause-edits : goal.write_code-requires-clause-edits
-write_code-requires-clause-edits g c =
-    let ss = c.sources-source-items.result.now in
-    let k = c.loop-k.k in
-    let o = origin_of_source (get_or ss k no_source) in
-    let at = is_at ss c.args.plan.now.origins c.args.plan.now.edits k c.edits.result.now
-    c.sources-source-items.ensures.origins c.loop-k-test.true c.edits.ensures in
-    (edits_here c.args.plan.now.origins c.args.plan.now.edits k o c.edits.result.now at
-    c.loop-k.invariant.codes.1.left).0
+write_code-requires-clause-edits g c = grind (arith, no_source, is_at, edits_here)
 
 pub returns-in_err-write_code-clause-prefix : goal.returns-in_err-write_code-clause-prefix
 returns-in_err-write_code-clause-prefix g c =
     let ss = c.sources-source-items.result.now in
     let k = c.loop-k.k in
     let o = origin_of_source (get_or ss k no_source) in
-    let at = is_at ss c.args.plan.now.origins c.args.plan.now.edits k c.edits.result.now
-    c.sources-source-items.ensures.origins c.loop-k-test.true c.edits.ensures in
-    on_err_always c.from_residual.result
-    (codes_prefix c.args.plan.now.order c.args.plan.now.origins c.args.plan.now.edits k _ _ _
-    c.loop-k.invariant.codes.0 o c.edits.result.now at c.loop-k.invariant.codes.1
-    (subst (λ (order : Order). AppendsPrefix (g.W.Write.contents c.loop-k.out)
-    (g.W.Write.contents c.write_code.new.out) (padded_code order o.code c.edits.result.now))
-    c.order.ensures c.in_err-write_code.ensures.prefix))
+    let at = is_at ss c.args.plan.now.origins c.args.plan.now.edits k
+    c.edits.result.now c.sources-source-items.ensures.origins c.loop-k-test.true c.edits.ensures in
+    on_err_always c.from_residual.result (codes_prefix c.args.plan.now.order c.args.plan.now.origins
+    c.args.plan.now.edits k _ _ _ c.loop-k.invariant.codes.0 o c.edits.result.now
+    at c.loop-k.invariant.codes.1 (rw c.order.ensures at c.in_err-write_code.ensures.prefix))
 
 pub write_code-requires-clause-room : goal.write_code-requires-clause-room
 write_code-requires-clause-room g c =
     let ss = c.sources-source-items.result.now in
     let k = c.loop-k.k in
-    let at = is_at ss c.args.plan.now.origins c.args.plan.now.edits k c.edits.result.now
-    c.sources-source-items.ensures.origins c.loop-k-test.true c.edits.ensures in
-    blocks_room c.args.plan.now.origins k c.loop-k.invariant.counts.0
-    (origin_of_source (get_or ss k no_source)) _ _ at.origin c.loop-k.invariant.counts.1
-    c.requires.room
+    let at = is_at ss c.args.plan.now.origins c.args.plan.now.edits k
+    c.edits.result.now c.sources-source-items.ensures.origins c.loop-k-test.true c.edits.ensures in
+    blocks_room c.args.plan.now.origins k c.loop-k.invariant.counts.0 (origin_of_source
+    (get_or ss k no_source)) _ _ at.origin c.loop-k.invariant.counts.1 c.requires.room
 
 pub returns-in_err-write_code-clause-writes : goal.returns-in_err-write_code-clause-writes
 returns-in_err-write_code-clause-writes g c =
     let ss = c.sources-source-items.result.now in
     let k = c.loop-k.k in
-    let at = is_at ss c.args.plan.now.origins c.args.plan.now.edits k c.edits.result.now
-    c.sources-source-items.ensures.origins c.loop-k-test.true c.edits.ensures in
-    blocks_stop c.args.plan.now.origins k c.loop-k.invariant.counts.0
-    (origin_of_source (get_or ss k no_source)) _ _ _ at.origin c.loop-k.invariant.counts.1
-    c.write_code.ensures.writes
+    let at = is_at ss c.args.plan.now.origins c.args.plan.now.edits k
+    c.edits.result.now c.sources-source-items.ensures.origins c.loop-k-test.true c.edits.ensures in
+    blocks_stop c.args.plan.now.origins k c.loop-k.invariant.counts.0 (origin_of_source
+    (get_or ss k no_source)) _ _ _ at.origin c.loop-k.invariant.counts.1 c.write_code.ensures.writes
 
 pub returns-in_err-write_code-clause-failed : goal.returns-in_err-write_code-clause-failed
 returns-in_err-write_code-clause-failed g c =
@@ -84,15 +50,7 @@ returns-in_err-write_code-clause-failed g c =
     c.in_err-write_code.ensures.failed)
 
 pub returns-clause-writes : goal.returns-clause-writes
-returns-clause-writes g c =
-    let ss = c.sources-source-items.result.now in
-    let os = c.args.plan.now.origins in
-    let long : length os ≡ length ss =
-    ap (λ (ps : List Origin). length ps) (sym c.sources-source-items.ensures.origins)
-    ∙ length-map ss origin_of_source in
-    blocks_done os c.loop-k.k c.loop-k.invariant.counts.0 _ _
-    (drop_all c.loop-k.k os (omega (arith, long, c.loop-k-test.false)))
-    c.loop-k.invariant.counts.1
+returns-clause-writes g c = grind (arith, length-map, blocks_done, drop_all)
 
 pub loop-k-preserved : goal.loop-k-preserved
 loop-k-preserved g c =
@@ -105,9 +63,7 @@ loop-k-preserved g c =
     let (n, counts) = c.loop-k.invariant.counts in
     let at = is_at ss os c.args.plan.now.edits k c.edits.result.now
     c.sources-source-items.ensures.origins c.loop-k-test.true c.edits.ensures in
-    let appended = subst (λ (order : Order). Appends (g.W.Write.contents c.loop-k.out)
-    (g.W.Write.contents c.write_code.new.out) (padded_code order o.code c.edits.result.now))
-    c.order.ensures c.in_ok-write_code.ensures.all in
+    let appended = rw c.order.ensures at c.in_ok-write_code.ensures.all in
     record {
       codes = (
         prefix ++ padded_code order o.code c.edits.result.now,

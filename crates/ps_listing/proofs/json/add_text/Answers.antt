@@ -5,18 +5,14 @@ use Rattle.ps_linkfile.proofs.Written.{all_written, items_left, items_over, none
 use Rattle.ps_listing.proofs.json.add_text.Goals as goal
 
 pub loop-byte-init : goal.loop-byte-init
-loop-byte-init g c = none_yet _ c.args.text.now _ _ refl
+loop-byte-init g c = none_yet refl
 
 pub loop-byte-preserved : goal.loop-byte-preserved
 loop-byte-preserved g c =
     let bs = c.args.bytes.now in
-    some_more _ _ _ c.loop-byte.text _ _ _ _
-    (items_left text_byte bs c.loop-byte.byte-index _
-    (drop_more bs c.loop-byte.byte-index _ c.loop-byte-test.true)) c.loop-byte.invariant
-    c.add_text_byte.ensures
+    some_more (items_left text_byte bs c.loop-byte.byte-index _ (drop_more bs
+    c.loop-byte.byte-index _ c.loop-byte-test.true)) c.loop-byte.invariant c.add_text_byte.ensures
 
 pub returns : goal.returns
-returns g c =
-    all_written _ _ _ c.loop-byte.text _
-    (items_over text_byte c.args.bytes.now c.loop-byte.byte-index
+returns g c = all_written (items_over text_byte c.args.bytes.now c.loop-byte.byte-index
     (omega (arith, c.loop-byte-test.false))) c.loop-byte.invariant

@@ -2,17 +2,11 @@ use Rattle.std.proofs.Common.{ap, sym}
 use Rattle.std.specs.Prelude.{Result}
 use Rattle.ps_words.specs.declared.fault.Reason.{Reason}
 use Rattle.ps_codefile.specs.Dictionary.{OpenedFile}
-use Rattle.ps_linkfile.proofs.Written.{adds_is, adds_then}
+use Rattle.ps_linkfile.proofs.Written.{adds_is, ◌⨾◌}
 use Rattle.ps_listing.specs.ListText.{lines_of}
 use Rattle.ps_listing.proofs.listed_file.add_lines.Goals as goal
 
 pub returns-in-Err : goal.returns-in-Err
-returns-in-Err g c =
-    let sized = adds_then _ _ _ _ _ _
-    (adds_then _ _ _ _ _ _ c.add_path.ensures c.add_number.ensures) c.add.ensures in
-    let refused = adds_then _ _ _ _ _ _ (adds_then _ _ _ _ _ _ sized c.add_phrase.ensures)
-    c.add_refusal.ensures in
-    let all = adds_then _ _ _ _ _ _ refused c.add-in-Err.ensures in
-    adds_is _ _ _ _ _ (ap
-    (λ (r : Result OpenedFile Reason). lines_of c.args.path.now c.args.phrase.now c.args.size
-    r) (sym c.in-Err.is)) all
+returns-in-Err g c = adds_is (ap (λ (r : Result OpenedFile Reason). lines_of c.args.path.now
+    c.args.phrase.now c.args.size r) (sym c.in-Err.is)) (c.add_path.ensures ⨾ c.add_number.ensures
+    ⨾ c.add.ensures ⨾ c.add_phrase.ensures ⨾ c.add_refusal.ensures ⨾ c.add-in-Err.ensures)

@@ -15,7 +15,7 @@ returns-in-Err g c =
     let dict = c.args.dict.now in
     let uses = flat_map used_words (records_of dict.order dict.file
     (entry_at dict.order dict.file c.args.slot) (needs_linking c.args.role)) in
-    adds_is _ _ _ _ _ (ap (λ (o : Option Fault). refused_or uses o) c.in-Err.ensures.fault)
+    adds_is (ap (λ (o : Option Fault). refused_or uses o) c.in-Err.ensures.fault)
     c.add_refusal.ensures
 
 pub returns-in-Ok : goal.returns-in-Ok
@@ -24,5 +24,5 @@ returns-in-Ok g c =
     let dict = c.args.dict.now in
     let uses = flat_map used_words (records_of dict.order dict.file
     (entry_at dict.order dict.file c.args.slot) (needs_linking c.args.role)) in
-    adds_is _ _ _ _ _ (ap (λ (rs : List Record). flat_map used_words rs) c.in-Ok.ensures.records
+    adds_is (ap (λ (rs : List Record). flat_map used_words rs) c.in-Ok.ensures.records
     ∙ ap (λ (o : Option Fault). refused_or uses o) c.in-Ok.ensures.fault) c.add_uses.ensures

@@ -10,6 +10,5 @@ pub returns : goal.returns
 unfolding slot_line
 returns g c =
     let dict = c.args.dict.now in
-    adds_is _ _ _ _ _ (ap
-    (λ (r : Result Role Reason). role_line c.args.path.now dict.order dict.file c.args.slot r)
-    c.role.ensures) c.add_role_line.ensures
+    adds_is (ap (λ (r : Result Role Reason). role_line
+    c.args.path.now dict.order dict.file c.args.slot r) c.role.ensures) c.add_role_line.ensures

@@ -14,7 +14,7 @@ returns-in-Err g c =
     let dict = c.args.dict.now in
     let uses = uses_member (records_of dict.order dict.file
     (entry_at dict.order dict.file c.args.slot) (needs_linking c.args.role)) in
-    adds_is _ _ _ _ _ (ap (λ (o : Option Fault). fault_or uses o) c.in-Err.ensures.fault)
+    adds_is (ap (λ (o : Option Fault). fault_or uses o) c.in-Err.ensures.fault)
     c.add_fault_members.ensures
 
 pub returns-in-Ok : goal.returns-in-Ok
@@ -23,6 +23,5 @@ returns-in-Ok g c =
     let dict = c.args.dict.now in
     let uses = uses_member (records_of dict.order dict.file
     (entry_at dict.order dict.file c.args.slot) (needs_linking c.args.role)) in
-    adds_is _ _ _ _ _ (ap (λ (rs : List Record). uses_member rs) c.in-Ok.ensures.records
-    ∙ ap (λ (o : Option Fault). fault_or uses o) c.in-Ok.ensures.fault)
-    c.add_uses_member.ensures
+    adds_is (ap (λ (rs : List Record). uses_member rs) c.in-Ok.ensures.records
+    ∙ ap (λ (o : Option Fault). fault_or uses o) c.in-Ok.ensures.fault) c.add_uses_member.ensures

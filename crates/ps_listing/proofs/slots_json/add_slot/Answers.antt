@@ -11,9 +11,8 @@ pub returns-clause-item : goal.returns-clause-item
 unfolding slot_item
 returns-clause-item g c =
     let dict = c.args.dict.now in
-    adds_is _ _ _ _ _ (ap
-    (λ (r : Result Role Reason). role_item c.args.first dict.order dict.file c.args.slot r)
-    c.role.ensures) c.add_role_item.ensures
+    adds_is (ap (λ (r : Result Role Reason). role_item
+    c.args.first dict.order dict.file c.args.slot r) c.role.ensures) c.add_role_item.ensures
 
 pub returns-clause-first : goal.returns-clause-first
 unfolding is_first_after_slot

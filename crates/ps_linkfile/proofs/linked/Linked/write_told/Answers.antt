@@ -1,19 +1,11 @@
-use Rattle.std.proofs.Common.{◌≡◌, subst}
-use Rattle.std.proofs.lemmas.Result.{err_from_is_err_and}
-use Rattle.ps_resolve.specs.Plans.{Planned}
-use Rattle.ps_linkfile.specs.Writing.{file_in}
-use Rattle.ps_linkfile.specs.Outcomes.{AppendsPrefix}
+use Rattle.std.proofs.Common.{arith}
+use Rattle.ps_linkfile.proofs.Words.{err_from_is_err_and}
 use Rattle.ps_linkfile.proofs.Prefixes.{on_err_always}
 use Rattle.ps_linkfile.proofs.Rising.{if_device, if_stalled}
 use Rattle.ps_linkfile.proofs.linked.Linked.write_told.Goals as goal
 
 pub returns-in_err-write_file-clause-prefix : goal.returns-in_err-write_file-clause-prefix
-returns-in_err-write_file-clause-prefix g c =
-    let same : c.self.inside.plan ≡ c.args.self.now = cc (c.self.view_is) in
-    on_err_always c.from_residual.result
-    (subst (λ (p : Planned). AppendsPrefix (g.W.Write.contents c.args.out.now)
-    (g.W.Write.contents c.write_file.new.out) (file_in p)) same
-    c.in_err-write_file.ensures.prefix)
+returns-in_err-write_file-clause-prefix g c = grind (arith, on_err_always)
 
 pub returns-in_err-write_file-clause-device : goal.returns-in_err-write_file-clause-device
 returns-in_err-write_file-clause-device g c =

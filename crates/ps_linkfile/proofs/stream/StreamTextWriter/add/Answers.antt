@@ -1,21 +1,11 @@
-use Rattle.std.proofs.Common.{◌≡◌, true, false, rules}
+use Rattle.std.proofs.Common.{arith, ◌≡◌, false, rules}
 use Rattle.std.specs.Prelude.{is_some}
 use Rattle.ps_linkfile.proofs.Sending.{noted_fault, noted_more, sent_more, sent_no_more}
 use Rattle.ps_linkfile.proofs.Sending.{sent_prefix}
 use Rattle.ps_linkfile.proofs.stream.StreamTextWriter.add.Goals as goal
 
 pub returns-then-is_some : goal.returns-then-is_some
-returns-then-is_some g c =
-    let failed : is_some c.args.self.now.fault ≡ true = search rules in
-    record {
-      after = λ first before h. (
-        h.0,
-        h.1,
-        sent_no_more _ _ before c.args.self.now.gathered.items c.args.bytes.now
-            c.args.self.now.fault failed h.2,
-        h.3,
-      );
-    }
+returns-then-is_some g c = grind (arith, sent_no_more)
 
 pub returns-in-Err : goal.returns-in-Err
 returns-in-Err g c =
@@ -31,14 +21,4 @@ returns-in-Err g c =
     }
 
 pub returns-in-Ok : goal.returns-in-Ok
-returns-in-Ok g c =
-    let none : is_some c.args.self.now.fault ≡ false = search rules in
-    record {
-      after = λ first before h. (
-        h.0,
-        h.1,
-        sent_more _ _ _ before c.args.self.now.gathered.items c.args.bytes.now
-            c.gather.new.gathered.items c.args.self.now.fault none h.2 c.in-Ok.ensures.sent,
-        noted_more _ _ _ c.args.self.now.fault none h.3 c.in-Ok.ensures.ok,
-      );
-    }
+returns-in-Ok g c = grind (arith, sent_more, noted_more)

@@ -10,5 +10,5 @@ pub returns : goal.returns
 unfolding list_json_of
 returns g c =
     let item = c.args.self.now in
-    adds_is _ _ _ _ _ (ap (λ (r : Result OpenedFile Reason). item_of item.path.now item.phrase.now
+    adds_is (ap (λ (r : Result OpenedFile Reason). item_of item.path.now item.phrase.now
     (length item.file.now) r) c.open.ensures) c.add_item.ensures

@@ -10,6 +10,5 @@ pub returns : goal.returns
 unfolding list_of
 returns g c =
     let listed = c.args.self.now in
-    adds_is _ _ _ _ _ (ap
-    (λ (r : Result OpenedFile Reason). lines_of listed.path.now listed.phrase.now
+    adds_is (ap (λ (r : Result OpenedFile Reason). lines_of listed.path.now listed.phrase.now
     (length listed.file.now) r) c.open.ensures) c.add_lines.ensures

@@ -1,0 +1,62 @@
+-- The words that several proofs use, each with its home.
+pub use Rattle.ps_codefile.specs.Dictionary.{FileOrder, OpenedFile, Ordered, code_of, entry_at}
+pub use Rattle.ps_codefile.specs.Dictionary.{file_order, information_of, opened_as, slots}
+pub use Rattle.ps_codefile.specs.declared.code_layout.TheConstants.{MAX_CODE_LEN}
+pub use Rattle.ps_codefile.specs.declared.entry.Entry.{Entry}
+pub use Rattle.ps_linkfile.specs.Counts.{NoneFailed, Rises}
+pub use Rattle.ps_linkfile.specs.Failures.{failures_with}
+pub use Rattle.ps_linkfile.specs.JsonText.{json_byte}
+pub use Rattle.ps_linkfile.specs.Lines.{field, line, shown_name, two_digits}
+pub use Rattle.ps_linkfile.specs.LinkedFile.{Extent, LinkedFile, all_blocks, block_of, extents}
+pub use Rattle.ps_linkfile.specs.LinkedFile.{linked_file, linked_segments, padded_code}
+pub use Rattle.ps_linkfile.specs.LinkedFile.{padded_segment, pair_of}
+pub use Rattle.ps_linkfile.specs.MapJson.{definition_item, members_in, private_item, source_item}
+pub use Rattle.ps_linkfile.specs.MapText.{code_line, definition_line, private_line, source_line}
+pub use Rattle.ps_linkfile.specs.Outcomes.{AppendsPrefix}
+pub use Rattle.ps_linkfile.specs.ReferencesJson.{listed_items, place_item, references_json}
+pub use Rattle.ps_linkfile.specs.ReferencesText.{Listed, hex_byte, listed_in, listed_lines}
+pub use Rattle.ps_linkfile.specs.ReferencesText.{place_line, segment_references}
+pub use Rattle.ps_linkfile.specs.ShowJson.{record_items, reference_item}
+pub use Rattle.ps_linkfile.specs.ShowText.{order_shown, record_lines, reference, references}
+pub use Rattle.ps_linkfile.specs.Writing.{Ascend, HaveEdits, extent_of_origin, extents_in, file_in}
+pub use Rattle.ps_linkfile.specs.Writing.{padded_codes, starts_of}
+pub use Rattle.ps_linkfile.specs.declared.cause.Cause.{Cause}
+pub use Rattle.ps_linkfile.specs.declared.counts.Counts.{Counts}
+pub use Rattle.ps_linkfile.specs.declared.error.WriteFault.{WriteFault}
+pub use Rattle.ps_linkfile.specs.declared.failures.Failures.{Failures}
+pub use Rattle.ps_linkfile.specs.declared.pieces.TheConstants.{PIECE_REFERENCES}
+pub use Rattle.ps_linkinfo.specs.Left.{items_of}
+pub use Rattle.ps_linkinfo.specs.RecordCounts.{next_of}
+pub use Rattle.ps_linkinfo.specs.Records.{reading}
+pub use Rattle.ps_linkinfo.specs.declared.record.LinkRecord.{LinkRecord as Record}
+pub use Rattle.ps_patch.specs.Patched.{patched_or_zero}
+pub use Rattle.ps_resolve.specs.Linking.{Edited, edited_from, edited_segments, known_of}
+pub use Rattle.ps_resolve.specs.Plans.{IsPlan, LinkSegments, Origin, Planned, origin_of}
+pub use Rattle.ps_resolve.specs.Plans.{origin_of_source}
+pub use Rattle.ps_resolve.specs.Privates.{private_words, total_words}
+pub use Rattle.ps_resolve.specs.References.{Known}
+pub use Rattle.ps_resolve.specs.Sources.{Segment, host_records, known_order, order_of}
+pub use Rattle.ps_resolve.specs.Views.{segment_of}
+pub use Rattle.ps_resolve.specs.declared.plan.Source.{Source}
+pub use Rattle.ps_words.specs.Edits.{patched_byte}
+pub use Rattle.ps_words.specs.FaultPlaces.{in_file}
+pub use Rattle.ps_words.specs.Words.{blocks, word_bytes}
+pub use Rattle.ps_words.specs.declared.edit.Edit.{Edit}
+pub use Rattle.ps_words.specs.declared.fault.Fault.{Fault}
+pub use Rattle.ps_words.specs.declared.fault.Reason.{Reason}
+pub use Rattle.ps_words.specs.declared.order.Order.{Order}
+pub use Rattle.ps_words.specs.declared.words.TheConstants.{MAX_WORD}
+pub use Rattle.std.proofs.lemmas.Bool.{cases_lt}
+pub use Rattle.std.proofs.lemmas.Bool.Decides.{nat_tests}
+pub use Rattle.std.proofs.lemmas.List.{drop-drop, drop_all, drop_more, ext_get_or, get_or-replicate}
+pub use Rattle.std.proofs.lemmas.List.{get_or_append_left, length-map, length-replicate}
+pub use Rattle.std.proofs.lemmas.List.{take-append-drop}
+pub use Rattle.std.proofs.lemmas.List.Elements.{All-cons, All-head, All-nil, All-tail}
+pub use Rattle.std.proofs.lemmas.List.FromFn.{fill_by_all, get_or-map-range_with_len}
+pub use Rattle.std.proofs.lemmas.List.FromFn.{length-map-range_with_len}
+pub use Rattle.std.proofs.lemmas.Result.{IfErr-weaker, err_from_is_err_and, on_err_weaker}
+pub use Rattle.std.proofs.lemmas.Result.{on_ok_weaker}
+pub use Rattle.std.specs.Io.KnownBytes.{Appends}
+pub use Rattle.std.specs.List.{enumerate_from, filter, find, flat_map, range_with_len}
+pub use Rattle.std.specs.Option.{option_map_or, option_or}
+pub use Rattle.std.specs.Prelude.{All, is_some, min, nat_lt, slice_get}
