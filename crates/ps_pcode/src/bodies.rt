@@ -103,21 +103,25 @@ impl<'c> Body<'c> {
         if !instruction.is_call_of_segment() || !self.has(instruction.operand) {
             return None;
         }
-        let before = NUMBERS + WORD_LEN * usize::from(instruction.operand);
-        let place = self.segment.len().checked_sub(before)?;
-        let word = match self.segment.get(place..) {
-            Some(word) if 2 <= word.len() => get(self.order, word, 0),
-            _ => return None,
-        };
-        let table = place.checked_sub(usize::from(word))?;
-        let ends = Ends::at(self.order, self.segment, table)?;
-        let frame = Frame::at(self.order, self.segment, table)?;
-        let code = self.segment.get(..table)?;
-        let last = Instruction::at(self.order, code, ends.leave)?;
+        let table = self.table(instruction.operand)?;
+        let body = Body::before(self.order, self.segment, table, self.count)?;
+        let last = Instruction::at(self.order, body.code, body.ends.leave)?;
         Some(Called {
-            frame,
+            frame: body.frame,
             is_function: !last.is_return() || last.operand != 0,
         })
+    }
+
+    /// The place of the table of a procedure of the segment.
+    fn table(self, number: u8) -> Option<usize> {
+        let before = NUMBERS + WORD_LEN * usize::from(number);
+        let place = self.segment.len().checked_sub(before)?;
+        match self.segment.get(place..) {
+            Some(word) if 2 <= word.len() => {
+                place.checked_sub(usize::from(get(self.order, word, 0)))
+            }
+            _ => None,
+        }
     }
 
     /// What an instruction does to the evaluation stack. Nothing is known of calls of functions.
@@ -158,15 +162,15 @@ impl<'c> Body<'c> {
 
     /// The jumps by the jump table before a place go to instructions, as far as they are looked at.
     fn has_table_targets(self, last: usize) -> bool {
-        let Some(mut targets) = self.table_targets(last) else {
+        let Some(targets) = self.table_targets(last) else {
             return false;
         };
+        let mut left = targets.len();
         let mut place = self.ends.enter;
         for _ in self.ends.enter..self.code.len() {
-            let here = place;
-            targets.retain(|target| *target != here);
-            if targets.is_empty() || last <= place {
-                return targets.is_empty();
+            left = left.saturating_sub(count_of(targets.as_slice(), place));
+            if left == 0 || last <= place {
+                return left == 0;
             }
             match Instruction::at(self.order, self.code, place) {
                 Some(instruction) => place = place.saturating_add(instruction.length),
@@ -196,6 +200,15 @@ impl<'c> Body<'c> {
         }
         Some(targets)
     }
+}
+
+/// How many of these places are this one.
+fn count_of(places: &[usize], place: usize) -> usize {
+    let mut count = 0usize;
+    for other in places {
+        count = count.saturating_add(usize::from(*other == place));
+    }
+    count
 }
 
 /// A procedure that is called.

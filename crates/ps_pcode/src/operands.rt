@@ -50,12 +50,9 @@ impl Instruction<'_> {
 
     /// The bytes after its first operand, as many as that says, are characters of a line.
     fn has_text(self) -> bool {
-        for byte in self
-            .bytes
-            .iter()
-            .take(usize::from(self.operand) + 1)
-            .skip(1)
-        {
+        let rest = self.bytes.get(1..).unwrap_or(&[]);
+        let text = rest.get(..usize::from(self.operand)).unwrap_or(rest);
+        for byte in text {
             if *byte != b' ' && !byte.is_ascii_graphic() {
                 return false;
             }
@@ -123,10 +120,12 @@ fn is_packing(bytes: &[u8]) -> bool {
 ///
 /// Source: UCSD Pascal II.0 manual, P-machine instructions.
 pub fn has_global_operand(code: &[u8]) -> bool {
-    for window in code.windows(2) {
-        if matches!(window, [0xA9 | 0xA5 | 0xAB, 0x80]) {
+    let mut last = 0u8;
+    for byte in code {
+        if *byte == 0x80 && GLOBAL_OPCODES.contains(&last) {
             return true;
         }
+        last = *byte;
     }
     false
 }

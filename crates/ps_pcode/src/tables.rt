@@ -27,11 +27,13 @@ impl Ends {
     /// Those of the table at this place; none where one of them is before the code.
     /// Source: UCSD Pascal II.0 manual, code file format.
     pub fn at(order: Order, code: &[u8], table: usize) -> Option<Ends> {
-        let (enter_at, leave_at) = (table.checked_sub(2)?, table.checked_sub(4)?);
-        match code.get(leave_at..) {
+        if table < 4 {
+            return None;
+        }
+        match code.get(table - 4..) {
             Some(words) if 4 <= words.len() => Some(Ends {
-                enter: enter_at.checked_sub(usize::from(get(order, words, 2)))?,
-                leave: leave_at.checked_sub(usize::from(get(order, words, 0)))?,
+                enter: (table - 2).checked_sub(usize::from(get(order, words, 2)))?,
+                leave: (table - 4).checked_sub(usize::from(get(order, words, 0)))?,
             }),
             _ => None,
         }
