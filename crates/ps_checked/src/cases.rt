@@ -1,5 +1,6 @@
 //! A fault, and what the files say of it.
 use crate::inputs::Inputs;
+use crate::privates::words_of;
 use crate::segments::{Part, Segment, Source, in_slot};
 use ps_codefile::code_layout::NUMBERS;
 use ps_codefile::dictionary_layout::SLOTS;
@@ -17,14 +18,14 @@ use ps_words::{Fault, Name, Reason};
 pub struct Case<'c, 'a> {
     /// The files.
     pub inputs: &'c Inputs<'a>,
-    /// What was read of them.
-    pub(crate) reading: &'c Reading<'a>,
     /// The segments of the link.
     pub list: &'c [Segment<'a>],
     /// The fault.
     pub fault: Fault,
     /// The segment of its slot.
     pub segment: Option<Segment<'a>>,
+    /// The words of the private variables before the record of the fault; of all if it has none.
+    pub(crate) words: u64,
 }
 
 impl<'c, 'a> Case<'c, 'a> {
@@ -42,22 +43,20 @@ impl<'c, 'a> Case<'c, 'a> {
         };
         Case {
             inputs,
-            reading,
             list,
             fault,
             segment,
+            words: words_of(reading.segments(), fault),
         }
     }
 
     /// What the dictionary of the host says of its slot.
     /// Source: UCSD Pascal II.0 manual, code file format.
     pub fn entry(&self) -> Option<Entry> {
-        let dict = Dict::read(self.inputs.host).ok()?;
         let slot = self.fault.slot?;
-        if slot < SLOTS {
-            Some(dict.entry(slot))
-        } else {
-            None
+        match Dict::read(self.inputs.host) {
+            Ok(dict) if slot < SLOTS => Some(dict.entry(slot)),
+            _ => None,
         }
     }
 
@@ -73,16 +72,19 @@ impl<'c, 'a> Case<'c, 'a> {
     /// The record that the fault is reported with, where it can be read.
     /// Source: the published II.0 Linker source.
     pub fn record(&self) -> Option<LinkRecord<'a>> {
-        let (Some(segment), Some(wanted)) = (self.segment, self.fault.rec) else {
-            return None;
-        };
-        segment.records().record(wanted)
+        match (&self.segment, self.fault.rec) {
+            (Some(segment), Some(rec)) => segment.records().record(rec),
+            _ => None,
+        }
     }
 
     /// The operand that the fault is reported with.
     /// Source: the published II.0 Linker source.
     pub fn operand(&self) -> Option<Operand> {
-        self.record()?.operand(self.fault.reference?)
+        match (self.record(), self.fault.reference) {
+            (Some(record), Some(reference)) => record.operand(reference),
+            _ => None,
+        }
     }
 
     /// The first library that has a host program.
@@ -99,7 +101,10 @@ impl<'c, 'a> Case<'c, 'a> {
     /// Where its segment comes from.
     /// Source: this project's profile.
     pub fn source(&self) -> Option<Source<'a>> {
-        self.segment?.source
+        match &self.segment {
+            Some(segment) => segment.source,
+            None => None,
+        }
     }
 
     /// The code of its segment, as far as it can be read.
@@ -123,32 +128,47 @@ impl<'c, 'a> Case<'c, 'a> {
     /// The earlier slot that has a host program, or a unit of the name, and the name of its segment.
     /// Source: this project's profile.
     pub fn earlier_entry(&self) -> Option<(u8, ShownName)> {
-        let dict = Dict::read(self.inputs.host).ok()?;
-        let (slot, entry) = (self.fault.slot?, self.entry()?);
-        for earlier in 0..SLOTS {
-            let name = dict.entry(earlier).name;
-            let is_like = match (self.fault.reason, dict.role(earlier)) {
-                (Reason::TwoHosts, Ok(Role::Host)) => true,
-                (Reason::DoubledSegment, Ok(Role::Unit | Role::Wanted)) => name == entry.name,
-                _ => false,
-            };
-            if earlier < slot && is_like {
-                return Some((earlier, ShownName(name)));
-            }
+        let slot = self.fault.slot?;
+        match (Dict::read(self.inputs.host), self.entry()) {
+            (Ok(dict), Some(entry)) => earlier_in(&dict, self.fault.reason, slot, &entry.name),
+            _ => None,
         }
-        None
     }
 
     /// The first thing that is wrong with the procedures of the code.
     /// Source: UCSD Pascal II.0 manual, code file format.
     pub fn procedure_fault(&self) -> Option<ProcedureFault> {
-        let segment = self.segment?;
-        let source = segment.source?;
-        let code = source.code.ok()?;
+        let source = self.source()?;
+        let code = self.code();
         if code.len() < NUMBERS {
             return None;
         }
-        let is_host = matches!(segment.part, Part::Host);
+        let is_host = match &self.segment {
+            Some(segment) => matches!(segment.part, Part::Host),
+            None => false,
+        };
         ProcedureDictionary::read_or_fault(source.order, code, is_host).err()
+    }
+}
+
+/// The first slot before this one that has a host program, or a unit of the name, as the second one
+/// is refused for this reason.
+fn earlier_in(dict: &Dict<'_>, reason: Reason, slot: u8, name: &Name) -> Option<(u8, ShownName)> {
+    for earlier in 0..SLOTS {
+        let found = dict.entry(earlier).name;
+        let is_like = is_doubled(reason, dict.role(earlier), found == *name);
+        if earlier < slot && is_like {
+            return Some((earlier, ShownName(found)));
+        }
+    }
+    None
+}
+
+/// A second segment is refused for this reason beside one of this role, which has its name or not.
+fn is_doubled(reason: Reason, role: Result<Role, Reason>, has_name: bool) -> bool {
+    match (reason, role) {
+        (Reason::TwoHosts, Ok(Role::Host)) => true,
+        (Reason::DoubledSegment, Ok(Role::Unit | Role::Wanted)) => has_name,
+        _ => false,
     }
 }

@@ -4,19 +4,24 @@ use crate::segments::host_of;
 use ps_codefile::dictionary_layout::SLOTS;
 use ps_linkinfo::Body;
 use ps_pcode::procedures_of;
-use ps_resolve::words_before;
+use ps_resolve::{Segment, words_before};
+use ps_words::Fault;
+
+/// The words of the private variables before the record of a fault, or of all where it has none.
+pub(crate) fn words_of(segments: &[Segment<'_>], fault: Fault) -> u64 {
+    let words = match (fault.slot, fault.rec) {
+        (Some(slot), Some(rec)) => words_before(segments, slot, rec),
+        _ => words_before(segments, SLOTS, 0),
+    };
+    u64::from(words.unwrap_or(u32::MAX))
+}
 
 impl Case<'_, '_> {
     /// The words of the private variables before the record that the fault is reported with, or of
     /// all where it is reported with none.
     /// Source: the published II.0 Linker source.
     pub fn words_before(&self) -> u64 {
-        let segments = self.reading.segments();
-        let words = match (self.fault.slot, self.fault.rec) {
-            (Some(slot), Some(rec)) => words_before(segments, slot, rec),
-            _ => words_before(segments, SLOTS, 0),
-        };
-        u64::from(words.unwrap_or(u32::MAX))
+        self.words
     }
 
     /// The data size of the outer block of the host program, in bytes.

@@ -26,21 +26,22 @@ impl fmt::Display for Explanation<'_, '_> {
         write_record(f, case)?;
         references::write_reference(f, case)?;
         write_details(f, case)?;
-        let (wrong, remedy) = (advice::wrong_in(case), advice::remedy_in(case));
+        let wrong = advice::wrong_in(case);
+        let remedy = advice::remedy_in(case);
         writeln!(f, "  {wrong}\n  {remedy}")
     }
 }
 
 /// The slot with the name of its segment.
 fn write_slot<W: Write>(f: &mut Formatter<W>, case: &Case<'_, '_>) -> fmt::Result {
-    match (case.fault.slot, case.name()) {
-        (None, _) => Ok(()),
-        (Some(slot), Some(name)) => {
-            let name = ShownName(name);
-            writeln!(f, "  segment {name}, of slot {slot:02} of the host")
-        }
-        (Some(slot), None) => writeln!(f, "  slot {slot:02} of the host"),
-    }
+    let Some(slot) = case.fault.slot else {
+        return Ok(());
+    };
+    let Some(name) = case.name() else {
+        return writeln!(f, "  slot {slot:02} of the host");
+    };
+    let name = ShownName(name);
+    writeln!(f, "  segment {name}, of slot {slot:02} of the host")
 }
 
 /// How the report calls a kind of record.
@@ -57,15 +58,15 @@ fn word_of(body: &Body<'_>) -> &'static str {
 
 /// The record with its kind and its name, or what is there where it cannot be read.
 fn write_record<W: Write>(f: &mut Formatter<W>, case: &Case<'_, '_>) -> fmt::Result {
-    match (case.fault.rec, case.record()) {
-        (None, _) => Ok(()),
-        (Some(rec), Some(record)) => {
-            let kind = word_of(&record.body);
-            let name = ShownName(record.name);
-            writeln!(f, "  record {rec}: {kind} {name}")
-        }
-        (Some(rec), None) => records::write_unread(f, case, rec),
-    }
+    let Some(rec) = case.fault.rec else {
+        return Ok(());
+    };
+    let Some(record) = case.record() else {
+        return records::write_unread(f, case, rec);
+    };
+    let kind = word_of(&record.body);
+    let name = ShownName(record.name);
+    writeln!(f, "  record {rec}: {kind} {name}")
 }
 
 /// What the number says of this place.

@@ -312,16 +312,24 @@ fn add_segment<A: Allocator + Copy>(
         name: segment.name,
         part: segment.part,
     };
-    match &segment.source {
-        Some(source) => {
-            let size = usize::from(source.entry.length);
-            add_line(text, head, inputs.path(source.file), source.index, size)?;
-            let later = later_line(alloc, inputs, segment.name, source.file)?;
-            text.push_str(later.as_str())
-        }
-        None if segment.is_missing => writeln!(text, "{head}, which no library has"),
-        None if segment.slot.is_none() => writeln!(text, "{head}, for which no slot is left"),
-        None => writeln!(text, "{head}, not looked for after the fault"),
+    let Some(source) = &segment.source else {
+        let why = why_no_source(segment);
+        return writeln!(text, "{head}, {why}");
+    };
+    let size = usize::from(source.entry.length);
+    add_line(text, head, inputs.path(source.file), source.index, size)?;
+    let later = later_line(alloc, inputs, segment.name, source.file)?;
+    text.push_str(later.as_str())
+}
+
+/// Why a segment comes from no file.
+fn why_no_source(segment: &Segment<'_>) -> &'static str {
+    if segment.is_missing {
+        "which no library has"
+    } else if segment.slot.is_none() {
+        "for which no slot is left"
+    } else {
+        "not looked for after the fault"
     }
 }
 
@@ -349,11 +357,17 @@ fn later_entries(inputs: &Inputs<'_>, name: &Name, used: usize) -> Option<(usize
     if used == 0 {
         return None;
     }
-    let mut later = (used..=inputs.libs.len())
-        .skip(1)
-        .filter_map(|file| Some((file, entry_in(inputs, name, file)?)));
-    let (file, entry) = later.next()?;
-    Some((file, entry, More(later.count())))
+    let (mut first, mut more) = (None, 0usize);
+    for file in used.saturating_add(1)..=inputs.libs.len() {
+        if let Some(entry) = entry_in(inputs, name, file) {
+            match first {
+                None => first = Some((file, entry)),
+                Some(_) => more = more.saturating_add(1),
+            }
+        }
+    }
+    let (file, entry) = first?;
+    Some((file, entry, More(more)))
 }
 
 /// The first entry of a library that is filled and has this name.
@@ -413,15 +427,30 @@ fn add_unused<A: Allocator>(
     inputs: &Inputs<'_>,
     list: &[Segment<'_>],
 ) -> Result<(), AllocError> {
-    let mut unused = (1..=inputs.libs.len()).filter(|file| !is_used(list, *file));
-    let Some(file) = unused.next() else {
+    let (mut first, mut more) = (None, 0usize);
+    for file in 1..=inputs.libs.len() {
+        if !is_used(list, file) {
+            match first {
+                None => first = Some(file),
+                Some(_) => more = more.saturating_add(1),
+            }
+        }
+    }
+    let Some(file) = first else {
         return Ok(());
     };
-    let (path, more) = (inputs.shown(file), More(unused.count()));
+    let (path, more) = (inputs.shown(file), More(more));
     writeln!(text, "nothing is taken from file {file} {path}{more}")
 }
 
 /// Some segment comes from the file.
 fn is_used(list: &[Segment<'_>], file: usize) -> bool {
-    list.iter().any(|segment| segment.source.is_some_and(|source| source.file == file))
+    for segment in list {
+        if let Some(source) = segment.source {
+            if source.file == file {
+                return true;
+            }
+        }
+    }
+    false
 }

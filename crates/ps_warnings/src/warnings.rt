@@ -226,6 +226,14 @@ impl Look {
             Look::Converted { line_ends } => {
                 write!(f, "{line_ends}: its line ends may have been converted")
             }
+            _ => Ok(()),
+        }
+    }
+
+    /// Looks of a dictionary.
+    fn fmt_dictionary<W: fmt::Write>(&self, f: &mut Formatter<W>) -> fmt::Result {
+        match *self {
+            Look::NoNames => f.write_str("no segment has a name"),
             Look::DeadTail { start, end, byte } => {
                 write!(
                     f,
@@ -238,7 +246,6 @@ impl Look {
                     "{bytes} bytes of the second half of its dictionary are not zero"
                 )
             }
-            Look::NoNames => f.write_str("no segment has a name"),
             Look::MachineType {
                 slot,
                 machine,
@@ -259,18 +266,14 @@ impl Look {
                     "slot {slot:02} has machine type {machine} and version {version}, and the host has others"
                 )
             }
-            _ => Ok(()),
+            _ => self.fmt_file(f),
         }
     }
 
-    /// Looks of an entry.
-    fn fmt_entry<W: fmt::Write>(&self, f: &mut Formatter<W>) -> fmt::Result {
+    /// Looks of a slot.
+    fn fmt_slot<W: fmt::Write>(&self, f: &mut Formatter<W>) -> fmt::Result {
         match *self {
             Look::NoName { slot } => write!(f, "the segment in slot {slot:02} has no name"),
-            Look::OddName { name, oddity } => {
-                let name = ShownName(name);
-                write!(f, "the name {name} {oddity}")
-            }
             Look::IntrinsicKind { slot, kind } => {
                 write!(
                     f,
@@ -294,6 +297,17 @@ impl Look {
                     "slot {slot:02} wants a unit, and has address {address} and length {length}: one of them may be lost"
                 )
             }
+            _ => self.fmt_dictionary(f),
+        }
+    }
+
+    /// Looks of a segment.
+    fn fmt_segment<W: fmt::Write>(&self, f: &mut Formatter<W>) -> fmt::Result {
+        match *self {
+            Look::OddName { name, oddity } => {
+                let name = ShownName(name);
+                write!(f, "the name {name} {oddity}")
+            }
             Look::Overlap { other } => {
                 write!(f, "its bytes in the file overlap those of slot {other:02}")
             }
@@ -311,11 +325,11 @@ impl Look {
                     "a link that takes it is refused with {number} {name} at record {rec}"
                 )
             }
-            _ => self.fmt_file(f),
+            _ => self.fmt_slot(f),
         }
     }
 
-    /// Looks of a code.
+    /// Looks of the bytes of a code.
     fn fmt_code<W: fmt::Write>(&self, f: &mut Formatter<W>) -> fmt::Result {
         match *self {
             Look::OneByte { byte } => write!(f, "each byte of its code is {byte:02X}"),
@@ -328,6 +342,19 @@ impl Look {
             Look::ZeroEnd => f.write_str(
                 "its code ends with zeros, so it has no procedure and no segment number",
             ),
+            Look::LinkedWithRecords => {
+                f.write_str(
+                    "its kind says that it is linked, and link information follows its code",
+                )
+            }
+            Look::LostTables => f.write_str("it ends with no whole procedure dictionary"),
+            _ => self.fmt_segment(f),
+        }
+    }
+
+    /// Looks of the procedures of a code.
+    fn fmt_procedures<W: fmt::Write>(&self, f: &mut Formatter<W>) -> fmt::Result {
+        match *self {
             Look::OtherNumber { found, slot } => {
                 write!(
                     f,
@@ -346,19 +373,13 @@ impl Look {
                     "procedure {procedure} is entered or left at a place before the code"
                 )
             }
-            Look::LinkedWithRecords => {
-                f.write_str(
-                    "its kind says that it is linked, and link information follows its code",
-                )
-            }
-            Look::LostTables => f.write_str("it ends with no whole procedure dictionary"),
             Look::Misfit { procedure } => {
                 write!(
                     f,
                     "the instructions of procedure {procedure} do not fit together, and most of the others do"
                 )
             }
-            _ => self.fmt_entry(f),
+            _ => self.fmt_code(f),
         }
     }
 
@@ -405,13 +426,12 @@ impl Look {
                     "the operand at byte {place} is word {displacement} of a variable of {words} words"
                 )
             }
-            _ => self.fmt_code(f),
+            _ => self.fmt_procedures(f),
         }
     }
-}
 
-impl fmt::Display for Look {
-    fn fmt<W: fmt::Write>(&self, f: &mut Formatter<W>) -> fmt::Result {
+    /// Looks of definitions.
+    fn fmt_definitions<W: fmt::Write>(&self, f: &mut Formatter<W>) -> fmt::Result {
         match *self {
             Look::UnitDefinition { name } => {
                 let name = ShownName(name);
@@ -440,6 +460,14 @@ impl fmt::Display for Look {
                     "{name} has base offset {value}, and the end mark says that {next} is free"
                 )
             }
+            _ => self.fmt_records(f),
+        }
+    }
+}
+
+impl fmt::Display for Look {
+    fn fmt<W: fmt::Write>(&self, f: &mut Formatter<W>) -> fmt::Result {
+        match *self {
             Look::TakenSlot { slot, name } => {
                 let name = ShownName(name);
                 write!(
@@ -454,7 +482,7 @@ impl fmt::Display for Look {
                     "another unit of the link is {name}, nearly the same name"
                 )
             }
-            _ => self.fmt_records(f),
+            _ => self.fmt_definitions(f),
         }
     }
 }

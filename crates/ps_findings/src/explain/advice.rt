@@ -12,17 +12,29 @@ use std::fmt::{self, Formatter};
 /// What is wrong.
 pub(super) fn wrong_in(case: &Case<'_, '_>) -> &'static str {
     match case.fault.reason {
-        Reason::MissingUnit if case.fault.rec.is_some() => {
-            "No library has the unit that the UNITREF in this record requests."
-        }
-        Reason::MissingUnit => "No library has the unit that the slot wants.",
-        Reason::NativeProcedure if is_dead(case) => {
-            "The code is damaged: a part of it was not read, or never written."
-        }
-        Reason::NativeProcedure if is_exchanged(case) => {
-            "The bytes of the code are exchanged in pairs."
-        }
+        Reason::MissingUnit => wrong_where_missing(case),
+        Reason::NativeProcedure => wrong_where_native(case),
         reason => wrong_of(reason),
+    }
+}
+
+/// What is wrong where a unit is missing.
+fn wrong_where_missing(case: &Case<'_, '_>) -> &'static str {
+    if case.fault.rec.is_some() {
+        "No library has the unit that the UNITREF in this record requests."
+    } else {
+        "No library has the unit that the slot wants."
+    }
+}
+
+/// What is wrong where a procedure is native code, as damaged code may be read.
+fn wrong_where_native(case: &Case<'_, '_>) -> &'static str {
+    if is_dead(case) {
+        "The code is damaged: a part of it was not read, or never written."
+    } else if is_exchanged(case) {
+        "The bytes of the code are exchanged in pairs."
+    } else {
+        wrong_of(Reason::NativeProcedure)
     }
 }
 
@@ -64,18 +76,17 @@ impl fmt::Display for Advice<'_> {
     fn fmt<W: fmt::Write>(&self, f: &mut Formatter<W>) -> fmt::Result {
         match *self {
             Advice::Sentence { text, path } => {
-                for c in text.chars() {
-                    if c == '@' {
-                        write!(f, "{}", ShownPath(path))?;
-                    } else {
-                        f.write_char(c)?;
-                    }
+                let mut rest = text;
+                while let Some((before, after)) = rest.split_once('@') {
+                    write!(f, "{before}{}", ShownPath(path))?;
+                    rest = after;
                 }
-                Ok(())
+                f.write_str(rest)
             }
             Advice::OfType(remedy) => write!(f, "{remedy}"),
             Advice::Exchange { host, library } => {
-                let (host, library) = (ShownPath(host), ShownPath(library));
+                let host = ShownPath(host);
+                let library = ShownPath(library);
                 write!(
                     f,
                     "Exchange the two: give {library} as HOST, and {host} after it."
@@ -87,52 +98,74 @@ impl fmt::Display for Advice<'_> {
 
 /// What to do about the fault.
 pub(super) fn remedy_in<'a>(case: &Case<'_, 'a>) -> Advice<'a> {
-    let inputs = case.inputs;
-    let path = inputs.path(case.fault.file);
     let text = match case.fault.reason {
         Reason::ShortFile | Reason::NoOrder | Reason::OrderMismatch | Reason::NoHost => {
             return remedy_of_file(case);
         }
-        Reason::MissingUnit => {
-            return remedy_of_missing(case);
-        }
-        Reason::NativeProcedure if is_dead(case) => remedy_of(Reason::Truncated),
-        Reason::NativeProcedure if is_exchanged(case) => {
-            let file_type = FileType::Swapped;
-            return Advice::OfType(Remedy { file_type, path });
-        }
-        Reason::NotAUnit { kind: LINKED } => "@ is linked already: leave it out.",
-        Reason::NotAUnit {
-            kind: FIRST_INTRINSIC..=LAST_INTRINSIC,
-        } => "Compile it as a regular unit of II.0, or give the library of such a unit before @.",
-        Reason::NotAUnit { .. } => {
-            "Give the unit's library before @, or remove that segment from @."
-        }
+        Reason::MissingUnit => return remedy_of_missing(case),
+        Reason::NativeProcedure => return remedy_of_native(case),
+        Reason::NotAUnit { kind } => remedy_of_kind(kind),
         reason => remedy_of(reason),
     };
+    let path = case.inputs.path(case.fault.file);
     Advice::Sentence { text, path }
 }
 
-/// What to do about a file that is no code file, or not the one that is needed. Of files of two byte
-/// orders the host may be the one that is exchanged.
+/// What to do about a procedure of native code, as damaged code may be read.
+fn remedy_of_native<'a>(case: &Case<'_, 'a>) -> Advice<'a> {
+    let path = case.inputs.path(case.fault.file);
+    if is_dead(case) {
+        let text = remedy_of(Reason::Truncated);
+        return Advice::Sentence { text, path };
+    }
+    if is_exchanged(case) {
+        let file_type = FileType::Swapped;
+        return Advice::OfType(Remedy { file_type, path });
+    }
+    let text = remedy_of(Reason::NativeProcedure);
+    Advice::Sentence { text, path }
+}
+
+/// What to do about a segment of this kind that is no unit.
+fn remedy_of_kind(kind: u16) -> &'static str {
+    match kind {
+        LINKED => "@ is linked already: leave it out.",
+        FIRST_INTRINSIC..=LAST_INTRINSIC =>
+            "Compile it as a regular unit of II.0, or give the library of such a unit before @.",
+        _ => "Give the unit's library before @, or remove that segment from @.",
+    }
+}
+
+/// What to do about a file that is no code file, or not the one that is needed.
 fn remedy_of_file<'a>(case: &Case<'_, 'a>) -> Advice<'a> {
-    let (inputs, file) = (case.inputs, case.fault.file);
-    let path = inputs.path(file);
-    match (case.fault.reason, case.host_among_libraries()) {
-        (Reason::NoHost, Some(library)) => Advice::Exchange {
-            host: path,
-            library: inputs.path(library),
+    let file = case.fault.file;
+    match case.fault.reason {
+        Reason::NoHost => remedy_of_no_host(case),
+        Reason::OrderMismatch if case.inputs.file_type(file).is_code() => remedy_of_order(case),
+        _ => Advice::of_file(case.inputs, file),
+    }
+}
+
+/// What to do where the host is none: a library may be one.
+fn remedy_of_no_host<'a>(case: &Case<'_, 'a>) -> Advice<'a> {
+    let file = case.fault.file;
+    match case.host_among_libraries() {
+        Some(library) => Advice::Exchange {
+            host: case.inputs.path(file),
+            library: case.inputs.path(library),
         },
-        (Reason::OrderMismatch, _) if inputs.file_type(file).is_code() => {
-            match inputs.file_type(0) {
-                FileType::Swapped => Advice::of_file(inputs, 0),
-                _ => Advice::Sentence {
-                    text: "Compile @ for the machine of the host.",
-                    path,
-                },
-            }
-        }
-        _ => Advice::of_file(inputs, file),
+        None => Advice::of_file(case.inputs, file),
+    }
+}
+
+/// What to do about files of two byte orders: the host may be the one that is exchanged.
+fn remedy_of_order<'a>(case: &Case<'_, 'a>) -> Advice<'a> {
+    match case.inputs.file_type(0) {
+        FileType::Swapped => Advice::of_file(case.inputs, 0),
+        _ => Advice::Sentence {
+            text: "Compile @ for the machine of the host.",
+            path: case.inputs.path(case.fault.file),
+        },
     }
 }
 

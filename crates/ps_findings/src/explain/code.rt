@@ -11,7 +11,8 @@ pub(super) fn write_extent<W: Write>(f: &mut Formatter<W>, case: &Case<'_, '_>) 
     };
     let start = BLOCK_SIZE * usize::from(source.entry.address);
     let length = usize::from(source.entry.length);
-    let (entry, end) = (source.index, start + length);
+    let end = start + length;
+    let entry = source.index;
     let bytes = case.inputs.bytes(source.file).len();
     writeln!(
         f,

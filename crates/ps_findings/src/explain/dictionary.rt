@@ -1,11 +1,11 @@
 //! What faults of dictionaries say.
 use crate::orders::OrderOf;
 use ps_checked::Case;
+use ps_codefile::Dict;
 use ps_codefile::dictionary_layout::SLOTS;
 use ps_codefile::kinds::{
     FIRST_INTRINSIC, HOSTSEG, LAST_INTRINSIC, LINKED, SEGPROC, SEPRTSEG, UNITSEG,
 };
-use ps_codefile::{Dict, Entry};
 use ps_filetype::{CodeFile, FileType};
 use ps_shown::ShownName;
 use ps_warnings::is_near;
@@ -34,14 +34,19 @@ pub(super) fn write_orders<W: Write>(f: &mut Formatter<W>, case: &Case<'_, '_>) 
 
 /// What the host is, and the first library that has a host program.
 pub(super) fn write_host<W: Write>(f: &mut Formatter<W>, case: &Case<'_, '_>) -> fmt::Result {
-    match case.inputs.file_type(0) {
-        FileType::Code(CodeFile::Linked) => f.write_str("  all of its segments are linked\n"),
-        FileType::Code(_) => f.write_str("  it has units, and no host program\n"),
-        file_type => writeln!(f, "  it is {file_type}"),
-    }?;
+    write_no_host(f, case.inputs.file_type(0))?;
     match case.host_among_libraries() {
         Some(file) => writeln!(f, "  {} has a host program", case.inputs.shown(file)),
         None => Ok(()),
+    }
+}
+
+/// What a file is that is no host.
+fn write_no_host<W: Write>(f: &mut Formatter<W>, file_type: FileType) -> fmt::Result {
+    match file_type {
+        FileType::Code(CodeFile::Linked) => f.write_str("  all of its segments are linked\n"),
+        FileType::Code(_) => f.write_str("  it has units, and no host program\n"),
+        _ => writeln!(f, "  it is {file_type}"),
     }
 }
 
@@ -112,25 +117,34 @@ fn write_names<W: Write>(f: &mut Formatter<W>, dict: &Dict<'_>, wanted: &Name) -
 
 /// The name of a unit, and that it is nearly the name that is wanted.
 fn write_name<W: Write>(f: &mut Formatter<W>, name: &Name, wanted: &Name) -> fmt::Result {
-    let (shown, other) = (ShownName(*name), ShownName(*wanted));
-    write!(f, "{shown}")?;
+    let shown = ShownName(*name);
     if !is_near(name, wanted) {
-        return Ok(());
+        return write!(f, "{shown}");
     }
+    let other = ShownName(*wanted);
     write!(
         f,
-        " (which differs from {other} in small letters, high bits or padding alone)"
+        "{shown} (which differs from {other} in small letters, high bits or padding alone)"
     )
 }
 
 /// The entries of the unit's name in the library that was chosen.
 pub(super) fn write_entries<W: Write>(f: &mut Formatter<W>, case: &Case<'_, '_>) -> fmt::Result {
-    let (Some(segment), Some(dict)) = (case.segment, case.inputs.dict(case.fault.file)) else {
+    let Some(segment) = case.segment else {
         return Ok(());
     };
+    let Some(dict) = case.inputs.dict(case.fault.file) else {
+        return Ok(());
+    };
+    write_entries_of(f, &dict, &segment.name)
+}
+
+/// The entries of a name.
+fn write_entries_of<W: Write>(f: &mut Formatter<W>, dict: &Dict<'_>, name: &Name) -> fmt::Result {
     for slot in 0..SLOTS {
-        let Entry { name, kind, .. } = dict.entry(slot);
-        if dict.filled(slot) && name == segment.name {
+        let entry = dict.entry(slot);
+        if dict.filled(slot) && entry.name == *name {
+            let kind = entry.kind;
             let word = kind_word(kind);
             writeln!(f, "  entry {slot:02} has the name, of kind {kind}: {word}")?;
         }

@@ -12,18 +12,22 @@ pub(super) fn write_unread<W: Write>(
     case: &Case<'_, '_>,
     rec: usize,
 ) -> fmt::Result {
-    write!(f, "  record {rec}")?;
     let Some((order, rest)) = case.unread() else {
-        return f.write_char('\n');
+        return writeln!(f, "  record {rec}");
     };
-    f.write_char(':')?;
     let left = rest.len();
-    if RECORD_LEN <= left {
-        let kind = get(order, rest, TYPE_PLACE);
-        let format = get(order, rest, FORMAT_PLACE);
-        write!(f, " type {kind}, and then the word {format};")?;
+    if left < RECORD_LEN {
+        return writeln!(
+            f,
+            "  record {rec}: {left} bytes of the file are left for it"
+        );
     }
-    writeln!(f, " {left} bytes of the file are left for it")
+    let kind = get(order, rest, TYPE_PLACE);
+    let format = get(order, rest, FORMAT_PLACE);
+    writeln!(
+        f,
+        "  record {rec}: type {kind}, and then the word {format}; {left} bytes of the file are left for it"
+    )
 }
 
 /// The earlier record of the name.

@@ -25,24 +25,27 @@ pub(super) fn write_reference<W: Write>(f: &mut Formatter<W>, case: &Case<'_, '_
     let Some(reference) = case.fault.reference else {
         return Ok(());
     };
-    match case.operand() {
-        Some(operand) => {
-            let (place, bytes) = (operand.place, Bytes(case.bytes_of(operand)));
-            writeln!(
-                f,
-                "  reference {reference}: byte {place} of the code, where these bytes stand:{bytes}"
-            )
-        }
-        None => writeln!(f, "  reference {reference}"),
-    }
+    let Some(operand) = case.operand() else {
+        return writeln!(f, "  reference {reference}");
+    };
+    let place = operand.place;
+    let bytes = Bytes(case.bytes_of(operand));
+    writeln!(
+        f,
+        "  reference {reference}: byte {place} of the code, where these bytes stand:{bytes}"
+    )
 }
 
 /// The displacement and the value that together are too large.
 pub(super) fn write_sum<W: Write>(f: &mut Formatter<W>, case: &Case<'_, '_>) -> fmt::Result {
-    let (Some(operand), Some(record)) = (case.operand(), case.record()) else {
+    let Some(operand) = case.operand() else {
         return Ok(());
     };
-    let (displacement, value) = (case.displacement_of(operand), case.value_of(&record));
+    let Some(record) = case.record() else {
+        return Ok(());
+    };
+    let displacement = case.displacement_of(operand);
+    let value = case.value_of(&record);
     writeln!(
         f,
         "  its displacement is {displacement}, and the value {value}"

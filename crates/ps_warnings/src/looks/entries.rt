@@ -38,19 +38,28 @@ pub(super) fn look_at<'a, A: Allocator>(
     for slot in 0..SLOTS {
         warnings.add(place, name_look(sight, dict, slot))?;
         if dict.filled(slot) {
-            let source = source_of(dict, file, slot);
-            let looks = [
-                nameless_look(dict, &source),
-                intrinsic_look(sight, &source),
-                machine_look(sight, dict, &source),
-            ];
-            warnings.add_each(place, &looks)?;
-            look_at_segment(warnings, sight, &source)?;
+            look_at_entry(warnings, sight, dict, &source_of(dict, file, slot))?;
         } else if file == 0 {
             warnings.add(place, empty_look(sight, dict, slot))?;
         }
     }
     Ok(())
+}
+
+/// Looks at an entry that is filled, and at its segment.
+fn look_at_entry<'a, A: Allocator>(
+    warnings: &mut Warnings<'a, A>,
+    sight: &Sight<'_, 'a>,
+    dict: &Dict<'a>,
+    source: &Source<'a>,
+) -> Result<(), AllocError> {
+    let looks = [
+        nameless_look(dict, source),
+        intrinsic_look(sight, source),
+        machine_look(sight, dict, source),
+    ];
+    warnings.add_each(in_file(sight.inputs.path(source.file)), &looks)?;
+    look_at_segment(warnings, sight, source)
 }
 
 /// An odd name of an entry that is filled, or of a unit that may be wanted.

@@ -39,7 +39,10 @@ pub(super) fn look_at<'a, A: Allocator>(
 }
 
 fn converted(line_ends: Option<LineEnds>) -> Option<Look> {
-    line_ends.map(|line_ends| Look::Converted { line_ends })
+    match line_ends {
+        Some(line_ends) => Some(Look::Converted { line_ends }),
+        None => None,
+    }
 }
 
 /// A unit has the text of its interface in the file.

@@ -2,7 +2,7 @@
 use super::names::oddity_of;
 use super::{Sight, Warnings};
 use crate::warnings::{Look, Place};
-use ps_checked::{Source, host_of, length_of};
+use ps_checked::{Segment, Source, host_of, length_of};
 use ps_codefile::kinds::{HOSTSEG, UNITSEG};
 use ps_filetype::only_byte;
 use ps_linkinfo::record_layout::{RECORD_LEN, TYPE_PLACE};
@@ -34,11 +34,26 @@ pub(super) fn look_at<'a, A: Allocator>(
         }
     }
     if source.entry.kind == HOSTSEG {
-        warnings.add(place, low_mark(&records, source, code))?;
-        warnings.add_of_record(place, first_high_definition(&records))
-    } else {
-        warnings.add_of_record(place, first_definition(&records, sight))
+        let data = data_size(source, code);
+        return look_at_host(warnings, place, &records, data);
     }
+    warnings.add_of_record(place, first_definition(&records, sight))
+}
+
+/// Looks at the end mark and the definitions of a host program whose own data have this size.
+fn look_at_host<'a, A: Allocator>(
+    warnings: &mut Warnings<'a, A>,
+    place: Place<'a>,
+    records: &LinkInformation<'_>,
+    data: Option<u16>,
+) -> Result<(), AllocError> {
+    warnings.add(place, low_mark(records, data))?;
+    warnings.add_of_record(place, first_high_definition(records))
+}
+
+/// The data size of the outer block of a code, in bytes.
+fn data_size(source: &Source<'_>, code: &[u8]) -> Option<u16> {
+    procedures_of(source.order, code)?.data_size()
 }
 
 /// Each of these bytes is a blank or zero.
@@ -59,14 +74,20 @@ fn mark_look(source: &Source<'_>, code: &[u8]) -> Option<Look> {
     if records.len() == 1 && only_byte(mark) == Some(0) && has_global_operand(code) {
         return Some(Look::ZeroMark);
     }
-    if !are_unused(mark.get(..TYPE_PLACE)?) || !are_unused(mark.get(UNUSED..)?) {
+    if is_odd_mark(mark) {
         return Some(Look::OddMark);
     }
-    let rest = source.after.get(end..)?;
-    if begins_with_record(source.order, rest) {
-        Some(Look::RecordsAfterMark)
-    } else {
-        None
+    match source.after.get(end..) {
+        Some(rest) if begins_with_record(source.order, rest) => Some(Look::RecordsAfterMark),
+        _ => None,
+    }
+}
+
+/// An end mark has bytes that are neither blanks nor zeros where no value is.
+fn is_odd_mark(mark: &[u8]) -> bool {
+    match (mark.get(..TYPE_PLACE), mark.get(UNUSED..)) {
+        (Some(name), Some(rest)) => !are_unused(name) || !are_unused(rest),
+        _ => false,
     }
 }
 
@@ -168,14 +189,19 @@ fn first_odd_reference(records: &LinkInformation<'_>, code: &[u8]) -> Option<(us
 fn first_without(refs: &Refs<'_>, code: &[u8], opcodes: &[u8]) -> Option<usize> {
     for reference in 0..refs.len() {
         let place = usize::from(refs.get(reference));
-        let opcode = place
-            .checked_sub(1)
-            .and_then(|before| code.get(before).copied());
-        if !opcode.is_some_and(|opcode| opcodes.contains(&opcode)) {
+        if !is_after(code, place, opcodes) {
             return Some(place);
         }
     }
     None
+}
+
+/// One of these opcodes is right before a place of a code.
+fn is_after(code: &[u8], place: usize, opcodes: &[u8]) -> bool {
+    match code.get(..place) {
+        Some([.., opcode]) => opcodes.contains(opcode),
+        _ => false,
+    }
 }
 
 /// References to variables that are fewer than the operands that a compiler leaves for them.
@@ -202,11 +228,7 @@ fn first_definition(records: &LinkInformation<'_>, sight: &Sight<'_, '_>) -> Opt
         if let Body::PublDef(_) = record.body {
             let name = record.name;
             let is_used = records.find(&name, Sort::Request).is_some();
-            let is_defined = match host_of(sight.list) {
-                Some(host) => host.records().find(&name, Sort::Definition).is_some(),
-                None => true,
-            };
-            let look = match is_used && !is_defined {
+            let look = match is_used && !is_defined(sight.list, &name) {
                 true => Look::OwnDefinition { name },
                 false => Look::UnitDefinition { name },
             };
@@ -216,17 +238,20 @@ fn first_definition(records: &LinkInformation<'_>, sight: &Sight<'_, '_>) -> Opt
     None
 }
 
-/// The end mark of the host program, where it is below half its data size.
-fn low_mark(records: &LinkInformation<'_>, source: &Source<'_>, code: &[u8]) -> Option<Look> {
-    if records.is_empty() {
-        return None;
+/// The host program of a link, if it has one, defines the name.
+fn is_defined(list: &[Segment<'_>], name: &Name) -> bool {
+    match host_of(list) {
+        Some(host) => host.records().find(name, Sort::Definition).is_some(),
+        None => true,
     }
+}
+
+/// The end mark of the host program, where it is below half its data size.
+fn low_mark(records: &LinkInformation<'_>, data: Option<u16>) -> Option<Look> {
     let next = records.next();
-    let data = procedures_of(source.order, code)?.data_size()?;
-    if next < data / 2 {
-        Some(Look::LowMark { next, data })
-    } else {
-        None
+    match data {
+        Some(data) if !records.is_empty() && next < data / 2 => Some(Look::LowMark { next, data }),
+        _ => None,
     }
 }
 
