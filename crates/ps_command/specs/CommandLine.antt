@@ -7,11 +7,12 @@ use Rattle.std.specs.Borrow.{Bor}
 use Rattle.clap.specs.Words.{App, Kinds, Row, Rule, Text, fault_of, new_app, new_rule}
 use Rattle.clap.specs.Words.{subcommand_of, takes, with_rule, with_subcommand}
 use Rattle.clap.specs.declared.error.ErrorKind.TheVariants.{DisplayHelp, DisplayVersion}
+use Rattle.clap.specs.declared.builder.ArgAction.{ArgAction}
 use Rattle.clap.specs.declared.builder.ArgAction.TheVariants.{Set, SetTrue, Append}
 
--- a file that has to be named
-abbrev pub file_rule : Text → Rule
-file_rule id = record (new_rule id) { required = true; action = Some Set }
+-- a file that has to be named; with `Append` more of them may be
+abbrev pub file_rule : Text → ArgAction → Rule
+file_rule id action = record (new_rule id) { required = true; action = Some action }
 
 -- libraries, as many as are named
 abbrev pub libraries_rule : Rule
@@ -19,51 +20,40 @@ libraries_rule = record (new_rule (codes "LIB")) { action = Some Append }
 
 -- `link HOST OUT [LIB]...`
 abbrev pub link_app : App
-link_app = with_rule (with_rule (with_rule (new_app (codes "link")) (file_rule (codes "HOST")))
-    (file_rule (codes "OUT"))) libraries_rule
+link_app = with_rule (with_rule (with_rule (new_app (codes "link")) (file_rule (codes "HOST") Set))
+    (file_rule (codes "OUT") Set)) libraries_rule
 
 -- a command that takes a host and libraries, as `NAME HOST [LIB]...`
 abbrev pub inputs_app : Text → App
-inputs_app name = with_rule (with_rule (new_app name) (file_rule (codes "HOST"))) libraries_rule
+inputs_app name = with_rule (with_rule (new_app name) (file_rule (codes "HOST") Set)) libraries_rule
 
--- `--references`
-abbrev pub references_rule : Rule
-references_rule = record (new_rule (codes "references"))
-    { long = Some (codes "references"); action = Some SetTrue }
+-- `--NAME`, without a value
+abbrev pub flag_rule : Text → Rule
+flag_rule id = record (new_rule id) { long = Some id; action = Some SetTrue }
 
 -- `--json`
 abbrev pub json_rule : Rule
-json_rule = record (new_rule (codes "json")) { long = Some (codes "json"); action = Some SetTrue }
+json_rule = flag_rule (codes "json")
 
 -- `map [--references] [--json] HOST [LIB]...`
 abbrev pub map_app : App
-map_app = with_rule (with_rule (inputs_app (codes "map")) references_rule) json_rule
+map_app = with_rule (with_rule (inputs_app (codes "map")) (flag_rule (codes "references")))
+    json_rule
 
 -- `show [--json] FILE`
 abbrev pub show_app : App
-show_app = with_rule (with_rule (new_app (codes "show")) (file_rule (codes "FILE"))) json_rule
-
--- `--strict`
-abbrev pub strict_rule : Rule
-strict_rule = record (new_rule (codes "strict"))
-    { long = Some (codes "strict"); action = Some SetTrue }
-
--- `--unit`
-abbrev pub unit_rule : Rule
-unit_rule = record (new_rule (codes "unit")) { long = Some (codes "unit"); action = Some SetTrue }
+show_app = with_rule (with_rule (new_app (codes "show")) (file_rule (codes "FILE") Set))
+    json_rule
 
 -- `check [--strict] [--unit] [--json] HOST [LIB]...`
 abbrev pub check_app : App
-check_app = with_rule (with_rule (with_rule (inputs_app (codes "check")) strict_rule) unit_rule)
-    json_rule
-
--- files, of which at least one has to be named
-abbrev pub files_rule : Rule
-files_rule = record (new_rule (codes "FILE")) { required = true; action = Some Append }
+check_app = with_rule (with_rule (with_rule (inputs_app (codes "check"))
+    (flag_rule (codes "strict"))) (flag_rule (codes "unit"))) json_rule
 
 -- `list [--json] FILE...`
 abbrev pub list_app : App
-list_app = with_rule (with_rule (new_app (codes "list")) files_rule) json_rule
+list_app = with_rule (with_rule (new_app (codes "list")) (file_rule (codes "FILE") Append))
+    json_rule
 
 -- `pslink`, of which a command is required
 abbrev pub bare_app : App

@@ -18,7 +18,7 @@ use thiserror::Error;
 
 /// Why a file cannot be read, as far as the system says.
 /// Source: this project's profile.
-#[derive(Clone, Copy, Debug, PartialEq, Eq)]
+#[derive(Clone, Copy)]
 pub(crate) enum Cause {
     Missing,
     Folder,
@@ -56,7 +56,7 @@ impl fmt::Display for Cause {
 /// The first argument that is not UTF-8, counted as a shell's `$1`, so that 0 is the program's name;
 /// none where that is not known. Its text is the end of the line that reports it.
 /// Source: this project's profile.
-#[derive(Clone, Copy, Debug, PartialEq, Eq)]
+#[derive(Clone, Copy)]
 pub(crate) struct WrongArgument(pub(crate) Option<usize>);
 
 impl fmt::Display for WrongArgument {
@@ -70,7 +70,7 @@ impl fmt::Display for WrongArgument {
 
 /// Each text that the program writes to standard error, with what the text names.
 /// Source: this project's profile.
-#[derive(Debug, Drop, Error)]
+#[derive(Drop, Error)]
 pub(crate) enum CommandError<'a> {
     /// The files are refused.
     #[error("pslink: {0}")]
@@ -94,6 +94,12 @@ pub(crate) enum CommandError<'a> {
     StandardOutput,
     #[error("pslink: out of memory")]
     Memory,
+}
+
+impl fmt::Debug for CommandError<'_> {
+    fn fmt<W: fmt::Write>(&self, f: &mut Formatter<W>) -> fmt::Result {
+        write!(f, "{self}")
+    }
 }
 
 impl From<AllocError> for CommandError<'_> {

@@ -21,7 +21,7 @@ const LONGEST: usize = 67_108_864;
 const CHUNK: usize = 16_384;
 
 /// Why a file was not read whole.
-#[derive(Clone, Copy, Debug, PartialEq, Eq)]
+#[derive(Clone, Copy)]
 enum FileFault {
     Device(Cause),
     TooLong,

@@ -14,7 +14,7 @@ use std::io::Write;
 
 /// How what files have is printed.
 /// Source: this project's profile.
-#[derive(Clone, Copy, Debug, PartialEq, Eq)]
+#[derive(Clone, Copy)]
 pub(crate) enum Form {
     /// A line of each file and of each of its segments.
     Lines,

@@ -2,7 +2,7 @@
 ghost use Rattle.std.specs.Prelude.{◌≡◌, ◌≢◌, ◌⊎◌, IfErr, IfOk, Some, None, codes, map, false};
 ghost use Rattle.clap.specs.Words.{App, FailsBy, app_of, first_of, found_of, kind_of, rows_of, rule_of, subcommand_rows_of, with_subcommand};
 ghost use Rattle.clap.specs.declared.Command.TheViews.{out-Command};
-ghost use Rattle.ps_command.specs.CommandLine.{AreAccepted, AskForText, check_app, faults_in, file_rule, files_rule, inputs_app, json_rule, libraries_rule, link_app, list_app, map_app, named_in, pslink_app, references_rule, show_app, strict_rule, texts, unit_rule};
+ghost use Rattle.ps_command.specs.CommandLine.{AreAccepted, AskForText, check_app, faults_in, file_rule, flag_rule, inputs_app, json_rule, libraries_rule, link_app, list_app, map_app, named_in, pslink_app, show_app, texts};
 ghost use Rattle.ps_command.specs.Requests.{Answers, IsAsked, IsNamedCommand, LeavesOut, NamesInputs, WritesLibrary, files_of, has_flag as has_flag_spec, libraries_of};
 ghost use Rattle.ps_command.specs.Statuses.{status_of};
 
@@ -461,8 +461,18 @@ fn link_command<'a>(heap: Global) -> Result<Command<'a>, AllocError>
     Command::new(heap, "link")
         .about("Links a host with the units that it names, and writes the linked file")
         .after_help(LINK_ENDING)
-        .arg(file(heap, "HOST", "The code file that holds the host program"))?
-        .arg(file(heap, "OUT", "The code file to write; it may be HOST"))?
+        .arg(file(
+            heap,
+            "HOST",
+            ArgAction::Set,
+            "The code file that holds the host program",
+        ))?
+        .arg(file(
+            heap,
+            "OUT",
+            ArgAction::Set,
+            "The code file to write; it may be HOST",
+        ))?
         .arg(libraries_argument(heap))
 }
 
@@ -472,7 +482,12 @@ fn inputs_command<'a>(heap: Global, name: &'a str) -> Result<Command<'a>, AllocE
         × ((out-Command c).has_globals ≡ false)) }
 {
     Command::new(heap, name)
-        .arg(file(heap, "HOST", "The code file that holds the host program"))?
+        .arg(file(
+            heap,
+            "HOST",
+            ArgAction::Set,
+            "The code file that holds the host program",
+        ))?
         .arg(libraries_argument(heap))
 }
 
@@ -482,7 +497,11 @@ fn map_command<'a>(heap: Global) -> Result<Command<'a>, AllocError>
     inputs_command(heap, "map")?
         .about("Prints where a link would put each segment and private, and writes no file")
         .after_help(MAP_ENDING)
-        .arg(references_argument(heap))?
+        .arg(flag_argument(
+            heap,
+            "references",
+            "Prints what the link stores at each place, too",
+        ))?
         .arg(json_argument(heap))
 }
 
@@ -495,6 +514,7 @@ fn show_command<'a>(heap: Global) -> Result<Command<'a>, AllocError>
         .arg(file(
             heap,
             "FILE",
+            ArgAction::Set,
             "The code file to show: a host, a library, or a linked file",
         ))?
         .arg(json_argument(heap))
@@ -506,8 +526,12 @@ fn check_command<'a>(heap: Global) -> Result<Command<'a>, AllocError>
     inputs_command(heap, "check")?
         .about("Says in words what is wrong with the files and what only looks right")
         .after_help(CHECK_ENDING)
-        .arg(strict_argument(heap))?
-        .arg(unit_argument(heap))?
+        .arg(flag_argument(heap, "strict", "Ends with status 1 on a warning too"))?
+        .arg(flag_argument(
+            heap,
+            "unit",
+            "Lists each file, and what refuses each of its units by itself",
+        ))?
         .arg(json_argument(heap))
 }
 
@@ -517,17 +541,23 @@ fn list_command<'a>(heap: Global) -> Result<Command<'a>, AllocError>
     Command::new(heap, "list")
         .about("Prints a line of each file and of each of its segments, made for grep")
         .after_help(LIST_ENDING)
-        .arg(files_argument(heap))?
+        .arg(file(
+            heap,
+            "FILE",
+            ArgAction::Append,
+            "A file of any kind, as a host, a library, or a linked file",
+        ))?
         .arg(json_argument(heap))
 }
 
-fn file<'a>(heap: Global, name: &'a str, help: &'a str) -> Arg<'a>
-    ensures rule { rule_of result ≡ file_rule name.entry.now }
+/// A file that has to be named, or with `Append` at least one.
+fn file<'a>(heap: Global, name: &'a str, action: ArgAction, help: &'a str) -> Arg<'a>
+    ensures rule { rule_of result ≡ file_rule name.entry.now action }
     ensures global { result.global ≡ false }
 {
     Arg::new(heap, name)
         .required(true)
-        .action(ArgAction::Set)
+        .action(action)
         .help(help)
 }
 
@@ -540,52 +570,21 @@ fn libraries_argument<'a>(heap: Global) -> Arg<'a>
         .help("A library to search for units, in the order given")
 }
 
-fn files_argument<'a>(heap: Global) -> Arg<'a>
-    ensures rule { rule_of result ≡ files_rule }
+/// An option without a value.
+fn flag_argument<'a>(heap: Global, name: &'a str, help: &'a str) -> Arg<'a>
+    ensures rule { rule_of result ≡ flag_rule name.entry.now }
     ensures global { result.global ≡ false }
 {
-    Arg::new(heap, "FILE")
-        .required(true)
-        .action(ArgAction::Append)
-        .help("A file of any kind, as a host, a library, or a linked file")
-}
-
-fn strict_argument<'a>(heap: Global) -> Arg<'a>
-    ensures rule { rule_of result ≡ strict_rule }
-    ensures global { result.global ≡ false }
-{
-    Arg::new(heap, "strict")
-        .long("strict")
+    Arg::new(heap, name)
+        .long(name)
         .action(ArgAction::SetTrue)
-        .help("Ends with status 1 on a warning too")
+        .help(help)
 }
 
-fn unit_argument<'a>(heap: Global) -> Arg<'a>
-    ensures rule { rule_of result ≡ unit_rule }
-    ensures global { result.global ≡ false }
-{
-    Arg::new(heap, "unit")
-        .long("unit")
-        .action(ArgAction::SetTrue)
-        .help("Lists each file, and what refuses each of its units by itself")
-}
-
-fn references_argument<'a>(heap: Global) -> Arg<'a>
-    ensures rule { rule_of result ≡ references_rule }
-    ensures global { result.global ≡ false }
-{
-    Arg::new(heap, "references")
-        .long("references")
-        .action(ArgAction::SetTrue)
-        .help("Prints what the link stores at each place, too")
-}
-
+/// The option `--json`.
 fn json_argument<'a>(heap: Global) -> Arg<'a>
     ensures rule { rule_of result ≡ json_rule }
     ensures global { result.global ≡ false }
 {
-    Arg::new(heap, "json")
-        .long("json")
-        .action(ArgAction::SetTrue)
-        .help("Prints the same values as one JSON document")
+    flag_argument(heap, "json", "Prints the same values as one JSON document")
 }
