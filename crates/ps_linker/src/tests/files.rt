@@ -17,49 +17,83 @@ fn complains<R: Files + AllocGlobal + Abort>(rt: &R, args: &[&str], complaint: &
     assert!(rt; files.created() == created, "{args:?}");
 }
 
+static OPENED: [(&str, &Image); 1] = [("opened-host", &HOST_IN_PLACE)];
+
+const MISSING: &str = "pslink: cannot read opened-missing\n";
+
+const NOT_READ: &str = "pslink: cannot read opened-folder\n";
+
+const NOT_WRITTEN: &str = "pslink: cannot write opened-folder\n";
+
+/// The args, what is said, and how many files are opened to be written.
+static UNOPENED: [(&[&str], &str, u64); 6] = [
+    (
+        &["pslink", "link", "opened-missing", "opened-out"],
+        MISSING,
+        0,
+    ),
+    (
+        &[
+            "pslink",
+            "link",
+            "opened-host",
+            "opened-out",
+            "opened-missing",
+        ],
+        MISSING,
+        0,
+    ),
+    (
+        &["pslink", "map", "opened-host", "opened-missing"],
+        MISSING,
+        0,
+    ),
+    (&["pslink", "show", "opened-missing"], MISSING, 0),
+    (
+        &["pslink", "link", "opened-host", "opened-folder"],
+        NOT_WRITTEN,
+        1,
+    ),
+    (
+        &["pslink", "link", "opened-folder", "opened-out"],
+        NOT_READ,
+        0,
+    ),
+];
+
 #[test]
 fn files_that_cannot_be_opened(rt: HostRuntime) {
     clean(&rt, &["opened-missing", "opened-out"]);
     let _ = fs::create_dir(&rt, "opened-folder");
-    save_all(&rt, &[("opened-host", &HOST_IN_PLACE)]);
-    let missing = "pslink: cannot read opened-missing\n";
-    let not_read = "pslink: cannot read opened-folder\n";
-    let not_written = "pslink: cannot write opened-folder\n";
-    let no_host = ["pslink", "link", "opened-missing", "opened-out"];
-    complains(&rt, &no_host, missing, 0);
-    let no_library = [
-        "pslink",
-        "link",
-        "opened-host",
-        "opened-out",
-        "opened-missing",
-    ];
-    complains(&rt, &no_library, missing, 0);
-    complains(
-        &rt,
-        &["pslink", "map", "opened-host", "opened-missing"],
-        missing,
-        0,
-    );
-    complains(&rt, &["pslink", "show", "opened-missing"], missing, 0);
-    complains(
-        &rt,
-        &["pslink", "link", "opened-host", "opened-folder"],
-        not_written,
-        1,
-    );
-    complains(
-        &rt,
-        &["pslink", "link", "opened-folder", "opened-out"],
-        not_read,
-        0,
-    );
+    save_all(&rt, OPENED.as_slice());
+    for (args, complaint, created) in &UNOPENED {
+        complains(&rt, *args, *complaint, *created);
+    }
     clean(&rt, &["opened-host"]);
     let _ = fs::remove_dir(&rt, "opened-folder");
 }
 
-/// Has each read of the file that is opened as the `nth` fail in turn, until none fails: how many
-/// failed. Until then nothing is printed, and the program tries to open no file to be written.
+/// Has a read of the file that is opened as the `nth` fail, after so many. Returns whether it
+/// failed: then nothing is printed, and the program tries to open no file to be written.
+fn fails_to_read<R: Files + AllocGlobal + Abort>(
+    rt: &R,
+    args: &[&str],
+    (nth, reads): (u64, u64),
+    complaint: &str,
+    wanted: &str,
+) -> bool {
+    let files = Faulty::taking(rt, nth, reads, 3);
+    let run = done(&files, args);
+    if run.status == 0 {
+        run.is(rt, (nth, reads), 0, wanted, "");
+        return false;
+    }
+    run.is(rt, (nth, reads), 3, "", complaint);
+    assert!(rt; files.created() == 0, "at {nth} {reads}");
+    true
+}
+
+/// Has each read of that file fail in turn, until none fails: how many failed.
 fn failing_reads<R: Files + AllocGlobal + Abort>(
     rt: &R,
     args: &[&str],
@@ -68,14 +102,9 @@ fn failing_reads<R: Files + AllocGlobal + Abort>(
     wanted: &str,
 ) -> u64 {
     for reads in 0..100 {
-        let files = Faulty::taking(rt, nth, reads, 3);
-        let run = done(&files, args);
-        if run.status == 0 {
-            run.is(rt, (nth, reads), 0, wanted, "");
+        if !fails_to_read(rt, args, (nth, reads), complaint, wanted) {
             return reads;
         }
-        run.is(rt, (nth, reads), 3, "", complaint);
-        assert!(rt; files.created() == 0, "at {nth} {reads}");
     }
     100
 }
@@ -130,37 +159,51 @@ fn is_started<R: Files + AllocGlobal + Abort>(
     (whole, begun): (u64, u64),
     row: (u64, u64),
 ) {
-    match fs::read(rt, "writes-out") {
+    let is_right = match fs::read(rt, "writes-out") {
         Ok(made) => {
-            assert!(rt; linked.starts_with(made.as_slice()), "{row:?}");
-            assert!(rt; made.len() as u64 == whole.saturating_add(begun), "{row:?}");
+            let length = made.len() as u64;
+            linked.starts_with(made.as_slice()) && length == whole.saturating_add(begun)
         }
-        Err(_) => assert!(rt; false, "{row:?}"),
-    }
+        Err(_) => false,
+    };
+    assert!(rt; is_right, "{row:?}");
 }
 
-/// Has each write of OUT fail in turn, which is the `nth` file that is opened, until none fails
-/// after so many as are needed. A write takes so many bytes at most.
-fn failing_writes<R: Files + AllocGlobal + Abort>(
+/// Has a write of OUT fail after so many, where more are needed. OUT is the `nth` file that is
+/// opened, and a write takes so many bytes at most.
+fn fails_to_write<R: Files + AllocGlobal + Abort>(
     rt: &R,
     args: &[&str],
     (nth, most, needed): (u64, usize, u64),
+    (writes, length): (u64, (u64, u64)),
     printed: &str,
     linked: &[u8],
 ) {
+    let row = (writes, needed);
+    let files = Faulty::taking(rt, nth, writes, most);
+    let run = done(&files, args);
+    assert!(rt; files.created() == 1, "{row:?}");
+    if writes == needed {
+        run.is(rt, row, 0, printed, "");
+        holds(rt, "writes-out", linked, args);
+    } else {
+        run.is(rt, row, 3, "", "pslink: cannot write writes-out\n");
+        is_started(rt, linked, length, row);
+    }
+}
+
+/// Has each write of OUT fail in turn, until none fails after so many as are needed.
+fn failing_writes<R: Files + AllocGlobal + Abort>(
+    rt: &R,
+    args: &[&str],
+    faults: (u64, usize, u64),
+    printed: &str,
+    linked: &[u8],
+) {
+    let (_, most, needed) = faults;
     let mut length = (0, 0);
     for writes in 0..=needed {
-        let row = (writes, needed);
-        let files = Faulty::taking(rt, nth, writes, most);
-        let run = done(&files, args);
-        assert!(rt; files.created() == 1, "{row:?}");
-        if writes == needed {
-            run.is(rt, row, 0, printed, "");
-            holds(rt, "writes-out", linked, args);
-        } else {
-            run.is(rt, row, 3, "", "pslink: cannot write writes-out\n");
-            is_started(rt, linked, length, row);
-        }
+        fails_to_write(rt, args, faults, (writes, length), printed, linked);
         length = lengthened(length, most as u64);
     }
 }
@@ -194,27 +237,27 @@ static WRITES: [(&[&str], (u64, usize, u64), &str, &Image); 2] = [
     ),
 ];
 
+static STALLS: [(&str, &Image); 1] = [("stalls-host", &HOST_IN_PLACE)];
+
+static STALLED: [&str; 4] = ["pslink", "link", "stalls-host", "stalls-out"];
+
 #[test]
 fn a_file_that_takes_no_bytes(rt: HostRuntime) {
-    save_all(&rt, &[("stalls-host", &HOST_IN_PLACE)]);
-    let args = ["pslink", "link", "stalls-host", "stalls-out"];
+    save_all(&rt, STALLS.as_slice());
     let files = Faulty::taking(&rt, 0, 0, 0);
-    let run = done(&files, &args);
+    let run = done(&files, STALLED.as_slice());
     run.is(&rt, "stalls", 3, "", "pslink: cannot write stalls-out\n");
-    holds(&rt, "stalls-out", &[], &args);
+    holds(&rt, "stalls-out", &[], STALLED.as_slice());
     clean(&rt, &["stalls-host", "stalls-out"]);
 }
 
 #[test]
 fn each_write_of_a_link_fails(rt: HostRuntime) {
     save_all(&rt, WRITTEN.as_slice());
-    for (args, faults, printed, image) in WRITES.iter() {
-        match image.bytes(rt.alloc()) {
-            Ok(linked) => failing_writes(&rt, *args, *faults, *printed, linked.as_slice()),
-            Err(_) => assert!(rt; false, "{args:?}"),
-        }
+    for (args, faults, printed, image) in &WRITES {
+        failing_writes(&rt, *args, *faults, *printed, image.bytes(&rt).as_slice());
     }
-    for (path, _) in WRITTEN.iter() {
+    for (path, _) in &WRITTEN {
         clean(&rt, &[*path]);
     }
     clean(&rt, &["writes-out"]);

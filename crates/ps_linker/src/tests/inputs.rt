@@ -1,5 +1,4 @@
 //! The code files that the tests run on, and the texts that are wanted of them.
-use std::alloc::{AllocError, Global};
 use std::fs;
 use std::process::Abort;
 use std::rt::Files;
@@ -8,7 +7,7 @@ use std::rt::Files;
 pub type Part = (usize, &'static [u8]);
 
 /// The dictionary and the code of a host program in block 1, which names a unit.
-const HOST_PROGRAM: [Part; 5] = [
+static HOST_PROGRAM: [Part; 5] = [
     (4, b"\x01\x00\x12\x00"),
     (72, b"DEMO    "),
     (120, b"UTIL    "),
@@ -20,7 +19,7 @@ const HOST_PROGRAM: [Part; 5] = [
 ];
 
 /// The kinds and the host's link information, where the unit is looked up in libraries.
-const UNIT_WANTED: [Part; 4] = [
+static UNIT_WANTED: [Part; 4] = [
     (194, b"\x01\x00"),
     (206, b"\x03\x00"),
     (1024, b"COUNT   \x07\x00\x03\x00\x00\x00\x00\x00"),
@@ -28,7 +27,7 @@ const UNIT_WANTED: [Part; 4] = [
 ];
 
 /// The same, and the unit in the host file, with one reference to the host's definition.
-const UNIT_IN_PLACE: [Part; 9] = [
+static UNIT_IN_PLACE: [Part; 9] = [
     (28, b"\x03\x00\x18\x00"),
     (194, b"\x01\x00"),
     (206, b"\x03\x00"),
@@ -44,7 +43,7 @@ const UNIT_IN_PLACE: [Part; 9] = [
 ];
 
 /// The host's link information with a constant more.
-const CONSTANT_DEFINED: [Part; 5] = [
+static CONSTANT_DEFINED: [Part; 5] = [
     (194, b"\x01\x00"),
     (206, b"\x03\x00"),
     (1024, b"COUNT   \x07\x00\x03\x00\x00\x00\x00\x00"),
@@ -53,7 +52,7 @@ const CONSTANT_DEFINED: [Part; 5] = [
 ];
 
 /// What linking makes of the unit in place.
-const LINKED_IN_PLACE: [Part; 2] = [
+static LINKED_IN_PLACE: [Part; 2] = [
     (28, b"\x02\x00\x18\x00"),
     (
         1024,
@@ -62,7 +61,7 @@ const LINKED_IN_PLACE: [Part; 2] = [
 ];
 
 /// A library with the unit, which has a private variable of four words.
-const LIBRARY_UNIT: [Part; 9] = [
+static LIBRARY_UNIT: [Part; 9] = [
     (8, b"\x01\x00\x18\x00"),
     (80, b"UTIL    "),
     (196, b"\x03\x00"),
@@ -78,7 +77,7 @@ const LIBRARY_UNIT: [Part; 9] = [
 ];
 
 /// The same library with its words the other way round.
-const BIG_ENDIAN_UNIT: [Part; 9] = [
+static BIG_ENDIAN_UNIT: [Part; 9] = [
     (8, b"\x00\x01\x00\x18"),
     (80, b"UTIL    "),
     (196, b"\x00\x03"),
@@ -94,7 +93,7 @@ const BIG_ENDIAN_UNIT: [Part; 9] = [
 ];
 
 /// What linking makes of the library's unit, and of the host program's data size.
-const LINKED_FROM_LIBRARY: [Part; 3] = [
+static LINKED_FROM_LIBRARY: [Part; 3] = [
     (28, b"\x02\x00\x18\x00"),
     (516, b"\x12\x00"),
     (
@@ -104,7 +103,7 @@ const LINKED_FROM_LIBRARY: [Part; 3] = [
 ];
 
 //// The same with the other library.
-const LINKED_FROM_OTHER: [Part; 3] = [
+static LINKED_FROM_OTHER: [Part; 3] = [
     (28, b"\x02\x00\x18\x00"),
     (516, b"\x12\x00"),
     (
@@ -114,7 +113,7 @@ const LINKED_FROM_OTHER: [Part; 3] = [
 ];
 
 /// The unit of a library, up to its link information.
-const USING_UNIT: [Part; 4] = [
+static USING_UNIT: [Part; 4] = [
     (8, b"\x01\x00\x18\x00"),
     (80, b"UTIL    "),
     (196, b"\x03\x00"),
@@ -125,21 +124,21 @@ const USING_UNIT: [Part; 4] = [
 ];
 
 /// Its link information: it names a second unit at byte 2 of its code.
-const USES_A_UNIT: [Part; 3] = [
+static USES_A_UNIT: [Part; 3] = [
     (1024, b"AUX     \x01\x00\x01\x00\x01\x00\x00\x00"),
     (1040, b"\x02\x00"),
     (1056, b"        \x00\x00\x00\x00\x00\x00\x00\x00"),
 ];
 
 /// The same with no place in its code.
-const NAMES_A_UNIT: [Part; 2] = [
+static NAMES_A_UNIT: [Part; 2] = [
     (1024, b"AUX     \x01\x00\x01\x00\x00\x00\x00\x00"),
     (1040, b"        \x00\x00\x00\x00\x00\x00\x00\x00"),
 ];
 
 /// The first, and the second unit, which has a reference to the host's definition and a private
 /// variable of four words.
-const BOTH_UNITS: [Part; 12] = [
+static BOTH_UNITS: [Part; 12] = [
     (1024, b"AUX     \x01\x00\x01\x00\x01\x00\x00\x00"),
     (1040, b"\x02\x00"),
     (1056, b"        \x00\x00\x00\x00\x00\x00\x00\x00"),
@@ -157,96 +156,163 @@ const BOTH_UNITS: [Part; 12] = [
     (2112, b"        \x00\x00\x00\x00\x00\x00\x00\x00"),
 ];
 
+/// Two bytes of a unit's code.
+static OTHER_CODE: [Part; 1] = [(518, b"\0\0")];
+
+/// Another name of a library's unit.
+static OTHER_NAME: [Part; 1] = [(80, b"OTHER   ")];
+
+/// Zeros in place of the names.
+static NO_NAMES: [Part; 1] = [(64, &[0; 128])];
+
+/// A kind in no byte order.
+static NO_ORDER: [Part; 1] = [(192, b"\x01\x01")];
+
+/// The parts of one of these tables, so that a table of files names them and does not hold them.
+#[derive(Clone, Copy)]
+pub enum Parts {
+    None,
+    HostProgram,
+    UnitWanted,
+    UnitInPlace,
+    ConstantDefined,
+    LinkedInPlace,
+    LibraryUnit,
+    BigEndianUnit,
+    LinkedFromLibrary,
+    LinkedFromOther,
+    UsingUnit,
+    UsesAUnit,
+    NamesAUnit,
+    BothUnits,
+    OtherCode,
+    OtherName,
+    NoNames,
+    NoOrder,
+}
+
+impl Parts {
+    fn all(self) -> &'static [Part] {
+        match self {
+            Parts::None => &[],
+            Parts::HostProgram => &HOST_PROGRAM,
+            Parts::UnitWanted => &UNIT_WANTED,
+            Parts::UnitInPlace => &UNIT_IN_PLACE,
+            Parts::ConstantDefined => &CONSTANT_DEFINED,
+            Parts::LinkedInPlace => &LINKED_IN_PLACE,
+            Parts::LibraryUnit => &LIBRARY_UNIT,
+            Parts::BigEndianUnit => &BIG_ENDIAN_UNIT,
+            Parts::LinkedFromLibrary => &LINKED_FROM_LIBRARY,
+            Parts::LinkedFromOther => &LINKED_FROM_OTHER,
+            Parts::UsingUnit => &USING_UNIT,
+            Parts::UsesAUnit => &USES_A_UNIT,
+            Parts::NamesAUnit => &NAMES_A_UNIT,
+            Parts::BothUnits => &BOTH_UNITS,
+            Parts::OtherCode => &OTHER_CODE,
+            Parts::OtherName => &OTHER_NAME,
+            Parts::NoNames => &NO_NAMES,
+            Parts::NoOrder => &NO_ORDER,
+        }
+    }
+}
+
 /// A code file of so many bytes, with blank names and the parts of two tables; what of them lies
 /// past its end is truncated.
 #[derive(Clone, Copy)]
-pub struct Image(usize, &'static [Part], &'static [Part]);
+pub struct Image(usize, Parts, Parts);
 
 impl Image {
     /// The file.
-    pub fn bytes(&self, alloc: Global) -> Result<Vec<u8>, AllocError> {
+    pub fn bytes<R: AllocGlobal + Abort>(&self, rt: &R) -> Vec<u8> {
         let Image(length, parts, more) = *self;
-        let mut file = vec![in alloc; 0u8; length]?;
+        let mut file = Vec::from_elem(rt.alloc(), 0, length).expect(rt, "no memory");
         for blank in file.iter_mut().skip(64).take(128) {
             *blank = b' ';
         }
-        for (place, bytes) in parts.iter().chain(more.iter()) {
-            for (at, byte) in file.iter_mut().skip(*place).zip(bytes.iter()) {
-                *at = *byte;
-            }
-        }
-        Ok(file)
+        put_all(file.as_mut_slice(), parts.all());
+        put_all(file.as_mut_slice(), more.all());
+        file
     }
+}
 
-    /// Writes the file. Returns whether it is written.
-    fn save<R: Files + AllocGlobal>(&self, rt: &R, path: &str) -> bool {
-        match self.bytes(rt.alloc()) {
-            Ok(bytes) => fs::write(rt, path, bytes.as_slice()).is_ok(),
-            Err(_) => false,
-        }
+fn put_all(file: &mut [u8], parts: &[Part]) {
+    for (place, bytes) in parts {
+        put(file, *place, *bytes);
+    }
+}
+
+/// Bytes that would lie past the file's end are left out.
+fn put(file: &mut [u8], place: usize, bytes: &[u8]) {
+    for (to, from) in file.iter_mut().skip(place).zip(bytes) {
+        *to = *from;
     }
 }
 
 /// Writes files.
 pub fn save_all<R: Files + AllocGlobal + Abort>(rt: &R, files: &[(&str, &Image)]) {
     for (path, image) in files {
-        assert!(rt; image.save(rt, *path), "{path}");
+        save(rt, *path, image.bytes(rt).as_slice());
     }
 }
 
+/// Writes a file.
+pub fn save<R: Files + Abort>(rt: &R, path: &str, bytes: &[u8]) {
+    assert!(rt; fs::write(rt, path, bytes).is_ok(), "{path}");
+}
+
 /// Writes a file that is no code file.
-pub fn save_text<R: Files + AllocGlobal + Abort>(rt: &R, path: &str, text: &str) {
-    assert!(rt; fs::write(rt, path, text).is_ok(), "{path}");
+pub fn save_text<R: Files + Abort>(rt: &R, path: &str, text: &str) {
+    save(rt, path, text.as_bytes())
 }
 
 /// A host with its unit in place, and what it is linked to.
-pub const HOST_IN_PLACE: Image = Image(2560, &HOST_PROGRAM, &UNIT_IN_PLACE);
+pub const HOST_IN_PLACE: Image = Image(2560, Parts::HostProgram, Parts::UnitInPlace);
 
-pub const LINKED_HOST_IN_PLACE: Image = Image(1536, &HOST_PROGRAM, &LINKED_IN_PLACE);
+pub const LINKED_HOST_IN_PLACE: Image = Image(1536, Parts::HostProgram, Parts::LinkedInPlace);
 
 /// A host that wants its unit, a library that has it, and what the two are linked to.
-pub const HOST: Image = Image(1536, &HOST_PROGRAM, &UNIT_WANTED);
+pub const HOST: Image = Image(1536, Parts::HostProgram, Parts::UnitWanted);
 
-pub const LIBRARY: Image = Image(1536, &LIBRARY_UNIT, &[]);
+pub const LIBRARY: Image = Image(1536, Parts::LibraryUnit, Parts::None);
 
-pub const LINKED_PAIR: Image = Image(1536, &HOST_PROGRAM, &LINKED_FROM_LIBRARY);
+pub const LINKED_PAIR: Image = Image(1536, Parts::HostProgram, Parts::LinkedFromLibrary);
 
 /// The host and the library truncated after their end marks, and the library truncated before its
 /// last byte and in its unit's code.
-pub const ENDING_HOST: Image = Image(1056, &HOST_PROGRAM, &UNIT_WANTED);
+pub const ENDING_HOST: Image = Image(1056, Parts::HostProgram, Parts::UnitWanted);
 
-pub const ENDING_LIBRARY: Image = Image(1104, &LIBRARY_UNIT, &[]);
+pub const ENDING_LIBRARY: Image = Image(1104, Parts::LibraryUnit, Parts::None);
 
-pub const CUT_LIBRARY: Image = Image(1103, &LIBRARY_UNIT, &[]);
+pub const CUT_LIBRARY: Image = Image(1103, Parts::LibraryUnit, Parts::None);
 
-pub const LIBRARY_CUT_IN_CODE: Image = Image(535, &LIBRARY_UNIT, &[]);
+pub const LIBRARY_CUT_IN_CODE: Image = Image(535, Parts::LibraryUnit, Parts::None);
 
 /// The library where two bytes of its unit's code are other ones, and what the host is linked to
 /// with it.
-pub const OTHER_LIBRARY: Image = Image(1536, &LIBRARY_UNIT, &[(518, b"\0\0")]);
+pub const OTHER_LIBRARY: Image = Image(1536, Parts::LibraryUnit, Parts::OtherCode);
 
-pub const LINKED_WITH_OTHER: Image = Image(1536, &HOST_PROGRAM, &LINKED_FROM_OTHER);
+pub const LINKED_WITH_OTHER: Image = Image(1536, Parts::HostProgram, Parts::LinkedFromOther);
 
 /// The library where its unit has another name.
-pub const LIBRARY_WITHOUT_UNIT: Image = Image(1536, &LIBRARY_UNIT, &[(80, b"OTHER   ")]);
+pub const LIBRARY_WITHOUT_UNIT: Image = Image(1536, Parts::LibraryUnit, Parts::OtherName);
 
-pub const BIG_ENDIAN_LIBRARY: Image = Image(1536, &BIG_ENDIAN_UNIT, &[]);
+pub const BIG_ENDIAN_LIBRARY: Image = Image(1536, Parts::BigEndianUnit, Parts::None);
 
 /// The host with a constant more.
-pub const HOST_WITH_CONSTANT: Image = Image(1536, &HOST_PROGRAM, &CONSTANT_DEFINED);
+pub const HOST_WITH_CONSTANT: Image = Image(1536, Parts::HostProgram, Parts::ConstantDefined);
 
 /// Libraries with a unit that names a second one: at a place in its code, at none, and where the
 /// second is there too.
-pub const USING_LIBRARY: Image = Image(1536, &USING_UNIT, &USES_A_UNIT);
+pub const USING_LIBRARY: Image = Image(1536, Parts::UsingUnit, Parts::UsesAUnit);
 
-pub const NAMING_LIBRARY: Image = Image(1536, &USING_UNIT, &NAMES_A_UNIT);
+pub const NAMING_LIBRARY: Image = Image(1536, Parts::UsingUnit, Parts::NamesAUnit);
 
-pub const LIBRARY_OF_BOTH: Image = Image(2560, &USING_UNIT, &BOTH_UNITS);
+pub const LIBRARY_OF_BOTH: Image = Image(2560, Parts::UsingUnit, Parts::BothUnits);
 
 /// Zeros, one byte less than a dictionary; and a dictionary whose kinds are in no byte order.
-pub const SHORT_FILE: Image = Image(511, &[(64, &[0; 128])], &[]);
+pub const SHORT_FILE: Image = Image(511, Parts::NoNames, Parts::None);
 
-pub const MIXED_FILE: Image = Image(512, &[(192, b"\x01\x01")], &[]);
+pub const MIXED_FILE: Image = Image(512, Parts::NoOrder, Parts::None);
 
 // What is printed of the links of the two hosts.
 pub const SUMMARY_IN_PLACE: &str = "segments 2 private words 0 blocks 3\n";

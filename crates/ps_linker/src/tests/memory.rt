@@ -39,9 +39,51 @@ fn put_out<R: Files + AllocGlobal + Abort>(rt: &R, is_there: bool) {
     }
 }
 
-/// Has each allocation of the args' run refused in turn, until none is: how many were. Until then
-/// nothing is printed, and no file is opened to be written; then OUT is the linked file, where the
+/// Refuses the allocation of this number in the args' run. Returns whether there was one: then
+/// nothing is printed, and no file is opened to be written. Else OUT is the linked file, where the
 /// command links, and no other command opens a file to be written.
+fn is_refused<R: Files + AllocGlobal + Abort>(
+    rt: &R,
+    number: u64,
+    args: &[&str],
+    was_there: bool,
+    printed: &str,
+    linked: Option<&Image>,
+) -> bool {
+    put_out(rt, was_there);
+    let heap = Refusing::once(rt.alloc(), number);
+    let files = Faulty::counting(rt);
+    let run = done_with(&files, &heap, args);
+    if heap.has_refused() {
+        run.is(rt, (args, number), 4, "", NO_MEMORY);
+        assert!(rt; files.created() == 0, "{args:?} {number}");
+        is_as_before(rt, was_there, args);
+        return true;
+    }
+    run.is(rt, (args, number), 0, printed, "");
+    has_linked(rt, linked, files.created(), args);
+    false
+}
+
+fn is_as_before<R: Files + AllocGlobal + Abort>(rt: &R, was_there: bool, args: &[&str]) {
+    if was_there {
+        holds(rt, OUT, b"as before", args);
+    }
+}
+
+fn has_linked<R: Files + AllocGlobal + Abort>(
+    rt: &R,
+    linked: Option<&Image>,
+    created: u64,
+    args: &[&str],
+) {
+    match linked {
+        Some(image) => holds_image(rt, OUT, image, args),
+        None => assert!(rt; created == 0, "{args:?}"),
+    }
+}
+
+/// Has each allocation of the args' run refused in turn, until none is: how many were.
 fn refused_allocations<R: Files + AllocGlobal + Abort>(
     rt: &R,
     args: &[&str],
@@ -50,22 +92,8 @@ fn refused_allocations<R: Files + AllocGlobal + Abort>(
     linked: Option<&Image>,
 ) -> u64 {
     for number in 1..1000 {
-        put_out(rt, was_there);
-        let heap = Refusing::once(rt.alloc(), number);
-        let files = Faulty::counting(rt);
-        let run = done_with(&files, &heap, args);
-        if !heap.has_refused() {
-            run.is(rt, (args, number), 0, printed, "");
-            match linked {
-                Some(image) => holds_image(rt, OUT, image, args),
-                None => assert!(rt; files.created() == 0, "{args:?}"),
-            }
+        if !is_refused(rt, number, args, was_there, printed, linked) {
             return number - 1;
-        }
-        run.is(rt, (args, number), 4, "", NO_MEMORY);
-        assert!(rt; files.created() == 0, "{args:?} {number}");
-        if was_there {
-            holds(rt, OUT, b"as before", args);
         }
     }
     1000

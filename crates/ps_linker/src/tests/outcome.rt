@@ -5,6 +5,7 @@ use ps_command::CodeFiles;
 use std::alloc::{Allocator, Global};
 use std::fmt::Debug;
 use std::fs;
+use std::io::Write;
 use std::process::Abort;
 use std::rt::Files;
 
@@ -30,29 +31,36 @@ pub fn done_with<R: CodeFiles + AllocGlobal, A: Allocator + Copy>(
     let heap: Global = rt.alloc();
     let mut out = Vec::new(heap);
     let mut err = Vec::new(heap);
-    let status = run(rt, alloc, args, &mut out, &mut err);
+    let status = status_of(rt, alloc, args, &mut out, &mut err);
     Outcome { status, out, err }
+}
+
+/// Runs the arguments with these writers.
+pub fn status_of<R: CodeFiles + AllocGlobal, A: Allocator + Copy, O: Write, E: Write>(
+    rt: &R,
+    alloc: A,
+    args: &[&str],
+    out: &mut O,
+    err: &mut E,
+) -> u8 {
+    run(rt, alloc, args, out, err)
 }
 
 impl Outcome {
     /// The run of this row succeeded, and printed these two texts, one behind the other.
-    pub fn prints<D: Debug + Copy>(self, rt: &impl Abort, row: D, first: &str, second: &str) {
-        let Outcome { status, out, err } = self;
-        assert!(rt; (status, err.is_empty()) == (0, true), "{row:?}");
-        let printed = text(out.as_slice());
-        assert!(rt; printed.strip_prefix(first) == Some(second), "{row:?}");
+    pub fn prints<D: Debug + Copy>(&self, rt: &impl Abort, row: D, first: &str, second: &str) {
+        let printed = text(self.out.as_slice());
+        let is_right = self.status == 0
+            && self.err.is_empty()
+            && printed.strip_prefix(first) == Some(second);
+        assert!(rt; is_right, "{row:?}: {printed}");
     }
 
     /// The run of this row returned this status and wrote these texts.
-    pub fn is<D: Debug + Copy>(self, rt: &impl Abort, row: D, status: u8, out: &str, err: &str) {
-        let Outcome {
-            status: returned,
-            out: printed,
-            err: complained,
-        } = self;
-        assert!(rt; text(complained.as_slice()) == err, "{row:?}");
-        assert!(rt; text(printed.as_slice()) == out, "{row:?}");
-        assert!(rt; returned == status, "{row:?}");
+    pub fn is<D: Debug + Copy>(&self, rt: &impl Abort, row: D, status: u8, out: &str, err: &str) {
+        let (printed, complained) = (text(self.out.as_slice()), text(self.err.as_slice()));
+        let is_right = self.status == status && printed == out && complained == err;
+        assert!(rt; is_right, "{row:?}: {printed}{complained}");
     }
 }
 
@@ -62,10 +70,11 @@ pub fn text(bytes: &[u8]) -> &str {
 
 /// Checks that a file is there with these bytes.
 pub fn holds<R: Files + AllocGlobal + Abort>(rt: &R, path: &str, bytes: &[u8], row: &[&str]) {
-    match fs::read(rt, path) {
-        Ok(file) => assert!(rt; file.as_slice() == bytes, "{path}: {row:?}"),
-        Err(_) => assert!(rt; false, "no {path}: {row:?}"),
-    }
+    let is_held = match fs::read(rt, path) {
+        Ok(file) => file.as_slice() == bytes,
+        Err(_) => false,
+    };
+    assert!(rt; is_held, "{path}: {row:?}");
 }
 
 /// Checks that a file is there with the bytes of this image.
@@ -75,10 +84,7 @@ pub fn holds_image<R: Files + AllocGlobal + Abort>(
     image: &Image,
     row: &[&str],
 ) {
-    match image.bytes(rt.alloc()) {
-        Ok(bytes) => holds(rt, path, bytes.as_slice(), row),
-        Err(_) => assert!(rt; false, "no memory for {path}"),
-    }
+    holds(rt, path, image.bytes(rt).as_slice(), row)
 }
 
 /// Removes files of a test.

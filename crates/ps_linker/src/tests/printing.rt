@@ -4,9 +4,8 @@ use super::inputs::{
     HOST, HOST_IN_PLACE, Image, LIBRARY, LINKED_HOST_IN_PLACE, MAP_OF_PAIR, SHOWN_LIBRARY,
     SUMMARY_IN_PLACE, save_all,
 };
-use super::outcome::{clean, holds_image, text};
+use super::outcome::{clean, holds_image, status_of, text};
 use super::writers::{Limited, Stuck};
-use crate::run;
 use std::fs;
 use std::process::Abort;
 use std::rt::Files;
@@ -48,9 +47,9 @@ static STUCK_COMMANDS: [&[&str]; 6] = [
 fn cannot_print<R: Files + AllocGlobal + Abort>(rt: &R, args: &[&str], stuck: Stuck) {
     let mut out = stuck;
     let mut err = Vec::new(rt.alloc());
-    let status = run(rt, rt.alloc(), args, &mut out, &mut err);
-    assert!(rt; status == 3, "{args:?} {stuck:?}");
-    assert!(rt; text(err.as_slice()) == NO_OUTPUT, "{args:?} {stuck:?}");
+    let status = status_of(rt, rt.alloc(), args, &mut out, &mut err);
+    let is_right = status == 3 && text(err.as_slice()) == NO_OUTPUT;
+    assert!(rt; is_right, "{args:?} {stuck:?}");
 }
 
 #[test]
@@ -69,8 +68,34 @@ fn standard_output_that_fails(rt: HostRuntime) {
     clean(&rt, &["stuck-out"]);
 }
 
-/// Has each write of the args' text fail in turn, until none fails: how many failed. A write takes
-/// `most` bytes. What was taken is a prefix of the text, and all of it only where the status is 0.
+/// Has a write of the args' text fail after so many, of which each takes `most` bytes. Returns
+/// whether it failed: what was taken is a prefix of the text, and all of it only where the status
+/// is 0.
+fn fails_to_print<R: Files + AllocGlobal + Abort>(
+    rt: &R,
+    args: &[&str],
+    (most, writes): (usize, u64),
+    wanted: &str,
+) -> bool {
+    let mut out = Limited::new(rt.alloc(), most, writes);
+    let mut err = Vec::new(rt.alloc());
+    let status = status_of(rt, rt.alloc(), args, &mut out, &mut err);
+    let (taken, complained) = (text(out.taken.as_slice()), text(err.as_slice()));
+    let is_right = if status == 0 {
+        taken == wanted && complained.is_empty()
+    } else {
+        status == 3 && is_prefix(taken, wanted) && complained == NO_OUTPUT
+    };
+    assert!(rt; is_right, "{args:?} by {most} at {writes}");
+    status != 0
+}
+
+/// Whether a text is the start of another, and shorter.
+fn is_prefix(text: &str, whole: &str) -> bool {
+    whole.starts_with(text) && text.len() < whole.len()
+}
+
+/// Has each write of the args' text fail in turn, until none fails: how many failed.
 fn failing_prints<R: Files + AllocGlobal + Abort>(
     rt: &R,
     args: &[&str],
@@ -78,21 +103,9 @@ fn failing_prints<R: Files + AllocGlobal + Abort>(
     wanted: &str,
 ) -> u64 {
     for writes in 0..1000 {
-        let mut out = Limited::new(rt.alloc(), most, writes);
-        let mut err = Vec::new(rt.alloc());
-        let status = run(rt, rt.alloc(), args, &mut out, &mut err);
-        let taken = text(out.taken.as_slice());
-        if status == 0 {
-            assert!(rt; taken == wanted, "{args:?} by {most}");
-            assert!(rt; text(err.as_slice()) == "");
+        if !fails_to_print(rt, args, (most, writes), wanted) {
             return writes;
         }
-        assert!(rt; status == 3, "{args:?} at {writes}");
-        assert!(rt; text(err.as_slice()) == NO_OUTPUT);
-        assert!(rt;
-            wanted.starts_with(taken) && taken.len() < wanted.len(),
-            "{args:?} at {writes}"
-        );
     }
     1000
 }
@@ -135,26 +148,33 @@ fn each_write_of_a_text_fails(rt: HostRuntime) {
     clean(&rt, &["prints-out"]);
 }
 
+/// The args, and the status that they end with.
+static SILENT: [(&[&str], u8); 4] = [
+    (&["pslink", "link", "silent-host", "silent-out"], 3),
+    (&["pslink", "map", "silent-host"], 3),
+    (&["pslink", "show", "silent-host"], 3),
+    (&["pslink", "frob"], 2),
+];
+
+/// Runs the args with a standard error that does not take what it is given.
+fn cannot_complain<R: Files + AllocGlobal + Abort>(
+    rt: &R,
+    args: &[&str],
+    stuck: Stuck,
+    wanted: u8,
+) {
+    let mut out = Vec::new(rt.alloc());
+    let mut err = stuck;
+    let status = status_of(rt, rt.alloc(), args, &mut out, &mut err);
+    assert!(rt; status == wanted && out.is_empty(), "{args:?} {stuck:?}");
+}
+
 #[test]
 fn standard_error_that_fails(rt: HostRuntime) {
     let _ = fs::remove_file(&rt, "silent-host");
-    let link = ["pslink", "link", "silent-host", "silent-out"];
-    let map = ["pslink", "map", "silent-host"];
-    let show = ["pslink", "show", "silent-host"];
-    let usage = ["pslink", "frob"];
-    let commands = [
-        (link.as_slice(), 3),
-        (map.as_slice(), 3),
-        (show.as_slice(), 3),
-        (usage.as_slice(), 2),
-    ];
-    for (args, wanted) in commands {
+    for (args, wanted) in &SILENT {
         for stuck in [Stuck::Broken, Stuck::TakesNothing, Stuck::Interrupted] {
-            let mut out = Vec::new(rt.alloc());
-            let mut err = stuck;
-            let status = run(&rt, rt.alloc(), args, &mut out, &mut err);
-            assert!(rt; status == wanted, "{args:?} {stuck:?}");
-            assert!(rt; out.is_empty(), "{args:?} {stuck:?}");
+            cannot_complain(&rt, *args, stuck, *wanted);
         }
     }
 }

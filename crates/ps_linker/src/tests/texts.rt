@@ -4,129 +4,151 @@ use super::inputs::{
     LIBRARY_CUT_IN_CODE, LIBRARY_OF_BOTH, LIBRARY_SLOTS, LINKED_PAIR, MAP_OF_AN_ADDED_UNIT,
     MAP_OF_PAIR, MAP_WITH_CONSTANT, MIXED_FILE, NAMING_LIBRARY, REFERENCES_OF_PAIR, SHORT_FILE,
     SHOW_OF_BOTH_UNITS, SHOWN_BIG_ENDIAN, SHOWN_LIBRARY, SHOWN_LINKED, SHOWN_ZEROS, USING_LIBRARY,
-    save_all,
+    save, save_all,
 };
 use super::outcome::{Outcome, clean, done, done_with, holds_image};
 use refusing::Refusing;
 use std::fs;
 use std::process::Abort;
 use std::rt::Files;
-use std::test::Fail;
 
 /// The args of a map, the status and the two texts.
 type Mapped<'a> = (&'a [&'a str], u8, &'a str, &'a str);
 
+static MAP_FILES: [(&str, &Image); 5] = [
+    ("map-host", &HOST),
+    ("map-library", &LIBRARY),
+    ("map-constant", &HOST_WITH_CONSTANT),
+    ("map-linked", &LINKED_PAIR),
+    ("map-both", &LIBRARY_OF_BOTH),
+];
+
+const NO_UNIT: &str = "pslink: refused 13 MissingUnit file 0 slot 7\n";
+
+const NO_HOST: &str = "pslink: refused 4 NoHost file 0\n";
+
+const LINKED: &str = "pslink: refused 14 NotAUnit kind 0 file 1 slot 7\n";
+
+static MAPS: [Mapped<'static>; 7] = [
+    (
+        &["pslink", "map", "map-host", "map-library"],
+        0,
+        MAP_OF_PAIR,
+        "",
+    ),
+    (
+        &["pslink", "map", "map-host", "map-library", "--references"],
+        0,
+        REFERENCES_OF_PAIR,
+        "",
+    ),
+    (
+        &["pslink", "map", "map-constant", "map-library"],
+        0,
+        MAP_WITH_CONSTANT,
+        "",
+    ),
+    // a unit that only a unit names
+    (
+        &["pslink", "map", "map-host", "map-both"],
+        0,
+        MAP_OF_AN_ADDED_UNIT,
+        "",
+    ),
+    (&["pslink", "map", "map-host"], 1, "", NO_UNIT),
+    (&["pslink", "map", "map-linked", "map-host"], 1, "", NO_HOST),
+    (&["pslink", "map", "map-host", "map-linked"], 1, "", LINKED),
+];
+
 #[test]
 fn maps_a_host_with_its_libraries(rt: HostRuntime) {
-    let files = [
-        ("map-host", &HOST),
-        ("map-library", &LIBRARY),
-        ("map-constant", &HOST_WITH_CONSTANT),
-        ("map-linked", &LINKED_PAIR),
-        ("map-both", &LIBRARY_OF_BOTH),
-    ];
-    save_all(&rt, files.as_slice());
-    let no_unit = "pslink: refused 13 MissingUnit file 0 slot 7\n";
-    let no_host = "pslink: refused 4 NoHost file 0\n";
-    let linked = "pslink: refused 14 NotAUnit kind 0 file 1 slot 7\n";
-    let rows: [Mapped<'_>; 7] = [
-        (
-            &["pslink", "map", "map-host", "map-library"],
-            0,
-            MAP_OF_PAIR,
-            "",
-        ),
-        (
-            &["pslink", "map", "map-host", "map-library", "--references"],
-            0,
-            REFERENCES_OF_PAIR,
-            "",
-        ),
-        (
-            &["pslink", "map", "map-constant", "map-library"],
-            0,
-            MAP_WITH_CONSTANT,
-            "",
-        ),
-        // a unit that only a unit names
-        (
-            &["pslink", "map", "map-host", "map-both"],
-            0,
-            MAP_OF_AN_ADDED_UNIT,
-            "",
-        ),
-        (&["pslink", "map", "map-host"], 1, "", no_unit),
-        (&["pslink", "map", "map-linked", "map-host"], 1, "", no_host),
-        (&["pslink", "map", "map-host", "map-linked"], 1, "", linked),
-    ];
-    for (args, status, printed, complained) in rows {
-        done(&rt, args).is(&rt, args, status, printed, complained);
+    save_all(&rt, MAP_FILES.as_slice());
+    for (args, status, printed, complained) in &MAPS {
+        done(&rt, *args).is(&rt, *args, *status, *printed, *complained);
     }
     holds_image(&rt, "map-host", &HOST, &["map"]);
-    for (path, _) in files {
-        clean(&rt, &[path]);
+    for (path, _) in &MAP_FILES {
+        clean(&rt, &[*path]);
     }
 }
 
 /// Shows a file of these bytes.
-fn shown<R: Files + AllocGlobal + Abort>(rt: &R, image: Image) -> Outcome {
-    save_all(rt, &[("show-file", &image)]);
+fn shown<R: Files + AllocGlobal + Abort>(rt: &R, image: &Image) -> Outcome {
+    save_all(rt, &[("show-file", image)]);
     done(rt, &["pslink", "show", "show-file"])
 }
 
+const CUT: &str =
+    "links 02\n0 PUBLREF COUNT    at 1\n1 PRIVREF STATE    words 4 at 4\n2 fault 19 RecordsTruncated\n";
+
+const UNLISTED: &str = "links 02\n0 UNITREF AUX      at 2 unlisted\n1 EOFMARK next 0\n";
+
+const NOWHERE: &str = "links 02\n0 UNITREF AUX      at unlisted\n1 EOFMARK next 0\n";
+
+/// Files, and the two parts of their show.
+static SHOWS: [(&str, &Image, &str, &str); 8] = [
+    ("a library", &LIBRARY, SHOWN_LIBRARY, ""),
+    (
+        "a big-endian library",
+        &BIG_ENDIAN_LIBRARY,
+        SHOWN_BIG_ENDIAN,
+        "",
+    ),
+    ("a linked file", &LINKED_PAIR, SHOWN_LINKED, ""),
+    (
+        "a library without its last byte",
+        &CUT_LIBRARY,
+        LIBRARY_SLOTS,
+        CUT,
+    ),
+    (
+        "a library that is cut in its code",
+        &LIBRARY_CUT_IN_CODE,
+        LIBRARY_SLOTS,
+        "links 02\nfault 16 Truncated\n",
+    ),
+    (
+        "a unit that is there",
+        &LIBRARY_OF_BOTH,
+        SHOW_OF_BOTH_UNITS,
+        "",
+    ),
+    (
+        "a unit that is not there",
+        &USING_LIBRARY,
+        LIBRARY_SLOTS,
+        UNLISTED,
+    ),
+    (
+        "a unit that is not there, at no place",
+        &NAMING_LIBRARY,
+        LIBRARY_SLOTS,
+        NOWHERE,
+    ),
+];
+
+/// Files that are refused, and what is said of them.
+static UNSHOWN: [(&str, &Image, &str); 2] = [
+    (
+        "511 zeros",
+        &SHORT_FILE,
+        "pslink: refused 1 ShortFile file 0\n",
+    ),
+    (
+        "mixed kinds",
+        &MIXED_FILE,
+        "pslink: refused 2 NoOrder file 0\n",
+    ),
+];
+
 #[test]
 fn shows_what_a_file_has(rt: HostRuntime) {
-    let cut =
-        "links 02\n0 PUBLREF COUNT    at 1\n1 PRIVREF STATE    words 4 at 4\n2 fault 19 RecordsTruncated\n";
-    let no_unit = "links 02\n0 UNITREF AUX      at 2 unlisted\n1 EOFMARK next 0\n";
-    let nowhere = "links 02\n0 UNITREF AUX      at unlisted\n1 EOFMARK next 0\n";
-    let rows = [
-        ("a library", LIBRARY, SHOWN_LIBRARY, ""),
-        (
-            "a big-endian library",
-            BIG_ENDIAN_LIBRARY,
-            SHOWN_BIG_ENDIAN,
-            "",
-        ),
-        ("a linked file", LINKED_PAIR, SHOWN_LINKED, ""),
-        (
-            "a library without its last byte",
-            CUT_LIBRARY,
-            LIBRARY_SLOTS,
-            cut,
-        ),
-        (
-            "a library that is cut in its code",
-            LIBRARY_CUT_IN_CODE,
-            LIBRARY_SLOTS,
-            "links 02\nfault 16 Truncated\n",
-        ),
-        (
-            "a unit that is there",
-            LIBRARY_OF_BOTH,
-            SHOW_OF_BOTH_UNITS,
-            "",
-        ),
-        (
-            "a unit that is not there",
-            USING_LIBRARY,
-            LIBRARY_SLOTS,
-            no_unit,
-        ),
-        (
-            "a unit that is not there, at no place",
-            NAMING_LIBRARY,
-            LIBRARY_SLOTS,
-            nowhere,
-        ),
-    ];
-    for (what, image, slots, links) in rows {
-        shown(&rt, image).prints(&rt, what, slots, links);
+    for (what, image, slots, links) in &SHOWS {
+        shown(&rt, *image).prints(&rt, *what, *slots, *links);
     }
-    let short = "pslink: refused 1 ShortFile file 0\n";
-    shown(&rt, SHORT_FILE).is(&rt, "511 zeros", 1, "", short);
-    let mixed = "pslink: refused 2 NoOrder file 0\n";
-    shown(&rt, MIXED_FILE).is(&rt, "mixed kinds", 1, "", mixed);
+    for (what, image, complained) in &UNSHOWN {
+        shown(&rt, *image).is(&rt, *what, 1, "", *complained);
+    }
     clean(&rt, &["show-file"]);
 }
 
@@ -141,44 +163,60 @@ fn links_of_cut_host(length: usize) -> &'static str {
     }
 }
 
-#[test]
-fn shows_a_host_cut_to_each_length(rt: HostRuntime) -> Result<(), Fail> {
-    let whole = HOST.bytes(rt.alloc())?;
-    for length in 0..=whole.len() {
-        let cut = whole.get(..length).unwrap_or(&[]);
-        assert!(rt; cut.len() == length);
-        assert!(rt; fs::write(&rt, "show-host", cut).is_ok(), "{length}");
-        let shown = done(&rt, &["pslink", "show", "show-host"]);
-        if length < 512 {
-            shown.is(&rt, length, 1, "", "pslink: refused 1 ShortFile file 0\n");
-        } else {
-            shown.prints(&rt, length, HOST_SLOTS, links_of_cut_host(length));
-        }
+/// Shows the host truncated to this length.
+fn shows_cut<R: Files + AllocGlobal + Abort>(rt: &R, host: &[u8], length: usize) {
+    let cut = host.get(..length).unwrap_or(&[]);
+    assert!(rt; cut.len() == length);
+    save(rt, "show-host", cut);
+    let shown = done(rt, &["pslink", "show", "show-host"]);
+    if length < 512 {
+        shown.is(rt, length, 1, "", "pslink: refused 1 ShortFile file 0\n");
+    } else {
+        shown.prints(rt, length, HOST_SLOTS, links_of_cut_host(length));
     }
-    clean(&rt, &["show-host"]);
-    Ok(())
 }
 
 #[test]
-fn the_longest_file_is_read_and_none_longer(rt: HostRuntime) -> Result<(), Fail> {
-    let long = fs::create(&rt, "long-file")?;
-    let no_host = "pslink: refused 4 NoHost file 0\n";
-    let too_long = "pslink: long-file is longer than 67108864 bytes\n";
-    let rows = [
-        (67_108_864, 0, SHOWN_ZEROS, "", 1, no_host),
-        (67_108_865, 3, "", too_long, 3, too_long),
-    ];
-    for (length, show_status, shown, complained, link_status, refused) in rows {
-        fs::OpenFile::set_len(&long, length)?;
-        let args = ["pslink", "show", "long-file"];
-        let heap = Refusing::once(rt.alloc(), 0);
-        let run = done_with(&rt, &heap, args.as_slice());
-        run.is(&rt, length, show_status, shown, complained);
-        // There is room for the whole file from the start, and for no more than is read.
-        assert!(rt; (heap.allocations(), heap.bytes()) == (1, 67_108_864));
-        let args = ["pslink", "link", "long-file", "long-out"];
-        done(&rt, args.as_slice()).is(&rt, length, link_status, "", refused);
+fn shows_a_host_cut_to_each_length(rt: HostRuntime) {
+    let whole = HOST.bytes(&rt);
+    for length in 0..=whole.len() {
+        shows_cut(&rt, whole.as_slice(), length);
     }
-    fs::remove_file(&rt, "long-file")?;
-    Ok(())
+    clean(&rt, &["show-host"]);
+}
+
+const TOO_LONG: &str = "pslink: long-file is longer than 67108864 bytes\n";
+
+/// Lengths of a file of zeros; the status of its show and the two texts, and the status of its link
+/// and what is said of it.
+static LONG: [(u64, u8, &str, &str, u8, &str); 2] = [
+    (67_108_864, 0, SHOWN_ZEROS, "", 1, NO_HOST),
+    (67_108_865, 3, "", TOO_LONG, 3, TOO_LONG),
+];
+
+/// Shows the long file. There is room for the whole file from the start, and for no more than is
+/// read.
+fn shows_long<R: Files + AllocGlobal + Abort>(
+    rt: &R,
+    length: u64,
+    status: u8,
+    shown: &str,
+    complained: &str,
+) {
+    let heap = Refusing::once(rt.alloc(), 0);
+    let run = done_with(rt, &heap, &["pslink", "show", "long-file"]);
+    run.is(rt, length, status, shown, complained);
+    assert!(rt; (heap.allocations(), heap.bytes()) == (1, 67_108_864));
+}
+
+#[test]
+fn the_longest_file_is_read_and_none_longer(rt: HostRuntime) {
+    let long = fs::create(&rt, "long-file").expect(&rt, "no file");
+    for (length, status, shown, complained, link_status, refused) in &LONG {
+        fs::OpenFile::set_len(&long, *length).expect(&rt, "no length");
+        shows_long(&rt, *length, *status, *shown, *complained);
+        let run = done(&rt, &["pslink", "link", "long-file", "long-out"]);
+        run.is(&rt, *length, *link_status, "", *refused);
+    }
+    clean(&rt, &["long-file"]);
 }
