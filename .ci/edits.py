@@ -2,6 +2,7 @@
 import re
 
 FUNCTION = re.compile(r"^(?P<indent> *)(?P<pub>pub(?:\([a-z]+\))? )?(?:unsafe )?(?:const )?fn (?P<name>\w+)")
+CLAUSE = re.compile(r" *(requires|ensures|ghost)\b")
 
 
 def functions(path):
@@ -23,6 +24,21 @@ def functions(path):
                 end += 1
             found.append((kind, match["name"], match["pub"] == "pub ", at, end + 1))
     return lines, found
+
+
+def body_of(lines, first):
+    """The line with the `{` of the body of the function that begins at this line; None where it is only declared."""
+    indent = re.match(" *", lines[first])[0]
+    has_clauses = False
+    for at in range(first, len(lines)):
+        line = lines[at]
+        has_clauses = has_clauses or bool(CLAUSE.match(line))
+        if line in (indent + "{", indent + "{}") or not has_clauses and line.endswith((" {", " {}")):
+            return at
+        # a declaration ends before a blank line, or the end of its block
+        if not line or not line.startswith(indent) or not has_clauses and line.endswith(";"):
+            return None
+    return None
 
 
 def changes(crate, edit):
