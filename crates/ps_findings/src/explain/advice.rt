@@ -76,12 +76,14 @@ impl fmt::Display for Advice<'_> {
     fn fmt<W: fmt::Write>(&self, f: &mut Formatter<W>) -> fmt::Result {
         match *self {
             Advice::Sentence { text, path } => {
-                let mut rest = text;
-                while let Some((before, after)) = rest.split_once('@') {
-                    write!(f, "{before}{}", ShownPath(path))?;
-                    rest = after;
+                for c in text.chars() {
+                    if c == '@' {
+                        write!(f, "{}", ShownPath(path))?;
+                    } else {
+                        f.write_char(c)?;
+                    }
                 }
-                f.write_str(rest)
+                Ok(())
             }
             Advice::OfType(remedy) => write!(f, "{remedy}"),
             Advice::Exchange { host, library } => {
