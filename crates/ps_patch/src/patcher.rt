@@ -1,8 +1,9 @@
-ghost use Rattle.std.specs.Prelude.{◌≡◌, ℕ, ◌<◌, ◌≤◌, ◌+◌, ◌-◌, ◌^◌, ◌==◌, if◌then◌else◌, All, drop, find, length, min, slice_index};
+ghost use Rattle.std.specs.Prelude.{◌≡◌, ℕ, ◌<◌, ◌≤◌, ◌+◌, ◌-◌, ◌^◌, ◌==◌, if◌then◌else◌, All, drop, find, length, min, nat_lt, slice_index};
 ghost use Rattle.ps_words.specs.Edits.{AreApart, AreEdits, IsStorable, covers, place_of, stored_bytes, width};
 ghost use Rattle.ps_patch.specs.Patched.{patched_by, patched_from, patched_or_zero};
 ghost use Rattle.ps_patch.specs.Patcher.{EndsBehind};
 
+use crate::whole::store_at;
 use ps_words::{BLOCK_SIZE, Edit, Order, put, put_big};
 use std::marker::Model;
 
@@ -65,8 +66,10 @@ fn store_byte(block: &mut [u8; BLOCK_SIZE], from: usize, place: usize, byte: u8)
     }
 }
 
-/// Stores what the block of the code that begins at `from` has of an edit.
-fn store_in_block(order: Order, edit: Edit, from: usize, block: &mut [u8; BLOCK_SIZE])
+/// Stores what the block of the code that begins at `from` has of an edit, wherever the edit is. A
+/// function by itself, since few edits are not whole in the block.
+#[inline(never)]
+fn store_part(order: Order, edit: Edit, from: usize, block: &mut [u8; BLOCK_SIZE])
     requires storable { IsStorable edit }
     requires room { place_of edit + width edit < 2 ^ 64 }
     ensures { (k : ℕ) → k < 512 → slice_index block.new k
@@ -77,6 +80,25 @@ fn store_in_block(order: Order, edit: Edit, from: usize, block: &mut [u8; BLOCK_
     if edit.width() == 2 {
         store_byte(block, from, edit.place() + 1, bytes[1]);
     }
+}
+
+/// Stores what the block of the code that begins at `from` has of an edit. Returns whether the edit
+/// ends after the block.
+fn store_in_block(order: Order, edit: Edit, from: usize, block: &mut [u8; BLOCK_SIZE]) -> bool
+    requires storable { IsStorable edit }
+    requires room { place_of edit + width edit < 2 ^ 64 }
+    requires small { from + 512 < 2 ^ 64 }
+    ensures block { (k : ℕ) → k < 512 → slice_index block.new k
+        ≡ patched_by order edit (from + k) (slice_index block.old k) }
+    ensures over { result ≡ nat_lt (from + 512) (place_of edit + width edit) }
+{
+    let at = edit.place().wrapping_sub(from);
+    if at < BLOCK_SIZE - 1 {
+        store_at(order, block, at, edit);
+        return false;
+    }
+    store_part(order, edit, from, block);
+    end_of(edit) > from + BLOCK_SIZE
 }
 
 /// Stores what the block of the code that begins at `from` has of the edits from `next` on. Returns
@@ -101,9 +123,7 @@ fn store_all(
     ensures over { EndsBehind (from + 512) (drop result edits.now) }
 {
     for index in next..edits.len() {
-        let edit = edits[index];
-        store_in_block(order, edit, from, block);
-        if end_of(edit) > from + BLOCK_SIZE {
+        if store_in_block(order, edits[index], from, block) {
             return index;
         }
     }

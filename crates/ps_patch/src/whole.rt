@@ -1,18 +1,21 @@
-ghost use Rattle.std.specs.Prelude.{◌≡◌, ℕ, length, slice_index};
-ghost use Rattle.ps_words.specs.Edits.{AreEdits, IsInside, patched_byte};
+ghost use Rattle.std.specs.Prelude.{◌≡◌, ℕ, ◌≤◌, ◌+◌, length, slice_index};
+ghost use Rattle.ps_words.specs.Edits.{AreEdits, IsStorable, patched_byte, place_of, width};
 ghost use Rattle.ps_patch.specs.Patched.{patched_by};
 
 use ps_words::{Edit, Order, put, put_big};
 
-/// Stores an edit in the code.
-fn store(order: Order, code: &mut [u8], edit: Edit)
-    requires { IsInside (length code.old) edit }
-    ensures { (p : ℕ) → slice_index code.new p ≡ patched_by order edit p (slice_index code.old p) }
+/// Stores an edit in bytes of the code, where the edit's first byte is the one `at` in them.
+pub(crate) fn store_at(order: Order, bytes: &mut [u8], at: usize, edit: Edit)
+    requires storable { IsStorable edit }
+    requires inside { at + width edit ≤ length bytes.old }
+    ensures bytes { (k p : ℕ) → k + place_of edit ≡ at + p
+        → slice_index bytes.new k ≡ patched_by order edit p (slice_index bytes.old k) }
+    ensures length { length bytes.new ≡ length bytes.old }
 {
     match edit {
-        Edit::Big { place, value } => put_big(code, place, value),
-        Edit::Byte { place, value } => code[place] = value,
-        Edit::Word { place, value } => put(order, code, place, value),
+        Edit::Big { value, .. } => put_big(bytes, at, value),
+        Edit::Byte { value, .. } => bytes[at] = value,
+        Edit::Word { value, .. } => put(order, bytes, at, value),
     }
 }
 
@@ -28,6 +31,6 @@ pub fn apply(order: Order, code: &mut [u8], edits: &[Edit])
     ensures length { length code.new ≡ length code.old }
 {
     for edit in edits {
-        store(order, code, *edit);
+        store_at(order, code, edit.place(), *edit);
     }
 }
