@@ -1,6 +1,6 @@
 use Rattle.std.proofs.Common.{◌+◌, ◌∙◌, ℕ, List, length, ap, sym, arith}
 use Rattle.std.proofs.lemmas.List.FromFn.{length-map-range_with_len, map-range_with_len_more}
-use Rattle.ps_codefile.specs.Procedures.{ProcedureTables, content_of, procedures}
+use Rattle.ps_codefile.specs.Procedures.{ProcedureTables, content_of}
 use Rattle.ps_codefile.proofs.procedures.ProcedureDictionary.procs.Goals as goal
 
 pub push-requires : goal.push-requires
