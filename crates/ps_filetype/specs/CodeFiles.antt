@@ -1,7 +1,7 @@
 -- What a code file is for, by the kinds of its segments, and how a file is read by itself.
 -- Source: this project's profile, over the kinds of the UCSD Pascal II.0 manual.
 use Rattle.std.specs.Prelude.{ℕ, ◌==◌, ◌&&◌, ◌||◌, not, if◌then◌else◌, List}
-use Rattle.std.specs.Prelude.{slice_index, nat_le, Bool, true, false, Option, Some, None, Result}
+use Rattle.std.specs.Prelude.{slice_index, nat_le, Bool, false, Option, Some, None, Result}
 use Rattle.std.specs.Prelude.{Ok, Err, codes}
 use Rattle.std.specs.List.{list_any}
 use Rattle.std.specs.Option.{option_map_or}

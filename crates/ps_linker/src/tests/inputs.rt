@@ -367,113 +367,74 @@ private 07 STATE    offset 8 words 4
 next 12 data 18 blocks 3
 ";
 
+/// The show of a file of this byte order: its slots, of which those in brackets are empty, and the
+/// lines of link information.
+macro_rules! show {
+    ($order:literal, $([$($empty:literal)*] $($slot:literal)?)*; $($line:literal,)*) => {
+        concat!(
+            "order ",
+            $order,
+            "\n",
+            $(
+                $("slot ", $empty, "          kind 0 address 0 length 0 text 0\n",)*
+                $("slot ", $slot, "\n",)?
+            )*
+            $($line, "\n",)*
+        )
+    };
+}
+
 /// The show of the library, up to its link information.
-pub const LIBRARY_SLOTS: &str = "order little
-slot 00          kind 0 address 0 length 0 text 0
-slot 01          kind 0 address 0 length 0 text 0
-slot 02 UTIL     kind 3 address 1 length 24 text 0
-slot 03          kind 0 address 0 length 0 text 0
-slot 04          kind 0 address 0 length 0 text 0
-slot 05          kind 0 address 0 length 0 text 0
-slot 06          kind 0 address 0 length 0 text 0
-slot 07          kind 0 address 0 length 0 text 0
-slot 08          kind 0 address 0 length 0 text 0
-slot 09          kind 0 address 0 length 0 text 0
-slot 10          kind 0 address 0 length 0 text 0
-slot 11          kind 0 address 0 length 0 text 0
-slot 12          kind 0 address 0 length 0 text 0
-slot 13          kind 0 address 0 length 0 text 0
-slot 14          kind 0 address 0 length 0 text 0
-slot 15          kind 0 address 0 length 0 text 0
-";
+pub const LIBRARY_SLOTS: &str = show!(
+    "little",
+    ["00" "01"]
+    "02 UTIL     kind 3 address 1 length 24 text 0"
+    ["03" "04" "05" "06" "07" "08" "09" "10" "11" "12" "13" "14" "15"];
+);
 
 /// The show of the library.
-pub const SHOWN_LIBRARY: &str = "order little
-slot 00          kind 0 address 0 length 0 text 0
-slot 01          kind 0 address 0 length 0 text 0
-slot 02 UTIL     kind 3 address 1 length 24 text 0
-slot 03          kind 0 address 0 length 0 text 0
-slot 04          kind 0 address 0 length 0 text 0
-slot 05          kind 0 address 0 length 0 text 0
-slot 06          kind 0 address 0 length 0 text 0
-slot 07          kind 0 address 0 length 0 text 0
-slot 08          kind 0 address 0 length 0 text 0
-slot 09          kind 0 address 0 length 0 text 0
-slot 10          kind 0 address 0 length 0 text 0
-slot 11          kind 0 address 0 length 0 text 0
-slot 12          kind 0 address 0 length 0 text 0
-slot 13          kind 0 address 0 length 0 text 0
-slot 14          kind 0 address 0 length 0 text 0
-slot 15          kind 0 address 0 length 0 text 0
-links 02
-0 PUBLREF COUNT    at 1
-1 PRIVREF STATE    words 4 at 4
-2 EOFMARK next 0
-";
+pub const SHOWN_LIBRARY: &str = show!(
+    "little",
+    ["00" "01"]
+    "02 UTIL     kind 3 address 1 length 24 text 0"
+    ["03" "04" "05" "06" "07" "08" "09" "10" "11" "12" "13" "14" "15"];
+    "links 02",
+    "0 PUBLREF COUNT    at 1",
+    "1 PRIVREF STATE    words 4 at 4",
+    "2 EOFMARK next 0",
+);
 
 /// The show of the big-endian library.
-pub const SHOWN_BIG_ENDIAN: &str = "order big
-slot 00          kind 0 address 0 length 0 text 0
-slot 01          kind 0 address 0 length 0 text 0
-slot 02 UTIL     kind 3 address 1 length 24 text 0
-slot 03          kind 0 address 0 length 0 text 0
-slot 04          kind 0 address 0 length 0 text 0
-slot 05          kind 0 address 0 length 0 text 0
-slot 06          kind 0 address 0 length 0 text 0
-slot 07          kind 0 address 0 length 0 text 0
-slot 08          kind 0 address 0 length 0 text 0
-slot 09          kind 0 address 0 length 0 text 0
-slot 10          kind 0 address 0 length 0 text 0
-slot 11          kind 0 address 0 length 0 text 0
-slot 12          kind 0 address 0 length 0 text 0
-slot 13          kind 0 address 0 length 0 text 0
-slot 14          kind 0 address 0 length 0 text 0
-slot 15          kind 0 address 0 length 0 text 0
-links 02
-0 PUBLREF COUNT    at 1
-1 PRIVREF STATE    words 4 at 4
-2 EOFMARK next 0
-";
+pub const SHOWN_BIG_ENDIAN: &str = show!(
+    "big",
+    ["00" "01"]
+    "02 UTIL     kind 3 address 1 length 24 text 0"
+    ["03" "04" "05" "06" "07" "08" "09" "10" "11" "12" "13" "14" "15"];
+    "links 02",
+    "0 PUBLREF COUNT    at 1",
+    "1 PRIVREF STATE    words 4 at 4",
+    "2 EOFMARK next 0",
+);
 
 /// The show of the host, up to its link information.
-pub const HOST_SLOTS: &str = "order little
-slot 00          kind 0 address 0 length 0 text 0
-slot 01 DEMO     kind 1 address 1 length 18 text 0
-slot 02          kind 0 address 0 length 0 text 0
-slot 03          kind 0 address 0 length 0 text 0
-slot 04          kind 0 address 0 length 0 text 0
-slot 05          kind 0 address 0 length 0 text 0
-slot 06          kind 0 address 0 length 0 text 0
-slot 07 UTIL     kind 3 address 0 length 0 text 0
-slot 08          kind 0 address 0 length 0 text 0
-slot 09          kind 0 address 0 length 0 text 0
-slot 10          kind 0 address 0 length 0 text 0
-slot 11          kind 0 address 0 length 0 text 0
-slot 12          kind 0 address 0 length 0 text 0
-slot 13          kind 0 address 0 length 0 text 0
-slot 14          kind 0 address 0 length 0 text 0
-slot 15          kind 0 address 0 length 0 text 0
-";
+pub const HOST_SLOTS: &str = show!(
+    "little",
+    ["00"]
+    "01 DEMO     kind 1 address 1 length 18 text 0"
+    ["02" "03" "04" "05" "06"]
+    "07 UTIL     kind 3 address 0 length 0 text 0"
+    ["08" "09" "10" "11" "12" "13" "14" "15"];
+);
 
 /// The show of what the host and its library are linked to.
-pub const SHOWN_LINKED: &str = "order unknown
-slot 00          kind 0 address 0 length 0 text 0
-slot 01 DEMO     kind 0 address 1 length 18 text 0
-slot 02          kind 0 address 0 length 0 text 0
-slot 03          kind 0 address 0 length 0 text 0
-slot 04          kind 0 address 0 length 0 text 0
-slot 05          kind 0 address 0 length 0 text 0
-slot 06          kind 0 address 0 length 0 text 0
-slot 07 UTIL     kind 0 address 2 length 24 text 0
-slot 08          kind 0 address 0 length 0 text 0
-slot 09          kind 0 address 0 length 0 text 0
-slot 10          kind 0 address 0 length 0 text 0
-slot 11          kind 0 address 0 length 0 text 0
-slot 12          kind 0 address 0 length 0 text 0
-slot 13          kind 0 address 0 length 0 text 0
-slot 14          kind 0 address 0 length 0 text 0
-slot 15          kind 0 address 0 length 0 text 0
-";
+pub const SHOWN_LINKED: &str = show!(
+    "unknown",
+    ["00"]
+    "01 DEMO     kind 0 address 1 length 18 text 0"
+    ["02" "03" "04" "05" "06"]
+    "07 UTIL     kind 0 address 2 length 24 text 0"
+    ["08" "09" "10" "11" "12" "13" "14" "15"];
+);
 
 /// The show of zeros alone.
 pub const SHOWN_ZEROS: &str = "order unknown
@@ -505,28 +466,18 @@ next 12 data 18 blocks 4
 ";
 
 /// The show of that library.
-pub const SHOW_OF_BOTH_UNITS: &str = "order little
-slot 00          kind 0 address 0 length 0 text 0
-slot 01          kind 0 address 0 length 0 text 0
-slot 02 UTIL     kind 3 address 1 length 24 text 0
-slot 03 AUX      kind 3 address 3 length 24 text 0
-slot 04          kind 0 address 0 length 0 text 0
-slot 05          kind 0 address 0 length 0 text 0
-slot 06          kind 0 address 0 length 0 text 0
-slot 07          kind 0 address 0 length 0 text 0
-slot 08          kind 0 address 0 length 0 text 0
-slot 09          kind 0 address 0 length 0 text 0
-slot 10          kind 0 address 0 length 0 text 0
-slot 11          kind 0 address 0 length 0 text 0
-slot 12          kind 0 address 0 length 0 text 0
-slot 13          kind 0 address 0 length 0 text 0
-slot 14          kind 0 address 0 length 0 text 0
-slot 15          kind 0 address 0 length 0 text 0
-links 02
-0 UNITREF AUX      at 2
-1 EOFMARK next 0
-links 03
-0 PUBLREF COUNT    at 1
-1 PRIVREF STATE    words 4 at 4
-2 EOFMARK next 0
-";
+pub const SHOW_OF_BOTH_UNITS: &str = show!(
+    "little",
+    ["00" "01"]
+    "02 UTIL     kind 3 address 1 length 24 text 0"
+    []
+    "03 AUX      kind 3 address 3 length 24 text 0"
+    ["04" "05" "06" "07" "08" "09" "10" "11" "12" "13" "14" "15"];
+    "links 02",
+    "0 UNITREF AUX      at 2",
+    "1 EOFMARK next 0",
+    "links 03",
+    "0 PUBLREF COUNT    at 1",
+    "1 PRIVREF STATE    words 4 at 4",
+    "2 EOFMARK next 0",
+);
