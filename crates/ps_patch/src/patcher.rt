@@ -67,7 +67,7 @@ fn store_byte(block: &mut [u8; BLOCK_SIZE], from: usize, place: usize, byte: u8)
 }
 
 /// Stores what the block of the code that begins at `from` has of an edit, wherever the edit is. A
-/// function by itself, since few edits are not whole in the block.
+/// function by itself, since nearly all edits are whole in their block, and need less.
 #[inline(never)]
 fn store_part(order: Order, edit: Edit, from: usize, block: &mut [u8; BLOCK_SIZE])
     requires storable { IsStorable edit }
@@ -92,6 +92,7 @@ fn store_in_block(order: Order, edit: Edit, from: usize, block: &mut [u8; BLOCK_
         ≡ patched_by order edit (from + k) (slice_index block.old k) }
     ensures over { result ≡ nat_lt (from + 512) (place_of edit + width edit) }
 {
+    // a place before the block wraps to one far behind it: one comparison does for both
     let at = edit.place().wrapping_sub(from);
     if at < BLOCK_SIZE - 1 {
         store_at(order, block, at, edit);
