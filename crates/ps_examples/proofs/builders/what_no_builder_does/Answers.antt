@@ -7,7 +7,6 @@ use Rattle.ps_examples.proofs.NotOrigins.{none_passes}
 use Rattle.ps_linkinfo.specs.RecordCounts.{is_definition}
 use Rattle.ps_linkinfo.specs.declared.record.Body.TheVariants.{ConstDef}
 use Rattle.ps_linkinfo.specs.declared.record.LinkRecord.{LinkRecord as Record}
-use Rattle.ps_words.specs.declared.fault.Reason.{Reason}
 use Rattle.ps_words.specs.declared.fault.Reason.TheVariants as reason
 use Rattle.ps_examples.proofs.NotBuilt.{not_the_definition_of_a_new_name, not_the_later_private}
 use Rattle.ps_examples.proofs.NotBuilt.{not_a_record_without_a_private}

@@ -7,7 +7,6 @@ use Rattle.ps_resolve.specs.Standing.Sources.{IsNamed}
 use Rattle.ps_codefile.specs.declared.entry.Role.TheVariants as role
 use Rattle.ps_examples.specs.Segments.{count_reference, aux_segment, tools_segment}
 use Rattle.ps_examples.proofs.NotLinked.{same, util_aux}
-use Rattle.ps_codefile.specs.declared.entry.Role.{Role}
 use Rattle.std.proofs.lemmas.Bool.{false≢true}
 use Rattle.ps_words.specs.declared.order.Order.TheVariants.{Little}
 use Rattle.ps_examples.proofs.NotOrigins.{a_slot_without_one, not_past_an_empty_slot}

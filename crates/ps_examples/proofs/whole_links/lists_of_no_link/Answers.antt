@@ -1,7 +1,7 @@
 use Rattle.std.proofs.Common.{◌≡◌, ℕ, ◌<◌, List, [], ◌∷◌, refl, sym, subst, inr}
 use Rattle.std.proofs.Common.{arith}
 use Rattle.ps_codefile.specs.Dictionary.{entry_at}
-use Rattle.ps_examples.specs.Files.{library, library_of_used, util_information, aux}
+use Rattle.ps_examples.specs.Files.{library_of_used, util_information, aux}
 use Rattle.ps_examples.specs.Segments.{demo_segment, util_segment}
 use Rattle.ps_examples.proofs.NotLinked.{same, util_aux}
 use Rattle.ps_examples.proofs.NotOrigins.{a_slot_without_one, not_without_its_records, none_passes}
