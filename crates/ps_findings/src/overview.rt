@@ -7,9 +7,8 @@ ghost use Rattle.ps_checked.specs.Paths.{path_of};
 ghost use Rattle.ps_findings.specs.SegmentLines.{asker_of as asker_of_spec, from_words, head_words, lines_of_segments, name_in as name_in_spec, part_added as part_added_spec, part_as, segment_lines, slot_words, two_digits};
 ghost use Rattle.ps_findings.specs.SlotLines.{AddsSlotLines};
 
-use crate::orders::OrderOf;
 use crate::slot_lines::add_other_lines;
-use ps_checked::{Inputs, Part, Segment, in_slot};
+use ps_checked::{Inputs, OrderOf, Part, Segment, in_slot};
 use ps_codefile::Role;
 use ps_codefile::dictionary_layout::SLOTS;
 use ps_resolve::{Reading, Segment as LinkedSegment, UnitReference};
