@@ -72,19 +72,13 @@ impl<'c, 'a> Case<'c, 'a> {
     /// The record that the fault is reported with, where it can be read.
     /// Source: the published II.0 Linker source.
     pub fn record(&self) -> Option<LinkRecord<'a>> {
-        match (&self.segment, self.fault.rec) {
-            (Some(segment), Some(rec)) => segment.records().record(rec),
-            _ => None,
-        }
+        self.segment?.records().record(self.fault.rec?)
     }
 
     /// The operand that the fault is reported with.
     /// Source: the published II.0 Linker source.
     pub fn operand(&self) -> Option<Operand> {
-        match (self.record(), self.fault.reference) {
-            (Some(record), Some(reference)) => record.operand(reference),
-            _ => None,
-        }
+        self.record()?.operand(self.fault.reference?)
     }
 
     /// The first library that has a host program.
@@ -101,10 +95,7 @@ impl<'c, 'a> Case<'c, 'a> {
     /// Where its segment comes from.
     /// Source: this project's profile.
     pub fn source(&self) -> Option<Source<'a>> {
-        match &self.segment {
-            Some(segment) => segment.source,
-            None => None,
-        }
+        self.segment?.source
     }
 
     /// The code of its segment, as far as it can be read.
@@ -128,25 +119,21 @@ impl<'c, 'a> Case<'c, 'a> {
     /// The earlier slot that has a host program, or a unit of the name, and the name of its segment.
     /// Source: this project's profile.
     pub fn earlier_entry(&self) -> Option<(u8, ShownName)> {
-        let slot = self.fault.slot?;
-        match (Dict::read(self.inputs.host), self.entry()) {
-            (Ok(dict), Some(entry)) => earlier_in(&dict, self.fault.reason, slot, &entry.name),
-            _ => None,
-        }
+        let dict = Dict::read(self.inputs.host).ok()?;
+        let (slot, entry) = (self.fault.slot?, self.entry()?);
+        earlier_in(&dict, self.fault.reason, slot, &entry.name)
     }
 
     /// The first thing that is wrong with the procedures of the code.
     /// Source: UCSD Pascal II.0 manual, code file format.
     pub fn procedure_fault(&self) -> Option<ProcedureFault> {
-        let source = self.source()?;
-        let code = self.code();
+        let segment = self.segment?;
+        let source = segment.source?;
+        let code = source.code.ok()?;
         if code.len() < NUMBERS {
             return None;
         }
-        let is_host = match &self.segment {
-            Some(segment) => matches!(segment.part, Part::Host),
-            None => false,
-        };
+        let is_host = matches!(segment.part, Part::Host);
         ProcedureDictionary::read_or_fault(source.order, code, is_host).err()
     }
 }

@@ -4,6 +4,7 @@
 
 mod cases;
 mod inputs;
+mod orders;
 mod privates;
 mod records;
 mod references;
@@ -11,5 +12,6 @@ mod segments;
 
 pub use cases::Case;
 pub use inputs::Inputs;
+pub use orders::OrderOf;
 pub use records::length_of;
 pub use segments::{Part, Segment, Source, host_of, in_slot, is_named, segments_of, source_of};

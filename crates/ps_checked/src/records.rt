@@ -18,11 +18,9 @@ impl<'a> Case<'_, 'a> {
     /// The bytes of the file from the first record on that cannot be read, and their order.
     /// Source: the published II.0 Linker source.
     pub fn unread(&self) -> Option<(Order, &'a [u8])> {
-        let source = self.source()?;
-        let used = match &self.segment {
-            Some(segment) => length_of(&segment.records()),
-            None => 0,
-        };
+        let segment = self.segment?;
+        let source = segment.source?;
+        let used = length_of(&segment.records());
         Some((source.order, source.after.get(used..).unwrap_or(&[])))
     }
 
@@ -33,21 +31,18 @@ impl<'a> Case<'_, 'a> {
             Reason::DoubledPrivate => Sort::Private,
             _ => Sort::Definition,
         };
-        match (&self.segment, self.record()) {
-            (Some(segment), Some(record)) => segment.records().find(&record.name, sort),
-            _ => None,
-        }
+        let duplicate = self.record()?;
+        self.segment?.records().find(&duplicate.name, sort)
     }
 
     /// The record by which a unit itself defines the name.
     /// Source: this project's profile.
     pub fn own_definition(&self, name: &Name) -> Option<usize> {
-        match &self.segment {
-            Some(unit) if unit.part.is_unit() => {
-                let (rec, _) = unit.records().find(name, Sort::Variable)?;
-                Some(rec)
-            }
-            _ => None,
+        let unit = self.segment?;
+        if !unit.part.is_unit() {
+            return None;
         }
+        let (rec, _) = unit.records().find(name, Sort::Variable)?;
+        Some(rec)
     }
 }

@@ -1,20 +1,10 @@
 //! What the files say of the reference that a fault is reported with.
 use crate::cases::Case;
 use crate::segments::host_of;
-use ps_linkinfo::{Body, LinkInformation, LinkRecord, Operand, Sort};
+use ps_linkinfo::{Body, LinkRecord, Operand, Sort};
 use ps_pcode::procedures_of;
 use ps_resolve::{ReferencePlace, covering_reference};
 use ps_words::{Name, get_big};
-
-/// The earlier reference that covers a byte of this operand, and its record.
-fn covering<'a>(
-    records: &LinkInformation<'a>,
-    place: ReferencePlace,
-    operand: Operand,
-) -> Option<(ReferencePlace, LinkRecord<'a>)> {
-    let earlier = covering_reference(records, place, operand)?;
-    Some((earlier, records.record(earlier.rec)?))
-}
 
 impl<'a> Case<'_, 'a> {
     /// The bytes of an operand, as far as the code has them.
@@ -47,14 +37,11 @@ impl<'a> Case<'_, 'a> {
     /// The earlier reference that covers a byte of this one, and its record.
     /// Source: this project's profile.
     pub fn earlier_reference(&self) -> Option<(ReferencePlace, LinkRecord<'a>)> {
-        let place = ReferencePlace {
-            rec: self.fault.rec?,
-            reference: self.fault.reference?,
-        };
-        match (&self.segment, self.operand()) {
-            (Some(segment), Some(operand)) => covering(&segment.records(), place, operand),
-            _ => None,
-        }
+        let (rec, reference) = (self.fault.rec?, self.fault.reference?);
+        let records = self.segment?.records();
+        let place = ReferencePlace { rec, reference };
+        let earlier = covering_reference(&records, place, self.operand()?)?;
+        Some((earlier, records.record(earlier.rec)?))
     }
 
     /// The value of the references of a record: the base offset of its private variable, or the

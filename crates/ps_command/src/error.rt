@@ -96,6 +96,7 @@ pub(crate) enum CommandError<'a> {
     Memory,
 }
 
+// The trait `Error` wants a `Debug`, and nothing prints it.
 impl fmt::Debug for CommandError<'_> {
     fn fmt<W: fmt::Write>(&self, f: &mut Formatter<W>) -> fmt::Result {
         write!(f, "{self}")

@@ -11,6 +11,10 @@ use clap::error::ErrorKind;
 use clap::{Arg, ArgAction, ArgMatches, Command};
 use std::alloc::{AllocError, Allocator, Global};
 
+/// The release of the program, which `pslink --version` prints after its name.
+/// Source: this project's profile.
+pub(crate) const VERSION: &str = "0.1.0";
+
 /// What the help of the program ends with.
 const ENDING: &str = "Example:
   pslink link host.code linked.code library.code
@@ -432,7 +436,7 @@ fn command<'a>(heap: Global) -> Result<Command<'a>, AllocError>
     ensures { IfOk result (λ c. app_of c ≡ pslink_app) }
 {
     let app = Command::new(heap, "pslink")
-        .version("0.1.0")
+        .version(VERSION)
         .about("The Linker of UCSD Pascal II.0 for Pascal hosts and units")
         .after_help(ENDING)
         .subcommand_required(true);

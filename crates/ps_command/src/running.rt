@@ -14,7 +14,7 @@ use crate::error::CommandError;
 use crate::files::{self, CodeFiles, InputBytes};
 use crate::lists::{Form, print_lists};
 use crate::output;
-use crate::request::{self, Inputs, Request};
+use crate::request::{self, Inputs, Request, VERSION};
 use ps_linkfile::{Counting, Linked, Summary};
 use ps_report::Report;
 use std::alloc::{AllocError, Allocator, Global};
@@ -188,7 +188,9 @@ fn print_version<O: Write>(out: &mut O) -> Result<(), CommandError<'static>>
     ensures ok { OnOk result (Appends (O.contents out.old) (O.contents out.new) version_line) }
     ensures err { IfErr result (λ e. status_of e ≡ 3) }
 {
-    output::print(out, b"pslink 0.1.0\n")
+    output::print(out, b"pslink ")?;
+    output::print(out, VERSION.as_bytes())?;
+    output::print(out, b"\n")
 }
 
 /// Refuses to write a file that is a library too, to which another path leads.

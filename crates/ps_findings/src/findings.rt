@@ -5,9 +5,9 @@ ghost use Rattle.ps_resolve.specs.Sources.{contents};
 ghost use Rattle.ps_findings.specs.SegmentLines.{segment_lines};
 ghost use Rattle.ps_findings.specs.SlotLines.{AddsSlotLines};
 
-use crate::explain::Explanation;
 use crate::overview::{add_files, add_segments};
 use ps_checked::{Case, Inputs, Segment, segments_of};
+use ps_explained::Explanation;
 use ps_resolve::{Reading, read};
 use ps_warnings::{Warning, warnings_of};
 use ps_words::Fault;

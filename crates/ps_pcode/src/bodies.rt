@@ -162,15 +162,15 @@ impl<'c> Body<'c> {
 
     /// The jumps by the jump table before a place go to instructions, as far as they are looked at.
     fn has_table_targets(self, last: usize) -> bool {
-        let Some(targets) = self.table_targets(last) else {
+        let Some(mut targets) = self.table_targets(last) else {
             return false;
         };
-        let mut left = targets.len();
         let mut place = self.ends.enter;
         for _ in self.ends.enter..self.code.len() {
-            left = left.saturating_sub(count_of(targets.as_slice(), place));
-            if left == 0 || last <= place {
-                return left == 0;
+            let here = place;
+            targets.retain(|target| *target != here);
+            if targets.is_empty() || last <= place {
+                return targets.is_empty();
             }
             match Instruction::at(self.order, self.code, place) {
                 Some(instruction) => place = place.saturating_add(instruction.length),
@@ -200,15 +200,6 @@ impl<'c> Body<'c> {
         }
         Some(targets)
     }
-}
-
-/// How many of these places are this one.
-fn count_of(places: &[usize], place: usize) -> usize {
-    let mut count = 0usize;
-    for other in places {
-        count = count.saturating_add(usize::from(*other == place));
-    }
-    count
 }
 
 /// A procedure that is called.

@@ -50,14 +50,8 @@ impl Instruction<'_> {
 
     /// The bytes after its first operand, as many as that says, are characters of a line.
     fn has_text(self) -> bool {
-        let rest = self.bytes.get(1..).unwrap_or(&[]);
-        let text = rest.get(..usize::from(self.operand)).unwrap_or(rest);
-        for byte in text {
-            if *byte != b' ' && !byte.is_ascii_graphic() {
-                return false;
-            }
-        }
-        true
+        let mut text = self.bytes.iter().skip(1).take(usize::from(self.operand));
+        text.all(|byte| *byte == b' ' || byte.is_ascii_graphic())
     }
 
     /// Its operands are as a compiler writes them. Those of the program's variables may be longer,
@@ -120,12 +114,5 @@ fn is_packing(bytes: &[u8]) -> bool {
 ///
 /// Source: UCSD Pascal II.0 manual, P-machine instructions.
 pub fn has_global_operand(code: &[u8]) -> bool {
-    let mut last = 0u8;
-    for byte in code {
-        if *byte == 0x80 && GLOBAL_OPCODES.contains(&last) {
-            return true;
-        }
-        last = *byte;
-    }
-    false
+    code.windows(2).any(|pair| matches!(pair, [opcode, 0x80] if GLOBAL_OPCODES.contains(opcode)))
 }

@@ -39,10 +39,7 @@ pub(super) fn look_at<'a, A: Allocator>(
 }
 
 fn converted(line_ends: Option<LineEnds>) -> Option<Look> {
-    match line_ends {
-        Some(line_ends) => Some(Look::Converted { line_ends }),
-        None => None,
-    }
+    line_ends.map(|line_ends| Look::Converted { line_ends })
 }
 
 /// A unit has the text of its interface in the file.

@@ -13,10 +13,7 @@ pub(super) fn look_at<'a, A: Allocator>(
     sight: &Sight<'_, 'a>,
 ) -> Result<(), AllocError> {
     for segment in sight.list {
-        let file = match segment.source {
-            Some(source) => source.file,
-            None => 0,
-        };
+        let file = segment.source.map_or(0, |source| source.file);
         let place = in_segment(sight.inputs.path(file), segment.name);
         warnings.add(place, taken_slot(sight, segment))?;
         warnings.add(place, other_spelling(sight, segment))?;

@@ -1,6 +1,5 @@
 //! What faults of dictionaries say.
-use crate::orders::OrderOf;
-use ps_checked::Case;
+use ps_checked::{Case, OrderOf};
 use ps_codefile::Dict;
 use ps_codefile::dictionary_layout::SLOTS;
 use ps_codefile::kinds::{

@@ -1,12 +1,19 @@
-//! What is said of a file's byte order.
+//! What a file says of its byte order.
 use ps_codefile::Dict;
 use ps_filetype::FileType;
 use ps_words::{Order, Reason};
 use std::fmt::{self, Formatter};
 
-/// What a file says of its byte order, or what it is where it is no code file.
+/// What a file says of its byte order, or what it is where it is no code file. Its text is a phrase,
+/// as `little-endian`.
+///
+/// Source: this project's profile.
 #[derive(Clone, Copy)]
-pub(crate) struct OrderOf<'a>(pub(crate) &'a [u8]);
+pub struct OrderOf<'a>(
+    /// The whole file.
+    /// Source: this project's profile.
+    pub &'a [u8],
+);
 
 impl fmt::Display for OrderOf<'_> {
     fn fmt<W: fmt::Write>(&self, f: &mut Formatter<W>) -> fmt::Result {

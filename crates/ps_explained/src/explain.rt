@@ -14,9 +14,15 @@ use ps_shown::ShownName;
 use ps_words::Reason;
 use std::fmt::{self, Formatter, Write};
 
-/// A refusal in words, in lines.
+/// A refusal in words. Its text is lines, each with its end.
+///
+/// Source: this project's profile.
 #[derive(Clone, Copy)]
-pub(crate) struct Explanation<'c, 'a>(pub(crate) Case<'c, 'a>);
+pub struct Explanation<'c, 'a>(
+    /// The fault, and the files that are refused for it.
+    /// Source: this project's profile.
+    pub Case<'c, 'a>,
+);
 
 impl fmt::Display for Explanation<'_, '_> {
     fn fmt<W: Write>(&self, f: &mut Formatter<W>) -> fmt::Result {
