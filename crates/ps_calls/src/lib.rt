@@ -1,5 +1,5 @@
-//! The calls of the library for C, from memory to memory: a link, its map and what a code file has
-//! are put into the caller's room, and the answer says how it went.
+//! The calls of the library for C, from memory to memory: a link, its map, the report of a check
+//! and what a code file has are put into the caller's room, and the answer says how it went.
 //!
 //! Each call says by its contract what it leaves in the room, in the words of `ps_linkfile`.
 #![tactic(auto)]

@@ -15,7 +15,7 @@ impl<'a> Case<'_, 'a> {
     }
 
     /// The displacement in an operand, in words; 0 where the code does not have it.
-    /// Source: UCSD Pascal II.0 manual, P-machine instructions.
+    /// Source: UCSD Pascal II.0 manual, code file format.
     pub fn displacement_of(&self, operand: Operand) -> u16 {
         let bytes = self.bytes_of(operand);
         if 2 <= bytes.len() {

@@ -9,7 +9,8 @@ use ps_words::BLOCK_SIZE;
 pub const MAX_CODE_LEN: u16 = 32767;
 /// How many blocks the longest code takes.
 pub const MAX_CODE_BLOCKS: usize = (MAX_CODE_LEN as usize + BLOCK_SIZE - 1) / BLOCK_SIZE;
-/// How many bytes follow the procedure words: the segment number and the number of procedures.
+/// How many bytes follow the procedure words, to the end of the code: the segment number and the
+/// number of procedures.
 pub const NUMBERS: usize = 2;
 /// How many bytes of an attribute table precede its offset: four words.
 pub const TABLE_WORDS: usize = 8;

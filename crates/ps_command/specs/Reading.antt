@@ -5,6 +5,7 @@ use Rattle.std.specs.Borrow.{Bor}
 use Rattle.std.specs.Io.KnownBytes.{Appends}
 use Rattle.ps_command.specs.declared.error.CommandError.{CommandError}
 use Rattle.ps_command.specs.declared.error.CommandError.TheVariants as error
+use Rattle.ps_command.specs.declared.files.TheConstants.{LONGEST}
 use Rattle.ps_command.specs.declared.files.FileFault.{FileFault}
 use Rattle.ps_command.specs.declared.files.FileFault.TheVariants as fault
 
@@ -25,7 +26,7 @@ Writes {F} created closed contents path bytes =
 
 -- a file has more to give, if that is known, than a program reads of it
 abbrev pub IsTooLong : Option (List ℕ) → Type 0
-IsTooLong remaining = IfSome remaining (λ left. 67108864 < length left)
+IsTooLong remaining = IfSome remaining (λ left. LONGEST < length left)
 
 -- what is reported of a file at this path that was not read whole
 abbrev pub read_error : Bor (List ℕ) → FileFault → CommandError

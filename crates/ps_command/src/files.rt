@@ -15,7 +15,7 @@ use std::rt::Files;
 use std::{fs, io};
 
 /// The longest file that is read, in bytes.
-const LONGEST: usize = 67_108_864;
+pub(crate) const LONGEST: usize = 67_108_864;
 
 /// How many bytes a read requests.
 const CHUNK: usize = 16_384;
@@ -201,7 +201,7 @@ pub(crate) fn read<'a, R: CodeFiles, A: Allocator + Copy>(
     alloc: A,
     path: &'a str,
 ) -> Result<Vec<u8, A>, CommandError<'a>>
-    ensures bound { IfOk result (λ bytes. length bytes.items ≤ 67108864) }
+    ensures bound { IfOk result (λ bytes. length bytes.items ≤ LONGEST) }
     ensures whole { IfOk result (λ bytes. Reads (R.opened rt.now) R.Opened.remaining path.entry.now
         bytes.items) }
     ensures err { IfErr result (λ e. status_of e ≢ 2) }
@@ -229,7 +229,7 @@ fn read_to_end<F: Read, A: Allocator + Copy>(
     alloc: A,
     hint: usize,
 ) -> Result<Vec<u8, A>, FileFault>
-    ensures bound { IfOk result (λ bytes. length bytes.items ≤ 67108864) }
+    ensures bound { IfOk result (λ bytes. length bytes.items ≤ LONGEST) }
     ensures whole { IfOk result (λ bytes. IfSome (F.remaining file.old)
         (λ left. bytes.items ≡ left)) }
     ensures long { IfErr result (λ fault. fault ≡ FileFault.TooLong

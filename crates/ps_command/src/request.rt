@@ -11,10 +11,6 @@ use clap::error::ErrorKind;
 use clap::{Arg, ArgAction, ArgMatches, Command};
 use std::alloc::{AllocError, Allocator, Global};
 
-/// The release of the program, which `pslink --version` prints after its name.
-/// Source: this project's profile.
-pub(crate) const VERSION: &str = "0.1.0";
-
 /// What the help of the program ends with.
 const ENDING: &str = "Example:
   pslink link host.code linked.code library.code
@@ -91,10 +87,11 @@ are linked, and if not what is wrong and what to do. A line that begins with
 'warning: ' reports what looks wrong and is no fault. No file is written. With --json
 the verdict, the warnings and the report are printed as one JSON document.
 
-With --unit the files are listed as by list, and after the lines of each file comes a
-line of each unit that it has, with its first fault in a link with a host that would
-define each name: so a unit can be checked before there is a host. The other options
-then change nothing, and a file without a unit is refused.
+With --unit, HOST and each LIB are files of any kind. They are listed as by list, and
+after the lines of each file comes a line of each unit that it has, with its first
+fault in a link with a host that would define each name: so a unit can be checked
+before there is a host. The other options then change nothing, and a file without a
+unit is refused.
 
 Exit status:
   0  the files link, and there may be warnings
@@ -436,7 +433,7 @@ fn command<'a>(heap: Global) -> Result<Command<'a>, AllocError>
     ensures { IfOk result (λ c. app_of c ≡ pslink_app) }
 {
     let app = Command::new(heap, "pslink")
-        .version(VERSION)
+        .version("0.1.0")
         .about("The Linker of UCSD Pascal II.0 for Pascal hosts and units")
         .after_help(ENDING)
         .subcommand_required(true);
@@ -463,7 +460,7 @@ fn link_command<'a>(heap: Global) -> Result<Command<'a>, AllocError>
     ensures { IfOk result (λ c. (app_of c ≡ link_app) × ((out-Command c).has_globals ≡ false)) }
 {
     Command::new(heap, "link")
-        .about("Links a host with the units that it names, and writes the linked file")
+        .about("Links a host with the units that it uses, and writes the linked file")
         .after_help(LINK_ENDING)
         .arg(file(
             heap,
@@ -499,7 +496,7 @@ fn map_command<'a>(heap: Global) -> Result<Command<'a>, AllocError>
     ensures { IfOk result (λ c. (app_of c ≡ map_app) × ((out-Command c).has_globals ≡ false)) }
 {
     inputs_command(heap, "map")?
-        .about("Prints where a link would put each segment and private, and writes no file")
+        .about("Prints where a link would put each segment and private variable, and writes no file")
         .after_help(MAP_ENDING)
         .arg(flag_argument(
             heap,

@@ -14,7 +14,7 @@ use crate::error::CommandError;
 use crate::files::{self, CodeFiles, InputBytes};
 use crate::lists::{Form, print_lists};
 use crate::output;
-use crate::request::{self, Inputs, Request, VERSION};
+use crate::request::{self, Inputs, Request};
 use ps_linkfile::{Counting, Linked, Summary};
 use ps_report::Report;
 use std::alloc::{AllocError, Allocator, Global};
@@ -41,7 +41,8 @@ const SUMMARY_LENGTH: usize = 128;
 /// is on a warning where `check` is strict, and `err` is as it was. And `list` writes a line to `err`
 /// for each file that cannot be read, goes on with the next, and returns the greatest status of all:
 /// 1 where a file or a segment is refused, as its line says, and 3 where a file cannot be read, also
-/// for want of memory.
+/// for want of memory. `check --unit` does the same with a line of each unit, and its status is 1 too
+/// where a unit is refused or a file has none.
 ///
 /// Memory for the arguments is taken from `rt`, all other from `alloc`. Source: this project's
 /// profile.
@@ -188,9 +189,7 @@ fn print_version<O: Write>(out: &mut O) -> Result<(), CommandError<'static>>
     ensures ok { OnOk result (Appends (O.contents out.old) (O.contents out.new) version_line) }
     ensures err { IfErr result (λ e. status_of e ≡ 3) }
 {
-    output::print(out, b"pslink ")?;
-    output::print(out, VERSION.as_bytes())?;
-    output::print(out, b"\n")
+    output::print(out, b"pslink 0.1.0\n")
 }
 
 /// Refuses to write a file that is a library too, to which another path leads.

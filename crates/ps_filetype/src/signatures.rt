@@ -1,12 +1,10 @@
 //! Files that are known by the bytes at a certain place.
 use crate::code_file::code_file_of;
 use crate::file_type::FileType;
-use ps_words::{Name, Order, get};
+use ps_words::{BLOCK_SIZE, Name, Order, get};
 
-/// The header of MacBinary, and that of other programs.
+/// The length of the header of MacBinary; that of other programs is a block.
 const MACBINARY: usize = 128;
-
-const BLOCK: usize = 512;
 
 /// Where the directory of a volume is, and where its name begins there.
 const DIRECTORY: usize = 1024;
@@ -27,7 +25,7 @@ pub(crate) fn by_first_bytes(bytes: &[u8]) -> Option<FileType> {
 
 /// A code file behind a header.
 pub(crate) fn behind_header(bytes: &[u8]) -> Option<FileType> {
-    for header in [MACBINARY, BLOCK] {
+    for header in [MACBINARY, BLOCK_SIZE] {
         if code_file_of(bytes.get(header..)?).is_some() {
             return Some(match bytes {
                 [0, 1..=63, ..] if header == MACBINARY => FileType::MacBinary,

@@ -11,7 +11,7 @@ use crate::slot_lines::add_other_lines;
 use ps_checked::{Inputs, OrderOf, Part, Segment, in_slot};
 use ps_codefile::Role;
 use ps_codefile::dictionary_layout::SLOTS;
-use ps_resolve::{Reading, Segment as LinkedSegment, UnitReference};
+use ps_resolve::{HostReading, Reading, Segment as LinkedSegment, UnitReference};
 use ps_shown::{ShownName, ShownPath};
 use ps_words::Name;
 use std::alloc::{AllocError, Allocator};
@@ -131,7 +131,7 @@ pub(crate) fn add_segments<A: Allocator + Copy>(
         reading.now.host reading.now.libs) (string_bytes text.new)) }
 {
     add_each(alloc, text, inputs, reading, list)?;
-    let lines = lines_after(alloc, inputs, list)?;
+    let lines = lines_after(alloc, inputs, reading, list)?;
     add_other_lines(text, lines.as_str())
 }
 
@@ -393,21 +393,28 @@ impl fmt::Display for More {
 fn lines_after<A: Allocator>(
     alloc: A,
     inputs: &Inputs<'_>,
+    reading: &Reading<'_>,
     list: &[Segment<'_>],
 ) -> Result<String<A>, AllocError> {
     let mut text = String::new(alloc);
-    if !list.is_empty() {
-        add_empty(&mut text, list)?;
-        add_unused(&mut text, inputs, list)?;
+    if let Ok(host) = reading.host() {
+        if !list.is_empty() {
+            add_empty(&mut text, host, list)?;
+            add_unused(&mut text, inputs, list)?;
+        }
     }
     Ok(text)
 }
 
-/// Adds the slots that have no segment.
-fn add_empty<A: Allocator>(text: &mut String<A>, list: &[Segment<'_>]) -> Result<(), AllocError> {
+/// Adds the slots that have no segment: one whose kind is refused has one, though it is not read.
+fn add_empty<A: Allocator>(
+    text: &mut String<A>,
+    host: &HostReading<'_>,
+    list: &[Segment<'_>],
+) -> Result<(), AllocError> {
     text.push_str("slots without a segment:")?;
     for slot in 0..SLOTS {
-        if in_slot(list, slot).is_none() {
+        if host.role(slot).is_ok() && in_slot(list, slot).is_none() {
             write!(text, " {slot:02}")?;
         }
     }

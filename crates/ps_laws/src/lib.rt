@@ -1,6 +1,6 @@
 //! Laws of the definitions of a link: the first fault that the layers compute is the fault of
-//! smallest key among all that apply, the units that are added are those that are requested, and
-//! the segments of a link come from where it is said that they do.
+//! smallest key among all that apply, the units that are added are those that are requested, the
+//! segments of a link come from where it is said that they do, and its edits make its bytes.
 #![tactic(auto)]
 
 mod first_fault;

@@ -1,5 +1,6 @@
 //! The linked file as bytes: the segment dictionary in block 0, and after it the code of each
-//! segment, with its edits, in whole blocks.
+//! segment, with its edits, in whole blocks. And the map of a link, what it stores, and the show of a
+//! file, as lines and as JSON.
 #![tactic(auto)]
 
 mod block_layout;

@@ -1,5 +1,5 @@
 //! Code files as lines made for grep: a line of the file, and one for each of its segments. Each
-//! begins with the path. And the same values as JSON.
+//! begins with the path. And the same values as JSON, and the units of a file by themselves.
 #![tactic(auto)]
 
 mod alone;

@@ -12,7 +12,7 @@ pub(crate) enum Effect {
 impl Effect {
     /// That of an opcode with the byte after it.
     ///
-    /// Source: UCSD Pascal II.0 manual, P-machine instructions.
+    /// Source: P-code of II.0, *(open)* in FORMAT.md.
     pub(crate) fn of(opcode: u8, operand: u8) -> Effect {
         let (taken, put) = match opcode {
             0xB9 | 0xD7 => (0, 0),

@@ -15,16 +15,16 @@ const RETURNS: [u8; 3] = [0xAD, 0xC1, 0xD6];
 
 /// The opcodes with an operand that is a variable of the program: LAO, LDO and SRO.
 ///
-/// Source: UCSD Pascal II.0 manual, P-machine instructions.
+/// Source: P-code of II.0, *(open)* in FORMAT.md.
 pub const GLOBAL_OPCODES: [u8; 3] = [0xA5, 0xA9, 0xAB];
 
 /// The opcode with an operand that is the number of a segment: CXP.
 ///
-/// Source: UCSD Pascal II.0 manual, P-machine instructions.
+/// Source: P-code of II.0, *(open)* in FORMAT.md.
 pub const SEGMENT_OPCODES: [u8; 1] = [0xCD];
 
 /// Above it an opcode is no constant.
-const LAST_CONSTANT: u8 = 0x7F;
+const LAST_CONSTANT_OPCODE: u8 = 0x7F;
 
 /// What follows the opcode of an instruction.
 #[derive(Clone, Copy)]
@@ -47,7 +47,7 @@ pub(crate) enum Operands {
 }
 
 impl Operands {
-    /// Source: UCSD Pascal II.0 manual, P-machine instructions.
+    /// Source: P-code of II.0, *(open)* in FORMAT.md.
     fn of(opcode: u8) -> Operands {
         match opcode {
             0x9E | 0xA0 | 0xAA | 0xAD | 0xAE | 0xBC | 0xBD | 0xC1 | 0xC2 | 0xCE | 0xCF => {
@@ -136,7 +136,7 @@ impl<'c> Instruction<'c> {
     }
 
     pub(crate) fn is_constant(self) -> bool {
-        self.opcode <= LAST_CONSTANT
+        self.opcode <= LAST_CONSTANT_OPCODE
     }
 
     pub(crate) fn is_case(self) -> bool {

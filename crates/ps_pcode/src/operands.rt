@@ -57,7 +57,7 @@ impl Instruction<'_> {
     /// Its operands are as a compiler writes them. Those of the program's variables may be longer,
     /// since a link fills them in.
     ///
-    /// Source: UCSD Pascal II.0 manual, P-machine instructions.
+    /// Source: P-code of II.0, *(open)* in FORMAT.md.
     pub(crate) fn is_usual(self, order: Order) -> bool {
         let operand = self.operand;
         let big = self.big().unwrap_or(u16::MAX);
@@ -112,7 +112,7 @@ fn is_packing(bytes: &[u8]) -> bool {
 /// The code has an instruction for a variable of the program whose operand has two bytes and is
 /// below 256, as a compiler writes it where it is to be linked.
 ///
-/// Source: UCSD Pascal II.0 manual, P-machine instructions.
+/// Source: P-code of II.0, *(open)* in FORMAT.md.
 pub fn has_global_operand(code: &[u8]) -> bool {
     code.windows(2).any(|pair| matches!(pair, [opcode, 0x80] if GLOBAL_OPCODES.contains(opcode)))
 }

@@ -7,7 +7,7 @@ use ps_words::Order;
 
 /// What the instructions of a procedure keep to, besides that one begins where another ends.
 ///
-/// Source: UCSD Pascal II.0 manual, P-machine instructions, and this project's profile.
+/// Source: P-code of II.0, *(open)* in FORMAT.md, and this project's profile.
 #[derive(Clone, Copy)]
 pub struct Rules {
     /// After a case comes its table, and then an instruction.

@@ -22,12 +22,10 @@ use crate::reading::segment::Segment;
 use crate::references::names::Linking;
 use crate::references::records::add_records;
 use ps_codefile::Procs;
+use ps_codefile::code_layout::NUMBERS;
 use ps_words::Edit;
 use ps_words::word_laws::edits_patch_alike_in_any_order;
 use std::alloc::Allocator;
-
-/// How far from the end of a linked segment's code its number is, in bytes.
-const NUMBER_FROM_END: usize = 2;
 
 /// How many edits of a linked segment are no reference's, at most.
 const MOST_EDITS_BESIDE_REFERENCES: usize = 2;
@@ -52,7 +50,7 @@ fn own_edits<A: Allocator + Copy>(
 {
     let mut edits = EditTable::new(alloc, procedures)?;
     edits.put(Edit::Byte {
-        place: procedures.code().len() - NUMBER_FROM_END,
+        place: procedures.code().len() - NUMBERS,
         value: slot,
     });
     if !host {

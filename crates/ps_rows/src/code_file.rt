@@ -1,11 +1,8 @@
 //! Code files that tests make from their parts.
 use crate::base::{BASE_LENGTH, demo_code, util_code};
 use crate::information::{Information, Name, Record, bytes_of};
-use ps_words::Order;
+use ps_words::{BLOCK_SIZE, Order};
 use std::alloc::{AllocError, Global};
-
-/// The bytes of a block.
-const BLOCK: usize = 512;
 
 /// Where the names and the kinds of a segment dictionary begin.
 const NAMES: usize = 64;
@@ -152,5 +149,5 @@ impl CodeFile {
 
 /// Where a place of the code is in the file that begins with a block.
 fn code_at(block: u16, place: usize) -> usize {
-    (BLOCK * usize::from(block)).saturating_add(place)
+    (BLOCK_SIZE * usize::from(block)).saturating_add(place)
 }

@@ -8,8 +8,8 @@ pub const HELP: &str = "The Linker of UCSD Pascal II.0 for Pascal hosts and unit
 Usage: pslink <COMMAND>
 
 Commands:
-  link   Links a host with the units that it names, and writes the linked file
-  map    Prints where a link would put each segment and private, and writes no file
+  link   Links a host with the units that it uses, and writes the linked file
+  map    Prints where a link would put each segment and private variable, and writes no file
   show   Prints the segments of one code file and the link information of each
   check  Says in words what is wrong with the files and what only looks right
   list   Prints a line of each file and of each of its segments, made for grep
@@ -32,7 +32,7 @@ Exit status:
 A name that begins with a dash is given as ./-name, or after --. See pslink(1).
 ";
 
-const LINK_HELP: &str = "Links a host with the units that it names, and writes the linked file
+const LINK_HELP: &str = "Links a host with the units that it uses, and writes the linked file
 
 Usage: pslink link <HOST> <OUT> [LIB]...
 
@@ -66,7 +66,7 @@ Exit status:
 A name that begins with a dash is given as ./-name, or after --. See pslink(1).
 ";
 
-const MAP_HELP: &str = "Prints where a link would put each segment and private, and writes no file
+const MAP_HELP: &str = "Prints where a link would put each segment and private variable, and writes no file
 
 Usage: pslink map [OPTIONS] <HOST> [LIB]...
 
@@ -144,10 +144,11 @@ are linked, and if not what is wrong and what to do. A line that begins with
 'warning: ' reports what looks wrong and is no fault. No file is written. With --json
 the verdict, the warnings and the report are printed as one JSON document.
 
-With --unit the files are listed as by list, and after the lines of each file comes a
-line of each unit that it has, with its first fault in a link with a host that would
-define each name: so a unit can be checked before there is a host. The other options
-then change nothing, and a file without a unit is refused.
+With --unit, HOST and each LIB are files of any kind. They are listed as by list, and
+after the lines of each file comes a line of each unit that it has, with its first
+fault in a link with a host that would define each name: so a unit can be checked
+before there is a host. The other options then change nothing, and a file without a
+unit is refused.
 
 Exit status:
   0  the files link, and there may be warnings
