@@ -496,7 +496,9 @@ fn map_command<'a>(heap: Global) -> Result<Command<'a>, AllocError>
     ensures { IfOk result (λ c. (app_of c ≡ map_app) × ((out-Command c).has_globals ≡ false)) }
 {
     inputs_command(heap, "map")?
-        .about("Prints where a link would put each segment and private variable, and writes no file")
+        .about(
+            "Prints where a link would put each segment and private variable, and writes no file",
+        )
         .after_help(MAP_ENDING)
         .arg(flag_argument(
             heap,

@@ -1,6 +1,6 @@
 -- The parts of a report that have no line of a segment, and those that are put together.
-use Rattle.std.proofs.Common.{◌≡◌, ◌∙◌, ◌++◌, ◌∷◌, ◌&&◌, not, [], ℕ}
-use Rattle.std.proofs.Common.{Bool, List, Bor, Some, None, true, false, codes, refl, sym, ap}
+use Rattle.std.proofs.Common.{◌≡◌, ◌∙◌, ◌++◌, ◌∷◌, [], ℕ}
+use Rattle.std.proofs.Common.{List, Bor, None, true, false, codes, refl, sym, ap}
 use Rattle.std.specs.Prelude.{decimal}
 use Rattle.std.proofs.lemmas.List.{append_assoc}
 use Rattle.ps_linkfile.specs.declared.summary.Summary.{Summary}
