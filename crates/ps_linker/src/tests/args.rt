@@ -66,7 +66,8 @@ Exit status:
 A name that begins with a dash is given as ./-name, or after --. See pslink(1).
 ";
 
-const MAP_HELP: &str = "Prints where a link would put each segment and private variable, and writes no file
+const MAP_HELP: &str =
+    "Prints where a link would put each segment and private variable, and writes no file
 
 Usage: pslink map [OPTIONS] <HOST> [LIB]...
 
