@@ -56,7 +56,7 @@ abbrev pub other_char : ℕ → List ℕ
 other_char c = if is_control c then control_escape c else encode_utf8 c
 
 -- a character of a path between quotes
-abbrev pub quoted_char : ℕ → List ℕ
+unfoldable pub quoted_char : ℕ → List ℕ
 quoted_char c = elim (escape_letter c) [
   | Some letter ↦ 92 ∷ letter ∷ []
   | None ↦ other_char c

@@ -73,6 +73,7 @@ struct QuotedChar(char);
 impl fmt::Display for QuotedChar {
     ghost output = { λ c. Some (quoted_char c.0) };
 
+    #[tactic(auto, unfolding(crate::specs::Shown::quoted_char))]
     fn fmt<W: fmt::Write>(&self, f: &mut Formatter<W>) -> fmt::Result {
         match escape_letter(self.0) {
             Some(letter) => write!(f, "\\{letter}"),

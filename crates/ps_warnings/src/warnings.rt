@@ -383,7 +383,7 @@ impl Look {
         }
     }
 
-    /// Looks of link information.
+    /// Looks of end marks.
     fn fmt_records<W: fmt::Write>(&self, f: &mut Formatter<W>) -> fmt::Result {
         match *self {
             Look::ZeroMark => f.write_str(
@@ -395,6 +395,13 @@ impl Look {
             Look::RecordsAfterMark => f.write_str(
                 "after its end mark there are records, which are not read",
             ),
+            _ => self.fmt_operands(f),
+        }
+    }
+
+    /// Looks of operands and references.
+    fn fmt_operands<W: fmt::Write>(&self, f: &mut Formatter<W>) -> fmt::Result {
+        match *self {
             Look::ClearMark { place } => {
                 write!(
                     f,
