@@ -1,6 +1,6 @@
 pub mod Words
 pub mod Prefixes
-pub mod Extents
+pub mod Blocks
 pub mod Rising
 pub mod Pairs
 pub mod Codes

@@ -9,7 +9,7 @@ use Rattle.ps_linkfile.proofs.Words.{nat_tests, file_order, ext_get_or, all_bloc
 use Rattle.ps_linkfile.proofs.Words.{All-nil, in_file, next_of, Segment, Ascend, drop_all, block_of}
 use Rattle.ps_linkfile.proofs.Words.{All-cons, All-head, All-tail, opened_as, order_of, drop-drop}
 use Rattle.ps_linkfile.proofs.Words.{blocks, get_or_append_left, get_or-replicate, length-replicate}
-use Rattle.ps_linkfile.proofs.Words.{Order, Fault, slots, Extent, pair_of, extents, Reason}
+use Rattle.ps_linkfile.proofs.Words.{Order, Fault, slots, Origin, pair_of, origins, Reason}
 use Rattle.ps_linkfile.proofs.Words.{total_words, host_records, padded_segment, linked_file}
 use Rattle.ps_linkfile.proofs.Words.{OpenedFile, patched_or_zero, take-append-drop, linked_segments}
 use Rattle.std.specs.Prelude.{All, nat_lt, slice_range}
@@ -32,11 +32,12 @@ use Rattle.ps_resolve.specs.Faults.{host_fault}
 use Rattle.ps_resolve.specs.AllFaults.{first_fault, reading_fault}
 use Rattle.ps_linkfile.specs.LinkedFile.{all_pairs, dictionary}
 use Rattle.ps_linkfile.specs.Outcomes.{NamesFirst, error_of}
-use Rattle.ps_linkfile.proofs.Extents.{Left, left_start, left_more, first_block, all_blocks-cons}
+use Rattle.ps_linkfile.proofs.Blocks.{Left, left_start, left_more, first_block, all_blocks-cons}
 use Rattle.ps_linkfile.proofs.Pairs.{pair_four, pairs_at, pairs_len, pairs_are}
 use Rattle.ps_linkfile.proofs.Prefixes.{image_is}
-use Rattle.ps_linkfile.proofs.Plans.{extent_of_edited, extents_ascend, edited_extents}
+use Rattle.ps_linkfile.proofs.Plans.{origin_of_edited, edited_origins}
 use Rattle.ps_linkfile.proofs.Plans.{of_all_edited, to_all_edited}
+use Rattle.ps_linkfile.proofs.Slots.{segments_ascend}
 use Rattle.ps_resolve.proofs.FirstSlots.{neither_first}
 
 -- a part of a list, by its places
@@ -69,11 +70,11 @@ Laid order file block (e ∷ es) =
     → get_or file (512 * block + p) 0 ≡ patched_or_zero order e.segment.code e.edits p)
     × Laid order file (block + blocks (length e.segment.code)) es
 
-abbrev HasCode : Order → List ℕ → List Extent → Edited → Type 0
+abbrev HasCode : Order → List ℕ → List Origin → Edited → Type 0
 HasCode order file all e = (p : ℕ) → p < length e.segment.code
     → get_or file (512 * block_of all e.segment.slot + p) 0 ≡ linked_byte order e p
 
-abbrev HasPadding : List ℕ → List Extent → Edited → Type 0
+abbrev HasPadding : List ℕ → List Origin → Edited → Type 0
 HasPadding file all e = (p : ℕ) → length e.segment.code ≤ p
     → p < 512 * blocks (length e.segment.code)
     → get_or file (512 * block_of all e.segment.slot + p) 0 ≡ 0
@@ -91,13 +92,13 @@ module _ (order : Order) where
 
   -- codes that are at the blocks of their slots, with zeros after each, are laid out one after
   -- another
-  to_laid : (file : List ℕ) (all : List Extent) (from block : ℕ) (es : List Edited)
-      → Left all from block (map extent_of_edited es) → All (HasCode order file all) es
+  to_laid : (file : List ℕ) (all : List Origin) (from block : ℕ) (es : List Edited)
+      → Left all from block (map origin_of_edited es) → All (HasCode order file all) es
       → All (HasPadding file all) es → Laid order file block es
   to_laid file all from block [] h codes zeros = tt
   to_laid file all from block (e ∷ es) h codes zeros =
       let at : block_of all e.segment.slot ≡ block =
-      first_block all from block (extent_of_edited e) (map extent_of_edited es) h in
+      first_block all from block (origin_of_edited e) (map origin_of_edited es) h in
       let code = All-head (HasCode order file all) e es codes in
       let zero = All-head (HasPadding file all) e es zeros in (
         (λ p lt.
@@ -107,36 +108,36 @@ module _ (order : Order) where
               | inr beyond ↦ zero p beyond lt ∙ sym (past e p beyond)
             ]),
         to_laid file all (e.segment.slot + 1) (block + blocks (length e.segment.code)) es
-            (left_more all from block (extent_of_edited e) (map extent_of_edited es) h)
+            (left_more all from block (origin_of_edited e) (map origin_of_edited es) h)
             (All-tail (HasCode order file all) e es codes)
             (All-tail (HasPadding file all) e es zeros),
       )
 
   -- of codes that are laid out one after another, each is with its edits at the block of its slot
-  laid_codes : (file : List ℕ) (all : List Extent) (from block : ℕ) (es : List Edited)
-      → Left all from block (map extent_of_edited es)
+  laid_codes : (file : List ℕ) (all : List Origin) (from block : ℕ) (es : List Edited)
+      → Left all from block (map origin_of_edited es)
       → Laid order file block es → All (HasCode order file all) es
   laid_codes file all from block [] h laid = All-nil (HasCode order file all)
   laid_codes file all from block (e ∷ es) h laid =
       let at : block_of all e.segment.slot ≡ block =
-      first_block all from block (extent_of_edited e) (map extent_of_edited es) h in
+      first_block all from block (origin_of_edited e) (map origin_of_edited es) h in
       All-cons (HasCode order file all) e es (λ p within. ap (λ b. get_or file (512 * b + p) 0) at
       ∙ (laid.0 p (omega arith) ∙ inside e p within))
       (laid_codes file all (e.segment.slot + 1) (block + blocks (length e.segment.code)) es
-      (left_more all from block (extent_of_edited e) (map extent_of_edited es) h) laid.1)
+      (left_more all from block (origin_of_edited e) (map origin_of_edited es) h) laid.1)
 
   -- and each has zeros after it, up to the end of its last block
-  laid_padding : (file : List ℕ) (all : List Extent) (from block : ℕ) (es : List Edited)
-      → Left all from block (map extent_of_edited es)
+  laid_padding : (file : List ℕ) (all : List Origin) (from block : ℕ) (es : List Edited)
+      → Left all from block (map origin_of_edited es)
       → Laid order file block es → All (HasPadding file all) es
   laid_padding file all from block [] h laid = All-nil (HasPadding file all)
   laid_padding file all from block (e ∷ es) h laid =
       let at : block_of all e.segment.slot ≡ block =
-      first_block all from block (extent_of_edited e) (map extent_of_edited es) h in
+      first_block all from block (origin_of_edited e) (map origin_of_edited es) h in
       All-cons (HasPadding file all) e es (λ p beyond lt. ap (λ b. get_or file (512 * b + p) 0) at
       ∙ (laid.0 p lt ∙ past e p beyond))
       (laid_padding file all (e.segment.slot + 1) (block + blocks (length e.segment.code)) es
-      (left_more all from block (extent_of_edited e) (map extent_of_edited es) h) laid.1)
+      (left_more all from block (origin_of_edited e) (map origin_of_edited es) h) laid.1)
 
   padded_len : (e : Edited)
       → length (padded_segment order e) ≡ 512 * blocks (length e.segment.code)
@@ -150,7 +151,7 @@ module _ (order : Order) where
 
   -- all codes, each in whole blocks, take 512 bytes for each of their blocks
   codes_len : (es : List Edited)
-      → length (flat_map (padded_segment order) es) ≡ 512 * all_blocks (map extent_of_edited es)
+      → length (flat_map (padded_segment order) es) ≡ 512 * all_blocks (map origin_of_edited es)
   codes_len [] = omega arith
   codes_len (e ∷ es) =
       length-append (padded_segment order e) (flat_map (padded_segment order) es)
@@ -158,22 +159,22 @@ module _ (order : Order) where
         arith,
         padded_len e,
         codes_len es,
-        all_blocks-cons (extent_of_edited e) (map extent_of_edited es),
+        all_blocks-cons (origin_of_edited e) (map origin_of_edited es),
       )
 
   -- what is after a block is the codes
   laid_is : (file : List ℕ) (block : ℕ) (es : List Edited) → length file
-      ≡ 512 * (block + all_blocks (map extent_of_edited es)) → Laid order file block es
+      ≡ 512 * (block + all_blocks (map origin_of_edited es)) → Laid order file block es
       → drop (512 * block) file ≡ flat_map (padded_segment order) es
   laid_is file block [] len laid = drop_all (512 * block) file (omega (arith, len))
   laid_is file block (e ∷ es) len laid =
       let n = blocks (length e.segment.code) in
       let f = patched_or_zero order e.segment.code e.edits in
       let rest = drop (512 * block) file in
-      let blocks_are : all_blocks (extent_of_edited e ∷ map extent_of_edited es)
-      ≡ n + all_blocks (map extent_of_edited es) =
-      all_blocks-cons (extent_of_edited e) (map extent_of_edited es) in
-      let room : length rest ≡ 512 * (n + all_blocks (map extent_of_edited es)) =
+      let blocks_are : all_blocks (origin_of_edited e ∷ map origin_of_edited es)
+      ≡ n + all_blocks (map origin_of_edited es) =
+      all_blocks-cons (origin_of_edited e) (map origin_of_edited es) in
+      let room : length rest ≡ 512 * (n + all_blocks (map origin_of_edited es)) =
       length-drop (512 * block) file ∙ omega (arith, len, blocks_are) in
       let first : take (512 * n) rest ≡ padded_segment order e = image_is f 0
       (512 * n) (take (512 * n) rest) (length-take (512 * n) rest ∙ omega (arith, room))
@@ -310,20 +311,20 @@ stored_parts z d1 d2 d3 pairs names mid tail lz hm lp ln lt h1 h2 h3 =
     regrouped : (a b c d : List ℕ) → a ++ (b ++ (c ++ d)) ≡ (a ++ (b ++ c)) ++ d
     regrouped a b c d = simp append_assoc
 
-pub all_pairs_len : (order : Order) (all : List Extent) → length (all_pairs order all) ≡ 64
+pub all_pairs_len : (order : Order) (all : List Origin) → length (all_pairs order all) ≡ 64
 unfolding all_pairs
 all_pairs_len order all = pairs_len order all
 
 -- so they are the dictionary
 pub dictionary_is : (order : Order) (all_names : List (List ℕ)) (host : List ℕ) (all : List
-    Extent) (d pairs names tail : List ℕ) → d ≡ pairs ++ (names ++ (replicate 64 0 ++ tail))
+    Origin) (d pairs names tail : List ℕ) → d ≡ pairs ++ (names ++ (replicate 64 0 ++ tail))
     → pairs ≡ all_pairs order all → names ≡ flat_map (λ name. name) all_names
     → tail ≡ slice_range host 256 512 → d ≡ dictionary order all_names host all
 unfolding dictionary
 dictionary_is order all_names host all d pairs names tail h p n t = grind arith
 
 -- the facts of a linked file, of any codes
-pub record IsFile (order : Order) (names : List (List ℕ)) (host : List ℕ) (all : List Extent)
+pub record IsFile (order : Order) (names : List (List ℕ)) (host : List ℕ) (all : List Origin)
     (es : List Edited) (file : List ℕ) : Type 0 where
   pub size : length file ≡ 512 * (1 + all_blocks all)
   pub pairs : (slot : ℕ) → slot < 16
@@ -334,7 +335,7 @@ pub record IsFile (order : Order) (names : List (List ℕ)) (host : List ℕ) (a
   pub codes : All (HasCode order file all) es
   pub padding : All (HasPadding file all) es
 
-module _ (order : Order) (all : List Extent) (file : List ℕ) where
+module _ (order : Order) (all : List Origin) (file : List ℕ) where
   -- a pair, in the sixteen pairs
   pair_part : 512 ≤ length file → ((j : ℕ) → j < 64
       → get_or file j 0 ≡ get_or (flat_map (pair_of order all) slots) j 0) → (slot : ℕ)
@@ -382,8 +383,8 @@ whole_size : (head codes : List ℕ) (n : ℕ) → length head ≡ 512 → lengt
 whole_size head codes n h k = length-append head codes ∙ omega (arith, h, k)
 
 -- the list has these facts
-pub file_there : (order : Order) (all_names : List (List ℕ)) (host : List ℕ) (all : List Extent)
-    (es : List Edited) → map extent_of_edited es ≡ all → Ascend 0 all → length
+pub file_there : (order : Order) (all_names : List (List ℕ)) (host : List ℕ) (all : List Origin)
+    (es : List Edited) → map origin_of_edited es ≡ all → Ascend 0 all → length
     (flat_map (λ name. name) all_names) ≡ 128 → 512 ≤ length host → IsFile order all_names
     host all es (dictionary order all_names host all ++ flat_map (padded_segment order) es)
 unfolding dictionary all_pairs
@@ -391,8 +392,8 @@ file_there order all_names host all es is ascend named long =
     made (flat_map (pair_of order all) slots) (flat_map (λ name. name) all_names)
     (slice_range host 256 512) (flat_map (padded_segment order) es) refl refl refl refl
   where
-    left : Left all 0 1 (map extent_of_edited es)
-    left = subst (λ cs. Left all 0 1 cs) (sym is) (left_start all ascend)
+    left : Left all 0 1 (map origin_of_edited es)
+    left = subst (λ os. Left all 0 1 os) (sym is) (left_start all ascend)
 
     made : (pairs names tail codes : List ℕ) → pairs ≡ flat_map (pair_of order all) slots
         → names ≡ flat_map (λ name. name) all_names → tail ≡ slice_range host 256 512
@@ -407,7 +408,7 @@ file_there order all_names host all es is ascend named long =
         ap (λ xs. length xs) t ∙ part_len host 256 512 (omega (arith, long)) in
         let codes_are : length codes ≡ 512 * all_blocks all =
         ap (λ xs. length xs) c
-        ∙ (codes_len order es ∙ ap (λ cs. 512 * all_blocks cs) is) in
+        ∙ (codes_len order es ∙ ap (λ os. 512 * all_blocks os) is) in
         let prefix : length (pairs ++ (names ++ (replicate 64 0 ++ tail))) ≡ 512 =
         head_len pairs names tail pairs_64 names_128 tail_256 in
         let size : length file ≡ 512 * (1 + all_blocks all) =
@@ -468,17 +469,17 @@ joined file pairs names zeros tail codes p n z t c =
     first ∙ sym (flat_parts pairs names zeros tail codes)
 
 -- no other list has them
-pub file_one : (order : Order) (all_names : List (List ℕ)) (host : List ℕ) (all : List Extent)
-    (es : List Edited) (file : List ℕ) → map extent_of_edited es ≡ all → Ascend 0 all
+pub file_one : (order : Order) (all_names : List (List ℕ)) (host : List ℕ) (all : List Origin)
+    (es : List Edited) (file : List ℕ) → map origin_of_edited es ≡ all → Ascend 0 all
     → IsFile order all_names host all es file
     → file ≡ dictionary order all_names host all ++ flat_map (padded_segment order) es
 unfolding dictionary all_pairs
 file_one order all_names host all es file is ascend h =
-    let left : Left all 0 1 (map extent_of_edited es) =
-    subst (λ cs. Left all 0 1 cs) (sym is) (left_start all ascend) in
+    let left : Left all 0 1 (map origin_of_edited es) =
+    subst (λ os. Left all 0 1 os) (sym is) (left_start all ascend) in
     let laid : Laid order file 1 es = to_laid order file all 0 1 es left h.codes h.padding in
-    let size : length file ≡ 512 * (1 + all_blocks (map extent_of_edited es)) =
-    h.size ∙ ap (λ cs. 512 * (1 + all_blocks cs)) (sym is) in
+    let size : length file ≡ 512 * (1 + all_blocks (map origin_of_edited es)) =
+    h.size ∙ ap (λ os. 512 * (1 + all_blocks os)) (sym is) in
     let room : 512 ≤ length file = room_of (length file) (all_blocks all) h.size in
     joined file (flat_map (pair_of order all) slots) (flat_map (λ name. name) all_names)
     (replicate 64 0) (slice_range host 256 512) (flat_map (padded_segment order) es)
@@ -523,11 +524,11 @@ module _ (host : List ℕ) (libs : List (List ℕ)) where
   abbrev IsLinked : List ℕ → Segment → Type 0
   IsLinked file s = (p : ℕ) → p < length s.code
       → IsLinkedByte (order_of host) (segments_of host libs) s p
-      (get_or file (512 * block_of (extents host libs) s.slot + p) 0)
+      (get_or file (512 * block_of (origins host libs) s.slot + p) 0)
 
   abbrev IsPadded : List ℕ → Segment → Type 0
   IsPadded file s = (p : ℕ) → length s.code ≤ p → p < 512 * blocks (length s.code)
-      → get_or file (512 * block_of (extents host libs) s.slot + p) 0 ≡ 0
+      → get_or file (512 * block_of (origins host libs) s.slot + p) 0 ≡ 0
 
   of_all : (P : Segment → Type 0) → All (λ (e : Edited). P e.segment)
       (linked_segments host libs) → All P (segments_of host libs)
@@ -541,7 +542,7 @@ module _ (host : List ℕ) (libs : List (List ℕ)) where
 
   -- the codes with their edits have the linked bytes
   codes_linked : (file : List ℕ) → HaveLinkedBytes host libs
-      → All (HasCode (order_of host) file (extents host libs)) (linked_segments host libs)
+      → All (HasCode (order_of host) file (origins host libs)) (linked_segments host libs)
       → All (IsLinked file) (segments_of host libs)
   codes_linked file made codes = of_all (IsLinked file) (λ k d lt p within. subst
       (λ (b : ℕ). IsLinkedByte (order_of host) (segments_of host libs) (get_or (linked_segments
@@ -550,7 +551,7 @@ module _ (host : List ℕ) (libs : List (List ℕ)) where
   -- and what has the linked bytes has the codes with their edits
   linked_codes : (file : List ℕ) → HaveLinkedBytes host libs → HaveOneLinkedByte host libs
       → All (IsLinked file) (segments_of host libs)
-      → All (HasCode (order_of host) file (extents host libs)) (linked_segments host libs)
+      → All (HasCode (order_of host) file (origins host libs)) (linked_segments host libs)
   linked_codes file made one linked = λ k d lt p within. to_all IsOne one k d lt p _ _
       (to_all (IsLinked file) linked k d lt p within) (made k d lt p within)
     where
@@ -566,8 +567,8 @@ module _ (host : List ℕ) (libs : List (List ℕ)) where
       let named = law (order_of host) host libs long in
       let stands = found host libs none in
       let h = file_there (order_of host) (slot_names host (segments (order_of host) host libs)) host
-      (extents host libs) (linked_segments host libs) (edited_extents host libs)
-      (extents_ascend host libs) named long in
+      (origins host libs) (linked_segments host libs) (edited_origins host libs)
+      (segments_ascend (order_of host) host libs) named long in
       record {
         accepted = stands;
         size = h.size;
@@ -584,8 +585,8 @@ module _ (host : List ℕ) (libs : List (List ℕ)) where
       → file ≡ linked_file host libs
   one made single file h =
       file_one (order_of host) (slot_names host (segments (order_of host) host libs)) host
-      (extents host libs) (linked_segments host libs) file (edited_extents host libs)
-      (extents_ascend host libs)
+      (origins host libs) (linked_segments host libs) file (edited_origins host libs)
+      (segments_ascend (order_of host) host libs)
       (record {
         size = h.size;
         pairs = h.pairs;
