@@ -1,13 +1,14 @@
 -- The blocks of codes whose slots ascend.
 use Rattle.std.proofs.Common.{◌≡◌, ◌≤◌, ◌==◌, ◌∷◌, length-append, ◌∙◌}
-use Rattle.std.proofs.Common.{ℕ, suc, List, map, take, drop, Some, None, true, refl, sym, ap}
-use Rattle.std.proofs.Common.{zero, ◌+◌, ◌*◌, ◌<◌, [], ◌++◌, length, add-one, arith}
+use Rattle.std.proofs.Common.{ℕ, List, map, take, drop, None, refl, sym, ap}
+use Rattle.std.proofs.Common.{◌+◌, ◌*◌, ◌<◌, [], ◌++◌, length, arith}
 use Rattle.ps_linkfile.proofs.Words.{nat_lt, filter, find, blocks, Order, Origin, pair_of, Ascend}
 use Rattle.ps_linkfile.proofs.Words.{All, All-nil, All-cons, All-head, All-tail, MAX_WORD, block_of}
-use Rattle.ps_linkfile.proofs.Words.{option_map_or, nat_tests, word_bytes, all_blocks, starts_of}
+use Rattle.ps_linkfile.proofs.Words.{nat_tests, word_bytes, all_blocks, starts_of}
 use Rattle.std.proofs.lemmas.Bool.{eq-eqb}
 use Rattle.std.proofs.lemmas.List.{map-append, take_all}
-use Rattle.std.proofs.lemmas.List.Sums.{sum_by-cons}
+use Rattle.std.proofs.lemmas.List.Sums.{sum_by-cons, sum_by_push}
+use Rattle.std.proofs.Math.Seq.{take-add}
 use Rattle.ps_codefile.specs.declared.code_layout.TheConstants.{MAX_CODE_LEN, MAX_CODE_BLOCKS}
 
 pub all_blocks-cons : (o : Origin) (os : List Origin)
@@ -76,14 +77,7 @@ module _ (order : Order) (all : List Origin) (from block : ℕ) where
   -- what the dictionary says of it
   pub first_pair : (o : Origin) (rest : List Origin) → Left all from block (o ∷ rest)
       → pair_of order all o.slot ≡ word_bytes order block ++ word_bytes order (length o.code)
-  first_pair o rest h =
-      let is : (o.slot == o.slot) ≡ true = eq-eqb o.slot o.slot refl in
-      let there : find (λ (p : Origin). p.slot == o.slot) all ≡ Some o =
-      h.found o.slot h.ascend.0 ∙ rw is in
-      ap (λ found. option_map_or (λ p. word_bytes order (block_of all o.slot)
-      ++ word_bytes order (length p.code)) found (0 ∷ 0 ∷ 0 ∷ 0 ∷ [])) there ∙ ap
-      (λ b. word_bytes order b ++ word_bytes order (length o.code))
-      (first_block all from block o rest h)
+  first_pair o rest h = grind (arith, eq-eqb, none_before)
 
   -- what it says of a slot before the first that is left
   pub no_pair : (rest : List Origin) (next slot : ℕ)
@@ -92,22 +86,9 @@ module _ (order : Order) (all : List Origin) (from block : ℕ) where
   no_pair rest next slot h k le lt = grind (arith, none_there)
 
 -- so many of a list and the next
-next_taken : {X : Type 0} (xs : List X) (i : ℕ) (x : X) → drop i xs ≡ x ∷ drop (suc i) xs
-    → take (suc i) xs ≡ take i xs ++ x ∷ []
-next_taken [] zero x h = cc
-next_taken [] (suc i) x h = cc
-next_taken {X} (y ∷ ys) zero x h = grind arith
-next_taken {X} (y ∷ ys) (suc i) x h = grind (arith, next_taken ys i x h)
-
 took : {X : Type 0} (xs : List X) (i : ℕ) (x : X) → drop i xs ≡ x ∷ drop (i + 1) xs
     → take (i + 1) xs ≡ take i xs ++ x ∷ []
-took {X} xs i x h = grind (arith, add-one, next_taken)
-
-blocks_more : (os : List Origin) (o : Origin)
-    → all_blocks (os ++ o ∷ []) ≡ all_blocks os + blocks (length o.code)
-blocks_more [] o = all_blocks-cons o [] ∙ omega arith
-blocks_more (p ∷ ps) o = all_blocks-cons p (ps ++ o ∷ [])
-    ∙ omega (arith, blocks_more ps o, all_blocks-cons p ps)
+took {X} xs i x h = rw (take-add, h)
 
 -- the first so many codes are laid out; the next begins in this block
 pub record LaidSoFar (all : List Origin) (count : ℕ) (starts : List ℕ)
@@ -147,12 +128,8 @@ module _ (all : List Origin) (count : ℕ) (starts : List ℕ) (block from : ℕ
       let start : Origin → ℕ = λ p. block_of all p.slot in
       let sum_is : all_blocks (take (count + 1) all)
       ≡ all_blocks (take count all) + blocks (length o.code) =
-      ap (λ os. all_blocks os) more ∙ blocks_more (take count all) o in
+      rw more (sum_by_push (λ (p : Origin). blocks (length p.code)) (take count all) o) in
       let low : from ≤ o.slot = at.ascend.0 in
-      let few = h.few in
-      let small = h.small in
-      let many = h.many in
-      let so_far = h.blocks in
       record {
         left = left_more all from block o (drop (count + 1) all) at;
         few = omega arith;

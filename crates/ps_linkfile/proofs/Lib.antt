@@ -9,6 +9,7 @@ pub mod Slots
 pub mod Plans
 pub mod Whole
 pub mod Maps
+pub mod Walks
 pub mod Shows
 pub mod InPieces
 pub mod ReferenceText

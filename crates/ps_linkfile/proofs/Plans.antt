@@ -1,52 +1,35 @@
 -- A plan of a link can be written, and its file is the linked file.
 use Rattle.std.proofs.Common.{arith, ◌≡◌, ℕ, ◌+◌, ◌≤◌, ◌<◌, List, []}
 use Rattle.std.proofs.Common.{◌∷◌, length, map, refl, ap}
-use Rattle.ps_linkfile.proofs.Words.{length-map, All, flat_map, All-nil, All-cons, All-head}
-use Rattle.ps_linkfile.proofs.Words.{All-tail, patched_byte, Order, Edit, private_words, Segment}
+use Rattle.ps_linkfile.proofs.Words.{length-map, flat_map}
+use Rattle.ps_linkfile.proofs.Words.{patched_byte, Order, Edit, private_words, Segment}
 use Rattle.ps_linkfile.proofs.Words.{order_of, Known, Planned, origin_of, LinkSegments, IsPlan}
-use Rattle.ps_linkfile.proofs.Words.{Origin, origins, linked_segments, padded_code, padded_segment}
+use Rattle.ps_linkfile.proofs.Words.{linked_segments, padded_code, padded_segment}
 use Rattle.ps_linkfile.proofs.Words.{linked_file, padded_codes, file_in, HaveEdits}
 use Rattle.ps_codefile.specs.Dictionary.{block_len}
 use Rattle.ps_resolve.specs.Added.{slot_names}
-use Rattle.ps_resolve.specs.Linking.{Edited, edited_from, segment_edits}
+use Rattle.ps_resolve.specs.LinkedBytes.{segments_of}
+use Rattle.ps_linkfile.proofs.Words.{known_of, total_words, next_of, host_records}
+use Rattle.ps_resolve.specs.Linking.{Edited, edited_from}
 use Rattle.ps_linkfile.specs.LinkedFile.{summary_of}
 use Rattle.ps_linkfile.specs.Writing.{summary_in, IsReady}
 use Rattle.ps_linkfile.proofs.Slots.{segments_ascend, segments_small}
 
--- the origin of a segment with its edits
-abbrev pub origin_of_edited : Edited → Origin
-origin_of_edited e = origin_of e.segment
+-- the segments of those with their edits
+abbrev pub segments_in : List Edited → List Segment
+segments_in es = map (λ e. e.segment) es
 
 of_edited : (order : Order) (known : Known) (words free : ℕ) (ss : List Segment)
-    → map origin_of_edited (edited_from order known words free ss) ≡ map origin_of ss
+    → segments_in (edited_from order known words free ss) ≡ ss
 of_edited order known words free [] = refl
-of_edited order known words free (s ∷ ss) = ap (λ os. origin_of s ∷ os)
+of_edited order known words free (s ∷ ss) = ap (λ ts. s ∷ ts)
     (of_edited order known words (free + private_words s.records) ss)
 
-module _ (host : List ℕ) (libs : List (List ℕ)) where
-  -- the origins of the linked segments with their edits are those of the link
-  pub edited_origins : map origin_of_edited (linked_segments host libs) ≡ origins host libs
-  edited_origins = grind (arith, of_edited)
-
-module _ (P : Segment → Type 0) (order : Order) (known : Known) (words : ℕ) where
-  -- what holds of each segment with its edits holds of each segment, and the other way round
-  pub of_all_edited : (free : ℕ) (ss : List Segment)
-      → All (λ (e : Edited). P e.segment) (edited_from order known words free ss) → All P ss
-  of_all_edited free [] h = All-nil P
-  of_all_edited free (s ∷ ss) h =
-      let e : Edited = record { segment = s; edits = segment_edits order known words free s } in
-      let rest = edited_from order known words (free + private_words s.records) ss in
-      All-cons P s ss (All-head (λ (e : Edited). P e.segment) e rest h) (of_all_edited
-      (free + private_words s.records) ss (All-tail (λ (e : Edited). P e.segment) e rest h))
-
-  -- what holds of each segment holds of each segment with its edits
-  pub to_all_edited : (free : ℕ) (ss : List Segment)
-      → All P ss → All (λ (e : Edited). P e.segment) (edited_from order known words free ss)
-  to_all_edited free [] h = All-nil (λ (e : Edited). P e.segment)
-  to_all_edited free (s ∷ ss) h = All-cons (λ (e : Edited). P e.segment)
-      (record { segment = s; edits = segment_edits order known words free s })
-      (edited_from order known words (free + private_words s.records) ss)
-      (All-head P s ss h) (to_all_edited (free + private_words s.records) ss (All-tail P s ss h))
+-- the linked segments with their edits are the segments of the link
+pub linked_are : (host : List ℕ) (libs : List (List ℕ))
+    → segments_in (linked_segments host libs) ≡ segments_of host libs
+linked_are host libs = let ss = segments_of host libs in of_edited (order_of host) (known_of ss)
+    (total_words ss) (next_of (host_records ss)) ss
 
 -- each source has its own edits
 have_edits : (order : Order) (known : Known) (words free : ℕ) (ss : List Segment)

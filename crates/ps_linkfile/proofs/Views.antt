@@ -1,9 +1,9 @@
 -- The sources of a plan and their origins.
-use Rattle.std.proofs.Common.{arith, ℕ, List, [], map, get_or, drop, Some, false, ap}
+use Rattle.std.proofs.Common.{arith, ℕ, List, [], map, get_or, drop, Some, false, ap, sym}
 use Rattle.std.proofs.Common.{◌≡◌, ◌+◌, ◌≤◌, ◌<◌, ◌∷◌, length, ◌∙◌}
 use Rattle.ps_linkfile.proofs.Words.{All, slice_get, Edit, MAX_CODE_LEN, Origin, origin_of_source}
 use Rattle.ps_linkfile.proofs.Words.{Source, block_of, starts_of, Ascend}
-use Rattle.std.proofs.lemmas.List.{drop-map, drop_more, length-map, get_or-map}
+use Rattle.std.proofs.lemmas.List.{drop-map, drop_more, length-map, get_or-map, get_or-drop}
 use Rattle.std.proofs.lemmas.Option.{get_or_from_slice_get, slice_get_within}
 use Rattle.ps_linkfile.proofs.Blocks.{slots_below}
 use Rattle.ps_linkfile.proofs.Codes.{IsAt}
@@ -31,26 +31,34 @@ module _ (ss : List Source) (os : List Origin) where
       → drop i os ≡ origin_of_source (get_or ss i no_source) ∷ drop (i + 1) os
   source_at i h lt = rw h at (view_at origin_of_source ss i no_source lt)
 
+-- what holds of each item of a view holds of the view of each item
+seen_at : {X Y : Type 0} (P : Y → Type 0) (f : X → Y) (xs : List X) (i : ℕ) (d : X)
+    → All P (map f xs) → i < length xs → P (f (get_or xs i d))
+seen_at {X} P f xs i d h lt =
+    let within : i < length (map f xs) = rw length-map lt in
+    rw (get_or-map f xs i d (f d) lt) at (h i (f d) within)
+
+-- a view of a view of the item at a place
+pub twice_mapped : {X Y : Type 0} (f : X → Y) (g : Y → ℕ) (xs : List X) (k : ℕ) (x : X)
+    (rest : List X) → drop k xs ≡ x ∷ rest → get_or (map g (map f xs)) k 0 ≡ g (f x)
+twice_mapped f g xs k x rest h =
+    let at : k + 0 ≡ k = omega arith in
+    rw at at (sym (get_or-drop k (map g (map f xs)) 0 0)) ∙ rw (drop-map, drop-map, h)
+
 module _ (ss : List Source) where
   -- a source's code is small
   pub size_at : (i : ℕ) → All (λ o. length o.code ≤ MAX_CODE_LEN) (map origin_of_source ss)
       → i < length ss → length (get_or ss i no_source).code.now ≤ MAX_CODE_LEN
   size_at i h lt =
-      let within : i < length (map origin_of_source ss) =
-      rw (← (length-map ss origin_of_source)) at lt in
-      rw (get_or-map origin_of_source ss i no_source
-      (origin_of_source no_source) lt) at (h i (origin_of_source no_source) within)
+      seen_at (λ (o : Origin). length o.code ≤ MAX_CODE_LEN) origin_of_source ss i no_source h lt
 
   -- its slot is one of sixteen
   pub slot_at : (i : ℕ)
       → Ascend 0 (map origin_of_source ss) → i < length ss → (get_or ss i no_source).slot < 16
-  slot_at i h lt =
-      let within : i < length (map origin_of_source ss) =
-      rw (← (length-map ss origin_of_source)) at lt in
-      rw (get_or-map origin_of_source ss i no_source (origin_of_source no_source) lt) at
-      (slots_below 0 (map origin_of_source ss) h i (origin_of_source no_source) within)
+  slot_at i h lt = seen_at (λ (o : Origin). o.slot < 16) origin_of_source ss i no_source
+      (slots_below 0 (map origin_of_source ss) h) lt
 
-  -- the first block of its code, among those of all
+  -- there are as many starts as sources
   pub many_starts : (starts : List ℕ)
       → starts ≡ starts_of (map origin_of_source ss) → length starts ≡ length ss
   many_starts starts h = grind (arith, length-map)
@@ -59,13 +67,9 @@ module _ (ss : List Source) where
   pub start_at : (starts : List ℕ) (i : ℕ)
       → starts ≡ starts_of (map origin_of_source ss) → i < length ss
       → get_or starts i 0 ≡ block_of (map origin_of_source ss) (get_or ss i no_source).slot
-  start_at starts i h lt =
-      let all = map origin_of_source ss in
-      let within : i < length all = rw (← (length-map ss origin_of_source)) at lt in
-      ap (λ (bs : List ℕ). get_or bs i 0) h
-      ∙ (get_or-map (λ (o : Origin). block_of all o.slot) all i
-      (origin_of_source no_source) 0 within ∙ ap (λ (o : Origin). block_of all o.slot)
-      (get_or-map origin_of_source ss i no_source (origin_of_source no_source) lt))
+  start_at starts i h lt = ap (λ bs. get_or bs i 0) h ∙ twice_mapped origin_of_source
+      (λ (o : Origin). block_of (map origin_of_source ss) o.slot) ss i (get_or ss i no_source)
+      (drop (i + 1) ss) (drop_more ss i no_source lt)
 
 -- an item and those after it
 pub got : {X : Type 0} (xs : List X) (i : ℕ) (x : X) → slice_get xs i ≡ Some x
