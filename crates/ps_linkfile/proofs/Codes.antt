@@ -1,11 +1,11 @@
 -- The codes of a plan's sources, one after another.
 use Rattle.std.proofs.Common.{◌≡◌, ℕ, ◌+◌, ◌*◌, List, [], ◌∷◌, ◌++◌}
-use Rattle.std.proofs.Common.{length, map, drop, Option, ◌∙◌, subst, append_assoc, arith}
+use Rattle.std.proofs.Common.{length, drop, Option, ◌∙◌, subst, append_assoc, arith}
 use Rattle.std.proofs.Common.{length-append}
 use Rattle.ps_linkfile.proofs.Words.{length-map-range_with_len, Appends, blocks, Order, Edit}
 use Rattle.ps_linkfile.proofs.Words.{Origin, patched_or_zero, all_blocks, padded_code}
-use Rattle.ps_linkfile.proofs.Words.{extent_of_origin, padded_codes, HaveEdits, AppendsPrefix}
-use Rattle.ps_linkfile.proofs.Extents.{all_blocks-cons}
+use Rattle.ps_linkfile.proofs.Words.{padded_codes, HaveEdits, AppendsPrefix}
+use Rattle.ps_linkfile.proofs.Blocks.{all_blocks-cons}
 use Rattle.ps_linkfile.proofs.Prefixes.{appends_twice, prefix_more}
 
 -- the codes of the first so many sources were appended
@@ -54,7 +54,7 @@ module _ (order : Order) (os : List Origin) (ds : List (List Edit)) (count : ℕ
 
 -- the codes are whole blocks
 pub codes_len : (order : Order) (os : List Origin) (ds : List (List Edit)) → HaveEdits os ds
-    → length (padded_codes order os ds) ≡ 512 * all_blocks (map extent_of_origin os)
+    → length (padded_codes order os ds) ≡ 512 * all_blocks os
 codes_len order [] ds h = omega arith
 codes_len order (o ∷ os) [] h = absurd h
 codes_len order (o ∷ os) (d ∷ ds) h =
@@ -64,5 +64,5 @@ codes_len order (o ∷ os) (d ∷ ds) h =
       length-map-range_with_len (patched_or_zero order o.code d) 0
           (512 * blocks (length o.code)),
       codes_len order os ds h.1,
-      all_blocks-cons (extent_of_origin o) (map extent_of_origin os),
+      all_blocks-cons o os,
     )

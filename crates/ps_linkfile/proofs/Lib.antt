@@ -1,6 +1,6 @@
 pub mod Words
 pub mod Prefixes
-pub mod Extents
+pub mod Blocks
 pub mod Rising
 pub mod Pairs
 pub mod Codes
@@ -9,6 +9,7 @@ pub mod Slots
 pub mod Plans
 pub mod Whole
 pub mod Maps
+pub mod Walks
 pub mod Shows
 pub mod InPieces
 pub mod ReferenceText

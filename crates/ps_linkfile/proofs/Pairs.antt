@@ -4,12 +4,12 @@ use Rattle.std.proofs.Common.{◌%◌, ◌≤◌, ◌<◌, List, [], ◌∷◌, 
 use Rattle.std.proofs.Common.{get_or, drop, replicate, sym, ◌∙◌, ap, subst, inl, inr, arith}
 use Rattle.std.proofs.Common.{length-append}
 use Rattle.ps_linkfile.proofs.Words.{flat_map, range_with_len, cases_lt, word_bytes, blocks, Order}
-use Rattle.ps_linkfile.proofs.Words.{slots, Ascend, get_or-replicate, length-replicate}
+use Rattle.ps_linkfile.proofs.Words.{Origin, slots, Ascend, get_or-replicate, length-replicate}
 use Rattle.ps_linkfile.proofs.Words.{get_or_append_left, ext_get_or, drop_all}
 use Rattle.std.proofs.lemmas.List.{get_or-append_right}
-use Rattle.ps_linkfile.specs.LinkedFile.{Extent, block_of, pair_of, all_pairs}
-use Rattle.ps_linkfile.proofs.Extents.{Left, left_start, left_more, first_block, first_pair}
-use Rattle.ps_linkfile.proofs.Extents.{no_pair}
+use Rattle.ps_linkfile.specs.LinkedFile.{block_of, pair_of, all_pairs}
+use Rattle.ps_linkfile.proofs.Blocks.{Left, left_start, left_more, first_block, first_pair}
+use Rattle.ps_linkfile.proofs.Blocks.{no_pair}
 
 module _ (f : ℕ → List ℕ) where
   -- place j of what f gives of the s-th number, where it gives four bytes of each
@@ -27,7 +27,7 @@ module _ (f : ℕ → List ℕ) where
       let rest = four_each h n (a + 1) in
       length-append (f a) (flat_map f (range_with_len (a + 1) n)) ∙ omega (arith, h a, rest)
 
-module _ (order : Order) (all : List Extent) where
+module _ (order : Order) (all : List Origin) where
   -- the pair of a slot has four bytes
   pub pair_four : (slot : ℕ) → length (pair_of order all slot) ≡ 4
   pair_four slot = grind arith
@@ -73,7 +73,7 @@ zeros_at : (j : ℕ) → get_or four_zeros j 0 ≡ 0
 zeros_at j = grind arith
 
 -- the pairs of the first so many codes are stored, and the rest are zeros
-pub record PairsSoFar (order : Order) (all : List Extent) (count : ℕ) (pairs : List ℕ)
+pub record PairsSoFar (order : Order) (all : List Origin) (count : ℕ) (pairs : List ℕ)
     (block from : ℕ) : Type 0 where
   pub size : length pairs ≡ 64
   pub left : Left all from block (drop count all)
@@ -82,7 +82,7 @@ pub record PairsSoFar (order : Order) (all : List Extent) (count : ℕ) (pairs :
   pub empty : (slot j : ℕ) → from ≤ slot → slot < 16 → j < 4
       → get_or pairs (4 * slot + j) 0 ≡ 0
 
-module _ (order : Order) (all : List Extent) where
+module _ (order : Order) (all : List Origin) where
   -- none is stored
   pub pairs_none : Ascend 0 all → PairsSoFar order all 0 (replicate 64 0) 1 0
   pairs_none h = record {
@@ -93,40 +93,41 @@ module _ (order : Order) (all : List Extent) where
   }
 
   -- the pair of one code more
-  pub pairs_more : (count : ℕ) (old mid new : List ℕ) (block from start : ℕ) (c : Extent)
-      → drop count all ≡ c ∷ drop (count + 1) all
-      → start ≡ block_of all c.slot → PairsSoFar order all count old block from
-      → IsPut order old mid (4 * c.slot) start → IsPut order mid new (4 * c.slot + 2) c.size
-      → PairsSoFar order all (count + 1) new (block + blocks c.size) (c.slot + 1)
-  pairs_more count old mid new block from start c is start_is h put second =
+  pub pairs_more : (count : ℕ) (old mid new : List ℕ) (block from start : ℕ) (o : Origin)
+      → drop count all ≡ o ∷ drop (count + 1) all
+      → start ≡ block_of all o.slot → PairsSoFar order all count old block from
+      → IsPut order old mid (4 * o.slot) start
+      → IsPut order mid new (4 * o.slot + 2) (length o.code)
+      → PairsSoFar order all (count + 1) new (block + blocks (length o.code)) (o.slot + 1)
+  pairs_more count old mid new block from start o is start_is h put second =
       let rest = drop (count + 1) all in
-      let here : Left all from block (c ∷ rest) =
+      let here : Left all from block (o ∷ rest) =
       rw is at h.left in
-      let first : IsPut order old mid (4 * c.slot) block =
-      rw (start_is ∙ first_block all from block c rest here) at put in
-      let low : from ≤ c.slot = here.ascend.0 in
-      let same : (slot j : ℕ) → slot ≢ c.slot → j < 4
+      let first : IsPut order old mid (4 * o.slot) block =
+      rw (start_is ∙ first_block all from block o rest here) at put in
+      let low : from ≤ o.slot = here.ascend.0 in
+      let same : (slot j : ℕ) → slot ≢ o.slot → j < 4
       → get_or new (4 * slot + j) 0 ≡ get_or old (4 * slot + j) 0 = λ slot j ne lt.
       second.others (4 * slot + j) (omega arith) (omega arith)
       ∙ first.others (4 * slot + j) (omega arith) (omega arith) in
       record {
         size = second.size ∙ (first.size ∙ h.size);
-        left = left_more all from block c rest here;
+        left = left_more all from block o rest here;
         stored = λ slot j lt l.
-            elim (cases_lt slot c.slot) [
+            elim (cases_lt slot o.slot) [
               | inl below ↦ same slot j (omega arith) l ∙ elim (cases_lt slot from) [
                 | inl before ↦ h.stored slot j before l
                 | inr behind ↦ h.empty slot j behind (omega (arith, here.ascend.1)) l
                     ∙ sym (ap (λ (bs : List ℕ). get_or bs j 0)
-                    (no_pair order all from block (c ∷ rest) c.slot slot here
+                    (no_pair order all from block (o ∷ rest) o.slot slot here
                     (omega arith, here.ascend.1, here.ascend.2) behind below) ∙ zeros_at j)
               ]
               | inr above ↦
-                  let it : slot ≡ c.slot = omega arith in
-                  rw (← it) at (pair_put order old mid new (4 * c.slot) block c.size j first
-                  second l
+                  let it : slot ≡ o.slot = omega arith in
+                  rw (← it) at (pair_put order old mid new (4 * o.slot) block (length o.code) j
+                  first second l
                   ∙ sym (ap (λ (bs : List ℕ). get_or bs j 0)
-                  (first_pair order all from block c rest here)))
+                  (first_pair order all from block o rest here)))
             ];
         empty = λ slot j le lt l. same slot j (omega arith) l
             ∙ h.empty slot j (omega arith) lt l;
@@ -150,4 +151,4 @@ module _ (order : Order) (all : List Extent) where
       ends : (slot : ℕ)
           → from ≤ slot → pair_of order all slot ≡ 0 ∷ 0 ∷ 0 ∷ 0 ∷ []
       ends slot behind = no_pair order all from block (drop (length all) all) (slot + 1) slot h.left
-          (subst (λ cs. Ascend (slot + 1) cs) (sym none_left) tt) behind (omega arith)
+          (subst (λ os. Ascend (slot + 1) os) (sym none_left) tt) behind (omega arith)

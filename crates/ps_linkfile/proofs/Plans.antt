@@ -1,65 +1,35 @@
 -- A plan of a link can be written, and its file is the linked file.
 use Rattle.std.proofs.Common.{arith, ◌≡◌, ℕ, ◌+◌, ◌≤◌, ◌<◌, List, []}
-use Rattle.std.proofs.Common.{◌∷◌, length, map, refl, sym, ap, subst}
-use Rattle.ps_linkfile.proofs.Words.{length-map, All, flat_map, All-nil, All-cons, All-head}
-use Rattle.ps_linkfile.proofs.Words.{All-tail, patched_byte, Order, Edit, private_words, Segment}
+use Rattle.std.proofs.Common.{◌∷◌, length, map, refl, ap}
+use Rattle.ps_linkfile.proofs.Words.{length-map, flat_map}
+use Rattle.ps_linkfile.proofs.Words.{patched_byte, Order, Edit, private_words, Segment}
 use Rattle.ps_linkfile.proofs.Words.{order_of, Known, Planned, origin_of, LinkSegments, IsPlan}
-use Rattle.ps_linkfile.proofs.Words.{Extent, extents, linked_segments, padded_code, padded_segment}
-use Rattle.ps_linkfile.proofs.Words.{linked_file, extent_of_origin, extents_in, padded_codes}
-use Rattle.ps_linkfile.proofs.Words.{file_in, Ascend, HaveEdits}
+use Rattle.ps_linkfile.proofs.Words.{linked_segments, padded_code, padded_segment}
+use Rattle.ps_linkfile.proofs.Words.{linked_file, padded_codes, file_in, HaveEdits}
 use Rattle.ps_codefile.specs.Dictionary.{block_len}
-use Rattle.ps_resolve.specs.Added.{segments, slot_names}
-use Rattle.ps_resolve.specs.Linking.{Edited, edited_from, segment_edits}
-use Rattle.ps_linkfile.specs.LinkedFile.{extent_of, summary_of}
+use Rattle.ps_resolve.specs.Added.{slot_names}
+use Rattle.ps_resolve.specs.LinkedBytes.{segments_of}
+use Rattle.ps_linkfile.proofs.Words.{known_of, total_words, next_of, host_records}
+use Rattle.ps_resolve.specs.Linking.{Edited, edited_from}
+use Rattle.ps_linkfile.specs.LinkedFile.{summary_of}
 use Rattle.ps_linkfile.specs.Writing.{summary_in, IsReady}
-use Rattle.ps_linkfile.proofs.Slots.{extent_at, segments_ascend, segments_small}
+use Rattle.ps_linkfile.proofs.Slots.{segments_ascend, segments_small}
 
--- extents of segments, of segments with their edits, and of a plan's origins
-pub of_origins : (ss : List Segment) → map extent_of_origin (map origin_of ss)
-    ≡ map extent_at ss
-of_origins [] = refl
-of_origins (s ∷ ss) = ap (λ cs. extent_at s ∷ cs) (of_origins ss)
-
-abbrev pub extent_of_edited : Edited → Extent
-extent_of_edited e = extent_of e.segment
+-- the segments of those with their edits
+abbrev pub segments_in : List Edited → List Segment
+segments_in es = map (λ e. e.segment) es
 
 of_edited : (order : Order) (known : Known) (words free : ℕ) (ss : List Segment)
-    → map extent_of_edited (edited_from order known words free ss) ≡ map extent_at ss
+    → segments_in (edited_from order known words free ss) ≡ ss
 of_edited order known words free [] = refl
-of_edited order known words free (s ∷ ss) = ap (λ cs. extent_at s ∷ cs)
+of_edited order known words free (s ∷ ss) = ap (λ ts. s ∷ ts)
     (of_edited order known words (free + private_words s.records) ss)
 
-module _ (host : List ℕ) (libs : List (List ℕ)) where
-  pub extents_are : extents host libs ≡ map extent_at (segments (order_of host) host libs)
-  extents_are = refl
-
-  -- the extents of the linked segments with their edits are those of the link
-  pub edited_extents : map extent_of_edited (linked_segments host libs) ≡ extents host libs
-  edited_extents = grind (arith, of_edited)
-
-module _ (P : Segment → Type 0) (order : Order) (known : Known) (words : ℕ) where
-  -- what holds of each segment with its edits holds of each segment, and the other way round
-  pub of_all_edited : (free : ℕ) (ss : List Segment)
-      → All (λ (e : Edited). P e.segment) (edited_from order known words free ss) → All P ss
-  of_all_edited free [] h = All-nil P
-  of_all_edited free (s ∷ ss) h =
-      let e : Edited = record { segment = s; edits = segment_edits order known words free s } in
-      let rest = edited_from order known words (free + private_words s.records) ss in
-      All-cons P s ss (All-head (λ (e : Edited). P e.segment) e rest h) (of_all_edited
-      (free + private_words s.records) ss (All-tail (λ (e : Edited). P e.segment) e rest h))
-
-  -- what holds of each segment holds of each segment with its edits
-  pub to_all_edited : (free : ℕ) (ss : List Segment)
-      → All P ss → All (λ (e : Edited). P e.segment) (edited_from order known words free ss)
-  to_all_edited free [] h = All-nil (λ (e : Edited). P e.segment)
-  to_all_edited free (s ∷ ss) h = All-cons (λ (e : Edited). P e.segment)
-      (record { segment = s; edits = segment_edits order known words free s })
-      (edited_from order known words (free + private_words s.records) ss)
-      (All-head P s ss h) (to_all_edited (free + private_words s.records) ss (All-tail P s ss h))
-
-pub extents_ascend : (host : List ℕ) (libs : List (List ℕ)) → Ascend 0 (extents host libs)
-extents_ascend host libs = subst (λ (cs : List Extent). Ascend 0 cs) (sym (extents_are host libs))
-    (segments_ascend (order_of host) host libs)
+-- the linked segments with their edits are the segments of the link
+pub linked_are : (host : List ℕ) (libs : List (List ℕ))
+    → segments_in (linked_segments host libs) ≡ segments_of host libs
+linked_are host libs = let ss = segments_of host libs in of_edited (order_of host) (known_of ss)
+    (total_words ss) (next_of (host_records ss)) ss
 
 -- each source has its own edits
 have_edits : (order : Order) (known : Known) (words free : ℕ) (ss : List Segment)
@@ -94,10 +64,6 @@ codes_are order known words free (s ∷ ss) (d ∷ ds) h = grind
 codes_are order known words free ss ds h = absurd h
 
 module _ (host : List ℕ) (libs : List (List ℕ)) (plan : Planned) where
-  -- of a plan of a link
-  pub plan_extents : IsPlan host libs plan → extents_in plan ≡ extents host libs
-  plan_extents h = grind (arith, of_origins, extents_are)
-
   -- the padded codes of a plan of a link are those of the link's segments with their edits
   plan_codes : IsPlan host libs plan → padded_codes plan.order plan.origins plan.edits
       ≡ flat_map (padded_segment (order_of host)) (linked_segments host libs)
@@ -105,14 +71,13 @@ module _ (host : List ℕ) (libs : List (List ℕ)) (plan : Planned) where
 
   -- the file of a plan of a link is the linked file
   pub plan_file : IsPlan host libs plan → file_in plan ≡ linked_file host libs
-  plan_file h = grind (arith, plan_extents, plan_codes)
+  plan_file h = grind (arith, plan_codes)
 
   -- a plan of a link whose host has a whole dictionary can be written
   pub plan_ready : IsPlan host libs plan → block_len ≤ length plan.host → IsReady plan
   unfolding slot_names
-  plan_ready h long = grind
-      (arith, extent_at, plan_extents, extents_are, segments_ascend, segments_small, have_edits)
+  plan_ready h long = grind (arith, segments_ascend, segments_small, have_edits)
 
   -- the summary of a plan of a link is that of the link
   pub plan_summary : IsPlan host libs plan → summary_in plan ≡ summary_of host libs
-  plan_summary h = grind (arith, length-map, plan_extents)
+  plan_summary h = grind (arith, length-map)

@@ -1,14 +1,14 @@
 -- How the counts of a writer rise while a file is written.
 use Rattle.std.proofs.Common.{rules, ◌≡◌, ◌≢◌, ◌∙◌, ℕ, ◌+◌, ◌*◌}
-use Rattle.std.proofs.Common.{◌-◌, ◌≤◌, ◌<◌, List, [], ◌∷◌, length, map, drop}
+use Rattle.std.proofs.Common.{◌-◌, ◌≤◌, ◌<◌, List, [], ◌∷◌, length, drop}
 use Rattle.std.proofs.Common.{Ok, ap, refl, arith}
 use Rattle.ps_linkfile.proofs.Words.{All, min, blocks, MAX_CODE_LEN, Origin, Counts, WriteFault}
-use Rattle.ps_linkfile.proofs.Words.{Extent, all_blocks, extent_of_origin, Ascend}
+use Rattle.ps_linkfile.proofs.Words.{all_blocks, Ascend}
 use Rattle.std.specs.declared.io.Error.{Error}
 use Rattle.ps_linkfile.specs.declared.block_layout.TheConstants.{MAX_FILE_BLOCKS}
 use Rattle.ps_linkfile.specs.Counts.{AreAtMost, CanCount, counts_after, Rises, NoneFailed, OneError}
 use Rattle.ps_linkfile.specs.Counts.{OneStall, OneFailed, IfDevice, IfStalled}
-use Rattle.ps_linkfile.proofs.Extents.{all_blocks-cons, few_codes, few_blocks}
+use Rattle.ps_linkfile.proofs.Blocks.{all_blocks-cons, few_codes, few_blocks}
 
 -- the counts after the first i of so many bytes went out; while some are left, each write was short
 pub record Progress (old new : Counts) (size i : ℕ) : Type 0 where
@@ -59,26 +59,23 @@ pub room_left : (a b : Counts) (size m x n : ℕ) → CanCount a size → Rises 
 room_left a b size m x n room h none le = grind arith
 
 -- a file has few blocks
-pub few_of_all : (cs : List Extent) → Ascend 0 cs → All (λ c. c.size ≤ MAX_CODE_LEN) cs
-    → 1 + all_blocks cs ≤ MAX_FILE_BLOCKS
-few_of_all cs slots sizes = omega (arith, few_blocks cs sizes, few_codes 0 cs (omega arith) slots)
-
-abbrev pub blocks_in : List Origin → ℕ
-blocks_in os = all_blocks (map extent_of_origin os)
+pub few_of_all : (os : List Origin) → Ascend 0 os
+    → All (λ o. length o.code ≤ MAX_CODE_LEN) os → 1 + all_blocks os ≤ MAX_FILE_BLOCKS
+few_of_all os slots sizes = omega (arith, few_blocks os sizes, few_codes 0 os (omega arith) slots)
 
 -- n blocks are those of the first so many sources
 pub record BlocksSoFar (os : List Origin) (count n : ℕ) (old new : Counts) : Type 0 where
-  pub sum : n + blocks_in (drop count os) ≡ blocks_in os
+  pub sum : n + all_blocks (drop count os) ≡ all_blocks os
   pub rises : Rises old new (512 * n) n
   pub none : NoneFailed old new
 
 -- the blocks so far, those of one source more and those that are left are the blocks of all sources
 next_blocks : (os : List Origin) (count n : ℕ) (o : Origin) → drop count os
-    ≡ o ∷ drop (count + 1) os → n + blocks_in (drop count os) ≡ blocks_in os
-    → n + blocks (length o.code) + blocks_in (drop (count + 1) os) ≡ blocks_in os
-next_blocks os count n o at h = sum (blocks_in os) (blocks_in (drop count os))
-    (blocks_in (drop (count + 1) os)) (blocks (length o.code)) h (ap blocks_in at
-    ∙ all_blocks-cons (extent_of_origin o) (map extent_of_origin (drop (count + 1) os)))
+    ≡ o ∷ drop (count + 1) os → n + all_blocks (drop count os) ≡ all_blocks os
+    → n + blocks (length o.code) + all_blocks (drop (count + 1) os) ≡ all_blocks os
+next_blocks os count n o at h = sum (all_blocks os) (all_blocks (drop count os))
+    (all_blocks (drop (count + 1) os)) (blocks (length o.code)) h (ap all_blocks at
+    ∙ all_blocks-cons o (drop (count + 1) os))
   where
     sum : (all here rest one : ℕ) → n + here ≡ all → here ≡ one + rest
         → n + one + rest ≡ all
@@ -103,13 +100,13 @@ module _ (os : List Origin) (count n : ℕ) (o : Origin) (a b : Counts) where
   -- some blocks of one source more, at which the file stops
   pub blocks_stop : (c : Counts) → drop count os ≡ o ∷ drop (count + 1) os
       → BlocksSoFar os count n a b → Rises b c (512 * blocks (length o.code))
-      (blocks (length o.code)) → Rises a c (512 * blocks_in os) (blocks_in os)
+      (blocks (length o.code)) → Rises a c (512 * all_blocks os) (all_blocks os)
   blocks_stop c at h k =
       let one = blocks (length o.code) in
-      let fits = within n one (blocks_in (drop (count + 1) os)) (blocks_in os)
+      let fits = within n one (all_blocks (drop (count + 1) os)) (all_blocks os)
       (next_blocks os count n o at h.sum) in
-      rises_then a b c (512 * n) n (512 * one) one (512 * blocks_in os)
-      (blocks_in os) h.rises k fits.0 fits.1
+      rises_then a b c (512 * n) n (512 * one) one (512 * all_blocks os)
+      (all_blocks os) h.rises k fits.0 fits.1
     where
       within : (x y rest all : ℕ) → x + y + rest ≡ all
           → (512 * x + 512 * y ≤ 512 * all) × (x + y ≤ all)
@@ -117,16 +114,16 @@ module _ (os : List Origin) (count n : ℕ) (o : Origin) (a b : Counts) where
 
   -- there is room for the blocks of one source more
   pub blocks_room : drop count os ≡ o ∷ drop (count + 1) os → BlocksSoFar os count n a b
-      → CanCount a (512 * blocks_in os) → CanCount b (512 * blocks (length o.code))
+      → CanCount a (512 * all_blocks os) → CanCount b (512 * blocks (length o.code))
   blocks_room at h room =
       let one = blocks (length o.code) in
-      room_left a b (512 * blocks_in os) (512 * n) n (512 * one) room h.rises h.none (within n one
-      (blocks_in (drop (count + 1) os)) (blocks_in os) (next_blocks os count n o at h.sum))
+      room_left a b (512 * all_blocks os) (512 * n) n (512 * one) room h.rises h.none (within n one
+      (all_blocks (drop (count + 1) os)) (all_blocks os) (next_blocks os count n o at h.sum))
     where
       within : (x y rest all : ℕ) → x + y + rest ≡ all → 512 * x + 512 * y ≤ 512 * all
       within x y rest all h = omega arith
 
 -- all are written
 pub blocks_done : (os : List Origin) (count n : ℕ) (a b : Counts) → drop count os ≡ []
-    → BlocksSoFar os count n a b → Rises a b (512 * blocks_in os) (blocks_in os)
+    → BlocksSoFar os count n a b → Rises a b (512 * all_blocks os) (all_blocks os)
 blocks_done os count n a b at h = grind arith

@@ -1,11 +1,10 @@
--- The order of a file that is shown, and its lines: those of a list of slots, and those of a walk
--- over records.
+-- The order of a file that is shown, and its lines.
 use Rattle.std.proofs.Common.{◌≡◌, ℕ, suc, ◌+◌, ◌-◌, ◌<◌, ◌≤◌, List, []}
 use Rattle.std.proofs.Common.{◌∷◌, ◌++◌, length, length-append, map, append_assoc}
-use Rattle.std.proofs.Common.{append-nil, Bool, true, if◌then◌else◌, Option, Some, None}
-use Rattle.std.proofs.Common.{Result, Ok, Err, refl, sym, ◌∙◌, ap, arith}
-use Rattle.ps_linkfile.proofs.Words.{flat_map, filter, enumerate_from, range_with_len, in_file}
-use Rattle.ps_linkfile.proofs.Words.{Order, Reason, reading, items_of, Record, known_order}
+use Rattle.std.proofs.Common.{append-nil, Bool, true, if◌then◌else◌, Some, None}
+use Rattle.std.proofs.Common.{Ok, Err, refl, sym, ◌∙◌, ap, arith}
+use Rattle.ps_linkfile.proofs.Words.{filter, range_with_len, in_file}
+use Rattle.ps_linkfile.proofs.Words.{Order, Reason, reading, known_order}
 use Rattle.ps_linkfile.proofs.Words.{OpenedFile, FileOrder, Ordered, file_order, opened_as}
 use Rattle.ps_linkfile.proofs.Words.{entry_at, code_of, information_of}
 use Rattle.std.specs.Prelude.{codes}
@@ -13,7 +12,7 @@ use Rattle.ps_words.specs.declared.order.Order.TheVariants.{Little}
 use Rattle.ps_words.specs.declared.fault.Reason.TheVariants as reason
 use Rattle.ps_codefile.specs.Dictionary.{Zero, opened_beside_as}
 use Rattle.ps_linkfile.specs.Lines.{line, two_digits, fault_words}
-use Rattle.ps_linkfile.specs.ShowText.{unit_names, record_line, record_lines, fault_line, has_links}
+use Rattle.ps_linkfile.specs.ShowText.{unit_names, record_lines, has_links}
 use Rattle.ps_linkfile.specs.ShowText.{links_lines, shown_file, show_of, order_fault}
 
 -- a file whose kind words show an order
@@ -77,40 +76,6 @@ names_over {X} test name xs all i n le h = grind (arith, append-nil)
 pub few_more : {X : Type 0} (b : Bool) (x : X) (xs new : List X) (i : ℕ) → length xs ≤ i
     → new ≡ xs ++ (if b then x ∷ [] else []) → length new ≤ i + 1
 few_more b x xs new i h k = grind (arith, length-append)
-
--- the lines of items in a file with these units, the first of which has the index rec
-abbrev pub item_lines : List (List ℕ) → ℕ → List (Result Record Reason) → List ℕ
-item_lines units rec [] = []
-item_lines units rec (Ok r ∷ items) = record_line units (rec, r)
-    ++ item_lines units (rec + 1) items
-item_lines units rec (Err why ∷ items) = fault_line rec (Some why) ++ item_lines units rec items
-
--- the lines of a reading's items, the first of which has the index n, are those of its records and
--- of its fault
-lines_of_items : (units : List (List ℕ)) (n : ℕ) (rs : List Record) (why : Option Reason)
-    → item_lines units n (items_of (rs, why))
-    ≡ flat_map (record_line units) (enumerate_from n rs) ++ fault_line (n + length rs) why
-lines_of_items units n [] None = refl
-lines_of_items units n [] (Some why) = grind (arith, append-nil)
-lines_of_items units n (r ∷ rs) why =
-    grind (arith, append_assoc, lines_of_items units (n + 1) rs why)
-
--- the lines of a reading's items are those of its records, and of its fault
-pub lines_of_reading : (units : List (List ℕ)) (read : List Record × Option Reason)
-    → item_lines units 0 (items_of read) ≡ record_lines units read
-lines_of_reading units read = grind (arith, lines_of_items)
-
-module _ (units : List (List ℕ)) (n : ℕ) (i : Result Record Reason)
-    (old items : List (Result Record Reason)) where
-  -- the line of a record, and those after it
-  pub record_next : (r : Record) → old ≡ i ∷ items → i ≡ Ok r
-      → item_lines units n old ≡ record_line units (n, r) ++ item_lines units (n + 1) items
-  record_next r p q = ap (item_lines units n) (p ∙ ap (λ j. j ∷ items) q)
-
-  -- the line of a fault, and those after it
-  pub fault_next : (why : Reason) → old ≡ i ∷ items → i ≡ Err why
-      → item_lines units n old ≡ fault_line n (Some why) ++ item_lines units n items
-  fault_next why p q = ap (item_lines units n) (p ∙ ap (λ j. j ∷ items) q)
 
 module _ (order : Order) (file : List ℕ) (slot : ℕ) where
   -- the lines of a slot whose code is refused

@@ -1,7 +1,8 @@
 -- The segments of a link are by slot, and no code is longer than MAX_CODE_LEN bytes.
 use Rattle.std.proofs.Common.{ℕ, ◌+◌, ◌<◌, ◌≤◌, List, [], ◌∷◌, length, map}
 use Rattle.std.proofs.Common.{sym, subst, inl, inr, arith}
-use Rattle.ps_linkfile.proofs.Words.{All, Order, entry_at, MAX_CODE_LEN, Extent, Ascend}
+use Rattle.ps_linkfile.proofs.Words.{All, Order, entry_at, MAX_CODE_LEN, Origin, Ascend}
+use Rattle.ps_linkfile.proofs.Words.{origin_of}
 use Rattle.std.proofs.lemmas.List.Elements.{All-map, All-tail}
 use Rattle.ps_codefile.specs.declared.entry.Role.{Role}
 use Rattle.ps_codefile.specs.declared.entry.Role.TheVariants.{Wanted}
@@ -12,9 +13,6 @@ use Rattle.ps_resolve.proofs.EachSegment.{IsMade, added_made, at_slot, each_slot
 use Rattle.ps_resolve.proofs.OfRounds.{each_added}
 use Rattle.ps_resolve.proofs.ReadingCodes.{whole}
 use Rattle.ps_resolve.proofs.ReadingKnown.{ascend, slot_parts}
-
-abbrev pub extent_at : Segment → Extent
-extent_at s = record { slot = s.slot; size = length s.code }
 
 abbrev IsSmall : Segment → Type 0
 IsSmall s = length s.code ≤ MAX_CODE_LEN
@@ -48,22 +46,22 @@ module _ (order : Order) (host : List ℕ) (libs : List (List ℕ)) where
   all_within = each_slot (λ (s : Segment). s.slot < 16) (segment_at order host libs)
       (λ x s lt h. let at = (slot_parts order host libs x s h).0 in omega arith)
 
-extents_ascend : (from : ℕ) (ss : List Segment) → AscendFrom from (map
-    (λ (s : Segment). s.slot) ss) → All (λ s. s.slot < 16) ss → Ascend from (map extent_at ss)
-extents_ascend from [] rises within = tt
-extents_ascend from (s ∷ ss) rises within = (
+origins_ascend : (from : ℕ) (ss : List Segment) → AscendFrom from (map
+    (λ (s : Segment). s.slot) ss) → All (λ s. s.slot < 16) ss → Ascend from (map origin_of ss)
+origins_ascend from [] rises within = tt
+origins_ascend from (s ∷ ss) rises within = (
   rises.0,
   within 0 s (omega arith),
-  extents_ascend (s.slot + 1) ss rises.1
+  origins_ascend (s.slot + 1) ss rises.1
       (All-tail (λ (q : Segment). q.slot < 16) s ss within),
 )
 
 module _ (order : Order) (host : List ℕ) (libs : List (List ℕ)) where
-  pub segments_ascend : Ascend 0 (map extent_at (segments order host libs))
-  segments_ascend = extents_ascend 0 (segments order host libs)
+  pub segments_ascend : Ascend 0 (map origin_of (segments order host libs))
+  segments_ascend = origins_ascend 0 (segments order host libs)
       (ascend order host libs) (all_within order host libs)
 
   pub segments_small : All
-      (λ c. c.size ≤ MAX_CODE_LEN) (map extent_at (segments order host libs))
-  segments_small = All-map (λ (c : Extent). c.size ≤ MAX_CODE_LEN) extent_at
+      (λ o. length o.code ≤ MAX_CODE_LEN) (map origin_of (segments order host libs))
+  segments_small = All-map (λ (o : Origin). length o.code ≤ MAX_CODE_LEN) origin_of
       (segments order host libs) (all_small order host libs)

@@ -1,15 +1,12 @@
--- The sources of a plan, seen as codes of the file.
-use Rattle.std.proofs.Common.{arith, ℕ, List, [], map, get_or, drop, Some, false, refl, sym, ap}
+-- The sources of a plan and their origins.
+use Rattle.std.proofs.Common.{arith, ℕ, List, [], map, get_or, drop, Some, false, ap, sym}
 use Rattle.std.proofs.Common.{◌≡◌, ◌+◌, ◌≤◌, ◌<◌, ◌∷◌, length, ◌∙◌}
 use Rattle.ps_linkfile.proofs.Words.{All, slice_get, Edit, MAX_CODE_LEN, Origin, origin_of_source}
-use Rattle.ps_linkfile.proofs.Words.{Source, Extent, block_of, extent_of_origin, starts_of, Ascend}
-use Rattle.std.proofs.lemmas.List.{drop-map, drop_more, length-map, get_or-map}
+use Rattle.ps_linkfile.proofs.Words.{Source, block_of, starts_of, Ascend}
+use Rattle.std.proofs.lemmas.List.{drop-map, drop_more, length-map, get_or-map, get_or-drop}
 use Rattle.std.proofs.lemmas.Option.{get_or_from_slice_get, slice_get_within}
-use Rattle.ps_linkfile.proofs.Extents.{slots_below}
+use Rattle.ps_linkfile.proofs.Blocks.{slots_below}
 use Rattle.ps_linkfile.proofs.Codes.{IsAt}
-
-abbrev pub extent_of_source : Source → Extent
-extent_of_source s = extent_of_origin (origin_of_source s)
 
 -- what a read past the end would give
 abbrev pub no_source : Source
@@ -28,64 +25,51 @@ pub view_at : {X Y : Type 0} (f : X → Y) (xs : List X) (i : ℕ) (d : X) → i
     → drop i (map f xs) ≡ f (get_or xs i d) ∷ drop (i + 1) (map f xs)
 view_at {X} {Y} f xs i d lt = grind (arith, drop-map, drop_more)
 
--- the origins of a plan are those of its sources
-both_views : (ss : List Source) → map extent_of_origin (map origin_of_source ss)
-    ≡ map extent_of_source ss
-both_views [] = refl
-both_views (s ∷ ss) = ap (λ cs. extent_of_source s ∷ cs) (both_views ss)
-
 module _ (ss : List Source) (os : List Origin) where
   -- a source, among the origins of its plan
   pub source_at : (i : ℕ) → map origin_of_source ss ≡ os → i < length ss
       → drop i os ≡ origin_of_source (get_or ss i no_source) ∷ drop (i + 1) os
   source_at i h lt = rw h at (view_at origin_of_source ss i no_source lt)
 
-  pub seen : map origin_of_source ss ≡ os → map extent_of_origin os ≡ map extent_of_source ss
-  seen h = ap (λ ps. map extent_of_origin ps) (sym h) ∙ both_views ss
+-- what holds of each item of a view holds of the view of each item
+seen_at : {X Y : Type 0} (P : Y → Type 0) (f : X → Y) (xs : List X) (i : ℕ) (d : X)
+    → All P (map f xs) → i < length xs → P (f (get_or xs i d))
+seen_at {X} P f xs i d h lt =
+    let within : i < length (map f xs) = rw length-map lt in
+    rw (get_or-map f xs i d (f d) lt) at (h i (f d) within)
 
-  pub seen_ascend : map origin_of_source ss ≡ os
-      → Ascend 0 (map extent_of_origin os) → Ascend 0 (map extent_of_source ss)
-  seen_ascend h k = rw (seen h) at k
-
-  pub seen_small : map origin_of_source ss ≡ os → All (λ c. c.size ≤ MAX_CODE_LEN)
-      (map extent_of_origin os) → All (λ c. c.size ≤ MAX_CODE_LEN) (map extent_of_source ss)
-  seen_small h k = rw (seen h) at k
+-- a view of a view of the item at a place
+pub twice_mapped : {X Y : Type 0} (f : X → Y) (g : Y → ℕ) (xs : List X) (k : ℕ) (x : X)
+    (rest : List X) → drop k xs ≡ x ∷ rest → get_or (map g (map f xs)) k 0 ≡ g (f x)
+twice_mapped f g xs k x rest h =
+    let at : k + 0 ≡ k = omega arith in
+    rw at at (sym (get_or-drop k (map g (map f xs)) 0 0)) ∙ rw (drop-map, drop-map, h)
 
 module _ (ss : List Source) where
   -- a source's code is small
-  pub size_at : (i : ℕ) → All (λ c. c.size ≤ MAX_CODE_LEN) (map extent_of_source ss)
+  pub size_at : (i : ℕ) → All (λ o. length o.code ≤ MAX_CODE_LEN) (map origin_of_source ss)
       → i < length ss → length (get_or ss i no_source).code.now ≤ MAX_CODE_LEN
   size_at i h lt =
-      let within : i < length (map extent_of_source ss) =
-      rw (← (length-map ss extent_of_source)) at lt in
-      rw (get_or-map extent_of_source ss i no_source
-      (extent_of_source no_source) lt) at (h i (extent_of_source no_source) within)
+      seen_at (λ (o : Origin). length o.code ≤ MAX_CODE_LEN) origin_of_source ss i no_source h lt
 
   -- its slot is one of sixteen
   pub slot_at : (i : ℕ)
-      → Ascend 0 (map extent_of_source ss) → i < length ss → (get_or ss i no_source).slot < 16
-  slot_at i h lt =
-      let within : i < length (map extent_of_source ss) =
-      rw (← (length-map ss extent_of_source)) at lt in
-      rw (get_or-map extent_of_source ss i no_source (extent_of_source no_source) lt) at
-      (slots_below 0 (map extent_of_source ss) h i (extent_of_source no_source) within)
+      → Ascend 0 (map origin_of_source ss) → i < length ss → (get_or ss i no_source).slot < 16
+  slot_at i h lt = seen_at (λ (o : Origin). o.slot < 16) origin_of_source ss i no_source
+      (slots_below 0 (map origin_of_source ss) h) lt
 
-  -- the first block of its code, among those of all
+  -- there are as many starts as sources
   pub many_starts : (starts : List ℕ)
-      → starts ≡ starts_of (map extent_of_source ss) → length starts ≡ length ss
+      → starts ≡ starts_of (map origin_of_source ss) → length starts ≡ length ss
   many_starts starts h = grind (arith, length-map)
 
   -- the start at a source's place is the first block of the source's code
   pub start_at : (starts : List ℕ) (i : ℕ)
-      → starts ≡ starts_of (map extent_of_source ss) → i < length ss
-      → get_or starts i 0 ≡ block_of (map extent_of_source ss) (get_or ss i no_source).slot
-  start_at starts i h lt =
-      let all = map extent_of_source ss in
-      let within : i < length all = rw (← (length-map ss extent_of_source)) at lt in
-      ap (λ (bs : List ℕ). get_or bs i 0) h
-      ∙ (get_or-map (λ (c : Extent). block_of all c.slot) all i
-      (extent_of_source no_source) 0 within ∙ ap (λ (c : Extent). block_of all c.slot)
-      (get_or-map extent_of_source ss i no_source (extent_of_source no_source) lt))
+      → starts ≡ starts_of (map origin_of_source ss) → i < length ss
+      → get_or starts i 0 ≡ block_of (map origin_of_source ss) (get_or ss i no_source).slot
+  start_at starts i h lt = ap (λ bs. get_or bs i 0) h ∙ twice_mapped origin_of_source
+      (λ (o : Origin). block_of (map origin_of_source ss) o.slot) ss i (get_or ss i no_source)
+      (drop (i + 1) ss) (drop_more ss i no_source lt)
 
 -- an item and those after it
 pub got : {X : Type 0} (xs : List X) (i : ℕ) (x : X) → slice_get xs i ≡ Some x

@@ -7,7 +7,7 @@ pub use Rattle.ps_linkfile.specs.Counts.{NoneFailed, Rises}
 pub use Rattle.ps_linkfile.specs.Failures.{failures_with}
 pub use Rattle.ps_linkfile.specs.JsonText.{json_byte}
 pub use Rattle.ps_linkfile.specs.Lines.{field, line, shown_name, two_digits}
-pub use Rattle.ps_linkfile.specs.LinkedFile.{Extent, LinkedFile, all_blocks, block_of, extents}
+pub use Rattle.ps_linkfile.specs.LinkedFile.{LinkedFile, all_blocks, block_of, origins}
 pub use Rattle.ps_linkfile.specs.LinkedFile.{linked_file, linked_segments, padded_code}
 pub use Rattle.ps_linkfile.specs.LinkedFile.{padded_segment, pair_of}
 pub use Rattle.ps_linkfile.specs.MapJson.{definition_item, members_in, private_item, source_item}
@@ -18,8 +18,8 @@ pub use Rattle.ps_linkfile.specs.ReferencesText.{Listed, hex_byte, listed_in, li
 pub use Rattle.ps_linkfile.specs.ReferencesText.{place_line, segment_references}
 pub use Rattle.ps_linkfile.specs.ShowJson.{record_items, reference_item}
 pub use Rattle.ps_linkfile.specs.ShowText.{order_shown, record_lines, reference, references}
-pub use Rattle.ps_linkfile.specs.Writing.{Ascend, HaveEdits, extent_of_origin, extents_in, file_in}
-pub use Rattle.ps_linkfile.specs.Writing.{padded_codes, starts_of}
+pub use Rattle.ps_linkfile.specs.Writing.{Ascend, HaveEdits, file_in, padded_codes}
+pub use Rattle.ps_linkfile.specs.Writing.{starts_of}
 pub use Rattle.ps_linkfile.specs.declared.cause.Cause.{Cause}
 pub use Rattle.ps_linkfile.specs.declared.counts.Counts.{Counts}
 pub use Rattle.ps_linkfile.specs.declared.error.WriteFault.{WriteFault}

@@ -8,13 +8,12 @@ use Rattle.ps_linkinfo.specs.RecordCounts.{next_of}
 use Rattle.ps_resolve.specs.Privates.{all_allotted, owner_of, total_words}
 use Rattle.ps_resolve.specs.Symbols.{definitions}
 use Rattle.ps_resolve.specs.Linking.{data_size}
-use Rattle.ps_resolve.specs.Plans.{Planned, Origin, origin_of}
+use Rattle.ps_resolve.specs.Plans.{Planned, Origin}
 use Rattle.ps_resolve.specs.declared.definitions.Def.{Def}
 use Rattle.ps_resolve.specs.declared.allotment.Private.{Private}
-use Rattle.ps_linkfile.specs.LinkedFile.{Extent, extents, block_of, all_blocks}
+use Rattle.ps_linkfile.specs.LinkedFile.{origins, block_of, all_blocks}
 use Rattle.ps_linkfile.specs.MapText.{kind_word, name_in}
 use Rattle.ps_linkfile.specs.JsonText.{json_bool, json_name, separator}
-use Rattle.ps_linkfile.specs.Writing.{extents_in}
 
 -- a member that is a number, after another one, as `,"file":1`
 abbrev pub member : List ℕ → ℕ → List ℕ
@@ -35,9 +34,9 @@ code_item i slot name file entry block size added =
     separator i ++ code_members slot name file entry block size added
 
 -- that of a plan's source, by the names of all slots
-abbrev pub source_item : List (List ℕ) → List Extent → ℕ × Origin → List ℕ
-source_item names codes_of o = code_item o.0 o.1.slot (name_in names o.1.slot) o.1.file o.1.index
-    (block_of codes_of o.1.slot) (length o.1.code) o.1.added
+abbrev pub source_item : List (List ℕ) → List Origin → ℕ × Origin → List ℕ
+source_item names origins o = code_item o.0 o.1.slot (name_in names o.1.slot) o.1.file o.1.index
+    (block_of origins o.1.slot) (length o.1.code) o.1.added
 
 -- `{"kind":"public","name":..,"name_hex":..,"value":3}`
 abbrev pub definition_item : ℕ × (List ℕ × Def) → List ℕ
@@ -53,9 +52,9 @@ abbrev pub private_item : ℕ × Private → List ℕ
 private_item v = separator v.0 ++ private_members v.1
 
 -- the lists of the items
-abbrev pub segment_list : List (List ℕ) → List Extent → List Origin → List ℕ
-segment_list names codes_of origins = codes "{\"segments\":["
-    ++ flat_map (source_item names codes_of) (enumerate_from 0 origins)
+abbrev pub segment_list : List (List ℕ) → List Origin → List ℕ
+segment_list names origins = codes "{\"segments\":["
+    ++ flat_map (source_item names origins) (enumerate_from 0 origins)
 
 abbrev pub definition_list : List (List ℕ × Def) → List ℕ
 definition_list defs = codes "\n],\"definitions\":["
@@ -71,16 +70,16 @@ last_members next size blocks = member (codes "next") next ++ member (codes "dat
     ++ member (codes "blocks") blocks
 
 -- all of a map but its end: the items of its lines, and the numbers of the last one
-abbrev pub map_members : List (List ℕ) → List Extent → List Origin → List (List ℕ × Def)
+abbrev pub map_members : List (List ℕ) → List Origin → List (List ℕ × Def)
     → List Private → ℕ → ℕ → List ℕ
-map_members names codes_of origins defs privates next size =
-    segment_list names codes_of origins ++ definition_list defs ++ private_list privates
-    ++ last_members next size (1 + all_blocks codes_of)
+map_members names origins defs privates next size =
+    segment_list names origins ++ definition_list defs ++ private_list privates
+    ++ last_members next size (1 + all_blocks origins)
 
 -- that of the map that a plan stands for
 abbrev pub members_in : Planned → List ℕ
 members_in plan = map_members plan.names
-    (extents_in plan) plan.origins plan.definitions plan.privates plan.next_free plan.data_size
+    plan.origins plan.definitions plan.privates plan.next_free plan.data_size
 
 -- that of the map of a host and its libraries
 unfoldable pub members_of : List ℕ → List (List ℕ) → List ℕ
@@ -88,8 +87,8 @@ members_of host libs =
     let order = order_of host in
     let segs = segments order host libs in
     let records = host_records segs in
-    map_members (slot_names host segs) (extents host libs) (map origin_of segs)
-    (definitions records) (all_allotted (next_of records) (map owner_of segs))
+    map_members (slot_names host segs) (origins host libs) (definitions records)
+    (all_allotted (next_of records) (map owner_of segs))
     (next_of records + total_words segs) (data_size order segs)
 
 -- the end of a document

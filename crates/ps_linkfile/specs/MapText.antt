@@ -15,9 +15,8 @@ use Rattle.ps_resolve.specs.declared.definitions.Def.{Def}
 use Rattle.ps_resolve.specs.declared.definitions.DefKind.{DefKind}
 use Rattle.ps_resolve.specs.declared.definitions.DefKind.TheVariants.{Public, Constant}
 use Rattle.ps_resolve.specs.declared.allotment.Private.{Private}
-use Rattle.ps_linkfile.specs.LinkedFile.{Extent, extents, block_of, all_blocks}
+use Rattle.ps_linkfile.specs.LinkedFile.{origins, block_of, all_blocks}
 use Rattle.ps_linkfile.specs.Lines.{line, shown_name, two_digits, field}
-use Rattle.ps_linkfile.specs.Writing.{extents_in}
 
 -- what ends the line of a segment that was added for a UNITREF record
 abbrev pub added_word : Bool → List ℕ
@@ -32,9 +31,9 @@ code_line slot name file entry block size added =
     ++ field (codes "file") file ++ codes " entry " ++ two_digits entry
     ++ field (codes "block") block ++ field (codes "length") size ++ added_word added)
 
--- the line of a segment, whose code begins in the block that its slot has among these codes
-abbrev pub segment_line : List Extent → Segment → List ℕ
-segment_line codes_of s = code_line s.slot s.name s.file s.index (block_of codes_of s.slot)
+-- the line of a segment, whose code begins in the block that its slot has among these origins
+abbrev pub segment_line : List Origin → Segment → List ℕ
+segment_line origins s = code_line s.slot s.name s.file s.index (block_of origins s.slot)
     (length s.code) s.added
 
 -- the first word of a definition's line
@@ -63,26 +62,25 @@ unfoldable pub map_of : List ℕ → List (List ℕ) → List ℕ
 map_of host libs =
     let order = order_of host in
     let segs = segments order host libs in
-    let codes_of = extents host libs in
-    flat_map (segment_line codes_of) segs
+    flat_map (segment_line (origins host libs)) segs
     ++ flat_map definition_line (definitions (host_records segs))
     ++ flat_map private_line (all_allotted (next_of (host_records segs)) (map owner_of segs))
     ++ last_line (next_of (host_records segs) + total_words segs) (data_size order segs)
-    (1 + all_blocks codes_of)
+    (1 + all_blocks (origins host libs))
 
 -- the name of a slot, among those of all slots
 abbrev pub name_in : List (List ℕ) → ℕ → List ℕ
 name_in names slot = unwrap_or (slice_get names slot) []
 
 -- the line of a plan's source, by the names of all slots
-abbrev pub source_line : List (List ℕ) → List Extent → Origin → List ℕ
-source_line names codes_of o = code_line o.slot (name_in names o.slot) o.file o.index
-    (block_of codes_of o.slot) (length o.code) o.added
+abbrev pub source_line : List (List ℕ) → List Origin → Origin → List ℕ
+source_line names origins o = code_line o.slot (name_in names o.slot) o.file o.index
+    (block_of origins o.slot) (length o.code) o.added
 
 -- the map that a plan stands for
 abbrev pub map_in : Planned → List ℕ
 map_in plan =
-    flat_map (source_line plan.names (extents_in plan)) plan.origins
+    flat_map (source_line plan.names plan.origins) plan.origins
     ++ flat_map definition_line plan.definitions
     ++ flat_map private_line plan.privates
-    ++ last_line plan.next_free plan.data_size (1 + all_blocks (extents_in plan))
+    ++ last_line plan.next_free plan.data_size (1 + all_blocks plan.origins)

@@ -8,17 +8,9 @@ use Rattle.ps_words.specs.declared.edit.Edit.{Edit}
 use Rattle.ps_codefile.specs.Dictionary.{block_len}
 use Rattle.ps_codefile.specs.declared.code_layout.TheConstants.{MAX_CODE_LEN}
 use Rattle.ps_resolve.specs.Plans.{Planned, Origin}
-use Rattle.ps_linkfile.specs.LinkedFile.{Extent, all_blocks, block_of, dictionary, padded_code}
+use Rattle.ps_linkfile.specs.LinkedFile.{all_blocks, block_of, dictionary, padded_code}
 use Rattle.ps_linkfile.specs.LinkedFile.{LinkedFile, summary_of}
 use Rattle.ps_linkfile.specs.declared.summary.Summary.{Summary}
-
--- the code of a plan's source
-abbrev pub extent_of_origin : Origin → Extent
-extent_of_origin o = record { slot = o.slot; size = length o.code }
-
--- the codes of all sources of a plan, by slot
-abbrev pub extents_in : Planned → List Extent
-extents_in plan = map extent_of_origin plan.origins
 
 -- the code of each source with its edits, in whole blocks
 abbrev pub padded_codes : Order → List Origin → List (List Edit) → List ℕ
@@ -29,7 +21,7 @@ padded_codes order (o ∷ os) (edits ∷ rest) =
 
 -- the file that is written
 abbrev pub file_in : Planned → List ℕ
-file_in plan = dictionary plan.order plan.names plan.host (extents_in plan)
+file_in plan = dictionary plan.order plan.names plan.host plan.origins
     ++ padded_codes plan.order plan.origins plan.edits
 
 -- the summary of what is written: the plan's sources, its private words, and the blocks, the
@@ -38,7 +30,7 @@ abbrev pub summary_in : Planned → Summary
 summary_in plan = record {
   segments = length plan.origins;
   private_words = plan.private_words;
-  blocks = 1 + all_blocks (extents_in plan);
+  blocks = 1 + all_blocks plan.origins;
 }
 
 -- the plan stands for the linked file of these inputs
@@ -47,9 +39,9 @@ pub record StandsFor (host : List ℕ) (libs : List (List ℕ)) (plan : Planned)
   pub summary : summary_in plan ≡ summary_of host libs
 
 -- slots of a dictionary, each above the one before it
-abbrev pub Ascend : ℕ → List Extent → Type 0
+abbrev pub Ascend : ℕ → List Origin → Type 0
 Ascend from [] = ⊤
-Ascend from (c ∷ cs) = (from ≤ c.slot) × (c.slot < 16) × Ascend (c.slot + 1) cs
+Ascend from (o ∷ os) = (from ≤ o.slot) × (o.slot < 16) × Ascend (o.slot + 1) os
 
 -- each code has its own edits
 abbrev pub HaveEdits : List Origin → List (List Edit) → Type 0
@@ -63,10 +55,10 @@ HaveEdits (o ∷ os) (edits ∷ rest) = AreEdits (length o.code) edits × HaveEd
 pub record IsReady (plan : Planned) : Type 0 where
   pub host : block_len ≤ length plan.host
   pub names : length plan.names ≡ 16
-  pub slots : Ascend 0 (extents_in plan)
-  pub sizes : All (λ c. c.size ≤ MAX_CODE_LEN) (extents_in plan)
+  pub slots : Ascend 0 plan.origins
+  pub sizes : All (λ o. length o.code ≤ MAX_CODE_LEN) plan.origins
   pub edits : HaveEdits plan.origins plan.edits
 
 -- the first block of each code
-abbrev pub starts_of : List Extent → List ℕ
-starts_of codes = map (λ c. block_of codes c.slot) codes
+abbrev pub starts_of : List Origin → List ℕ
+starts_of origins = map (λ o. block_of origins o.slot) origins

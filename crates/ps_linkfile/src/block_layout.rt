@@ -1,8 +1,8 @@
 //! Where the code of each segment is in the linked file.
-ghost use Rattle.std.specs.Prelude.{◌≡◌, ◌≤◌, ◌+◌, map, All};
+ghost use Rattle.std.specs.Prelude.{◌≡◌, ◌≤◌, ◌+◌, length, map, All};
 ghost use Rattle.ps_resolve.specs.Plans.{origin_of_source};
 ghost use Rattle.ps_linkfile.specs.LinkedFile.{all_blocks};
-ghost use Rattle.ps_linkfile.specs.Writing.{extent_of_origin, extents_in, starts_of, Ascend, IsReady};
+ghost use Rattle.ps_linkfile.specs.Writing.{starts_of, Ascend, IsReady};
 
 use arrayvec::ArrayVec;
 use ps_codefile::code_layout::{MAX_CODE_BLOCKS, MAX_CODE_LEN};
@@ -30,13 +30,10 @@ pub(crate) struct Layout {
 
 /// Lays the codes of these sources out, by slot, one after another from block 1 on.
 fn layout_of(sources: &[Source]) -> Layout
-    requires slots { Ascend 0 (map (λ s. extent_of_origin (origin_of_source s)) sources.now) }
-    requires sizes { All (λ c. c.size ≤ MAX_CODE_LEN)
-        (map (λ s. extent_of_origin (origin_of_source s)) sources.now) }
-    ensures starts { result.starts.items
-        ≡ starts_of (map (λ s. extent_of_origin (origin_of_source s)) sources.now) }
-    ensures blocks { result.blocks
-        ≡ 1 + all_blocks (map (λ s. extent_of_origin (origin_of_source s)) sources.now) }
+    requires slots { Ascend 0 (map origin_of_source sources.now) }
+    requires sizes { All (λ o. length o.code ≤ MAX_CODE_LEN) (map origin_of_source sources.now) }
+    ensures starts { result.starts.items ≡ starts_of (map origin_of_source sources.now) }
+    ensures blocks { result.blocks ≡ 1 + all_blocks (map origin_of_source sources.now) }
 {
     let mut starts: ArrayVec<u16, MAX_SEGMENTS> = ArrayVec::new();
     let mut blocks = 1;
@@ -50,8 +47,8 @@ fn layout_of(sources: &[Source]) -> Layout
 /// Lays the codes of a plan that can be written out, by slot, one after another from block 1 on.
 pub(crate) fn lay_out<A: Allocator + Copy>(plan: &Plan<'_, A>) -> Layout
     requires { IsReady plan.now }
-    ensures starts { result.starts.items ≡ starts_of (extents_in plan.now) }
-    ensures blocks { result.blocks ≡ 1 + all_blocks (extents_in plan.now) }
+    ensures starts { result.starts.items ≡ starts_of plan.now.origins }
+    ensures blocks { result.blocks ≡ 1 + all_blocks plan.now.origins }
 {
     layout_of(plan.sources())
 }

@@ -1,7 +1,7 @@
 ghost use Rattle.std.specs.Prelude.{◌≡◌, ◌≤◌, ◌+◌, ◌++◌, map, length, take, drop, All};
 ghost use Rattle.ps_resolve.specs.Plans.{origin_of_source};
 ghost use Rattle.ps_linkfile.specs.LinkedFile.{all_pairs, dictionary};
-ghost use Rattle.ps_linkfile.specs.Writing.{extent_of_origin, extents_in, starts_of, Ascend, IsReady};
+ghost use Rattle.ps_linkfile.specs.Writing.{starts_of, Ascend, IsReady};
 
 use crate::block_layout::lay_out;
 use ps_codefile::code_layout::MAX_CODE_LEN;
@@ -13,13 +13,10 @@ use std::alloc::Allocator;
 /// The sixteen pairs of the dictionary: for the slot of each source the block that its code begins
 /// in and the code's length, and zeros for any other.
 fn pairs_of(order: Order, sources: &[Source], starts: &[u16]) -> [u8; NAMES]
-    requires slots { Ascend 0 (map (λ s. extent_of_origin (origin_of_source s)) sources.now) }
-    requires sizes { All (λ c. c.size ≤ MAX_CODE_LEN)
-        (map (λ s. extent_of_origin (origin_of_source s)) sources.now) }
-    requires starts { starts.now
-        ≡ starts_of (map (λ s. extent_of_origin (origin_of_source s)) sources.now) }
-    ensures { result ≡ all_pairs order (map (λ s. extent_of_origin (origin_of_source s))
-        sources.now) }
+    requires slots { Ascend 0 (map origin_of_source sources.now) }
+    requires sizes { All (λ o. length o.code ≤ MAX_CODE_LEN) (map origin_of_source sources.now) }
+    requires starts { starts.now ≡ starts_of (map origin_of_source sources.now) }
+    ensures { result ≡ all_pairs order (map origin_of_source sources.now) }
 {
     let mut pairs = [0; NAMES];
     for (k, source) in sources.iter().enumerate() {
@@ -43,8 +40,7 @@ fn store(dictionary: &mut [u8], place: usize, part: &[u8])
 /// The segment dictionary of the linked file, which is its block 0.
 pub(crate) fn dictionary_of<A: Allocator + Copy>(plan: &Plan<'_, A>) -> [u8; BLOCK_SIZE]
     requires ready { IsReady plan.now }
-    ensures { result ≡ dictionary plan.now.order plan.now.names plan.now.host
-        (extents_in plan.now) }
+    ensures { result ≡ dictionary plan.now.order plan.now.names plan.now.host plan.now.origins }
 {
     let layout = lay_out(plan);
     let pairs = pairs_of(plan.order(), plan.sources(), layout.starts.as_slice());

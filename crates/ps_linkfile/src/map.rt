@@ -5,7 +5,7 @@ ghost use Rattle.std.specs.List.{flat_map};
 ghost use Rattle.ps_resolve.specs.AllFaults.{first_fault};
 ghost use Rattle.ps_resolve.specs.Sources.{contents};
 ghost use Rattle.ps_resolve.specs.Standing.{NoneStands};
-ghost use Rattle.ps_linkfile.specs.Writing.{extents_in, starts_of, IsReady};
+ghost use Rattle.ps_linkfile.specs.Writing.{starts_of, IsReady};
 ghost use Rattle.ps_linkfile.specs.Outcomes.{HasUsedNumber, IsUnprepared, NamesFirst};
 ghost use Rattle.ps_linkfile.specs.MapText.{added_word as added_word_spec, code_line, source_line, kind_word as kind_word_spec, definition_line, private_line, last_line, map_in, map_of};
 
@@ -50,9 +50,9 @@ fn add_segments<A: Allocator + Copy, S: TextWriter>(
     starts: &[u16],
 )
     requires ready { IsReady plan.now }
-    requires starts { starts.now ≡ starts_of (extents_in plan.now) }
+    requires starts { starts.now ≡ starts_of plan.now.origins }
     ensures { Adds S.added text.old
-        (flat_map (source_line plan.now.names (extents_in plan.now)) plan.now.origins) text.new }
+        (flat_map (source_line plan.now.names plan.now.origins) plan.now.origins) text.new }
 {
     let names = plan.names();
     for (k, source) in plan.sources().iter().enumerate() {

@@ -4,7 +4,7 @@ ghost use Rattle.std.specs.List.{enumerate_from, flat_map};
 ghost use Rattle.ps_linkfile.specs.Adding.{Adds};
 ghost use Rattle.ps_linkfile.specs.JsonText.{json_name};
 ghost use Rattle.ps_linkfile.specs.MapJson.{code_item, code_members, definition_item, definition_list, last_members, map_json_in, members_in, private_item, private_list, private_members, segment_list, source_item};
-ghost use Rattle.ps_linkfile.specs.Writing.{extents_in, starts_of, IsReady};
+ghost use Rattle.ps_linkfile.specs.Writing.{starts_of, IsReady};
 
 use crate::block_layout::lay_out;
 use crate::json::{add_json_name, json_bool, separator};
@@ -51,9 +51,9 @@ fn add_segments<A: Allocator + Copy, S: TextWriter>(
     starts: &[u16],
 )
     requires ready { IsReady plan.now }
-    requires starts { starts.now ≡ starts_of (extents_in plan.now) }
+    requires starts { starts.now ≡ starts_of plan.now.origins }
     ensures { Adds S.added text.old
-        (flat_map (source_item plan.now.names (extents_in plan.now))
+        (flat_map (source_item plan.now.names plan.now.origins)
         (enumerate_from 0 plan.now.origins)) text.new }
 {
     let names = plan.names();
@@ -129,9 +129,9 @@ fn add_segment_list<A: Allocator + Copy, S: TextWriter>(
     starts: &[u16],
 )
     requires ready { IsReady plan.now }
-    requires starts { starts.now ≡ starts_of (extents_in plan.now) }
+    requires starts { starts.now ≡ starts_of plan.now.origins }
     ensures { Adds S.added text.old
-        (segment_list plan.now.names (extents_in plan.now) plan.now.origins) text.new }
+        (segment_list plan.now.names plan.now.origins) text.new }
 {
     text.add(b"{\"segments\":[");
     add_segments(text, plan, starts);

@@ -4,7 +4,7 @@ ghost use Rattle.ps_words.specs.Edits.{AreEdits};
 ghost use Rattle.ps_words.specs.Words.{blocks};
 ghost use Rattle.ps_codefile.specs.Dictionary.{block_len};
 ghost use Rattle.ps_linkfile.specs.LinkedFile.{all_blocks, padded_code};
-ghost use Rattle.ps_linkfile.specs.Writing.{extents_in, file_in, padded_codes, summary_in, HaveEdits, IsReady};
+ghost use Rattle.ps_linkfile.specs.Writing.{file_in, padded_codes, summary_in, HaveEdits, IsReady};
 ghost use Rattle.ps_linkfile.specs.Outcomes.{AppendsPrefix};
 ghost use Rattle.ps_linkfile.specs.Counts.{AreAtMost, CanCount, NoneFailed, OneFailed, Rises};
 
@@ -82,13 +82,13 @@ fn write_codes<A: Allocator + Copy, W: Write, T: WriteCounter<W>>(
 ) -> Result<(), WriteFault>
     requires edits { HaveEdits plan.now.origins plan.now.edits }
     requires room { CanCount (T.counts counter.old out.old)
-        (block_len * all_blocks (extents_in plan.now)) }
+        (block_len * all_blocks plan.now.origins) }
     ensures all { OnOk result (Appends (W.contents out.old) (W.contents out.new)
         (padded_codes plan.now.order plan.now.origins plan.now.edits)) }
     ensures prefix { OnErr result (AppendsPrefix (W.contents out.old) (W.contents out.new)
         (padded_codes plan.now.order plan.now.origins plan.now.edits)) }
     ensures writes { Rises (T.counts counter.old out.old) (T.counts counter.new out.new)
-        (block_len * all_blocks (extents_in plan.now)) (all_blocks (extents_in plan.now)) }
+        (block_len * all_blocks plan.now.origins) (all_blocks plan.now.origins) }
     ensures ok { OnOk result (NoneFailed (T.counts counter.old out.old)
         (T.counts counter.new out.new)) }
     ensures failed { IfErr result (λ fault. OneFailed fault (T.counts counter.old out.old)

@@ -1,10 +1,9 @@
 use Rattle.std.proofs.Common.{ℕ, map}
-use Rattle.ps_linkfile.proofs.Words.{origin_of_source, extent_of_origin}
-use Rattle.ps_linkfile.proofs.Extents.{LaidSoFar}
+use Rattle.ps_linkfile.proofs.Words.{origin_of_source}
+use Rattle.ps_linkfile.proofs.Blocks.{LaidSoFar}
 use Rattle.ps_linkfile.proofs.block_layout.layout_of.Given as goal
 
 -- the codes of the sources so far are laid out
 abbrev pub invariant-loop-source : goal.invariant-loop-source
 invariant-loop-source l = (from : ℕ) × LaidSoFar
-    (map (λ s. extent_of_origin (origin_of_source s)) l.sources) l.source-index l.starts.items
-    l.blocks from
+    (map origin_of_source l.sources) l.source-index l.starts.items l.blocks from

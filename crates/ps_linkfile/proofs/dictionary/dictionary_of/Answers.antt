@@ -1,23 +1,9 @@
-use Rattle.std.proofs.Common.{◌≡◌, ◌*◌, ◌∙◌, ℕ, length, map, replicate, refl, sym}
+use Rattle.std.proofs.Common.{◌≡◌, ◌*◌, ◌∙◌, ℕ, length, replicate, refl}
 use Rattle.std.proofs.Common.{ap, arith}
-use Rattle.ps_linkfile.proofs.Words.{flat_map, length-replicate, extents_in, starts_of}
+use Rattle.ps_linkfile.proofs.Words.{flat_map, length-replicate}
 use Rattle.ps_linkfile.specs.LinkedFile.{all_pairs}
-use Rattle.ps_linkfile.proofs.Views.{extent_of_source, seen, seen_ascend, seen_small}
 use Rattle.ps_linkfile.proofs.Whole.{part_len, all_pairs_len, stored_parts, dictionary_is}
 use Rattle.ps_linkfile.proofs.dictionary.dictionary_of.Goals as goal
-
-pub pairs_of-pairs-requires-clause-slots : goal.pairs_of-pairs-requires-clause-slots
-pairs_of-pairs-requires-clause-slots g c = seen_ascend
-    c.sources.result.now c.args.plan.now.origins c.sources.ensures.origins c.requires.ready.slots
-
-pub pairs_of-pairs-requires-clause-sizes : goal.pairs_of-pairs-requires-clause-sizes
-pairs_of-pairs-requires-clause-sizes g c = seen_small
-    c.sources.result.now c.args.plan.now.origins c.sources.ensures.origins c.requires.ready.sizes
-
-pub pairs_of-pairs-requires-clause-starts : goal.pairs_of-pairs-requires-clause-starts
-pairs_of-pairs-requires-clause-starts g c =
-    c.as_slice.ensures.value ∙ c.lay_out-layout.ensures.starts
-    ∙ ap starts_of (seen c.sources.result.now c.args.plan.now.origins c.sources.ensures.origins)
 
 pub store-requires-2 : goal.store-requires-2
 store-requires-2 g c = grind arith
@@ -49,11 +35,8 @@ returns g c =
     ∙ ap (λ names. flat_map (λ name. name) names) c.names.ensures in
     let tail_256 : length c.tail.result.now ≡ 256 = ap (λ xs. length xs)
     c.tail.ensures ∙ part_len plan.host 256 512 (omega (arith, c.requires.ready.host)) in
-    let pairs_are : c.pairs_of-pairs.result ≡ all_pairs plan.order (extents_in plan) =
-    c.pairs_of-pairs.ensures ∙ (ap (λ o. all_pairs o (map extent_of_source
-    c.sources.result.now)) c.order.ensures ∙ ap (λ cs. all_pairs plan.order cs)
-    (sym (seen c.sources.result.now plan.origins c.sources.ensures.origins))) in
-    dictionary_is plan.order plan.names plan.host (extents_in plan) _ c.pairs_of-pairs.result
+    let pairs_are : c.pairs_of-pairs.result ≡ all_pairs plan.order plan.origins = cc in
+    dictionary_is plan.order plan.names plan.host plan.origins _ c.pairs_of-pairs.result
     c.as_flattened.result.now c.tail.result.now (stored_parts (replicate 512 0)
     _ _ _ c.pairs_of-pairs.result c.as_flattened.result.now (replicate 64 0) c.tail.result.now
     (length-replicate {A = ℕ} 512 0) refl pairs_64 names_128 tail_256 c.store.ensures.stored

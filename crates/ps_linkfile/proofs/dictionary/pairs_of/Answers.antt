@@ -1,8 +1,8 @@
 use Rattle.std.proofs.Common.{◌≡◌, ◌+◌, ◌*◌, length, map, get_or, sym, ◌∙◌}
 use Rattle.std.proofs.Common.{arith}
-use Rattle.ps_linkfile.proofs.Words.{length-map, blocks}
+use Rattle.ps_linkfile.proofs.Words.{length-map, blocks, origin_of_source}
 use Rattle.ps_linkfile.proofs.Pairs.{IsPut, pairs_none, pairs_more, pairs_done}
-use Rattle.ps_linkfile.proofs.Views.{extent_of_source, no_source, view_at, size_at, slot_at}
+use Rattle.ps_linkfile.proofs.Views.{no_source, view_at, size_at, slot_at}
 use Rattle.ps_linkfile.proofs.Views.{many_starts, start_at}
 use Rattle.ps_linkfile.proofs.dictionary.pairs_of.Goals as goal
 
@@ -11,7 +11,7 @@ loop-k-init c = (
   1,
   0,
   pairs_none c.args.order
-      (map extent_of_source c.args.sources.now) c.requires.slots,
+      (map origin_of_source c.args.sources.now) c.requires.slots,
 )
 
 pub put-requires : goal.put-requires
@@ -33,8 +33,8 @@ loop-k-preserved c =
     let order = c.args.order in
     let ss = c.args.sources.now in
     let k = c.loop-k.k in
-    let all = map extent_of_source ss in
-    let item = extent_of_source (get_or ss k no_source) in
+    let all = map origin_of_source ss in
+    let item = origin_of_source (get_or ss k no_source) in
     let start = get_or c.args.starts.now k 0 in
     let (block, from, so_far) = c.loop-k.invariant in
     let first : IsPut order c.loop-k.pairs c.put.new.bytes (4 * item.slot) start =
@@ -46,17 +46,17 @@ loop-k-preserved c =
       size = c.put.ensures.length;
     } in
     let second : IsPut order c.put.new.bytes c.put-in-loop-k.new.bytes
-    (4 * item.slot + 2) item.size =
+    (4 * item.slot + 2) (length item.code) =
     record {
       first = c.put-in-loop-k.ensures.first;
       second = c.put-in-loop-k.ensures.second;
       others = c.put-in-loop-k.ensures.others;
       size = c.put-in-loop-k.ensures.length;
     } in (
-      block + blocks item.size,
+      block + blocks (length item.code),
       item.slot + 1,
       pairs_more order all k _ _ _ block from start item
-          (view_at extent_of_source ss k no_source c.loop-k-test.true)
+          (view_at origin_of_source ss k no_source c.loop-k-test.true)
           (start_at ss c.args.starts.now k c.requires.starts c.loop-k-test.true) so_far first
           second,
     )
@@ -64,8 +64,8 @@ loop-k-preserved c =
 pub returns : goal.returns
 returns c =
     let ss = c.args.sources.now in
-    let all = map extent_of_source ss in
+    let all = map origin_of_source ss in
     let (block, from, so_far) = c.loop-k.invariant in
     let end : c.loop-k.k ≡ length ss = omega (arith, c.loop-k-test.false, c.loop-k.auto.k-end) in
-    let count : c.loop-k.k ≡ length all = end ∙ sym (length-map ss extent_of_source) in
+    let count : c.loop-k.k ≡ length all = end ∙ sym (length-map ss origin_of_source) in
     pairs_done c.args.order all c.loop-k.pairs block from (rw count at so_far)

@@ -1,10 +1,10 @@
 use Rattle.std.proofs.Common.{ℕ, map}
-use Rattle.ps_linkfile.proofs.Words.{origin_of_source, extent_of_origin}
+use Rattle.ps_linkfile.proofs.Words.{origin_of_source}
 use Rattle.ps_linkfile.proofs.Pairs.{PairsSoFar}
 use Rattle.ps_linkfile.proofs.dictionary.pairs_of.Given as goal
 
 -- the pairs of the sources so far are stored
 abbrev pub invariant-loop-k : goal.invariant-loop-k
 invariant-loop-k l = (block : ℕ) × (from : ℕ)
-    × PairsSoFar l.order (map (λ s. extent_of_origin (origin_of_source s)) l.sources) l.k l.pairs
+    × PairsSoFar l.order (map origin_of_source l.sources) l.k l.pairs
     block from

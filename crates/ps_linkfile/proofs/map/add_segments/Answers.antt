@@ -1,9 +1,8 @@
 use Rattle.std.proofs.Common.{◌≡◌, ◌+◌, ◌++◌, ◌∙◌, ℕ, List, [], length, drop}
 use Rattle.std.proofs.Common.{get_or, refl, sym, ap, arith}
 use Rattle.ps_linkfile.proofs.Words.{flat_map, length-map, origin_of_source, code_line, source_line}
-use Rattle.ps_linkfile.proofs.Words.{extents_in}
 use Rattle.ps_linkfile.proofs.Maps.{line_at}
-use Rattle.ps_linkfile.proofs.Views.{many_starts, no_source, seen, seen_ascend, slot_at, source_at}
+use Rattle.ps_linkfile.proofs.Views.{many_starts, no_source, slot_at, source_at}
 use Rattle.ps_linkfile.proofs.Written.{all_written, items_left, items_over, none_yet, some_more}
 use Rattle.ps_linkfile.proofs.map.add_segments.Goals as goal
 
@@ -11,10 +10,10 @@ pub loop-k-init : goal.loop-k-init
 loop-k-init g c = none_yet refl
 
 pub bounds-names-source : goal.bounds-names-source
-bounds-names-source g c = grind (arith, slot_at, seen_ascend)
+bounds-names-source g c = grind (arith, slot_at)
 
 pub bounds-starts-k : goal.bounds-starts-k
-bounds-starts-k g c = grind (arith, many_starts, seen)
+bounds-starts-k g c = grind (arith, many_starts)
 
 pub loop-k-preserved : goal.loop-k-preserved
 loop-k-preserved g c =
@@ -22,7 +21,7 @@ loop-k-preserved g c =
     let ss = c.sources-source-items.result.now in
     let k = c.loop-k.k in
     let o = origin_of_source (get_or ss k no_source) in
-    let line_of = source_line plan.names (extents_in plan) in
+    let line_of = source_line plan.names plan.origins in
     let origins = c.sources-source-items.ensures.origins in
     let rest = flat_map line_of (drop (k + 1) plan.origins) in
     let written : List (List ℕ) → List ℕ = λ names. code_line o.slot (get_or names o.slot

@@ -1,5 +1,5 @@
 use Rattle.std.proofs.Common.{drop}
-use Rattle.ps_linkfile.proofs.Words.{flat_map, source_line, extents_in}
+use Rattle.ps_linkfile.proofs.Words.{flat_map, source_line}
 use Rattle.ps_linkfile.proofs.Written.{Written}
 use Rattle.ps_linkfile.proofs.map.add_segments.Given as goal
 
@@ -7,5 +7,5 @@ use Rattle.ps_linkfile.proofs.map.add_segments.Given as goal
 abbrev pub invariant-loop-k : goal.invariant-loop-k
 invariant-loop-k g l =
     Written g.S.TextWriter.added l.fn.text
-    (flat_map (source_line l.plan.names (extents_in l.plan)) l.plan.origins)
-    (flat_map (source_line l.plan.names (extents_in l.plan)) (drop l.k l.plan.origins)) l.text
+    (flat_map (source_line l.plan.names l.plan.origins) l.plan.origins)
+    (flat_map (source_line l.plan.names l.plan.origins) (drop l.k l.plan.origins)) l.text

@@ -1,7 +1,7 @@
 use Rattle.std.proofs.Common.{refl, arith}
 use Rattle.std.proofs.lemmas.List.{length-map}
 use Rattle.ps_linkfile.proofs.MapsJson.{item_at}
-use Rattle.ps_linkfile.proofs.Views.{many_starts, no_source, seen, seen_ascend, slot_at, source_at}
+use Rattle.ps_linkfile.proofs.Views.{many_starts, no_source, slot_at, source_at}
 use Rattle.ps_linkfile.proofs.Numbered.{numbered_left, numbered_over}
 use Rattle.ps_linkfile.proofs.Written.{all_written, none_yet, some_more}
 use Rattle.ps_linkfile.proofs.map_json.add_segments.Goals as goal
@@ -10,10 +10,10 @@ pub loop-k-init : goal.loop-k-init
 loop-k-init g c = none_yet refl
 
 pub bounds-names-source : goal.bounds-names-source
-bounds-names-source g c = grind (arith, slot_at, seen_ascend)
+bounds-names-source g c = grind (arith, slot_at)
 
 pub bounds-starts-k : goal.bounds-starts-k
-bounds-starts-k g c = grind (arith, many_starts, seen)
+bounds-starts-k g c = grind (arith, many_starts)
 
 pub loop-k-preserved : goal.loop-k-preserved
 loop-k-preserved g c = grind (arith, no_source, item_at, numbered_left, source_at, some_more)

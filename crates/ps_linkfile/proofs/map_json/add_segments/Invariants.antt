@@ -1,5 +1,5 @@
 use Rattle.std.proofs.Common.{drop}
-use Rattle.ps_linkfile.proofs.Words.{enumerate_from, flat_map, source_item, extents_in}
+use Rattle.ps_linkfile.proofs.Words.{enumerate_from, flat_map, source_item}
 use Rattle.ps_linkfile.proofs.Written.{Written}
 use Rattle.ps_linkfile.proofs.map_json.add_segments.Given as goal
 
@@ -7,6 +7,6 @@ use Rattle.ps_linkfile.proofs.map_json.add_segments.Given as goal
 abbrev pub invariant-loop-k : goal.invariant-loop-k
 invariant-loop-k g l =
     Written g.S.TextWriter.added l.fn.text
-    (flat_map (source_item l.plan.names (extents_in l.plan)) (enumerate_from 0 l.plan.origins))
-    (flat_map (source_item l.plan.names (extents_in l.plan))
+    (flat_map (source_item l.plan.names l.plan.origins) (enumerate_from 0 l.plan.origins))
+    (flat_map (source_item l.plan.names l.plan.origins)
     (enumerate_from l.k (drop l.k l.plan.origins))) l.text

@@ -1,41 +1,49 @@
-use Rattle.std.proofs.Common.{arith, ◌≡◌, ◌∙◌, ◌++◌, ℕ, List, None, ap, map}
-use Rattle.ps_linkfile.proofs.Words.{Segment, order_of, segment_of, references_json}
+use Rattle.std.proofs.Common.{arith, ◌≡◌, ◌∙◌, ◌++◌, ℕ, List, None, ap}
+use Rattle.ps_linkfile.proofs.Words.{IsPlan, Planned, Segment, edited_segments, flat_map, order_of}
+use Rattle.ps_linkfile.proofs.Words.{references_json, segment_references}
 use Rattle.ps_resolve.specs.Added.{segments}
-use Rattle.ps_resolve.specs.AllFaults.{reading_fault}
+use Rattle.ps_resolve.specs.AllFaults.{first_fault, reading_fault}
 use Rattle.ps_resolve.specs.Readings.{ReadFiles}
+use Rattle.ps_linkfile.specs.ReferencesText.{references_of}
 use Rattle.ps_linkfile.proofs.Listings.{as_plan, joined, references_are}
 use Rattle.ps_linkfile.proofs.MapsJson.{members_are}
 use Rattle.ps_linkfile.proofs.Whole.{none_found, reading_first}
 use Rattle.ps_linkfile.proofs.references.prepare_references.Goals as goal
 
--- the segments of a reading of these files
-seen : (host : List ℕ) (libs : List (List ℕ)) (files : ReadFiles) (ss : List Segment)
-    → files ≡ record { host = host; libs = libs } → reading_fault host libs ≡ None
-    → (reading_fault files.host files.libs ≡ None → ss ≡ segments
-    (order_of files.host) files.host files.libs) → ss ≡ segments (order_of host) host libs
-seen host libs files ss same none h = grind arith
+module _ (host : List ℕ) (libs : List (List ℕ)) (files : ReadFiles) (ss : List Segment) where
+  -- the segments of a reading of these files, in which no fault applies
+  seen : first_fault host libs ≡ None → files ≡ record { host = host; libs = libs }
+      → (reading_fault files.host files.libs ≡ None → ss ≡ segments
+      (order_of files.host) files.host files.libs) → ss ≡ segments (order_of host) host libs
+  seen none same h = grind (arith, reading_first)
+
+  -- what is listed of them by a plan of their link is what the link stores
+  stored : (p q : Planned) (text : List ℕ) → first_fault host libs ≡ None
+      → files ≡ record { host = host; libs = libs }
+      → (reading_fault files.host files.libs ≡ None → ss ≡ segments
+      (order_of files.host) files.host files.libs) → IsPlan host libs p → q ≡ p
+      → text ≡ flat_map (segment_references q.order q.origins) (edited_segments q.order ss)
+      → text ≡ references_of host libs
+  stored p q text none same h plan is listed =
+      listed ∙ references_are host libs p q ss plan is (seen none same h)
 
 pub list_segments-requires-clause-plan : goal.list_segments-requires-clause-plan
-list_segments-requires-clause-plan g c = grind (arith, reading_first, none_found, as_plan, seen)
+list_segments-requires-clause-plan g c = as_plan _ _ _ _ _ c.in_ok-linked.ensures.plan
+    c.plan.ensures.plan (seen _ _ c.read-reading.result _ (none_found c.first_of_all.ensures.some
+    _ _ c.in_ok-linked.ensures.accepted) c.read-reading.ensures c.segments.ensures.all)
 
 pub returns-clause-text : goal.returns-clause-text
-returns-clause-text g c = grind (arith, reading_first, none_found, references_are, seen, joined)
+returns-clause-text g c = joined _ _ _ _ c.in_ok-linked.ensures.map
+    (stored _ _ c.read-reading.result _ _ _ _ (none_found c.first_of_all.ensures.some _ _
+    c.in_ok-linked.ensures.accepted) c.read-reading.ensures c.segments.ensures.all
+    c.in_ok-linked.ensures.plan c.plan.ensures.plan c.in_ok-listings.ensures)
 
 pub returns-clause-json : goal.returns-clause-json
-returns-clause-json g c =
-    let host = c.args.host.now in
-    let libs = map (λ lib. lib.now) c.args.libs.now in
-    let none = reading_first host libs
-    (none_found c.first_of_all.ensures.some host libs c.in_ok-linked.ensures.accepted) in
-    let ss = map segment_of c.segments.result.now in
-    let stored = c.in_ok-listings.ensures
-    ∙ references_are host libs c.in_ok-linked.linked c.plan.result.now ss
-    c.in_ok-linked.ensures.plan c.plan.ensures.plan
-    (seen host libs c.read-reading.result ss c.read-reading.ensures none c.segments.ensures.all)
-    in
-    let listings = c.in_ok-listings.listings.items in (
-      listings,
-      stored,
-      ap (λ bs. bs ++ references_json listings)
-          (members_are host libs c.in_ok-linked.linked c.in_ok-linked.ensures.plan),
-    )
+returns-clause-json g c = let listings = c.in_ok-listings.listings.items in (
+  listings,
+  stored _ _ c.read-reading.result _ _ _ _ (none_found c.first_of_all.ensures.some _ _
+      c.in_ok-linked.ensures.accepted) c.read-reading.ensures c.segments.ensures.all
+      c.in_ok-linked.ensures.plan c.plan.ensures.plan c.in_ok-listings.ensures,
+  ap (λ bs. bs ++ references_json listings)
+      (members_are _ _ c.in_ok-linked.linked c.in_ok-linked.ensures.plan),
+)

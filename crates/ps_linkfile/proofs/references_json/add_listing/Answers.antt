@@ -1,7 +1,7 @@
-use Rattle.std.proofs.Common.{rules, ◌≡◌, ◌+◌, ◌++◌, ◌∷◌, ℕ, Option, drop}
-use Rattle.std.proofs.Common.{arith, ap}
-use Rattle.ps_linkfile.proofs.Words.{flat_map, enumerate_from, drop_more, drop_all, Cause}
-use Rattle.ps_linkfile.proofs.Words.{place_item, Listed}
+use Rattle.std.proofs.Common.{rules}
+use Rattle.std.proofs.Common.{arith}
+use Rattle.ps_linkfile.proofs.Words.{drop_more, drop_all}
+use Rattle.ps_linkfile.proofs.Numbered.{numbered_left}
 use Rattle.ps_linkfile.proofs.Written.{adds_none, all_stopped, all_written, some_more}
 use Rattle.ps_linkfile.proofs.references_json.add_listing.Goals as goal
 use Rattle.ps_linkfile.proofs.references_json.add_listing.Goals.{in-Some, in_default}
@@ -9,15 +9,9 @@ use Rattle.ps_linkfile.proofs.references_json.add_listing.Goals.{in-Some, in_def
 pub loop-place-init : goal.loop-place-init
 loop-place-init g c = grind arith
 
--- the item of a place, and those of the places after it
-next_place : (s : Listed) (i : ℕ) (o : Option Cause) → drop i s.causes ≡ o ∷ drop (i
-    + 1) s.causes → flat_map (place_item s) (enumerate_from i (drop i s.causes)) ≡ place_item s
-    (i, o) ++ flat_map (place_item s) (enumerate_from (i + 1) (drop (i + 1) s.causes))
-next_place s i o h = ap (λ os. flat_map (place_item s) (enumerate_from i os)) h
-
 pub loop-place-preserved : goal.loop-place-preserved
 loop-place-preserved g c =
-    search (rules, drop_more, next_place, in-Some, some_more, in_default, adds_none)
+    search (rules, drop_more, numbered_left, in-Some, some_more, in_default, adds_none)
 
 pub returns : goal.returns
 returns g c = grind (arith, drop_all, all_written)

@@ -1,7 +1,8 @@
 use Rattle.std.proofs.Common.{◌≤◌, ◌+◌, ◌/◌, length}
 use Rattle.ps_linkfile.proofs.Words.{reading, record_lines}
 use Rattle.ps_linkinfo.specs.Left.{items_left}
-use Rattle.ps_linkfile.proofs.Shows.{item_lines}
+use Rattle.ps_linkfile.specs.ShowText.{fault_line, record_line}
+use Rattle.ps_linkfile.proofs.Walks.{walked}
 use Rattle.ps_linkfile.proofs.Written.{Written}
 use Rattle.ps_linkfile.proofs.show.add_records.Given as goal
 
@@ -12,6 +13,6 @@ invariant-loop-item g l = record {
   finite : (goal.iterator-loop-item g).is_finite l.item-iterator;
   lines : Written g.S.TextWriter.added l.fn.text
       (record_lines l.units (reading l.fn.order l.information))
-      (item_lines l.units l.rec (items_left l.item-iterator)) l.text;
+      (walked (record_line l.units) fault_line l.rec (items_left l.item-iterator)) l.text;
   few : l.rec + length (items_left l.item-iterator) ≤ length l.information / 16 + 1;
 }

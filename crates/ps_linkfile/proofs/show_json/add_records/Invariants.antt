@@ -1,7 +1,8 @@
 use Rattle.std.proofs.Common.{◌≤◌, ◌+◌, ◌/◌, length}
 use Rattle.ps_linkfile.proofs.Words.{reading, record_items}
 use Rattle.ps_linkinfo.specs.Left.{items_left}
-use Rattle.ps_linkfile.proofs.ShowsJson.{walk_items}
+use Rattle.ps_linkfile.specs.ShowJson.{fault_item, record_item}
+use Rattle.ps_linkfile.proofs.Walks.{walked}
 use Rattle.ps_linkfile.proofs.Written.{Written}
 use Rattle.ps_linkfile.proofs.show_json.add_records.Given as goal
 
@@ -12,6 +13,6 @@ invariant-loop-item g l = record {
   finite : (goal.iterator-loop-item g).is_finite l.item-iterator;
   lines : Written g.S.TextWriter.added l.fn.text
       (record_items l.units (reading l.fn.order l.information))
-      (walk_items l.units l.rec (items_left l.item-iterator)) l.text;
+      (walked (record_item l.units) fault_item l.rec (items_left l.item-iterator)) l.text;
   few : l.rec + length (items_left l.item-iterator) ≤ length l.information / 16 + 1;
 }

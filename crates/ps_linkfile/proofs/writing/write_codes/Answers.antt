@@ -1,6 +1,5 @@
-use Rattle.std.proofs.Common.{◌+◌, ◌++◌, arith, get_or, length}
-use Rattle.ps_linkfile.proofs.Words.{drop_all, length-map, err_from_is_err_and, blocks}
-use Rattle.ps_linkfile.proofs.Words.{origin_of_source, padded_code}
+use Rattle.std.proofs.Common.{arith}
+use Rattle.ps_linkfile.proofs.Words.{drop_all, length-map, err_from_is_err_and}
 use Rattle.ps_linkfile.proofs.Prefixes.{appends_none, on_err_always}
 use Rattle.ps_linkfile.proofs.Codes.{edits_here, codes_more, codes_prefix}
 use Rattle.ps_linkfile.proofs.Views.{no_source, is_at}
@@ -16,32 +15,22 @@ write_code-requires-clause-edits g c = grind (arith, no_source, is_at, edits_her
 
 pub returns-in_err-write_code-clause-prefix : goal.returns-in_err-write_code-clause-prefix
 returns-in_err-write_code-clause-prefix g c =
-    let ss = c.sources-source-items.result.now in
-    let k = c.loop-k.k in
-    let o = origin_of_source (get_or ss k no_source) in
-    let at = is_at ss c.args.plan.now.origins c.args.plan.now.edits k
-    c.edits.result.now c.sources-source-items.ensures.origins c.loop-k-test.true c.edits.ensures in
-    on_err_always c.from_residual.result (codes_prefix c.args.plan.now.order c.args.plan.now.origins
-    c.args.plan.now.edits k _ _ _ c.loop-k.invariant.codes.0 o c.edits.result.now
-    at c.loop-k.invariant.codes.1 (rw c.order.ensures at c.in_err-write_code.ensures.prefix))
+    let at =
+    is_at _ _ _ _ _ c.sources-source-items.ensures.origins c.loop-k-test.true c.edits.ensures in
+    on_err_always c.from_residual.result (codes_prefix _ _ _ _ _ _ _ _ _ _ at
+    c.loop-k.invariant.codes.1 (rw c.order.ensures at c.in_err-write_code.ensures.prefix))
 
 pub write_code-requires-clause-room : goal.write_code-requires-clause-room
 write_code-requires-clause-room g c =
-    let ss = c.sources-source-items.result.now in
-    let k = c.loop-k.k in
-    let at = is_at ss c.args.plan.now.origins c.args.plan.now.edits k
-    c.edits.result.now c.sources-source-items.ensures.origins c.loop-k-test.true c.edits.ensures in
-    blocks_room c.args.plan.now.origins k c.loop-k.invariant.counts.0 (origin_of_source
-    (get_or ss k no_source)) _ _ at.origin c.loop-k.invariant.counts.1 c.requires.room
+    let at =
+    is_at _ _ _ _ _ c.sources-source-items.ensures.origins c.loop-k-test.true c.edits.ensures in
+    blocks_room _ _ _ _ _ _ at.origin c.loop-k.invariant.counts.1 c.requires.room
 
 pub returns-in_err-write_code-clause-writes : goal.returns-in_err-write_code-clause-writes
 returns-in_err-write_code-clause-writes g c =
-    let ss = c.sources-source-items.result.now in
-    let k = c.loop-k.k in
-    let at = is_at ss c.args.plan.now.origins c.args.plan.now.edits k
-    c.edits.result.now c.sources-source-items.ensures.origins c.loop-k-test.true c.edits.ensures in
-    blocks_stop c.args.plan.now.origins k c.loop-k.invariant.counts.0 (origin_of_source
-    (get_or ss k no_source)) _ _ _ at.origin c.loop-k.invariant.counts.1 c.write_code.ensures.writes
+    let at =
+    is_at _ _ _ _ _ c.sources-source-items.ensures.origins c.loop-k-test.true c.edits.ensures in
+    blocks_stop _ _ _ _ _ _ _ at.origin c.loop-k.invariant.counts.1 c.write_code.ensures.writes
 
 pub returns-in_err-write_code-clause-failed : goal.returns-in_err-write_code-clause-failed
 returns-in_err-write_code-clause-failed g c =
@@ -54,25 +43,16 @@ returns-clause-writes g c = grind (arith, length-map, blocks_done, drop_all)
 
 pub loop-k-preserved : goal.loop-k-preserved
 loop-k-preserved g c =
-    let os = c.args.plan.now.origins in
-    let ss = c.sources-source-items.result.now in
-    let k = c.loop-k.k in
-    let o = origin_of_source (get_or ss k no_source) in
-    let order = c.args.plan.now.order in
+    let at =
+    is_at _ _ _ _ _ c.sources-source-items.ensures.origins c.loop-k-test.true c.edits.ensures in
+    let appended = rw c.order.ensures at c.in_ok-write_code.ensures.all in
     let (prefix, codes) = c.loop-k.invariant.codes in
     let (n, counts) = c.loop-k.invariant.counts in
-    let at = is_at ss os c.args.plan.now.edits k c.edits.result.now
-    c.sources-source-items.ensures.origins c.loop-k-test.true c.edits.ensures in
-    let appended = rw c.order.ensures at c.in_ok-write_code.ensures.all in
     record {
-      codes = (
-        prefix ++ padded_code order o.code c.edits.result.now,
-        codes_more order os c.args.plan.now.edits k _ _ _ prefix o c.edits.result.now at codes
-            appended,
-      );
+      codes = (_, codes_more _ _ _ _ _ _ _ prefix _ _ at codes appended);
       counts = (
-        n + blocks (length o.code),
-        blocks_more os k n o _ _ _ at.origin counts c.write_code.ensures.writes
+        _,
+        blocks_more _ _ n _ _ _ _ at.origin counts c.write_code.ensures.writes
             c.in_ok-write_code.ensures.ok,
       );
     }

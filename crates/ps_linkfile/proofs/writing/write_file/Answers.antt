@@ -1,5 +1,5 @@
 use Rattle.std.proofs.Common.{arith, length-append}
-use Rattle.ps_linkfile.proofs.Words.{IfErr-weaker, on_err_weaker, on_ok_weaker, extents_in}
+use Rattle.ps_linkfile.proofs.Words.{IfErr-weaker, on_err_weaker, on_ok_weaker}
 use Rattle.ps_linkfile.proofs.Words.{padded_codes}
 use Rattle.ps_linkfile.specs.LinkedFile.{dictionary}
 use Rattle.ps_linkfile.proofs.Prefixes.{appends_twice, prefix_last, prefix_then, on_err_always}
@@ -27,7 +27,7 @@ pub returns-clause-prefix : goal.returns-clause-prefix
 returns-clause-prefix g c =
     let plan = c.args.plan.now in
     on_err_weaker c.write_codes.result (prefix_last _ _ _ (dictionary plan.order
-    plan.names plan.host (extents_in plan)) (padded_codes plan.order plan.origins plan.edits)
+    plan.names plan.host plan.origins) (padded_codes plan.order plan.origins plan.edits)
     (rw c.dictionary_of.ensures at c.in_ok-write_all_of.ensures.all)) c.write_codes.ensures.prefix
 
 pub returns-clause-writes : goal.returns-clause-writes
