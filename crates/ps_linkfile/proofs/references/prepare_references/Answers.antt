@@ -1,5 +1,5 @@
 use Rattle.std.proofs.Common.{arith, ◌≡◌, ◌∙◌, ◌++◌, ℕ, List, None, ap, map}
-use Rattle.ps_linkfile.proofs.Words.{Segment, order_of, segment_of, references_json}
+use Rattle.ps_linkfile.proofs.Words.{Segment, order_of, references_json}
 use Rattle.ps_resolve.specs.Added.{segments}
 use Rattle.ps_resolve.specs.AllFaults.{reading_fault}
 use Rattle.ps_resolve.specs.Readings.{ReadFiles}
@@ -27,7 +27,7 @@ returns-clause-json g c =
     let libs = map (λ lib. lib.now) c.args.libs.now in
     let none = reading_first host libs
     (none_found c.first_of_all.ensures.some host libs c.in_ok-linked.ensures.accepted) in
-    let ss = map segment_of c.segments.result.now in
+    let ss = c.segments.result.now in
     let stored = c.in_ok-listings.ensures
     ∙ references_are host libs c.in_ok-linked.linked c.plan.result.now ss
     c.in_ok-linked.ensures.plan c.plan.ensures.plan
