@@ -1,6 +1,6 @@
 -- Lists of segments that are not those of the small links, computed.
-use Rattle.std.proofs.Common.{◌≡◌, ℕ, List, [], ◌∷◌, Result, Ok, false, refl, ap}
-use Rattle.std.proofs.Common.{subst, ◌∙◌, arith}
+use Rattle.std.proofs.Common.{◌≡◌, ℕ, List, [], ◌∷◌, Result, Ok, false, true, refl}
+use Rattle.std.proofs.Common.{ap, subst, ◌∙◌, arith}
 use Rattle.std.specs.Prelude.{slice_get, All}
 use Rattle.std.proofs.lemmas.Bool.{false≢true}
 use Rattle.ps_codefile.specs.declared.entry.Role.{Role}
@@ -12,7 +12,7 @@ use Rattle.ps_examples.specs.Segments.{past_segment}
 use Rattle.ps_examples.proofs.NotOrigins.{none_passes, no_name, count_aux, state_aux, blank_aux}
 use Rattle.ps_resolve.specs.Added.{empty_slots, rounds, added_segments}
 use Rattle.ps_resolve.specs.Origins.{HasOne, AsksFor, HaveOneEach, AreAdded, AreOfRounds}
-use Rattle.ps_resolve.specs.Sources.{Segment, own_segments}
+use Rattle.ps_resolve.specs.Sources.{Segment, own_segments, tables_of}
 use Rattle.ps_resolve.specs.Standing.Phrases.{SomeItem}
 use Rattle.ps_words.specs.declared.fault.Reason.{Reason}
 use Rattle.ps_words.specs.declared.order.Order.TheVariants.{Little, Big}
@@ -96,8 +96,12 @@ the_added_one_is_missing h = let t = (subst Missing added_is h.1) 0 demo_segment
         ∷ (record aux_segment { added = false }) ∷ []) (λ k q. q ≡ s)) more
 
 -- what the rounds of big-endian files add
-big_is : added_segments Big (host_in Big) (library_of_used_big ∷ [])
-    ≡ (record aux_segment { code = put_at 22 (3 ∷ []) (util_code Big) }) ∷ []
+abbrev big_aux : Segment
+big_aux =
+    let code = put_at 22 (3 ∷ []) (util_code Big) in
+    record aux_segment { code = code; tables = tables_of Big code true }
+
+big_is : added_segments Big (host_in Big) (library_of_used_big ∷ []) ≡ big_aux ∷ []
 unfolding own_segments empty_slots rounds
 big_is = refl
 
@@ -105,8 +109,7 @@ big_is = refl
 pub the_big_endian_one_is_missing : AreOfRounds (host_in Big) (library_of_used_big ∷ [])
     (demo_segment ∷ using_segment ∷ []) → ⊥
 the_big_endian_one_is_missing h = let t = (subst Missing big_is h.1) 0 demo_segment (omega arith) in
-    none_passes (λ (q : Segment). q ≡ record aux_segment
-    { code = put_at 22 (3 ∷ []) (util_code Big) }) (demo_segment ∷ using_segment ∷ []) (
+    none_passes (λ (q : Segment). q ≡ big_aux) (demo_segment ∷ using_segment ∷ []) (
       λ e. let s : 1 ≡ 8 = ap (λ (x : Segment). x.slot) e in
           omega (arith, s),
       (

@@ -1,11 +1,11 @@
 -- The segments of the host and the library, as they were read.
 -- Source: this project's examples.
-use Rattle.std.specs.Prelude.{List, [], ◌∷◌, ◌++◌, false, true}
+use Rattle.std.specs.Prelude.{List, [], ◌∷◌, ◌++◌, false, true, None}
 use Rattle.ps_codefile.specs.declared.entry.Role.TheVariants.{Host, Wanted, Plain}
 use Rattle.ps_linkinfo.specs.declared.record.Body.TheVariants.{UnitRef, PublRef, PrivRef, PublDef}
 use Rattle.ps_linkinfo.specs.declared.record.Body.TheVariants.{ConstDef, Eof}
 use Rattle.ps_linkinfo.specs.declared.record.LinkRecord.{LinkRecord as Record}
-use Rattle.ps_resolve.specs.Sources.{Segment}
+use Rattle.ps_resolve.specs.Sources.{Segment, tables_of}
 use Rattle.ps_resolve.specs.LinkedBytes.{segments_of}
 use Rattle.ps_examples.specs.Files.{host, library, library_with, library_of_two, library_of_used}
 use Rattle.ps_examples.specs.Files.{host_with_tools, wanting_aux, put_at, blank_name, demo, util}
@@ -35,6 +35,8 @@ util_segment = record {
   file = 1;
   index = 2;
   code = util_code Little;
+  tables = tables_of Little (util_code Little) true;
+  block = 2;
   records = count_reference ∷ state_reference ∷ end_mark ∷ [];
 }
 
@@ -48,6 +50,8 @@ demo_segment = record {
   file = 0;
   index = 1;
   code = demo_code Little;
+  tables = tables_of Little (demo_code Little) true;
+  block = 2;
   records = record { name = count; body = PublDef 3 } ∷ record { name = blank_name; body = Eof 8 }
       ∷ [];
 }
@@ -74,6 +78,8 @@ aux_segment = record {
   file = 1;
   index = 3;
   code = aux_code;
+  tables = tables_of Little aux_code true;
+  block = 4;
   records = count_reference ∷ state_reference ∷ end_mark ∷ [];
 }
 
@@ -121,6 +127,8 @@ tools_segment = record {
   file = 0;
   index = 8;
   code = 1 ∷ 2 ∷ 3 ∷ 4 ∷ 5 ∷ [];
+  tables = None;
+  block = 0;
   records = [];
 }
 

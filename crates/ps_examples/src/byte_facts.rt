@@ -1,4 +1,4 @@
-ghost use Rattle.std.specs.Prelude.{◌≡◌, ℕ, List, [], ◌∷◌};
+ghost use Rattle.std.specs.Prelude.{◌≡◌, ℕ, List, [], ◌∷◌, true};
 ghost use Rattle.ps_examples.specs.Files.{blank_name, util, aux, tools, count, state, nobody};
 ghost use Rattle.ps_examples.specs.Files.{demo_code, host_in, library_in};
 ghost use Rattle.ps_examples.specs.Segments.{state_reference, demo_segment, util_segment};
@@ -14,6 +14,7 @@ ghost use Rattle.ps_resolve.specs.LinkedBytes.{Reaches, Becomes};
 ghost use Rattle.ps_resolve.specs.LinkedBytes.{IsSlotOf, IsPublic, IsBase, all_private_words};
 ghost use Rattle.ps_resolve.specs.LinkedBytes.{IsNumberPlace, IsSizePlace};
 ghost use Rattle.ps_resolve.specs.LinkedBytes.{IsLinkedByte, IsOnePlace, segments_of};
+ghost use Rattle.ps_resolve.specs.Sources.{tables_of};
 ghost use Rattle.ps_words.specs.declared.order.Order.TheVariants.{Little, Big};
 
 use ps_laws::{bytes_are_linked, first_of_all};
@@ -48,7 +49,8 @@ pub fn facts_of_bytes()
     ensures its_second_byte { IsLinkedByte Little pair demo_segment 5 0 }
     ensures a_size_byte_of_a_big_endian_host { IsLinkedByte Big
         (segments_of (host_in Big) (library_in Big ∷ []))
-        (record demo_segment { code = demo_code Big }) 5 18 }
+        (record demo_segment { code = demo_code Big; tables = tables_of Big (demo_code Big) true })
+        5 18 }
     ensures a_kept_byte { IsLinkedByte Little pair util_segment 0 165 }
     ensures a_place_of_one_reference { IsOnePlace Little util_segment 2 }
 {

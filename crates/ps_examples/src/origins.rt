@@ -1,4 +1,4 @@
-ghost use Rattle.std.specs.Prelude.{◌≡◌, ℕ, List, [], ◌∷◌, take};
+ghost use Rattle.std.specs.Prelude.{◌≡◌, ℕ, List, [], ◌∷◌, None, take};
 ghost use Rattle.ps_codefile.specs.Dictionary.{entry_at};
 ghost use Rattle.ps_codefile.specs.declared.entry.Role.TheVariants as role;
 ghost use Rattle.ps_examples.specs.Files.{host, library, host_with_tools, put_at, with_slot};
@@ -108,6 +108,10 @@ pub fn segments_of_no_link()
         (record util_segment { file = 0 }) → ⊥ }
     ensures not_read_past_the_last_entry { IsReadFrom Little host (library_past_the_last ∷ [])
         (record util_segment { index = 16 }) → ⊥ }
+    ensures not_without_its_tables { IsReadFrom Little host (library ∷ [])
+        (record util_segment { tables = None }) → ⊥ }
+    ensures not_in_another_block { IsReadFrom Little host (library ∷ [])
+        (record util_segment { block = 3 }) → ⊥ }
     ensures not_without_its_records { IsReadFrom Little host (library ∷ [])
         (record util_segment { records = [] }) → ⊥ }
     ensures not_with_records_of_its_own { (libs : List (List ℕ)) → IsReadFrom Little

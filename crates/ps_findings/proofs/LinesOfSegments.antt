@@ -5,7 +5,6 @@ use Rattle.std.proofs.lemmas.List.{map-append, take_more}
 use Rattle.ps_resolve.specs.Sources.{Segment, opened_files, order_of}
 use Rattle.ps_resolve.specs.Added.{segments}
 use Rattle.ps_resolve.specs.Readings.{HostFiles, opened_host, read_requests}
-use Rattle.ps_resolve.specs.Views.{SegmentView, segment_of}
 use Rattle.ps_resolve.specs.declared.reading.added.UnitReference.{UnitReference}
 use Rattle.ps_resolve.proofs.ReadingSlots.{host_of_files}
 use Rattle.ps_checked.specs.Paths.{path_of}
@@ -17,33 +16,26 @@ use Rattle.ps_findings.proofs.SlotLines.{adds_then}
 
 -- the line of a segment that is this
 pub line_is : (paths : List (List ℕ)) (segs : List Segment) (requests : List UnitReference)
-    (v : SegmentView) (what : Part) → what ≡ part_as segs requests (segment_of v) v.role
-    → head_words (Some v.slot) v.name what
-    ++ from_words (path_of paths v.file) v.index (length v.code)
-    ≡ segment_line paths segs requests (segment_of v)
+    (s : Segment) (what : Part) → what ≡ part_as segs requests s s.role
+    → head_words (Some s.slot) s.name what
+    ++ from_words (path_of paths s.file) s.index (length s.code)
+    ≡ segment_line paths segs requests s
 unfolding segment_line
-line_is paths segs requests v what is = ap
-    (λ (p : Part). head_words (Some v.slot) v.name p
-    ++ from_words (path_of paths v.file) v.index (length v.code)) is
+line_is paths segs requests s what is = ap
+    (λ (p : Part). head_words (Some s.slot) s.name p
+    ++ from_words (path_of paths s.file) s.index (length s.code)) is
 
 -- one more segment
-pub adds_next : (old mid new : List ℕ) (f : Segment → List ℕ) (views : List SegmentView)
-    (i : ℕ) (d : SegmentView) → i < length views
-    → AddsSlotLines old (map f (map segment_of (take i views))) mid
-    → AddsSlotLines mid (f (segment_of (get_or views i d)) ∷ []) new
-    → AddsSlotLines old (map f (map segment_of (take (i + 1) views))) new
-adds_next old mid new f views i d within so_far more =
-    let v = get_or views i d in
-    let mapped : map segment_of (take (i + 1) views)
-    ≡ map segment_of (take i views) ++ segment_of v ∷ [] =
-    ap (map segment_of) (take_more views i d within)
-    ∙ map-append segment_of (take i views) (v ∷ []) in
-    let lines : map f (map segment_of (take (i + 1) views))
-    ≡ map f (map segment_of (take i views)) ++ f (segment_of v) ∷ [] =
-    ap (map f) mapped ∙ map-append f (map segment_of (take i views)) (segment_of v ∷ []) in
+pub adds_next : (old mid new : List ℕ) (f : Segment → List ℕ) (segs : List Segment)
+    (i : ℕ) (d : Segment) → i < length segs → AddsSlotLines old (map f (take i segs)) mid
+    → AddsSlotLines mid (f (get_or segs i d) ∷ []) new
+    → AddsSlotLines old (map f (take (i + 1) segs)) new
+adds_next old mid new f segs i d within so_far more =
+    let s = get_or segs i d in
+    let lines : map f (take (i + 1) segs) ≡ map f (take i segs) ++ f s ∷ [] =
+    ap (map f) (take_more segs i d within) ∙ map-append f (take i segs) (s ∷ []) in
     subst (λ (ls : List (List ℕ)). AddsSlotLines old ls new) (sym lines)
-    (adds_then old mid new (map f (map segment_of (take i views)))
-    (f (segment_of v) ∷ []) so_far more)
+    (adds_then old mid new (map f (take i segs)) (f s ∷ []) so_far more)
 
 -- the lines of the segments that were read are those of the link
 pub lines_are : (paths : List (List ℕ)) (host : List ℕ) (libs : List (List ℕ)) (v : HostFiles)

@@ -1,8 +1,7 @@
 //! The first part of the report: the files, and the segments with where each comes from.
-ghost use Rattle.std.specs.Prelude.{◌≡◌, ◌∷◌, ◌++◌, [], None, OnOk, Some, ℕ, length, map, string_bytes};
+ghost use Rattle.std.specs.Prelude.{◌≡◌, ◌∷◌, ◌++◌, [], None, OnOk, Some, ℕ, length, string_bytes};
 ghost use Rattle.ps_resolve.specs.AllFaults.{reading_fault};
 ghost use Rattle.ps_resolve.specs.Sources.{contents};
-ghost use Rattle.ps_resolve.specs.Views.{segment_of};
 ghost use Rattle.ps_checked.specs.Paths.{path_of};
 ghost use Rattle.ps_findings.specs.SegmentLines.{asker_of as asker_of_spec, from_words, head_words, lines_of_segments, name_in as name_in_spec, part_added as part_added_spec, part_as, segment_lines, slot_words, two_digits};
 ghost use Rattle.ps_findings.specs.SlotLines.{AddsSlotLines};
@@ -167,7 +166,7 @@ fn add_linked<A: Allocator + Copy>(
 ) -> Result<(), AllocError>
     ensures { OnOk result (AddsSlotLines (string_bytes text.old)
         (lines_of_segments (inputs.now.host_path.now ∷ contents inputs.now.paths.now)
-        (map segment_of segments.now) requests.now) (string_bytes text.new)) }
+        segments.now requests.now) (string_bytes text.new)) }
 {
     for segment in segments {
         let part = part_of(segments, requests, segment);
@@ -232,7 +231,7 @@ fn push_line<A: Allocator>(
 
 /// The name of the segment of a slot.
 fn name_in(segments: &[LinkedSegment<'_>], slot: u8) -> Name
-    ensures { result ≡ name_in_spec (map segment_of segments.now) slot }
+    ensures { result ≡ name_in_spec segments.now slot }
 {
     for segment in segments {
         if segment.slot() == slot {
@@ -256,7 +255,7 @@ fn asker_of(requests: &[UnitReference], name: Name) -> Option<UnitReference>
 
 /// What a unit is that is added for this record.
 fn part_added(segments: &[LinkedSegment<'_>], asker: Option<UnitReference>) -> Part
-    ensures { result ≡ part_added_spec (map segment_of segments.now) asker }
+    ensures { result ≡ part_added_spec segments.now asker }
 {
     match asker {
         None => Part::Wanted,
@@ -273,8 +272,7 @@ fn part_of(
     requests: &[UnitReference],
     segment: &LinkedSegment<'_>,
 ) -> Part
-    ensures { result ≡ part_as (map segment_of segments.now) requests.now (segment_of segment.now)
-        segment.now.role }
+    ensures { result ≡ part_as segments.now requests.now segment.now segment.now.role }
 {
     match segment.role() {
         Role::Plain => Part::Plain,

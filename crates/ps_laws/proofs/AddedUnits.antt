@@ -17,7 +17,7 @@ use Rattle.std.proofs.lemmas.Option.{slice_get_within, slice_get-map}
 use Rattle.ps_resolve.specs.Added.{is_already_known, requested_units}
 use Rattle.ps_codefile.specs.declared.entry.Role.TheVariants as role
 use Rattle.ps_resolve.specs.Faults.{sources_fault}
-use Rattle.ps_resolve.specs.Sources.{segment_from, own_segments}
+use Rattle.ps_resolve.specs.Sources.{information_block, segment_from, own_segments}
 use Rattle.ps_resolve.specs.RequestedUnits.{HasSlot, AreGiven, IsOfFirstLibrary}
 use Rattle.ps_laws.proofs.Least.{not_both}
 use Rattle.ps_laws.proofs.Looking.{any_of_items}
@@ -486,6 +486,9 @@ module _ (order : Order) (host : List ℕ) (libs : List (List ℕ)) where
           u.named,
           subst (λ f. code_of f (entry_at order f s.index) ≡ Ok s.code)
               (u.file_is host) h.code,
+          rw wanted at h.kept,
+          subst (λ f. s.block ≡ information_block (entry_at order f s.index) true)
+              (u.file_is host) (rw wanted at h.block),
           subst (λ f. s.records
               ≡ (reading order (information_of f (entry_at order f s.index))).0)
               (u.file_is host) records,

@@ -4,6 +4,7 @@ use Rattle.std.proofs.Common.{◌∷◌, ◌++◌, length, take, Option, Some, N
 use Rattle.std.proofs.Common.{sym, ap, subst, ◌∙◌, inl, inr, arith}
 use Rattle.ps_laws.proofs.Words.{slice_get, cases_order, same_Some, Role, Record, IsNamed, HasEntry}
 use Rattle.ps_laws.proofs.Words.{Before, Segment, Asks, IsGiver, AddedUnits, UnitReference, Order}
+use Rattle.ps_codefile.specs.Procedures.{ProcedureTables}
 use Rattle.ps_resolve.specs.Sources.{own_segments}
 use Rattle.ps_resolve.specs.RequestedUnits.{IsOfFirstLibrary}
 use Rattle.ps_laws.proofs.Items.{not_apart, some_before}
@@ -188,9 +189,9 @@ HasOneEntry order libs name =
     → (i j : ℕ) → i < 16 → j < 16 → IsNamed order name lib i → IsNamed order name lib j
     → i ≡ j
 
-segment : ℕ → List ℕ → Role → Bool → ℕ → ℕ → List ℕ → List Record
+segment : ℕ → List ℕ → Role → Bool → ℕ → ℕ → List ℕ → Option ProcedureTables → ℕ → List Record
     → Segment
-segment slot name role added file index code records =
+segment slot name role added file index code tables block records =
     record {
       slot = slot;
       name = name;
@@ -199,14 +200,17 @@ segment slot name role added file index code records =
       file = file;
       index = index;
       code = code;
+      tables = tables;
+      block = block;
       records = records;
     }
 
 made_alike : (s t : Segment) → s.slot ≡ t.slot → s.name ≡ t.name → s.role ≡ t.role
     → s.added ≡ t.added → s.file ≡ t.file → s.index ≡ t.index → s.code ≡ t.code
-    → s.records ≡ t.records → segment s.slot s.name s.role s.added s.file s.index
-    s.code s.records ≡ segment t.slot t.name t.role t.added t.file t.index t.code t.records
-made_alike s t slot name role added file index code records = cc
+    → s.tables ≡ t.tables → s.block ≡ t.block → s.records ≡ t.records
+    → segment s.slot s.name s.role s.added s.file s.index s.code s.tables s.block s.records
+    ≡ segment t.slot t.name t.role t.added t.file t.index t.code t.tables t.block t.records
+made_alike s t slot name role added file index code tables block records = cc
 
 -- of one name and slot there is one segment from the first library that has the name
 pub same_segment : (order : Order) (libs : List (List ℕ)) (s t : Segment) → s.slot ≡ t.slot
@@ -214,7 +218,7 @@ pub same_segment : (order : Order) (libs : List (List ℕ)) (s t : Segment) → 
     order libs s → IsOfFirstLibrary order libs t → HasOneEntry order libs s.name → s ≡ t
 unfolding segment
 same_segment order libs s t slot name role added f u only =
-    made_alike s t slot name role added file index code records
+    made_alike s t slot name role added file index code tables block records
   where
     number : f.0 ≡ u.0
     number =
@@ -240,5 +244,11 @@ same_segment order libs s t slot name role added f u only =
     code : s.code ≡ t.code
     code = let a = f.3.4 in let b = u.3.4 in cc (library, index)
 
+    tables : s.tables ≡ t.tables
+    tables = let a = f.3.5 in let b = u.3.5 in cc code
+
+    block : s.block ≡ t.block
+    block = let a = f.3.6 in let b = u.3.6 in cc (library, index)
+
     records : s.records ≡ t.records
-    records = let a = f.3.5 in let b = u.3.5 in cc (library, index)
+    records = let a = f.3.7 in let b = u.3.7 in cc (library, index)

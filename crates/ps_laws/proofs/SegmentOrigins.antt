@@ -64,6 +64,8 @@ read_from law order host libs s there inside h = record {
   code = h.code;
   slice = slice_of (file_at host libs s.file)
       (entry_at order (file_at host libs s.file) s.index) s.code h.code;
+  tables = h.kept;
+  block = h.block;
   records = λ l. (law order _ s.records).1 (h.records l);
   unread = h.unread;
 }

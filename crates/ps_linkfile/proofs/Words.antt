@@ -36,7 +36,6 @@ pub use Rattle.ps_resolve.specs.Plans.{origin_of_source}
 pub use Rattle.ps_resolve.specs.Privates.{private_words, total_words}
 pub use Rattle.ps_resolve.specs.References.{Known}
 pub use Rattle.ps_resolve.specs.Sources.{Segment, host_records, known_order, order_of}
-pub use Rattle.ps_resolve.specs.Views.{segment_of}
 pub use Rattle.ps_resolve.specs.declared.plan.Source.{Source}
 pub use Rattle.ps_words.specs.Edits.{patched_byte}
 pub use Rattle.ps_words.specs.FaultPlaces.{in_file}

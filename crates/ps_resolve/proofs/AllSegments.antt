@@ -5,10 +5,10 @@ use Rattle.std.specs.Prelude.{⊤}
 use Rattle.ps_words.specs.declared.order.Order.{Order}
 use Rattle.ps_words.specs.declared.edit.Edit.{Edit}
 use Rattle.ps_words.specs.declared.fault.Fault.{Fault}
+use Rattle.ps_resolve.specs.Sources.{Segment}
 use Rattle.ps_resolve.specs.Privates.{owner_of, private_words, all_words}
 use Rattle.ps_resolve.specs.Edits.{AreOfReferences}
 use Rattle.ps_resolve.specs.Stops.{IsStop}
-use Rattle.ps_resolve.specs.Views.{segment_of, SegmentView}
 use Rattle.ps_resolve.specs.References.{Known}
 use Rattle.ps_resolve.specs.Linking.{Edited, segment_edits, edited_from}
 use Rattle.ps_resolve.specs.Faults.{segment_fault, references_fault_from}
@@ -18,55 +18,49 @@ use Rattle.std.proofs.lemmas.List.{drop_all}
 use Rattle.ps_resolve.proofs.Segs.{drop_at}
 use Rattle.ps_words.specs.declared.words.TheConstants.{MAX_WORD}
 
-module _ (order : Order) (known : Known) (ss : List SegmentView) (i : ℕ) (v : SegmentView)
+module _ (order : Order) (known : Known) (ss : List Segment) (i : ℕ) (v : Segment)
     (lt : i < length ss) (is : v ≡ get_or ss i v) (free : ℕ) where
-  head_is : map segment_of (drop i ss) ≡ segment_of v ∷ map segment_of (drop (i + 1) ss)
+  head_is : drop i ss ≡ v ∷ drop (i + 1) ss
   head_is = grind (arith, drop_at)
 
-  words_head : all_words (map owner_of (map segment_of (drop i ss)))
-      ≡ private_words (segment_of v).records + all_words
-      (map owner_of (map segment_of (drop (i + 1) ss)))
+  words_head : all_words (map owner_of (drop i ss))
+      ≡ private_words v.records + all_words (map owner_of (drop (i + 1) ss))
   words_head = grind (arith, head_is)
 
-  pub room_at : (total : ℕ) → free + all_words (map owner_of (map segment_of (drop i ss)))
-      ≡ total → total ≤ MAX_WORD → free + private_words (segment_of v).records ≤ MAX_WORD
+  pub room_at : (total : ℕ) → free + all_words (map owner_of (drop i ss)) ≡ total
+      → total ≤ MAX_WORD → free + private_words v.records ≤ MAX_WORD
   room_at total h lt = omega (arith, words_head)
 
   pub stop_at : (base : ℕ) (stop : Stop)
-      → references_fault_from order known free (map segment_of (drop i ss))
-      ≡ references_fault_from order known base (map segment_of ss)
-      → IsStop ⊤ (segment_fault order known free (segment_of v)) stop
-      → AreOfReferences order known base (map segment_of ss) stop
+      → references_fault_from order known free (drop i ss)
+      ≡ references_fault_from order known base ss
+      → IsStop ⊤ (segment_fault order known free v) stop
+      → AreOfReferences order known base ss stop
   stop_at base stop h d = grind (arith, head_is)
 
-  module _ (end : ℕ) (goes : end ≡ free + private_words (segment_of v).records) where
-    pub words_on : (total : ℕ) → free + all_words (map owner_of (map segment_of (drop i ss)))
-        ≡ total → end + all_words (map owner_of (map segment_of (drop (i + 1) ss))) ≡ total
+  module _ (end : ℕ) (goes : end ≡ free + private_words v.records) where
+    pub words_on : (total : ℕ) → free + all_words (map owner_of (drop i ss)) ≡ total
+        → end + all_words (map owner_of (drop (i + 1) ss)) ≡ total
     words_on total h = omega (arith, words_head, goes)
 
     pub first_on : (first : Option Fault)
-        → references_fault_from order known free (map segment_of (drop i ss)) ≡ first
-        → segment_fault order known free (segment_of v) ≡ None
-        → references_fault_from order known end (map segment_of (drop (i + 1) ss)) ≡ first
+        → references_fault_from order known free (drop i ss) ≡ first
+        → segment_fault order known free v ≡ None
+        → references_fault_from order known end (drop (i + 1) ss) ≡ first
     first_on first h none = grind (arith, head_is)
 
     pub links_on : (words : ℕ) (all : List Edited) (done : List (List Edit)) (d : List Edit)
         → LinksSegment order
-        (record {
-          segment = segment_of v;
-          edits =
-              segment_edits order known words free (segment_of v);
-        }) d
+        (record { segment = v; edits = segment_edits order known words free v }) d
         → ((behind : List (List Edit))
-        → LinkSegments order (edited_from order known words free (map segment_of (drop i ss)))
-        behind → LinkSegments order all (done ++ behind))
-        → (behind : List (List Edit)) → LinkSegments order
-        (edited_from order known words end (map segment_of (drop (i + 1) ss))) behind
+        → LinkSegments order (edited_from order known words free (drop i ss)) behind
+        → LinkSegments order all (done ++ behind))
+        → (behind : List (List Edit))
+        → LinkSegments order (edited_from order known words end (drop (i + 1) ss)) behind
         → LinkSegments order all (done ++ d ∷ behind)
     links_on words all done d link before behind h = grind (arith, head_is)
 
 -- no segment is left
-pub none_left : (order : Order) (known : Known) (words free i : ℕ) (ss : List SegmentView)
-    → length ss ≤ i → LinkSegments order
-    (edited_from order known words free (map segment_of (drop i ss))) []
+pub none_left : (order : Order) (known : Known) (words free i : ℕ) (ss : List Segment)
+    → length ss ≤ i → LinkSegments order (edited_from order known words free (drop i ss)) []
 none_left order known words free i ss h = grind (arith, drop_all)

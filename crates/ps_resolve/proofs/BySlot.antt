@@ -1,6 +1,6 @@
 -- The one table of segments: the host's own by slot, into which the added ones are put.
 use Rattle.std.proofs.Common.{◌≡◌, ◌≢◌, ℕ, zero, suc, ◌+◌, ◌<◌, ◌≤◌}
-use Rattle.std.proofs.Common.{List, [], ◌∷◌, ◌++◌, length, map, take, drop, get_or, Bool}
+use Rattle.std.proofs.Common.{List, [], ◌∷◌, ◌++◌, length, take, drop, get_or, Bool}
 use Rattle.std.proofs.Common.{true, false, if◌then◌else◌, Option, Some, None, Result, Ok}
 use Rattle.std.proofs.Common.{refl, sym, ◌∙◌, ap, subst, arith}
 use Rattle.std.specs.Prelude.{All, is_none}
@@ -8,10 +8,9 @@ use Rattle.std.specs.List.{filter, filter_map, find, insert, range_with_len}
 use Rattle.std.specs.Option.{option_map_or, option_or}
 use Rattle.std.specs.Result.{result_ok}
 use Rattle.std.proofs.lemmas.List.Elements.{All-nil, All-cons, All-head, All-tail, All-append}
-use Rattle.std.proofs.lemmas.List.Elements.{All-take, All-drop, All-map, All-weaker, filter_passes}
+use Rattle.std.proofs.lemmas.List.Elements.{All-take, All-drop, All-weaker, filter_passes}
 use Rattle.std.proofs.lemmas.List.Folds.{find-append}
-use Rattle.std.proofs.lemmas.List.{map-append, take-map, drop-map, take-append-drop, drop_all}
-use Rattle.std.proofs.lemmas.List.{length-map}
+use Rattle.std.proofs.lemmas.List.{take-append-drop, drop_all}
 use Rattle.ps_words.specs.declared.order.Order.{Order}
 use Rattle.ps_words.specs.declared.fault.Reason.{Reason}
 use Rattle.ps_codefile.specs.Roles.{is_empty}
@@ -22,8 +21,7 @@ use Rattle.ps_resolve.specs.Added.{added_segment, empty_slots}
 use Rattle.ps_resolve.specs.Faults.{is_role, source_fault}
 use Rattle.ps_resolve.specs.Linkable.{AscendFrom}
 use Rattle.ps_resolve.specs.Readings.{read_segment, read_segments}
-use Rattle.ps_resolve.specs.Views.{SegmentView, is_in_slot, put_by_slot, segment_in_slot}
-use Rattle.ps_resolve.specs.Views.{segment_of, segments_in_slots}
+use Rattle.ps_resolve.specs.Views.{is_in_slot, put_by_slot, segment_in_slot, segments_in_slots}
 use Rattle.ps_resolve.specs.declared.reading.added.UnitReference.{UnitReference}
 use Rattle.ps_resolve.proofs.EachSegment.{added_made}
 use Rattle.ps_resolve.proofs.InSlots.{InPlace, found_there, same_kept}
@@ -50,46 +48,29 @@ put_behind s (x ∷ xs) ys h =
     ∙ ap (λ (zs : List Segment). x ∷ zs)
     (put_behind s xs ys (All-tail (λ (x : Segment). x.slot ≤ s.slot) x xs h))
 
--- so it is of segments as they were read, of which the first i are not of later slots
-abbrev pub AreBefore : ℕ → ℕ → List SegmentView → Type 0
+-- so it is of segments of which the first i are not of later slots
+abbrev pub AreBefore : ℕ → ℕ → List Segment → Type 0
 AreBefore slot i segs = All (λ s. s.slot ≤ slot) (take i segs)
 
-put_there : (segs : List SegmentView) (i slot : ℕ) (s : Segment) → s.slot ≡ slot
-    → AreBefore slot i segs → put_by_slot s (map segment_of segs)
-    ≡ take i (map segment_of segs) ++ put_by_slot s (drop i (map segment_of segs))
+put_there : (segs : List Segment) (i slot : ℕ) (s : Segment) → s.slot ≡ slot
+    → AreBefore slot i segs → put_by_slot s segs ≡ take i segs ++ put_by_slot s (drop i segs)
 put_there segs i slot s is before =
-    let xs = map segment_of segs in
-    let first : All (λ (x : Segment). x.slot ≤ s.slot) (take i xs) =
-    subst (All (λ (x : Segment). x.slot ≤ s.slot)) (sym (take-map segment_of i segs))
-    (All-map (λ (x : Segment). x.slot ≤ s.slot) segment_of (take i segs)
-    (subst (λ (n : ℕ). AreBefore n i segs) (sym is) before)) in
-    ap (put_by_slot s) (sym (take-append-drop i xs)) ∙ put_behind s (take i xs) (drop i xs) first
+    ap (put_by_slot s) (sym (take-append-drop i segs)) ∙ put_behind s (take i segs) (drop i segs)
+    (subst (λ (n : ℕ). AreBefore n i segs) (sym is) before)
 
-pub placed_at : (segs : List SegmentView) (i slot : ℕ) (v : SegmentView) → i < length segs
+pub placed_at : (segs : List Segment) (i slot : ℕ) (v : Segment) → i < length segs
     → v ≡ get_or segs i v → slot < v.slot → AreBefore slot i segs
     → (s : Segment) → s.slot ≡ slot
-    → insert (map segment_of segs) i s ≡ put_by_slot s (map segment_of segs)
+    → insert segs i s ≡ put_by_slot s segs
 placed_at segs i slot v lt h later before s is =
-    grind (
-      arith,
-      drop-map segment_of i segs,
-      drop_at segs i v lt,
-      put_before s (segment_of v),
-      put_there segs i slot s is before,
-    )
+    grind (arith, drop_at segs i v lt, put_before s v, put_there segs i slot s is before)
 
-pub placed_last : (segs : List SegmentView) (i slot : ℕ) → length segs ≤ i
-    → AreBefore slot i segs → (s : Segment) → s.slot ≡ slot
-    → insert (map segment_of segs) i s ≡ put_by_slot s (map segment_of segs)
+pub placed_last : (segs : List Segment) (i slot : ℕ) → length segs ≤ i
+    → AreBefore slot i segs → (s : Segment) → s.slot ≡ slot → insert segs i s ≡ put_by_slot s segs
 placed_last segs i slot le before s is =
-    let xs = map segment_of segs in
-    let none : drop i xs ≡ [] = grind (arith, drop_all, length-map) in
-    let here : put_by_slot s (drop i xs) ≡ s ∷ drop i xs = grind arith in
+    let none : drop i segs ≡ [] = grind (arith, drop_all) in
+    let here : put_by_slot s (drop i segs) ≡ s ∷ drop i segs = grind arith in
     grind (arith, put_there)
-
-pub map-insert : {X Y : Type 0} (f : X → Y) (xs : List X) (i : ℕ) (x : X)
-    → map f (insert xs i x) ≡ insert (map f xs) i (f x)
-map-insert {X} {Y} f xs i x = grind (arith, map-append, take-map, drop-map)
 
 -- what holds of all holds of all with one more
 pub All-insert : {X : Type 0} (P : X → Type 0) (xs : List X) (i : ℕ) (x : X) → All P xs

@@ -18,8 +18,8 @@ use Rattle.ps_codefile.specs.declared.entry.Role.{Role}
 use Rattle.ps_codefile.specs.declared.entry.Role.TheVariants.{Wanted}
 use Rattle.ps_resolve.specs.Added.{added_segment, added_segments, as_added, segment_at}
 use Rattle.ps_resolve.specs.Faults.{is_role}
-use Rattle.ps_resolve.specs.Sources.{Segment, file_at, own_segment, records_of, segment_from}
-use Rattle.ps_resolve.specs.Sources.{source_of, unit_source}
+use Rattle.ps_resolve.specs.Sources.{Segment, file_at, information_block, own_segment}
+use Rattle.ps_resolve.specs.Sources.{records_of, segment_from, source_of, tables_of, unit_source}
 use Rattle.ps_resolve.specs.declared.reading.added.UnitReference.{UnitReference}
 use Rattle.ps_resolve.proofs.FirstSlots.{some_mapped}
 
@@ -40,6 +40,7 @@ abbrev pub segment_with : Order → List ℕ → List (List ℕ) → ℕ → Lis
     → ℕ × ℕ → List ℕ → Segment
 segment_with order host libs slot name r place code =
     let file = file_at host libs place.0 in
+    let e = entry_at order file place.1 in
     record {
       slot = slot;
       name = name;
@@ -48,8 +49,9 @@ segment_with order host libs slot name r place code =
       file = place.0;
       index = place.1;
       code = code;
-      records = records_of order file (entry_at order file place.1)
-          (needs_linking r);
+      tables = tables_of order code (needs_linking r);
+      block = information_block e (needs_linking r);
+      records = records_of order file e (needs_linking r);
     }
 
 -- the segment has the code of its entry, and is this one

@@ -9,23 +9,23 @@ use Rattle.ps_words.specs.declared.order.Order.{Order}
 use Rattle.ps_words.specs.declared.edit.Edit.{Edit}
 use Rattle.ps_words.specs.declared.edit.Edit.TheVariants.{Byte}
 use Rattle.ps_codefile.specs.Roles.{needs_linking, is_host}
+use Rattle.ps_resolve.specs.Sources.{Segment}
 use Rattle.ps_resolve.specs.Edits.{data_size_edit}
 use Rattle.ps_resolve.specs.Linking.{data_edits, segment_edits}
 use Rattle.ps_resolve.specs.Plans.{LinksSegment}
 use Rattle.ps_resolve.specs.References.{Known, records_edits}
-use Rattle.ps_resolve.specs.Views.{segment_of, SegmentView}
 
 -- the number of a segment that is linked, its own edit, and the edits of its references
-abbrev pub all_of : Known → SegmentView → Option Edit → ℕ → List Edit
+abbrev pub all_of : Known → Segment → Option Edit → ℕ → List Edit
 all_of known v own free = Byte v.slot (length v.code - 2)
     ∷ (option_to_list own ++ records_edits known v.code free v.records)
 
-module _ (order : Order) (known : Known) (v : SegmentView) (free : ℕ) where
+module _ (order : Order) (known : Known) (v : Segment) (free : ℕ) where
   -- one whose references are resolved
   module _ (h : needs_linking v.role ≡ true) (size : Edit) where
     listed : (words : ℕ) → (is_host v.role ≡ true
         → data_edits order words v.code ≡ size ∷ [])
-        → segment_edits order known words free (segment_of v)
+        → segment_edits order known words free v
         ≡ all_of known v (data_size_edit (is_host v.role) size) free
     listed words e = grind arith
 
@@ -39,8 +39,8 @@ module _ (order : Order) (known : Known) (v : SegmentView) (free : ℕ) where
         → data_edits order words v.code ≡ size ∷ [])
         → LinksSegment order
         (record {
-          segment = segment_of v;
+          segment = v;
           edits =
-              segment_edits order known words free (segment_of v);
+              segment_edits order known words free v;
         }) sorted
     linked_links sorted same ready alike words e = search (rules, IsPermutation-sym)

@@ -1,11 +1,10 @@
 -- The segments of a link, slot by slot.
 use Rattle.std.proofs.Common.{◌≡◌, ℕ, ◌+◌, ◌-◌, ◌<◌, ◌≤◌, List, []}
-use Rattle.std.proofs.Common.{◌∷◌, ◌++◌, append_assoc, length, length-append, map, Option}
+use Rattle.std.proofs.Common.{◌∷◌, ◌++◌, append_assoc, length, length-append, Option}
 use Rattle.std.proofs.Common.{Some, None, Ok, ◌⊎◌, inl, inr, refl, arith}
 use Rattle.std.specs.List.{range_with_len, filter_map}
 use Rattle.std.specs.Prelude.{All}
-use Rattle.std.specs.Option.{option_map, option_and_then, option_to_list, IfSome}
-use Rattle.std.proofs.lemmas.List.{map-append}
+use Rattle.std.specs.Option.{option_and_then, option_to_list, IfSome}
 use Rattle.std.proofs.lemmas.List.Elements.{All-nil, All-cons, All-append}
 use Rattle.ps_words.specs.declared.order.Order.{Order}
 use Rattle.ps_codefile.specs.declared.entry.Role.{Role}
@@ -53,11 +52,10 @@ all_with P xs (Some x) all h = All-append P xs (x ∷ []) all (All-cons P x [] h
 
 -- those so far and those left are the same in all, when the one of number i, if there is one, joins
 -- those so far
-pub kept_on : {X Y : Type 0} (f : X → Y) (h : ℕ → Option Y) (xs : List X) (o : Option X)
-    (i n : ℕ) → i < n → option_map f o ≡ h i
-    → map f xs ++ filter_map h (range_with_len i (n - i))
-    ≡ map f (xs ++ option_to_list o) ++ filter_map h (range_with_len (i + 1) (n - (i + 1)))
-kept_on {X} {Y} f h xs o i n lt is = grind (arith, range_more, append_assoc, map-append)
+pub kept_on : {X : Type 0} (h : ℕ → Option X) (xs : List X) (o : Option X) (i n : ℕ) → i < n
+    → o ≡ h i → xs ++ filter_map h (range_with_len i (n - i))
+    ≡ (xs ++ option_to_list o) ++ filter_map h (range_with_len (i + 1) (n - (i + 1)))
+kept_on {X} h xs o i n lt is = grind (arith, range_more, append_assoc)
 
 pub few_more : {X : Type 0} (xs : List X) (o : Option X) (n : ℕ) → length xs ≤ n
     → length (xs ++ option_to_list o) ≤ n + 1

@@ -16,7 +16,7 @@ use Rattle.ps_resolve.specs.Sources.{Segment, segment_from, chosen_library, is_n
 use Rattle.ps_resolve.specs.Sources.{source_of, unit_source}
 use Rattle.ps_resolve.specs.Faults.{code_fault, entries_reason, request_fault, source_fault}
 use Rattle.ps_resolve.specs.Requests.{as_requested, is_missing, request_by_slot, requested_segment}
-use Rattle.ps_resolve.specs.Views.{SegmentView, as_requested_view, segment_of, IsRead}
+use Rattle.ps_resolve.specs.Views.{IsRead}
 use Rattle.ps_resolve.specs.declared.reading.request.Request.{Request}
 use Rattle.ps_resolve.specs.declared.reading.request.Requester.{Requester}
 use Rattle.ps_resolve.specs.declared.reading.request.Requester.TheVariants.{Slot}
@@ -43,14 +43,9 @@ module _ (order : Order) (host : List ℕ) (libs : List (List ℕ)) (r : Request
       (segment_from order host libs r.slot r.name role.Wanted (library + 1, i))
   brought_by library file i chosen f = rw chosen (rw f refl)
 
--- a segment that is marked as it is requested, seen as a segment of the link, and as it is read
-pub seen_as : (by : Requester) (s : SegmentView)
-    → segment_of (as_requested_view by s) ≡ as_requested by (segment_of s)
-seen_as by s = grind arith
-
+-- a segment is read, also where it is marked as it is requested
 pub read_marked : (order : Order) (host : List ℕ) (libs : List (List ℕ)) (by : Requester)
-    (s : SegmentView) → IsRead order host libs s
-    → IsRead order host libs (as_requested_view by s)
+    (s : Segment) → IsRead order host libs s → IsRead order host libs (as_requested by s)
 read_marked order host libs by s h = grind arith
 
 -- a slot that wants a unit has its name

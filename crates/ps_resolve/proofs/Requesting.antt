@@ -1,6 +1,6 @@
 -- Names that are already known: requesting them again does not change the queue.
 use Rattle.std.proofs.Common.{◌≡◌, ◌∙◌, ℕ, ◌+◌, ◌≤◌, ◌++◌, List, []}
-use Rattle.std.proofs.Common.{◌∷◌, length, length-append, append_assoc, append-nil, map, take}
+use Rattle.std.proofs.Common.{◌∷◌, length, length-append, append_assoc, append-nil, take}
 use Rattle.std.proofs.Common.{drop, get_or, ◌<◌, Bool, true, false, inl, inr, refl, sym, subst}
 use Rattle.std.proofs.Common.{arith}
 use Rattle.std.specs.Prelude.{All}
@@ -11,9 +11,9 @@ use Rattle.std.proofs.lemmas.List.Folds.{list_any-append}
 use Rattle.std.proofs.lemmas.Slice.Eq.{bytes_eq-Decides}
 use Rattle.ps_linkinfo.specs.RecordCounts.{is_unit_reference}
 use Rattle.ps_linkinfo.specs.declared.record.LinkRecord.{LinkRecord as Record}
+use Rattle.ps_resolve.specs.Sources.{Segment}
 use Rattle.ps_resolve.specs.Added.{is_already_known, requested_from, unit_references}
 use Rattle.ps_resolve.specs.Added.{all_unit_references, IsAlreadyKnown, AreAlreadyKnown}
-use Rattle.ps_resolve.specs.Views.{SegmentView, segment_of}
 use Rattle.ps_resolve.specs.declared.reading.added.UnitReference.{UnitReference}
 use Rattle.ps_resolve.proofs.Adding.{few_kept, kept_segment, queue_prefix}
 use Rattle.ps_resolve.proofs.Segs.{drop_at}
@@ -159,30 +159,30 @@ module _ (units : List (List ℕ × ℕ)) where
 -- The queue after the first i of these segments: with what the others request it is that of all,
 -- and
 -- what these request is known.
-pub record HaveRequested (units : List (List ℕ × ℕ)) (own : List SegmentView) (i : ℕ)
+pub record HaveRequested (units : List (List ℕ × ℕ)) (own : List Segment) (i : ℕ)
     (queue : List UnitReference) : Type 0 where
   pub whole : take 10 (requested_from units queue
-      (all_unit_references (map segment_of (drop i own))))
-      ≡ take 10 (requested_from units [] (all_unit_references (map segment_of own)))
+      (all_unit_references (drop i own)))
+      ≡ take 10 (requested_from units [] (all_unit_references own))
   pub few : length queue ≤ 10
   pub known : All (λ s. AreAlreadyKnown units queue s.records) (take i own)
 
 -- one segment more
-pub requested_more : (units : List (List ℕ × ℕ)) (own : List SegmentView) (i : ℕ)
-    (v : SegmentView) (queue now : List UnitReference) → i < length own → v ≡ get_or own i v
+pub requested_more : (units : List (List ℕ × ℕ)) (own : List Segment) (i : ℕ)
+    (v : Segment) (queue now : List UnitReference) → i < length own → v ≡ get_or own i v
     → now ≡ take 10 (requested_from units queue (unit_references v.file v.slot 0 v.records))
     → HaveRequested units own i queue → HaveRequested units own (i + 1) now
 requested_more units own i v queue now lt there is so_far =
     let one = unit_references v.file v.slot 0 v.records in
-    let rest = all_unit_references (map segment_of (drop (i + 1) own)) in
-    let all = all_unit_references (map segment_of (drop i own)) in
+    let rest = all_unit_references (drop (i + 1) own) in
+    let all = all_unit_references (drop i own) in
     let split : all ≡ one ++ rest = grind (arith, drop_at) in
     record {
       whole = grind (arith, kept_segment);
       few = rw is (few_kept (requested_from units queue one));
-      known = all_taken (λ (q : SegmentView). AreAlreadyKnown units now q.records) i own v lt there
-          (All-weaker (λ (q : SegmentView). AreAlreadyKnown units queue q.records)
-          (λ (q : SegmentView). AreAlreadyKnown units now q.records)
+      known = all_taken (λ (q : Segment). AreAlreadyKnown units now q.records) i own v lt there
+          (All-weaker (λ (q : Segment). AreAlreadyKnown units queue q.records)
+          (λ (q : Segment). AreAlreadyKnown units now q.records)
           (λ q h. still_known units queue one now q.records is h) (take i own) so_far.known)
           (known_here units v.file v.slot v.records queue now is);
     }

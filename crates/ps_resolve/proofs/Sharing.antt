@@ -14,9 +14,9 @@ use Rattle.ps_linkinfo.specs.RecordCounts.{is_private_reference, privates_in, re
 use Rattle.ps_linkinfo.specs.declared.record.Body.{Body}
 use Rattle.ps_linkinfo.specs.declared.record.LinkRecord.{LinkRecord as Record}
 use Rattle.ps_codefile.specs.Roles.{needs_linking}
+use Rattle.ps_resolve.specs.Sources.{Segment}
 use Rattle.ps_resolve.specs.Sources.{file_at}
 use Rattle.ps_resolve.specs.Views.{ArePlacedIn, IsRead, IsSound, IsLike, AreAlike, HasRecordsAt}
-use Rattle.ps_resolve.specs.Views.{SegmentView}
 use Rattle.ps_resolve.specs.Operands.{operands}
 use Rattle.ps_resolve.specs.References.{Known, HasTarget, HaveTargets, target_in, target_of}
 use Rattle.ps_resolve.specs.References.{words_taken, records_fault}
@@ -28,21 +28,21 @@ use Rattle.ps_resolve.proofs.LookingBack.{words_before}
 
 -- segments that were read are alike, and each is sound
 pub read_alike : (order : Order) (host : List ℕ) (libs : List (List ℕ))
-    (segs : List SegmentView) → All (IsRead order host libs) segs → AreAlike segs
+    (segs : List Segment) → All (IsRead order host libs) segs → AreAlike segs
 read_alike order host libs segs all = grind arith
 
-pub all_sound : (order : Order) (host : List ℕ) (libs : List (List ℕ)) (segs : List SegmentView)
+pub all_sound : (order : Order) (host : List ℕ) (libs : List (List ℕ)) (segs : List Segment)
     → All (IsRead order host libs) segs → All (IsSound order) segs
 all_sound order host libs segs all = grind arith
 
 -- the link information of those from a file, by its number, is there
 pub placed_in : (order : Order) (host : List ℕ) (libs : List (List ℕ)) (k : ℕ)
-    (segs : List SegmentView) → All (IsRead order host libs) segs
+    (segs : List Segment) → All (IsRead order host libs) segs
     → ArePlacedIn order (file_at host libs k) k segs
 placed_in order host libs k segs all = grind arith
 
 -- what holds of the records of each segment holds of those of one that is like them
-pub of_shared : (P : List Record → Type 0) (segs : List SegmentView) (s : SegmentView)
+pub of_shared : (P : List Record → Type 0) (segs : List Segment) (s : Segment)
     (rs : List Record) → needs_linking s.role ≡ true → All (IsLike s) segs
     → All (λ q. P q.records) segs → HasRecordsAt segs s.file s.block rs → P s.records
 of_shared P segs s rs linked alike all h = grind arith

@@ -20,12 +20,10 @@ use Rattle.ps_resolve.specs.Linking.{known_of, data_edits, edited_segments, edit
 use Rattle.ps_resolve.specs.Faults.{definitions_fault, privates_fault, data_fault, size_fault}
 use Rattle.ps_resolve.specs.Faults.{references_fault, references_fault_from, linking_fault}
 use Rattle.ps_resolve.specs.Plans.{AreStopped, LinkSegments, origin_of, origin_of_source}
-use Rattle.ps_resolve.specs.Views.{segment_of, SegmentView}
 use Rattle.ps_resolve.specs.declared.definitions.Def.{Def}
 use Rattle.ps_resolve.specs.declared.linkage.Stop.{Stop}
 use Rattle.ps_resolve.specs.declared.plan.Source.{Source}
 use Rattle.ps_resolve.proofs.Lengths.{lengths}
-use Rattle.ps_resolve.proofs.Segs.{owners_of_segments}
 
 pub skip : {X : Type 0} (a b : Option X) → a ≡ None → option_or a b ≡ b
 skip a b h = grind arith
@@ -34,16 +32,9 @@ pub keep : {X : Type 0} (a b : Option X) (x : X) → a ≡ Some x → option_or 
 keep a b x h = grind arith
 
 -- a link of these segments, of which one is the host's
-module _ (order : Order) (ss : List SegmentView) (own : SegmentView)
-    (is : host_of (map segment_of ss) ≡ Some (segment_of own)) where
-  abbrev segs : List Segment
-  segs = map segment_of ss
-
+module _ (order : Order) (segs : List Segment) (own : Segment) (is : host_of segs ≡ Some own) where
   abbrev owners : List Owner
-  owners = map (λ (s : SegmentView). owner_of (segment_of s)) ss
-
-  owners_are : owners ≡ map owner_of segs
-  owners_are = owners_of_segments ss
+  owners = map owner_of segs
 
   pub records_are : host_records segs ≡ own.records
   records_are = ap (λ (o : Option Segment). option_map_or (λ s. s.records) o []) is
@@ -58,12 +49,11 @@ module _ (order : Order) (ss : List SegmentView) (own : SegmentView)
   unfolding definitions_fault
   definitions_are = rw is refl
 
-  privates_are : privates_fault segs ≡ first_private_fault (next_of own.records)
-      (map owner_of segs)
+  privates_are : privates_fault segs ≡ first_private_fault (next_of own.records) owners
   unfolding privates_fault
   privates_are = grind arith
 
-  data_is : data_fault order segs ≡ size_fault order (total_words segs) (segment_of own)
+  data_is : data_fault order segs ≡ size_fault order (total_words segs) own
   unfolding data_fault
   data_is = rw is refl
 
@@ -86,7 +76,7 @@ module _ (order : Order) (ss : List SegmentView) (own : SegmentView)
     behind_definitions = grind (arith, stages, definitions_are)
 
     fault_is : first_private_fault next owners ≡ privates_fault segs
-    fault_is = grind (arith, owners_are, privates_are)
+    fault_is = grind (arith, privates_are)
 
     pub privates_stop : (stop : Stop) → IsStop (0 < length (all_allotted next owners))
         (first_private_fault next owners) stop → AreStopped order segs stop
@@ -97,23 +87,23 @@ module _ (order : Order) (ss : List SegmentView) (own : SegmentView)
         (allotted : first_private_fault next owners ≡ None) (words : ℕ)
         (words_is : words ≡ a.words) where
       pub words_are : words ≡ total_words segs
-      words_are = grind (arith, owners_are)
+      words_are = grind arith
 
-      pub allotment_is : a ≡ allotment_of (next_of (host_records segs)) (map owner_of segs)
-      allotment_is = grind (arith, owners_are)
+      pub allotment_is : a ≡ allotment_of (next_of (host_records segs)) owners
+      allotment_is = grind arith
 
       behind_privates : linking_fault order segs
-          ≡ option_or (size_fault order words (segment_of own)) (references_fault order segs)
+          ≡ option_or (size_fault order words own) (references_fault order segs)
       behind_privates = behind_definitions ∙ skip _ _ (sym fault_is ∙ allotted)
           ∙ ap (λ (o : Option Fault). option_or o (references_fault order segs))
-          (data_is ∙ ap (λ (n : ℕ). size_fault order n (segment_of own)) (sym words_are))
+          (data_is ∙ ap (λ (n : ℕ). size_fault order n own) (sym words_are))
 
-      pub size_stop : (stop : Stop) → IsOfSize order words (segment_of own) stop
+      pub size_stop : (stop : Stop) → IsOfSize order words own stop
           → AreStopped order segs stop
       size_stop stop d = grind (arith, behind_privates)
 
       -- the edit that stores the host's data size, the units of the link
-      module _ (fits : size_fault order words (segment_of own) ≡ None)
+      module _ (fits : size_fault order words own ≡ None)
           (units : List (List ℕ × ℕ)) (units_is : units ≡ units_of segs) where
         abbrev known : Known
         known = known_by ds units

@@ -15,8 +15,7 @@ use Rattle.ps_resolve.specs.Added.{slot_names}
 use Rattle.ps_resolve.specs.Edits.{IsOfTable}
 use Rattle.ps_resolve.specs.Privates.{owner_of, private_words, all_words}
 use Rattle.ps_resolve.specs.References.{Known, HaveTargets}
-use Rattle.ps_resolve.specs.Views.{segment_of, IsSound, IsLike, AreAlike}
-use Rattle.ps_resolve.specs.Views.{SegmentView}
+use Rattle.ps_resolve.specs.Views.{IsSound, IsLike, AreAlike}
 use Rattle.ps_resolve.specs.declared.reading.host.HostSegment.{HostSegment}
 use Rattle.ps_words.specs.declared.words.TheConstants.{MAX_WORD}
 
@@ -44,16 +43,16 @@ pub record IsHost (order : Order) (h : HostSegment) : Type 0 where
 -- The segments of a link, by slot: each sound, one of them the host's, those that share link
 -- information alike; and the names of the slots of the linked file.
 pub record AreSegments (order : Order) (host : List ℕ) (names : List (List ℕ))
-    (host_segment : HostSegment) (ss : List SegmentView) : Type 0 where
+    (host_segment : HostSegment) (ss : List Segment) : Type 0 where
   pub sound : All (IsSound order) ss
-  pub found : host_of (map segment_of ss) ≡ Some (segment_of host_segment.segment.now)
+  pub found : host_of ss ≡ Some host_segment.segment.now
   pub own : IsHost order host_segment
-  pub one_host : HasOneHost (map segment_of ss)
-  pub ascending : AscendFrom 0 (map (λ s. s.slot) (map segment_of ss))
+  pub one_host : HasOneHost ss
+  pub ascending : AscendFrom 0 (map (λ s. s.slot) ss)
   pub whole : 512 ≤ length host
   pub alike : AreAlike ss
   pub most : length ss ≤ 16
-  pub named : names ≡ slot_names host (map segment_of ss)
+  pub named : names ≡ slot_names host ss
 
 -- the byte order of the files, the host file, the names of the slots of the linked file, the host's
 -- own segment, and all segments by slot
@@ -62,22 +61,21 @@ pub record ReadSegments : Type 0 where
   pub host : List ℕ
   pub names : List (List ℕ)
   pub own : HostSegment
-  pub items : List SegmentView
+  pub items : List Segment
 
 -- Segments whose privates were allotted from `base` on, and that what stores the host's data size,
 -- `size`, suits.
-pub record AreLinkable (order : Order) (size : Edit) (base : ℕ) (ss : List SegmentView) : Type 0
+pub record AreLinkable (order : Order) (size : Edit) (base : ℕ) (ss : List Segment) : Type 0
   where
     pub sound : All (IsSound order) ss
-    pub room : base + all_words (map owner_of (map segment_of ss)) ≤ MAX_WORD
-    pub table : All (λ s. is_host s.role ≡ true → IsOfTable order s.code size)
-        (map segment_of ss)
+    pub room : base + all_words (map owner_of ss) ≤ MAX_WORD
+    pub table : All (λ s. is_host s.role ≡ true → IsOfTable order s.code size) ss
     pub alike : AreAlike ss
 
 -- such a segment after earlier ones, of whose names it is known what they stand for, with the
 -- offset of the first of its privates
-pub record IsNext (order : Order) (known : Known) (size : Edit) (earlier : List SegmentView)
-    (s : SegmentView) (free : ℕ) : Type 0 where
+pub record IsNext (order : Order) (known : Known) (size : Edit) (earlier : List Segment)
+    (s : Segment) (free : ℕ) : Type 0 where
   pub sound : IsSound order s
   pub room : free + private_words s.records ≤ MAX_WORD
   pub table : is_host s.role ≡ true → IsOfTable order s.code size

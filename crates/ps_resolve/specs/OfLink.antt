@@ -11,18 +11,21 @@ use Rattle.ps_linkinfo.specs.Records.{reading}
 use Rattle.ps_resolve.specs.Added.{added_segment, added_segments, empty_slots, placed_fault}
 use Rattle.ps_resolve.specs.Added.{requested_units, segment_at, segments}
 use Rattle.ps_resolve.specs.Faults.{role_fault}
-use Rattle.ps_resolve.specs.Sources.{Segment, file_at, order_of, source_of, unit_source}
-use Rattle.ps_resolve.specs.Sources.{own_segment, host_of}
+use Rattle.ps_resolve.specs.Sources.{Segment, file_at, host_of, information_block, order_of}
+use Rattle.ps_resolve.specs.Sources.{own_segment, source_of, tables_of, unit_source}
 use Rattle.ps_resolve.specs.Standing.Slots.{HasRole}
 use Rattle.ps_resolve.specs.declared.reading.added.UnitReference.{UnitReference}
 
--- its code is that of its entry of its file; where its references are resolved, its tables have no
--- fault, and its records are all that are there
+-- its code is that of its entry of its file; where its references are resolved, its tables are those
+-- of its code and have no fault, and its records are all that are in the blocks after it
 pub record IsOfFile (order : Order) (host : List ℕ) (libs : List (List ℕ))
     (s : Segment) : Type 0 where
   pub code : let file = file_at host libs s.file in
       code_of file (entry_at order file s.index) ≡ Ok s.code
   pub tables : needs_linking s.role ≡ true → tables_fault order s.code (is_host s.role) ≡ None
+  pub kept : s.tables ≡ tables_of order s.code (needs_linking s.role)
+  pub block : s.block ≡ information_block (entry_at order (file_at host libs s.file) s.index)
+      (needs_linking s.role)
   pub records : needs_linking s.role ≡ true
       → let file = file_at host libs s.file in
       reading order (information_of file (entry_at order file s.index)) ≡ (s.records, None)

@@ -17,7 +17,7 @@ use Rattle.ps_codefile.specs.declared.entry.Entry.{Entry}
 use Rattle.ps_codefile.specs.declared.entry.Role.TheVariants.{Empty, Wanted}
 use Rattle.ps_linkinfo.specs.Records.{Spells}
 use Rattle.ps_codefile.specs.Roles.{needs_linking}
-use Rattle.ps_resolve.specs.Sources.{Segment, order_of}
+use Rattle.ps_resolve.specs.Sources.{Segment, information_block, order_of, tables_of}
 use Rattle.ps_resolve.specs.RequestedUnits.{HasSlot}
 
 -- 1. which slots have a segment
@@ -105,8 +105,10 @@ pub record IsReadFrom (order : Order) (host : List ℕ) (libs : List (List ℕ))
   -- its code is the entry's, with which nothing is wrong, and so a slice of the file
   pub code : code_of source (entry_at order source s.index) ≡ Ok s.code
   pub slice : IsSliceOf source (entry_at order source s.index) s.code
-  -- where its references are resolved, its records are those that the bytes after its code spell;
-  -- otherwise it has none
+  -- where its references are resolved, it has the tables of its code, and its records are those
+  -- that the bytes from the block after its code on spell; otherwise it has none
+  pub tables : s.tables ≡ tables_of order s.code (needs_linking s.role)
+  pub block : s.block ≡ information_block (entry_at order source s.index) (needs_linking s.role)
   pub records : needs_linking s.role ≡ true
       → Spells order (information_of source (entry_at order source s.index)) s.records
   pub unread : needs_linking s.role ≡ false → s.records ≡ []

@@ -2,7 +2,7 @@
 -- requested.
 -- Source: this project's profile.
 use Rattle.std.specs.Prelude.{◌≡◌, ◌≤◌, ℕ, ◌==◌, ◌++◌, if◌then◌else◌}
-use Rattle.std.specs.Prelude.{List, [], length, map, take, slice_get, All, false, Option, Some}
+use Rattle.std.specs.Prelude.{List, [], length, take, slice_get, All, false, Option, Some}
 use Rattle.std.specs.Prelude.{None, Result, Ok, Err, is_none, option_and_then}
 use Rattle.std.specs.List.{enumerate_from, filter_map, find}
 use Rattle.std.specs.Option.{option_map, option_map_or, option_or}
@@ -19,7 +19,7 @@ use Rattle.ps_resolve.specs.Faults.{slots_fault, no_host_fault, libraries_fault,
 use Rattle.ps_resolve.specs.Faults.{sources_fault}
 use Rattle.ps_resolve.specs.Added.{RoundsOutcome, all_unit_references, empty_slots, requested_from}
 use Rattle.ps_resolve.specs.Added.{request_of, rounds_of}
-use Rattle.ps_resolve.specs.Views.{SegmentView, IsRead, segment_of, segments_in_slots}
+use Rattle.ps_resolve.specs.Views.{IsRead, segments_in_slots}
 use Rattle.ps_resolve.specs.declared.reading.added.UnitReference.{UnitReference}
 use Rattle.ps_resolve.specs.declared.reading.request.Request.{Request}
 
@@ -137,11 +137,11 @@ pub record HostFiles : Type 0 where
 
 -- what was read of such files
 pub record IsReading (order : Order) (host : List ℕ) (libs : List (List ℕ)) (empty : List ℕ)
-    (segments : List SegmentView) (queue : List UnitReference) (next : Option ℕ)
+    (segments : List Segment) (queue : List UnitReference) (next : Option ℕ)
     (last : Option Fault) (fault : Option Fault) : Type 0 where
   pub whole : 512 ≤ length host
   pub slots_left : empty ≡ empty_slots order host
-  pub all : map segment_of segments ≡ all_read order host (opened_files order libs)
+  pub all : segments ≡ all_read order host (opened_files order libs)
   pub read : All (IsRead order host (opened_files order libs)) segments
   pub requested : queue ≡ read_requests order host (opened_files order libs)
   pub following : next ≡ slot_after (read_rounds order host (opened_files order libs))

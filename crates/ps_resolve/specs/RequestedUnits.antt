@@ -16,7 +16,8 @@ use Rattle.ps_linkinfo.specs.Records.{reading}
 use Rattle.ps_linkinfo.specs.declared.record.LinkRecord.{LinkRecord as Record}
 use Rattle.ps_resolve.specs.First.{Before}
 use Rattle.ps_codefile.specs.Roles.{is_unit}
-use Rattle.ps_resolve.specs.Sources.{Segment, order_of, own_segments, library_file}
+use Rattle.ps_resolve.specs.Sources.{Segment, information_block, library_file, order_of}
+use Rattle.ps_resolve.specs.Sources.{own_segments, tables_of}
 use Rattle.ps_resolve.specs.declared.reading.added.UnitReference.{UnitReference}
 
 -- record `rec` of the i-th segment is a UNITREF of this name
@@ -44,8 +45,8 @@ abbrev pub AreGiven : List Segment → UnitReference → UnitReference → Type 
 AreGiven segs g h = (i : ℕ) × (j : ℕ) × IsGiver segs i g × IsGiver segs j h
     × Before (i ∷ g.rec ∷ []) (j ∷ h.rec ∷ [])
 
--- the segment is that of the first library that has a filled entry of its name: the code and the
--- records of such an entry
+-- the segment is that of the first library that has a filled entry of its name: the code, its
+-- tables, and the records after it, of such an entry
 abbrev pub IsOfFirstLibrary : Order → List (List ℕ) → Segment → Type 0
 IsOfFirstLibrary order libs s =
     SomeItem libs (λ k lib.
@@ -53,6 +54,8 @@ IsOfFirstLibrary order libs s =
     → HasEntry order s.name other → ⊥)
     × (s.file ≡ library_file k) × (s.index < 16) × IsNamed order s.name lib s.index
     × (code_of lib (entry_at order lib s.index) ≡ Ok s.code)
+    × (s.tables ≡ tables_of order s.code true)
+    × (s.block ≡ information_block (entry_at order lib s.index) true)
     × (s.records ≡ (reading order (information_of lib (entry_at order lib s.index))).0))
 
 -- The names of `queue` are those that are requested, each with its giver, and `segs` are the

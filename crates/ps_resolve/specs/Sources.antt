@@ -12,6 +12,7 @@ use Rattle.std.specs.Str.{bytes_eq}
 use Rattle.ps_codefile.specs.Dictionary.{slots, FileOrder, Zero, Ordered, Mixed, file_order}
 use Rattle.ps_codefile.specs.Dictionary.{opened_beside, entry_at, role_of, is_filled, code_of}
 use Rattle.ps_codefile.specs.Dictionary.{information_of}
+use Rattle.ps_codefile.specs.Procedures.{ProcedureTables}
 use Rattle.ps_codefile.specs.Roles.{needs_linking, is_host, is_unit}
 use Rattle.ps_codefile.specs.declared.entry.Role.{Role}
 use Rattle.ps_codefile.specs.declared.entry.Role.TheVariants.{Empty, Wanted, Plain, Host, Unit}
@@ -20,6 +21,7 @@ use Rattle.ps_linkinfo.specs.Records.{reading}
 use Rattle.ps_linkinfo.specs.declared.record.LinkRecord.{LinkRecord as Record}
 use Rattle.ps_words.specs.declared.order.Order.{Order}
 use Rattle.ps_words.specs.declared.order.Order.TheVariants.{Little}
+use Rattle.ps_words.specs.Words.{blocks}
 
 -- what files hold, that are lent
 abbrev pub contents : List (Bor (List ℕ)) → List (List ℕ)
@@ -84,13 +86,23 @@ source_of order host libs slot Wanted = unit_source order (entry_at order host s
 abbrev pub file_at : List ℕ → List (List ℕ) → ℕ → List ℕ
 file_at host libs k = unwrap_or (slice_get (host ∷ libs) k) []
 
+-- the procedure tables of a code; those of a segment that is not linked are not read
+abbrev pub tables_of : Order → List ℕ → Bool → Option ProcedureTables
+tables_of order code linked = if linked then Some (record { order = order; code = code }) else None
+
+-- the block, from 0, in which an entry's link information begins, which is behind its code; 0 where
+-- a segment is not linked
+abbrev pub information_block : Entry → Bool → ℕ
+information_block e linked = if linked then e.address + blocks e.length else 0
+
 -- the records of an entry's link information; those of a segment that is not linked are not read
 abbrev pub records_of : Order → List ℕ → Entry → Bool → List Record
 records_of order file e linked = if linked then (reading order (information_of file e)).0 else []
 
 -- A segment of the linked file: its slot in the host, its name and its role there, whether it was
--- added for a UNITREF, the file and the entry that it comes from, its code, and the records of its
--- link information.
+-- added for a UNITREF, the file and the entry that it comes from, and its code. Where it is linked:
+-- its procedure tables, the block of its file in which its link information begins, and the records
+-- there.
 -- An added segment has the role of a wanted unit.
 pub record Segment : Type 0 where
   pub slot : ℕ
@@ -100,6 +112,8 @@ pub record Segment : Type 0 where
   pub file : ℕ
   pub index : ℕ
   pub code : List ℕ
+  pub tables : Option ProcedureTables
+  pub block : ℕ
   pub records : List Record
 
 -- the segment that a slot gets from an entry of a file, with this name and role, where the entry
@@ -109,6 +123,7 @@ abbrev pub segment_from : Order → List ℕ → List (List ℕ) → ℕ → Lis
 segment_from order host libs slot name role at =
     let file = file_at host libs at.0 in
     let e = entry_at order file at.1 in
+    let linked = needs_linking role in
     option_map (λ code. record {
       slot = slot;
       name = name;
@@ -117,7 +132,9 @@ segment_from order host libs slot name role at =
       file = at.0;
       index = at.1;
       code = code;
-      records = records_of order file e (needs_linking role);
+      tables = tables_of order code linked;
+      block = information_block e linked;
+      records = records_of order file e linked;
     })
     (result_ok (code_of file e))
 

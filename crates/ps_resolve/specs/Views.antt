@@ -1,5 +1,4 @@
--- The segments that the files have, seen as the segments of the link, and what is known of them
--- once the files were read without a fault.
+-- What is known of the segments once the files were read without a fault.
 -- Source: this project's profile.
 use Rattle.std.specs.Prelude.{◌≡◌, ◌≤◌, ◌*◌, ◌==◌, nat_lt, if◌then◌else◌}
 use Rattle.std.specs.Prelude.{ℕ, All, List, [], ◌∷◌, length, drop, Bool, true, Option, Some}
@@ -8,78 +7,43 @@ use Rattle.std.specs.List.{find, filter_map, list_any, Contains}
 use Rattle.std.specs.Option.{option_or}
 use Rattle.ps_words.specs.declared.order.Order.{Order}
 use Rattle.ps_codefile.specs.Dictionary.{slots, block_len}
-use Rattle.ps_codefile.specs.declared.entry.Role.{Role}
 use Rattle.ps_linkinfo.specs.Records.{reading}
 use Rattle.ps_linkinfo.specs.declared.record.LinkRecord.{LinkRecord}
-use Rattle.ps_codefile.specs.Procedures.{ProcedureTables, tables_fault}
+use Rattle.ps_codefile.specs.Procedures.{tables_fault}
 use Rattle.ps_codefile.specs.Roles.{needs_linking, is_host, is_empty}
 use Rattle.ps_resolve.specs.Sources.{Segment, file_at}
 use Rattle.ps_resolve.specs.Faults.{is_role}
-use Rattle.ps_resolve.specs.declared.reading.request.Requester.{Requester}
-use Rattle.ps_resolve.specs.declared.reading.request.Requester.TheVariants.{Slot, Record}
-
--- A segment of the files: as a segment of the link, and where its references are resolved its
--- procedure tables, and the block of its file, from 0, in which its link information begins.
-pub record SegmentView : Type 0 where
-  pub slot : ℕ
-  pub name : List ℕ
-  pub role : Role
-  pub added : Bool
-  pub file : ℕ
-  pub index : ℕ
-  pub code : List ℕ
-  pub tables : Option ProcedureTables
-  pub block : ℕ
-  pub records : List LinkRecord
-
--- a segment of the files, seen as a segment of the link
-abbrev pub segment_of : SegmentView → Segment
-segment_of s = record {
-  slot = s.slot;
-  name = s.name;
-  role = s.role;
-  added = s.added;
-  file = s.file;
-  index = s.index;
-  code = s.code;
-  records = s.records;
-}
-
--- the segment, as it is requested: one that a record requests is added
-abbrev pub as_requested_view : Requester → SegmentView → SegmentView
-as_requested_view Slot s = s
-as_requested_view (Record place) s = record s { added = true }
 
 -- the link information of the segment, where its references are resolved, begins in its block of
 -- its file, and its records are all that are there
-abbrev pub IsPlaced : Order → List ℕ → List (List ℕ) → SegmentView → Type 0
+abbrev pub IsPlaced : Order → List ℕ → List (List ℕ) → Segment → Type 0
 IsPlaced order host libs s = needs_linking s.role ≡ true
     → reading order (drop (block_len * s.block) (file_at host libs s.file)) ≡ (s.records, None)
 
 -- so it is with those of the segments that are from this file, which has this number
-abbrev pub ArePlacedIn : Order → List ℕ → ℕ → List SegmentView → Type 0
+abbrev pub ArePlacedIn : Order → List ℕ → ℕ → List Segment → Type 0
 ArePlacedIn order file k segs = All (λ s. s.file ≡ k → needs_linking s.role ≡ true
     → reading order (drop (block_len * s.block) file) ≡ (s.records, None)) segs
 
 -- where the link information of two linked segments begins in one block of one file, they have the
 -- same records
-abbrev pub IsLike : SegmentView → SegmentView → Type 0
+abbrev pub IsLike : Segment → Segment → Type 0
 IsLike s q = needs_linking s.role ≡ true → needs_linking q.role ≡ true → s.file ≡ q.file
     → s.block ≡ q.block → s.records ≡ q.records
 
 -- so it is with any two of the segments
-abbrev pub AreAlike : List SegmentView → Type 0
+abbrev pub AreAlike : List Segment → Type 0
 AreAlike segs = All (λ s. All (IsLike s) segs) segs
 
 -- one of the segments has these records, which are resolved, and its link information begins in
 -- this block of this file
-abbrev pub HasRecordsAt : List SegmentView → ℕ → ℕ → List LinkRecord → Type 0
+abbrev pub HasRecordsAt : List Segment → ℕ → ℕ → List LinkRecord → Type 0
 HasRecordsAt segs file block rs =
-    (s : SegmentView) × Contains segs s × (needs_linking s.role ≡ true) × (s.file ≡ file)
+    (s : Segment) × Contains segs s × (needs_linking s.role ≡ true) × (s.file ≡ file)
     × (s.block ≡ block) × (s.records ≡ rs)
 
 -- one of these segments is linked, and its link information begins in this block of this file
-abbrev pub has_records_at : ℕ → ℕ → List SegmentView → Bool
+abbrev pub has_records_at : ℕ → ℕ → List Segment → Bool
 has_records_at file block =
     list_any (λ s. needs_linking s.role && s.file == file && s.block == block)
 
@@ -106,7 +70,7 @@ segments_in_slots order host own added = filter_map (segment_in_slot order host 
 
 -- the code of a linked segment has its number and a procedure word at least, and its procedure
 -- tables have no fault and are kept
-pub record IsSound (order : Order) (s : SegmentView) : Type 0 where
+pub record IsSound (order : Order) (s : Segment) : Type 0 where
   pub large : needs_linking s.role ≡ true → 4 ≤ length s.code
   pub tables : needs_linking s.role ≡ true → tables_fault order s.code (is_host s.role) ≡ None
   pub kept : needs_linking s.role ≡ true
@@ -115,6 +79,6 @@ pub record IsSound (order : Order) (s : SegmentView) : Type 0 where
 
 -- a segment as the files have it: its records are those of its place, and it is sound
 pub record IsRead (order : Order) (host : List ℕ) (libs : List (List ℕ))
-    (s : SegmentView) : Type 0 where
+    (s : Segment) : Type 0 where
   pub placed : IsPlaced order host libs s
   pub sound : IsSound order s

@@ -5,7 +5,6 @@ ghost use Rattle.ps_resolve.specs.declared.linkage.Stop.TheVariants.{Memory};
 ghost use Rattle.ps_resolve.specs.Privates.{words_in, allotted_privates, private_words, private_fault, all_allotted, all_words, first_private_fault, owner_of, owner_of_linkage, allotment_of, unallotted_fault, Owner};
 ghost use Rattle.ps_resolve.specs.Stops.{IsStop};
 ghost use Rattle.ps_resolve.specs.Builders.{HaveDistinctPrivates, HaveRoom, StopsPrivates, asked_of, all_asked, AreByRecord, words_of_all};
-ghost use Rattle.ps_resolve.specs.Views.{segment_of};
 
 use crate::linkage::{Linkage, SegmentPlace, Stop};
 use crate::namesakes::first_duplicate_private;
@@ -141,7 +140,7 @@ impl<'a> AsksForPrivates for Linkage<'a> {
 }
 
 impl<'a> AsksForPrivates for Segment<'a> {
-    ghost owner = { λ s. owner_of (segment_of s) };
+    ghost owner = { owner_of };
 
     fn place(&self) -> SegmentPlace {
         self.place()

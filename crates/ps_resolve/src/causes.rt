@@ -1,10 +1,8 @@
 //! What of the records of a link a fault is about.
-ghost use Rattle.std.specs.Prelude.{◌≡◌, ◌<◌, IfSome, None, length, map, take};
+ghost use Rattle.std.specs.Prelude.{◌≡◌, ◌<◌, IfSome, None, take};
 ghost use Rattle.ps_linkinfo.specs.Numbered.{numbered_records};
-ghost use Rattle.ps_linkinfo.specs.Records.{refs_of};
 ghost use Rattle.ps_resolve.specs.Causes.{covering_in as covering_in_spec, covers as covers_spec, first_before, first_covering as first_covering_spec, records_before, references_before as references_before_spec, share_a_byte as share_a_byte_spec, words_before as words_before_spec};
 ghost use Rattle.ps_resolve.specs.References.{words_taken_by};
-ghost use Rattle.ps_resolve.specs.Views.{segment_of};
 
 use crate::reading::segment::Segment;
 use crate::references::records::words_taken;
@@ -117,9 +115,9 @@ fn words_of_first(records: &LinkInformation<'_>, count: usize) -> Option<u32>
 /// this slot; `None` above 4294967295.
 fn words_of_segment(segment: &Segment<'_>, slot: u8, rec: usize) -> Option<u32>
     ensures words { IfSome result (λ words. words
-        ≡ words_taken_by (records_before slot rec (segment_of segment.now))) }
+        ≡ words_taken_by (records_before slot rec segment.now)) }
     ensures many { result ≡ None → 4294967295
-        < words_taken_by (records_before slot rec (segment_of segment.now)) }
+        < words_taken_by (records_before slot rec segment.now) }
 {
     match segment.records() {
         None => Some(0),
@@ -137,10 +135,8 @@ fn words_of_segment(segment: &Segment<'_>, slot: u8, rec: usize) -> Option<u32>
 /// 16 it counts all private words.
 /// Source: the order of allotment is this project's profile.
 pub fn words_before(segments: &[Segment<'_>], slot: u8, rec: usize) -> Option<u32>
-    ensures words { IfSome result (λ words. words
-        ≡ words_before_spec slot rec (map segment_of segments.now)) }
-    ensures many { result ≡ None → 4294967295
-        < words_before_spec slot rec (map segment_of segments.now) }
+    ensures words { IfSome result (λ words. words ≡ words_before_spec slot rec segments.now) }
+    ensures many { result ≡ None → 4294967295 < words_before_spec slot rec segments.now }
 {
     let mut words = 0u32;
     for segment in segments {

@@ -11,7 +11,6 @@ ghost use Rattle.ps_resolve.specs.Linkable.{IsNext};
 ghost use Rattle.ps_resolve.specs.Linking.{segment_edits as segment_edits_spec, data_edits};
 ghost use Rattle.ps_resolve.specs.Plans.{LinksSegment};
 ghost use Rattle.ps_resolve.specs.Stops.{IsStop};
-ghost use Rattle.ps_resolve.specs.Views.{segment_of};
 ghost use Rattle.ps_resolve.specs.declared.linkage.Stop.TheVariants.{Memory};
 
 pub(crate) mod data_size;
@@ -70,22 +69,21 @@ pub(crate) fn segment_edits<'a, A: Allocator + Copy>(
     segment: &Segment<'a>,
     free: u16,
 ) -> Result<(Vec<Edit, A>, u16), Stop>
-    requires { IsNext link.now.order link.now.names.now link.now.size
-        earlier.now segment.now free }
+    requires { IsNext link.now.order link.now.names.now link.now.size earlier.now segment.now free }
     ensures links { (words : ℕ)
         → (is_host_spec segment.now.role ≡ true
         → data_edits link.now.order words segment.now.code ≡ link.now.size ∷ [])
         → IfOk result (λ found. LinksSegment link.now.order
         (record {
-          segment = segment_of segment.now;
+          segment = segment.now;
           edits = segment_edits_spec link.now.order link.now.names.now
-              words free (segment_of segment.now);
+              words free segment.now;
         }) found.0.items) }
     ensures end { IfOk result (λ found. found.1 ≡ free + private_words segment.now.records) }
     ensures sound { OnOk result
-        (segment_fault link.now.order link.now.names.now free (segment_of segment.now) ≡ None) }
+        (segment_fault link.now.order link.now.names.now free segment.now ≡ None) }
     ensures stop { IfErr result (IsStop ⊤
-        (segment_fault link.now.order link.now.names.now free (segment_of segment.now))) }
+        (segment_fault link.now.order link.now.names.now free segment.now)) }
 {
     match segment.resolvable() {
         None => Ok((Vec::new(alloc), free)),

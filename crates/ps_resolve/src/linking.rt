@@ -5,8 +5,6 @@ ghost use Rattle.ps_resolve.specs.Linkable.{AreLinkable};
 ghost use Rattle.ps_resolve.specs.Linking.{data_edits, edited_from};
 ghost use Rattle.ps_resolve.specs.Plans.{AreStopped, IsPlanOf, LinkSegments, origin_of, origin_of_source};
 ghost use Rattle.ps_codefile.specs.Roles.{is_host as is_host_spec};
-ghost use Rattle.ps_resolve.specs.Views.{segment_of};
-ghost use Rattle.ps_resolve.specs.declared.linkage.Stop.TheVariants.{Memory};
 
 use crate::allotment::Allotment;
 use crate::definitions::Definitions;
@@ -33,15 +31,14 @@ fn all_edits<A: Allocator + Copy>(
     requires { AreLinkable link.now.order link.now.size base segments.now }
     ensures links { (words : ℕ)
         → All (λ s. is_host_spec s.role ≡ true
-        → data_edits link.now.order words s.code ≡ link.now.size ∷ [])
-        (map segment_of segments.now)
+        → data_edits link.now.order words s.code ≡ link.now.size ∷ []) segments.now
         → IfOk result (λ edits. LinkSegments link.now.order
-        (edited_from link.now.order link.now.names.now words base (map segment_of segments.now))
+        (edited_from link.now.order link.now.names.now words base segments.now)
         (map (λ e. e.items) edits.items)) }
     ensures sound { IfOk result (λ _. references_fault_from link.now.order link.now.names.now base
-        (map segment_of segments.now) ≡ None) }
+        segments.now ≡ None) }
     ensures stop { IfErr result (AreOfReferences link.now.order link.now.names.now base
-        (map segment_of segments.now)) }
+        segments.now) }
 {
     let mut edits = Vec::with_capacity(alloc, segments.len())?;
     let mut free = base;
@@ -57,7 +54,7 @@ fn all_edits<A: Allocator + Copy>(
 /// Where the code of each segment comes from.
 fn sources_of<'a>(segments: &[Segment<'a>]) -> ArrayVec<Source<'a>, 16>
     requires { length segments.now ≤ 16 }
-    ensures { map origin_of_source result.items ≡ map origin_of (map segment_of segments.now) }
+    ensures { map origin_of_source result.items ≡ map origin_of segments.now }
 {
     let mut sources = ArrayVec::new();
     for segment in segments {
@@ -81,12 +78,9 @@ pub(crate) fn link_segments<'a, A: Allocator + Copy>(
     alloc: A,
     segments: &Segments<'_, 'a>,
 ) -> Result<Plan<'a, A>, Stop>
-    ensures plan { IfOk result (IsPlanOf segments.now.order segments.now.host
-        (map segment_of segments.now.items)) }
-    ensures sound { IfOk result (λ _. linking_fault segments.now.order
-        (map segment_of segments.now.items) ≡ None) }
-    ensures stop { IfErr result (AreStopped segments.now.order
-        (map segment_of segments.now.items)) }
+    ensures plan { IfOk result (IsPlanOf segments.now.order segments.now.host segments.now.items) }
+    ensures sound { IfOk result (λ _. linking_fault segments.now.order segments.now.items ≡ None) }
+    ensures stop { IfErr result (AreStopped segments.now.order segments.now.items) }
 {
     let order = segments.order;
     let all = segments.items.as_slice();

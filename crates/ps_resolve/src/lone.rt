@@ -4,7 +4,7 @@ ghost use Rattle.ps_codefile.specs.Roles.{is_unit as is_unit_spec};
 ghost use Rattle.ps_resolve.specs.LoneUnits.{lone_fault as lone_fault_spec, placing_fault as placing_fault_spec};
 ghost use Rattle.ps_resolve.specs.Sources.{opened_files};
 ghost use Rattle.ps_resolve.specs.Stops.{IsStop};
-ghost use Rattle.ps_resolve.specs.Views.{IsSound, segment_of};
+ghost use Rattle.ps_resolve.specs.Views.{IsSound};
 
 use crate::allotment::allot;
 use crate::edits::segment_edits;
@@ -26,8 +26,8 @@ fn place_unit<A: Allocator + Copy>(
     requires records { records.now ≡ unit.now.records }
     requires sound { IsSound order unit.now }
     requires unit { is_unit_spec unit.now.role ≡ true }
-    ensures sound { OnOk result (placing_fault_spec order (segment_of unit.now) ≡ None) }
-    ensures stop { IfErr result (IsStop ⊤ (placing_fault_spec order (segment_of unit.now))) }
+    ensures sound { OnOk result (placing_fault_spec order unit.now ≡ None) }
+    ensures stop { IfErr result (IsStop ⊤ (placing_fault_spec order unit.now)) }
 {
     let mut privates = Vec::new(alloc);
     allot(alloc, unit.place(), records, LONE_BASE, &mut privates)?;
@@ -47,7 +47,7 @@ fn placing_fault<A: Allocator + Copy>(
     segment: &Segment<'_>,
 ) -> Result<Option<Fault>, AllocError>
     requires { IsSound order segment.now }
-    ensures { IfOk result (λ fault. fault ≡ placing_fault_spec order (segment_of segment.now)) }
+    ensures { IfOk result (λ fault. fault ≡ placing_fault_spec order segment.now) }
 {
     match segment.records() {
         Some(records) if segment.role().is_unit() => {

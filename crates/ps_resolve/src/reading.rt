@@ -1,5 +1,4 @@
-ghost use Rattle.std.specs.Prelude.{◌≡◌, ◌<◌, ◌≤◌, [], List, ℕ, length, map, slice_get, None, Some, Ok, Err, IfOk, IfErr, IfSome, All, option_and_then};
-ghost use Rattle.ps_words.specs.declared.order.Order.{Order as ByteOrder};
+ghost use Rattle.std.specs.Prelude.{◌≡◌, ◌<◌, ◌≤◌, [], length, slice_get, None, Some, Ok, Err, IfOk, IfErr, IfSome, All, option_and_then};
 ghost use Rattle.std.specs.List.{find};
 ghost use Rattle.std.specs.Option.{option_map, option_or};
 ghost use Rattle.std.specs.Result.{result_ok};
@@ -10,7 +9,7 @@ ghost use Rattle.ps_resolve.specs.Faults.{slots_fault as slots_fault_spec, no_ho
 ghost use Rattle.ps_resolve.specs.AllFaults.{reading_fault};
 ghost use Rattle.ps_resolve.specs.OfLink.{AreOfLink};
 ghost use Rattle.ps_resolve.specs.Readings.{all_read, host_reading_fault, opened_host, own_reading_fault, queued_request as queued_request_spec, read_requests, read_rounds, read_segments, named_entry, slot_after, slot_entry, slot_fault, slot_reading, slot_request, wanted_request};
-ghost use Rattle.ps_resolve.specs.Views.{segment_of, IsRead, IsSound, is_in_slot};
+ghost use Rattle.ps_resolve.specs.Views.{IsRead, IsSound, is_in_slot};
 
 pub(crate) mod added;
 pub(crate) mod entries;
@@ -40,11 +39,7 @@ use std::marker::Model;
 
 /// The segment that is in a slot.
 fn segment_in<'s, 'a>(segments: &'s [Segment<'a>], slot: u8) -> Option<&'s Segment<'a>>
-    ensures found { option_map (λ s. segment_of s.now) result
-        ≡ find (is_in_slot slot) (map segment_of segments.now) }
-    ensures read { (order : ByteOrder) (host : List ℕ) (libs : List (List ℕ))
-        → All (IsRead order host libs) segments.now
-        → IfSome result (λ s. IsRead order host libs s.now) }
+    ensures { option_map (λ s. s.now) result ≡ find (is_in_slot slot) segments.now }
 {
     for segment in segments {
         if segment.slot == slot {
@@ -57,7 +52,7 @@ fn segment_in<'s, 'a>(segments: &'s [Segment<'a>], slot: u8) -> Option<&'s Segme
 /// The name of a slot in the linked file.
 fn slot_name(host: &HostSlots, segments: &[Segment], slot: u8) -> Name
     requires { slot < 16 }
-    ensures { result ≡ slot_name_spec host.now.file (map segment_of segments.now) slot }
+    ensures { result ≡ slot_name_spec host.now.file segments.now slot }
 {
     match segment_in(segments, slot) {
         Some(segment) => segment.name,
@@ -67,7 +62,7 @@ fn slot_name(host: &HostSlots, segments: &[Segment], slot: u8) -> Name
 
 /// The names of all slots in the linked file.
 pub(crate) fn slot_names(host: &HostSlots, segments: &[Segment]) -> [Name; 16]
-    ensures { result ≡ slot_names_spec host.now.file (map segment_of segments.now) }
+    ensures { result ≡ slot_names_spec host.now.file segments.now }
 {
     let mut names = [[0; 8]; SLOTS as usize];
     for slot in 0..SLOTS {
@@ -112,9 +107,8 @@ pub(crate) fn read_own<'a>(
     segments: &mut ArrayVec<Segment<'a>, 16>,
 ) -> Option<Fault>
     requires { segments.old.items ≡ [] }
-    ensures first { result
-        ≡ own_reading_fault host.now.order host.now.file (contents libs.now) }
-    ensures segments { map segment_of segments.new.items
+    ensures first { result ≡ own_reading_fault host.now.order host.now.file (contents libs.now) }
+    ensures segments { segments.new.items
         ≡ read_segments host.now.order host.now.file (opened host.now.order libs.now) }
     ensures read { All (IsRead host.now.order host.now.file (opened host.now.order libs.now))
         segments.new.items }
@@ -131,11 +125,11 @@ pub(crate) fn add_to<'a>(
     libs: &'a [&'a [u8]],
     segments: &mut ArrayVec<Segment<'a>, 16>,
 ) -> AddedUnits
-    requires own { map segment_of segments.old.items
+    requires own { segments.old.items
         ≡ read_segments host.now.order host.now.file (opened host.now.order libs.now) }
     requires read { All (IsRead host.now.order host.now.file (opened host.now.order libs.now))
         segments.old.items }
-    ensures all { map segment_of segments.new.items
+    ensures all { segments.new.items
         ≡ all_read host.now.order host.now.file (opened host.now.order libs.now) }
     ensures read { All (IsRead host.now.order host.now.file (opened host.now.order libs.now))
         segments.new.items }
@@ -325,7 +319,7 @@ impl<'a> HostReading<'a> {
     pub fn segment(&self, slot: u8) -> Option<Result<&Segment<'a>, Fault>>
         requires { slot < 16 }
         ensures read { IfSome result (λ r. IfOk r (λ s. slot_reading self.now.order self.now.file
-            (opened_files self.now.order self.now.libs) slot ≡ Some (Ok (segment_of s.now)))) }
+            (opened_files self.now.order self.now.libs) slot ≡ Some (Ok s.now))) }
         ensures refused { IfSome result (λ r. IfErr r (λ f. slot_reading self.now.order
             self.now.file (opened_files self.now.order self.now.libs) slot ≡ Some (Err f))) }
         ensures none { result ≡ None → slot_reading self.now.order self.now.file
@@ -401,7 +395,7 @@ impl<'a> HostReading<'a> {
     /// The segments that have no fault, by slot ascending.
     /// Source: this project's profile.
     pub fn segments(&self) -> &[Segment<'a>]
-        ensures { map segment_of result.now
+        ensures { result.now
             ≡ all_read self.now.order self.now.file (opened_files self.now.order self.now.libs) }
     {
         self.segments.as_slice()
@@ -479,10 +473,10 @@ impl<'a> Reading<'a> {
     /// fault.
     /// Source: this project's profile.
     pub fn segments(&self) -> &[Segment<'a>]
-        ensures all { reading_fault self.now.host self.now.libs ≡ None → map segment_of result.now
+        ensures all { reading_fault self.now.host self.now.libs ≡ None → result.now
             ≡ all_segments (order_of self.now.host) self.now.host self.now.libs }
         ensures known { reading_fault self.now.host self.now.libs ≡ None
-            → AreOfLink self.now.host self.now.libs (map segment_of result.now) }
+            → AreOfLink self.now.host self.now.libs result.now }
     {
         match &self.host {
             Err(_) => &[],

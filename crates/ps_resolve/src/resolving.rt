@@ -1,4 +1,4 @@
-ghost use Rattle.std.specs.Prelude.{◌≡◌, IfOk, IfErr, None, Ok, All, map};
+ghost use Rattle.std.specs.Prelude.{◌≡◌, IfOk, IfErr, None, Ok, All};
 ghost use Rattle.ps_codefile.specs.Dictionary.{opened_alone};
 ghost use Rattle.ps_resolve.specs.Sources.{contents, opened};
 ghost use Rattle.ps_resolve.specs.LinkedBytes.{segments_of};
@@ -6,7 +6,7 @@ ghost use Rattle.ps_resolve.specs.OfLink.{AreOfLink};
 ghost use Rattle.ps_resolve.specs.Plans.{IsPlan, IsStopped};
 ghost use Rattle.ps_resolve.specs.AllFaults.{first_fault};
 ghost use Rattle.ps_resolve.specs.Readings.{own_reading_fault, read_segments};
-ghost use Rattle.ps_resolve.specs.Views.{segment_of, IsRead};
+ghost use Rattle.ps_resolve.specs.Views.{IsRead};
 
 use crate::linkage::Stop;
 use crate::linking::link_segments;
@@ -82,7 +82,7 @@ fn link_units<'a, A: Allocator + Copy>(
     segments: &mut ArrayVec<Segment<'a>, 16>,
 ) -> Result<Plan<'a, A>, Stop>
     requires opened { Ok slots.now ≡ opened_alone host.now }
-    requires own { map segment_of segments.old.items
+    requires own { segments.old.items
         ≡ read_segments slots.now.order slots.now.file (opened slots.now.order libs.now) }
     requires read { All (IsRead slots.now.order slots.now.file
         (opened slots.now.order libs.now)) segments.old.items }

@@ -1,10 +1,9 @@
-ghost use Rattle.std.specs.Prelude.{◌≡◌, ◌≤◌, ◌∷◌, [], Some, None, IfOk, IfErr};
+ghost use Rattle.std.specs.Prelude.{◌≡◌, ◌∷◌, [], None, IfOk, IfErr};
 ghost use Rattle.ps_words.specs.declared.edit.Edit.TheVariants.{Word};
 ghost use Rattle.ps_resolve.specs.Edits.{IsOfSize, IsOfTable};
 ghost use Rattle.ps_resolve.specs.Faults.{size_fault};
 ghost use Rattle.ps_resolve.specs.Linking.{data_edits, data_size_of};
 ghost use Rattle.ps_resolve.specs.Linkable.{IsHost};
-ghost use Rattle.ps_resolve.specs.Views.{segment_of};
 
 use crate::linkage::Stop;
 use crate::reading::host::HostSegment;
@@ -51,8 +50,8 @@ pub(crate) fn grown_data_size(
     ensures size { IfOk result (λ d. d.size ≡ data_size_of order words host.now.segment.now.code) }
     ensures table { IfOk result (λ d. IsOfTable order host.now.segment.now.code
         (Word d.size d.place)) }
-    ensures fits { IfOk result (λ _. size_fault order words (segment_of host.now.segment.now) ≡ None) }
-    ensures stop { IfErr result (IsOfSize order words (segment_of host.now.segment.now)) }
+    ensures fits { IfOk result (λ _. size_fault order words host.now.segment.now ≡ None) }
+    ensures stop { IfErr result (IsOfSize order words host.now.segment.now) }
 {
     let place = host.outer_block - DATA_SIZE_BEFORE_TABLE;
     let size = get(order, host.segment.code(), place) as usize + WORD_LEN * words as usize;

@@ -1,4 +1,4 @@
-ghost use Rattle.std.specs.Prelude.{◌≡◌, ◌<◌, ◌≤◌, ◌+◌, ◌++◌, ◌∷◌, [], ℕ, List, All, if◌then◌else◌, length, map, take, slice_get};
+ghost use Rattle.std.specs.Prelude.{◌≡◌, ◌<◌, ◌≤◌, ◌+◌, ◌++◌, ◌∷◌, [], ℕ, List, All, if◌then◌else◌, length, take, slice_get};
 ghost use Rattle.std.specs.List.{insert, list_any};
 ghost use Rattle.std.specs.Result.{result_err};
 ghost use Rattle.std.specs.Str.{bytes_eq};
@@ -9,7 +9,7 @@ ghost use Rattle.ps_resolve.specs.Sources.{opened, Segment as SegmentOfLink};
 ghost use Rattle.ps_resolve.specs.Added.{unit_references, all_unit_references, is_already_known as is_already_known_spec, requested_from, request_of, empty_slots as empty_slots_spec, unplaced_fault, rounds_from};
 ghost use Rattle.ps_resolve.specs.Faults.{is_role};
 ghost use Rattle.ps_resolve.specs.Readings.{read_segments};
-ghost use Rattle.ps_resolve.specs.Views.{segment_of, put_by_slot, segments_in_slots, IsRead, AreAlike};
+ghost use Rattle.ps_resolve.specs.Views.{put_by_slot, segments_in_slots, IsRead, AreAlike};
 
 use crate::linkage::{RecordPlace, SegmentPlace};
 use crate::reading::request::{Request, Requester, read_unit, unit_named};
@@ -194,8 +194,7 @@ pub(crate) fn requested_by<'a>(
     own: &[Segment<'a>],
 ) -> ArrayVec<UnitReference, 10>
     requires { AreAlike own.now }
-    ensures { result.items ≡ take 10 (requested_from units.now []
-        (all_unit_references (map segment_of own.now))) }
+    ensures { result.items ≡ take 10 (requested_from units.now [] (all_unit_references own.now)) }
 {
     let mut queue: ArrayVec<UnitReference, MAX_REQUESTED> = ArrayVec::new();
     for (index, segment) in own.iter().enumerate() {
@@ -237,7 +236,7 @@ pub(crate) fn slot_at(empty: &ArrayVec<u8, 9>, k: usize) -> Option<u8>
 fn count_before(segments: &[Segment], slot: u8) -> usize
     ensures fits { result ≤ length segments.now }
     ensures place { (s : SegmentOfLink) → s.slot ≡ slot
-        → insert (map segment_of segments.now) result s ≡ put_by_slot s (map segment_of segments.now) }
+        → insert segments.now result s ≡ put_by_slot s segments.now }
 {
     for (count, segment) in segments.iter().enumerate() {
         if slot < segment.slot {
@@ -250,8 +249,7 @@ fn count_before(segments: &[Segment], slot: u8) -> usize
 /// Puts the segment into the table, which is by slot ascending.
 fn put<'a>(segments: &mut ArrayVec<Segment<'a>, 16>, segment: Segment<'a>)
     requires { array_vec_len segments.old < 16 }
-    ensures segments { map segment_of segments.new.items
-        ≡ put_by_slot (segment_of segment.entry) (map segment_of segments.old.items) }
+    ensures segments { segments.new.items ≡ put_by_slot segment.entry segments.old.items }
     ensures len { length segments.new.items ≡ length segments.old.items + 1 }
     ensures read { (order : ByteOrder) (host : List ℕ) (libs : List (List ℕ))
         → All (IsRead order host libs) segments.old.items → IsRead order host libs segment.entry
@@ -274,7 +272,7 @@ pub(crate) fn add_units<'a>(
     queue: &mut ArrayVec<UnitReference, 10>,
     segments: &mut ArrayVec<Segment<'a>, 16>,
 ) -> Result<(), Fault>
-    requires own { map segment_of segments.old.items
+    requires own { segments.old.items
         ≡ read_segments host.now.order host.now.file (opened host.now.order libs.now) }
     requires read { All (IsRead host.now.order host.now.file (opened host.now.order libs.now))
         segments.old.items }
@@ -286,8 +284,8 @@ pub(crate) fn add_units<'a>(
         → result_err result ≡ (rounds_from host.now.order host.now.file
         (opened host.now.order libs.now) units.now slots.now 0 whole).fault }
     ensures added { (whole : List UnitReference) → queue.old.items ≡ take 10 whole
-        → map segment_of segments.new.items ≡ segments_in_slots host.now.order host.now.file
-        (map segment_of segments.old.items) (rounds_from host.now.order host.now.file
+        → segments.new.items ≡ segments_in_slots host.now.order host.now.file
+        segments.old.items (rounds_from host.now.order host.now.file
         (opened host.now.order libs.now) units.now slots.now 0 whole).added }
     ensures count { (whole : List UnitReference) → queue.old.items ≡ take 10 whole
         → length segments.new.items ≡ length segments.old.items

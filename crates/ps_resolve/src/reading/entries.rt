@@ -1,4 +1,4 @@
-ghost use Rattle.std.specs.Prelude.{◌≡◌, ◌<◌, ◌≤◌, ◌+◌, ◌*◌, [], List, ℕ, length, drop, true, Some, None, IfOk, IfSome, All, if◌then◌else◌, is_some};
+ghost use Rattle.std.specs.Prelude.{◌≡◌, ◌<◌, ◌≤◌, ◌+◌, [], List, ℕ, length, true, Some, None, IfOk, if◌then◌else◌, is_some};
 ghost use Rattle.std.specs.Option.{option_map, option_map_or, option_or};
 ghost use Rattle.std.specs.Result.{result_err};
 ghost use Rattle.ps_words.specs.FaultPlaces.{in_record, in_slot as in_slot_spec};
@@ -6,9 +6,9 @@ ghost use Rattle.ps_codefile.specs.Dictionary.{entry_at, kind_needs_linking, inf
 ghost use Rattle.ps_codefile.specs.Procedures.{tables_fault as tables_fault_spec};
 ghost use Rattle.ps_linkinfo.specs.Records.{reading};
 ghost use Rattle.ps_codefile.specs.Roles.{needs_linking as needs_linking_spec, is_host as is_host_spec};
-ghost use Rattle.ps_resolve.specs.Sources.{file_at, segment_from, records_of};
+ghost use Rattle.ps_resolve.specs.Sources.{file_at, information_block, records_of, segment_from, tables_of};
 ghost use Rattle.ps_resolve.specs.Faults.{code_fault, information_fault};
-ghost use Rattle.ps_resolve.specs.Views.{segment_of, ArePlacedIn, IsPlaced, IsSound};
+ghost use Rattle.ps_resolve.specs.Views.{ArePlacedIn, IsPlaced, IsSound};
 
 use crate::linkage::SegmentPlace;
 use crate::reading::segment::{Resolvable, Segment, records_at};
@@ -34,8 +34,7 @@ impl<'a> Default for Segment<'a> {
 /// The block after the code of an entry, in which its link information begins.
 fn block_behind(from: &Dict, index: u8) -> usize
     requires { index < 16 }
-    ensures { information_of from.now.file (entry_at from.now.order from.now.file index)
-        ≡ drop (512 * result) from.now.file }
+    ensures { result ≡ information_block (entry_at from.now.order from.now.file index) true }
 {
     let entry = from.entry(index);
     entry.address as usize + blocks_of(entry.length as usize)
@@ -90,11 +89,10 @@ fn read_resolvable<'a>(
         (entry_at from.now.order from.now.file index) (needs_linking_spec role)) }
     ensures linked { IfOk result (λ resolvable. is_some resolvable ≡ needs_linking_spec role) }
     ensures tables { IfOk result (λ resolvable. option_map (λ c. c.procedures) resolvable
-        ≡ (if needs_linking_spec role
-        then Some (record { order = from.now.order; code = code.now }) else None)) }
-    ensures block { IfOk result (λ resolvable. IfSome resolvable (λ c.
-        information_of from.now.file (entry_at from.now.order from.now.file index)
-        ≡ drop (512 * c.block) from.now.file)) }
+        ≡ tables_of from.now.order code.now (needs_linking_spec role)) }
+    ensures block { IfOk result (λ resolvable. option_map_or (λ c. c.block) resolvable 0
+        ≡ information_block (entry_at from.now.order from.now.file index)
+        (needs_linking_spec role)) }
 {
     if !role.needs_linking() {
         return Ok(None);
@@ -134,7 +132,7 @@ pub(crate) fn read_segment<'a>(
     ensures segment { (host : List ℕ) (libs : List (List ℕ))
         → file_at host libs place.file ≡ from.now.file
         → IfOk result (λ s. segment_from from.now.order host libs place.slot name role
-        (place.file, index) ≡ Some (segment_of s)) }
+        (place.file, index) ≡ Some s) }
     ensures placed { (host : List ℕ) (libs : List (List ℕ))
         → file_at host libs place.file ≡ from.now.file
         → IfOk result (IsPlaced from.now.order host libs) }

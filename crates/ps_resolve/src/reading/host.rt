@@ -1,9 +1,9 @@
-ghost use Rattle.std.specs.Prelude.{◌≡◌, map, All, IfSome, is_some, true};
+ghost use Rattle.std.specs.Prelude.{◌≡◌, All, IfSome, is_some, true};
 ghost use Rattle.std.specs.Option.{option_map};
 ghost use Rattle.ps_codefile.specs.Roles.{is_host as is_host_spec};
 ghost use Rattle.ps_resolve.specs.Linkable.{IsHost};
 ghost use Rattle.ps_resolve.specs.Sources.{host_of as host_of_spec};
-ghost use Rattle.ps_resolve.specs.Views.{segment_of, IsSound};
+ghost use Rattle.ps_resolve.specs.Views.{IsSound};
 
 use crate::reading::segment::Segment;
 use ps_codefile::code_layout::OUTER_BLOCK;
@@ -44,8 +44,7 @@ pub(crate) fn host_of<'r, 'a>(
     segments: &'r [Segment<'a>],
 ) -> Option<HostSegment<'r, 'a>>
     requires { All (IsSound order) segments.now }
-    ensures found { option_map (λ host. segment_of host.segment.now) result
-        ≡ host_of_spec (map segment_of segments.now) }
+    ensures found { option_map (λ host. host.segment.now) result ≡ host_of_spec segments.now }
     ensures is { IfSome result (IsHost order) }
 {
     for segment in segments {

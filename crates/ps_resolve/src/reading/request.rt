@@ -1,11 +1,11 @@
-ghost use Rattle.std.specs.Prelude.{◌≡◌, ◌<◌, ◌+◌, List, ℕ, length, Some, IfOk, IfSome, is_none, All};
+ghost use Rattle.std.specs.Prelude.{◌≡◌, ◌<◌, length, Some, IfOk, IfSome, is_none, All};
 ghost use Rattle.std.specs.List.{find};
 ghost use Rattle.std.specs.Result.{result_err};
 ghost use Rattle.ps_codefile.specs.Dictionary.{slots};
 ghost use Rattle.ps_resolve.specs.Sources.{is_named, chosen_library as chosen_library_spec, opened};
 ghost use Rattle.ps_resolve.specs.Faults.{request_fault};
-ghost use Rattle.ps_resolve.specs.Requests.{is_missing, missing_at, request_by_slot, requested_segment};
-ghost use Rattle.ps_resolve.specs.Views.{segment_of, as_requested_view, IsRead};
+ghost use Rattle.ps_resolve.specs.Requests.{as_requested as as_requested_spec, is_missing, missing_at, request_by_slot, requested_segment};
+ghost use Rattle.ps_resolve.specs.Views.{IsRead};
 
 use crate::linkage::{RecordPlace, SegmentPlace};
 use crate::reading::entries::read_segment;
@@ -89,7 +89,7 @@ pub(crate) fn unit_named<'a>(
 
 /// The segment, as it is requested: one that a record requests is added.
 fn as_requested<'a>(segment: Segment<'a>, requester: Requester) -> Segment<'a>
-    ensures { result ≡ as_requested_view requester segment.entry }
+    ensures { result ≡ as_requested_spec requester segment.entry }
 {
     match requester {
         Requester::Slot => segment,
@@ -111,7 +111,7 @@ pub(crate) fn read_unit<'a>(
     ensures fault { result_err result
         ≡ request_fault host.now.order host.now.file (opened host.now.order libs.now) request.now }
     ensures segment { IfOk result (λ s. requested_segment host.now.order host.now.file
-        (opened host.now.order libs.now) request.now ≡ Some (segment_of s)) }
+        (opened host.now.order libs.now) request.now ≡ Some s) }
     ensures read { IfOk result (IsRead host.now.order host.now.file
         (opened host.now.order libs.now)) }
 {

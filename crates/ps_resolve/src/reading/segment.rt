@@ -49,9 +49,9 @@ impl<'a> Model for Segment<'a> {
     ghost use Rattle.std.specs.Prelude.{◌≡◌, [], is_some};
     ghost use Rattle.std.specs.Option.{option_map, option_map_or};
     ghost use Rattle.ps_codefile.specs.Roles.{needs_linking};
-    ghost use Rattle.ps_resolve.specs.Views.{SegmentView};
+    ghost use Rattle.ps_resolve.specs.Sources.{Segment as SegmentOfLink};
 
-    ghost Value = { SegmentView };
+    ghost Value = { SegmentOfLink };
 
     ghost view = { λ s. record { slot = s.slot; name = s.name; role = s.role; added = s.added; file = s.file; index = s.index; code = s.code.now; tables = option_map (λ c. c.procedures) s.resolvable; block = option_map_or (λ c. c.block) s.resolvable 0; records = option_map_or (λ c. c.records) s.resolvable [] } };
 

@@ -1,11 +1,11 @@
-ghost use Rattle.std.specs.Prelude.{◌≡◌, ◌<◌, ◌++◌, [], map, IfOk, IfSome, All, option_and_then};
-ghost use Rattle.std.specs.Option.{option_map, option_or, option_to_list};
+ghost use Rattle.std.specs.Prelude.{◌≡◌, ◌<◌, ◌++◌, [], IfOk, IfSome, All, option_and_then};
+ghost use Rattle.std.specs.Option.{option_or, option_to_list};
 ghost use Rattle.arrayvec.specs.ArrayVec.{array_vec_len};
 ghost use Rattle.std.specs.Result.{result_err, result_ok};
 ghost use Rattle.ps_resolve.specs.Sources.{own_segment, opened};
 ghost use Rattle.ps_resolve.specs.Faults.{source_fault, sources_fault};
 ghost use Rattle.ps_resolve.specs.Readings.{read_segments};
-ghost use Rattle.ps_resolve.specs.Views.{segment_of, IsRead};
+ghost use Rattle.ps_resolve.specs.Views.{IsRead};
 
 use crate::linkage::SegmentPlace;
 use crate::reading::entries::read_segment;
@@ -30,7 +30,7 @@ pub(crate) fn read_slot<'a>(
         earlier.now }
     ensures fault { result_err result ≡ source_fault host.now.order host.now.file
         (opened host.now.order libs.now) slot }
-    ensures segment { IfOk result (λ s. option_map segment_of s
+    ensures segment { IfOk result (λ s. s
         ≡ own_segment host.now.order host.now.file (opened host.now.order libs.now) slot) }
     ensures read { IfOk result (λ s. IfSome s
         (IsRead host.now.order host.now.file (opened host.now.order libs.now))) }
@@ -88,7 +88,7 @@ pub(crate) fn read_slots<'a>(
     requires { segments.old.items ≡ [] }
     ensures first { result ≡ sources_fault host.now.order host.now.file
         (opened host.now.order libs.now) }
-    ensures segments { map segment_of segments.new.items
+    ensures segments { segments.new.items
         ≡ read_segments host.now.order host.now.file (opened host.now.order libs.now) }
     ensures read { All (IsRead host.now.order host.now.file (opened host.now.order libs.now))
         segments.new.items }

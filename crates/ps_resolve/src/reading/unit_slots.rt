@@ -1,8 +1,7 @@
-ghost use Rattle.std.specs.Prelude.{◌≡◌, ◌≤◌, length, map};
+ghost use Rattle.std.specs.Prelude.{◌≡◌, ◌≤◌, length};
 ghost use Rattle.std.specs.Map.{lookup};
 ghost use Rattle.std.specs.Str.{bytes_eq};
 ghost use Rattle.ps_resolve.specs.Sources.{units_of};
-ghost use Rattle.ps_resolve.specs.Views.{segment_of};
 
 use crate::reading::segment::Segment;
 use arrayvec::ArrayVec;
@@ -37,7 +36,7 @@ impl UnitSlots {
     /// Those of the units among these segments, of which there are sixteen at most.
     pub(crate) fn of(segments: &[Segment]) -> UnitSlots
         requires { length segments.now ≤ 16 }
-        ensures { result ≡ units_of (map segment_of segments.now) }
+        ensures { result ≡ units_of segments.now }
     {
         let mut by_name = ArrayVec::new();
         for segment in segments {

@@ -7,7 +7,6 @@ ghost use Rattle.ps_resolve.specs.Faults.{segment_fault};
 ghost use Rattle.ps_resolve.specs.Privates.{private_words};
 ghost use Rattle.ps_resolve.specs.Stops.{IsStop};
 ghost use Rattle.ps_resolve.specs.TakenPlaces.{AreTaken};
-ghost use Rattle.ps_resolve.specs.Views.{segment_of};
 
 use crate::definitions::DefKind;
 use crate::edit_table::EditTable;
@@ -82,9 +81,9 @@ pub(crate) fn add_records<'a, A: Allocator + Copy>(
     ensures table { IfOk result (λ all. IsTableOf segment.now.code all.0.states.items) }
     ensures end { IfOk result (λ all. all.1 ≡ free + private_words segment.now.records) }
     ensures sound { OnOk result
-        (segment_fault link.now.order link.now.names.now free (segment_of segment.now) ≡ None) }
+        (segment_fault link.now.order link.now.names.now free segment.now ≡ None) }
     ensures stop { IfErr result (IsStop ⊥
-        (segment_fault link.now.order link.now.names.now free (segment_of segment.now))) }
+        (segment_fault link.now.order link.now.names.now free segment.now)) }
 {
     if records.units() == 0 && records.publics() == 0 && records.privates() == 0 {
         return Ok((edits, free));

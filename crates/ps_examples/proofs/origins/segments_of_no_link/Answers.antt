@@ -3,6 +3,7 @@ use Rattle.std.proofs.Common.{refl, sym, ap, subst, inr, arith}
 use Rattle.std.specs.Prelude.{slice_index, take}
 use Rattle.ps_codefile.specs.Dictionary.{entry_at, is_filled, code_of}
 use Rattle.ps_examples.specs.Files.{host, library, put_at, with_slot, util, aux, util_code}
+use Rattle.ps_resolve.specs.Sources.{information_block}
 use Rattle.ps_resolve.specs.Standing.Sources.{IsNamed}
 use Rattle.ps_codefile.specs.declared.entry.Role.TheVariants as role
 use Rattle.ps_examples.specs.Segments.{count_reference, aux_segment, tools_segment}
@@ -68,6 +69,10 @@ returns c = record {
       (subst (λ (f : List ℕ). code_of f (entry_at Little f 2) ≡ Ok (util_code Little))
       (sym (same host r.source r.file)) r.code);
   not_read_past_the_last_entry = λ r. let h : 16 < 16 = r.within in omega (arith, h);
+  not_without_its_tables = λ r. let h = r.tables in cc;
+  not_in_another_block = λ r. let h : 3 ≡ 2 =
+      subst (λ (f : List ℕ). 3 ≡ information_block (entry_at Little f 2) true)
+      (sym (same library r.source r.file)) r.block in omega (arith, h);
   not_without_its_records = not_without_its_records;
   not_with_records_of_its_own = λ libs r. let h : count_reference ∷ [] ≡ [] = r.unread refl in
       cc;

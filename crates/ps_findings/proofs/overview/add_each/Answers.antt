@@ -1,7 +1,6 @@
 use Rattle.std.proofs.Common.{◌∙◌, ◌∷◌, List, ℕ, map, string_bytes, subst, sym}
 use Rattle.std.specs.Result.{OnOk}
 use Rattle.ps_resolve.specs.Sources.{contents}
-use Rattle.ps_resolve.specs.Views.{segment_of}
 use Rattle.ps_resolve.proofs.ReadingSlots.{fault_of_none}
 use Rattle.ps_findings.specs.SlotLines.{AddsSlotLines}
 use Rattle.ps_findings.proofs.LinesOfSegments.{lines_are}
@@ -20,7 +19,7 @@ returns-in-Ok g c = λ none.
     let paths : List (List ℕ) = c.args.inputs.now.host_path.now
     ∷ contents c.args.inputs.now.paths.now in
     let are = lines_are paths files.host files.libs c.in-Ok.host.now
-    (map segment_of c.segments.result.now) c.requested.result.now c.in-Ok.ensures.opened
+    c.segments.result.now c.requested.result.now c.in-Ok.ensures.opened
     (c.segments.ensures.all none) c.requested.ensures in
     subst (λ (lines : List (List ℕ)). OnOk c.add_linked.result
     (AddsSlotLines (string_bytes c.args.text.now) lines (string_bytes c.add_linked.new.text)))

@@ -1,6 +1,5 @@
 use Rattle.std.proofs.Common.{◌∷◌, map, string_bytes, take}
 use Rattle.ps_resolve.specs.Sources.{contents}
-use Rattle.ps_resolve.specs.Views.{segment_of}
 use Rattle.ps_findings.specs.SegmentLines.{segment_line}
 use Rattle.ps_findings.specs.SlotLines.{AddsSlotLines}
 use Rattle.ps_findings.proofs.overview.add_linked.Given as goal
@@ -10,5 +9,4 @@ abbrev pub invariant-loop-segment : goal.invariant-loop-segment
 invariant-loop-segment g l =
     AddsSlotLines (string_bytes l.fn.text)
     (map (segment_line (l.inputs.host_path.now ∷ contents l.inputs.paths.now)
-    (map segment_of l.segments) l.requests) (map segment_of (take l.segment-index l.segments)))
-    (string_bytes l.text)
+    l.segments l.requests) (take l.segment-index l.segments)) (string_bytes l.text)

@@ -7,6 +7,7 @@ use Rattle.std.proofs.lemmas.List.Sorted.{IsPermutation-trans}
 use Rattle.ps_words.specs.Edits.{AreEdits, IsInside}
 use Rattle.ps_words.specs.declared.edit.Edit.{Edit}
 use Rattle.ps_words.specs.declared.edit.Edit.TheVariants.{Byte}
+use Rattle.ps_resolve.specs.Sources.{Segment}
 use Rattle.ps_resolve.specs.Edits.{data_size_edit}
 use Rattle.ps_resolve.specs.EditTables.{edits_of}
 use Rattle.ps_resolve.specs.declared.edit_table.PlaceState.{PlaceState}
@@ -14,7 +15,6 @@ use Rattle.std.proofs.lemmas.Option.{same_Some}
 use Rattle.ps_codefile.specs.Procedures.{ProcedureTables}
 use Rattle.ps_codefile.specs.Roles.{needs_linking, is_host}
 use Rattle.ps_resolve.specs.References.{Known, records_edits}
-use Rattle.ps_resolve.specs.Views.{SegmentView}
 use Rattle.ps_resolve.proofs.InPlaces.{edits_apart}
 use Rattle.ps_resolve.proofs.FirstSlots.{none_mapped as map_none}
 use Rattle.ps_resolve.proofs.OneSegment.{all_of, linked_links}
@@ -25,7 +25,7 @@ pub returns-in_ok-edits-in-Some : goal.returns-in_ok-edits-in-Some
 returns-in_ok-edits-in-Some g c =
     let known : Known = c.args.link.now.names.now in
     let order = c.args.link.now.order in
-    let v : SegmentView = c.args.segment.now in
+    let v : Segment = c.args.segment.now in
     let code : List ℕ = v.code in
     let free : ℕ = c.args.free in
     let size : Edit = c.args.link.now.size in
@@ -44,9 +44,9 @@ returns-in_ok-edits-in-Some g c =
     let code_is : c.procs-procedures.result.code ≡ code =
     ap (λ (t : ProcedureTables). t.code) tables_is in
     let slot_is : c.segment.inside.slot ≡ v.slot =
-    ap (λ (s : SegmentView). s.slot) c.segment.view_is in
+    ap (λ (s : Segment). s.slot) c.segment.view_is in
     let host_is : c.is_host-host.result ≡ is_host v.role =
-    c.is_host-host.ensures ∙ ap (λ (s : SegmentView). is_host s.role) c.segment.view_is in
+    c.is_host-host.ensures ∙ ap (λ (s : Segment). is_host s.role) c.segment.view_is in
     let own_listed : IsPermutation own_edits (edits_of own_states) =
     rw (slot_is, code_is, host_is) at c.in_ok-own-in-Some.ensures.edits in
     let listed : IsPermutation (all_of known v own free) (edits_of states) =

@@ -13,10 +13,10 @@ use Rattle.ps_resolve.specs.Linking.{data_edits, edited_from}
 use Rattle.ps_resolve.specs.Privates.{owner_of, all_words}
 use Rattle.ps_resolve.specs.References.{Known, HaveTargets}
 use Rattle.ps_resolve.specs.Sources.{Segment}
-use Rattle.ps_resolve.specs.Views.{segment_of, IsSound, IsLike, SegmentView}
+use Rattle.ps_resolve.specs.Views.{IsSound, IsLike}
 use Rattle.ps_resolve.proofs.AllSegments.{room_at, stop_at, words_on, first_on, links_on, none_left}
 use Rattle.ps_resolve.proofs.FirstSlots.{none_mapped}
-use Rattle.ps_resolve.proofs.Segs.{at_map, map_push}
+use Rattle.ps_resolve.proofs.Segs.{map_push}
 use Rattle.ps_resolve.proofs.Sharing.{all_taken, have_targets}
 use Rattle.ps_resolve.proofs.linking.all_edits.Goals as goal
 
@@ -25,17 +25,17 @@ segment_edits-requires g c =
     let order : Order = c.args.link.now.order in
     let known : Known = c.args.link.now.names.now in
     let size : Edit = c.args.link.now.size in
-    let ss : List SegmentView = c.args.segments.now in
+    let ss : List Segment = c.args.segments.now in
     let i : ℕ = c.loop-index.index in
     let lt : i < length ss = omega arith in
-    let v : SegmentView = c.index-segments-index.result in
+    let v : Segment = c.index-segments-index.result in
     let is : v ≡ get_or ss i v = c.index-segments-index.is in
     record {
       sound = subst (IsSound order) (sym is) (c.requires.sound i v lt);
       room = search (rules, room_at);
-      table = at_map (λ (s : Segment). is_host s.role ≡ true → IsOfTable order s.code size)
-          segment_of ss i v lt is c.requires.table;
-      alike = All-take (IsLike v) i ss (subst (λ (s : SegmentView). All (IsLike s) ss) (sym is)
+      table = subst (λ (s : Segment). is_host s.role ≡ true → IsOfTable order s.code size)
+          (sym is) (c.requires.table i v lt);
+      alike = All-take (IsLike v) i ss (subst (λ (s : Segment). All (IsLike s) ss) (sym is)
           (c.requires.alike i v lt));
       named = c.loop-index.invariant.named;
     }
@@ -48,10 +48,10 @@ loop-index-preserved g c =
     let order : Order = c.args.link.now.order in
     let known : Known = c.args.link.now.names.now in
     let size : Edit = c.args.link.now.size in
-    let ss : List SegmentView = c.args.segments.now in
+    let ss : List Segment = c.args.segments.now in
     let i : ℕ = c.loop-index.index in
     let lt : i < length ss = omega arith in
-    let v : SegmentView = c.index-segments-index.result in
+    let v : Segment = c.index-segments-index.result in
     let is : v ≡ get_or ss i v = c.index-segments-index.is in
     let free : ℕ = c.loop-index.free in
     let end : ℕ = c.in_ok-found.end in
@@ -59,25 +59,25 @@ loop-index-preserved g c =
     let sound = c.in_ok-found.ensures.sound in
     record {
       words = words_on order known ss i v lt is free end c.in_ok-found.ensures.end
-          (c.args.base + all_words (map owner_of (map segment_of ss))) inv.words;
+          (c.args.base + all_words (map owner_of ss)) inv.words;
       first = first_on order known ss i v lt is free end c.in_ok-found.ensures.end
-          (references_fault_from order known c.args.base (map segment_of ss)) inv.first sound;
+          (references_fault_from order known c.args.base ss) inv.first sound;
       links = λ words all behind h. rw (c.in_ok-push.ensures.items, map_push)
           (links_on order known ss i v lt is free end c.in_ok-found.ensures.end words
-          (edited_from order known words c.args.base (map segment_of ss))
+          (edited_from order known words c.args.base ss)
           (map (λ e. e.items) c.loop-index.edits.items) c.in_ok-found.found.items
           (c.in_ok-found.ensures.links words
-          (at_map (λ (s : Segment). is_host s.role ≡ true
-          → data_edits order words s.code ≡ size ∷ []) segment_of ss i v lt is all))
+          (subst (λ (s : Segment). is_host s.role ≡ true
+          → data_edits order words s.code ≡ size ∷ []) (sym is) (all i v lt)))
           (inv.links words all) behind h);
-      named = all_taken (λ (s : SegmentView). HaveTargets known s.records) i ss v lt is inv.named
+      named = all_taken (λ (s : Segment). HaveTargets known s.records) i ss v lt is inv.named
           (have_targets known (is_reserved order v.code) v.code v.records 0 free []
           (none_mapped _ _ sound));
     }
 
 pub returns-clause-links : goal.returns-clause-links
 returns-clause-links g c = λ words all.
-    let ss : List SegmentView = c.args.segments.now in
+    let ss : List Segment = c.args.segments.now in
     let i : ℕ = c.loop-index.index in
     let past = none_left c.args.link.now.order c.args.link.now.names.now words c.loop-index.free i
     ss (omega arith) in

@@ -7,7 +7,6 @@ use Rattle.ps_resolve.specs.Linking.{data_edits, edited_from}
 use Rattle.ps_resolve.specs.Plans.{LinkSegments}
 use Rattle.ps_resolve.specs.Privates.{owner_of, all_words}
 use Rattle.ps_resolve.specs.References.{HaveTargets}
-use Rattle.ps_resolve.specs.Views.{segment_of}
 use Rattle.ps_codefile.specs.Roles.{is_host}
 use Rattle.ps_resolve.proofs.linking.all_edits.Given as goal
 
@@ -15,8 +14,8 @@ use Rattle.ps_resolve.proofs.linking.all_edits.Given as goal
 -- the first fault
 abbrev pub invariant-loop-index : goal.invariant-loop-index
 invariant-loop-index g l =
-    let all = map segment_of l.segments in
-    let rest = map segment_of (drop l.index l.segments) in
+    let all = l.segments in
+    let rest = drop l.index l.segments in
     record {
       words : l.free + all_words (map owner_of rest) ≡ l.base + all_words (map owner_of all);
       first : references_fault_from l.link.order l.link.names.now l.free rest

@@ -4,14 +4,13 @@ use Rattle.std.proofs.lemmas.Result.{err_from_is_err_and}
 use Rattle.std.proofs.lemmas.List.{length-map}
 use Rattle.ps_words.specs.declared.edit.Edit.{Edit}
 use Rattle.ps_words.specs.declared.order.Order.{Order}
-use Rattle.ps_resolve.specs.Sources.{host_of}
+use Rattle.ps_resolve.specs.Sources.{Segment, host_of}
 use Rattle.ps_resolve.specs.Symbols.{definitions}
 use Rattle.ps_resolve.specs.Privates.{Allotted, owner_of, all_words}
-use Rattle.ps_resolve.specs.Views.{segment_of, SegmentView}
 use Rattle.ps_resolve.specs.Linkable.{AreSegments}
 use Rattle.ps_resolve.specs.declared.reading.host.HostSegment.{HostSegment}
 use Rattle.ps_resolve.proofs.Hosts.{of_hosts}
-use Rattle.ps_resolve.proofs.Segs.{owners_of_segments, slots_are}
+use Rattle.ps_resolve.proofs.Segs.{slots_are}
 use Rattle.ps_resolve.proofs.Stages.{records_are, definitions_stop, privates_stop, words_are}
 use Rattle.ps_resolve.proofs.Stages.{allotment_is, size_stop, references_stop, none_stands}
 use Rattle.ps_resolve.proofs.Stages.{all_linked, as_many}
@@ -19,17 +18,16 @@ use Rattle.ps_resolve.proofs.linking.link_segments.Goals as goal
 
 -- what is known of the segments, as a slice lends them
 given : {order : Order} {host : List ℕ} {names : List (List ℕ)} {own : HostSegment}
-    {items lent : List SegmentView} → lent ≡ items → AreSegments order host names own items
+    {items lent : List Segment} → lent ≡ items → AreSegments order host names own items
     → AreSegments order host names own lent
 given {order} {host} {names} {own} same h = grind arith
 
 -- the host's own segment, with the records that are lent beside it
-abbrev own_of : HostSegment → SegmentView
+abbrev own_of : HostSegment → Segment
 own_of h = record h.segment.now { records = h.records.now }
 
 found_own : {order : Order} {host : List ℕ} {names : List (List ℕ)} {own : HostSegment}
-    {ss : List SegmentView} → AreSegments order host names own ss
-    → host_of (map segment_of ss) ≡ Some (segment_of (own_of own))
+    {ss : List Segment} → AreSegments order host names own ss → host_of ss ≡ Some (own_of own)
 found_own {order} {host} {names} {own} h = grind arith
 
 pub returns-in_err-definitions-clause-stop : goal.returns-in_err-definitions-clause-stop
@@ -37,7 +35,7 @@ returns-in_err-definitions-clause-stop g c =
     grind (arith, given, found_own, err_from_is_err_and, definitions_stop)
 
 pub of_segments-requires : goal.of_segments-requires
-of_segments-requires g c = grind (arith, given, owners_of_segments, slots_are)
+of_segments-requires g c = grind (arith, given, slots_are)
 
 pub returns-in_err-allotment-clause-stop : goal.returns-in_err-allotment-clause-stop
 returns-in_err-allotment-clause-stop g c =
@@ -79,10 +77,9 @@ all_edits-requires g c =
     let known = given c.as_slice-all.ensures.value c.segments.invariant in
     let own = own_of c.segments.inside.own in
     let is = found_own known in
-    let ss : List SegmentView = c.as_slice-all.result.now in
+    let ss : List Segment = c.as_slice-all.result.now in
     let end : c.in_ok-allotment.allotment.next_free
-    ≡ c.next-base.result + all_words (map owner_of (map segment_of ss)) =
-    grind (arith, owners_of_segments) in
+    ≡ c.next-base.result + all_words (map owner_of ss) = grind arith in
     let free = ap (λ (a : Allotted). a.next_free) c.allotment.view_is in
     let size : Edit = c.edit.result in
     record {
@@ -135,7 +132,7 @@ returns-clause-plan g c =
     let own = own_of c.segments.inside.own in
     let is = found_own known in
     let order = c.segments.inside.order in
-    let ss : List SegmentView = c.as_slice-all.result.now in
+    let ss : List Segment = c.as_slice-all.result.now in
     let ds = c.in_ok-definitions in
     let a = c.in_ok-allotment in
     let size = c.in_ok-size.ensures in

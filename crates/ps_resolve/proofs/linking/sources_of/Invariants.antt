@@ -1,9 +1,8 @@
 use Rattle.std.proofs.Common.{◌≡◌, map, take}
 use Rattle.ps_resolve.specs.Plans.{origin_of, origin_of_source}
-use Rattle.ps_resolve.specs.Views.{segment_of}
 use Rattle.ps_resolve.proofs.linking.sources_of.Given as goal
 
 -- those so far are of the segments so far
 abbrev pub invariant-loop-segment : goal.invariant-loop-segment
 invariant-loop-segment l = map origin_of_source l.sources.items
-    ≡ map origin_of (map segment_of (take l.segment-index l.segments))
+    ≡ map origin_of (take l.segment-index l.segments)

@@ -1,11 +1,11 @@
 use Rattle.std.proofs.Common.{◌≡◌, ◌∙◌, ◌-◌, ◌+◌, ◌++◌, ℕ, List, []}
-use Rattle.std.proofs.Common.{length, map, take, refl, sym, ap, subst, arith}
+use Rattle.std.proofs.Common.{length, take, refl, sym, ap, subst, arith}
 use Rattle.std.specs.List.{slice_get}
 use Rattle.ps_resolve.specs.Sources.{Segment, opened, contents, units_of}
 use Rattle.ps_resolve.specs.Added.{RoundsOutcome, all_unit_references, empty_slots, requested_from}
 use Rattle.ps_resolve.specs.Added.{rounds_from}
 use Rattle.ps_resolve.specs.Readings.{read_rounds}
-use Rattle.ps_resolve.specs.Views.{SegmentView, segment_of, segments_in_slots, AreAlike}
+use Rattle.ps_resolve.specs.Views.{segments_in_slots, AreAlike}
 use Rattle.ps_resolve.proofs.Adding.{references_both, requested-append, few_kept}
 use Rattle.ps_resolve.proofs.ReadingSlots.{all_of, in_rounds, requests_of}
 use Rattle.ps_resolve.proofs.Sharing.{read_alike}
@@ -26,7 +26,7 @@ add_units-rounds-requires c = record {
   few = c.as_slice-3.ensures.fits;
   short = rw c.requested_by-queue.ensures
       (few_kept (requested_from c.of-units.result []
-      (all_unit_references (map segment_of c.as_slice-2.result.now))));
+      (all_unit_references c.as_slice-2.result.now)));
   in_range = rw c.as_slice-3.ensures.value c.empty_slots-empty.ensures.in_range;
 }
 
@@ -35,18 +35,16 @@ returns c =
     let host = c.args.host.now in
     let files = opened host.order c.args.libs.now in
     let libs = contents c.args.libs.now in
-    let own : List Segment = map segment_of c.args.segments.now.items in
+    let own : List Segment = c.args.segments.now.items in
     let units = c.of-units.result in
     let whole = requested_from units [] (all_unit_references own) in
     let empty : c.as_slice-3.result.now ≡ empty_slots host.order host.file =
     c.as_slice-3.ensures.value ∙ c.empty_slots-empty.ensures.slots in
     let queue = c.requested_by-queue.ensures
-    ∙ ap (λ (ss : List SegmentView). take 10
-    (requested_from units [] (all_unit_references (map segment_of ss))))
+    ∙ ap (λ (ss : List Segment). take 10 (requested_from units [] (all_unit_references ss)))
     c.as_slice-2.ensures.value in
     let named : units ≡ units_of own =
-    c.of-units.ensures ∙ ap (λ (ss : List SegmentView). units_of (map segment_of ss))
-    c.as_slice.ensures.value in
+    c.of-units.ensures ∙ ap units_of c.as_slice.ensures.value in
     let is : rounds_from host.order host.file files units c.as_slice-3.result.now 0 whole
     ≡ read_rounds host.order host.file files =
     ap (λ (u : List (List ℕ × ℕ)). rounds_from host.order host.file files u

@@ -5,7 +5,6 @@ use Rattle.std.proofs.lemmas.List.{take_all}
 use Rattle.std.proofs.lemmas.List.FromFn.{map-range_with_len_more}
 use Rattle.std.proofs.lemmas.Grind.{common_steps}
 use Rattle.ps_resolve.specs.Added.{slot_name, slot_names}
-use Rattle.ps_resolve.specs.Views.{segment_of}
 use Rattle.ps_resolve.proofs.reading.slot_names.Goals as goal
 
 pub loop-slot-preserved : goal.loop-slot-preserved
@@ -15,7 +14,7 @@ loop-slot-preserved c =
     grind (
       arith,
       common_steps,
-      map-range_with_len_more (slot_name c.args.host.now.file (map segment_of c.args.segments.now))
+      map-range_with_len_more (slot_name c.args.host.now.file c.args.segments.now)
           0 i i (omega arith),
     )
 
@@ -27,5 +26,5 @@ returns c =
     let whole : length names ≤ 16 = omega (arith, c.loop-slot.invariant.all) in
     sym (take_all 16 names whole)
     ∙ subst (λ (n : ℕ). take n names
-    ≡ map (slot_name c.args.host.now.file (map segment_of c.args.segments.now))
+    ≡ map (slot_name c.args.host.now.file c.args.segments.now)
     (range_with_len 0 n)) done c.loop-slot.invariant.done

@@ -11,7 +11,6 @@ use Rattle.ps_words.specs.declared.fault.Reason.TheVariants as reason
 use Rattle.ps_codefile.specs.Dictionary.{OpenedFile, FileOrder, file_order, opened_alone, opened_as}
 use Rattle.ps_resolve.specs.Sources.{Segment, contents, host_of, opened_files, order_of}
 use Rattle.ps_resolve.specs.Added.{segments, slot_names}
-use Rattle.ps_resolve.specs.Views.{SegmentView, segment_of}
 use Rattle.ps_resolve.specs.Faults.{linking_fault}
 use Rattle.ps_resolve.specs.Linkable.{AscendFrom, HasOneHost}
 use Rattle.ps_resolve.specs.AllFaults.{first_fault, reading_fault}
@@ -86,11 +85,10 @@ returns-in-None-clause-stop g c =
     let none = faultless o libs c.add_to.result.fault c.requires.faultless c.add_to.ensures.ends
     c.in_default.is in
     let host : List ℕ = c.args.host.now in
-    let t = all_of host libs o (map segment_of c.add_to.new.segments.items) c.requires.opened
+    let t = all_of host libs o c.add_to.new.segments.items c.requires.opened
     c.add_to.ensures.all none in
     let has = has_host host libs t.0 in
-    let lacks = c.in-None.ensures.found ∙ ap
-    (λ (ss : List SegmentView). host_of (map segment_of ss)) c.as_slice-all.ensures.value
+    let lacks = c.in-None.ensures.found ∙ ap host_of c.as_slice-all.ensures.value
     ∙ ap host_of t.1 in
     let no : is_some (host_of (segments (order_of host) host libs)) ≡ false =
     ap is_some (sym lacks) in
@@ -102,18 +100,16 @@ invariant_of-linkable g c =
     let o : OpenedFile = c.args.slots.now in
     let libs = contents c.args.libs.now in
     let files = opened_files o.order libs in
-    let items : List SegmentView = c.add_to.new.segments.items in
+    let items : List Segment = c.add_to.new.segments.items in
     let none = faultless o libs c.add_to.result.fault c.requires.faultless c.add_to.ensures.ends
     c.in_default.is in
     let host : List ℕ = c.args.host.now in
-    let t = all_of host libs o (map segment_of items) c.requires.opened c.add_to.ensures.all none in
+    let t = all_of host libs o items c.requires.opened c.add_to.ensures.all none in
     let file : o.file ≡ c.args.host.now =
     ap (λ (x : OpenedFile). x.file) (host_is c.args.host.now o (sym c.requires.opened)) in
     record {
       sound = rw c.order-order.ensures (all_sound o.order o.file files items c.add_to.ensures.read);
-      found = sym (c.in-Some-host_of.ensures.found
-          ∙ ap (λ (ss : List SegmentView). host_of (map segment_of ss))
-          c.as_slice-all.ensures.value);
+      found = sym (c.in-Some-host_of.ensures.found ∙ ap host_of c.as_slice-all.ensures.value);
       own = c.in-Some-host_of.ensures.is;
       one_host = subst HasOneHost (sym t.1)
           (one_host (order_of host) host libs (slots_fine host libs t.0));
@@ -121,13 +117,11 @@ invariant_of-linkable g c =
           (ascend (order_of host) host libs);
       whole = whole_of c.args.host.now o c.requires.opened;
       alike = read_alike o.order o.file files items c.add_to.ensures.read;
-      most = subst (λ (ss : List SegmentView). length ss ≤ 16) c.as_slice-all.ensures.value
+      most = subst (λ (ss : List Segment). length ss ≤ 16) c.as_slice-all.ensures.value
           c.as_slice-all.ensures.fits;
       named = c.slot_names-names.ensures
-          ∙ (ap (λ (xs : List ℕ). slot_names xs (map segment_of c.as_slice-all.result.now))
-          file
-          ∙ ap (λ (ss : List SegmentView). slot_names c.args.host.now (map segment_of ss))
-          c.as_slice-all.ensures.value);
+          ∙ (ap (λ (xs : List ℕ). slot_names xs c.as_slice-all.result.now) file
+          ∙ ap (slot_names c.args.host.now) c.as_slice-all.ensures.value);
     }
 
 pub returns-in-Some-host_of : goal.returns-in-Some-host_of
@@ -137,7 +131,7 @@ returns-in-Some-host_of g c =
     let libs = contents c.args.libs.now in
     let is = host_is host o (sym c.requires.opened) in
     let order : Order = c.order-order.result in
-    let given : List Segment = map segment_of c.add_to.new.segments.items in
+    let given : List Segment = c.add_to.new.segments.items in
     let all : List Segment = segments (order_of host) host libs in
     let read = faultless o libs c.add_to.result.fault c.requires.faultless c.add_to.ensures.ends
     c.in_default.is in

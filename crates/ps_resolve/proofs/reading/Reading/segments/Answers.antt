@@ -1,10 +1,9 @@
-use Rattle.std.proofs.Common.{◌≡◌, ◌∙◌, None, map, subst, sym, ap}
+use Rattle.std.proofs.Common.{◌≡◌, ◌∙◌, None, subst, sym, ap}
 use Rattle.ps_resolve.specs.Sources.{contents, order_of}
 use Rattle.ps_resolve.specs.Added.{segments}
 use Rattle.ps_resolve.specs.AllFaults.{reading_fault}
 use Rattle.ps_resolve.specs.OfLink.{AreOfLink}
 use Rattle.ps_resolve.specs.Readings.{HostFiles, ReadFiles, host_reading_fault}
-use Rattle.ps_resolve.specs.Views.{segment_of}
 use Rattle.ps_resolve.proofs.OfLink.{of_link}
 use Rattle.ps_resolve.proofs.ReadingSlots.{fault_of_host, fault_of_none, host_of_files}
 use Rattle.ps_resolve.proofs.ReadingSlots.{segments_are}
@@ -25,7 +24,7 @@ pub returns-in-Ok : goal.returns-in-Ok
 returns-in-Ok c =
     let f : ReadFiles = c.args.self.now in
     let all : reading_fault f.host f.libs ≡ None
-    → map segment_of c.segments.result.now ≡ segments (order_of f.host) f.host f.libs =
+    → c.segments.result.now ≡ segments (order_of f.host) f.host f.libs =
     λ none.
     let file = c.self.inside.file.now in
     let libs = contents c.self.inside.libs.now in

@@ -1,7 +1,7 @@
 use Rattle.std.proofs.Common.{◌≡◌, ◌∙◌, ◌+◌, ◌++◌, ◌<◌, ◌∷◌, [], ℕ}
-use Rattle.std.proofs.Common.{List, length, length-append, map, take, drop, get_or, append-nil}
+use Rattle.std.proofs.Common.{List, length, length-append, take, drop, get_or, append-nil}
 use Rattle.std.proofs.Common.{Some, None, refl, sym, ap, subst, arith}
-use Rattle.std.proofs.lemmas.List.{get_or_default, length-map, drop_all}
+use Rattle.std.proofs.lemmas.List.{get_or_default, drop_all}
 use Rattle.std.proofs.lemmas.List.Elements.{All-nil}
 use Rattle.std.proofs.lemmas.Result.{err_from_is_err_and}
 use Rattle.ps_words.specs.declared.fault.Fault.{Fault}
@@ -9,7 +9,7 @@ use Rattle.ps_resolve.specs.Sources.{Segment, opened}
 use Rattle.ps_resolve.specs.Added.{RoundsOutcome, requested_from, unit_references}
 use Rattle.ps_resolve.specs.Added.{all_unit_references, rounds_from}
 use Rattle.ps_resolve.specs.Linkable.{AscendFrom}
-use Rattle.ps_resolve.specs.Views.{put_by_slot, segment_of, segments_in_slots}
+use Rattle.ps_resolve.specs.Views.{put_by_slot, segments_in_slots}
 use Rattle.ps_resolve.specs.declared.reading.added.UnitReference.{UnitReference}
 use Rattle.ps_resolve.proofs.Adding.{at_round, kept, no_name_left, no_slot_left, round_refused}
 use Rattle.ps_resolve.proofs.Adding.{round_adds, joined, joined_more, references_more, few_kept}
@@ -21,7 +21,7 @@ pub loop-round-init : goal.loop-round-init
 loop-round-init c =
     let host = c.args.host.now in
     let libs = opened host.order c.args.libs.now in
-    let old : List Segment = map segment_of c.args.segments.now.items in
+    let old : List Segment = c.args.segments.now.items in
     record {
       so_far = (
         [],
@@ -49,7 +49,7 @@ returns-in-None c =
     let units = c.args.units.now in
     let slots : List ℕ = c.args.slots.now in
     let i : ℕ = c.loop-round.round in
-    let old = map segment_of c.args.segments.now.items in
+    let old = c.args.segments.now.items in
     let xs : List Segment = t.0 in
     let is = λ (whole : List UnitReference) (kept : c.args.queue.now.items ≡ take 10 whole).
     let r = t.6 whole kept in
@@ -83,7 +83,7 @@ returns-in_err-segment-in-Some c =
     let units = c.args.units.now in
     let slots : List ℕ = c.args.slots.now in
     let i : ℕ = c.loop-round.round in
-    let old = map segment_of c.args.segments.now.items in
+    let old = c.args.segments.now.items in
     let xs : List Segment = t.0 in
     let lt : i < length slots = c.loop-round-test.true in
     let slot = get_or slots i 0 in
@@ -130,21 +130,16 @@ put-requires c =
     let i : ℕ = c.loop-round.round in
     let lt : i < length slots = c.loop-round-test.true in
     let slot = get_or slots i 0 in
-    let old : List Segment = map segment_of c.args.segments.now.items in
+    let old : List Segment = c.args.segments.now.items in
     let xs : List Segment = t.0 in
-    let s : Segment = segment_of c.in_ok-segment-in-Some.segment in
+    let s : Segment = c.in_ok-segment-in-Some.segment in
     let brought = rw c.in_slot-request.ensures at c.in_ok-segment-in-Some.ensures.segment in
     let new = new_in host.order host.file libs slots i slot t.1 xs s c.in-Some.requested
     c.requires.empty c.requires.in_range lt (get_or_default slots i 0 slot lt) t.3 t.2 brought
     in
     let less = room_in_table host.order host.file libs old c.requires.own xs s new.low new.empty
     new.none in
-    omega (
-      arith,
-      less,
-      ap (λ (ys : List Segment). length ys) t.4,
-      length-map c.loop-round.segments.items segment_of,
-    )
+    omega (arith, less, ap (λ (ys : List Segment). length ys) t.4)
 
 pub loop-round-preserved : goal.loop-round-preserved
 loop-round-preserved c =
@@ -156,9 +151,9 @@ loop-round-preserved c =
     let i : ℕ = c.loop-round.round in
     let lt : i < length slots = c.loop-round-test.true in
     let slot = get_or slots i 0 in
-    let old : List Segment = map segment_of c.args.segments.now.items in
+    let old : List Segment = c.args.segments.now.items in
     let xs : List Segment = t.0 in
-    let s : Segment = segment_of c.in_ok-segment-in-Some.segment in
+    let s : Segment = c.in_ok-segment-in-Some.segment in
     let brought = rw c.in_slot-request.ensures at c.in_ok-segment-in-Some.ensures.segment in
     let new = new_in host.order host.file libs slots i slot t.1 xs s c.in-Some.requested
     c.requires.empty c.requires.in_range lt (get_or_default slots i 0 slot lt) t.3 t.2 brought
@@ -214,7 +209,7 @@ returns-in-None-requested_at c =
     let units = c.args.units.now in
     let slots : List ℕ = c.args.slots.now in
     let i : ℕ = c.loop-round.round in
-    let old = map segment_of c.args.segments.now.items in
+    let old = c.args.segments.now.items in
     let xs : List Segment = t.0 in
     let is = λ (whole : List UnitReference) (kept : c.args.queue.now.items ≡ take 10 whole).
     let r = t.6 whole kept in
@@ -249,7 +244,7 @@ returns-in-Some-requested_at c =
     let units = c.args.units.now in
     let slots : List ℕ = c.args.slots.now in
     let i : ℕ = c.loop-round.round in
-    let old = map segment_of c.args.segments.now.items in
+    let old = c.args.segments.now.items in
     let xs : List Segment = t.0 in
     let g = c.in-Some-requested_at.requested in
     let is = λ (whole : List UnitReference) (kept : c.args.queue.now.items ≡ take 10 whole).

@@ -1,10 +1,9 @@
 use Rattle.std.proofs.Common.{◌≡◌, ◌<◌, ◌≤◌, ◌+◌, ℕ, List, length, take, drop}
-use Rattle.std.proofs.Common.{map}
 use Rattle.std.specs.Prelude.{All}
 use Rattle.ps_resolve.specs.Sources.{Segment, opened}
 use Rattle.ps_resolve.specs.Added.{all_unit_references, requested_from, rounds_from}
 use Rattle.ps_resolve.specs.Linkable.{AscendFrom}
-use Rattle.ps_resolve.specs.Views.{segment_of, segments_in_slots, IsRead}
+use Rattle.ps_resolve.specs.Views.{segments_in_slots, IsRead}
 use Rattle.ps_resolve.specs.declared.reading.added.UnitReference.{UnitReference}
 use Rattle.ps_resolve.proofs.Adding.{joined}
 use Rattle.ps_resolve.proofs.reading.added.add_units.Given as goal
@@ -21,8 +20,7 @@ invariant-loop-round l =
       so_far : (added : List Segment) × (from : ℕ)
           × (All (λ (s : Segment). s.slot < from) added)
           × (AscendFrom from (drop l.round l.slots))
-          × (map segment_of l.segments.items
-          ≡ segments_in_slots order l.host.file (map segment_of old) added)
+          × (l.segments.items ≡ segments_in_slots order l.host.file old added)
           × (length l.segments.items ≡ length old + length added)
           × ((whole : List UnitReference) → l.fn.queue.items ≡ take 10 whole
           → (queue : List UnitReference)

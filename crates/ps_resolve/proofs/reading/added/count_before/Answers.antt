@@ -1,5 +1,5 @@
 use Rattle.std.proofs.Common.{◌≤◌, ap, arith}
-use Rattle.ps_resolve.specs.Views.{SegmentView}
+use Rattle.ps_resolve.specs.Sources.{Segment}
 use Rattle.ps_resolve.proofs.BySlot.{placed_at, placed_last}
 use Rattle.ps_resolve.proofs.Sharing.{all_taken}
 use Rattle.ps_resolve.proofs.reading.added.count_before.Goals as goal
@@ -9,10 +9,10 @@ returns-then-slot-segment-clause-place c = grind (arith, placed_at)
 
 pub loop-count-preserved : goal.loop-count-preserved
 loop-count-preserved c =
-    all_taken (λ (s : SegmentView). s.slot ≤ c.args.slot) c.loop-count.count c.args.segments.now
+    all_taken (λ (s : Segment). s.slot ≤ c.args.slot) c.loop-count.count c.args.segments.now
     c.index-segments-count.result c.loop-count-test.true c.index-segments-count.is
     c.loop-count.invariant
-    (omega (arith, c.if-slot-segment.false, ap (λ (s : SegmentView). s.slot) c.segment.view_is))
+    (omega (arith, c.if-slot-segment.false, ap (λ (s : Segment). s.slot) c.segment.view_is))
 
 pub returns-clause-place : goal.returns-clause-place
 returns-clause-place c = grind (arith, placed_last)

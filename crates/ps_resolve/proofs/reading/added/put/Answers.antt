@@ -1,10 +1,6 @@
-use Rattle.std.proofs.Common.{arith}
 use Rattle.ps_resolve.specs.Views.{IsRead}
-use Rattle.ps_resolve.proofs.BySlot.{All-insert, map-insert}
+use Rattle.ps_resolve.proofs.BySlot.{All-insert}
 use Rattle.ps_resolve.proofs.reading.added.put.Goals as goal
-
-pub returns-clause-segments : goal.returns-clause-segments
-returns-clause-segments c = grind (arith, map-insert)
 
 pub returns-clause-read : goal.returns-clause-read
 returns-clause-read c = λ order host libs all one. rw c.insert.ensures.items

@@ -2,8 +2,9 @@ use Rattle.std.proofs.Common.{rules, ◌<◌, ℕ, List, length, take, subst, sy
 use Rattle.std.specs.Prelude.{All}
 use Rattle.std.proofs.lemmas.List.Elements.{All-take}
 use Rattle.ps_linkinfo.specs.declared.record.LinkRecord.{LinkRecord as Record}
+use Rattle.ps_resolve.specs.Sources.{Segment}
 use Rattle.ps_resolve.specs.Added.{AreAlreadyKnown}
-use Rattle.ps_resolve.specs.Views.{SegmentView, IsLike}
+use Rattle.ps_resolve.specs.Views.{IsLike}
 use Rattle.ps_resolve.specs.declared.reading.added.UnitReference.{UnitReference}
 use Rattle.ps_resolve.proofs.Requesting.{nothing_new, requested_more}
 use Rattle.ps_resolve.proofs.Sharing.{of_shared}
@@ -15,16 +16,16 @@ loop-index-preserved c = search (rules, requested_more)
 -- the names of a segment that shares its records are known
 pub loop-index-preserved-then-shares_with : goal.loop-index-preserved-then-shares_with
 loop-index-preserved-then-shares_with c =
-    let own : List SegmentView = c.args.own.now in
+    let own : List Segment = c.args.own.now in
     let units = c.args.units.now in
     let queue : List UnitReference = c.loop-index.queue.items in
     let i : ℕ = c.loop-index.index in
     let lt : i < length own = omega arith in
-    let v : SegmentView = c.index-own-index.result in
+    let v : Segment = c.index-own-index.result in
     let inv = c.loop-index.invariant in
     let has = c.shares_with.ensures.records c.if-shares_with.true in
     let alike = All-take (IsLike v) i own
-    (subst (λ (s : SegmentView). All (IsLike s) own) (sym c.index-own-index.is)
+    (subst (λ (s : Segment). All (IsLike s) own) (sym c.index-own-index.is)
     (c.requires i v lt)) in
     let known = of_shared (λ (rs : List Record). AreAlreadyKnown units queue rs)
     (take i own) v has.0 (c.shares_with.ensures.linked c.if-shares_with.true) alike inv.known

@@ -1,9 +1,7 @@
-use Rattle.std.proofs.Common.{◌≡◌, map, drop}
+use Rattle.std.proofs.Common.{◌≡◌, drop}
 use Rattle.ps_resolve.specs.Sources.{host_of}
-use Rattle.ps_resolve.specs.Views.{segment_of}
 use Rattle.ps_resolve.proofs.reading.host.host_of.Given as goal
 
 -- the host's segment is one of those that are left
 abbrev pub invariant-loop-segment : goal.invariant-loop-segment
-invariant-loop-segment l = host_of (map segment_of (drop l.segment-index l.segments))
-    ≡ host_of (map segment_of l.segments)
+invariant-loop-segment l = host_of (drop l.segment-index l.segments) ≡ host_of l.segments

@@ -9,9 +9,9 @@ use Rattle.ps_codefile.specs.Dictionary.{slots, kind_needs_linking}
 use Rattle.ps_codefile.specs.declared.entry.Role.TheVariants.{Wanted}
 use Rattle.ps_resolve.specs.Requests.{as_requested}
 use Rattle.ps_resolve.specs.Views.{IsRead}
-use Rattle.ps_resolve.specs.Sources.{Segment, is_named, segment_from, file_at, opened}
+use Rattle.ps_resolve.specs.Sources.{is_named, segment_from, file_at, opened}
 use Rattle.ps_resolve.specs.Faults.{entries_reason, code_fault}
-use Rattle.ps_resolve.proofs.Requested.{placed_refused, placed_by, brought_by, seen_as, read_marked}
+use Rattle.ps_resolve.proofs.Requested.{placed_refused, placed_by, brought_by, read_marked}
 use Rattle.ps_resolve.proofs.ReadingLibraries.{chosen_file}
 use Rattle.ps_resolve.proofs.ReadingUnits.{kind_is}
 use Rattle.ps_resolve.proofs.Sharing.{placed_in}
@@ -115,12 +115,11 @@ returns-in_ok-segment-in-None-entries_reason c =
           c.in-Some.ensures.entry)));
       segment = brought_by host.order host.file libs r unit.library unit.dict.file unit.index
           c.in-Some.ensures.library c.in-Some.ensures.entry
-          ∙ (ap (option_map (as_requested r.requester))
+          ∙ ap (option_map (as_requested r.requester))
           (ap (λ (n : ℕ). segment_from host.order host.file libs r.slot r.name Wanted
           (n, unit.index)) (sym number)
           ∙ (ap (λ (o : Order). segment_from o host.file libs r.slot r.name Wanted
           (c.library_file-file.result, unit.index)) (sym c.in-Some.ensures.order)
-          ∙ read.ensures.segment host.file libs file))
-          ∙ ap (λ (s : Segment). Some s) (sym (seen_as r.requester read.segment)));
+          ∙ read.ensures.segment host.file libs file));
       read = read_marked host.order host.file libs r.requester read.segment is;
     })

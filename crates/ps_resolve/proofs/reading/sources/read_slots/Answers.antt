@@ -3,7 +3,7 @@ use Rattle.std.proofs.Common.{append-nil, if◌then◌else◌, true, Option, Som
 use Rattle.std.proofs.Common.{Ok, Err, refl, sym, arith}
 use Rattle.std.specs.Prelude.{is_none, IfOk, IfSome, option_and_then}
 use Rattle.std.specs.List.{range_with_len}
-use Rattle.std.specs.Option.{option_map, option_or}
+use Rattle.std.specs.Option.{option_or}
 use Rattle.std.specs.Result.{result_err, result_ok}
 use Rattle.std.proofs.lemmas.List.Elements.{All-nil}
 use Rattle.ps_words.specs.declared.fault.Fault.{Fault}
@@ -11,7 +11,6 @@ use Rattle.ps_resolve.specs.Sources.{Segment, opened}
 use Rattle.ps_codefile.specs.Roles.{is_empty}
 use Rattle.ps_resolve.specs.Faults.{is_role, source_fault, sources_fault}
 use Rattle.ps_resolve.specs.Readings.{read_segment, read_segments}
-use Rattle.ps_resolve.specs.Views.{SegmentView, segment_of}
 use Rattle.ps_resolve.specs.Searches.{first_of}
 use Rattle.ps_resolve.proofs.BySlot.{fine_of_empty, none_of_empty}
 use Rattle.ps_resolve.proofs.ReadingSources.{all_with, kept_on, few_more}
@@ -26,9 +25,9 @@ pub read_slot-read-requires-clause-read : goal.read_slot-read-requires-clause-re
 read_slot-read-requires-clause-read c = rw c.as_slice.ensures.value c.loop-slot.invariant.read
 
 -- what is kept of what was read of a slot
-kept : (fault : Option Fault) (own : Option Segment) (read : Result (Option SegmentView) Fault)
-    → result_err read ≡ fault → IfOk read (λ s. option_map segment_of s ≡ own)
-    → option_map segment_of (option_and_then (λ s. s) (result_ok read))
+kept : (fault : Option Fault) (own : Option Segment) (read : Result (Option Segment) Fault)
+    → result_err read ≡ fault → IfOk read (λ s. s ≡ own)
+    → option_and_then (λ s. s) (result_ok read)
     ≡ (elim fault [ None ↦ own | Some f ↦ None ])
 kept fault own (Err f) is h = rw (sym is) refl
 kept fault own (Ok None) is h = rw (sym is) h
@@ -39,7 +38,7 @@ by_fault : (fault : Option Fault) (own : Option Segment)
 by_fault None own = refl
 by_fault (Some f) own = refl
 
-kept_read : (P : SegmentView → Type 0) (read : Result (Option SegmentView) Fault)
+kept_read : (P : Segment → Type 0) (read : Result (Option Segment) Fault)
     → IfOk read (λ s. IfSome s P) → IfSome (option_and_then (λ s. s) (result_ok read)) P
 kept_read P (Err f) h = tt
 kept_read P (Ok None) h = tt
@@ -65,18 +64,18 @@ pub loop-slot-preserved-then-is_empty : goal.loop-slot-preserved-then-is_empty
 loop-slot-preserved-then-is_empty c =
     let host = c.args.host.now in
     let libs = opened host.order c.args.libs.now in
-    let old : List SegmentView = c.loop-slot.segments.items in
+    let old : List Segment = c.loop-slot.segments.items in
     let i : ℕ = c.loop-slot.slot in
     let empty : is_role is_empty host.order host.file i ≡ true =
     sym c.is_empty.ensures ∙ c.if-is_empty.true in
-    let none : Option SegmentView = None in
+    let none : Option Segment = None in
     grind (
       arith,
       more_faults (source_fault host.order host.file libs) c.loop-slot.first None i
           c.loop-slot-test.true (sym (fine_of_empty host.order host.file libs i empty)),
       fine_of_empty host.order host.file libs i empty,
       last_fault c.loop-slot.first,
-      kept_on segment_of (read_segment host.order host.file libs) old none i 16
+      kept_on (read_segment host.order host.file libs) old none i 16
           c.loop-slot-test.true (sym (none_of_empty host.order host.file libs i empty)),
       none_of_empty host.order host.file libs i empty,
     )

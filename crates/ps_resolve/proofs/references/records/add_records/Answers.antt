@@ -7,12 +7,12 @@ use Rattle.ps_linkinfo.specs.Records.{refs_of}
 use Rattle.ps_linkinfo.specs.RecordCounts.{units_in, publics_in, privates_in, references_in}
 use Rattle.ps_codefile.specs.Procedures.{is_reserved, ProcedureTables}
 use Rattle.ps_linkinfo.specs.declared.record.LinkRecord.{LinkRecord as Record}
+use Rattle.ps_resolve.specs.Sources.{Segment}
 use Rattle.ps_resolve.specs.Operands.{operands}
 use Rattle.ps_resolve.specs.Edits.{refs_fault_at}
 use Rattle.ps_resolve.specs.Faults.{in_segment}
 use Rattle.ps_resolve.specs.References.{Known, HaveTargets, records_fault}
 use Rattle.ps_resolve.specs.Stops.{IsStop}
-use Rattle.ps_resolve.specs.Views.{SegmentView}
 use Rattle.ps_resolve.specs.declared.linkage.RecordPlace.{RecordPlace}
 use Rattle.ps_resolve.specs.declared.linkage.Stop.{Stop}
 use Rattle.ps_resolve.proofs.Numbers.{one, none}
@@ -23,14 +23,14 @@ use Rattle.ps_resolve.proofs.references.records.add_records.Goals as goal
 use Rattle.ps_resolve.proofs.LookingBack.{words_before}
 
 -- the first fault of the records of a segment with these tables
-abbrev fault_by : Known → SegmentView → ℕ → ProcedureTables
+abbrev fault_by : Known → Segment → ℕ → ProcedureTables
     → Option (ℕ × (Option ℕ × Reason))
 fault_by known s free t = records_fault known
     (is_reserved t.order t.code) t.code 0 free [] s.records
 
 pub returns-then-privates-eq0 : goal.returns-then-privates-eq0
 returns-then-privates-eq0 g c =
-    let v : SegmentView = c.args.segment.now in
+    let v : Segment = c.args.segment.now in
     let is = sym c.requires.records in
     let no = no_links c.args.link.now.names.now
     (is_reserved c.args.link.now.order v.code) v.code v.records 0 c.args.free []
@@ -42,7 +42,7 @@ returns-then-privates-eq0 g c =
 pub returns-then-shares_with : goal.returns-then-shares_with
 returns-then-shares_with g c =
     let known : Known = c.args.link.now.names.now in
-    let v : SegmentView = c.args.segment.now in
+    let v : Segment = c.args.segment.now in
     let is = sym c.requires.records in
     let has = c.shares_with.ensures.records c.if-shares_with.true in
     let named : HaveTargets known v.records =
