@@ -1,6 +1,6 @@
 -- The blocks of codes whose slots ascend.
 use Rattle.std.proofs.Common.{◌≡◌, ◌≤◌, ◌==◌, ◌∷◌, length-append, ◌∙◌}
-use Rattle.std.proofs.Common.{ℕ, List, map, take, drop, None, refl, sym, ap}
+use Rattle.std.proofs.Common.{ℕ, List, map, take, drop, None, refl}
 use Rattle.std.proofs.Common.{◌+◌, ◌*◌, ◌<◌, [], ◌++◌, length, arith}
 use Rattle.ps_linkfile.proofs.Words.{nat_lt, filter, find, blocks, Order, Origin, pair_of, Ascend}
 use Rattle.ps_linkfile.proofs.Words.{All, All-nil, All-cons, All-head, All-tail, MAX_WORD, block_of}
@@ -135,10 +135,7 @@ module _ (all : List Origin) (count : ℕ) (starts : List ℕ) (block from : ℕ
         few = omega arith;
         small = omega arith;
         many = length-append starts (block ∷ []) ∙ omega arith;
-        begins = ap (λ bs. bs ++ block ∷ []) h.begins
-            ∙ (ap (λ b. map start (take count all) ++ b ∷ []) (sym begins)
-            ∙ (sym (map-append start (take count all) (o ∷ []))
-            ∙ ap (λ os. map start os) (sym more)));
+        begins = rw (h.begins, more, map-append, begins);
         blocks = omega arith;
       }
 

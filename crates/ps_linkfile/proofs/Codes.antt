@@ -1,6 +1,6 @@
 -- The codes of a plan's sources, one after another.
 use Rattle.std.proofs.Common.{◌≡◌, ℕ, ◌+◌, ◌*◌, List, [], ◌∷◌, ◌++◌}
-use Rattle.std.proofs.Common.{length, drop, Option, ◌∙◌, subst, append_assoc, arith}
+use Rattle.std.proofs.Common.{length, drop, Option, ◌∙◌, append_assoc, arith}
 use Rattle.std.proofs.Common.{length-append}
 use Rattle.ps_linkfile.proofs.Words.{length-map-range_with_len, Appends, blocks, Order, Edit}
 use Rattle.ps_linkfile.proofs.Words.{Origin, patched_or_zero, all_blocks, padded_code}
@@ -25,8 +25,7 @@ pub record IsAt (os : List Origin) (ds : List (List Edit)) (count : ℕ) (o : Or
 pub edits_here : (os : List Origin) (ds : List (List Edit)) (count : ℕ) (o : Origin)
     (d : List Edit) → IsAt os ds count o d → HaveEdits (drop count os) (drop count ds)
     → HaveEdits (o ∷ drop (count + 1) os) (d ∷ drop (count + 1) ds)
-edits_here os ds count o d at h = subst (λ (es : List (List Edit)). HaveEdits (o ∷ drop (count
-    + 1) os) es) at.edits (subst (λ (ps : List Origin). HaveEdits ps (drop count ds)) at.origin h)
+edits_here os ds count o d at h = rw (at.origin, at.edits) at h
 
 -- the codes so far, the code of this source and those after it are all codes
 joined_here : (order : Order) (os : List Origin) (ds : List (List Edit))

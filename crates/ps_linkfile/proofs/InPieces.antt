@@ -1,6 +1,5 @@
 -- A list that is given in pieces.
-use Rattle.std.proofs.Common.{◌≡◌, ℕ, ◌+◌, List, ◌++◌, take, drop, sym, ◌∙◌}
-use Rattle.std.proofs.Common.{ap}
+use Rattle.std.proofs.Common.{◌≡◌, ℕ, ◌+◌, List, ◌++◌, take, drop}
 use Rattle.ps_linkfile.proofs.Words.{flat_map, drop-drop, take-append-drop}
 use Rattle.std.proofs.lemmas.Grind.{flat_map-append}
 
@@ -8,6 +7,4 @@ use Rattle.std.proofs.lemmas.Grind.{flat_map-append}
 pub one_piece : {X : Type 0} (line_of : X → List ℕ) (xs : List X) (i n : ℕ)
     → flat_map line_of (take n (drop i xs)) ++ flat_map line_of (drop (i + n) xs)
     ≡ flat_map line_of (drop i xs)
-one_piece line_of xs i n = ap (λ ys. flat_map line_of (take n (drop i xs)) ++ flat_map line_of ys)
-    (sym (drop-drop n i xs)) ∙ (sym (flat_map-append line_of (take n (drop i xs))
-    (drop n (drop i xs))) ∙ ap (flat_map line_of) (take-append-drop n (drop i xs)))
+one_piece line_of xs i n = rw (← drop-drop n i xs, ← flat_map-append, take-append-drop)

@@ -1,22 +1,16 @@
 -- The map of a plan is the map of its link, and the line of a source.
 use Rattle.std.proofs.Common.{◌≡◌, ℕ, zero, suc, ◌+◌, ◌≤◌, ◌<◌, List, []}
-use Rattle.std.proofs.Common.{◌∷◌, ◌++◌, length, map, get_or, Option, Some, refl, sym}
+use Rattle.std.proofs.Common.{◌∷◌, ◌++◌, length, map, get_or, Some, refl, sym}
 use Rattle.std.proofs.Common.{◌∙◌, ap, arith}
-use Rattle.ps_linkfile.proofs.Words.{find, flat_map, option_map_or, get_or-map-range_with_len}
+use Rattle.ps_linkfile.proofs.Words.{find, flat_map, get_or-map-range_with_len}
 use Rattle.ps_linkfile.proofs.Words.{Segment, Planned, Origin, origin_of, origin_of_source, IsPlan}
-use Rattle.ps_linkfile.proofs.Words.{Source, block_of, starts_of, Ascend}
-use Rattle.std.specs.Prelude.{◌≢◌, ◌==◌, false, slice_get}
-use Rattle.std.proofs.lemmas.Bool.{ne_eqb}
+use Rattle.ps_linkfile.proofs.Words.{nat_tests, Source, block_of, starts_of, Ascend}
+use Rattle.std.specs.Prelude.{◌==◌, slice_get}
 use Rattle.std.proofs.lemmas.Option.{unwrap_or-slice_get}
-use Rattle.ps_codefile.specs.Dictionary.{slots, name_at}
 use Rattle.ps_resolve.specs.Added.{slot_name, slot_names}
 use Rattle.ps_linkfile.specs.MapText.{code_line, segment_line, name_in, source_line, map_of, map_in}
 use Rattle.ps_linkfile.proofs.Slots.{segments_ascend}
 use Rattle.ps_linkfile.proofs.Views.{no_source, start_at}
-
--- each segment of a list that rises by slot is found there by its slot
-other_slot : (slot : ℕ) (s : Segment) → s.slot ≢ slot → (s.slot == slot) ≡ false
-other_slot slot s differs = ne_eqb s.slot slot differs
 
 -- of a list that rises from a number on, each segment has a slot not below it and below 16, and is
 -- found by this slot
@@ -26,7 +20,7 @@ found_in : (ss : List Segment) (from : ℕ) → Ascend from (map origin_of ss)
 found_in [] from a i s h = cc
 found_in (t ∷ ss) from a zero s h = grind arith
 found_in (t ∷ ss) from a (suc i) s h =
-    grind (arith, other_slot, found_in ss (t.slot + 1) a.2 i s h)
+    grind (arith, nat_tests, found_in ss (t.slot + 1) a.2 i s h)
 
 -- the name of a segment is that of its slot, among the names of all
 name_within : (host : List ℕ) (ss : List Segment) → Ascend 0 (map origin_of ss) → (i : ℕ)
@@ -34,9 +28,12 @@ name_within : (host : List ℕ) (ss : List Segment) → Ascend 0 (map origin_of 
 unfolding slot_names
 name_within host ss a i s h =
     let found = found_in ss 0 a i s h in
-    unwrap_or-slice_get (map (slot_name host ss) slots) s.slot [] ∙ (get_or-map-range_with_len
-    (slot_name host ss) 0 16 s.slot s.slot [] found.1 (omega arith) ∙ ap (λ
-    (o : Option Segment). option_map_or (λ (t : Segment). t.name) o (name_at host s.slot)) found.2)
+    rw (
+      unwrap_or-slice_get,
+      get_or-map-range_with_len (slot_name host ss) 0 16 s.slot s.slot []
+          found.1 (omega arith),
+      found.2,
+    )
 
 -- the lines of the sources are those of the segments
 lines_are : (names : List (List ℕ)) (all : List Origin) (ss : List Segment)
@@ -44,9 +41,8 @@ lines_are : (names : List (List ℕ)) (all : List Origin) (ss : List Segment)
     → flat_map (source_line names all) (map origin_of ss) ≡ flat_map (segment_line all) ss
 lines_are names all [] h = refl
 lines_are names all (s ∷ ss) h =
-    ap (λ name. code_line s.slot name s.file s.index (block_of all s.slot) (length
-    s.code) s.added ++ flat_map (source_line names all) (map origin_of ss)) (h zero s refl) ∙ ap
-    (λ bs. segment_line all s ++ bs) (lines_are names all ss (λ i t e. h (suc i) t e))
+    rw (h zero s refl) (ap (λ bs. segment_line all s ++ bs)
+    (lines_are names all ss (λ i t e. h (suc i) t e)))
 
 four : (a b c d e f g h : List ℕ) → a ≡ e → b ≡ f → c ≡ g → d ≡ h
     → a ++ b ++ c ++ d ≡ e ++ f ++ g ++ h

@@ -40,16 +40,19 @@ prefix_from a c prefix rest bs e h = (length prefix, rw (← e, take-append_seam
 pub prefix_more : (a b c : Option (List ℕ)) (xs ys zs bs : List ℕ) → xs ++ (ys ++ zs) ≡ bs
     → Appends a b xs → AppendsPrefix b c ys → AppendsPrefix a c bs
 prefix_more a b c xs ys zs bs e h k = prefix_from a c (xs ++ take k.0 ys) (drop k.0 ys ++ zs) bs
-    (append_assoc xs (take k.0 ys) (drop k.0 ys ++ zs) ∙ (ap (λ us. xs ++ us)
-    (sym (append_assoc (take k.0 ys) (drop k.0 ys) zs) ∙ ap (λ us. us ++ zs)
-    (take-append-drop k.0 ys)) ∙ e)) (appends_twice a b c xs (take k.0 ys) h k.1)
+    (rw (
+      append_assoc xs (take k.0 ys) (drop k.0 ys ++ zs),
+      ← append_assoc (take k.0 ys)
+          (drop k.0 ys) zs,
+      take-append-drop,
+    ) e) (appends_twice a b c xs (take k.0 ys) h k.1)
 
 -- a prefix, of which more may follow
 pub prefix_then : (a c : Option (List ℕ)) (ys zs : List ℕ) → AppendsPrefix a c ys
     → AppendsPrefix a c (ys ++ zs)
 prefix_then a c ys zs k =
-    prefix_from a c (take k.0 ys) (drop k.0 ys ++ zs) (ys ++ zs) (sym (append_assoc (take k.0 ys)
-    (drop k.0 ys) zs) ∙ ap (λ (us : List ℕ). us ++ zs) (take-append-drop k.0 ys)) k.1
+    prefix_from a c (take k.0 ys) (drop k.0 ys ++ zs) (ys ++ zs)
+    (rw (← append_assoc (take k.0 ys) (drop k.0 ys) zs, take-append-drop)) k.1
 
 -- some bytes, and then a prefix of the rest
 pub prefix_last : (a b c : Option (List ℕ)) (xs ys : List ℕ) → Appends a b xs

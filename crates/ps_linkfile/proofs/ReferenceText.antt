@@ -1,6 +1,6 @@
 -- The text of references, which is written from the last one on.
 use Rattle.std.proofs.Common.{◌≡◌, ℕ, ◌+◌, ◌-◌, ◌<◌, ◌≤◌, ◌++◌, List}
-use Rattle.std.proofs.Common.{◌∷◌, length, take, drop, get_or, sym, ◌∙◌, ap, arith}
+use Rattle.std.proofs.Common.{◌∷◌, length, take, drop, get_or, ◌∙◌, ap, arith}
 use Rattle.std.proofs.Common.{add-one, refl}
 use Rattle.ps_linkfile.proofs.Words.{flat_map, MAX_WORD, reference, PIECE_REFERENCES}
 use Rattle.std.specs.Prelude.{decimal, min}
@@ -18,8 +18,7 @@ take_one x xs n = rw add-one refl
 pub one_more : (xs : List ℕ) (i n : ℕ) → i < length xs
     → reference (get_or xs i 0) ++ flat_map reference (take n (drop (i + 1) xs))
     ≡ flat_map reference (take (n + 1) (drop i xs))
-one_more xs i n h = sym (ap (λ ys. flat_map reference (take (n + 1) ys))
-    (drop_one xs i h) ∙ ap (flat_map reference) (take_one (get_or xs i 0) (drop (i + 1) xs) n))
+one_more xs i n h = rw (drop_one xs i h, take_one)
 
 -- a piece has all that are left, and at most PIECE_REFERENCES
 pub piece_is : (xs : List ℕ) (i end : ℕ) → i ≤ length xs → end ≡ min (length xs)

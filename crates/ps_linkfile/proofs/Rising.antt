@@ -81,6 +81,11 @@ next_blocks os count n o at h = sum (all_blocks os) (all_blocks (drop count os))
         → n + one + rest ≡ all
     sum all here rest one h k = omega arith
 
+-- some blocks and then more are within all of them, in bytes and in blocks
+within : (x y rest all : ℕ) → x + y + rest ≡ all
+    → (512 * x + 512 * y ≤ 512 * all) × (x + y ≤ all)
+within x y rest all h = (omega arith, omega arith)
+
 -- none is written yet
 pub blocks_none : (os : List Origin) (c : Counts) → BlocksSoFar os 0 0 c c
 blocks_none os c = record {
@@ -103,25 +108,19 @@ module _ (os : List Origin) (count n : ℕ) (o : Origin) (a b : Counts) where
       (blocks (length o.code)) → Rises a c (512 * all_blocks os) (all_blocks os)
   blocks_stop c at h k =
       let one = blocks (length o.code) in
-      let fits = within n one (all_blocks (drop (count + 1) os)) (all_blocks os)
+      let (bytes, few) = within n one (all_blocks (drop (count + 1) os)) (all_blocks os)
       (next_blocks os count n o at h.sum) in
-      rises_then a b c (512 * n) n (512 * one) one (512 * all_blocks os)
-      (all_blocks os) h.rises k fits.0 fits.1
-    where
-      within : (x y rest all : ℕ) → x + y + rest ≡ all
-          → (512 * x + 512 * y ≤ 512 * all) × (x + y ≤ all)
-      within x y rest all h = (omega arith, omega arith)
+      rises_then a b c (512 * n) n (512 * one) one (512 * all_blocks os) (all_blocks os) h.rises k
+      bytes few
 
   -- there is room for the blocks of one source more
   pub blocks_room : drop count os ≡ o ∷ drop (count + 1) os → BlocksSoFar os count n a b
       → CanCount a (512 * all_blocks os) → CanCount b (512 * blocks (length o.code))
   blocks_room at h room =
       let one = blocks (length o.code) in
-      room_left a b (512 * all_blocks os) (512 * n) n (512 * one) room h.rises h.none (within n one
-      (all_blocks (drop (count + 1) os)) (all_blocks os) (next_blocks os count n o at h.sum))
-    where
-      within : (x y rest all : ℕ) → x + y + rest ≡ all → 512 * x + 512 * y ≤ 512 * all
-      within x y rest all h = omega arith
+      room_left a b (512 * all_blocks os) (512 * n) n (512 * one) room h.rises h.none
+      (within n one (all_blocks (drop (count + 1) os)) (all_blocks os)
+      (next_blocks os count n o at h.sum)).0
 
 -- all are written
 pub blocks_done : (os : List Origin) (count n : ℕ) (a b : Counts) → drop count os ≡ []

@@ -1,6 +1,6 @@
 -- Text that is gathered in front of a writer, and sent to it.
 use Rattle.std.proofs.Common.{arith, ◌≡◌, ℕ, List, [], ◌++◌, true, false, Option, Some}
-use Rattle.std.proofs.Common.{None, append_assoc, append-nil, sym, ◌∙◌, ap, subst}
+use Rattle.std.proofs.Common.{None, append_assoc, append-nil, sym, ◌∙◌, ap}
 use Rattle.ps_linkfile.proofs.Words.{is_some, Appends, failures_with, AppendsPrefix, WriteFault}
 use Rattle.ps_linkfile.proofs.Words.{Failures}
 use Rattle.std.proofs.lemmas.Bool.{false≢true}
@@ -33,8 +33,7 @@ module _ (first old new : Option (List ℕ)) (text gathered bytes : List ℕ) wh
   pub sent_prefix : (fault : Option WriteFault) → is_some fault ≡ false
       → IsSent first text old gathered fault → AppendsPrefix old new (gathered ++ bytes)
       → AppendsPrefix first new (text ++ bytes)
-  sent_prefix None e h k = subst (λ xs. AppendsPrefix first new xs)
-      (sym (append_assoc h.0 gathered bytes) ∙ ap (λ xs. xs ++ bytes) h.2)
+  sent_prefix None e h k = rw (← append_assoc h.0 gathered bytes, h.2) at
       (prefix_last first old new h.0 (gathered ++ bytes) h.1 k)
   sent_prefix (Some fault) e h k = absurd (false≢true (sym e))
 

@@ -47,8 +47,7 @@ pub shown_is : (file : List ℕ) (found : FileOrder) (o : OpenedFile) → found 
     → o ≡ record { order = known_order (file_order file); file = file }
     → shown_file found o.order o.file ≡ show_of file
 unfolding show_of
-shown_is file found o h k = ap (λ f. shown_file f o.order o.file) h
-    ∙ ap (λ (q : OpenedFile). shown_file (file_order file) q.order q.file) k
+shown_is file found o h k = rw (h, k)
 
 -- the names of those that pass, with one number more
 pub names_more : {X : Type 0} (test : ℕ → Bool) (name : ℕ → X) (xs new all : List X)

@@ -1,7 +1,6 @@
 -- The JSON show of a file: the link information of a slot.
 use Rattle.std.proofs.Common.{◌≡◌, ℕ, List, ◌++◌}
 use Rattle.std.proofs.Common.{append_assoc, true, Ok, Err}
-use Rattle.std.proofs.Common.{◌∙◌, ap}
 use Rattle.ps_linkfile.proofs.Words.{Order, Reason, OpenedFile, FileOrder}
 use Rattle.ps_linkfile.proofs.Words.{file_order, entry_at, code_of, information_of, reading}
 use Rattle.ps_linkfile.proofs.Words.{known_order}
@@ -15,8 +14,7 @@ pub json_is : (file : List ℕ) (found : FileOrder) (o : OpenedFile) → found �
     → o ≡ record { order = known_order (file_order file); file = file }
     → shown_json found o.order o.file ≡ show_json_of file
 unfolding show_json_of
-json_is file found o h k = ap (λ f. shown_json f o.order o.file) h
-    ∙ ap (λ (q : OpenedFile). shown_json (file_order file) q.order q.file) k
+json_is file found o h k = rw (h, k)
 
 module _ (order : Order) (file : List ℕ) (slot : ℕ) where
   -- the members of a slot whose code is refused

@@ -60,14 +60,13 @@ part_same xs ys part a b p h k le lt =
 -- a part of a list, between what is before it and what is after it
 part_between : (file xs ys zs : List ℕ) (a b : ℕ) → file ≡ xs ++ (ys ++ zs)
     → length xs ≡ a → length ys ≡ b - a → slice_range file a b ≡ ys
-part_between file xs ys zs a b is before len = ap (λ us. slice_range us a b) is
-    ∙ (ap (λ us. take (b - a) us) (drop_at xs (ys ++ zs) a before) ∙ take_at ys zs (b - a) len)
+part_between file xs ys zs a b is before len =
+    rw (is, drop_at xs (ys ++ zs) a before) (take_at ys zs (b - a) len)
 
 -- the part after so many
 behind : (xs ys : List ℕ) (n j : ℕ) → length xs ≡ n
     → get_or (xs ++ ys) (n + j) 0 ≡ get_or ys j 0
-behind xs ys n j len = ap (λ k. get_or (xs ++ ys) (k + j) 0) (sym len)
-    ∙ get_or-append-add xs ys j 0
+behind xs ys n j len = rw (← len) (get_or-append-add xs ys j 0)
 
 -- a code with its edits is at the block of its slot, with zeros up to the end of its last block
 abbrev IsLaid : Order → List ℕ → List Origin → Edited → Type 0
@@ -122,9 +121,8 @@ module _ (order : Order) where
       let at : block_of all e.segment.slot ≡ block =
       first_block all from block (origin_of e.segment) os left in
       All-cons (IsLaid order (prefix ++ (code ++ rest)) all) e es
-      (λ p lt. ap (λ b. get_or (prefix ++ (code ++ rest)) (512 * b + p) 0) at
-      ∙ (behind prefix (code ++ rest) (512 * block) p len
-      ∙ (get_or_append_left code rest 0 p (omega (arith, padded_len e)) ∙ padded_at e p lt)))
+      (λ p lt. rw (at, behind prefix (code ++ rest) (512 * block) p len)
+      (get_or_append_left code rest 0 p (omega (arith, padded_len e)) ∙ padded_at e p lt))
       (rw (append_assoc prefix code rest) at (laid all (prefix ++ code) (e.segment.slot + 1)
       (block + blocks (length e.segment.code)) es
       (left_more all from block (origin_of e.segment) os left)

@@ -11,11 +11,8 @@ loop-source-init c = rw c.new-starts.ensures
 
 pub overflow_cast-blocks : goal.overflow_cast-blocks
 overflow_cast-blocks c =
-    let ss = c.args.sources.now in
-    let i = c.loop-source.source-index in
-    let (count, block) =
-    laid_next (map origin_of_source ss) i _ _ _ (origin_of_source (get_or ss i no_source))
-    (view_at origin_of_source ss i no_source c.loop-source-test.true) c.loop-source.invariant.1 in
+    let (count, block) = laid_next _ _ _ _ _ _
+    (view_at origin_of_source _ _ no_source c.loop-source-test.true) c.loop-source.invariant.1 in
     omega (arith, block)
 
 pub overflow_add-blocks : goal.overflow_add-blocks
@@ -23,11 +20,8 @@ overflow_add-blocks c = grind (arith, laid_next, origin_of_source, no_source, vi
 
 pub push-requires : goal.push-requires
 push-requires c =
-    let ss = c.args.sources.now in
-    let i = c.loop-source.source-index in
-    let (count, block) =
-    laid_next (map origin_of_source ss) i _ _ _ (origin_of_source (get_or ss i no_source))
-    (view_at origin_of_source ss i no_source c.loop-source-test.true) c.loop-source.invariant.1 in
+    let (count, block) = laid_next _ _ _ _ _ _
+    (view_at origin_of_source _ _ no_source c.loop-source-test.true) c.loop-source.invariant.1 in
     omega (arith, count, c.loop-source.invariant.1.many)
 
 pub loop-source-preserved : goal.loop-source-preserved
@@ -45,7 +39,9 @@ pub returns-clause-starts : goal.returns-clause-starts
 returns-clause-starts c = grind (arith, laid_done, origin_of_source, length-map)
 
 pub returns-clause-blocks : goal.returns-clause-blocks
-returns-clause-blocks c =
-    let ss = c.args.sources.now in
-    (laid_done (map origin_of_source ss) c.loop-source.source-index _ _ _ (omega
-    (arith, length-map ss origin_of_source, c.loop-source-test.false)) c.loop-source.invariant.1).1
+returns-clause-blocks c = (laid_done _ _ _ _ _ (omega (
+  arith,
+  length-map c.args.sources.now
+      origin_of_source,
+  c.loop-source-test.false,
+)) c.loop-source.invariant.1).1

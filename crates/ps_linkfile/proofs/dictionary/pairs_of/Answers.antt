@@ -1,5 +1,5 @@
 use Rattle.std.proofs.Common.{◌≡◌, ◌+◌, ◌*◌, length, map, get_or, sym, ◌∙◌}
-use Rattle.std.proofs.Common.{arith}
+use Rattle.std.proofs.Common.{arith, rules}
 use Rattle.ps_linkfile.proofs.Words.{length-map, blocks, origin_of_source}
 use Rattle.ps_linkfile.proofs.Pairs.{IsPut, pairs_none, pairs_more, pairs_done}
 use Rattle.ps_linkfile.proofs.Views.{no_source, view_at, size_at, slot_at}
@@ -37,22 +37,9 @@ loop-k-preserved c =
     let item = origin_of_source (get_or ss k no_source) in
     let start = get_or c.args.starts.now k 0 in
     let (block, from, so_far) = c.loop-k.invariant in
-    let first : IsPut order c.loop-k.pairs c.put.new.bytes (4 * item.slot) start =
-    record {
-      first = c.put.ensures.first;
-      second = c.put.ensures.second;
-      others =
-          c.put.ensures.others;
-      size = c.put.ensures.length;
-    } in
+    let first : IsPut order c.loop-k.pairs c.put.new.bytes (4 * item.slot) start = search rules in
     let second : IsPut order c.put.new.bytes c.put-in-loop-k.new.bytes
-    (4 * item.slot + 2) (length item.code) =
-    record {
-      first = c.put-in-loop-k.ensures.first;
-      second = c.put-in-loop-k.ensures.second;
-      others = c.put-in-loop-k.ensures.others;
-      size = c.put-in-loop-k.ensures.length;
-    } in (
+    (4 * item.slot + 2) (length item.code) = search rules in (
       block + blocks (length item.code),
       item.slot + 1,
       pairs_more order all k _ _ _ block from start item

@@ -1,6 +1,5 @@
-use Rattle.std.proofs.Common.{◌≡◌, ◌≤◌, ◌+◌, ◌-◌, ◌++◌, ◌∙◌, ℕ}
-use Rattle.std.proofs.Common.{List, [], drop, take, length, get_or, ap, sym, arith}
-use Rattle.ps_linkfile.proofs.Words.{flat_map, reference}
+use Rattle.std.proofs.Common.{◌≡◌, ◌≤◌, ◌+◌, ◌-◌, ℕ}
+use Rattle.std.proofs.Common.{List, [], drop, length, arith}
 use Rattle.std.proofs.Math.ListN.{drop_of_length-le}
 use Rattle.ps_linkfile.proofs.ReferenceText.{one_more}
 use Rattle.ps_linkfile.proofs.pieces.write_piece.Goals as goal
@@ -23,16 +22,10 @@ loop-step-preserved c =
     let behind : i + 1 ≡ c.args.end - step = omega arith in
     let next : i ≡ c.args.end - (step + 1) = omega arith in
     let inv = c.loop-step.invariant in
-    let old : List ℕ = drop c.loop-step.start c.loop-step.piece in
     let written = c.write_reference-start.ensures in
     record {
       begins = omega (arith, inv.begins, written.begins);
       inside = omega (arith, inv.inside, written.before);
-      text = written.text
-          ∙ (ap (λ n. reference n ++ old) c.get.ensures
-          ∙ (ap (λ ys. reference (get_or refs i 0) ++ ys)
-          (inv.text ∙ ap (λ n. flat_map reference (take step (drop n refs)))
-          (sym behind))
-          ∙ (one_more refs i step (omega arith)
-          ∙ ap (λ n. flat_map reference (take (step + 1) (drop n refs))) next)));
+      text = rw (written.text, c.get.ensures, inv.text, ← behind, ← next)
+          (one_more refs i step (omega arith));
     }

@@ -1,6 +1,6 @@
-use Rattle.std.proofs.Common.{◌≡◌, ◌++◌, ◌+◌, ◌*◌, ◌∙◌, ℕ, List, drop}
-use Rattle.std.proofs.Common.{take, ap, arith, refl, sym}
-use Rattle.ps_linkfile.proofs.Words.{flat_map, reference, PIECE_REFERENCES}
+use Rattle.std.proofs.Common.{◌≡◌, ◌+◌, ◌*◌, ℕ, List}
+use Rattle.std.proofs.Common.{arith, refl, sym}
+use Rattle.ps_linkfile.proofs.Words.{reference, PIECE_REFERENCES}
 use Rattle.ps_linkfile.proofs.InPieces.{one_piece}
 use Rattle.ps_linkfile.proofs.Written.{none_yet, some_more}
 use Rattle.ps_linkfile.proofs.show.add_references.Goals as goal
@@ -16,7 +16,5 @@ loop-index-preserved g c =
     let i : ℕ = c.loop-index.index in
     let next : PIECE_REFERENCES * (i + 1) ≡ PIECE_REFERENCES * i + PIECE_REFERENCES =
     omega arith in
-    let split = ap (λ n. flat_map reference (take PIECE_REFERENCES
-    (drop (PIECE_REFERENCES * i) refs)) ++ flat_map reference (drop n refs)) next
-    ∙ one_piece reference refs (PIECE_REFERENCES * i) PIECE_REFERENCES in
-    some_more (sym split) c.loop-index.invariant c.add_piece.ensures
+    let split = one_piece reference refs (PIECE_REFERENCES * i) PIECE_REFERENCES in
+    some_more (rw next (sym split)) c.loop-index.invariant c.add_piece.ensures

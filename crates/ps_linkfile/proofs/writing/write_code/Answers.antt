@@ -1,7 +1,6 @@
 use Rattle.std.proofs.Common.{◌≡◌, ◌∙◌, ◌*◌, ◌+◌, ◌++◌, ◌-◌, ◌<◌}
-use Rattle.std.proofs.Common.{ℕ, length, map, ap, refl, sym, arith, get_or}
+use Rattle.std.proofs.Common.{length, map, ap, refl, sym, arith}
 use Rattle.ps_linkfile.proofs.Words.{min, range_with_len, blocks, patched_or_zero}
-use Rattle.ps_patch.specs.Patcher.{Patching}
 use Rattle.ps_linkfile.proofs.Prefixes.{appends_twice, image_is, image_split, prefix_more}
 use Rattle.ps_linkfile.proofs.Prefixes.{on_err_always}
 use Rattle.ps_linkfile.proofs.Rising.{none_after, rises_then}
@@ -12,25 +11,17 @@ loop-patcher-preserved g c =
     let n = length c.args.code.now in
     let (at, inv) = c.loop-patcher.invariant in
     let f = patched_or_zero c.args.order c.args.code.now c.args.edits.now in
-    let task : ℕ → Patching = λ m. record
-    { order = c.args.order; code = c.args.code.now; edits = c.args.edits.now; position = m } in
     let some : c.fill.result ≡ min 512 (n - min (512 * at) n) =
     rw inv.is at c.fill.ensures.count in
     let below : 512 * at < n = omega (arith, some, c.loop-patcher-test.true) in
     let here : min (512 * at) n ≡ 512 * at = omega (arith, below) in
-    let is : c.loop-patcher.patcher ≡ task (512 * at) = inv.is ∙ ap task here in
-    let bytes : (k : ℕ) → k < 512 → get_or c.fill.new.block k 0 ≡ f (512 * at + k) =
-    λ k lt.
-    rw is at (c.fill.ensures.block k lt)
-    in
-    let moved : c.fill.new.self ≡ task (512 * at + c.fill.result) =
-    rw is at c.fill.ensures.moves in
-    let next : 512 * at + c.fill.result ≡ min (512 * (at + 1)) n = omega (arith, some, below) in
-    let block = image_is f (512 * at) 512 c.fill.new.block (omega arith) bytes in (
+    let block = image_is f (512 * at) 512 c.fill.new.block (omega arith)
+    (rw (inv.is, here) at c.fill.ensures.block) in
+    let next : 512 * at + c.fill.result ≡ min (512 * (at + 1)) n = omega (arith, some, below) in (
       at + 1,
       record {
         within = omega (arith, below);
-        is = moved ∙ ap task next;
+        is = rw (inv.is, here, next) at c.fill.ensures.moves;
         written = rw (image_split f 0 (512 * at) 512 (512 * (at + 1)) (512 * at) (omega arith)
             (omega arith))
             (appends_twice _ _ _ _ _ inv.written
@@ -47,16 +38,12 @@ returns-in_err-write_all_of-clause-prefix g c =
     let n = length c.args.code.now in
     let (at, inv) = c.loop-patcher.invariant in
     let f = patched_or_zero c.args.order c.args.code.now c.args.edits.now in
-    let task : ℕ → Patching = λ m. record
-    { order = c.args.order; code = c.args.code.now; edits = c.args.edits.now; position = m } in
     let some : c.fill.result ≡ min 512 (n - min (512 * at) n) =
     rw inv.is at c.fill.ensures.count in
     let below : 512 * at < n = omega (arith, some, c.loop-patcher-test.true) in
     let here : min (512 * at) n ≡ 512 * at = omega (arith, below) in
-    let is : c.loop-patcher.patcher ≡ task (512 * at) = inv.is ∙ ap task here in
-    let bytes : (k : ℕ) → k < 512 → get_or c.fill.new.block k 0 ≡ f (512 * at + k) =
-    λ k lt. rw is at (c.fill.ensures.block k lt) in
-    let block = image_is f (512 * at) 512 c.fill.new.block (omega arith) bytes in
+    let block = image_is f (512 * at) 512 c.fill.new.block (omega arith)
+    (rw (inv.is, here) at c.fill.ensures.block) in
     let whole = 512 * blocks n in
     let rest = map f (range_with_len (512 * at + 512) (whole - (512 * at + 512))) in
     on_err_always c.from_residual.result (prefix_more _ _ _ (map f (range_with_len 0 (512 * at)))
