@@ -1,11 +1,12 @@
 -- Each unit that a record of the link requests has its segment there, where the rounds end without
 -- a fault.
 use Rattle.std.proofs.Common.{rules, ◌≡◌, ℕ, zero, suc, ◌+◌, ◌<◌, ◌≤◌, List}
-use Rattle.std.proofs.Common.{[], ◌∷◌, ◌++◌, Option, Some, None, Bool, true, false, refl}
+use Rattle.std.proofs.Common.{[], ◌∷◌, ◌++◌, Option, Some, None, Bool, true, refl}
 use Rattle.std.proofs.Common.{sym, ap, subst, ◌∙◌, inl, inr, arith, is_some}
 use Rattle.ps_laws.proofs.Words.{◌⊎◌, if◌then◌else◌, ◌&&◌, ◌==◌, Decides}
 use Rattle.ps_laws.proofs.Words.{slice_get, list_any, find, lookup, option_or, bytes_eq}
-use Rattle.ps_laws.proofs.Words.{false≢true, Decides-at, Decides-and, Decides-like, Decides-eqb}
+use Rattle.ps_laws.proofs.Words.{enumerate_from, filter_map}
+use Rattle.ps_laws.proofs.Words.{Decides-at, Decides-and, Decides-like, Decides-eqb}
 use Rattle.ps_laws.proofs.Words.{bytes_eq-Decides, slots, is_unit_reference, unit_references}
 use Rattle.ps_laws.proofs.Words.{all_unit_references, requested_from, added_segments, added_fault}
 use Rattle.ps_laws.proofs.Words.{SomeItem, IsSegment, Record, is_role, is_unit, is_empty, Segment}
@@ -16,7 +17,8 @@ use Rattle.ps_resolve.specs.Added.{segment_at, segments}
 use Rattle.ps_resolve.specs.Sources.{own_segments}
 use Rattle.ps_laws.proofs.Looking.{of_test, any_of_items, find_none}
 use Rattle.ps_laws.proofs.Items.{In, all_in, not_apart, in_left, in_right, in_flat, in_filter_map}
-use Rattle.ps_laws.proofs.Items.{of_filter_map, in_range, of_range, of_filter, filter_ascends}
+use Rattle.ps_laws.proofs.Items.{in_numbered, of_filter_map, in_range, of_range, of_filter}
+use Rattle.ps_laws.proofs.Items.{filter_ascends}
 use Rattle.ps_resolve.proofs.EachSegment.{at_slot}
 use Rattle.ps_laws.proofs.Segments.{found_in_slot}
 use Rattle.ps_resolve.proofs.EachRound.{own_units, references_of}
@@ -123,33 +125,26 @@ module _ (order : Order) (host : List ℕ) (libs : List (List ℕ)) where
         | inr u ↦ inr u.2
       ]
 
+-- the unit reference of a record, if it is a UNITREF
+abbrev pub reference_in : ℕ → ℕ → ℕ × Record → Option UnitReference
+reference_in file slot r = if is_unit_reference r.1.body
+    then Some (record { name = r.1.name; file = file; slot = slot; rec = r.0 }) else None
+
+pub references_are : (file slot n : ℕ) (rs : List Record) → unit_references file slot n rs
+    ≡ filter_map (reference_in file slot) (enumerate_from n rs)
+references_are file slot n [] = refl
+references_are file slot n (r ∷ rs) = grind (arith, references_are file slot (n + 1) rs)
+
 -- each UNITREF of a sequence of records has its unit reference, with its name and its number
 pub reference_of : (file slot n : ℕ) (rs : List Record) (j : ℕ) (r : Record)
     → slice_get rs j ≡ Some r → is_unit_reference r.body ≡ true → (p : ℕ)
     × (g : UnitReference) × (slice_get (unit_references file slot n rs) p ≡ Some g)
     × (g.name ≡ r.name) × (g.rec ≡ n + j)
-reference_of file slot n [] j r e u = absurd (cc)
-reference_of file slot n (q ∷ rs) j r e u =
-    go (is_unit_reference q.body) refl j e (λ k h. reference_of file slot (n + 1) rs k r h u)
-  where
-    Q : UnitReference
-    Q = record { name = q.name; file = file; slot = slot; rec = n }
-
-    Found : ℕ → ℕ → List UnitReference → Type 0
-    Found m j gs = (p : ℕ) × (g : UnitReference) × (slice_get gs p ≡ Some g)
-        × (g.name ≡ r.name) × (g.rec ≡ m + j)
-
-    go : (b : Bool) → is_unit_reference q.body ≡ b
-        → (j : ℕ) → slice_get (q ∷ rs) j ≡ Some r → ((k : ℕ)
-        → slice_get rs k ≡ Some r → Found (n + 1) k (unit_references file slot (n + 1) rs))
-        → Found n j (if b then record { name = q.name; file = file; slot = slot; rec = n }
-        ∷ unit_references file slot (n + 1) rs else unit_references file slot (n + 1) rs)
-    go true is zero e later = let same : q ≡ r = cc in
-        (zero, Q, refl, ap (λ (x : Record). x.name) same, omega arith)
-    go true is (suc k) e later = let t = later k e in
-        (suc t.0, t.1, t.2, t.3, (let h = t.4 in omega (arith, h)))
-    go false is zero e later = grind (arith, false≢true)
-    go false is (suc k) e later = search (rules, arith)
+reference_of file slot n rs j r e u =
+    let g : UnitReference = record { name = r.name; file = file; slot = slot; rec = n + j } in
+    let t = in_filter_map (reference_in file slot) (enumerate_from n rs) (n + j, r) g
+    (j, in_numbered n rs j r e) (rw u refl) in
+    (t.0, g, ap (λ gs. slice_get gs t.0) (references_are file slot n rs) ∙ t.1, refl, refl)
 
 -- a unit by its name
 abbrev unit_named : List ℕ → Segment → Bool

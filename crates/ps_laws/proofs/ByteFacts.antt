@@ -1,28 +1,28 @@
 -- The byte that the edits of a segment make is its linked byte, and no other byte is.
-use Rattle.std.proofs.Common.{rules, ◌≡◌, ℕ, zero, suc, ◌+◌, ◌-◌, ◌≤◌, List}
-use Rattle.std.proofs.Common.{[], ◌∷◌, length, Option, Some, None, Result, Ok, Err, Bool}
+use Rattle.std.proofs.Common.{rules, ◌≡◌, ℕ, ◌+◌, ◌-◌, ◌≤◌, List}
+use Rattle.std.proofs.Common.{[], ◌∷◌, length, Option, Some, None, Ok}
 use Rattle.std.proofs.Common.{true, false, refl, sym, ap, ◌∙◌, inl, inr, arith}
-use Rattle.ps_laws.proofs.Words.{same_Some, ◌⊎◌, if◌then◌else◌, slice_get, find}
-use Rattle.ps_laws.proofs.Words.{cons_option, lookup, option_map_or, bytes_eq, bytes_eq-Decides}
-use Rattle.ps_laws.proofs.Words.{Decides, table_of, private_offset, next_of, IsReference, Reaches}
+use Rattle.ps_laws.proofs.Words.{◌⊎◌, if◌then◌else◌, slice_get, find}
+use Rattle.ps_laws.proofs.Words.{lookup, option_map_or, bytes_eq}
+use Rattle.ps_laws.proofs.Words.{table_of, private_offset, next_of, IsReference, Reaches}
 use Rattle.ps_laws.proofs.Words.{IsSizePlace, IsOnePlace, summed_edits, summed_segment, refs_of}
 use Rattle.ps_laws.proofs.Words.{Body, Record, needs_linking, is_host, is_unit, Segment}
 use Rattle.ps_laws.proofs.Words.{host_records, units_of, target_in, target_of, known_of}
-use Rattle.ps_laws.proofs.Words.{grown_data_size, Target, Order, Edit, Reason}
+use Rattle.ps_laws.proofs.Words.{grown_data_size, Target, Order, Edit}
 use Rattle.std.specs.Prelude.{slice_index}
 use Rattle.ps_resolve.specs.Standing.Privates.{words_before}
 use Rattle.ps_resolve.specs.LinkedBytes.{IsSlotOf, IsPublic, IsBase, all_private_words, Becomes}
 use Rattle.ps_resolve.specs.LinkedBytes.{IsNumberPlace, IsLinkedByte}
 use Rattle.ps_linkinfo.specs.declared.record.Body.TheVariants.{UnitRef, PublRef, PrivRef, PublDef}
-use Rattle.ps_resolve.specs.Symbols.{def_in, definitions, definition_of}
+use Rattle.ps_resolve.specs.Symbols.{def_in, definition_in, definitions, definition_of}
 use Rattle.ps_resolve.specs.Operands.{edit_of}
 use Rattle.ps_resolve.specs.References.{unit_slot, public_base}
 use Rattle.ps_resolve.specs.Linking.{linked_byte}
 use Rattle.ps_resolve.specs.declared.definitions.Def.{Def}
-use Rattle.ps_resolve.specs.declared.definitions.DefKind.{DefKind}
-use Rattle.ps_resolve.specs.declared.definitions.DefKind.TheVariants.{Public, Constant}
+use Rattle.ps_resolve.specs.declared.definitions.DefKind.TheVariants.{Public}
 use Rattle.ps_resolve.specs.declared.references.Target.TheVariants.{Slot, Base}
-use Rattle.ps_laws.proofs.Items.{In, find_in, find_passes}
+use Rattle.ps_laws.proofs.Items.{In, find_in, find_passes, of_filter_map}
+use Rattle.ps_laws.proofs.References.{named_some}
 use Rattle.ps_laws.proofs.Looking.{of_test, find_none}
 use Rattle.ps_laws.proofs.PrivateOffsets.{all_are}
 use Rattle.ps_laws.proofs.SoundCodes.{HasOuter}
@@ -30,28 +30,15 @@ use Rattle.ps_laws.proofs.EditsAt.{edit_place, IsNumber, IsSize, IsOfReference, 
 use Rattle.ps_laws.proofs.EditsAt.{number_covers, size_covers, reference_covers}
 use Rattle.ps_words.specs.Words.{word_bytes, operand_bytes, displacement_at}
 use Rattle.ps_words.specs.Edits.{place_of, stored_bytes, covers}
-use Rattle.ps_words.specs.declared.fault.Reason.TheVariants as reason
 
 -- 1. what a reference becomes
 unit_slot_is : (name : List ℕ) (segs : List Segment) (slot : ℕ)
     → lookup (bytes_eq name) (units_of segs) ≡ Some slot → IsSlotOf segs name slot
-unit_slot_is name [] slot e = absurd (cc)
-unit_slot_is name (s ∷ segs) slot e = go (is_unit s.role) refl e (unit_slot_is name segs slot)
-  where
-    further : IsSlotOf segs name slot → IsSlotOf (s ∷ segs) name slot
-    further t = (suc t.0, t.1, t.2, t.3)
-
-    go : (b : Bool) → is_unit s.role ≡ b
-        → lookup (bytes_eq name) (cons_option (if b then Some (s.name, s.slot) else None)
-        (units_of segs)) ≡ Some slot → (lookup (bytes_eq name) (units_of segs) ≡ Some slot
-        → IsSlotOf segs name slot) → IsSlotOf (s ∷ segs) name slot
-    go false unit e later = further (later e)
-    go true unit e later = at (bytes_eq name s.name) (bytes_eq-Decides name s.name) e
-      where
-        at : (b : Bool) → Decides b (name ≡ s.name) → (if b then Some s.slot else lookup
-            (bytes_eq name) (units_of segs)) ≡ Some slot → IsSlotOf (s ∷ segs) name slot
-        at true d e = (zero, s, refl, (unit, sym (d.0 refl), same_Some s.slot slot e))
-        at false d e = further (later e)
+unit_slot_is name segs slot e =
+    let t = named_some name (units_of segs) slot e in
+    let u = of_filter_map (λ (s : Segment). if is_unit s.role then Some (s.name, s.slot) else None)
+    segs t.1 (t.0, t.2) in
+    (u.1.0, u.0, u.1.1, grind arith)
 
 abbrev IsGiven : List Record → List ℕ → ℕ → Type 0
 IsGiven rs name value = (k : ℕ) × (d : Record) × (slice_get rs k ≡ Some d)
@@ -66,28 +53,24 @@ public_in body d h k = grind arith
 -- its value
 given : (name : List ℕ) (rs : List Record) (d : Def) → definition_of name (definitions rs)
     ≡ Some d → d.kind ≡ Public → IsGiven rs name d.value
-given name [] d e k = absurd (cc)
-given name (r ∷ rs) d e k = go (def_in r.body) refl e (λ h. given name rs d h k)
-  where
-    further : IsGiven rs name d.value → IsGiven (r ∷ rs) name d.value
-    further t = (suc t.0, t.1, t.2, t.3)
-
-    go : (o : Option Def) → def_in r.body ≡ o
-        → definition_of name (cons_option (elim o [ None ↦ None | Some d ↦ Some (r.name, d) ])
-        (definitions rs)) ≡ Some d → (definition_of name (definitions rs) ≡ Some d
-        → IsGiven rs name d.value) → IsGiven (r ∷ rs) name d.value
-    go None is e later = further (later e)
-    go (Some c) is e later = at (bytes_eq name r.name) (bytes_eq-Decides name r.name) e
-      where
-        at : (b : Bool) → Decides b (name ≡ r.name) → (if b then Some c
-            else definition_of name (definitions rs)) ≡ Some d → IsGiven (r ∷ rs) name d.value
-        at true t e = (zero, r, refl, (sym (t.0 refl), public_in r.body d (is ∙ e) k))
-        at false t e = further (later e)
+given name rs d e k =
+    let t = named_some name (definitions rs) d e in
+    let u = of_filter_map definition_in rs t.1 (t.0, t.2) in
+    (u.1.0, u.0, u.1.1, grind (arith, public_in))
 
 -- a value that the host's records give a name is a public of the link
 public_is : (segs : List Segment) (name : List ℕ) (value : ℕ)
     → IsGiven (host_records segs) name value → IsPublic segs name value
 public_is segs name value = grind (arith, find_in, find_passes)
+
+-- what is found for a name with a target
+slot_found : (o : Option ℕ) (t : Target) → unit_slot o ≡ Ok t
+    → (slot : ℕ) × (o ≡ Some slot) × (t ≡ Slot slot)
+slot_found o t e = grind arith
+
+base_found : (o : Option Def) (t : Target) → public_base o ≡ Ok t
+    → (d : Def) × (o ≡ Some d) × (d.kind ≡ Public) × (t ≡ Base d.value)
+base_found o t e = grind arith
 
 -- what the edit of a reference stores is what its operand becomes
 becomes : (order : Order) (segs : List Segment) → IsBase segs (next_of (host_records segs))
@@ -103,34 +86,17 @@ becomes order segs base s rec name (PrivRef words refs) i x t g e =
           (λ u. stored_bytes order (edit_of s.code u x)) (sym is),
     )
 becomes order segs base s rec name (UnitRef refs) i x t g e =
-    go (lookup (bytes_eq name) (units_of segs)) refl e
-  where
-    go : (o : Option ℕ) → lookup (bytes_eq name) (units_of segs) ≡ o → unit_slot o ≡ Ok t
-        → Becomes segs s rec name (UnitRef refs) x (stored_bytes order (edit_of s.code t x))
-    go None is e = absurd (cc)
-    go (Some slot) is e = let same : Slot slot ≡ t = cc in (
-      slot,
-      unit_slot_is name segs slot is,
-      ap (λ u. stored_bytes order (edit_of s.code u x)) (sym same),
+    let u = slot_found (lookup (bytes_eq name) (units_of segs)) t e in (
+      u.0,
+      unit_slot_is name segs u.0 u.1,
+      ap (λ v. stored_bytes order (edit_of s.code v x)) u.2,
     )
 becomes order segs base s rec name (PublRef refs) i x t g e =
-    go (definition_of name (definitions (host_records segs))) refl e
-  where
-    go : (o : Option Def) → definition_of name (definitions (host_records segs)) ≡ o
-        → public_base o ≡ Ok t → Becomes segs s rec name (PublRef refs) x
-        (stored_bytes order (edit_of s.code t x))
-    go None is e = absurd (cc)
-    go (Some d) is e = at d.kind refl e
-      where
-        at : (k : DefKind) → d.kind ≡ k → (elim k as (λ _. Result Target Reason)
-            [ Public ↦ Ok (Base d.value) | Constant ↦ Err reason.IllKind ]) ≡ Ok t
-            → Becomes segs s rec name (PublRef refs) x (stored_bytes order (edit_of s.code t x))
-        at Constant k e = absurd (cc)
-        at Public k e = let same : Base d.value ≡ t = cc in (
-          d.value,
-          public_is segs name d.value (given name (host_records segs) d is k),
-          ap (λ u. stored_bytes order (edit_of s.code u x)) (sym same),
-        )
+    let u = base_found (definition_of name (definitions (host_records segs))) t e in (
+      u.0.value,
+      public_is segs name u.0.value (given name (host_records segs) u.0 u.1 u.2),
+      ap (λ v. stored_bytes order (edit_of s.code v x)) u.3,
+    )
 becomes order segs base s rec name other i x t g e = absurd (cc)
 
 -- what names one thing becomes one
@@ -160,6 +126,11 @@ one_becomes segs units publics bases s rec name (PrivRef words refs) x b c t u =
 one_becomes segs units publics bases s rec name other x b c t u = absurd t
 
 -- 2. the byte
+-- a record and its reference by their numbers
+same_reference : (s : Segment) (rec i x other j y : ℕ) (r q : Record) → IsReference s rec r i x
+    → IsReference s other q j y → (rec ≡ other) × (i ≡ j) → (r ≡ q) × (x ≡ y)
+same_reference s rec i x other j y r q a b e = grind arith
+
 module _ (order : Order) (segs : List Segment) (base : IsBase segs (next_of (host_records segs)))
     (s : Segment) (long : needs_linking s.role ≡ true → 2 ≤ length s.code)
     (outer : (t : ℕ) → is_host s.role ≡ true → table_of order s.code 1 ≡ Some t
@@ -251,20 +222,8 @@ module _ (order : Order) (segs : List Segment) (base : IsBase segs (next_of (hos
           × (byte_at (Some f) ≡ slice_index bytes (p - x))
       is_it rec i x r u =
           let one = apart.references h.0 h.1 h.2 rec i x h.3 r h.4 u in
-          let er : h.3 ≡ r = same_Some h.3 r
-          (sym h.4.0.0 ∙ (ap (λ n. slice_get s.records n) one.0 ∙ u.0.0)) in
-          let ex : h.2 ≡ x = same_Some h.2 x
-          (sym h.4.0.1 ∙ (ap (λ n. slice_get (refs_of h.3.body) n) one.1
-          ∙ (ap (λ (q : Record). slice_get (refs_of q.body) i) er ∙ u.0.1))) in
-          moved rec x r one.0 er ex mine
-        where
-          Fact : ℕ → Record → ℕ → Type 0
-          Fact rec r x = (bytes : List ℕ) × Becomes segs s rec r.name r.body x bytes
-              × (byte_at (Some f) ≡ slice_index bytes (p - x))
-
-          moved : (rec x : ℕ) (r : Record) → h.0 ≡ rec → h.3 ≡ r → h.2 ≡ x
-              → Fact h.0 h.3 h.2 → Fact rec r x
-          moved rec x r a b c fact = grind arith
+          let same = same_reference s h.0 h.1 h.2 rec i x h.3 r h.4.0 u.0 one in
+          rw (← one.0, ← same.0, ← same.1) mine
 
   covered_by : (f : Edit) → find (covers p) edits ≡ Some f
       → IsNumber s p f ⊎ (IsSize order segs s p f ⊎ IsOfReference segs s p f)

@@ -13,7 +13,7 @@ use Rattle.ps_resolve.specs.LinkedBytes.{IsNumberPlace}
 use Rattle.ps_resolve.specs.Operands.{edit_of}
 use Rattle.ps_resolve.specs.References.{record_edits}
 use Rattle.ps_resolve.specs.Linking.{data_edits}
-use Rattle.ps_laws.proofs.Items.{In, in_left, in_right, in_flat}
+use Rattle.ps_laws.proofs.Items.{In, in_left, in_right, in_flat, of_numbered, in_numbered}
 use Rattle.ps_laws.proofs.AddedUnits.{split_at, mapped, map_at}
 use Rattle.ps_laws.proofs.SoundCodes.{HasOuter}
 use Rattle.ps_words.specs.Edits.{place_of, width, covers}
@@ -32,20 +32,6 @@ of_flat {A} {C} f (x ∷ xs) y t = elim (of_joined (f x) (flat_map f xs) y t) [
   | inl u ↦ (x, (zero, refl), u)
   | inr u ↦ (let r = of_flat f xs y u in (r.0, (suc r.1.0, r.1.1), r.2))
 ]
-
--- an item with its number
-of_numbered : {A : Type 0} (n : ℕ) (xs : List A) (k : ℕ) (p : ℕ × A) → slice_get
-    (enumerate_from n xs) k ≡ Some p → (p.0 ≡ n + k) × (slice_get xs k ≡ Some p.1)
-of_numbered n [] k p e = absurd (cc)
-of_numbered {A} n (x ∷ xs) zero p e = grind arith
-of_numbered n (x ∷ xs) (suc k) p e = grind (arith, of_numbered (n + 1) xs k p e)
-
--- an item is at the same place of the numbered list, with its number
-in_numbered : {A : Type 0} (n : ℕ) (xs : List A) (k : ℕ) (x : A) → slice_get xs k ≡ Some x
-    → slice_get (enumerate_from n xs) k ≡ Some (n + k, x)
-in_numbered n [] k x e = absurd (cc)
-in_numbered {A} n (y ∷ xs) zero x e = grind arith
-in_numbered n (y ∷ xs) (suc k) x e = grind (arith, in_numbered (n + 1) xs k x e)
 
 module _ (x p w : ℕ) where
   -- which places an edit covers

@@ -3,6 +3,7 @@ use Rattle.std.proofs.Common.{rules, ◌≡◌, ℕ, zero, suc, ◌+◌, ◌<◌
 use Rattle.std.proofs.Common.{[], ◌∷◌, ◌++◌, length, take, Option, Some, None, Bool, true}
 use Rattle.std.proofs.Common.{false, refl, ap, ◌∙◌, inl, inr, arith}
 use Rattle.ps_laws.proofs.Words.{if◌then◌else◌, range_with_len, slice_get, filter_map}
+use Rattle.ps_laws.proofs.Words.{enumerate_from}
 use Rattle.ps_laws.proofs.Words.{flat_map, cons_option, find, cases_lt, cases_order}
 use Rattle.std.specs.List.{filter}
 use Rattle.ps_resolve.proofs.EachSegment.{find_has}
@@ -112,6 +113,29 @@ of_take zero xs i x e = absurd (cc)
 of_take (suc n) [] i x e = absurd (cc)
 of_take (suc n) (y ∷ xs) zero x e = (omega arith, e)
 of_take (suc n) (y ∷ xs) (suc i) x e = grind (arith, of_take n xs i x e)
+
+-- and an item that is there
+pub in_front : {A : Type 0} (n : ℕ) (xs : List A) (i : ℕ) (x : A) → i < n
+    → slice_get xs i ≡ Some x → slice_get (take n xs) i ≡ Some x
+in_front zero xs i x l e = absurd (omega (arith, l))
+in_front (suc n) [] i x l e = absurd (cc)
+in_front (suc n) (y ∷ xs) zero x l e = e
+in_front (suc n) (y ∷ xs) (suc i) x l e = in_front n xs i x (omega (arith, l)) e
+
+-- an item with its number
+pub of_numbered : {A : Type 0} (n : ℕ) (xs : List A) (k : ℕ) (p : ℕ × A) → slice_get
+    (enumerate_from n xs) k ≡ Some p → (p.0 ≡ n + k) × (slice_get xs k ≡ Some p.1)
+of_numbered n [] k p e = absurd (cc)
+of_numbered {A} n (x ∷ xs) zero p e = grind arith
+of_numbered n (x ∷ xs) (suc k) p e = grind (arith, of_numbered (n + 1) xs k p e)
+
+-- an item is at the same place of the numbered list, with its number
+pub in_numbered : {A : Type 0} (n : ℕ) (xs : List A) (k : ℕ) (x : A) → slice_get xs k
+    ≡ Some x
+    → slice_get (enumerate_from n xs) k ≡ Some (n + k, x)
+in_numbered n [] k x e = absurd (cc)
+in_numbered {A} n (y ∷ xs) zero x e = grind arith
+in_numbered n (y ∷ xs) (suc k) x e = grind (arith, in_numbered (n + 1) xs k x e)
 
 -- the numbers of a range that pass a test ascend
 pub filter_ascends : (test : ℕ → Bool) (a n i j x y : ℕ) → i < j

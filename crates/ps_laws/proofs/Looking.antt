@@ -1,10 +1,14 @@
 -- Tests of items, and what they decide.
 use Rattle.std.proofs.Common.{rules, ◌≡◌, ℕ, zero, suc, ◌<◌, List, [], ◌∷◌, Some}
 use Rattle.std.proofs.Common.{None, Bool, true, false, refl, sym, ap, subst, ◌∙◌, inl, inr}
-use Rattle.std.proofs.Common.{arith, is_none}
+use Rattle.std.proofs.Common.{arith, is_none, Option}
 use Rattle.ps_laws.proofs.Words.{◌⊎◌, if◌then◌else◌, not, ◌||◌, Decides, slice_get}
 use Rattle.ps_laws.proofs.Words.{list_any, find, false≢true, Decides-or, Decides-like, SomeItem}
 pub use Rattle.ps_resolve.proofs.LookingBack.{of_test, any_of_take}
+
+-- what is not None is there
+pub is_there : {A : Type 0} (o : Option A) → (o ≡ None → ⊥) → (a : A) × (o ≡ Some a)
+is_there o h = grind arith
 
 -- the test of all items says whether P holds of one, where the test of each says whether P holds of
 -- it

@@ -8,8 +8,8 @@ use Rattle.ps_laws.proofs.Words.{range_with_len, enumerate_from, find, slice_get
 use Rattle.ps_laws.proofs.Words.{flat_map, lookup, option_map, option_or, result_err, bytes_eq}
 use Rattle.ps_laws.proofs.Words.{false≢true, Decides-at, Decides-ltb, Decides-and, Decides-or}
 use Rattle.ps_laws.proofs.Words.{Decides-like, flat_map-append, bytes_eq-Decides, is_reserved}
-use Rattle.ps_laws.proofs.Words.{is_unit_reference, next_of, added_fault, private_words, owner_of}
-use Rattle.ps_laws.proofs.Words.{all_words, Because, SomeBelow, SomeItem, OfReferences, part}
+use Rattle.ps_laws.proofs.Words.{is_unit_reference, next_of, added_fault, private_words}
+use Rattle.ps_laws.proofs.Words.{Because, SomeBelow, SomeItem, OfReferences, part}
 use Rattle.ps_laws.proofs.Words.{private_offset, refs_of, Body, Record, Before, first_of, fault_if}
 use Rattle.ps_laws.proofs.Words.{Segment, host_records, units_of, target_in, target_of, words_taken}
 use Rattle.ps_laws.proofs.Words.{known_of, Target, in_record, Order, Reason, Fault}
@@ -23,7 +23,7 @@ use Rattle.ps_linkinfo.specs.declared.record.Body.TheVariants.{UnitRef, PublRef}
 use Rattle.ps_resolve.specs.Symbols.{definitions, definition_of}
 use Rattle.ps_resolve.specs.Operands.{width_of, value_of, is_in, operands, refs_fault}
 use Rattle.ps_resolve.specs.References.{Known, public_base, unit_slot, records_fault}
-use Rattle.ps_resolve.specs.Faults.{in_segment, segment_fault, references_fault_from}
+use Rattle.ps_resolve.specs.Faults.{in_segment, references_fault_from}
 use Rattle.ps_resolve.specs.Faults.{references_fault}
 use Rattle.ps_resolve.specs.declared.definitions.Def.{Def}
 use Rattle.ps_resolve.specs.declared.definitions.DefKind.{DefKind}
@@ -35,9 +35,9 @@ use Rattle.ps_laws.proofs.Asked.{HasUnit, units_named, asked_is_there}
 use Rattle.ps_laws.proofs.Steps.{Ranked, because, because_apart, any_of_range}
 use Rattle.ps_resolve.proofs.FirstSlots.{none_mapped, some_mapped}
 use Rattle.ps_laws.proofs.Looking.{of_test, any_of_take, any_of_items, find_none, find_some}
-use Rattle.ps_laws.proofs.Segments.{over_segments, Ascends, ascend}
+use Rattle.ps_laws.proofs.Segments.{over_segments, ascend}
 use Rattle.ps_laws.proofs.Definitions.{take_prefix, longer}
-use Rattle.ps_laws.proofs.PrivateOffsets.{AreBelow, below_from, below_more, offset_in, words_split}
+use Rattle.ps_laws.proofs.PrivateOffsets.{carried as all_carried}
 use Rattle.ps_laws.proofs.Privates.{more_words}
 use Rattle.ps_laws.proofs.Sources.{at_most}
 use Rattle.ps_words.specs.FaultPlaces.{in_reference}
@@ -73,8 +73,7 @@ lookup_found {D} test (d ∷ ds) = grind (arith, lookup_found test ds)
 
 is_name : {D : Type 0} (name : List ℕ) (e : List ℕ × D)
     → Decides (bytes_eq name e.0) (e.0 ≡ name)
-is_name name e = Decides-like (bytes_eq name e.0) (λ h. sym h) (λ h. sym h)
-    (bytes_eq-Decides name e.0)
+is_name name e = grind (arith, bytes_eq-Decides)
 
 named_none : {D : Type 0} (name : List ℕ) (ds : List (List ℕ × D))
     → lookup (bytes_eq name) ds ≡ None → SomeItem ds (λ k e. e.0 ≡ name) → ⊥
@@ -86,7 +85,7 @@ Earliest {D} ds name k = (lesser : ℕ) (other : List ℕ × D) → lesser < k
     → slice_get ds lesser ≡ Some other → other.0 ≢ name
 
 -- what is found for a name is what the first item of that name has
-named_some : {D : Type 0} (name : List ℕ) (ds : List (List ℕ × D)) (d : D)
+pub named_some : {D : Type 0} (name : List ℕ) (ds : List (List ℕ × D)) (d : D)
     → lookup (bytes_eq name) ds ≡ Some d
     → SomeItem ds (λ k e. ((e.0 ≡ name) × (e.1 ≡ d)) × Earliest ds name k)
 named_some {D} name ds d e =
@@ -500,28 +499,6 @@ carried order segs s base offsets prefix (r ∷ rs) rec is at = go (target_of kn
 abbrev all_records : Order → List Segment → Segment → Option Fault
 all_records order segs s = first_of (record_fault order segs s) (enumerate_from 0 s.records)
 
--- the search that carries the offset from segment to segment finds the first fault of their records
-carried_all : (order : Order) (all prefix rest : List Segment) (from : ℕ)
-    → all ≡ prefix ++ rest → AreBelow from prefix
-    → Ascends from rest → references_fault_from order (known_of all) (next_of (host_records all)
-    + all_words (map owner_of prefix)) rest ≡ first_of (all_records order all) rest
-carried_all order all prefix [] from is below ascends = refl
-carried_all order all prefix (s ∷ rest) from is below ascends =
-    let start = next_of (host_records all) + all_words (map owner_of prefix) in
-    let offsets = offset_in all prefix s rest from is below ascends in
-    let first : start ≡ private_offset all s.slot 0 = (let e = offsets 0 in omega (arith, e)) in
-    let mine : segment_fault order (known_of all) start s ≡ all_records order all s =
-    ap (λ n. segment_fault order (known_of all) n s) first
-    ∙ carried order all s start offsets [] s.records 0 refl refl in
-    let count = words_split prefix (s ∷ []) in
-    let later : references_fault_from order (known_of all) (start + private_words s.records) rest
-    ≡ first_of (all_records order all) rest = ap (λ n. references_fault_from order (known_of all)
-    n rest) (omega (arith, count)) ∙ carried_all order all (prefix ++ s ∷ []) rest (s.slot + 1)
-    (is ∙ sym (append_assoc prefix (s ∷ []) rest)) (below_more (s.slot + 1) prefix s
-    (below_from from s.slot prefix ascends.0 below) (omega arith)) ascends.1 in
-    ap (λ o. option_or o (references_fault_from order (known_of all)
-    (start + private_words s.records) rest)) mine ∙ ap (option_or (all_records order all s)) later
-
 -- where the rounds have no fault, so that each unit that is requested has its segment
 pub step_10 : (order : Order) (host : List ℕ) (libs : List (List ℕ))
     → added_fault order host libs ≡ None → Least (Precedes OfReferences)
@@ -531,8 +508,11 @@ step_10 order host libs fine =
     let segs = segments order host libs in
     let e : references_fault_from order (known_of segs) (next_of (host_records segs)) segs
     ≡ first_of (all_records order segs) segs =
-    ap (λ n. references_fault_from order (known_of segs) n segs) (omega arith)
-    ∙ carried_all order segs [] segs 0 refl tt (ascend order host libs) in
+    all_carried segs (λ n ss. references_fault_from order
+    (known_of segs) n ss ≡ first_of (all_records order segs) ss) (λ n. refl)
+    (λ s rest n offsets later. (let own = carried order segs s n offsets [] s.records 0 refl refl
+    in
+    let first = offsets 0 in grind (arith, own, first, later))) (ascend order host libs) in
     subst (λ o. Least (Precedes OfReferences) (InReferences order host libs) o) (sym e)
     (over_segments {S = λ s f. SomeItem s.records (λ rec r. RecordFaults order segs s rec r f)}
     order host libs (all_records order segs)

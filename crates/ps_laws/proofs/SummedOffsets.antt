@@ -1,16 +1,16 @@
 -- The offset that runs along with the records is the base offset and the words of all privates
 -- before it.
 use Rattle.std.proofs.Common.{◌≡◌, ℕ, suc, ◌+◌, ◌-◌, List, [], ◌∷◌, ◌++◌}
-use Rattle.std.proofs.Common.{length, take, map, refl, ap, ◌∙◌, arith, append_assoc}
+use Rattle.std.proofs.Common.{length, take, map, refl, ap, ◌∙◌, arith}
 use Rattle.ps_laws.proofs.Words.{if◌then◌else◌, enumerate_from, needs_linking, private_offset}
-use Rattle.ps_laws.proofs.Words.{flat_map, Record, all_words, total_words, segments_of, words_taken}
-use Rattle.ps_laws.proofs.Words.{is_host, host_records, private_words, summed_edits, summed_segment}
-use Rattle.ps_laws.proofs.Words.{Segment, order_of, owner_of, next_of, known_of, Order, Byte}
+use Rattle.ps_laws.proofs.Words.{flat_map, Record, total_words, segments_of, words_taken}
+use Rattle.ps_laws.proofs.Words.{is_host, private_words, summed_edits, summed_segment}
+use Rattle.ps_laws.proofs.Words.{Segment, order_of, known_of, Order, Byte}
 use Rattle.ps_resolve.specs.LinkedBytes.{HaveSummedOffsets}
 use Rattle.ps_resolve.specs.References.{Known, record_edits, records_edits}
 use Rattle.ps_resolve.specs.Linking.{edited_from, data_edits, segment_edits}
-use Rattle.ps_laws.proofs.Segments.{Ascends, ascend}
-use Rattle.ps_laws.proofs.PrivateOffsets.{AreBelow, below_from, below_more, words_split, offset_in}
+use Rattle.ps_laws.proofs.Segments.{ascend}
+use Rattle.ps_laws.proofs.PrivateOffsets.{carried}
 use Rattle.ps_resolve.proofs.LookingBack.{words_before}
 
 -- the edits of records, each with its own offset
@@ -49,21 +49,11 @@ module _ (order : Order) (all : List Segment) where
       []) (records_summed (known_of all) s.code (λ n. private_offset all s.slot n) s.records 0 free
       (λ n. ap (λ m. private_offset all s.slot m) (omega arith) ∙ h n))
 
-  -- the edits of segments by slot, with an offset that runs along, are those with each offset as a
-  -- sum
-  all_summed : (prefix rest : List Segment) (from : ℕ) → all ≡ prefix ++ rest
-      → AreBelow from prefix → Ascends from rest → edited_from order (known_of all)
-      (total_words all) (next_of (host_records all) + all_words (map owner_of prefix)) rest
-      ≡ map (summed_segment order all) rest
-  all_summed prefix [] from is below ascends = refl
-  all_summed prefix (s ∷ rest) from is below ascends =
-      let later = all_summed (prefix ++ s ∷ []) rest (s.slot + 1) in grind
-      (arith, words_split, segment_summed, offset_in, append_assoc, below_more, below_from, later)
-
 -- so are the edits of all segments of a link
 pub offsets : (host : List ℕ) (libs : List (List ℕ)) → HaveSummedOffsets host libs
 offsets host libs =
     let order = order_of host in
     let segs = segments_of host libs in
-    ap (λ (n : ℕ). edited_from order (known_of segs) (total_words segs) n segs) (omega arith)
-    ∙ all_summed order segs [] segs 0 refl tt (ascend order host libs)
+    carried segs (λ n ss. edited_from order (known_of segs) (total_words segs) n ss
+    ≡ map (summed_segment order segs) ss) (λ n. refl) (λ s rest n offsets later. grind
+    (arith, segment_summed order segs s n offsets, later)) (ascend order host libs)

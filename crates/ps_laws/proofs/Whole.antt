@@ -7,13 +7,15 @@ use Rattle.ps_laws.proofs.Words.{order_of, added_fault, Step, OfHost, OfSlots, O
 use Rattle.ps_laws.proofs.Words.{OfLibraries, OfSources, OfAdded, OfDefinitions, OfPrivates}
 use Rattle.ps_laws.proofs.Words.{OfDataSize, OfReferences, key, InRound, Order, Fault}
 use Rattle.ps_resolve.specs.Faults.{host_fault, slots_fault, no_host_fault, libraries_fault}
-use Rattle.ps_resolve.specs.Faults.{sources_fault, definitions_fault, privates_fault, data_fault}
-use Rattle.ps_resolve.specs.Faults.{references_fault, linking_fault}
+use Rattle.ps_resolve.specs.Faults.{sources_fault}
+use Rattle.ps_resolve.specs.Faults.{linking_fault}
 use Rattle.ps_resolve.specs.AllFaults.{first_fault, reading_fault}
 use Rattle.ps_resolve.specs.Added.{segments}
 use Rattle.ps_resolve.specs.Standing.Keys.{turn, is_of_reading}
 use Rattle.ps_resolve.specs.Standing.{StandsIn, FaultAt, NoneStandsInReading, IsFirst}
-use Rattle.ps_laws.proofs.Least.{Least, nothing, this, Precedes, least_same, least_or_then}
+use Rattle.ps_resolve.proofs.FirstSlots.{or_none as both_none}
+use Rattle.ps_laws.proofs.Least.{Least, nothing, this, Precedes, least_same, least_or}
+use Rattle.ps_laws.proofs.Least.{least_or_then}
 use Rattle.ps_laws.proofs.Least.{not_both}
 use Rattle.ps_laws.proofs.Steps.{step_1, step_2, step_3, step_4}
 use Rattle.ps_laws.proofs.Sources.{OneStop, step_5}
@@ -53,173 +55,119 @@ key_turn other f = (_, refl)
 earlier_turn : (x y : Place) → turn x.0 < turn y.0 → Earlier x y
 earlier_turn x y h = grind (arith, key_turn)
 
--- one more step before those that are later, which are looked at only if it has no fault
-add : (order : Order) (host : List ℕ) (libs : List (List ℕ)) (step : Step) (next end : ℕ)
-    {o : Option Fault} {p : Option Place} → (turn step ≢ 6) × (turn step + 1 ≡ next)
-    × (next ≤ end) → Least (Precedes step) (StandsIn step order host libs) o
-    → (o ≡ None → Least Earlier (Between order host libs next end) p) → Least Earlier
-    (Between order host libs (turn step) end) (option_or (option_map (λ f. (step, f)) o) p)
-add order host libs step next end {o} {p} is l m = least_same to from (least_or_then
-    (tagged step l) (λ n. m (untagged o n)) (λ x y s t. earlier_turn x y (grind arith)))
-  where
-    untagged : (o : Option Fault) → option_map {U = Place} (λ (f : Fault). (step, f)) o ≡ None
-        → o ≡ None
-    untagged o h = grind arith
-
-    Own : Place → Type 0
-    Own q = (f : Fault) × (q ≡ (step, f)) × StandsIn step order host libs f
-
-    to : (q : Place) → Own q ⊎ Between order host libs next end q
-        → Between order host libs (turn step) end q
-    to q h = grind arith
-
-    from : (q : Place) → Between order host libs (turn step) end q
-        → Own q ⊎ Between order host libs next end q
-    from q t = grind (arith, same_turn)
-
--- the rounds are one turn
-rounds_turn : (law : OneStop) (order : Order) (host : List ℕ) (libs : List (List ℕ))
-    → (o : Option Place) × Least Earlier (Between order host libs 6 7) o
-    × (option_map (λ (x : Place). x.1) o ≡ added_fault order host libs)
-rounds_turn law order host libs = let r = step_6 law order host libs in
-    (r.0, least_same to from r.1, r.2)
-  where
-    OfRound : Place → Type 0
-    OfRound p = (k : ℕ) × (f : Fault) × (p ≡ (OfAdded k, f)) × InRound order host libs k f
-
-    to : (p : Place) → OfRound p → Between order host libs 6 7 p
-    to p t = let a : turn p.0 ≡ 6 = ap (λ (q : Place). turn q.0) t.2 in (
-      omega (arith, a),
-      omega (arith, a),
-      subst (λ (q : Place). StandsIn q.0 order host libs q.1) (sym t.2) t.3,
-    )
-
-    from : (p : Place) → Between order host libs 6 7 p → OfRound p
-    from p t = grind arith
-
-untag : (step : Step) (o : Option Fault) (p : Option Place) (q : Option Fault)
-    → option_map (λ (x : Place). x.1) p ≡ q → option_map
-    (λ (x : Place). x.1) (option_or (option_map (λ f. (step, f)) o) p) ≡ option_or o q
-untag step o p q h = grind arith
-
 -- the faults of a queue of turns, with their steps, and that they are these
 abbrev Turns : List ℕ → List (List ℕ) → ℕ → ℕ → Option Fault → Type 0
 Turns host libs n m fault = (o : Option Place)
     × Least Earlier (Between (order_of host) host libs n m) o
     × (option_map (λ (x : Place). x.1) o ≡ fault)
 
--- the first fault of reading is the smallest that applies in turns 1 to 6
-reading : (law : OneStop) (host : List ℕ) (libs : List (List ℕ))
-    → Turns host libs 1 7 (reading_fault host libs)
-unfolding reading_fault
-reading law host libs =
-    let order = order_of host in
-    let last = rounds_turn law order host libs in (
-      _,
-      add order host libs OfHost 2 7 (omega arith)
-          (step_1 host) (λ n.
-          add order host libs OfSlots 3 7 (omega arith)
-          (step_2 order host) (λ n.
-          add order host libs OfNoHost 4 7 (omega arith)
-          (step_3 order host) (λ n.
-          add order host libs OfLibraries 5 7 (omega arith)
-          (step_4 order libs) (λ n.
-          add order host libs OfSources 6 7 (omega arith)
-          (step_5 law order host libs) (λ n. last.1))))),
-      untag OfHost (host_fault host) _ _
-          (untag OfSlots (slots_fault order host) _ _
-          (untag OfNoHost (no_host_fault order host) _ _
-          (untag OfLibraries (libraries_fault order libs) _ _
-          (untag OfSources (sources_fault order host libs) last.0
-          (added_fault order host libs) last.2)))),
-    )
-
-last : (a b c d : Option Fault) → option_or a (option_or b (option_or c (option_or d None)))
-    ≡ option_or a (option_or b (option_or c d))
-last a b c d = grind arith
-
 module _ (host : List ℕ) (libs : List (List ℕ)) where
-  -- the first fault of linking is the smallest that applies in turns 7 to 10, where the rounds end
-  -- without a fault
-  linking : added_fault (order_of host) host libs ≡ None
-      → Turns host libs 7 11 (linking_fault (order_of host) (segments (order_of host) host libs))
-  unfolding linking_fault
-  linking fine =
-      let order = order_of host in
-      let segs = segments order host libs in (
-        _,
-        add order host libs OfDefinitions 8 11 (omega arith)
-            (step_7 order host libs) (λ n.
-            add order host libs OfPrivates 9 11 (omega arith)
-            (step_8 order host libs) (λ n.
-            add order host libs OfDataSize 10 11 (omega arith)
-            (step_9 order host libs) (λ n.
-            add order host libs OfReferences 11 11 (omega arith) (step_10 order host libs fine)
-            (λ n. nothing (λ p t. let a = t.0 in let b = t.1 in omega (arith, a, b)))))),
-        untag OfDefinitions (definitions_fault segs) _ _
-            (untag OfPrivates (privates_fault segs) _ _
-            (untag OfDataSize (data_fault order segs) _ _
-            (untag OfReferences (references_fault order segs) None None refl)))
-            ∙ last (definitions_fault segs) (privates_fault segs) (data_fault order segs)
-            (references_fault order segs),
+  abbrev order : Order
+  order = order_of host
+
+  -- the turn of a step that is no round
+  alone : (step : Step) (n next : ℕ) {o : Option Fault} → (turn step ≡ n) × (n + 1 ≡ next)
+      × (n ≢ 6) → Least (Precedes step) (StandsIn step order host libs) o
+      → Turns host libs n next o
+  alone step n next {o} is l = (_, least_same to from (tagged step l), untag o)
+    where
+      Own : Place → Type 0
+      Own q = (f : Fault) × (q ≡ (step, f)) × StandsIn step order host libs f
+
+      to : (q : Place) → Own q → Between order host libs n next q
+      to q t = subst (λ (x : Place). Between order host libs n next x) (sym t.1)
+          (omega arith, omega arith, t.2)
+
+      from : (q : Place) → Between order host libs n next q → Own q
+      from q t =
+          let same : q.0 ≡ step = same_turn q.0 step (let a = t.0 in let b = t.1 in
+          omega (arith, a, b)) (omega arith) in
+          (q.1, ap (λ s. (s, q.1)) same, subst (λ s. StandsIn s order host libs q.1) same t.2)
+
+      untag : (o : Option Fault)
+          → option_map {U = Fault} (λ (x : Place). x.1) (option_map (λ f. (step, f)) o) ≡ o
+      untag o = grind arith
+
+  -- turns before those that are later, which are looked at only if these have no fault
+  join : (n k m : ℕ) {f g : Option Fault} → (n ≤ k) × (k ≤ m) → Turns host libs n k f
+      → (f ≡ None → Turns host libs k m g) → Turns host libs n m (option_or f g)
+  join n k m {f} {g} is t next = go t.0 t.1 t.2
+    where
+      to : (p : Place) → Between order host libs n k p ⊎ Between order host libs k m p
+          → Between order host libs n m p
+      to p h = grind arith
+
+      from : (p : Place) → Between order host libs n m p
+          → Between order host libs n k p ⊎ Between order host libs k m p
+      from p t = grind (arith, cases_lt)
+
+      apart : (x y : Place) → Between order host libs n k x → Between order host libs k m y
+          → Earlier x y
+      apart x y s t = earlier_turn x y (let a = s.1 in let b = t.0 in omega (arith, a, b))
+
+      go : (o : Option Place) → Least Earlier (Between order host libs n k) o
+          → option_map (λ (x : Place). x.1) o ≡ f → Turns host libs n m (option_or f g)
+      go None l e = let rest = next (sym e) in
+          (rest.0, least_same to from (least_or l rest.1 apart), rest.2
+          ∙ ap (λ h. option_or h g) e)
+      go (Some p) l e = (
+        Some p,
+        least_same to from (least_or_then {p = None} l (λ n. absurd (cc)) apart),
+        ap (λ h. option_or h g) e,
       )
+
+  -- the rounds are one turn
+  rounds_turn : (law : OneStop) → Turns host libs 6 7 (added_fault order host libs)
+  rounds_turn law = let r = step_6 law order host libs in (r.0, least_same to from r.1, r.2)
+    where
+      OfRound : Place → Type 0
+      OfRound p = (k : ℕ) × (f : Fault) × (p ≡ (OfAdded k, f)) × InRound order host libs k f
+
+      to : (p : Place) → OfRound p → Between order host libs 6 7 p
+      to p t = subst (λ (q : Place). Between order host libs 6 7 q) (sym t.2)
+          (omega arith, omega arith, t.3)
+
+      from : (p : Place) → Between order host libs 6 7 p → OfRound p
+      from (OfAdded k, f) t = (k, f, refl, t.2)
+      from (other, f) t = absurd (let a = t.0 in let b = t.1 in omega (arith, a, b))
+
+  -- the first fault of reading is the smallest that applies in turns 1 to 6
+  reading : (law : OneStop) → Turns host libs 1 7 (reading_fault host libs)
+  unfolding reading_fault
+  reading law =
+      join 1 2 7 (omega arith) (alone OfHost 1 2 (omega arith) (step_1 host)) (λ e.
+      join 2 3 7 (omega arith) (alone OfSlots 2 3 (omega arith) (step_2 order host)) (λ e.
+      join 3 4 7 (omega arith) (alone OfNoHost 3 4 (omega arith) (step_3 order host)) (λ e.
+      join 4 5 7 (omega arith) (alone OfLibraries 4 5 (omega arith) (step_4 order libs)) (λ e.
+      join 5 6 7 (omega arith) (alone OfSources 5 6 (omega arith) (step_5 law order host libs))
+      (λ e. rounds_turn law)))))
 
   -- where nothing is wrong with what is read, nothing is with the sources of the slots, nor with
   -- the units that are added
-  pub none_read : reading_fault host libs ≡ None → (sources_fault (order_of host) host libs
-      ≡ None) × (added_fault (order_of host) host libs ≡ None)
+  pub none_read : reading_fault host libs ≡ None → (sources_fault order host libs
+      ≡ None) × (added_fault order host libs ≡ None)
   unfolding reading_fault
-  none_read e =
-      let order = order_of host in
-      both (sources_fault order host libs) (added_fault order host libs)
-      ((both (libraries_fault order libs) _ (both (no_host_fault order host) _
-      (both (slots_fault order host) _ (both (host_fault host) _ e).1).1).1).1)
-    where
-      both : (a b : Option Fault) → option_or a b ≡ None → (a ≡ None) × (b ≡ None)
-      both a b h = grind arith
+  none_read e = both_none _ _ (both_none (libraries_fault order libs) _
+      (both_none (no_host_fault order host) _ (both_none (slots_fault order host) _
+      (both_none (host_fault host) _ e).1).1).1).1
 
--- the faults of all steps
-whole : (law : OneStop) (host : List ℕ) (libs : List (List ℕ))
-    → Turns host libs 1 11 (first_fault host libs)
-unfolding first_fault
-whole law host libs = go (reading_fault host libs) refl (reading law host libs)
-  where
-    order : Order
-    order = order_of host
+  -- the first fault of linking is the smallest that applies in turns 7 to 10, where the rounds end
+  -- without a fault
+  linking : added_fault order host libs ≡ None
+      → Turns host libs 7 11 (linking_fault order (segments order host libs))
+  unfolding linking_fault
+  linking fine =
+      join 7 8 11 (omega arith) (alone OfDefinitions 7 8 (omega arith) (step_7 order host libs))
+      (λ e.
+      join 8 9 11 (omega arith) (alone OfPrivates 8 9 (omega arith) (step_8 order host libs)) (λ e.
+      join 9 10 11 (omega arith) (alone OfDataSize 9 10 (omega arith) (step_9 order host libs))
+      (λ e.
+      alone OfReferences 10 11 (omega arith) (step_10 order host libs fine))))
 
-    to : (p : Place) → Between order host libs 1 7 p ⊎ Between order host libs 7 11 p
-        → Between order host libs 1 11 p
-    to p h = grind arith
-
-    from : (p : Place) → Between order host libs 1 11 p
-        → Between order host libs 1 7 p ⊎ Between order host libs 7 11 p
-    from p t = grind (arith, cases_lt)
-
-    apart : (x y : Place) → Between order host libs 1 7 x → Between order host libs 7 11 y
-        → Earlier x y
-    apart x y s t = earlier_turn x y (let a = s.1 in let b = t.0 in omega (arith, a, b))
-
-    go : (f : Option Fault) → reading_fault host libs ≡ f → Turns host libs 1 7 f
-        → Turns host libs 1 11 (option_or f
-        (linking_fault (order_of host) (segments (order_of host) host libs)))
-    go (Some f) e t = at t.0 t.1 t.2
-      where
-        at : (o : Option Place) → Least Earlier (Between order host libs 1 7) o
-            → option_map (λ (x : Place). x.1) o ≡ Some f → Turns host libs 1 11 (Some f)
-        at None l is = absurd (cc)
-        at (Some p) l is =
-            (Some p, least_same to from (least_or_then {p = None} l (λ n. absurd (cc)) apart), is)
-    go None e t = at t.0 t.1 t.2
-      where
-        rest : Turns host libs 7 11 (linking_fault (order_of host)
-            (segments (order_of host) host libs))
-        rest = linking host libs (none_read host libs e).1
-
-        at : (o : Option Place) → Least Earlier (Between order host libs 1 7) o
-            → option_map (λ (x : Place). x.1) o ≡ None → Turns host libs 1 11
-            (linking_fault (order_of host) (segments (order_of host) host libs))
-        at (Some p) l is = absurd (cc)
-        at None l is = (rest.0, least_same to from (least_or_then l (λ n. rest.1) apart), rest.2)
+  -- the faults of all steps
+  whole : (law : OneStop) → Turns host libs 1 11 (first_fault host libs)
+  unfolding first_fault
+  whole law = join 1 7 11 (omega arith) (reading law) (λ e. linking (none_read e).1)
 
 module _ (host : List ℕ) (libs : List (List ℕ)) where
   -- the fault of the smallest place of all turns is the first
@@ -254,11 +202,11 @@ module _ (host : List ℕ) (libs : List (List ℕ)) where
 
 module _ (law : OneStop) (host : List ℕ) (libs : List (List ℕ)) where
   pub some : (f : Fault) → first_fault host libs ≡ Some f → IsFirst host libs f
-  some f e = let w = whole law host libs in first_place host libs w.0 f w.1 (w.2 ∙ e)
+  some f e = let w = whole host libs law in first_place host libs w.0 f w.1 (w.2 ∙ e)
 
   pub none : first_fault host libs ≡ None
       → (step : Step) (f : Fault) → FaultAt host libs step f → ⊥
-  none e = let w = whole law host libs in no_place host libs w.0 w.1 (w.2 ∙ e)
+  none e = let w = whole host libs law in no_place host libs w.0 w.1 (w.2 ∙ e)
 
   -- no two faults are the first
   pub one : (f g : Fault) → IsFirst host libs f → IsFirst host libs g → f ≡ g
@@ -283,7 +231,7 @@ read_turn s h = grind arith
 module _ (law : OneStop) (host : List ℕ) (libs : List (List ℕ)) where
   -- where no fault of reading is found, none applies
   pub read : reading_fault host libs ≡ None → NoneStandsInReading host libs
-  read e step f r h = let w = reading law host libs in go w.0 w.1 (w.2 ∙ e)
+  read e step f r h = let w = reading host libs law in go w.0 w.1 (w.2 ∙ e)
     where
       go : (o : Option Place) → Least Earlier (Between (order_of host) host libs 1 7) o
           → option_map (λ (x : Place). x.1) o ≡ None → ⊥
@@ -292,7 +240,7 @@ module _ (law : OneStop) (host : List ℕ) (libs : List (List ℕ)) where
 
   -- where no fault of reading applies, none is found
   pub unread : NoneStandsInReading host libs → reading_fault host libs ≡ None
-  unread none_in = let w = reading law host libs in sym w.2 ∙ go w.0 w.1
+  unread none_in = let w = reading host libs law in sym w.2 ∙ go w.0 w.1
     where
       go : (o : Option Place) → Least Earlier (Between (order_of host) host libs 1 7) o
           → option_map (λ (x : Place). x.1) o ≡ None
