@@ -1,14 +1,17 @@
 -- The command line of `pslink`, as clap's contracts see it: the commands, and the arguments of
 -- each.
 -- Source: this project's profile.
-use Rattle.std.specs.Prelude.{◌≡◌, ◌⊎◌, List, [], ◌∷◌, Option, map, true, Some}
-use Rattle.std.specs.Prelude.{codes}
+use Rattle.std.specs.Prelude.{◌≡◌, ◌⊎◌, List, [], ◌∷◌, Option, map, false, true}
+use Rattle.std.specs.Prelude.{Some, codes}
 use Rattle.std.specs.Borrow.{Bor}
-use Rattle.clap.specs.Words.{App, Kinds, Row, Rule, Text, fault_of, new_app, new_rule}
-use Rattle.clap.specs.Words.{subcommand_of, takes, with_rule, with_subcommand}
+use Rattle.clap.specs.Words.{App, Kinds, Row, Rule, Text, app_of, fault_of, new_app}
+use Rattle.clap.specs.Words.{new_rule, rule_of, subcommand_of, takes, with_rule, with_subcommand}
 use Rattle.clap.specs.declared.error.ErrorKind.TheVariants.{DisplayHelp, DisplayVersion}
+use Rattle.clap.specs.declared.builder.Arg.{Arg}
 use Rattle.clap.specs.declared.builder.ArgAction.{ArgAction}
 use Rattle.clap.specs.declared.builder.ArgAction.TheVariants.{Set, SetTrue, Append}
+use Rattle.clap.specs.declared.builder.Command.{Command}
+use Rattle.clap.specs.declared.Command.TheViews.{out-Command}
 
 -- a file that has to be named; with `Append` more of them may be
 abbrev pub file_rule : Text → ArgAction → Rule
@@ -66,6 +69,14 @@ abbrev pub pslink_app : App
 pslink_app = with_subcommand (with_subcommand
     (with_subcommand (with_subcommand (with_subcommand bare_app link_app.top) map_app.top)
     show_app.top) check_app.top) list_app.top
+
+-- the command is this one, of which no argument is one of its commands too
+abbrev pub IsMade : App → Command → Type 0
+IsMade app c = (app_of c ≡ app) × ((out-Command c).has_globals ≡ false)
+
+-- the argument has this rule, and is its command's alone
+abbrev pub IsArgument : Rule → Arg → Type 0
+IsArgument rule a = (rule_of a ≡ rule) × (a.global ≡ false)
 
 -- the texts of arguments
 abbrev pub texts : List (Bor Text) → List Text

@@ -10,6 +10,8 @@ use Rattle.clap.specs.declared.error.ErrorKind.TheVariants.{DisplayHelp, Display
 use Rattle.ps_command.specs.declared.request.Inputs.{Inputs}
 use Rattle.ps_command.specs.declared.request.Request.{Request}
 use Rattle.ps_command.specs.declared.request.Request.TheVariants as request
+use Rattle.ps_command.specs.declared.request.Task.{Task}
+use Rattle.ps_command.specs.declared.request.Task.TheVariants as task
 
 -- the libraries that are named, in their order
 abbrev pub libraries_of : List Row → List Text
@@ -48,48 +50,41 @@ is_json rows = has_flag (codes "json") rows
 
 -- the command that is named, with the files that are named for it; a link writes no file that is
 -- named as a library
-abbrev pub IsNamedCommand : {A : Type 0} → Request A → Option (Text × List Row) → Type 0
-IsNamedCommand (request.Help text) named = ⊥
-IsNamedCommand request.Version named = ⊥
-IsNamedCommand (request.Link inputs out) named =
+abbrev pub IsNamedCommand : {A : Type 0} → Task A → Option (Text × List Row) → Type 0
+IsNamedCommand (task.Link inputs out) named =
     (rows : List Row) × (named ≡ Some (codes "link", rows)) × NamesInputs inputs rows
     × (first_of (codes "OUT") rows ≡ Some out.now)
     × (is_library out.now (libraries_of rows) ≡ false)
-IsNamedCommand (request.Map inputs references json) named =
+IsNamedCommand (task.Map inputs references json) named =
     (rows : List Row) × (named ≡ Some (codes "map", rows)) × NamesInputs inputs rows
     × (references ≡ has_references rows) × (json ≡ is_json rows)
-IsNamedCommand (request.Show file json) named =
+IsNamedCommand (task.Show file json) named =
     (rows : List Row) × (named ≡ Some (codes "show", rows))
     × (first_of (codes "FILE") rows ≡ Some file.now) × (json ≡ is_json rows)
-IsNamedCommand (request.Check inputs strict unit json) named =
+IsNamedCommand (task.Check inputs strict unit json) named =
     (rows : List Row) × (named ≡ Some (codes "check", rows)) × NamesInputs inputs rows
     × (strict ≡ is_strict rows) × (unit ≡ is_unit rows) × (json ≡ is_json rows)
-IsNamedCommand (request.List files json) named =
+IsNamedCommand (task.List files json) named =
     (rows : List Row) × (named ≡ Some (codes "list", rows))
     × (map (λ path. path.now) files.items ≡ files_of rows) × (json ≡ is_json rows)
 
 -- the help or the version, or the command that is named
 abbrev pub IsAsked : {A : Type 0} → Request A → Option (Text × List Row) → Type 0
-IsAsked {A} (request.Help text) named = ⊤
-IsAsked {A} request.Version named = ⊤
-IsAsked {A} (request.Link inputs out) named = IsNamedCommand {A = A} (request.Link inputs out) named
-IsAsked {A} (request.Map inputs references json) named =
-    IsNamedCommand {A = A} (request.Map inputs references json) named
-IsAsked {A} (request.Show file json) named = IsNamedCommand {A = A} (request.Show file json) named
-IsAsked {A} (request.Check inputs strict unit json) named =
-    IsNamedCommand {A = A} (request.Check inputs strict unit json) named
-IsAsked {A} (request.List files json) named = IsNamedCommand {A = A} (request.List files json) named
+IsAsked (request.Help text) named = ⊤
+IsAsked request.Version named = ⊤
+IsAsked (request.Task t) named = IsNamedCommand t named
+
+-- a command, and not the help or the version, which is the one that is named
+abbrev pub IsTask : {A : Type 0} → Request A → Option (Text × List Row) → Type 0
+IsTask (request.Task t) named = IsNamedCommand t named
+IsTask _ named = ⊥
 
 -- the help or the version only where clap may answer that it is asked for, and a command only where
 -- clap finds no fault
 abbrev pub Answers : {A : Type 0} → Request A → Kinds → Type 0
 Answers (request.Help text) faults = IsAmong DisplayHelp faults
 Answers request.Version faults = IsAmong DisplayVersion faults
-Answers (request.Link inputs out) faults = faults ≡ []
-Answers (request.Map inputs references json) faults = faults ≡ []
-Answers (request.Show file json) faults = faults ≡ []
-Answers (request.Check inputs strict unit json) faults = faults ≡ []
-Answers (request.List files json) faults = faults ≡ []
+Answers (request.Task t) faults = faults ≡ []
 
 -- the command that is named leaves out a file that it needs, or no command is named
 abbrev pub LeavesOut : Option (Text × List Row) → Type 0

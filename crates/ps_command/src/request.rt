@@ -1,9 +1,9 @@
 //! What the arguments of a command line ask the program to do.
-ghost use Rattle.std.specs.Prelude.{◌≡◌, ◌≢◌, ◌⊎◌, IfErr, IfOk, Some, None, codes, map, false};
-ghost use Rattle.clap.specs.Words.{App, FailsBy, app_of, first_of, found_of, kind_of, rows_of, rule_of, subcommand_rows_of, with_subcommand};
-ghost use Rattle.clap.specs.declared.Command.TheViews.{out-Command};
-ghost use Rattle.ps_command.specs.CommandLine.{AreAccepted, AskForText, check_app, faults_in, file_rule, flag_rule, inputs_app, json_rule, libraries_rule, link_app, list_app, map_app, named_in, pslink_app, show_app, texts};
-ghost use Rattle.ps_command.specs.Requests.{Answers, IsAsked, IsNamedCommand, LeavesOut, NamesInputs, WritesLibrary, files_of, has_flag as has_flag_spec, libraries_of};
+ghost use Rattle.std.specs.Prelude.{◌≡◌, ◌≢◌, ◌⊎◌, IfErr, IfOk, Some, None, codes, map};
+ghost use Rattle.clap.specs.Words.{App, FailsBy, Rule, app_of, first_of, found_of, kind_of, new_app, rows_of, subcommand_rows_of, with_rule, with_subcommand};
+ghost use Rattle.clap.specs.declared.builder.ArgAction.TheVariants.{Set};
+ghost use Rattle.ps_command.specs.CommandLine.{AreAccepted, AskForText, IsArgument, IsMade, check_app, faults_in, file_rule, flag_rule, inputs_app, json_rule, libraries_rule, link_app, list_app, map_app, named_in, pslink_app, show_app, texts};
+ghost use Rattle.ps_command.specs.Requests.{Answers, IsAsked, IsNamedCommand, IsTask, LeavesOut, NamesInputs, WritesLibrary, files_of, has_flag as has_flag_spec, libraries_of};
 ghost use Rattle.ps_command.specs.Statuses.{status_of};
 
 use crate::error::CommandError;
@@ -129,6 +129,14 @@ pub(crate) enum Request<'a, A: Allocator> {
     Help(clap::Error),
     /// Prints the version.
     Version,
+    /// Does what a command says.
+    Task(Task<'a, A>),
+}
+
+/// What a command says, with the files and the flags that are named for it.
+/// Source: this project's profile.
+#[derive(Drop)]
+pub(crate) enum Task<'a, A: Allocator> {
     /// Links the inputs, and writes the linked file to `out`.
     Link {
         inputs: Inputs<'a, A>,
@@ -187,7 +195,7 @@ pub(crate) fn parse<'a, A: Allocator + Copy>(
 
     // Arguments that clap accepts name a command, and ask for no help.
     ensures named { AreAccepted (texts args.now)
-        → IfOk result (λ r. IsNamedCommand r (named_in (texts args.now))) }
+        → IfOk result (λ r. IsTask r (named_in (texts args.now))) }
 
     // Arguments that clap accepts are refused because memory runs out, or as wrong usage because
     // OUT is named as a library too.
@@ -196,7 +204,7 @@ pub(crate) fn parse<'a, A: Allocator + Copy>(
         → (status_of e ≡ 2) × WritesLibrary (named_in (texts args.now))) }
 {
     match matches(heap, args) {
-        Ok(matches) => request_of(heap, alloc, &matches),
+        Ok(matches) => Ok(Request::Task(task_of(heap, alloc, &matches)?)),
         Err(error) => match error.kind() {
             ErrorKind::DisplayHelp => Ok(Request::Help(error)),
             ErrorKind::DisplayVersion => Ok(Request::Version),
@@ -216,22 +224,25 @@ fn matches<'a>(heap: Global, args: &'a [&'a str]) -> Result<ArgMatches<'a>, clap
 }
 
 /// The command that was found, with its files.
-fn request_of<'a, A: Allocator + Copy>(
+fn task_of<'a, A: Allocator + Copy>(
     heap: Global,
     alloc: A,
     matches: &ArgMatches<'a>,
-) -> Result<Request<'a, A>, CommandError<'a>>
-    ensures named { IfOk result (λ r. IsNamedCommand r (subcommand_rows_of matches.now)) }
+) -> Result<Task<'a, A>, CommandError<'a>>
+    ensures named { IfOk result (λ t. IsNamedCommand t (subcommand_rows_of matches.now)) }
     ensures refused { IfErr result (λ e. e ≢ CommandError.Memory
         → LeavesOut (subcommand_rows_of matches.now)
         ⊎ ((status_of e ≡ 2) × WritesLibrary (subcommand_rows_of matches.now))) }
 {
-    match matches.subcommand() {
-        Some(("link", found)) => link_of(heap, alloc, found),
-        Some(("map", found)) => map_of(heap, alloc, found),
-        Some(("show", found)) => show_of(heap, found),
-        Some(("check", found)) => check_of(heap, alloc, found),
-        Some(("list", found)) => list_of(alloc, found),
+    let Some((name, found)) = matches.subcommand() else {
+        return Err(missing_argument(heap));
+    };
+    match name {
+        "link" => link_of(heap, alloc, found),
+        "map" => map_of(heap, alloc, found),
+        "show" => show_of(heap, found),
+        "check" => check_of(heap, alloc, found),
+        "list" => list_of(alloc, found),
         _ => Err(missing_argument(heap)),
     }
 }
@@ -240,8 +251,8 @@ fn link_of<'a, A: Allocator + Copy>(
     heap: Global,
     alloc: A,
     found: &ArgMatches<'a>,
-) -> Result<Request<'a, A>, CommandError<'a>>
-    ensures named { IfOk result (λ r. IsNamedCommand r
+) -> Result<Task<'a, A>, CommandError<'a>>
+    ensures named { IfOk result (λ t. IsNamedCommand t
         (Some (codes "link", rows_of (found_of found.now)))) }
     ensures refused { IfErr result (λ e. e ≢ CommandError.Memory
         → LeavesOut (Some (codes "link", rows_of (found_of found.now)))
@@ -252,15 +263,15 @@ fn link_of<'a, A: Allocator + Copy>(
     if inputs.libraries.contains(&out) {
         return Err(written_library(heap, out, out));
     }
-    Ok(Request::Link { inputs, out })
+    Ok(Task::Link { inputs, out })
 }
 
 fn map_of<'a, A: Allocator + Copy>(
     heap: Global,
     alloc: A,
     found: &ArgMatches<'a>,
-) -> Result<Request<'a, A>, CommandError<'a>>
-    ensures named { IfOk result (λ r. IsNamedCommand r
+) -> Result<Task<'a, A>, CommandError<'a>>
+    ensures named { IfOk result (λ t. IsNamedCommand t
         (Some (codes "map", rows_of (found_of found.now)))) }
     ensures refused { IfErr result (λ e. e ≢ CommandError.Memory
         → LeavesOut (Some (codes "map", rows_of (found_of found.now)))) }
@@ -268,7 +279,7 @@ fn map_of<'a, A: Allocator + Copy>(
     let inputs = inputs_of(heap, alloc, found)?;
     let references = has_flag(found, "references");
     let json = has_flag(found, "json");
-    Ok(Request::Map {
+    Ok(Task::Map {
         inputs,
         references,
         json,
@@ -278,23 +289,23 @@ fn map_of<'a, A: Allocator + Copy>(
 fn show_of<'a, A: Allocator + Copy>(
     heap: Global,
     found: &ArgMatches<'a>,
-) -> Result<Request<'a, A>, CommandError<'a>>
-    ensures named { IfOk result (λ r. IsNamedCommand r
+) -> Result<Task<'a, A>, CommandError<'a>>
+    ensures named { IfOk result (λ t. IsNamedCommand t
         (Some (codes "show", rows_of (found_of found.now)))) }
     ensures refused { IfErr result (λ e. e ≢ CommandError.Memory
         → LeavesOut (Some (codes "show", rows_of (found_of found.now)))) }
 {
     let file = file_of(heap, found, "FILE")?;
     let json = has_flag(found, "json");
-    Ok(Request::Show { file, json })
+    Ok(Task::Show { file, json })
 }
 
 fn check_of<'a, A: Allocator + Copy>(
     heap: Global,
     alloc: A,
     found: &ArgMatches<'a>,
-) -> Result<Request<'a, A>, CommandError<'a>>
-    ensures named { IfOk result (λ r. IsNamedCommand r
+) -> Result<Task<'a, A>, CommandError<'a>>
+    ensures named { IfOk result (λ t. IsNamedCommand t
         (Some (codes "check", rows_of (found_of found.now)))) }
     ensures refused { IfErr result (λ e. e ≢ CommandError.Memory
         → LeavesOut (Some (codes "check", rows_of (found_of found.now)))) }
@@ -303,7 +314,7 @@ fn check_of<'a, A: Allocator + Copy>(
     let strict = has_flag(found, "strict");
     let unit = has_flag(found, "unit");
     let json = has_flag(found, "json");
-    Ok(Request::Check {
+    Ok(Task::Check {
         inputs,
         strict,
         unit,
@@ -314,14 +325,14 @@ fn check_of<'a, A: Allocator + Copy>(
 fn list_of<'a, A: Allocator + Copy>(
     alloc: A,
     found: &ArgMatches<'a>,
-) -> Result<Request<'a, A>, CommandError<'a>>
-    ensures named { IfOk result (λ r. IsNamedCommand r
+) -> Result<Task<'a, A>, CommandError<'a>>
+    ensures named { IfOk result (λ t. IsNamedCommand t
         (Some (codes "list", rows_of (found_of found.now)))) }
     ensures refused { IfErr result (λ e. e ≡ CommandError.Memory) }
 {
     let files = files(alloc, found)?;
     let json = has_flag(found, "json");
-    Ok(Request::List { files, json })
+    Ok(Task::List { files, json })
 }
 
 /// The flag of this name is given.
@@ -437,126 +448,128 @@ fn command<'a>(heap: Global) -> Result<Command<'a>, AllocError>
         .about("The Linker of UCSD Pascal II.0 for Pascal hosts and units")
         .after_help(ENDING)
         .subcommand_required(true);
-    let with_link = with_command(app, link_command(heap))?;
-    let with_map = with_command(with_link, map_command(heap))?;
-    let with_show = with_command(with_map, show_command(heap))?;
-    let with_check = with_command(with_show, check_command(heap))?;
+    let with_link = with_command(Ok(app), link_command(heap));
+    let with_map = with_command(with_link, map_command(heap));
+    let with_show = with_command(with_map, show_command(heap));
+    let with_check = with_command(with_show, check_command(heap));
     with_command(with_check, list_command(heap))
 }
 
-/// Adds a command, for which there is memory or not.
+/// Adds a command. For each of the two there is memory or not.
 fn with_command<'a>(
-    app: Command<'a>,
+    app: Result<Command<'a>, AllocError>,
     made: Result<Command<'a>, AllocError>,
 ) -> Result<Command<'a>, AllocError>
-    ensures { (sub : App)
-        → IfOk made.entry (λ c. (app_of c ≡ sub) × ((out-Command c).has_globals ≡ false))
-        → IfOk result (λ c. app_of c ≡ with_subcommand (app_of app.entry) sub.top) }
+    ensures { (whole sub : App) → IfOk app.entry (λ c. app_of c ≡ whole)
+        → IfOk made.entry (IsMade sub)
+        → IfOk result (λ c. app_of c ≡ with_subcommand whole sub.top) }
 {
-    app.subcommand(made?)
+    app?.subcommand(made?)
+}
+
+/// Adds an argument to a command, if there is memory for both.
+fn with_arg<'a>(
+    made: Result<Command<'a>, AllocError>,
+    arg: Arg<'a>,
+) -> Result<Command<'a>, AllocError>
+    ensures { (app : App) (rule : Rule) → IsArgument rule arg.entry
+        → IfOk made.entry (IsMade app) → IfOk result (IsMade (with_rule app rule)) }
+{
+    made?.arg(arg)
+}
+
+/// A command without arguments.
+fn new_command<'a>(
+    heap: Global,
+    name: &'a str,
+    about: &'a str,
+    ending: &'a str,
+) -> Result<Command<'a>, AllocError>
+    ensures { IfOk result (IsMade (new_app name.entry.now)) }
+{
+    Ok(Command::new(heap, name).about(about).after_help(ending))
 }
 
 fn link_command<'a>(heap: Global) -> Result<Command<'a>, AllocError>
-    ensures { IfOk result (λ c. (app_of c ≡ link_app) × ((out-Command c).has_globals ≡ false)) }
+    ensures { IfOk result (IsMade link_app) }
 {
-    Command::new(heap, "link")
-        .about("Links a host with the units that it uses, and writes the linked file")
-        .after_help(LINK_ENDING)
-        .arg(file(
-            heap,
-            "HOST",
-            ArgAction::Set,
-            "The code file that holds the host program",
-        ))?
-        .arg(file(
-            heap,
-            "OUT",
-            ArgAction::Set,
-            "The code file to write; it may be HOST",
-        ))?
-        .arg(libraries_argument(heap))
+    let about = "Links a host with the units that it uses, and writes the linked file";
+    let with_host = with_arg(
+        new_command(heap, "link", about, LINK_ENDING),
+        host_argument(heap),
+    );
+    let help = "The code file to write; it may be HOST";
+    let with_out = with_arg(with_host, file(heap, "OUT", ArgAction::Set, help));
+    with_arg(with_out, libraries_argument(heap))
 }
 
 /// A command of this name, which takes a host and libraries.
-fn inputs_command<'a>(heap: Global, name: &'a str) -> Result<Command<'a>, AllocError>
-    ensures { IfOk result (λ c. (app_of c ≡ inputs_app name.entry.now)
-        × ((out-Command c).has_globals ≡ false)) }
+fn inputs_command<'a>(
+    heap: Global,
+    name: &'a str,
+    about: &'a str,
+    ending: &'a str,
+) -> Result<Command<'a>, AllocError>
+    ensures { IfOk result (IsMade (inputs_app name.entry.now)) }
 {
-    Command::new(heap, name)
-        .arg(file(
-            heap,
-            "HOST",
-            ArgAction::Set,
-            "The code file that holds the host program",
-        ))?
-        .arg(libraries_argument(heap))
+    let with_host = with_arg(new_command(heap, name, about, ending), host_argument(heap));
+    with_arg(with_host, libraries_argument(heap))
 }
 
 fn map_command<'a>(heap: Global) -> Result<Command<'a>, AllocError>
-    ensures { IfOk result (λ c. (app_of c ≡ map_app) × ((out-Command c).has_globals ≡ false)) }
+    ensures { IfOk result (IsMade map_app) }
 {
-    inputs_command(heap, "map")?
-        .about(
-            "Prints where a link would put each segment and private variable, and writes no file",
-        )
-        .after_help(MAP_ENDING)
-        .arg(flag_argument(
-            heap,
-            "references",
-            "Prints what the link stores at each place, too",
-        ))?
-        .arg(json_argument(heap))
+    let about =
+        "Prints where a link would put each segment and private variable, and writes no file";
+    let help = "Prints what the link stores at each place, too";
+    let with_references = with_arg(
+        inputs_command(heap, "map", about, MAP_ENDING),
+        flag_argument(heap, "references", help),
+    );
+    with_arg(with_references, json_argument(heap))
 }
 
 fn show_command<'a>(heap: Global) -> Result<Command<'a>, AllocError>
-    ensures { IfOk result (λ c. (app_of c ≡ show_app) × ((out-Command c).has_globals ≡ false)) }
+    ensures { IfOk result (IsMade show_app) }
 {
-    Command::new(heap, "show")
-        .about("Prints the segments of one code file and the link information of each")
-        .after_help(SHOW_ENDING)
-        .arg(file(
-            heap,
-            "FILE",
-            ArgAction::Set,
-            "The code file to show: a host, a library, or a linked file",
-        ))?
-        .arg(json_argument(heap))
+    let about = "Prints the segments of one code file and the link information of each";
+    let help = "The code file to show: a host, a library, or a linked file";
+    let with_file = with_arg(
+        new_command(heap, "show", about, SHOW_ENDING),
+        file(heap, "FILE", ArgAction::Set, help),
+    );
+    with_arg(with_file, json_argument(heap))
 }
 
 fn check_command<'a>(heap: Global) -> Result<Command<'a>, AllocError>
-    ensures { IfOk result (λ c. (app_of c ≡ check_app) × ((out-Command c).has_globals ≡ false)) }
+    ensures { IfOk result (IsMade check_app) }
 {
-    inputs_command(heap, "check")?
-        .about("Says in words what is wrong with the files and what only looks right")
-        .after_help(CHECK_ENDING)
-        .arg(flag_argument(heap, "strict", "Ends with status 1 on a warning too"))?
-        .arg(flag_argument(
-            heap,
-            "unit",
-            "Lists each file, and what refuses each of its units by itself",
-        ))?
-        .arg(json_argument(heap))
+    let about = "Says in words what is wrong with the files and what only looks right";
+    let help = "Ends with status 1 on a warning too";
+    let with_strict = with_arg(
+        inputs_command(heap, "check", about, CHECK_ENDING),
+        flag_argument(heap, "strict", help),
+    );
+    let help = "Lists each file, and what refuses each of its units by itself";
+    let with_unit = with_arg(with_strict, flag_argument(heap, "unit", help));
+    with_arg(with_unit, json_argument(heap))
 }
 
 fn list_command<'a>(heap: Global) -> Result<Command<'a>, AllocError>
-    ensures { IfOk result (λ c. (app_of c ≡ list_app) × ((out-Command c).has_globals ≡ false)) }
+    ensures { IfOk result (IsMade list_app) }
 {
-    Command::new(heap, "list")
-        .about("Prints a line of each file and of each of its segments, made for grep")
-        .after_help(LIST_ENDING)
-        .arg(file(
-            heap,
-            "FILE",
-            ArgAction::Append,
-            "A file of any kind, as a host, a library, or a linked file",
-        ))?
-        .arg(json_argument(heap))
+    let about = "Prints a line of each file and of each of its segments, made for grep";
+    let help = "A file of any kind, as a host, a library, or a linked file";
+    let with_files = with_arg(
+        new_command(heap, "list", about, LIST_ENDING),
+        file(heap, "FILE", ArgAction::Append, help),
+    );
+    with_arg(with_files, json_argument(heap))
 }
 
 /// A file that has to be named, or with `Append` at least one.
 fn file<'a>(heap: Global, name: &'a str, action: ArgAction, help: &'a str) -> Arg<'a>
-    ensures rule { rule_of result ≡ file_rule name.entry.now action }
-    ensures global { result.global ≡ false }
+    ensures { IsArgument (file_rule name.entry.now action) result }
 {
     Arg::new(heap, name)
         .required(true)
@@ -564,9 +577,19 @@ fn file<'a>(heap: Global, name: &'a str, action: ArgAction, help: &'a str) -> Ar
         .help(help)
 }
 
+fn host_argument<'a>(heap: Global) -> Arg<'a>
+    ensures { IsArgument (file_rule (codes "HOST") Set) result }
+{
+    file(
+        heap,
+        "HOST",
+        ArgAction::Set,
+        "The code file that holds the host program",
+    )
+}
+
 fn libraries_argument<'a>(heap: Global) -> Arg<'a>
-    ensures rule { rule_of result ≡ libraries_rule }
-    ensures global { result.global ≡ false }
+    ensures { IsArgument libraries_rule result }
 {
     Arg::new(heap, "LIB")
         .action(ArgAction::Append)
@@ -575,8 +598,7 @@ fn libraries_argument<'a>(heap: Global) -> Arg<'a>
 
 /// An option without a value.
 fn flag_argument<'a>(heap: Global, name: &'a str, help: &'a str) -> Arg<'a>
-    ensures rule { rule_of result ≡ flag_rule name.entry.now }
-    ensures global { result.global ≡ false }
+    ensures { IsArgument (flag_rule name.entry.now) result }
 {
     Arg::new(heap, name)
         .long(name)
@@ -586,8 +608,7 @@ fn flag_argument<'a>(heap: Global, name: &'a str, help: &'a str) -> Arg<'a>
 
 /// The option `--json`.
 fn json_argument<'a>(heap: Global) -> Arg<'a>
-    ensures rule { rule_of result ≡ json_rule }
-    ensures global { result.global ≡ false }
+    ensures { IsArgument json_rule result }
 {
     flag_argument(heap, "json", "Prints the same values as one JSON document")
 }

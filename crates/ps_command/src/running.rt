@@ -1,12 +1,13 @@
 //! One command, from its arguments to its status.
-ghost use Rattle.std.specs.Prelude.{◌≡◌, ◌≢◌, ◌≤◌, ◌⊎◌, ◌∷◌, [], List, ℕ, Any, IfErr, IfOk, IsErrAnd, OnOk, false, map, string_bytes, true};
+ghost use Rattle.std.specs.Prelude.{◌≡◌, ◌≢◌, ◌≤◌, ◌⊎◌, ◌∷◌, [], List, Option, ℕ, Any, IfErr, IfOk, IsErrAnd, OnOk, false, map, string_bytes, true};
 ghost use Rattle.std.specs.Io.KnownBytes.{Appends};
+ghost use Rattle.clap.specs.Words.{Row, Text};
 ghost use Rattle.ps_linkfile.specs.LinkedFile.{LinkedFile, summary_of};
 ghost use Rattle.ps_linkfile.specs.Writing.{file_in, summary_in};
 ghost use Rattle.ps_command.specs.CommandLine.{AreAccepted, AskForText, faults_in, named_in, texts};
 ghost use Rattle.ps_command.specs.Printed.{Prints, PrintsLine, PrintsLines, PrintsLists, PrintsMap, PrintsReport, PrintsShow, PrintsText, HasVerdict, IsPrintedMap, list_form as list_form_spec, printed_show, version_line};
 ghost use Rattle.ps_command.specs.Reading.{Reads, Writes};
-ghost use Rattle.ps_command.specs.Requests.{NamesCheck, NamesList, OverwritesLibrary, WritesLibrary};
+ghost use Rattle.ps_command.specs.Requests.{IsNamedCommand, NamesCheck, NamesList, OverwritesLibrary, WritesLibrary};
 ghost use Rattle.ps_command.specs.Statuses.{status_of};
 ghost use Rattle.ps_report.specs.Verdicts.{Tells};
 
@@ -14,7 +15,7 @@ use crate::error::CommandError;
 use crate::files::{self, CodeFiles, InputBytes};
 use crate::lists::{Form, print_lists};
 use crate::output;
-use crate::request::{self, Inputs, Request};
+use crate::request::{self, Inputs, Request, Task};
 use ps_linkfile::{Counting, Linked, Summary};
 use ps_report::Report;
 use std::alloc::{AllocError, Allocator, Global};
@@ -108,9 +109,9 @@ fn carry_out<'a, R: CodeFiles + AllocGlobal, A: Allocator + Copy, O: Write, E: W
         → IfOk result (λ status. Prints (Reads (R.opened rt.now) R.Opened.remaining)
         (Writes (R.created rt.now) (R.closed rt.now) R.Created.contents)
         (named_in (texts args.now)) status (O.contents out.old) (O.contents out.new)) }
-    ensures text { IfOk result (λ status. faults_in (texts args.now) ≢ []
-        → (status ≡ 0) × PrintsText (faults_in (texts args.now)) (O.contents out.old)
-        (O.contents out.new)) }
+    ensures text { faults_in (texts args.now) ≢ []
+        → IfOk result (λ status. (status ≡ 0) × PrintsText (faults_in (texts args.now))
+        (O.contents out.old) (O.contents out.new)) }
     ensures asked { AskForText (texts args.now)
         → IfErr result (λ e. status_of e ≢ 3 → status_of e ≡ 4) }
     ensures few { IfOk result (λ status. status ≤ 3) }
@@ -133,12 +134,37 @@ fn carry_out<'a, R: CodeFiles + AllocGlobal, A: Allocator + Copy, O: Write, E: W
             print_version(out)?;
             Ok(0)
         }
-        Request::Link { inputs, out: path } => {
+        Request::Task(task) => perform(rt, alloc, task, out, err),
+    }
+}
+
+/// Does what a command says, and returns its status.
+fn perform<'a, R: CodeFiles + AllocGlobal, A: Allocator + Copy, O: Write, E: Write>(
+    rt: &R,
+    alloc: A,
+    task: Task<'a, A>,
+    out: &mut O,
+    err: &mut E,
+) -> Result<u8, CommandError<'a>>
+    ensures ok { (named : Option (Text × List Row)) → IsNamedCommand task.entry named
+        → IfOk result (λ status. Prints (Reads (R.opened rt.now) R.Opened.remaining)
+        (Writes (R.created rt.now) (R.closed rt.now) R.Created.contents)
+        named status (O.contents out.old) (O.contents out.new)) }
+    ensures few { IfOk result (λ status. status ≤ 3) }
+    ensures used { IfOk result (λ status. status ≢ 2) }
+    ensures silent { IfOk result (λ status. status ≡ 0 → err.new ≡ err.old) }
+    ensures err { IfErr result (λ e. status_of e ≢ 3 → out.new ≡ out.old) }
+    ensures usage { (named : Option (Text × List Row)) → IsNamedCommand task.entry named
+        → IfErr result (λ e. status_of e ≡ 2
+        → OverwritesLibrary (R.one_file rt.now) named) }
+{
+    match task {
+        Task::Link { inputs, out: path } => {
             refuse_library(rt, &inputs, path)?;
             link(rt, alloc, inputs, path, out)?;
             Ok(0)
         }
-        Request::Map {
+        Task::Map {
             inputs,
             references,
             json,
@@ -146,11 +172,11 @@ fn carry_out<'a, R: CodeFiles + AllocGlobal, A: Allocator + Copy, O: Write, E: W
             map(rt, alloc, inputs, references, json, out)?;
             Ok(0)
         }
-        Request::Show { file, json } => {
+        Task::Show { file, json } => {
             show(rt, alloc, file, json, out)?;
             Ok(0)
         }
-        Request::Check {
+        Task::Check {
             inputs,
             strict,
             unit,
@@ -161,7 +187,7 @@ fn carry_out<'a, R: CodeFiles + AllocGlobal, A: Allocator + Copy, O: Write, E: W
             }
             check(rt, alloc, inputs, strict, json, out)
         }
-        Request::List { files, json } => {
+        Task::List { files, json } => {
             print_lists(rt, alloc, files.as_slice(), list_form(json), out, err)
         }
     }

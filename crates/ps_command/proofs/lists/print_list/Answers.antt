@@ -1,19 +1,18 @@
-use Rattle.std.proofs.Common.{◌∙◌, ℕ, List, ap, inl, inr, subst, sym}
+use Rattle.std.proofs.Common.{◌∙◌, ap, inl, inr, sym}
 use Rattle.std.proofs.lemmas.Result.{IfOk-weaker}
 use Rattle.ps_command.specs.Printed.{listed_units}
-use Rattle.ps_command.specs.Reading.{Reads}
 use Rattle.ps_command.proofs.ListsPrinted.{both_ok}
 use Rattle.ps_command.proofs.lists.print_list.Goals as goal
 
 pub returns-in-Ok-clause-ok : goal.returns-in-Ok-clause-ok
 returns-in-Ok-clause-ok g c =
-    let Read : List ℕ → List ℕ → Type 0 =
-    Reads (g.R.CodeFiles.opened c.args.rt.now) g.R.Opened.Read.remaining in
-    let read : Read c.args.path.now c.as_slice-file.result.now =
-    subst (λ (bytes : List ℕ). Read c.args.path.now bytes)
-    (sym c.as_slice-file.ensures.value) c.in-Ok.ensures.file in
-    IfOk-weaker c.print_file.result _ _ (λ status printed. inl
-    (c.as_slice-file.result.now, c.as_str.result.now, read, printed.0, printed.1))
+    IfOk-weaker c.print_file.result _ _ (λ status printed. inl (
+      c.as_slice-file.result.now,
+      c.as_str.result.now,
+      rw c.as_slice-file.ensures.value c.in-Ok.ensures.file,
+      printed.0,
+      printed.1,
+    ))
     (both_ok c.print_file.result _ _ c.print_file.ensures.status c.print_file.ensures.text)
 
 pub returns-in_ok-print_unread-in-Err-clause-ok : goal.returns-in_ok-print_unread-in-Err-clause-ok
