@@ -9,7 +9,6 @@ mod entries;
 mod host_faults;
 mod in_place;
 mod in_place_faults;
-mod largest;
 mod link_allocations;
 mod link_information;
 mod lone_units;

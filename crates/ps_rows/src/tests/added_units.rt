@@ -4,7 +4,6 @@ use super::tables::Memory::{Ample, EachAllocationRefused, NoAllocation};
 use super::tables::{
     BIG_USED_UNIT, Base, Refusal, Row, Table, USED_UNIT, link_tables, refuse_tables,
 };
-use super::texts::{Mapped, maps};
 use crate::base::{COUNT, HOST, LIBRARY, LINKED_DEMO, LINKED_UTIL, STATE, UTIL, WANTED_UTIL};
 use crate::code_file::Change::{
     Address, Bytes, Code, CodeWord, Entry, HostCode, Kind, Length, Records, Resized, UnitCode,
@@ -383,68 +382,4 @@ static REFUSALS: [Table<'static, Refusal<'static>>; 3] = [
 fn added_units(rt: HostRuntime) {
     link_tables(&rt, &TABLES);
     refuse_tables(&rt, &REFUSALS)
-}
-
-const MAP_OF_FIRST_NAMES: &str = "segment 00 TOOLS    file 0 entry 00 block 1 length 24
-segment 01 DEMO     file 0 entry 01 block 2 length 18
-segment 02 UTIL     file 1 entry 02 block 3 length 24
-segment 07 B        file 2 entry 01 block 4 length 24 added
-segment 08 C        file 2 entry 02 block 5 length 24 added
-segment 09 A        file 2 entry 00 block 6 length 24 added
-segment 10 E        file 2 entry 04 block 7 length 24 added
-segment 11 AUX      file 1 entry 03 block 8 length 24 added
-public COUNT    value 3
-private 11 STATE    offset 8 words 4
-next 12 data 18 blocks 9
-";
-
-/// A host whose first slot has a unit in place, which names B and C; its own segment names C and A,
-/// and in slot 2 it wants a unit, which names E and A. The units of the second library name AUX.
-static FIRST_NAMES: Mapped<'static> = (
-    Base {
-        host: &[HOST, FIRST_NAMES_HOST],
-        libraries: &[
-            (
-                false,
-                &[
-                    LIBRARY,
-                    HAS_AUX,
-                    &[Records(2, &[UnitReference(E, &[]), UnitReference(A, &[]), End(0)])],
-                ],
-            ),
-            (false, &[FIVE_UNITS, &[Records(2, &USING_RECORDS)]]),
-        ],
-        ..USED_UNIT
-    },
-    &[],
-    MAP_OF_FIRST_NAMES,
-);
-
-/// A unit's entry in that host.
-const UNIT_IN_PLACE: Slot = Slot {
-    name: TOOLS,
-    ..LIBRARY_AUX
-};
-
-const FIRST_NAMES_HOST: Changes<'static> = &[
-    Resized(2560),
-    Entry(0, UNIT_IN_PLACE),
-    Entry(2, WANTED_UTIL),
-    Entry(7, EMPTY),
-    Records(
-        2,
-        &[
-            PublicDefinition(COUNT, 3),
-            UnitReference(C, &[]),
-            UnitReference(A, &[]),
-            End(8),
-        ],
-    ),
-    Records(4, &[UnitReference(B, &[]), UnitReference(C, &[]), End(0)]),
-    UnitCode(3, 0),
-];
-
-#[test]
-fn names_in_the_order_of_their_first_records(rt: HostRuntime) {
-    maps(&rt, &FIRST_NAMES)
 }

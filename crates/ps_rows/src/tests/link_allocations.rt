@@ -49,7 +49,7 @@ impl<'a> Allocating for Link<'a> {
 
 /// `resolve` with the files of a link.
 #[derive(Clone, Copy)]
-pub(crate) struct Resolve<'a> {
+struct Resolve<'a> {
     /// The files; what they are linked to is not looked at.
     pub link: Link<'a>,
 }

@@ -9,33 +9,62 @@ use crate::information::Record::{End, UnitReference};
 use crate::units::LIBRARY_AUX;
 use ps_codefile::dictionary_layout::SLOTS;
 use ps_resolve::{HostReading, Reading, Requester, read};
-use std::alloc::{AllocError, Global};
+use ps_words::Reason;
+use std::process::Abort;
 
 const BLANK: [u8; 8] = [b' '; 8];
 
-/// A reading of a host and a library, each with changes.
-struct Row {
-    what: &'static str,
-    base: Base<'static>,
-    host: Changes<'static>,
-    library: Changes<'static>,
-    wanted: &'static str,
+/// Who requests the unit of a slot.
+#[derive(Clone, Copy, Debug, PartialEq, Eq)]
+enum Asked {
+    /// No one.
+    Not,
+    /// The slot.
+    BySlot,
+    /// This record of the segment of a slot: its file, the slot and its index.
+    ByRecord(usize, u8, usize),
 }
 
-static ROWS: [Row; 7] = [
-    Row {
-        what: "a unit that only a unit names",
-        base: USED_UNIT,
-        host: &[],
-        library: &[],
-        wanted: "1 DEMO     from file 0 entry 1; 7 wants UTIL    , UTIL     from file 1 entry 2; \
-8 for record 0 of file 1 slot 7, AUX      from file 1 entry 3 added; no fault; segments 3 requested 1",
-    },
-    Row {
-        what: "a requested name that is blank",
-        base: USED_UNIT,
-        host: &[],
-        library: &[
+/// What was read of a slot.
+#[derive(Clone, Copy, Debug, PartialEq, Eq)]
+enum Found {
+    Nothing,
+    Refused(Reason),
+    /// A segment from an entry of a file.
+    Own(usize, u8),
+    /// The same, of a unit that was added.
+    Added(usize, u8),
+}
+
+/// What a row shows, the changes of the host and of the library, the slots of which something is
+/// read, and the first fault.
+type Row = (
+    &'static str,
+    Changes<'static>,
+    Changes<'static>,
+    &'static [(u8, Asked, Found)],
+    &'static str,
+);
+
+/// The library whose unit uses another one.
+static USED_FILES: Base<'static> = USED_UNIT;
+
+static ROWS: [Row; 6] = [
+    (
+        "a unit that only a unit names",
+        &[],
+        &[],
+        &[
+            (1, Asked::Not, Found::Own(0, 1)),
+            (7, Asked::BySlot, Found::Own(1, 2)),
+            (8, Asked::ByRecord(1, 7, 0), Found::Added(1, 3)),
+        ],
+        "none",
+    ),
+    (
+        "a requested name that is blank",
+        &[],
+        &[
             Entry(
                 3,
                 Slot {
@@ -45,30 +74,40 @@ static ROWS: [Row; 7] = [
             ),
             Records(2, &[UnitReference(BLANK, &[2]), End(0)]),
         ],
-        wanted: "1 DEMO     from file 0 entry 1; 7 wants UTIL    , UTIL     from file 1 entry 2; \
-8 for record 0 of file 1 slot 7, refused 13 MissingUnit file 1 slot 7 record 0; \
-refused 13 MissingUnit file 1 slot 7 record 0; segments 2 requested 1",
-    },
-    Row {
-        what: "a unit that was read after a fault",
-        base: USED_UNIT,
-        host: &[Length(1, 17)],
-        library: &[Records(2, &[End(0)])],
-        wanted: "1 refused 11 BadLength file 0 slot 1; \
-7 wants UTIL    , UTIL     from file 1 entry 2; refused 11 BadLength file 0 slot 1; segments 1 requested 0",
-    },
-    Row {
-        what: "a library that cannot be opened",
-        base: USED_UNIT,
-        host: &[],
-        library: &[Resized(511)],
-        wanted: "1 DEMO     from file 0 entry 1; \
-7 wants UTIL    , refused 13 MissingUnit file 0 slot 7; refused 1 ShortFile file 1; segments 1 requested 0",
-    },
-    Row {
-        what: "a slot with nothing in it",
-        base: USED_UNIT,
-        host: &[Entry(
+        &[
+            (1, Asked::Not, Found::Own(0, 1)),
+            (7, Asked::BySlot, Found::Own(1, 2)),
+            (
+                8,
+                Asked::ByRecord(1, 7, 0),
+                Found::Refused(Reason::MissingUnit),
+            ),
+        ],
+        "refused 13 MissingUnit file 1 slot 7 record 0",
+    ),
+    (
+        "a unit that was read after a fault",
+        &[Length(1, 17)],
+        &[Records(2, &[End(0)])],
+        &[
+            (1, Asked::Not, Found::Refused(Reason::BadLength)),
+            (7, Asked::BySlot, Found::Own(1, 2)),
+        ],
+        "refused 11 BadLength file 0 slot 1",
+    ),
+    (
+        "a library that cannot be opened",
+        &[],
+        &[Resized(511)],
+        &[
+            (1, Asked::Not, Found::Own(0, 1)),
+            (7, Asked::BySlot, Found::Refused(Reason::MissingUnit)),
+        ],
+        "refused 1 ShortFile file 1",
+    ),
+    (
+        "a slot with nothing in it",
+        &[Entry(
             7,
             Slot {
                 name: BLANK,
@@ -77,95 +116,94 @@ refused 13 MissingUnit file 1 slot 7 record 0; segments 2 requested 1",
                 length: 0,
             },
         )],
-        library: &[],
-        wanted: "1 DEMO     from file 0 entry 1; no fault; segments 1 requested 0",
-    },
-    Row {
-        what: "a big-endian host and its library",
-        base: BIG_PAIR,
-        host: &[],
-        library: &[],
-        wanted: "1 DEMO     from file 0 entry 1; \
-7 wants UTIL    , UTIL     from file 1 entry 2; no fault; segments 2 requested 0",
-    },
-    Row {
-        what: "a host of no bytes",
-        base: USED_UNIT,
-        host: &[Resized(0)],
-        library: &[],
-        wanted: "refused 1 ShortFile file 0; segments 0",
-    },
+        &[],
+        &[(1, Asked::Not, Found::Own(0, 1))],
+        "none",
+    ),
+    (
+        "a host of no bytes",
+        &[Resized(0)],
+        &[],
+        &[],
+        "refused 1 ShortFile file 0",
+    ),
 ];
 
-/// Adds what was read of a slot to the text.
-fn add_slot(text: &mut String, host: &HostReading, slot: u8) -> Result<(), AllocError>
+static BIG_FILES: Base<'static> = BIG_PAIR;
+
+static BIG_ROW: Row = (
+    "a big-endian host and its library",
+    &[],
+    &[],
+    &[
+        (1, Asked::Not, Found::Own(0, 1)),
+        (7, Asked::BySlot, Found::Own(1, 2)),
+    ],
+    "none",
+);
+
+fn asked_in(host: &HostReading, slot: u8) -> Asked
     requires { slot < 16 }
 {
-    let request = host.request(slot);
-    let read = host.segment(slot);
-    if request.is_none() && read.is_none() {
-        return Ok(());
-    }
-    write!(text, "{slot} ")?;
-    if let Some(request) = request {
-        match request.requester {
-            Requester::Slot => {
-                let name = str::from_utf8(&request.name).unwrap_or("no text");
-                write!(text, "wants {name}, ")?;
-            }
-            Requester::Record(place) => {
-                write!(text, "for record {} of file {} ", place.rec, place.file)?;
-                write!(text, "slot {}, ", place.slot)?;
-            }
-        }
-    }
-    match read {
-        None => text.push_str("nothing; "),
-        Some(Err(fault)) => write!(text, "{fault}; "),
-        Some(Ok(segment)) => {
-            let name = segment.name();
-            let name = str::from_utf8(&name).unwrap_or("no text");
-            let added = if segment.added() { " added" } else { "" };
-            write!(text, "{name} from file {} ", segment.file())?;
-            write!(text, "entry {}{added}; ", segment.index())
-        }
+    match host.request(slot).map(|request| request.requester) {
+        None => Asked::Not,
+        Some(Requester::Slot) => Asked::BySlot,
+        Some(Requester::Record(place)) => Asked::ByRecord(place.file, place.slot, place.rec),
     }
 }
 
-/// What was read, the first fault, and how many segments and requested names there are.
-fn text_of(alloc: Global, reading: &Reading) -> Result<String, AllocError> {
-    let mut text = String::new(alloc);
+fn found_in(host: &HostReading, slot: u8) -> Found
+    requires { slot < 16 }
+{
+    match host.segment(slot) {
+        None => Found::Nothing,
+        Some(Err(fault)) => Found::Refused(fault.reason),
+        Some(Ok(segment)) if segment.added() => Found::Added(segment.file(), segment.index()),
+        Some(Ok(segment)) => Found::Own(segment.file(), segment.index()),
+    }
+}
+
+/// Checks what was read of each slot, and how many segments there are.
+fn has_slots(rt: &impl Abort, what: &str, reading: &Reading, slots: &[(u8, Asked, Found)]) {
+    let mut segments = 0usize;
     if let Ok(host) = reading.host() {
         for slot in 0..SLOTS {
-            add_slot(&mut text, host, slot)?;
+            let wanted = slots.iter().find(|row| row.0 == slot);
+            let wanted = wanted.map_or((Asked::Not, Found::Nothing), |row| (row.1, row.2));
+            let read = (asked_in(host, slot), found_in(host, slot));
+            assert!(rt; read == wanted, "{what}: {slot} {read:?}");
+            segments = segments.saturating_add(usize::from(matches!(
+                read.1,
+                Found::Own(..) | Found::Added(..)
+            )));
         }
     }
+    assert!(rt; reading.segments().len() == segments, "{what}");
+}
+
+fn is_read(rt: &(impl Abort + AllocGlobal), base: &Base<'_>, row: &Row) {
+    let (what, host, library, slots, first) = *row;
+    let alloc = rt.alloc();
+    let host = base.host(alloc, host).expect(rt, "unexpected error");
+    let libraries = base
+        .libraries(alloc, library)
+        .expect(rt, "unexpected error");
+    let libraries = bytes_of(alloc, libraries.as_slice()).expect(rt, "unexpected error");
+    let reading = read(host.as_slice(), libraries.as_slice());
+    has_slots(rt, what, &reading, slots);
     match reading.fault() {
-        None => text.push_str("no fault")?,
-        Some(fault) => write!(text, "{fault}")?,
+        None => is(rt, what, "none", first),
+        Some(fault) => {
+            let text = format!(in alloc; "{fault}").expect(rt, "unexpected error");
+            is(rt, what, text.as_str(), first)
+        }
     }
-    write!(text, "; segments {}", reading.segments().len())?;
-    if let Ok(host) = reading.host() {
-        write!(text, " requested {}", host.requested().len())?;
-    }
-    Ok(text)
 }
 
 #[test]
 fn each_slot_is_read(rt: HostRuntime) {
-    let alloc = rt.alloc();
     for row in &ROWS {
-        let host = row
-            .base
-            .host(alloc, row.host)
-            .expect(&rt, "unexpected error");
-        let libraries = row
-            .base
-            .libraries(alloc, row.library)
-            .expect(&rt, "unexpected error");
-        let libraries = bytes_of(alloc, libraries.as_slice()).expect(&rt, "unexpected error");
-        let reading = read(host.as_slice(), libraries.as_slice());
-        let text = text_of(alloc, &reading).expect(&rt, "unexpected error");
-        is(&rt, row.what, text.as_str(), row.wanted);
+        is_read(&rt, &USED_FILES, row);
     }
+    is_read(&rt, &BIG_FILES, &BIG_ROW)
 }

@@ -1,7 +1,6 @@
 //! Link information as `read_records` reads it.
 use super::allocations::{Allocating, makes_no_allocation, refuses_each_allocation};
 use super::answers::{LITTLE, OUT_OF_MEMORY, is};
-use super::largest::references;
 use crate::base::{COUNT, DEMO, LIBRARY_RECORDS, STATE, UTIL};
 use crate::information::Record::{
     ConstantDefinition, End, Other, PrivateReference, PublicDefinition, PublicReference,
@@ -142,6 +141,15 @@ fn records_in_either_byte_order(rt: HostRuntime) {
     }
 }
 
+/// So many references, from 0 on.
+pub(crate) fn references(alloc: Global, count: u16) -> Result<Vec<u16>, AllocError> {
+    let mut references = Vec::new(alloc);
+    for reference in 0..count {
+        references.push(reference)?;
+    }
+    Ok(references)
+}
+
 /// A record of references 0, 1, 2 and so on, as many as it can have, and an end mark, as text
 /// between these texts.
 pub(crate) fn every_reference(
@@ -168,7 +176,7 @@ fn has_size(rt: &(impl Abort + AllocGlobal), bytes: &[u8], size: usize) {
 #[test]
 fn as_many_references_as_a_record_can_have(rt: HostRuntime) {
     let alloc = rt.alloc();
-    let references = references(alloc, 65_535, 1).expect(&rt, "unexpected error");
+    let references = references(alloc, 65_535).expect(&rt, "unexpected error");
     let records = [PublicReference(COUNT, references.as_slice()), End(0)];
     let wanted = every_reference(alloc, "", "; EOFMARK next 0; ").expect(&rt, "unexpected error");
     let information = Information::new(alloc, LITTLE, &records).expect(&rt, "unexpected error");

@@ -1,13 +1,14 @@
 //! The map of a link and the show of a code file, as text.
 use super::allocations::{Allocating, makes_no_allocation, refuses_each_allocation};
 use super::answers::{LITTLE, text_of_error};
+use super::records::{every_reference, references};
 use super::tables::{Base, LIBRARY_LISTS, PAIR, PAIR_FILES, TWO_UNITS, USED_UNIT, bytes_of};
 use super::writers::Full;
-use super::writing::{NO_WRITE, Writing, writes, writes_text};
+use super::writing::{NO_WRITE, Writing, writes, writes_long_text, writes_text};
 use crate::base::{BASE_LENGTH, COUNT};
 use crate::code_file::Change::{Bytes, Records, Resized};
 use crate::code_file::{Changes, CodeFile};
-use crate::information::Record::{ConstantDefinition, End, PublicDefinition};
+use crate::information::Record::{ConstantDefinition, End, PublicDefinition, PublicReference};
 use ps_linkfile::{LinkError, map_text, show_text};
 use std::alloc::{AllocError, Allocator, Global};
 use std::process::Abort;
@@ -69,7 +70,7 @@ macro_rules! show_of {
 pub(crate) use show_of;
 
 /// What a show of the base library begins with: its byte order and its slots.
-pub(crate) static SLOTS_OF_THE_LIBRARY: &str = show_of!(
+static SLOTS_OF_THE_LIBRARY: &str = show_of!(
     "little",
     "         kind 0 address 0 length 0 text 0",
 );
@@ -111,7 +112,7 @@ impl<'a> Allocating for Show<'a> {
 }
 
 /// Files, changes of the host, and the map of their link.
-pub(crate) type Mapped<'a> = (Base<'a>, Changes<'a>, &'a str);
+type Mapped<'a> = (Base<'a>, Changes<'a>, &'a str);
 
 static MAPS: [Mapped<'static>; 4] = [
     (PAIR, &[], MAP),
@@ -132,7 +133,7 @@ static MAPS: [Mapped<'static>; 4] = [
 ];
 
 /// Checks the map of a link, as a text and written.
-pub(crate) fn maps(rt: &(impl Abort + AllocGlobal), (base, changes, text): &Mapped<'_>) {
+fn maps(rt: &(impl Abort + AllocGlobal), (base, changes, text): &Mapped<'_>) {
     let alloc = rt.alloc();
     let host = base.host(alloc, *changes).expect(rt, "unexpected error");
     let libraries = base.libraries(alloc, &[]).expect(rt, "unexpected error");
@@ -187,6 +188,29 @@ fn shows_of_a_library(rt: HostRuntime) {
         );
         shows(&rt, *last, library.as_slice(), text.as_str());
     }
+}
+
+/// What the show of a record of as many references as one can have has before it and after it.
+const LINKS: &str = "links 02\n0 ";
+
+const LAST_LINK: &str = "\n1 EOFMARK next 0\n";
+
+/// The show is written in many pieces, to writers that fail and stall.
+#[test]
+fn a_long_show(rt: HostRuntime) {
+    let alloc = rt.alloc();
+    let references = references(alloc, 65_535).expect(&rt, "unexpected error");
+    let records = [PublicReference(COUNT, references.as_slice()), End(0)];
+    let library = CodeFile::new(alloc, LITTLE, &LIBRARY_LISTS)
+        .expect(&rt, "unexpected error")
+        .with(alloc, &[Resized(132_128), Records(2, &records)])
+        .expect(&rt, "unexpected error");
+    let before = format!(in alloc; "{SLOTS_OF_THE_LIBRARY}{LINKS}").expect(&rt, "unexpected error");
+    let text = every_reference(alloc, before.as_str(), LAST_LINK).expect(&rt, "unexpected error");
+    let call = Show {
+        file: library.as_slice(),
+    };
+    writes_long_text(&rt, &call, text.as_str())
 }
 
 /// Checks that a text is refused without memory, and that nothing is written.
