@@ -180,8 +180,8 @@ module _ (units : List (List ℕ × ℕ)) where
       let first = at_left now more.0 k x (ap (λ r. slice_get r k) longer
       ∙ first_right queue (x ∷ []) k (sym at)) in
       let same : x ≡ g = cc in
-      (ap (λ h. Some h) same, at, ap (λ h. is_already_known units queue h.name) (sym same)
-      ∙ none)
+      let new = ap (λ h. is_already_known units queue h.name) (sym same) ∙ none in
+      (ap (λ h. Some h) same, at, new)
 
   -- each name that is after those in the queue is that of an earliest reference
   requested_at : (queue gs : List UnitReference) (k : ℕ) (g : UnitReference)
@@ -218,7 +218,7 @@ module _ (units : List (List ℕ × ℕ)) where
       → h.name ≢ g.name
   distinct queue gs k p q g h t l e same =
       let known = all_known units queue (take p gs) h q (in_front p gs q h l e) in
-          false≢true (sym t.2
+      false≢true (sym t.2
       ∙ ap (is_already_known units (requested_from units queue (take p gs))) (sym same) ∙ known)
 
 -- the earliest reference of a name is of the first record of all that requests it

@@ -4,7 +4,7 @@ use Rattle.std.proofs.Common.{rules, ◌≡◌, ℕ, zero, suc, ◌+◌, ◌<◌
 use Rattle.std.proofs.Common.{[], ◌∷◌, ◌++◌, Option, Some, None, Bool, true, refl}
 use Rattle.std.proofs.Common.{sym, ap, subst, ◌∙◌, inl, inr, arith, is_some}
 use Rattle.ps_laws.proofs.Words.{◌⊎◌, if◌then◌else◌, ◌&&◌, ◌==◌, Decides}
-use Rattle.ps_laws.proofs.Words.{slice_get, list_any, find, lookup, option_or, bytes_eq}
+use Rattle.ps_laws.proofs.Words.{slice_get, list_any, find, lookup, bytes_eq}
 use Rattle.ps_laws.proofs.Words.{enumerate_from, filter_map}
 use Rattle.ps_laws.proofs.Words.{Decides-at, Decides-and, Decides-like, Decides-eqb}
 use Rattle.ps_laws.proofs.Words.{bytes_eq-Decides, slots, is_unit_reference, unit_references}
@@ -12,10 +12,10 @@ use Rattle.ps_laws.proofs.Words.{all_unit_references, requested_from, added_segm
 use Rattle.ps_laws.proofs.Words.{SomeItem, IsSegment, Record, is_role, is_unit, is_empty, Segment}
 use Rattle.ps_laws.proofs.Words.{own_segment, units_of, UnitReference, Order}
 use Rattle.std.proofs.lemmas.Bool.{or_cases}
-use Rattle.ps_resolve.specs.Added.{is_already_known, empty_slots, requested_units, added_at}
+use Rattle.ps_resolve.specs.Added.{is_already_known, empty_slots, requested_units}
 use Rattle.ps_resolve.specs.Added.{segment_at, segments}
 use Rattle.ps_resolve.specs.Sources.{own_segments}
-use Rattle.ps_laws.proofs.Looking.{of_test, any_of_items, find_none}
+use Rattle.ps_laws.proofs.Looking.{is_there, of_test, any_of_items, find_none}
 use Rattle.ps_laws.proofs.Items.{In, all_in, not_apart, in_left, in_right, in_flat, in_filter_map}
 use Rattle.ps_laws.proofs.Items.{in_numbered, of_filter_map, in_range, of_range, of_filter}
 use Rattle.ps_laws.proofs.Items.{filter_ascends}
@@ -31,18 +31,13 @@ pub all_known : (units : List (List ℕ × ℕ)) (queue gs : List UnitReference)
     → is_already_known units (requested_from units queue gs) g.name ≡ true
 all_known units queue [] g i e = absurd (cc)
 all_known units queue (h ∷ gs) g zero e =
+    let now : List UnitReference =
+    if is_already_known units queue h.name then queue else queue ++ h ∷ [] in
+    let more = grown units now gs in
     let same : h ≡ g = cc in
-    let more =
-    grown units (if is_already_known units queue h.name then queue else queue ++ h ∷ []) gs in
-    subst (λ (x : UnitReference). is_already_known units (requested_from units
-    (if is_already_known units queue h.name then queue else queue ++ h ∷ []) gs) x.name
-    ≡ true) same (subst (λ r. is_already_known units r h.name ≡ true)
-    (sym more.1) (known_longer units (if is_already_known units queue h.name then queue else queue
-    ++ h ∷ []) more.0 h.name (first (is_already_known units queue h.name) refl)))
-  where
-    first : (b : Bool) → is_already_known units queue h.name ≡ b
-        → is_already_known units (if b then queue else queue ++ h ∷ []) h.name ≡ true
-    first b k = grind (arith, known_last)
+    let first : is_already_known units now h.name ≡ true = grind (arith, known_last) in
+    let later = known_longer units now more.0 h.name first in
+    rw (← same, more.1) later
 all_known units queue (h ∷ gs) g (suc i) e = all_known units
     (if is_already_known units queue h.name then queue else queue ++ h ∷ []) gs g i e
 
@@ -66,33 +61,20 @@ module _ (order : Order) (host : List ℕ) (libs : List (List ℕ)) where
   -- it is found there
   pub found_added : (j : ℕ) (s : Segment) → slice_get (added_segments order host libs) j
       ≡ Some s → segment_at order host libs s.slot ≡ Some s
-  found_added j s e = ap (λ o. option_or o (added_at order host libs s.slot))
-      (not_own s.slot empty) ∙ (ap (λ b. if b then find
-      (λ (q : Segment). q.slot == s.slot) (added_segments order host libs) else None) empty
-      ∙ go (find (λ (q : Segment). q.slot == s.slot) (added_segments order host libs)) refl)
+  found_added j s e =
+      let added = added_segments order host libs in
+      let empty = (empty_slot order host j s.slot (in_empty order host libs j s e)).2 in
+      let q = is_there (find (λ (q : Segment). q.slot == s.slot) added) (λ n. find_none _
+      (λ (q : Segment). q.slot ≡ s.slot) (λ q. Decides-eqb q.slot s.slot) added n
+      (j, s, e, refl)) in
+      let t = found_in_slot s.slot added q.0 q.1 in
+      let same : t.0 ≡ j = one t.0 t.1 t.2 t.3.1 in
+      let found : q.0 ≡ s = (let a = t.2 in let b = t.3.0 in cc) in
+      rw (not_own s.slot empty, empty, q.1, found) refl
     where
-      at : slice_get (empty_slots order host) j ≡ Some s.slot
-      at = in_empty order host libs j s e
-
-      empty : is_role is_empty order host s.slot ≡ true
-      empty = (empty_slot order host j s.slot at).2
-
       one : (i : ℕ) (q : Segment) → slice_get (added_segments order host libs) i ≡ Some q
           → q.slot ≡ s.slot → i ≡ j
       one i q u same = grind (arith, in_empty, not_apart, empty_ascend)
-
-      go : (o : Option Segment) → find (λ (q : Segment). q.slot == s.slot)
-          (added_segments order host libs) ≡ o → o ≡ Some s
-      go None is = absurd (find_none (λ (q : Segment). q.slot == s.slot)
-          (λ (q : Segment). q.slot ≡ s.slot) (λ q. Decides-eqb q.slot s.slot)
-          (added_segments order host libs) is (j, s, e, refl))
-      go (Some q) is =
-          let t = found_in_slot s.slot (added_segments order host libs) q is in
-          let i_is_j : t.0 ≡ j = one t.0 t.1 t.2 t.3.1 in
-          let there : slice_get (added_segments order host libs) j ≡ Some t.1 =
-          subst (λ n. slice_get (added_segments order host libs) n ≡ Some t.1) i_is_j t.2 in
-          let a = t.3.0 in
-          cc
 
   -- all segments
   pub in_segments : (slot : ℕ) (s : Segment) → slot < 16
@@ -142,8 +124,7 @@ pub reference_of : (file slot n : ℕ) (rs : List Record) (j : ℕ) (r : Record)
     × (g.name ≡ r.name) × (g.rec ≡ n + j)
 reference_of file slot n rs j r e u =
     let g : UnitReference = record { name = r.name; file = file; slot = slot; rec = n + j } in
-    let t = in_filter_map (reference_in file slot) (enumerate_from n rs) (n + j, r) g
-    (j, in_numbered n rs j r e) (rw u refl) in
+    let t = in_filter_map _ _ (n + j, r) g (j, in_numbered n rs j r e) (rw u refl) in
     (t.0, g, ap (λ gs. slice_get gs t.0) (references_are file slot n rs) ∙ t.1, refl, refl)
 
 -- a unit by its name
@@ -161,11 +142,9 @@ units_known name (s ∷ segs) = grind (arith, units_known name segs)
 pub units_named : (name : List ℕ) (segs : List Segment)
     → Decides (is_some (lookup (bytes_eq name) (units_of segs)))
     (SomeItem segs (λ k q. (is_unit q.role ≡ true) × (q.name ≡ name)))
-units_named name segs = Decides-at (is_some (lookup (bytes_eq name) (units_of segs)))
-    (list_any (unit_named name) segs) (units_known name segs)
-    (any_of_items (unit_named name) (λ q. (is_unit q.role ≡ true) × (q.name ≡ name)) (λ
-    q. Decides-and (is_unit q.role) (bytes_eq name q.name) (of_test (is_unit q.role)) (Decides-like
-    (bytes_eq name q.name) (λ e. sym e) (λ e. sym e) (bytes_eq-Decides name q.name))) segs)
+units_named name segs = Decides-at _ _ (units_known name segs) (any_of_items _ (λ q. (is_unit
+    q.role ≡ true) × (q.name ≡ name)) (λ q. Decides-and _ _ (of_test _) (Decides-like _ (λ e.
+    sym e) (λ e. sym e) (bytes_eq-Decides name q.name))) segs)
 
 -- what is known has its segment
 abbrev pub HasUnit : List Segment → List ℕ → Type 0
@@ -177,24 +156,21 @@ module _ (order : Order) (host : List ℕ) (libs : List (List ℕ)) where
       → is_already_known (own_units order host libs) (queue_of order host libs) name ≡ true
       → HasUnit (segments order host libs) name
   known_has_unit fine name known =
-      elim (or_cases (is_some (lookup (bytes_eq name) (own_units order host libs)))
-      (list_any (λ (g : UnitReference). bytes_eq g.name name) (queue_of order host libs)) known) [
+      elim (or_cases _ _ known) [
         | inl e ↦
             let t = (units_named name (own_segments order host libs)).0 e in
             let o = own_at order host libs t.1 (t.0, t.2) in
-            let i = in_segments order host libs o.0 t.1 o.1
-            (ap (λ x. option_or x (added_at order host libs o.0)) o.2) in
+            let i = in_segments order host libs o.0 t.1 o.1 (rw o.2 refl) in
             (i.0, t.1, i.1, t.3)
         | inr e ↦
             let t = (any_of_items (λ (g : UnitReference). bytes_eq g.name name)
-            (λ (g : UnitReference). g.name ≡ name) (λ g. bytes_eq-Decides g.name name)
+            (λ g. g.name ≡ name) (λ g. bytes_eq-Decides g.name name)
             (queue_of order host libs)).0 e in
             let p = name_placed order host libs fine t.0 t.1 t.2 in
-            let s = p.0 in
-            let at = (empty_slot order host t.0 s.slot p.1.slot).1 in
-            let i = in_segments order host libs s.slot s (omega (arith, at))
-            (found_added order host libs t.0 s p.1.there) in
-            (i.0, s, i.1, (ap is_unit p.1.role, p.1.name ∙ t.3))
+            let at = (empty_slot order host t.0 p.0.slot p.1.slot).1 in
+            let i = in_segments order host libs p.0.slot p.0 (omega (arith, at))
+            (found_added order host libs t.0 p.0 p.1.there) in
+            (i.0, p.0, i.1, (ap is_unit p.1.role, p.1.name ∙ t.3))
       ]
 
   pub is_had_there : (g : UnitReference) → In g

@@ -1,12 +1,11 @@
 -- The first fault of the definitions, and that of the host's data size, is the smallest that is.
 use Rattle.std.proofs.Common.{◌≡◌, ℕ, List, [], refl, sym, subst, inl, inr, arith}
-use Rattle.ps_laws.proofs.Words.{option_map, Record, fault_if, host_of, SomeItem, OfDefinitions}
-use Rattle.ps_laws.proofs.Words.{in_record, Order, nat_lt, option_and_then, Decides-ltb, table_of}
-use Rattle.ps_laws.proofs.Words.{total_words, OfDataSize, grown_data_size, in_slot}
+use Rattle.ps_laws.proofs.Words.{option_map, Record, fault_if, SomeItem, OfDefinitions}
+use Rattle.ps_laws.proofs.Words.{in_record, Order, nat_lt, option_and_then, Decides-ltb}
+use Rattle.ps_laws.proofs.Words.{total_words, OfDataSize, grown_data_size}
 use Rattle.ps_resolve.specs.Added.{segments}
 use Rattle.ps_resolve.specs.Standing.Definitions.{HasEarlierNamesake, InDefinitions}
 use Rattle.ps_linkinfo.specs.RecordCounts.{is_definition}
-use Rattle.ps_resolve.specs.Symbols.{first_duplicate}
 use Rattle.ps_resolve.specs.Faults.{definitions_fault, data_fault}
 use Rattle.ps_resolve.proofs.LookingBack.{definitions_carried}
 use Rattle.ps_laws.proofs.Least.{Least, Precedes, least_if, least_then, least_items, at_apart}
@@ -20,28 +19,20 @@ module _ (order : Order) (host : List ℕ) (libs : List (List ℕ)) where
   pub step_7 : Least (Precedes OfDefinitions)
       (InDefinitions order host libs) (definitions_fault (segments order host libs))
   unfolding definitions_fault
-  step_7 = least_then (λ s. option_map (λ rec. in_record 0 s.slot rec reason.DoubledDefinition)
-      (first_duplicate s.records)) (host_of (segments order host libs)) (λ s is_it. subst
-      (λ o. Least (Precedes OfDefinitions) (λ f. SomeItem s.records (λ rec r. (f ≡ in_record 0
-      s.slot rec reason.DoubledDefinition) × HasEarlierNamesake is_definition s.records rec r)) o)
-      (sym (definitions_carried (λ rec. in_record 0 s.slot rec reason.DoubledDefinition)
-      [] s.records 0 refl)) (least_items (λ (r : ℕ × Record). fault_if
-      (is_again is_definition s.records r) (in_record 0 s.slot r.0 reason.DoubledDefinition))
-      s.records (λ k r e. least_if (is_again is_definition s.records (k, r)) (in_record 0 s.slot
-      k reason.DoubledDefinition) (again is_definition s.records k r)) (λ i j a b x y h. at_apart
-      (Precedes OfDefinitions) (in_record 0 s.slot i reason.DoubledDefinition) (in_record
-      0 s.slot j reason.DoubledDefinition) (inr (refl, inr (refl, inl (omega (arith, h))))) x y)))
+  step_7 = least_then (λ s. option_map (λ rec. in_record 0 s.slot rec reason.DoubledDefinition) _)
+      _ (λ s is_it. subst (λ o. Least (Precedes OfDefinitions) (λ f. SomeItem s.records (λ rec
+      r. (f ≡ in_record 0 s.slot rec reason.DoubledDefinition) × HasEarlierNamesake is_definition
+      s.records rec r)) o) (sym (definitions_carried (λ rec. in_record 0 s.slot rec
+      reason.DoubledDefinition) [] s.records 0 refl)) (least_items (λ (r : ℕ × Record). fault_if
+      _ _) s.records (λ k r e. least_if _ _ (again is_definition s.records k r)) (λ i j a b x y h.
+      at_apart (Precedes OfDefinitions) _ _ (inr (refl, inr (refl, inl (omega (arith, h))))) x y)))
 
   -- the first fault of the host's data size is the smallest that applies
   pub step_9 : Least (Precedes OfDataSize)
       (InDataSize order host libs) (data_fault order (segments order host libs))
   unfolding data_fault
   step_9 =
-      let total = total_words (segments order host libs) in
-      least_then (λ s. option_and_then (λ t. fault_if (nat_lt MAX_DATA_SIZE
-      (grown_data_size order s.code total t)) (in_slot 0 s.slot reason.DataTooLarge))
-      (table_of order s.code 1)) (host_of (segments order host libs)) (λ s is_it. least_then
-      (λ t. fault_if (nat_lt MAX_DATA_SIZE (grown_data_size order s.code total t))
-      (in_slot 0 s.slot reason.DataTooLarge)) (table_of order s.code 1) (λ t e. least_if
-      (nat_lt MAX_DATA_SIZE (grown_data_size order s.code total t)) (in_slot 0 s.slot
-      reason.DataTooLarge) (Decides-ltb MAX_DATA_SIZE (grown_data_size order s.code total t))))
+      let total = total_words _ in
+      least_then (λ s. option_and_then (λ t. fault_if (nat_lt MAX_DATA_SIZE (grown_data_size order
+      s.code total t)) _) _) _ (λ s is_it. least_then (λ t. fault_if _ _) _ (λ t e. least_if _ _
+      (Decides-ltb MAX_DATA_SIZE _)))

@@ -33,6 +33,11 @@ pub least_same : {X : Type 0} {B : X → X → Type 0} {S T : X → Type 0} {o :
 least_same f g (nothing n) = nothing (λ y t. n y (g y t))
 least_same f g (this x s l) = this x (f x s) (λ y t. l y (g y t))
 
+-- nothing is where there is none
+pub quiet : {X : Type 0} {B : X → X → Type 0} {S : X → Type 0} → Least B S None → (x : X)
+    → S x → ⊥
+quiet (nothing n) = n
+
 -- what comes before, otherwise said
 pub least_order : {X : Type 0} {B C : X → X → Type 0} {S : X → Type 0} {o : Option X}
     → ((x y : X) → S x → S y → B x y → C x y) → Least B S o → Least C S o
@@ -158,6 +163,16 @@ pub least_guard : {X P : Type 0} {B : X → X → Type 0} {S : X → Type 0} {o 
     (b : Bool) → Decides b P → Least B S o → Least B (λ x. P × S x) (if b then o else None)
 least_guard true d l = grind (arith, least_same)
 least_guard false d l = nothing (λ x t. false≢true (d.1 t.0))
+
+-- one thing, where a test passes, and else what comes after it
+pub least_else : {X P : Type 0} {B : X → X → Type 0} {S : X → Type 0} {o : Option X}
+    (b : Bool)
+    (x : X) → Decides b P → Least B S o → ((y : X) → S y → B x y)
+    → Least B (λ y. ((y ≡ x) × P) ⊎ S y) (if b then Some x else o)
+least_else true x d l apart = this x (inl (refl, d.0 refl))
+    (λ y. elim [ inl s ↦ inl s.0 | inr t ↦ inr (apart y t) ])
+least_else false x d l apart = least_same (λ y s. inr s)
+    (λ y. elim [ inl s ↦ absurd (false≢true (d.1 s.1)) | inr t ↦ t ]) l
 
 -- the first over the list of what all items give is the first over the items themselves
 pub first_of_filter_map : {W X Y : Type 0} (f : X → Option Y) (g : W → Option X) (ws : List W)

@@ -1,11 +1,11 @@
 -- The slot of a record that requests a unit does not itself want one that no library has.
-use Rattle.std.proofs.Common.{◌≡◌, ◌+◌, List, ◌++◌, Option, false, ◌∙◌, is_none}
+use Rattle.std.proofs.Common.{◌≡◌, List, ◌++◌, Option, false, ◌∙◌, is_none}
 use Rattle.std.proofs.Common.{ℕ, take, Some, None, true, refl, sym, ap, subst, inl, inr, arith}
 use Rattle.ps_codefile.specs.declared.entry.Role.TheVariants as role
-use Rattle.ps_laws.proofs.Words.{Segment, is_named, chosen_library, unit_source, own_segment}
-use Rattle.ps_laws.proofs.Words.{IsGiver, HasRole, UnitReference, Order, slice_get, find}
-use Rattle.ps_laws.proofs.Words.{option_map, option_map_or, option_and_then, result_ok}
-use Rattle.ps_laws.proofs.Words.{false≢true, none-some, slots, is_empty, added_segments, is_role}
+use Rattle.ps_laws.proofs.Words.{Segment, chosen_library, unit_source, own_segment}
+use Rattle.ps_laws.proofs.Words.{IsGiver, HasRole, UnitReference, Order, slice_get}
+use Rattle.ps_laws.proofs.Words.{option_map_or, result_ok}
+use Rattle.ps_laws.proofs.Words.{false≢true, none-some, is_empty, added_segments, is_role}
 use Rattle.ps_resolve.specs.Parts.{WantsMissing}
 use Rattle.ps_resolve.specs.Sources.{own_segments}
 use Rattle.ps_resolve.specs.Standing.Rounds.{IsRequested}
@@ -17,6 +17,9 @@ use Rattle.ps_resolve.proofs.EachSegment.{own_made}
 use Rattle.ps_resolve.proofs.OfRounds.{in_empty}
 use Rattle.ps_laws.proofs.Asked.{empty_slot, own_at}
 use Rattle.ps_laws.proofs.AddedUnits.{given, split_at}
+
+nothing_is : {A : Type 0} (o : Option A) → is_none o ≡ true → o ≡ None
+nothing_is o h = grind arith
 
 -- 1. an added segment is in an empty slot, also where a later round has a fault
 module _ (order : Order) (host : List ℕ) (libs : List (List ℕ)) where
@@ -32,13 +35,8 @@ module _ (order : Order) (host : List ℕ) (libs : List (List ℕ)) where
   -- 2. a segment of the host's own that a slot wants has its library
   none_source : (name : List ℕ) → NoneHas order name libs
       → unit_source order name libs ≡ None
-  none_source name none = go (chosen_library order name libs) ((none_has order name libs).1 none)
-    where
-      go : (o : Option (ℕ × List ℕ)) → is_none o ≡ true → option_and_then
-          {U = ℕ × ℕ} (λ (lib : ℕ × List ℕ). option_map {U = ℕ × ℕ}
-          (λ (i : ℕ). (lib.0 + 1, i)) (find (is_named order name lib.1) slots)) o ≡ None
-      go None e = refl
-      go (Some lib) e = absurd (false≢true e)
+  none_source name none = rw (nothing_is (chosen_library order name libs)
+      ((none_has order name libs).1 none)) refl
 
   own_has_library : (slot : ℕ) (s : Segment) → own_segment order host libs slot ≡ Some s
       → WantsMissing order host libs slot → ⊥

@@ -1,8 +1,9 @@
 -- Where no fault applies, the host has one segment of its own, no two of its definitions have a
 -- name in common, and one base offset.
 use Rattle.std.proofs.Common.{◌≡◌, ℕ, zero, suc, ◌+◌, ◌<◌, List, [], ◌∷◌}
-use Rattle.std.proofs.Common.{length, Option, Some, None, Bool, true, false, refl, sym, ap}
+use Rattle.std.proofs.Common.{length, Some, None, Bool, true, false, refl, sym, ap}
 use Rattle.std.proofs.Common.{◌∙◌, is_some, arith}
+use Rattle.ps_laws.proofs.Looking.{is_there}
 use Rattle.ps_laws.proofs.Words.{same_Some, cons_option, option_map_or, false≢true, next_of, Body}
 use Rattle.ps_laws.proofs.Words.{Record, segments_of, is_host, Segment, order_of, host_of}
 use Rattle.ps_laws.proofs.Words.{host_records, NoneStands, OfDefinitions, in_record}
@@ -56,16 +57,12 @@ module _ (host : List ℕ) (libs : List (List ℕ)) (none : NoneStands host libs
   -- there is one
   pub host_there : (k : ℕ) × (s : Segment) × (slice_get (segments_of host libs) k ≡ Some s)
       × (is_host s.role ≡ true)
-  host_there = go (host_of (segments_of host libs)) refl (has_host host libs read)
-    where
-      go : (o : Option Segment) → host_of (segments_of host libs) ≡ o → is_some o ≡ true
-          → (k : ℕ) × (s : Segment) × (slice_get (segments_of host libs) k ≡ Some s)
-          × (is_host s.role ≡ true)
-      go None e is = absurd (false≢true is)
-      go (Some s) e is =
-          let test : Segment → Bool = λ q. is_host q.role in
-          let i = find_in test (segments_of host libs) s e in
-          (i.0, s, i.1, find_passes test (segments_of host libs) s e)
+  host_there =
+      let s = is_there (host_of (segments_of host libs))
+      (λ e. false≢true (sym (ap is_some e) ∙ has_host host libs read)) in
+      let test : Segment → Bool = λ q. is_host q.role in
+      let i = find_in test (segments_of host libs) s.0 s.1 in
+      (i.0, s.0, i.1, find_passes test (segments_of host libs) s.0 s.1)
 
   its_records : (s : Segment) → host_of (segments_of host libs) ≡ Some s
       → host_records (segments_of host libs) ≡ s.records
@@ -108,17 +105,11 @@ module _ (host : List ℕ) (libs : List (List ℕ)) (none : NoneStands host libs
       → slice_get s.records l ≡ Some e → d.name ≡ e.name → d.body ≡ PublDef v
       → e.body ≡ PublDef w → k < l → ⊥
   again s is k l d e v w x y same p q lt =
-      none OfDefinitions (in_record 0 s.slot l reason.DoubledDefinition)
-      (record {
+      none OfDefinitions (in_record 0 s.slot l reason.DoubledDefinition) (record {
         stands = (
           s,
           is,
-          (
-            l,
-            e,
-            y,
-            (refl, (ap is_definition q, (k, lt, (d, x, (ap is_definition p, same))))),
-          ),
+          (l, e, y, (refl, (ap is_definition q, (k, lt, (d, x, (ap is_definition p, same)))))),
         );
       })
 

@@ -1,10 +1,10 @@
 -- The first fault of the privates is the smallest that is.
-use Rattle.std.proofs.Common.{◌≡◌, ℕ, ◌+◌, List, [], map, Option}
+use Rattle.std.proofs.Common.{◌≡◌, ℕ, List, [], map, Option}
 use Rattle.std.proofs.Common.{refl, sym, subst, arith}
-use Rattle.ps_laws.proofs.Words.{◌⊎◌, ◌&&◌, nat_lt, enumerate_from}
+use Rattle.ps_laws.proofs.Words.{◌⊎◌, enumerate_from}
 use Rattle.ps_laws.proofs.Words.{Decides-and, Decides-ltb, Record, first_of, Segment, host_records}
 use Rattle.ps_laws.proofs.Words.{next_of, owner_of, OfPrivates}
-use Rattle.ps_laws.proofs.Words.{private_offset, words_taken, in_record, Order, Reason, Fault}
+use Rattle.ps_laws.proofs.Words.{private_offset, in_record, Order, Reason, Fault}
 use Rattle.ps_resolve.specs.Added.{segments}
 use Rattle.ps_linkinfo.specs.RecordCounts.{is_private_reference}
 use Rattle.ps_resolve.specs.Privates.{first_private_fault}
@@ -16,7 +16,7 @@ use Rattle.ps_laws.proofs.Steps.{Ranked, because, because_apart}
 use Rattle.ps_laws.proofs.Looking.{of_test}
 use Rattle.ps_laws.proofs.Segments.{over_segments, ascend}
 use Rattle.ps_laws.proofs.PrivateOffsets.{carried}
-use Rattle.ps_resolve.proofs.LookingBack.{is_again, again, reason_at, record_fault}
+use Rattle.ps_resolve.proofs.LookingBack.{again, reason_at, record_fault}
 use Rattle.ps_resolve.proofs.LookingBack.{privates_carried}
 use Rattle.ps_resolve.specs.declared.allotment.TheConstants.{MAX_NEXT_FREE}
 pub use Rattle.ps_resolve.proofs.LookingBack.{more_words}
@@ -30,14 +30,10 @@ segment_fault segs s = first_of (record_fault (λ why rec. in_record s.file s.sl
 -- the reason that is given for a private is the one of smallest rank that applies
 private_rows : (segs : List Segment) (s : Segment) (rec : ℕ) (r : Record) → Least Ranked
     (PrivateHas segs s rec r) (reason_at (λ n. private_offset segs s.slot n) s.records (rec, r))
-private_rows segs s rec r = least_same to from
-    (least_or (least_if (is_again is_private_reference s.records (rec, r)) reason.DoubledPrivate
-    (again is_private_reference s.records rec r)) (least_if (is_private_reference r.body
-    && nat_lt MAX_NEXT_FREE (private_offset segs s.slot rec + words_taken r.body)) reason.NoRoom
-    (Decides-and (is_private_reference r.body) (nat_lt MAX_NEXT_FREE
-    (private_offset segs s.slot rec + words_taken r.body)) (of_test (is_private_reference r.body))
-    (Decides-ltb MAX_NEXT_FREE (private_offset segs s.slot rec + words_taken r.body))))
-    (at_apart Ranked reason.DoubledPrivate reason.NoRoom (omega arith)))
+private_rows segs s rec r = least_same to from (least_or (least_if _ reason.DoubledPrivate (again
+    is_private_reference s.records rec r)) (least_if _ reason.NoRoom (Decides-and _ _ (of_test _)
+    (Decides-ltb MAX_NEXT_FREE _))) (at_apart Ranked reason.DoubledPrivate reason.NoRoom (omega
+    arith)))
   where
     to : (x : Reason) → ((x ≡ reason.DoubledPrivate)
         × PrivateHas segs s rec r reason.DoubledPrivate) ⊎ ((x ≡ reason.NoRoom)
@@ -55,18 +51,14 @@ pub step_8 : (order : Order) (host : List ℕ) (libs : List (List ℕ)) → Leas
 unfolding privates_fault
 step_8 order host libs =
     let segs = segments order host libs in
-    let e : first_private_fault (next_of (host_records segs)) (map owner_of segs)
-    ≡ first_of (segment_fault segs) segs = carried segs (λ n ss. first_private_fault n
-    (map owner_of ss) ≡ first_of (segment_fault segs) ss) (λ n. refl) (λ s rest n offsets later.
-    (let own = privates_carried (λ why rec. in_record s.file s.slot rec why)
-    (λ m. private_offset segs s.slot m) n [] s.records 0 refl offsets in
-    grind (arith, own, later)))
-    (ascend order host libs) in
-    subst (λ (o : Option Fault). Least (Precedes OfPrivates) (InPrivates order host libs) o)
-    (sym e) (over_segments order host libs (segment_fault segs) (λ s is. least_items
-    (record_fault (λ why rec. in_record s.file s.slot rec why) (λ n. private_offset segs s.slot n)
-    s.records) s.records (λ k r e. because OfPrivates (in_record s.file s.slot k)
-    (λ a b h. grind arith) (private_rows segs s k r)) (λ i j a b x y h. because_apart OfPrivates
-    (in_record s.file s.slot i) (in_record s.file s.slot j) (λ q p. grind arith) x y))
-    (λ s t x y h a b. because_apart OfPrivates
-    (in_record s.file s.slot a.0) (in_record t.file t.slot b.0) (λ q p. grind arith) x y a.3 b.3))
+    let e : first_private_fault (next_of (host_records segs)) (map owner_of segs) ≡ first_of
+    (segment_fault segs) segs = carried segs (λ n ss. first_private_fault n (map owner_of ss) ≡
+    first_of (segment_fault segs) ss) (λ n. refl) (λ s rest n offsets later. (let own =
+    privates_carried (λ why rec. in_record s.file s.slot rec why) (λ m. private_offset segs s.slot
+    m) n [] s.records 0 refl offsets in
+    grind (arith, own, later))) (ascend order host libs) in
+    subst (λ (o : Option Fault). Least (Precedes OfPrivates) (InPrivates order host libs) o) (sym
+    e) (over_segments order host libs _ (λ s is. least_items _ s.records (λ k r e. because
+    OfPrivates _ (λ a b h. grind arith) (private_rows segs s k r)) (λ i j a b x y h. because_apart
+    OfPrivates _ _ (λ q p. grind arith) x y)) (λ s t x y h a b. because_apart OfPrivates _ _ (λ q
+    p. grind arith) x y a.3 b.3))

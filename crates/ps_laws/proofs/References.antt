@@ -3,10 +3,10 @@ use Rattle.std.proofs.Common.{◌≡◌, ℕ, ◌+◌, ◌<◌, ◌≤◌, List,
 use Rattle.std.proofs.Common.{◌++◌, length, take, map, Option, Some, None, Result, Ok, Err}
 use Rattle.std.proofs.Common.{Bool, true, refl, sym, ap, subst, ◌∙◌, inl, inr, arith}
 use Rattle.std.proofs.Common.{append_assoc, append-nil, is_some, unwrap_or}
-use Rattle.ps_laws.proofs.Words.{◌≢◌, ◌⊎◌, ◌||◌, nat_le, nat_lt, Decides}
+use Rattle.ps_laws.proofs.Words.{◌≢◌, ◌⊎◌, nat_le, nat_lt, Decides}
 use Rattle.ps_laws.proofs.Words.{range_with_len, enumerate_from, find, slice_get, list_any}
 use Rattle.ps_laws.proofs.Words.{flat_map, lookup, option_map, option_or, result_err, bytes_eq}
-use Rattle.ps_laws.proofs.Words.{false≢true, Decides-at, Decides-ltb, Decides-and, Decides-or}
+use Rattle.ps_laws.proofs.Words.{false≢true, Decides-ltb, Decides-and, Decides-or}
 use Rattle.ps_laws.proofs.Words.{Decides-like, flat_map-append, bytes_eq-Decides, is_reserved}
 use Rattle.ps_laws.proofs.Words.{is_unit_reference, next_of, added_fault, private_words}
 use Rattle.ps_laws.proofs.Words.{Because, SomeBelow, SomeItem, OfReferences, part}
@@ -22,7 +22,7 @@ use Rattle.ps_resolve.specs.Standing.References.{InReferences}
 use Rattle.ps_linkinfo.specs.declared.record.Body.TheVariants.{UnitRef, PublRef}
 use Rattle.ps_resolve.specs.Symbols.{definitions, definition_of}
 use Rattle.ps_resolve.specs.Operands.{width_of, value_of, is_in, operands, refs_fault}
-use Rattle.ps_resolve.specs.References.{Known, public_base, unit_slot, records_fault}
+use Rattle.ps_resolve.specs.References.{Known, public_base, records_fault}
 use Rattle.ps_resolve.specs.Faults.{in_segment, references_fault_from}
 use Rattle.ps_resolve.specs.Faults.{references_fault}
 use Rattle.ps_resolve.specs.declared.definitions.Def.{Def}
@@ -30,11 +30,12 @@ use Rattle.ps_resolve.specs.declared.definitions.DefKind.{DefKind}
 use Rattle.ps_resolve.specs.declared.definitions.DefKind.TheVariants.{Public, Constant}
 use Rattle.ps_resolve.specs.declared.references.Target.TheVariants.{Base}
 use Rattle.ps_laws.proofs.Least.{Least, nothing, this, Precedes, least_same, least_or, least_if}
-use Rattle.ps_laws.proofs.Least.{least_items, at_apart}
+use Rattle.ps_laws.proofs.Least.{least_items}
 use Rattle.ps_laws.proofs.Asked.{HasUnit, units_named, asked_is_there}
 use Rattle.ps_laws.proofs.Steps.{Ranked, because, because_apart, any_of_range}
 use Rattle.ps_resolve.proofs.FirstSlots.{none_mapped, some_mapped}
-use Rattle.ps_laws.proofs.Looking.{of_test, any_of_take, any_of_items, find_none, find_some}
+use Rattle.ps_laws.proofs.Looking.{is_there, of_test, any_of_take, any_of_items, find_none}
+use Rattle.ps_laws.proofs.Looking.{find_some}
 use Rattle.ps_laws.proofs.Segments.{over_segments, ascend}
 use Rattle.ps_laws.proofs.Definitions.{take_prefix, longer}
 use Rattle.ps_laws.proofs.PrivateOffsets.{carried as all_carried}
@@ -109,13 +110,10 @@ UnitIsThere segs name body = is_unit_reference body ≡ true → HasUnit segs na
 pub record_rows : (segs : List Segment) (off : ℕ) (name : List ℕ) (body : Body)
     → UnitIsThere segs name body → Least Ranked (RecordHas segs name body)
     (result_err (target_in (known_of segs) off name body))
-record_rows segs off name (UnitRef refs) there = go (lookup (bytes_eq name) (units_of segs)) refl
-  where
-    go : (o : Option ℕ) → lookup (bytes_eq name) (units_of segs) ≡ o
-        → Least Ranked (RecordHas segs name (UnitRef refs)) (result_err (unit_slot o))
-    go None e = absurd (false≢true (sym (ap is_some e)
-        ∙ (units_named name segs).1 (there refl)))
-    go (Some slot) e = nothing (λ y h. h)
+record_rows segs off name (UnitRef refs) there =
+    let slot = is_there (lookup (bytes_eq name) (units_of segs))
+    (λ e. false≢true (sym (ap is_some e) ∙ (units_named name segs).1 (there refl))) in
+    rw slot.1 (nothing (λ y h. h))
 record_rows segs off name (PublRef refs) there = go (definition_of name ds) refl
   where
     ds : List (List ℕ × Def)
@@ -134,20 +132,11 @@ record_rows segs off name (PublRef refs) there = go (definition_of name ds) refl
 
         at : (k : DefKind) → d.kind ≡ k → Least Ranked (RecordHas segs name (PublRef refs))
             (result_err (elim k [ Public ↦ Ok (Base d.value) | Constant ↦ Err reason.IllKind ]))
-        at Constant is = this reason.IllKind (d, found, is) least
-          where
-            least : (y : Reason) → RecordHas segs name (PublRef refs) y
-                → (y ≡ reason.IllKind) ⊎ Ranked reason.IllKind y
-            least reason.MissingDefinition h = absurd (h (any d found))
-            least reason.IllKind h = inl refl
-            least other h = absurd h
-        at Public is = nothing none
+        at Constant is = grind (arith, this, found, any)
+        at Public is = nothing (λ y h. none y h)
           where
             none : (y : Reason) → RecordHas segs name (PublRef refs) y → ⊥
-            none reason.MissingDefinition h = h (any d found)
-            none reason.IllKind h = let same = one_definition ds name h.0 d h.1 found in let kind =
-                h.2 in cc
-            none other h = h
+            none y h = grind (arith, any, found, one_definition)
 record_rows segs off name other there = nothing (λ y h. h)
 
 -- 2. the operands
@@ -179,21 +168,10 @@ SameRecordCovers body i p =
 taken_covers : (records : List Record) (rec i : ℕ) (body : Body) (p : ℕ)
     → Decides (list_any (is_in p) (before records rec ++ own body i))
     (BeforeCovers records rec p ⊎ SameRecordCovers body i p)
-taken_covers records rec i body p = Decides-at (list_any (is_in p) (before records rec
-    ++ own body i)) (list_any (is_in p) (before records rec) || list_any (is_in p) (own body i))
-    (list_any-append (is_in p) (before records rec) (own body i)) (Decides-or (list_any (is_in p)
-    (before records rec)) (list_any (is_in p) (own body i)) (Decides-at (list_any (is_in p)
-    (before records rec)) (list_any (λ q. list_any (is_in p) (operands_of q)) (take rec records))
-    (any_flat (is_in p) operands_of (take rec records)) (any_of_take (λ q. list_any (is_in p)
-    (operands_of q)) (λ q. SomeItem (refs_of q.body) (λ j y. Covers q.body y p)) (λ q. Decides-at
-    (list_any (is_in p) (operands_of q)) (list_any (λ y. is_in p (y, operand_width q.body))
-    (refs_of q.body)) (any_map (is_in p) (λ (y : ℕ). (y, operand_width q.body)) (refs_of q.body))
-    (any_of_items (λ y. is_in p (y, operand_width q.body)) (λ y. Covers q.body y p)
-    (λ y. in_operand p y (operand_width q.body)) (refs_of q.body))) rec records))
-    (Decides-at (list_any (is_in p) (own body i)) (list_any (λ y. is_in p (y, operand_width body))
-    (take i (refs_of body))) (any_map (is_in p) (λ (y : ℕ). (y, operand_width body))
-    (take i (refs_of body))) (any_of_take (λ y. is_in p (y, operand_width body))
-    (λ y. Covers body y p) (λ y. in_operand p y (operand_width body)) i (refs_of body))))
+taken_covers records rec i body p =
+    simp (list_any-append, any_flat, any_map) (Decides-or _ _ (any_of_take _ _
+    (λ q. any_of_items _ _ (λ y. in_operand p y _) _) rec records)
+    (any_of_take _ _ (λ y. in_operand p y _) i (refs_of body)))
 
 abbrev overlaps : List Record → ℕ → ℕ → Body → ℕ → Bool
 overlaps records rec i body x = list_any
@@ -293,32 +271,12 @@ reason_at order segs s rec r ref = reason_with (is_reserved order s.code) s.code
 reference_rows : (order : Order) (segs : List Segment) (s : Segment) (rec : ℕ) (r : Record)
     (i x : ℕ) → slice_get s.records rec ≡ Some r → slice_get (refs_of r.body) i ≡ Some x
     → Least Ranked (ReferenceHas order segs s rec r i x) (reason_at order segs s rec r (i, x))
-reference_rows order segs s rec r i x er ex =
-    least_same to from
-    (least_or (least_if (nat_lt (length s.code) (x + operand_width r.body)) reason.OutsideCode
-    (past (length s.code) x (operand_width r.body) (wide r.body i x ex)))
-    (least_or (least_if (list_any (is_reserved order s.code)
-    (range_with_len x (operand_width r.body))) reason.ReservedPlace reserved)
-    (least_or (least_if (overlaps s.records rec i r.body x) reason.Overlap
-    (overlapping s.records rec i r x er))
-    (least_if (nat_lt MAX_OPERAND (operand_value segs s rec r.name r.body x)) reason.OperandTooLarge
-    (too_large_by s.code x (target_of (known_of segs) (private_offset segs s.slot rec) r)))
-    (at_apart Ranked reason.Overlap reason.OperandTooLarge (omega arith)))
-    (λ y z t. elim [
-      | inl u ↦ at_apart Ranked reason.ReservedPlace reason.Overlap
-          (omega arith) y z t u
-      | inr u ↦ at_apart Ranked reason.ReservedPlace
-          reason.OperandTooLarge (omega arith) y z t u
-    ]))
-    (λ y z t. elim [
-      | inl u ↦ at_apart Ranked reason.OutsideCode reason.ReservedPlace (omega arith) y z t u
-      | inr v ↦ elim v [
-        | inl u ↦ at_apart Ranked reason.OutsideCode reason.Overlap
-            (omega arith) y z t u
-        | inr u ↦ at_apart Ranked reason.OutsideCode
-            reason.OperandTooLarge (omega arith) y z t u
-      ]
-    ]))
+reference_rows order segs s rec r i x er ex = least_same to from
+    (least_or (least_if _ _ (past _ _ _ (wide r.body i x ex))) (least_or (least_if _ _ reserved)
+    (least_or (least_if _ _ (overlapping s.records rec i r x er))
+    (least_if _ _ (too_large_by s.code x
+    (target_of (known_of segs) (private_offset segs s.slot rec) r)))
+    (λ y z a b. grind arith)) (λ y z a b. grind arith)) (λ y z a b. grind arith))
   where
     Has : Reason → Type 0
     Has = ReferenceHas order segs s rec r i x
@@ -412,10 +370,8 @@ refs_of_record : (order : Order) (segs : List Segment) (s : Segment) (rec : ℕ)
     ≡ first_of (references_of order segs s rec r) (enumerate_from 0 (refs_of r.body))
 refs_of_record order segs s rec r t taken is (inl none) = grind arith
 refs_of_record order segs s rec r t taken is (inr fit) =
-    ap (λ os. option_map (λ (f : ℕ × Reason). in_reference s.file s.slot rec f.0 f.1)
-    (refs_fault (is_reserved order s.code) s.code t 0 os (refs_of r.body)))
-    (is ∙ sym (append-nil (before s.records rec)))
-    ∙ refs_carried order segs s rec r t fit.0 fit.1 [] (refs_of r.body) 0 refl refl
+    let own = refs_carried order segs s rec r t fit.0 fit.1 [] (refs_of r.body) 0 refl refl in
+    grind (arith, append-nil, own, is)
 
 operands_are : (segs : List Segment) (s : Segment) (rec : ℕ) (r : Record) (t : Target)
     → Fits segs s rec r.name r.body t → operands t (refs_of r.body) ≡ operands_of r
@@ -455,13 +411,7 @@ carried order segs s base offsets prefix (r ∷ rs) rec is at = go (target_of kn
         longer prefix r in omega (arith, l, at)) ∙ take_prefix (prefix ++ r ∷ []) rs)
 
     next_free : private_offset segs s.slot (rec + 1) ≡ free + words_taken r.body
-    next_free =
-        let a = offsets (rec + 1) in
-        let b = offsets rec in
-        let c = ap private_words more_is in
-        let d = ap private_words prefix_is in
-        let m = more_words prefix r in
-        omega (arith, a, b, c, d, m)
+    next_free = grind (arith, more_is, prefix_is, more_words)
 
     Later : Type 0
     Later = option_map (in_segment s.file s.slot) (records_fault known R s.code (rec + 1)
@@ -475,26 +425,11 @@ carried order segs s base offsets prefix (r ∷ rs) rec is at = go (target_of kn
     go (Err why) e later = rw (e, records_fault) refl
     go (Ok t) e later =
         let fit = fits segs s rec r.name r.body t e in
-        let refs = option_map (λ (f : ℕ × Reason). (rec, (Some f.0, f.1)))
-        (refs_fault R s.code t 0 taken (refs_of r.body)) in
-        let rest = records_fault known R s.code
-        (rec + 1) (free + words_taken r.body) (taken ++ operands t (refs_of r.body)) rs in
-        let taken_is : flat_map operands_of (prefix ++ r ∷ []) ≡ taken ++ operands t
-        (refs_of r.body) = flat_map-append operands_of prefix (r ∷ []) ∙ ap (λ os. taken ++ os)
-        (append-nil (operands_of r) ∙ sym (operands_are segs s rec r t fit)) in
-        let mine : option_map (in_segment s.file s.slot) refs
-        ≡ first_of (references_of order segs s rec r) (enumerate_from 0 (refs_of r.body)) =
-        map_map (in_segment s.file s.slot) (λ (f : ℕ × Reason). (rec, (Some f.0, f.1)))
-        (refs_fault R s.code t 0 taken (refs_of r.body)) ∙ refs_of_record order
-        segs s rec r t taken (ap (λ records. flat_map operands_of records) (sym prefix_is)) fit in
-        let behind : option_map (in_segment s.file s.slot) rest ≡ first_of (record_fault order
-        segs s) (enumerate_from (rec + 1) rs) = ap (λ n. option_map (in_segment s.file s.slot)
-        (records_fault known R s.code (rec + 1) n (taken ++ operands t (refs_of r.body)) rs))
-        (sym next_free) ∙ (ap (λ os. option_map (in_segment s.file s.slot) (records_fault known R
-        s.code (rec + 1) (private_offset segs s.slot (rec + 1)) os rs)) (sym taken_is) ∙ later) in
-        rw (e, records_fault) (map_or (in_segment s.file s.slot) refs rest ∙ (ap
-        (λ o. option_or o (option_map (in_segment s.file s.slot) rest)) mine ∙ ap (option_or
-        (first_of (references_of order segs s rec r) (enumerate_from 0 (refs_of r.body)))) behind))
+        let refs = refs_of_record order segs s rec r t taken
+        (ap (λ records. flat_map operands_of records) (sym prefix_is)) fit in
+        let ops = operands_are segs s rec r t fit in
+        let all = flat_map-append operands_of prefix (r ∷ []) in
+        grind (arith, map_or, map_map, refs, ops, all, append-nil, next_free, later)
 
 abbrev all_records : Order → List Segment → Segment → Option Fault
 all_records order segs s = first_of (record_fault order segs s) (enumerate_from 0 s.records)
@@ -513,12 +448,14 @@ step_10 order host libs fine =
     (λ s rest n offsets later. (let own = carried order segs s n offsets [] s.records 0 refl refl
     in
     let first = offsets 0 in grind (arith, own, first, later))) (ascend order host libs) in
-    subst (λ o. Least (Precedes OfReferences) (InReferences order host libs) o) (sym e)
-    (over_segments {S = λ s f. SomeItem s.records (λ rec r. RecordFaults order segs s rec r f)}
+    rw e (over_segments {S =
+    λ s f. SomeItem s.records (λ rec r. RecordFaults order segs s rec r f)}
     order host libs (all_records order segs)
-    (λ s is. least_items (record_fault order segs s) s.records (λ rec r e. of_record order segs
-    s rec r e (asked_is_there order host libs fine s is rec r e)) (λ i j a b x y h m n. let p =
-    at_record order segs s i a x m in let q = at_record order segs s j b y n in inr
-    (refl, inr (p.0 ∙ sym q.0, inl (let u = p.1 in let v = q.1 in omega (arith, u, v, h))))))
-    (λ s t x y h m n. let p = at_record order segs s m.0 m.1 x m.3 in let q = at_record order
-    segs t n.0 n.1 y n.3 in inr (refl, inl (let u = p.0 in let v = q.0 in omega (arith, u, v, h)))))
+    (λ s is. least_items _ s.records (λ rec r e. of_record
+    order segs s rec r e (asked_is_there order host libs fine s is rec r e)) (λ i j a b x y h m n.
+    grind (arith, at_record order segs s i a x m, at_record order segs s j b y n)))
+    (λ s t x y h m n. grind (
+      arith,
+      at_record order segs s m.0 m.1 x m.3,
+      at_record order segs t n.0 n.1 y n.3,
+    )))

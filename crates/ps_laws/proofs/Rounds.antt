@@ -1,25 +1,24 @@
 -- The first fault of the units that are added is the smallest that is.
 use Rattle.std.proofs.Common.{◌≡◌, ◌≤◌, ◌∷◌, ◌∙◌, append-nil, length-append}
-use Rattle.std.proofs.Common.{ℕ, ◌+◌, length, Option, false, subst, arith, is_none, unwrap_or}
-use Rattle.std.proofs.Common.{List, [], take, Some, None, Bool, true, refl, sym, ap, inl, inr}
+use Rattle.std.proofs.Common.{ℕ, ◌+◌, length, Option, subst, arith, is_none, unwrap_or}
+use Rattle.std.proofs.Common.{List, [], take, Some, None, Bool, refl, sym, ap, inl, inr}
 use Rattle.ps_laws.proofs.Words.{◌⊎◌, if◌then◌else◌, Decides, slice_get, option_or}
-use Rattle.ps_laws.proofs.Words.{option_map, option_and_then, cases_lt, false≢true, Decides-or}
-use Rattle.ps_laws.proofs.Words.{entry_at, RoundsOutcome, after, added_segments, added_fault}
-use Rattle.ps_laws.proofs.Words.{Because, Step, OfSources, OfAdded, rank, part, key, CodeFault}
-use Rattle.ps_laws.proofs.Words.{InRound, Entry, Role, entry_fault, code_fault, Before, Segment}
-use Rattle.ps_laws.proofs.Words.{unit_source, chosen_library, file_at, UnitReference, in_slot}
-use Rattle.ps_laws.proofs.Words.{in_record, Order, Reason, Fault}
+use Rattle.ps_laws.proofs.Words.{option_map, option_and_then, cases_lt, Decides-or}
+use Rattle.ps_laws.proofs.Words.{RoundsOutcome, after, added_segments, added_fault}
+use Rattle.ps_laws.proofs.Words.{Step, OfSources, OfAdded, rank, part, key}
+use Rattle.ps_laws.proofs.Words.{InRound, entry_fault, code_fault, Before, Segment}
+use Rattle.ps_laws.proofs.Words.{unit_source, chosen_library, UnitReference}
+use Rattle.ps_laws.proofs.Words.{in_record, Order, Fault}
 use Rattle.ps_codefile.specs.Dictionary.{is_nameless}
 use Rattle.ps_resolve.specs.Added.{empty_slots, is_missing, requested_units, rounds}
 use Rattle.ps_resolve.specs.Standing.Keys.{record_read}
-use Rattle.ps_resolve.specs.Standing.Sources.{EntriesHave}
 use Rattle.ps_resolve.specs.Standing.Rounds.{IsMissing, PlacedFault}
 use Rattle.ps_codefile.specs.declared.entry.Role.TheVariants as role
 use Rattle.ps_resolve.proofs.EachRound.{IsTurn, all_rounds, round_fault, segments_before}
-use Rattle.ps_laws.proofs.Least.{Least, nothing, this, Precedes, least_same, least_order, least_map}
+use Rattle.ps_laws.proofs.Least.{quiet, least_else, Least, nothing, this, Precedes, least_same}
+use Rattle.ps_laws.proofs.Least.{least_order, least_map}
 use Rattle.ps_laws.proofs.Looking.{of_test}
-use Rattle.ps_laws.proofs.Sources.{Late, late, OneStop, none_has, unit_least, code_late}
-use Rattle.ps_laws.proofs.Parts.{record_reason}
+use Rattle.ps_laws.proofs.Sources.{OneStop, none_has, unit_least, placed_high}
 use Rattle.ps_words.specs.declared.fault.Reason.TheVariants as reason
 
 -- 1. one round
@@ -31,62 +30,21 @@ RoundHas order host libs g left f =
     ⊎ (((f ≡ in_record g.file g.slot g.rec reason.NoSlot) × (left ≡ None))
     ⊎ ((slot : ℕ) × (left ≡ Some slot) × PlacedFault order host libs g.name slot f))
 
--- the fault's record is one that was read
-abbrev Reads : Fault → Type 0
-Reads f = record_read f.reason f.rec ≡ part f.rec
+-- a fault of rank 13 or above that has a record has one that was read
+reads : (f : Fault) → 13 ≤ rank f.reason → record_read f.reason f.rec ≡ part f.rec
+reads f h = grind arith
 
--- where a fault has no record, none was read
-none_read : (why : Reason) → record_read why None ≡ 0
-none_read why = grind arith
-
-reads_slot : {P : Reason → Type 0} (k slot : ℕ) (f : Fault) → Because (in_slot k slot) P f
-    → Reads f
-reads_slot k slot f t = subst Reads (sym t.1) (none_read t.0)
-
-module _ (order : Order) where
-  -- if a fault of a code, its tables or its records has a record, it is one that was read
-  reads_code : (file : List ℕ) (k : ℕ) (e : Entry) (slot : ℕ) (r : Role) (f : Fault)
-      → CodeFault order file k e slot r f → Reads f
-  reads_code file k e slot r f (inl t) = reads_slot k slot f t
-  reads_code file k e slot r f (inr t) = elim t.2.1 [
-    | inl b ↦ reads_slot k slot f b
-    | inr b ↦ subst Reads (sym b.2) (record_reason
-        (λ why. record_read why (Some (length b.0)) ≡ length b.0 + 1) refl refl refl refl refl
-        order _ b.1 b.3.stops)
-  ]
-
-  reads_placed : (host : List ℕ) (libs : List (List ℕ)) (name : List ℕ)
-      (slot : ℕ) (f : Fault) → PlacedFault order host libs name slot f → Reads f
-  reads_placed host libs name slot f (inl t) = reads_slot (t.0 + 1) slot f t.3.1
-  reads_placed host libs name slot f (inr t) = reads_code (file_at host libs t.0.0) t.0.0
-      (entry_at order (file_at host libs t.0.0) t.0.1) slot role.Wanted f t.2
-
-  -- the faults of a unit that was found come after that of one that was not
-  entries_high : (name lib : List ℕ) (why : Reason)
-      → EntriesHave order name lib why → 13 ≤ rank why
-  entries_high name lib why h = grind arith
-
-lower_late : (slot n m : ℕ) (f : Fault) → m ≤ n → Late slot n f → Late slot m f
-lower_late slot n m f h t = grind arith
-
-placed_late : (order : Order) (host : List ℕ) (libs : List (List ℕ)) (name : List ℕ)
-    (slot : ℕ) (f : Fault) → PlacedFault order host libs name slot f → Late slot 13 f
-placed_late order host libs name slot f (inl t) =
-    late (t.0 + 1) slot 13 f (entries_high order name t.1) t.3.1
-placed_late order host libs name slot f (inr t) =
-    lower_late slot 15 13 f (omega arith) (code_late order (file_at host libs t.0.0) t.0.0
-    (entry_at order (file_at host libs t.0.0) t.0.1) slot role.Wanted f t.2)
-
--- that a unit is missing comes before a fault of rank 13 or above, and before one of a record that
--- was read
-missing_first : (k slot : ℕ) (g : UnitReference) (f : Fault) → Late slot 13 f → Reads f
+-- that a unit is missing comes before it
+missing_first : (k : ℕ) (g : UnitReference) (f : Fault) → 13 ≤ rank f.reason
     → Precedes (OfAdded k) (in_record g.file g.slot g.rec reason.MissingUnit) f
-missing_first k slot g f l r = grind arith
+missing_first k g f h = grind arith
 
 -- what comes first in a slot comes first in its round
-within_round : (k : ℕ) (x y : Fault) → unwrap_or x.slot x.file ≡ unwrap_or y.slot y.file
-    → Reads x → Reads y → Precedes OfSources x y → Precedes (OfAdded k) x y
-within_round k x y h m p q = grind arith
+within_round : (k slot : ℕ) (x y : Fault)
+    → (unwrap_or x.slot x.file ≡ slot) × (13 ≤ rank x.reason)
+    → (unwrap_or y.slot y.file ≡ slot) × (13 ≤ rank y.reason)
+    → Precedes OfSources x y → Precedes (OfAdded k) x y
+within_round k slot x y a b p = grind (arith, reads)
 
 -- the first fault of a name's unit in a slot is the smallest of its round
 placed_least : (law : OneStop) (order : Order) (host : List ℕ) (libs : List (List ℕ))
@@ -94,9 +52,8 @@ placed_least : (law : OneStop) (order : Order) (host : List ℕ) (libs : List (L
     (PlacedFault order host libs name slot) (option_or (entry_fault order name libs slot)
     (option_and_then (code_fault order host libs slot role.Wanted) (unit_source order name libs)))
 placed_least law order host libs k name slot =
-    least_order (λ x y s t. within_round k x y ((placed_late order host libs name slot x s).0
-    ∙ sym (placed_late order host libs name slot y t).0) (reads_placed order host libs name slot
-    x s) (reads_placed order host libs name slot y t)) (unit_least law order host libs name slot)
+    least_order (λ x y s t. within_round k slot x y (placed_high order host libs name slot x s)
+    (placed_high order host libs name slot y t)) (unit_least law order host libs name slot)
 
 pub missing : (order : Order) (libs : List (List ℕ)) (name : List ℕ)
     → Decides (is_missing order libs name) (IsMissing order libs name)
@@ -115,32 +72,24 @@ round_least law order host libs k g None =
         (Some (in_record g.file g.slot g.rec (if b then reason.MissingUnit else reason.NoSlot)))
     go b h1 = grind (arith, this)
 round_least law order host libs k g (Some slot) =
-    go (is_missing order libs g.name) (missing order libs g.name)
+    least_same to from (least_else (is_missing order libs g.name) _ (missing order libs g.name)
+    (placed_least law order host libs k g.name slot)
+    (λ f p. missing_first k g f (placed_high order host libs g.name slot f p).1))
   where
-    Here : Fault → Type 0
-    Here = PlacedFault order host libs g.name slot
+    Parts : Fault → Type 0
+    Parts f = ((f ≡ in_record g.file g.slot g.rec reason.MissingUnit)
+        × IsMissing order libs g.name)
+        ⊎ PlacedFault order host libs g.name slot f
 
-    go : (b : Bool) → Decides b (IsMissing order libs g.name) → Least (Precedes (OfAdded k))
-        (RoundHas order host libs g (Some slot)) (if b then Some (in_record g.file g.slot g.rec
-        reason.MissingUnit) else option_or (entry_fault order g.name libs slot) (option_and_then
-        (code_fault order host libs slot role.Wanted) (unit_source order g.name libs)))
-    go true d = this (in_record g.file g.slot g.rec reason.MissingUnit) (inl (refl, d.0 refl)) least
-      where
-        least : (f : Fault) → RoundHas order host libs g (Some slot) f
-            → (f ≡ in_record g.file g.slot g.rec reason.MissingUnit)
-            ⊎ Precedes (OfAdded k) (in_record g.file g.slot g.rec reason.MissingUnit) f
-        least f (inl t) = inl t.0
-        least f (inr (inl t)) = grind arith
-        least f (inr (inr t)) = inr (missing_first k t.0 g f (placed_late
-            order host libs g.name t.0 f t.2) (reads_placed order host libs g.name t.0 f t.2))
-    go false d = least_same (λ f p. inr (inr (slot, refl, p))) from
-        (placed_least law order host libs k g.name slot)
-      where
-        from : (f : Fault) → RoundHas order host libs g (Some slot) f → Here f
-        from f (inl t) = absurd (false≢true (d.1 t.1))
-        from f (inr (inl t)) = grind arith
-        from f (inr (inr t)) = let same : t.0 ≡ slot = (let e = t.1 in cc) in
-            subst (λ (n : ℕ). PlacedFault order host libs g.name n f) same t.2
+    to : (f : Fault) → Parts f → RoundHas order host libs g (Some slot) f
+    to f (inl t) = inl t
+    to f (inr t) = inr (inr (slot, refl, t))
+
+    from : (f : Fault) → RoundHas order host libs g (Some slot) f → Parts f
+    from f (inl t) = inl t
+    from f (inr (inl t)) = grind arith
+    from f (inr (inr t)) = let same : t.0 ≡ slot = (let e = t.1 in cc) in
+        inr (subst (λ (n : ℕ). PlacedFault order host libs g.name n f) same t.2)
 
 -- 3. all rounds
 abbrev pub Place : Type 0
@@ -225,10 +174,6 @@ abbrev RoundsHave : Order → List ℕ → List (List ℕ) → ℕ → RoundsOut
 RoundsHave order host libs k r =
     (o : Option Place) × Least Earlier (FromRound order host libs k) o
     × (option_map (λ (x : Place). x.1) o ≡ r.fault)
-
-quiet : {S : Fault → Type 0} {B : Fault → Fault → Type 0} → Least B S None → (f : Fault)
-    → S f → ⊥
-quiet (nothing n) f s = n f s
 
 -- that of a round without a fault is that of the rounds after it
 round_more : (order : Order) (host : List ℕ) (libs : List (List ℕ)) (k : ℕ)

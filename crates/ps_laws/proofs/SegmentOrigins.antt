@@ -1,12 +1,12 @@
 -- Where no fault applies, the segments of a link have the origins that are said plainly.
 use Rattle.std.proofs.Common.{◌≡◌, ℕ, zero, suc, ◌+◌, ◌<◌, ◌≤◌, List, []}
-use Rattle.std.proofs.Common.{◌∷◌, ◌++◌, take, unwrap_or, Option, Some, None, Result, Ok}
-use Rattle.std.proofs.Common.{Err, true, false, refl, sym, ap, subst, ◌∙◌, inl, inr, arith}
-use Rattle.ps_laws.proofs.Words.{◌≢◌, cases_order, false≢true, request_fault, UnitReference}
+use Rattle.std.proofs.Common.{◌∷◌, ◌++◌, take, Option, Some, None, Result, Ok}
+use Rattle.std.proofs.Common.{true, false, refl, sym, ap, subst, ◌∙◌, inl, inr, arith}
+use Rattle.ps_laws.proofs.Words.{◌≢◌, false≢true, request_fault, UnitReference}
 use Rattle.ps_laws.proofs.Words.{◌⊎◌, slice_get, or_parts, request_of, NoneStands, role_fault}
 use Rattle.ps_laws.proofs.Words.{range_with_len, option_map_or, added_segments, request_by_slot}
 use Rattle.ps_laws.proofs.Words.{option_map, result_err, added_fault, segments_of, unit_source}
-use Rattle.ps_laws.proofs.Words.{option_or, result_ok, same_Some, IsOfRound, IsSegment, source_of}
+use Rattle.ps_laws.proofs.Words.{option_or, result_ok, IsOfRound, IsSegment, source_of}
 use Rattle.ps_laws.proofs.Words.{entry_at, role_of, code_of, SomeItem, IsOfFile, is_empty, order_of}
 use Rattle.ps_laws.proofs.Words.{Request, HasRole, reading, Segment, file_at, is_role, IsGiver}
 use Rattle.ps_laws.proofs.Words.{Entry, Role, Record, IsFile, Asks, in_slot, Order, Reason}
@@ -34,6 +34,7 @@ use Rattle.ps_laws.proofs.OfLink.{of_link}
 use Rattle.ps_resolve.proofs.ReadingCodes.{whole_code}
 use Rattle.ps_resolve.proofs.ReadingKnown.{none_at}
 use Rattle.ps_laws.proofs.Sources.{OneStop}
+use Rattle.ps_laws.proofs.Looking.{is_there}
 use Rattle.ps_laws.proofs.Segments.{own_in_slot, Ascends, ascend}
 use Rattle.ps_resolve.proofs.OfRounds.{in_empty}
 use Rattle.ps_laws.proofs.Asked.{empty_slot, empty_ascend, found_added, in_segments, own_at}
@@ -86,9 +87,7 @@ lowest from (s ∷ ss) a (suc j) q e = grind (arith, lowest (s.slot + 1) ss a.1 
 rises : (from : ℕ) (segs : List Segment) → Ascends from segs → Rises segs
 rises from [] a i j s q l e u = absurd (cc)
 rises from (x ∷ xs) a i zero s q l e u = absurd (omega (arith, l))
-rises from (x ∷ xs) a zero (suc j) s q l e u = let same : x ≡ s = cc in let h =
-    lowest (x.slot + 1) xs a.1 j q u in subst (λ (y : Segment). y.slot < q.slot) same
-    (omega (arith, h))
+rises from (x ∷ xs) a zero (suc j) s q l e u = grind (arith, lowest)
 rises from (x ∷ xs) a (suc i) (suc j) s q l e u =
     rises (x.slot + 1) xs a.1 i j s q (omega (arith, l)) e u
 
@@ -98,6 +97,14 @@ one_place : (segs : List Segment) → Rises segs → (i j : ℕ) (s q : Segment)
 one_place segs r i j s q e u same = grind arith
 
 -- 3. what is known of each segment of a link
+-- the test of an empty slot passes just where its role is Empty, and a role that gives no error is
+empty_is : (o : Result Role Reason) → option_map_or is_empty (result_ok o) false ≡ true
+    → o ≡ Ok role.Empty
+empty_is o h = grind arith
+
+role_is : (o : Result Role Reason) → result_err o ≡ None → (r : Role) × (o ≡ Ok r)
+role_is o h = grind arith
+
 -- where a segment of this role is from
 abbrev HasPlace : Order → List ℕ → List (List ℕ) → Segment → Type 0
 HasPlace order host libs s = (s.role ≢ role.Wanted → IsInPlace s)
@@ -128,11 +135,9 @@ module _ (law : OneStop) (spells : OneSpelling) (host : List ℕ) (libs : List (
         → unit_source order s.name libs ≡ Some (s.file, s.index)
         → IsUnitOf order host libs s.name s.file s.index × IsReadFrom order host libs s
     of_unit q name fits source =
-        let at = ap (λ (n : List ℕ). unit_source order n libs) name ∙ source in
-        let unit = subst (λ (n : List ℕ). IsUnitOf order host libs n s.file s.index) name
-        (unit_of order host libs q (s.file, s.index) fits at) in
-        let file : IsFile host libs s.file (file_at host libs s.file) = subst (IsFile host
-        libs s.file) (sym (ap (λ (o : Option (List ℕ)). unwrap_or o []) unit.file)) unit.file in
+        let unit = rw name at (unit_of order host libs q (s.file, s.index) fits (rw name source)) in
+        let file : IsFile host libs s.file (file_at host libs s.file) =
+        (let e = unit.file in grind arith) in
         (unit, read_from spells order host libs s file unit.within h)
 
     -- a slot's own segment
@@ -163,14 +168,6 @@ module _ (law : OneStop) (spells : OneSpelling) (host : List ℕ) (libs : List (
             (λ e. let a = sym is ∙ e in cc) source
 
   -- an added segment
-  is_empty_role : (slot : ℕ) → is_role is_empty order host slot ≡ true
-      → HasRole order host slot role.Empty
-  is_empty_role slot = go (role_of (entry_at order host slot))
-    where
-      go : (o : Result Role Reason) → option_map_or is_empty (result_ok o) false ≡ true
-          → o ≡ Ok role.Empty
-      go o h = grind arith
-
   -- a segment of the host's own slots, or an added one, is a segment of the link
   own_listed : (k : ℕ) (s : Segment) → slice_get (own_segments order host libs) k ≡ Some s
       → In s (segments order host libs)
@@ -190,16 +187,7 @@ module _ (law : OneStop) (spells : OneSpelling) (host : List ℕ) (libs : List (
     -- the slot of each round is the next empty one
     rises_with : (i : ℕ) (x y : ℕ) → x < y → slice_get (empty_slots order host) i ≡ Some x
         → slice_get (empty_slots order host) j ≡ Some y → i < j
-    rises_with i x y lt e u = elim (cases_order i j) [
-      | inl same ↦ (let a = same_Some x y
-          (sym (subst (λ (n : ℕ). slice_get (empty_slots order host) n ≡ Some x) same e) ∙ u)
-          in absurd (omega (arith, a, lt)))
-      | inr k ↦ elim k [
-        | inl h ↦ h
-        | inr h ↦
-            (let a = empty_ascend order host j i y x h u e in absurd (omega (arith, a, lt)))
-      ]
-    ]
+    rises_with i x y lt e u = grind (arith, empty_ascend order host j i y x)
 
     is_empty_slot : (slot : ℕ) → 7 ≤ slot → slot < 16 → HasRole order host slot role.Empty
         → In slot (empty_slots order host)
@@ -210,24 +198,15 @@ module _ (law : OneStop) (spells : OneSpelling) (host : List ℕ) (libs : List (
 
     none_left : (slot : ℕ) → 7 ≤ slot → slot < s.slot → HasRole order host slot role.Empty
         → IsTaken (segments order host libs) slot
-    none_left slot low lt has = go (slice_get (added_segments order host libs) i.0) refl
-      where
-        at : slice_get (empty_slots order host) j ≡ Some s.slot
-        at = in_empty order host libs j s in_round
-
-        i : In slot (empty_slots order host)
-        i = is_empty_slot slot low (let b = (empty_slot order host j s.slot at).1 in
-            omega (arith, b, lt)) has
-
-        before : i.0 < j
-        before = rises_with i.0 slot s.slot lt i.1 at
-
-        go : (o : Option Segment) → slice_get (added_segments order host libs) i.0 ≡ o
-            → IsTaken (segments order host libs) slot
-        go None e = absurd (some_before (added_segments order host libs) i.0 j s
-            (let h = before in omega (arith, h)) in_round e)
-        go (Some q) e = let l = added_listed i.0 q e in
-            (l.0, q, l.1, same_Some q.slot slot (sym (in_empty order host libs i.0 q e) ∙ i.1))
+    none_left slot low lt has =
+        let at = in_empty order host libs j s in_round in
+        let b = (empty_slot order host j s.slot at).1 in
+        let i = is_empty_slot slot low (omega (arith, b, lt)) has in
+        let before = rises_with i.0 slot s.slot lt i.1 at in
+        let q = is_there (slice_get (added_segments order host libs) i.0)
+        (some_before (added_segments order host libs) i.0 j s (omega (arith, before)) in_round) in
+        let l = added_listed i.0 q.0 q.1 in
+        (l.0, q.0, l.1, (let u = in_empty order host libs i.0 q.0 q.1 in let v = i.1 in cc))
 
     -- what requests it was there in its round
     asked_before : (g : UnitReference)
@@ -294,7 +273,7 @@ module _ (law : OneStop) (spells : OneSpelling) (host : List ℕ) (libs : List (
             let at = empty_slot order host j s.slot known.slot in
             let parts = request_parts order host libs (request_of g s.slot) known.fits in
             let units = units_are order host libs fine.0 fine.1 in record {
-              empty = is_empty_role s.slot at.2;
+              empty = empty_is (role_of (entry_at order host s.slot)) at.2;
               low = at.0;
               next = none_left;
               role = known.role;
@@ -319,46 +298,35 @@ module _ (law : OneStop) (spells : OneSpelling) (host : List ℕ) (libs : List (
       (λ k s e. h s (known s (of_segments order host libs k s e)))
 
   pub own : AreOwn host (segments_of host libs)
-  own = each (λ s. s.added ≡ false → IsOwn order host s) (λ s k. k.own)
+  own = each _ (λ s k. k.own)
 
   pub added_ones : AreAdded host (segments_of host libs)
-  added_ones = each (λ s. s.added ≡ true → IsAddedUnit order host (segments_of host libs) s)
-      (λ s k. k.added_unit)
+  added_ones = each _ (λ s k. k.added_unit)
 
   pub rounds : AreOfRounds host libs (segments_of host libs)
   rounds = (
-    each (λ s. s.added ≡ true → SomeItem (added_segments order host libs) (λ k q. q ≡ s))
-        (λ s k. k.round),
-    all_items (λ (s : Segment). SomeItem (segments_of host libs) (λ k q. q ≡ s))
-        (added_segments order host libs)
+    each _ (λ s k. k.round),
+    all_items (λ (s : Segment). SomeItem (segments_of host libs) (λ k q. q ≡ s)) _
         (λ k s e. let l = added_listed k s e in (l.0, s, l.1, refl)),
   )
 
   pub in_place : AreInPlace (segments_of host libs)
-  in_place = each (λ s. s.role ≢ role.Wanted → IsInPlace s) (λ s k. k.place.0)
+  in_place = each _ (λ s k. k.place.0)
 
   pub of_libraries : AreOfLibraries host libs (segments_of host libs)
-  of_libraries = each (λ s. s.role ≡ role.Wanted
-      → IsUnitOf order host libs s.name s.file s.index) (λ s k. k.place.1)
+  of_libraries = each _ (λ s k. k.place.1)
 
   pub all_read : AreRead host libs (segments_of host libs)
-  all_read = each (λ s. IsReadFrom order host libs s) (λ s k. k.read)
+  all_read = each _ (λ s k. k.read)
 
   -- 4. each slot that is not empty has a segment
   has_role : (slot : ℕ) → slot < 16 → (r : Role) × HasRole order host slot r
   unfolding slots_fault
-  has_role slot inside = go (role_of (entry_at order host slot)) refl
-      (both_none (result_err (role_of (entry_at order host slot))) _ no_reason).0
-    where
-      no_reason : slot_reason order host slot ≡ None
-      no_reason = map_none (in_slot 0 slot) (slot_reason order host slot)
-          (none_at (λ n. option_map (in_slot 0 n) (slot_reason order host n)) 0 16 slot
-          (slots_fine host libs no_fault) (omega arith) (omega (arith, inside)))
-
-      go : (o : Result Role Reason) → role_of (entry_at order host slot) ≡ o
-          → result_err o ≡ None → (r : Role) × HasRole order host slot r
-      go (Ok r) is e = (r, is)
-      go (Err why) is e = absurd (cc)
+  has_role slot inside = role_is (role_of (entry_at order host slot))
+      (both_none (result_err (role_of (entry_at order host slot))) _
+      (map_none (in_slot 0 slot) (slot_reason order host slot)
+      (none_at (λ n. option_map (in_slot 0 n) (slot_reason order host n)) 0 16 slot
+      (slots_fine host libs no_fault) (omega arith) (omega (arith, inside))))).0
 
   pub one_each : HaveOneEach host (segments_of host libs)
   one_each slot inside filled =
@@ -383,6 +351,5 @@ module _ (law : OneStop) (spells : OneSpelling) (host : List ℕ) (libs : List (
 pub by_slot : (host : List ℕ) (libs : List (List ℕ)) → AreBySlot (segments_of host libs)
 by_slot host libs = (
   rises 0 (segments_of host libs) (ascend (order_of host) host libs),
-  all_items (λ (s : Segment). s.slot < 16) (segments_of host libs)
-      (λ k s e. (of_segments (order_of host) host libs k s e).0),
+  all_items _ _ (λ k s e. (of_segments (order_of host) host libs k s e).0),
 )

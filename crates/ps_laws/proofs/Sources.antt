@@ -6,7 +6,7 @@ use Rattle.std.proofs.Common.{leb-true, le-leb, unwrap_or, is_none}
 use Rattle.ps_laws.proofs.Words.{◌⊎◌, ◌≢◌, if◌then◌else◌, nat_lt, not, ◌&&◌}
 use Rattle.ps_laws.proofs.Words.{◌||◌, ◌==◌, nat_le, Decides, range_with_len}
 use Rattle.ps_laws.proofs.Words.{enumerate_from, slice_get, list_any, filter_map, find, option_or}
-use Rattle.ps_laws.proofs.Words.{option_map, option_and_then, option_map_or, result_ok, bytes_eq}
+use Rattle.ps_laws.proofs.Words.{option_map, option_and_then, option_map_or, result_ok}
 use Rattle.ps_laws.proofs.Words.{false≢true, Decides-at, Decides-ltb, Decides-and, Decides-or}
 use Rattle.ps_laws.proofs.Words.{Decides-like, Decides-eqb, none-some, same_Some, bytes_eq-Decides}
 use Rattle.ps_laws.proofs.Words.{slots, entry_at, role_of, code_of, information_of, table_of}
@@ -18,24 +18,23 @@ use Rattle.ps_laws.proofs.Words.{file_at, in_slot, in_record, Order, Reason, Fau
 use Rattle.std.specs.Prelude.{◌↔◌, slice_index}
 use Rattle.std.specs.List.{list_all}
 use Rattle.std.proofs.lemmas.Bool.Decides.{Decides-not}
-use Rattle.ps_codefile.specs.Dictionary.{is_filled}
 use Rattle.ps_codefile.specs.Procedures.{procedures, content_of, dictionary_start, dictionary_len}
 use Rattle.ps_codefile.specs.Procedures.{is_placed, numbers, tables, tables_fault}
 use Rattle.ps_resolve.specs.Standing.Sources.{EntriesHave, NoneHas, UnitFault, HasBadTable, AreBad}
 use Rattle.ps_resolve.specs.Standing.Sources.{TablesHave, InSources}
 use Rattle.ps_linkinfo.specs.Records.{Stops}
-use Rattle.ps_resolve.specs.Faults.{entries_reason, information_fault, source_fault, sources_fault}
+use Rattle.ps_resolve.specs.Faults.{entries_reason, information_fault, sources_fault}
 use Rattle.ps_resolve.specs.Requests.{is_missing}
 use Rattle.ps_resolve.specs.Sources.{has_entry}
 use Rattle.ps_resolve.proofs.Requested.{has_name}
 pub use Rattle.ps_resolve.proofs.FirstSlots.{ok_is}
 use Rattle.ps_laws.proofs.Least.{Least, nothing, this, Precedes, least_same, least_or, least_if}
-use Rattle.ps_laws.proofs.Least.{least_then, least_range, least_items, least_guard}
+use Rattle.ps_laws.proofs.Least.{least_then, least_range, least_items, least_guard, least_else}
 use Rattle.ps_resolve.specs.Standing.Rounds.{PlacedFault}
 use Rattle.ps_laws.proofs.Steps.{Ranked, because, any_of_range, any_lesser}
 use Rattle.ps_laws.proofs.Items.{not_apart}
 use Rattle.ps_laws.proofs.Looking.{of_test}
-use Rattle.ps_laws.proofs.Parts.{code_reason}
+use Rattle.ps_laws.proofs.Parts.{code_reason, record_reason}
 use Rattle.ps_codefile.specs.declared.entry.Role.TheVariants as role
 use Rattle.ps_words.specs.declared.fault.Reason.TheVariants as reason
 
@@ -77,9 +76,7 @@ find_first {X} p (x ∷ xs) = grind (arith, find_first p xs)
 module _ (order : Order) (name file : List ℕ) where
   -- the library's entries
   pub named : (i : ℕ) → Decides (is_named order name file i) (IsNamed order name file i)
-  named i = Decides-and (is_filled (entry_at order file i))
-      (bytes_eq (entry_at order file i).name name) (of_test (is_filled (entry_at order file i)))
-      (bytes_eq-Decides (entry_at order file i).name name)
+  named i = grind (arith, bytes_eq-Decides)
 
   pub has : Decides (has_entry order name file) (HasEntry order name file)
   has = any_lesser (is_named order name file) (λ i. IsNamed order name file i) (named) 16
@@ -97,26 +94,19 @@ module _ (order : Order) (name lib : List ℕ) where
   -- the test of a library's entries says whether two have the name
   duplicate : Decides (list_any (λ i. is_named order name lib i
       && list_any (is_named order name lib) (range_with_len 0 i)) slots) (Duplicate order name lib)
-  duplicate = any_lesser (λ i. is_named order name lib i && list_any
-      (is_named order name lib) (range_with_len 0 i)) (λ i. IsNamed order name lib i × SomeBelow i
-      (λ j. IsNamed order name lib j)) (λ i. Decides-and (is_named order name lib i)
-      (list_any (is_named order name lib) (range_with_len 0 i)) (named order name lib i) (any_lesser
-      (is_named order name lib) (λ j. IsNamed order name lib j) (named order name lib) i)) 16
+  duplicate = any_lesser _ _ (λ i. Decides-and _ _ (named order name lib i)
+      (any_lesser _ _ (named order name lib) i)) 16
 
   -- the entry that is found for a name is the smallest that has it
   first_entry : Least
       (λ i j. i < j) (NamedAt order name lib) (find (is_named order name lib) slots)
-  first_entry = subst (λ o. Least (λ i j. i < j) (NamedAt order name lib) o)
-      (sym (find_first (is_named order name lib) slots))
-      (least_range (λ i. if is_named order name lib i then Some i else None) (λ i. least_guard
-      (is_named order name lib i) (named order name lib i) (this i refl (λ y e. inl e)))
-      (λ i j x y h s t. let a = s.1 in let b = t.1 in omega (arith, a, b, h)) 0 16)
+  first_entry = rw (find_first (is_named order name lib) slots) (least_range _ (λ i. least_guard _
+      (named order name lib i) (this i refl (λ y e. inl e))) (λ i j x y h s t. grind arith) 0 16)
 
   -- the reason that is given for a library's entries of a name is the one of smallest rank that
   -- applies
   entries_rows : Least Ranked (EntriesHave order name lib) (entries_reason order name lib)
-  entries_rows = go (list_any (λ i. is_named order name lib i && list_any (is_named order name lib)
-      (range_with_len 0 i)) slots) (find (is_named order name lib) slots) duplicate first_entry
+  entries_rows = go _ _ duplicate first_entry
     where
       Has : Reason → Type 0
       Has = EntriesHave order name lib
@@ -138,9 +128,8 @@ module _ (order : Order) (name lib : List ℕ) where
               (h.0, omega arith, (let a = h.1 in omega (arith, a)), (h.2.0, refl))
           none other h = h
       go false (Some i) d (this j s l) =
-          least_same to from (least_if (not ((entry_at order lib i).kind == 3))
-          (reason.NotAUnit (entry_at order lib i).kind) (Decides-not
-          ((entry_at order lib i).kind == 3) (Decides-eqb (entry_at order lib i).kind 3)))
+          least_same to from (least_if _ _ (Decides-not ((entry_at order lib i).kind == 3)
+          (Decides-eqb (entry_at order lib i).kind 3)))
         where
           here : IsNamed order name lib i
           here = subst (λ k. IsNamed order name lib k) (sym s.3.1) s.3.0
@@ -167,12 +156,10 @@ Found order name libs p = SomeItem libs (λ k lib. HasEntry order name lib × (p
 -- the library
 pub chosen : (order : Order) (name : List ℕ) (libs : List (List ℕ))
     → Least (λ p q. p.0 < q.0) (Found order name libs) (chosen_library order name libs)
-chosen order name libs = subst (λ o. Least (λ p q. p.0 < q.0) (Found order name libs) o)
-    (sym (find_first (λ lib. has_entry order name lib.1) (enumerate_from 0 libs))) (least_items
-    (λ lib. if has_entry order name lib.1 then Some lib else None) libs (λ k lib e. least_guard
-    (has_entry order name lib) (has order name lib) (this (k, lib) refl (λ y q. inl q)))
-    (λ i j a b x y h s t. let p = ap (λ (z : ℕ × List ℕ). z.0) s.1 in let q =
-    ap (λ (z : ℕ × List ℕ). z.0) t.1 in omega (arith, p, q, h)))
+chosen order name libs =
+    rw (find_first (λ lib. has_entry order name lib.1) (enumerate_from 0 libs)) (least_items _ libs
+    (λ k lib e. least_guard _ (has order name lib) (this (k, lib) refl (λ y q. inl q)))
+    (λ i j a b x y h s t. grind arith))
 
 -- no library is chosen just where none has an entry of the name
 pub none_has : (order : Order) (name : List ℕ) (libs : List (List ℕ))
@@ -253,14 +240,15 @@ module _ (order : Order) (code : List ℕ) where
   -- the test of all tables for their places says whether one is bad
   bad_table : Decides
       (not (list_all (is_placed order code) (numbers code))) (HasBadTable order code)
-  bad_table = Decides-at (not (list_all (is_placed order code) (numbers code)))
-      (list_any (λ p. not (is_placed order code p)) (numbers code)) (not_all (is_placed order code)
-      (numbers code)) (Decides-like (list_any (λ p. not (is_placed order code p)) (numbers code))
-      (λ t. (t.0, t.1, omega (arith, t.2), t.3.0, t.3.1))
-      (λ t. (t.0, t.1, omega (arith, t.2), (t.3, t.4)))
-      (any_of_range (λ p. not (is_placed order code p)) Misplaced
-      (λ p. not_placed (content_of order code p) (length code - 2 - 2 * p) (length code
-      - 2 - 2 * p - content_of order code p + 1) (dictionary_start code)) 1 (procedures code)))
+  bad_table = Decides-at _ _ (not_all _ (numbers code)) (Decides-like _ (λ t. (
+    t.0,
+    t.1,
+    omega
+        (arith, t.2),
+    t.3.0,
+    t.3.1,
+  )) (λ t. (t.0, t.1, omega (arith, t.2), (t.3, t.4))) (any_of_range
+      (λ p. not _) Misplaced (λ p. not_placed _ _ _ _) 1 _))
     where
       Misplaced : ℕ → Type 0
       Misplaced p = (content_of order code p ≢ 0)
@@ -271,13 +259,7 @@ module _ (order : Order) (code : List ℕ) where
   are_bad : (host : Bool) → Decides (nat_lt (length code) (dictionary_len code)
       || not (list_all (is_placed order code) (numbers code))
       || (host && (procedures code == 0 || content_of order code 1 == 0))) (AreBad order code host)
-  are_bad host = Decides-or (nat_lt (length code) (dictionary_len code) || not (list_all (is_placed
-      order code) (numbers code))) (host && (procedures code == 0 || content_of order code 1 == 0))
-      (Decides-or (nat_lt (length code) (dictionary_len code)) (not (list_all (is_placed order code)
-      (numbers code))) (Decides-ltb (length code) (dictionary_len code)) (bad_table))
-      (Decides-and host (procedures code == 0 || content_of order code 1 == 0)
-      (of_test host) (Decides-or (procedures code == 0) (content_of order code 1 == 0)
-      (Decides-eqb (procedures code) 0) (Decides-eqb (content_of order code 1) 0)))
+  are_bad host = search (Decides-or, Decides-and, Decides-ltb, Decides-eqb, of_test, bad_table)
 
 is_at : (test : ℕ → Bool) (P : ℕ → Type 0) → ((t : ℕ) → Decides (test t) (P t))
     → (o : Option ℕ) → Decides (option_map_or test o false)
@@ -289,25 +271,30 @@ module _ (order : Order) (code : List ℕ) where
   native_table : Decides (list_any (λ t. slice_index code t == 0) (tables order code))
       ((p : ℕ) × (1 ≤ p) × (p ≤ procedures code)
       × (t : ℕ) × (table_of order code p ≡ Some t) × (slice_index code t ≡ 0))
-  native_table = Decides-at (list_any (λ t. slice_index code t == 0) (tables order code))
-      (list_any (λ p. option_map_or (λ t. slice_index code t == 0) (table_of order code p) false)
-      (numbers code)) (any_of_filter
-      (λ t. slice_index code t == 0) (table_of order code) (numbers code)) (Decides-like
-      (list_any (λ p. option_map_or (λ t. slice_index code t == 0) (table_of order code p) false)
-      (numbers code)) (λ t. (t.0, t.1, omega (arith, t.2), t.3.0, t.3.1, t.3.2))
-      (λ t. (t.0, t.1, omega (arith, t.2), (t.3, t.4, t.5))) (any_of_range
-      (λ p. option_map_or (λ t. slice_index code t == 0) (table_of order code p) false)
-      (λ p. (t : ℕ) × (table_of order code p ≡ Some t) × (slice_index code t ≡ 0))
-      (λ p. is_at (λ t. slice_index code t == 0) (λ t. slice_index code t ≡ 0)
-      (λ t. Decides-eqb (slice_index code t) 0) (table_of order code p)) 1 (procedures code)))
+  native_table = Decides-at _ _ (any_of_filter _ _ (numbers code)) (Decides-like _ (λ t. (
+    t.0,
+    t.1,
+    omega (arith, t.2),
+    t.3.0,
+    t.3.1,
+    t.3.2,
+  )) (λ t. (
+    t.0,
+    t.1,
+    omega (arith, t.2),
+    (
+      t.3,
+      t.4,
+      t.5,
+    ),
+  )) (any_of_range _ (λ p. (t : ℕ) × (table_of order code p ≡ Some t) × (slice_index
+      code t ≡ 0)) (λ p. is_at _ _ (λ t. Decides-eqb _ 0) _) 1 _))
 
   -- the reason that is given for the tables of a code is the one of smallest rank that applies
   pub tables_rows : (host : Bool)
       → Least Ranked (TablesHave order code host) (tables_fault order code host)
   tables_rows host =
-      go (nat_lt (length code) (dictionary_len code) || not (list_all (is_placed order code)
-      (numbers code)) || (host && (procedures code == 0 || content_of order code 1 == 0))) (list_any
-      (λ t. slice_index code t == 0) (tables order code)) (are_bad order code host) (native_table)
+      go _ _ (are_bad order code host) (native_table)
     where
       go : (b n : Bool) → Decides b (AreBad order code host) → Decides n ((p : ℕ)
           × (1 ≤ p) × (p ≤ procedures code) × (t : ℕ) × (table_of order code p ≡ Some t)
@@ -407,11 +394,10 @@ module _ (law : OneStop) (order : Order) where
                 (information_fault order file e at.0 slot) else None
           ])
       go (Err why) q = grind (arith, this)
-      go (Ok code) q = least_same to from (least_guard (needs_linking r) (of_test (needs_linking r))
-          (least_or (because OfSources (in_slot at.0 slot) (λ a b h. grind arith)
-          (tables_rows order code (is_host r))) (records_least law order file e at.0 slot)
-          (λ x y a b. early_late slot 20 x y (early at.0 slot 20 x (λ why h. (tables_mid
-          order code (is_host r) why h).1) a) (late_record at.0 slot 20 (length b.0) b.1 y b.2))))
+      go (Ok code) q = least_same to from (least_guard _ (of_test _) (least_or (because OfSources _
+          (λ a b h. grind arith) (tables_rows order code _)) (records_least law order file e at.0
+          slot) (λ x y a b. early_late slot 20 x y (early at.0 slot 20 x (λ why h. (tables_mid
+          order code _ why h).1) a) (late_record at.0 slot 20 _ b.1 y b.2))))
         where
           Linked : Fault → Type 0
           Linked f = (needs_linking r ≡ true)
@@ -434,11 +420,43 @@ module _ (law : OneStop) (order : Order) where
       → Least (Precedes OfSources)
       (PlacedFault order host libs name slot) (option_or (entry_fault order name libs slot)
       (option_and_then (code_fault order host libs slot role.Wanted) (unit_source order name libs)))
-  unit_least host libs name slot = least_or (entry_least order name libs slot)
-      (least_then (code_fault order host libs slot role.Wanted) (unit_source order name libs)
-      (λ at e. code_least slot role.Wanted host libs at)) (λ x y s t. early_late slot 15 x y
-      (entry_early order name libs slot x s) (code_late order (file_at host libs t.0.0) t.0.0
-      (entry_at order (file_at host libs t.0.0) t.0.1) slot role.Wanted y t.2))
+  unit_least host libs name slot = least_or (entry_least order name libs slot) (least_then _ _ (λ
+      at e. code_least slot role.Wanted host libs at)) (λ x y s t. early_late slot 15 x y
+      (entry_early order name libs slot x s) (code_late order _ t.0.0 (entry_at order _ t.0.1) slot
+      role.Wanted y t.2))
+
+module _ (order : Order) where
+  -- the faults of a unit that is looked up are at its slot, and have a rank of 13 or above
+  entries_high : (name lib : List ℕ) (why : Reason)
+      → EntriesHave order name lib why → 13 ≤ rank why
+  entries_high name lib why h = grind arith
+
+  code_high : (file : List ℕ) (k : ℕ) (e : Entry) (slot : ℕ) (r : Role) (f : Fault)
+      → CodeFault order file k e slot r f → 13 ≤ rank f.reason
+  code_high file k e slot r f (inl t) =
+      rw t.1 (let m = (code_mid file e t.0 t.2).0 in omega (arith, m))
+  code_high file k e slot r f (inr t) = elim t.2.1 [
+    | inl b ↦ rw b.1 (let m = (tables_mid order t.0 (is_host r) b.0 b.2).0 in omega (arith, m))
+    | inr b ↦ rw b.2 (record_reason (λ why. 13 ≤ rank why) (omega arith) (omega arith)
+        (omega arith) (omega arith) (omega arith) order _ b.1 b.3.stops)
+  ]
+
+  pub placed_high : (host : List ℕ) (libs : List (List ℕ)) (name : List ℕ) (slot : ℕ)
+      (f : Fault) → PlacedFault order host libs name slot f
+      → (unwrap_or f.slot f.file ≡ slot) × (13 ≤ rank f.reason)
+  placed_high host libs name slot f (inl t) = grind (arith, entries_high)
+  placed_high host libs name slot f (inr t) =
+      let file = file_at host libs t.0.0 in
+      let e = entry_at order file t.0.1 in (
+        (code_late order file t.0.0 e slot role.Wanted f t.2).0,
+        code_high file t.0.0 e slot role.Wanted f t.2,
+      )
+
+-- that a unit is missing comes before a fault of rank 13 or above
+missing_early : (slot : ℕ) (f : Fault) → (unwrap_or f.slot f.file ≡ slot)
+    × (13 ≤ rank f.reason)
+    → Precedes OfSources (in_slot 0 slot reason.MissingUnit) f
+missing_early slot f h = grind arith
 
 pub is_ok : {X E : Type 0} (o : Result X E) (x : X) → o ≡ Ok x → result_ok o ≡ Some x
 is_ok o x h = grind arith
@@ -457,41 +475,33 @@ of_role : (law : OneStop) (order : Order) (host : List ℕ) (libs : List (List �
     (slot : ℕ) (r : Role) → role_of (entry_at order host slot) ≡ Ok r → Least
     (Precedes OfSources) (SourceFaults order host libs slot r) (role_fault order host libs slot r)
 of_role law order host libs slot role.Wanted has =
-    let missing = is_none (chosen_library order name libs) in
-    go (is_missing order libs name) (Decides-at (is_missing order libs name) missing
+    least_same to from (least_else (is_missing order libs name) _ (Decides-at _ missing
     (ap (λ b. b || missing) (has_name order host libs slot has)) (none_has order name libs))
+    (unit_least law order host libs name slot)
+    (λ f p. missing_early slot f (placed_high order host libs name slot f p)))
   where
     name : List ℕ
     name = (entry_at order host slot).name
 
-    Faults : Fault → Type 0
-    Faults = SourceFaults order host libs slot role.Wanted
+    missing : Bool
+    missing = is_none (chosen_library order name libs)
 
-    first : Fault
-    first = in_slot 0 slot reason.MissingUnit
+    Parts : Fault → Type 0
+    Parts f = ((f ≡ in_slot 0 slot reason.MissingUnit) × NoneHas order name libs)
+        ⊎ PlacedFault order host libs name slot f
 
-    go : (b : Bool) → Decides b (NoneHas order name libs) → Least (Precedes OfSources) Faults
-        (if b then Some first else option_or (entry_fault order name libs slot) (option_and_then
-        (code_fault order host libs slot role.Wanted) (unit_source order name libs)))
-    go true d = this first (inl (refl, inl (refl, d.0 refl))) least
-      where
-        least : (f : Fault) → Faults f → (f ≡ first) ⊎ Precedes OfSources first f
-        least f (inl (w, inl t)) = inl t.0
-        least f (inl (w, inr t)) = grind arith
-        least f (inr t) = inr (early_late slot 15 first f
-            (refl, refl, refl, omega arith) (code_late order (file_at host libs t.0.0) t.0.0
-            (entry_at order (file_at host libs t.0.0) t.0.1) slot role.Wanted f t.2))
-    go false d = least_same (λ f. elim [ inl t ↦ inl (refl, inr t) | inr t ↦ inr t ]) from
-        (unit_least law order host libs name slot)
-      where
-        from : (f : Fault) → Faults f → PlacedFault order host libs name slot f
-        from f (inl (w, inl t)) = absurd (false≢true (d.1 t.1))
-        from f (inl (w, inr t)) = inl t
-        from f (inr t) = inr t
+    to : (f : Fault) → Parts f → SourceFaults order host libs slot role.Wanted f
+    to f (inl t) = inl (refl, inl t)
+    to f (inr (inl t)) = inl (refl, inr t)
+    to f (inr (inr t)) = inr t
+
+    from : (f : Fault) → SourceFaults order host libs slot role.Wanted f → Parts f
+    from f (inl (w, inl t)) = inl t
+    from f (inl (w, inr t)) = inr (inl t)
+    from f (inr t) = inr (inr t)
 of_role law order host libs slot r has =
     least_same (λ f t. inr t) (λ f. elim [ inl t ↦ absurd (let e = t.0 in cc) | inr t ↦ t ])
-    (least_then (code_fault order host libs slot r) (source_of order host libs slot r)
-    (λ at e. code_least law order slot r host libs at))
+    (least_then _ _ (λ at e. code_least law order slot r host libs at))
 
 in_place : (order : Order) (host : List ℕ) (libs : List (List ℕ)) (slot : ℕ) (r : Role)
     (f : Fault) → SourceFaults order host libs slot r f → unwrap_or f.slot f.file ≡ slot
@@ -502,30 +512,12 @@ pub step_5 : (law : OneStop) (order : Order) (host : List ℕ) (libs : List (Lis
     → Least (Precedes OfSources) (InSources order host libs) (sources_fault order host libs)
 unfolding sources_fault
 step_5 law order host libs =
-    least_same
-    (λ f t. (
-      t.0,
-      omega (arith, t.2),
-      (
-        t.3.0,
-        ok_is (role_of (entry_at order host t.0)) t.3.0 t.3.1,
-        t.3.2,
-      ),
-    ))
-    (λ f t. (
-      t.0,
-      omega arith,
-      omega (arith, t.1),
-      (t.2.0, is_ok (role_of (entry_at order host t.0)) t.2.0 t.2.1, t.2.2),
-    ))
-    (least_range (source_fault order host libs)
-    (λ slot. least_then (role_fault order host libs slot)
-    (result_ok (role_of (entry_at order host slot)))
-    (λ r e. of_role law order host libs slot r
-    (ok_is (role_of (entry_at order host slot)) r e)))
+    least_same (λ f t. (t.0, omega (arith, t.2), (t.3.0, ok_is _ t.3.0 t.3.1, t.3.2)))
+    (λ f t. (t.0, omega arith, omega (arith, t.1), (t.2.0, is_ok _ t.2.0 t.2.1, t.2.2)))
+    (least_range _ (λ slot. least_then _ _
+    (λ r e. of_role law order host libs slot r (ok_is _ r e)))
     (λ i j x y h s t. inr (
       refl,
-      inl (let a = in_place order host libs i s.0 x s.2 in let b =
-          in_place order host libs j t.0 y t.2 in omega (arith, a, b, h)),
-    ))
-    0 16)
+      inl (let a = in_place order host libs i s.0 x s.2 in
+          let b = in_place order host libs j t.0 y t.2 in omega (arith, a, b, h)),
+    )) 0 16)

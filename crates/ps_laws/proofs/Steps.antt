@@ -2,13 +2,13 @@
 use Rattle.std.proofs.Common.{rules, ◌≡◌, ℕ, zero, suc, ◌+◌, ◌<◌, ◌≤◌, List}
 use Rattle.std.proofs.Common.{length, Option, Result, Ok, Err, Bool, false, refl, subst, inl, inr}
 use Rattle.std.proofs.Common.{arith}
-use Rattle.ps_laws.proofs.Words.{◌⊎◌, if◌then◌else◌, nat_lt, not, ◌&&◌, Decides}
+use Rattle.ps_laws.proofs.Words.{◌⊎◌, if◌then◌else◌, ◌&&◌, Decides}
 use Rattle.ps_laws.proofs.Words.{range_with_len, list_any, option_map, option_map_or, result_ok}
 use Rattle.ps_laws.proofs.Words.{result_err, bytes_eq, cases_lt, false≢true, Decides-ltb}
-use Rattle.ps_laws.proofs.Words.{Decides-and, Decides-like, bytes_eq-Decides, slots, entry_at}
+use Rattle.ps_laws.proofs.Words.{Decides-and, Decides-like, bytes_eq-Decides, entry_at}
 use Rattle.ps_laws.proofs.Words.{role_of, Because, SomeBelow, HasRole, IsUnitSlot, Step, OfHost}
 use Rattle.ps_laws.proofs.Words.{OfSlots, OfNoHost, OfLibraries, rank, Entry, Role, is_role}
-use Rattle.ps_laws.proofs.Words.{is_host, is_unit, in_slot, Order, Reason, Fault}
+use Rattle.ps_laws.proofs.Words.{is_host, is_unit, Order, Reason, Fault}
 use Rattle.std.proofs.lemmas.Bool.Decides.{Decides-not}
 use Rattle.ps_codefile.specs.Dictionary.{FileOrder, file_order, opened_alone, opened_as}
 use Rattle.ps_codefile.specs.Dictionary.{opened_beside_as, same_order}
@@ -16,7 +16,7 @@ use Rattle.ps_resolve.specs.Standing.Hosts.{HostHas, InHost}
 use Rattle.ps_resolve.specs.Standing.Slots.{SlotHas, InSlots, InNoHost}
 use Rattle.ps_resolve.specs.Standing.Libraries.{LibraryHas, InLibraries}
 use Rattle.ps_resolve.specs.Faults.{host_fault, slot_reason, slots_fault, no_host_fault}
-use Rattle.ps_resolve.specs.Faults.{library_reason, library_fault, libraries_fault}
+use Rattle.ps_resolve.specs.Faults.{library_reason, libraries_fault}
 use Rattle.ps_words.specs.FaultPlaces.{in_file}
 use Rattle.ps_laws.proofs.Parts.{role_reason}
 use Rattle.ps_laws.proofs.Least.{Least, nothing, this, Precedes, least_same, least_order, least_or}
@@ -57,8 +57,7 @@ module _ (test : ℕ → Bool) (P : ℕ → Type 0) where
 
 -- 1
 host_reason : (host : List ℕ) → Least Ranked (HostHas host) (result_err (opened_alone host))
-host_reason host = go (nat_lt (length host) 512) (file_order host)
-    (Decides-ltb (length host) 512) refl
+host_reason host = go _ _ (Decides-ltb _ 512) refl
   where
     go : (b : Bool) (o : FileOrder) → Decides b (length host < 512) → file_order host ≡ o
         → Least Ranked (HostHas host) (result_err
@@ -75,8 +74,7 @@ is_same other order = grind arith
 -- the reason that is given for a library is the one of smallest rank that applies
 library_reasons : (order : Order) (lib : List ℕ)
     → Least Ranked (LibraryHas order lib) (library_reason order lib)
-library_reasons order lib = go (nat_lt (length lib) 512) (file_order lib)
-    (Decides-ltb (length lib) 512) refl
+library_reasons order lib = go _ _ (Decides-ltb _ 512) refl
   where
     go : (b : Bool) (o : FileOrder) → Decides b (length lib < 512) → file_order lib ≡ o
         → Least Ranked (LibraryHas order lib)
@@ -88,21 +86,14 @@ pub step_4 : (order : Order) (libs : List (List ℕ))
     → Least (Precedes OfLibraries) (InLibraries order libs) (libraries_fault order libs)
 unfolding libraries_fault
 step_4 order libs =
-    least_same
-    (λ f t. (
+    least_same (λ f t. (
       t.0,
       t.2,
       t.4,
-      subst (λ k. Because (in_file k) (LibraryHas order t.2) f)
-          (omega (arith, t.3)) t.5,
-    ))
-    (λ f t. (t.0, t.0 + 1, t.1, omega arith, t.2, t.3))
-    (least_each (library_fault order) 1 libs
-    (λ i k lib q e. because OfLibraries (in_file k)
-    (λ a b r. grind arith)
-    (library_reasons order lib))
-    (λ i j a b x y h. because_apart OfLibraries (in_file i) (in_file j)
-    (λ r q. inr (refl, inl h)) x y))
+      subst (λ k. Because (in_file k) (LibraryHas order t.2) f) (omega (arith, t.3)) t.5,
+    )) (λ f t. (t.0, t.0 + 1, t.1, omega arith, t.2, t.3)) (least_each _ 1 libs (λ i k lib q e.
+    because OfLibraries _ (λ a b r. grind arith) (library_reasons order lib)) (λ i j a b x y h.
+    because_apart OfLibraries _ _ (λ r q. inr (refl, inl h)) x y))
 
 -- 2
 role_low : (e : Entry) (why : Reason) → role_of e ≡ Err why → rank why < 9
@@ -122,17 +113,11 @@ unit_role r = grind arith
 module _ (order : Order) (host : List ℕ) where
   -- the reason that is given for a slot is the one of smallest rank that applies
   slot_rows : (slot : ℕ) → Least Ranked (SlotHas order host slot) (slot_reason order host slot)
-  slot_rows slot = least_same to from (least_or (least_err (role_of (entry_at order host slot)))
-      (least_or (least_if (is_role is_host order host slot && list_any (is_role is_host order host)
-      (range_with_len 0 slot)) reason.TwoHosts (Decides-and (is_role is_host order host slot)
-      (list_any (is_role is_host order host) (range_with_len 0 slot)) (hosts slot)
-      (any_lesser (is_role is_host order host) (λ i. HasRole order host i role.Host) hosts slot)))
-      (least_if (is_role is_unit order host slot && list_any same (range_with_len 0 slot))
-      reason.DoubledSegment (Decides-and (is_role is_unit order host slot) (list_any same
-      (range_with_len 0 slot)) (units slot) (any_lesser same (λ i. IsUnitSlot order host i
-      × (name i ≡ name slot)) (λ i. Decides-and (is_role is_unit order host i)
-      (bytes_eq (name i) (name slot)) (units i) (bytes_eq-Decides (name i) (name slot))) slot)))
-      (λ x y s t. rw (s.0, t.0) (omega arith))) apart)
+  slot_rows slot = least_same to from (least_or (least_err _) (least_or (least_if _ reason.TwoHosts
+      (Decides-and _ _ (hosts slot) (any_lesser _ (λ i. HasRole order host i role.Host) hosts
+      slot))) (least_if _ reason.DoubledSegment (Decides-and _ _ (units slot) (any_lesser same (λ
+      i. IsUnitSlot order host i × (name i ≡ name slot)) (λ i. Decides-and _ _ (units i)
+      (bytes_eq-Decides _ _)) slot))) (λ x y s t. rw (s.0, t.0) (omega arith))) apart)
     where
       name : ℕ → List ℕ
       name i = (entry_at order host i).name
@@ -177,17 +162,20 @@ module _ (order : Order) (host : List ℕ) where
   -- the first fault of the slots is the smallest that applies
   pub step_2 : Least (Precedes OfSlots) (InSlots order host) (slots_fault order host)
   unfolding slots_fault
-  step_2 = least_same
-      (λ f t. (t.0, omega (arith, t.2), t.3)) (λ f t. (t.0, omega arith, omega (arith, t.1), t.2))
-      (least_range (λ slot. option_map (in_slot 0 slot) (slot_reason order host slot))
-      (λ slot. because OfSlots (in_slot 0 slot) (λ a b r. grind arith) (slot_rows slot)) (λ i j x
-      y h. because_apart OfSlots (in_slot 0 i) (in_slot 0 j) (λ r q. inr (refl, inl h)) x y) 0 16)
+  step_2 = least_same (λ f t. (t.0, omega (arith, t.2), t.3)) (λ f t. (
+    t.0,
+    omega arith,
+    omega
+        (arith, t.1),
+    t.2,
+  )) (least_range (λ slot. option_map _ _) (λ slot. because OfSlots _ (λ a b
+      r. grind arith) (slot_rows slot)) (λ i j x y h. because_apart OfSlots _ _ (λ r q. inr (
+        refl,
+        inl h,
+      )) x y) 0 16)
 
   -- 3
   pub step_3 : Least (Precedes OfNoHost) (InNoHost order host) (no_host_fault order host)
   unfolding no_host_fault
-  step_3 = least_if (not (list_any (is_role is_host order host) slots))
-      (in_file 0 reason.NoHost) (Decides-like (not (list_any (is_role is_host order host) slots))
-      (λ n slot h r. n (slot, h, r)) (λ n t. n t.0 t.1 t.2) (Decides-not
-      (list_any (is_role is_host order host) slots) (any_lesser (is_role is_host order host) (λ
-      i. HasRole order host i role.Host) (λ i. host_role (role_of (entry_at order host i))) 16)))
+  step_3 = least_if _ _ (Decides-like _ (λ n slot h r. n (slot, h, r)) (λ n t. n t.0 t.1 t.2)
+      (Decides-not _ (any_lesser _ (λ i. HasRole order host i role.Host) (λ i. host_role _) 16)))

@@ -1,15 +1,15 @@
 -- The place of a unit: the first library that has an entry of its name, and the first such entry.
-use Rattle.std.proofs.Common.{◌≡◌, ℕ, zero, suc, ◌+◌, ◌<◌, List, [], Option, Some}
-use Rattle.std.proofs.Common.{sym, ap, subst, arith, unwrap_or, refl, ◌≤◌, None, Bool, true}
-use Rattle.std.proofs.Common.{false}
-use Rattle.ps_laws.proofs.Words.{slice_get, option_map, slots, Decides-eqb, entry_fault, EntryFault}
-use Rattle.ps_laws.proofs.Words.{find, IsFile, Order, Request, in_slot, Fault}
-use Rattle.ps_laws.proofs.Words.{is_named, chosen_library, unit_source, false≢true, request_fault}
-use Rattle.ps_laws.proofs.Words.{file_at, IsNamed, HasEntry, ◌==◌, Decides, entry_at, OfSources}
+use Rattle.std.proofs.Common.{◌≡◌, ℕ, zero, suc, ◌+◌, ◌<◌, List, [], Some}
+use Rattle.std.proofs.Common.{sym, ap, subst, arith, unwrap_or, refl, ◌≤◌, None}
+use Rattle.ps_laws.proofs.Words.{slice_get, option_map, slots, EntryFault}
+use Rattle.ps_laws.proofs.Words.{◌≢◌, find, IsFile, Order, Request, in_slot, Fault}
+use Rattle.ps_laws.proofs.Words.{is_named, chosen_library, unit_source, request_fault}
+use Rattle.ps_laws.proofs.Words.{file_at, IsNamed, HasEntry, entry_at}
 use Rattle.std.proofs.lemmas.Option.{option_and_then_some}
 use Rattle.ps_resolve.specs.Sources.{library_file}
+use Rattle.ps_resolve.specs.Standing.Sources.{EntriesHave}
 use Rattle.ps_resolve.proofs.FirstSlots.{some_mapped}
-use Rattle.ps_laws.proofs.Least.{Least, nothing, Precedes}
+use Rattle.ps_laws.proofs.Least.{quiet, Least}
 use Rattle.ps_laws.proofs.Items.{find_in, find_passes, of_range, not_apart}
 use Rattle.ps_laws.proofs.Sources.{Found, IsChosen, chosen, is_chosen, named, entry_least}
 use Rattle.ps_resolve.specs.Origins.{IsUnitOf}
@@ -72,6 +72,9 @@ module _ (order : Order) (name : List ℕ) (libs : List (List ℕ)) where
                 (library_at host p.0 p.1 first.there);
           }
 
+stable : {a b : ℕ} → ((a ≡ b → ⊥) → ⊥) → a ≡ b
+stable h = grind arith
+
 -- The unit of a name in the libraries, where nothing is wrong with the entries of the name.
 
 -- where no fault applies in the entries of a name, the first library that has one has no second one
@@ -89,13 +92,8 @@ module _ (order : Order) (host : List ℕ) (libs : List (List ℕ)) (q : Request
   -- where a request has no fault, none applies to the library's entries of its name
   pub no_entry_fault : request_fault order host libs q ≡ None
       → (f : Fault) → EntryFault order q.name libs q.slot f → ⊥
-  no_entry_fault fits = go (entry_fault order q.name libs q.slot)
-      (request_parts order host libs q fits).1 (entry_least order q.name libs q.slot)
-    where
-      go : (o : Option Fault) → o ≡ None → Least (Precedes OfSources) (EntryFault order
-          q.name libs q.slot) o → (f : Fault) → EntryFault order q.name libs q.slot f → ⊥
-      go None e (nothing n) = n
-      go (Some f) e l = absurd (cc)
+  no_entry_fault fits = quiet (rw (request_parts order host libs q fits).1 at
+      (entry_least order q.name libs q.slot))
 
   -- and the unit is the only one of its name in the first library that has one
   pub unit_of : (at : ℕ × ℕ) → request_fault order host libs q ≡ None
@@ -109,8 +107,7 @@ module _ (order : Order) (host : List ℕ) (libs : List (List ℕ)) (q : Request
         within = u.within;
         entry = u.named;
         only = one;
-        kind = go ((entry_at order u.library at.1).kind == 3)
-            (Decides-eqb (entry_at order u.library at.1).kind 3);
+        kind = stable (λ other. unit_else other);
       }
     where
       u : UnitPlace order q.name libs at
@@ -128,21 +125,11 @@ module _ (order : Order) (host : List ℕ) (libs : List (List ℕ)) (q : Request
       one j h n = one_entry order
           libs q.name q.slot fine u.number u.library u.there u.first j at.1 h u.within n u.named
 
-      go : (b : Bool) → Decides b ((entry_at order u.library at.1).kind ≡ 3)
-          → (entry_at order u.library at.1).kind ≡ 3
-      go true d = d.0 refl
-      go false d =
-          let kind = (entry_at order u.library at.1).kind in
-          absurd (fine (in_slot (u.number + 1) q.slot (reason.NotAUnit kind)) (
-            u.number,
-            u.library,
-            u.there,
-            (
-              ((at.1, u.within, u.named), u.first),
-              (
-                reason.NotAUnit kind,
-                refl,
-                (at.1, u.within, (u.named, one, refl, λ e. false≢true (d.1 e))),
-              ),
-            ),
-          ))
+      unit_else : (entry_at order u.library at.1).kind ≢ 3 → ⊥
+      unit_else other =
+          let why = reason.NotAUnit (entry_at order u.library at.1).kind in
+          let has : HasEntry order q.name u.library = (at.1, u.within, u.named) in
+          let bad : EntriesHave order q.name u.library why =
+          (at.1, u.within, (u.named, one, refl, other)) in
+          fine (in_slot (u.number + 1) q.slot why)
+          (u.number, u.library, u.there, ((has, u.first), (why, refl, bad)))

@@ -107,14 +107,10 @@ module _ (host : List ℕ) (libs : List (List ℕ)) where
 
       go : (o : Option Place) → Least Earlier (Between order host libs n k) o
           → option_map (λ (x : Place). x.1) o ≡ f → Turns host libs n m (option_or f g)
-      go None l e = let rest = next (sym e) in
-          (rest.0, least_same to from (least_or l rest.1 apart), rest.2
-          ∙ ap (λ h. option_or h g) e)
-      go (Some p) l e = (
-        Some p,
-        least_same to from (least_or_then {p = None} l (λ n. absurd (cc)) apart),
-        ap (λ h. option_or h g) e,
-      )
+      go None l e = let rest = next (sym e) in let is = ap (λ h. option_or h g) e in
+          (rest.0, least_same to from (least_or l rest.1 apart), rest.2 ∙ is)
+      go (Some p) l e = let m = least_or_then {p = None} l (λ n. absurd (cc)) apart in
+          (Some p, least_same to from m, ap (λ h. option_or h g) e)
 
   -- the rounds are one turn
   rounds_turn : (law : OneStop) → Turns host libs 6 7 (added_fault order host libs)
