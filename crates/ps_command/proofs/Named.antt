@@ -1,9 +1,8 @@
 -- What the getters of a parse say, put together, and what follows of the command that is named.
-use Rattle.std.proofs.Common.{◌≡◌, ◌≢◌, ◌⊎◌, List, ℕ, Option, Some, None, ap₂, arith, inl, inr}
-use Rattle.std.proofs.Common.{option_map, sym}
+use Rattle.std.proofs.Common.{◌≡◌, ◌≢◌, ◌⊎◌, List, ℕ, Option, Some, None, ap₂, arith}
+use Rattle.std.proofs.Common.{inl, inr, option_map, sym}
 use Rattle.std.proofs.lemmas.Option.{none-some, same_Some}
-use Rattle.clap.specs.Words.{Row, Text, subcommand_name_of, subcommand_rows_of}
-use Rattle.clap.specs.declared.parser.matches.ArgMatches.{ArgMatches}
+use Rattle.clap.specs.Words.{Row, Text}
 use Rattle.ps_command.specs.Printed.{Prints}
 use Rattle.ps_command.specs.Requests.{IsNamedCommand, NamesCheck, NamesList, WritesLibrary}
 use Rattle.ps_command.specs.declared.request.Task.{Task}
@@ -17,13 +16,6 @@ pub both : {X A B : Type 0} (o : Option X) (f : X → A) (g : X → B) (a : A) (
 both None f g a b is_a is_b = absurd (none-some a (sym is_a))
 both {X} {A} {B} (Some x) f g a b is_a is_b = let pair : A → B → Option (A × B) =
     λ u v. Some (u, v) in ap₂ pair (sym (same_Some a (f x) is_a)) (sym (same_Some b (g x) is_b))
-
--- the command of a parse by its name and its rows
-pub named : (m : ArgMatches) (name : Text) (rows : List Row)
-    → Some name ≡ subcommand_name_of m
-    → Some rows ≡ option_map (λ (p : Text × List Row). p.1) (subcommand_rows_of m)
-    → subcommand_rows_of m ≡ Some (name, rows)
-named m name rows is_name is_rows = both _ _ _ _ _ is_name is_rows
 
 -- a command that is asked for writes no file that is named as a library
 pub keeps_libraries : {A : Type 0} (t : Task A) (found : Option (Text × List Row))

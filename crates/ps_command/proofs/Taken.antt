@@ -40,7 +40,8 @@ use Rattle.ps_command.specs.Requests.{LeavesOut}
 
 -- what holds of none, and by R of each element that passes a test, holds of what the test finds
 found : {X : Type 0} (P : Option X → Type 0) (R : X → Type 0) (q : X → Bool) (xs : List X)
-    → P None → ((x : X) → R x → q x ≡ true → P (Some x)) → AllByRecursion R xs → P (find q xs)
+    → P None → ((x : X) → R x → q x ≡ true → P (Some x)) → AllByRecursion R xs
+    → P (find q xs)
 found P R q [] none some each = none
 found P R q (x ∷ xs) none some each =
     cond_both (q x) _ _ P (some x each.0) (λ _. found P R q xs none some each.1)
@@ -381,7 +382,8 @@ not_none : {X : Type 0} (o : Option X) → is_some o ≡ true → o ≡ None →
 not_none o some none = true≢false (sym some ∙ ap is_some none)
 
 each_named : (name : Text) (args : List Text) → (not (is_help name) || false) ≡ true
-    → AllByRecursion (λ s. answers_to name (label_of s) ≡ true → NamesAll args (Some s)) (built pslink_app).subs
+    → AllByRecursion (λ s. answers_to name (label_of s) ≡ true → NamesAll args (Some s))
+    (built pslink_app).subs
 each_named name args other = (
   λ _ level some leaves.
       let has = level_names (command_at 0) refl args level in
@@ -428,12 +430,12 @@ taken_leaves_nothing_out args taken leaves =
     let end = walk a.top.rules (names_of a) nothing_held words in
     let parses = and_parts (is_simple pslink_app) _ taken in
     let enters = and_parts (entered_passes a end.stopped) _ parses.1 in
-    let walks = and_parts (walk_passes a.top (names_of a) (walk_from nothing_held) words) _ enters.1
-    in
-    let settles = and_parts (settle_passes a.top.rules a.top.args_override_self end.held) _ walks.1
-    in
+    let start = walk_from nothing_held in
+    let walks = and_parts (walk_passes a.top (names_of a) start words) _ enters.1 in
+    let settled = settle_passes a.top.rules a.top.args_override_self end.held in
+    let settles = and_parts settled _ walks.1 in
     let valid = and_parts (list_all default_passes a.top.rules) _ settles.1 in
     let commanded = and_parts (is_some (entered a end.stopped)) _ valid.1 in
-    let goes = walk_goes a.top refl (names_of a) (walk_from nothing_held) words walks.0
+    let goes = walk_goes a.top refl (names_of a) start words walks.0
     (record { rows = tt; pending = tt }, tt) in
     entered_named end.stopped goes.1 enters.0 commanded.0 leaves

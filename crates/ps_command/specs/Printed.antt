@@ -1,7 +1,6 @@
 -- What is printed on standard output once a command is done, by the command and the files that are
 -- named, and what a link has written. `Reads` says of a path and of bytes that they were read
--- there,
--- and `Writes` that a file which was created there took them.
+-- there, and `Writes` that a file which was created there took them.
 -- Source: this project's profile.
 use Rattle.std.specs.Prelude.{◌≡◌, ◌⊎◌, ◌||◌, ◌+◌, ◌++◌, ◌∷◌, []}
 use Rattle.std.specs.Prelude.{if◌then◌else◌, ℕ, Bool, true, false, List, Option, Some}
@@ -48,8 +47,7 @@ PrintsLine Reads Writes path paths out old new =
     × Appends old new (summary_line (summary_of host libs)))
 
 -- the text is the map of a link, and after it what the link stores if that is requested; or the
--- same
--- as JSON
+-- same as JSON
 abbrev pub IsPrintedMap : Bool → Bool → List ℕ → List (List ℕ) → List ℕ → Type 0
 IsPrintedMap false false host libs text = text ≡ map_of host libs
 IsPrintedMap true false host libs text = text ≡ map_of host libs ++ references_of host libs
@@ -96,13 +94,11 @@ PrintsReport Reads path paths strict json status old new =
 
 -- the units of a file by themselves, where they are listed
 abbrev pub listed_units : Form → List ℕ → List LoneUnit
-listed_units form.Lines file = []
-listed_units form.Json file = []
 listed_units form.Units file = lone_units file
+listed_units _ file = []
 
 -- what is listed of a file; or the same as JSON, as the item of this index; or a line of each of
--- its
--- units after it
+-- its units after it
 abbrev pub listed_text : Form → ℕ → Text → List ℕ → List ℕ → List ℕ
 listed_text form.Lines i path phrase file = list_of path phrase file
 listed_text form.Json i path phrase file = separator i ++ list_json_of path phrase file
@@ -111,20 +107,17 @@ listed_text form.Units i path phrase file =
 
 -- a file or a segment is refused, or where its units are listed one of these, or there is none
 abbrev pub is_refused_in : Form → List ℕ → Bool
-is_refused_in form.Lines file = is_refused file
-is_refused_in form.Json file = is_refused file
 is_refused_in form.Units file = is_refused file || has_no_sound (lone_units file)
+is_refused_in _ file = is_refused file
 
 -- nothing, where the file at a path cannot be read; or as JSON an item that says so
 abbrev pub PrintsUnread : Form → ℕ → Text → Option (List ℕ) → Option (List ℕ)
     → Type 0
-PrintsUnread form.Lines i path old new = new ≡ old
 PrintsUnread form.Json i path old new = Appends old new (separator i ++ unread_json_of path)
-PrintsUnread form.Units i path old new = new ≡ old
+PrintsUnread _ i path old new = new ≡ old
 
 -- by the list of the file at a path, which ends with status 1 if it is refused or a segment is; or
--- by
--- what there is of a file that cannot be read
+-- by what there is of a file that cannot be read
 abbrev pub IsListed : (Text → List ℕ → Type 0) → Form → ℕ → Text → ℕ
     → Option (List ℕ) → Option (List ℕ) → Type 0
 IsListed Reads how i path status old new =
@@ -134,8 +127,7 @@ IsListed Reads how i path status old new =
     ⊎ ((status ≡ 3) × PrintsUnread how i path old new)
 
 -- by the lists of the files at these paths, one after another, from this index on, which end with
--- the
--- greatest status
+-- the greatest status
 abbrev pub PrintsFiles : (Text → List ℕ → Type 0) → Form → ℕ → List Text → ℕ
     → Option (List ℕ) → Option (List ℕ) → Type 0
 PrintsFiles Reads how i [] status old new = (status ≡ 0) × (new ≡ old)
@@ -154,15 +146,12 @@ document_end = codes "\n]}\n"
 -- by the lists of the files at these paths; or by one document of them
 abbrev pub PrintsLists : (Text → List ℕ → Type 0) → Form → List Text → ℕ
     → Option (List ℕ) → Option (List ℕ) → Type 0
-PrintsLists Reads form.Lines paths status old new =
-    PrintsFiles Reads form.Lines 0 paths status old new
-PrintsLists Reads form.Units paths status old new =
-    PrintsFiles Reads form.Units 0 paths status old new
 PrintsLists Reads form.Json paths status old new =
     (started : Option (List ℕ)) × (ended : Option (List ℕ))
     × Appends old started document_start
     × PrintsFiles Reads form.Json 0 paths status started ended
     × Appends ended new document_end
+PrintsLists Reads how paths status old new = PrintsFiles Reads how 0 paths status old new
 
 -- how a list is printed
 abbrev pub list_form : Bool → Form

@@ -38,13 +38,8 @@ read_error path fault.Memory = error.Memory
 -- it was opened, and memory ran out.
 abbrev pub IsReadError : {F : Type 0} → (List ℕ → F → Type 0) → (F → Option (List ℕ))
     → Bor (List ℕ) → CommandError → Type 0
-IsReadError {F} opened remaining path (error.Refused at) = ⊥
-IsReadError {F} opened remaining path (error.Usage text) = ⊥
-IsReadError {F} opened remaining path (error.NotText argument) = ⊥
 IsReadError {F} opened remaining path (error.Read at cause) = at ≡ path
-IsReadError {F} opened remaining path (error.Unreadable at cause) = ⊥
 IsReadError {F} opened remaining path (error.TooLong at) =
     (at ≡ path) × (file : F) × opened path.now file × IsTooLong (remaining file)
-IsReadError {F} opened remaining path (error.Write at) = ⊥
-IsReadError {F} opened remaining path error.StandardOutput = ⊥
 IsReadError {F} opened remaining path error.Memory = (file : F) × opened path.now file
+IsReadError {F} opened remaining path _ = ⊥

@@ -1,9 +1,9 @@
 //! What the arguments of a command line ask the program to do.
-ghost use Rattle.std.specs.Prelude.{◌≡◌, ◌≢◌, ◌⊎◌, IfErr, IfOk, Some, None, codes, map};
-ghost use Rattle.clap.specs.Words.{App, FailsBy, Rule, app_of, first_of, found_of, kind_of, new_app, rows_of, subcommand_rows_of, with_rule, with_subcommand};
+ghost use Rattle.std.specs.Prelude.{◌≡◌, ◌≢◌, ◌⊎◌, IfErr, IfOk, Some, None, [], codes, map, unwrap_or};
+ghost use Rattle.clap.specs.Words.{App, FailsBy, Rule, all_of, app_of, first_of, found_of, kind_of, new_app, rows_of, subcommand_rows_of, with_rule, with_subcommand};
 ghost use Rattle.clap.specs.declared.builder.ArgAction.TheVariants.{Set};
 ghost use Rattle.ps_command.specs.CommandLine.{AreAccepted, AskForText, IsArgument, IsMade, check_app, faults_in, file_rule, flag_rule, inputs_app, json_rule, libraries_rule, link_app, list_app, map_app, named_in, pslink_app, show_app, texts};
-ghost use Rattle.ps_command.specs.Requests.{Answers, IsAsked, IsNamedCommand, IsTask, LeavesOut, NamesInputs, WritesLibrary, files_of, has_flag as has_flag_spec, libraries_of};
+ghost use Rattle.ps_command.specs.Requests.{Answers, IsAsked, IsNamedCommand, IsTask, LeavesOut, NamesInputs, WritesLibrary, has_flag as has_flag_spec};
 ghost use Rattle.ps_command.specs.Statuses.{status_of};
 
 use crate::error::CommandError;
@@ -330,7 +330,7 @@ fn list_of<'a, A: Allocator + Copy>(
         (Some (codes "list", rows_of (found_of found.now)))) }
     ensures refused { IfErr result (λ e. e ≡ CommandError.Memory) }
 {
-    let files = files(alloc, found)?;
+    let files = paths_of(alloc, found, "FILE")?;
     let json = has_flag(found, "json");
     Ok(Task::List { files, json })
 }
@@ -355,7 +355,7 @@ fn inputs_of<'a, A: Allocator + Copy>(
         → first_of (codes "HOST") (rows_of (found_of found.now)) ≡ None) }
 {
     let host = file_of(heap, found, "HOST")?;
-    let libraries = libraries(alloc, found)?;
+    let libraries = paths_of(alloc, found, "LIB")?;
     Ok(Inputs { host, libraries })
 }
 
@@ -378,16 +378,11 @@ fn file_of<'a>(
 
 /// The error of arguments that leave out a command or a file of one, which `clap` does not accept.
 fn missing_argument(heap: Global) -> CommandError<'static> {
-    let Ok(mut command) = command(heap) else {
-        return CommandError::Memory;
-    };
-    match command.error(
+    usage_error(
+        command(heap),
         ErrorKind::MissingSubcommand,
         "a command and its files have to be named",
-    ) {
-        Ok(error) => CommandError::from(error),
-        Err(_) => CommandError::Memory,
-    }
+    )
 }
 
 /// The error of arguments that name the file to write as a library too, at this path or another.
@@ -395,45 +390,52 @@ pub(crate) fn written_library(heap: Global, out: &str, library: &str) -> Command
     ensures either { status_of result ≢ 4 → status_of result ≡ 2 }
     ensures memory { result ≢ CommandError.Memory → status_of result ≡ 2 }
 {
-    match written_library_error(heap, out, library) {
+    match written_library_text(heap, out, library) {
+        Ok(text) => usage_error(link_usage(heap), ErrorKind::ValueValidation, text.as_str()),
+        Err(_) => CommandError::Memory,
+    }
+}
+
+fn written_library_text(heap: Global, out: &str, library: &str) -> Result<String, AllocError> {
+    if out == library {
+        return format!(in heap; "invalid value '{out}' for '<OUT>': it is named as a library too");
+    }
+    format!(in heap; "invalid value '{out}' for '<OUT>': it is the library '{library}'")
+}
+
+/// The command `link` with the name that its usage has.
+fn link_usage<'a>(heap: Global) -> Result<Command<'a>, AllocError> {
+    link_command(heap)?.bin_name("pslink link")
+}
+
+/// The error of this kind, with the usage of a command, if there was memory for the command.
+fn usage_error(
+    made: Result<Command<'_>, AllocError>,
+    kind: ErrorKind,
+    text: &str,
+) -> CommandError<'static>
+    ensures { kind ≢ ErrorKind.OutOfMemory → result ≢ CommandError.Memory
+        → status_of result ≡ 2 }
+{
+    let Ok(mut command) = made else {
+        return CommandError::Memory;
+    };
+    match command.error(kind, text) {
         Ok(error) => CommandError::from(error),
         Err(_) => CommandError::Memory,
     }
 }
 
-fn written_library_error(heap: Global, out: &str, library: &str) -> Result<clap::Error, AllocError>
-    ensures { IfOk result (λ e. kind_of e ≡ ErrorKind.ValueValidation) }
-{
-    let message = if out == library {
-        format!(in heap; "invalid value '{out}' for '<OUT>': it is named as a library too")?
-    } else {
-        format!(in heap; "invalid value '{out}' for '<OUT>': it is the library '{library}'")?
-    };
-    let mut link = link_command(heap)?.bin_name("pslink link")?;
-    link.error(ErrorKind::ValueValidation, message.as_str())
-}
-
-fn libraries<'a, A: Allocator + Copy>(
+/// The paths that are given for an argument, in their order.
+fn paths_of<'a, A: Allocator + Copy>(
     alloc: A,
     found: &ArgMatches<'a>,
+    argument: &str,
 ) -> Result<Vec<&'a str, A>, AllocError>
     ensures { IfOk result (λ paths. map (λ path. path.now) paths.items
-        ≡ libraries_of (rows_of (found_of found.now))) }
+        ≡ unwrap_or (all_of argument.now (rows_of (found_of found.now))) []) }
 {
-    match found.get_strs("LIB") {
-        Some(paths) => Vec::from_slice(alloc, paths),
-        None => Ok(Vec::new(alloc)),
-    }
-}
-
-fn files<'a, A: Allocator + Copy>(
-    alloc: A,
-    found: &ArgMatches<'a>,
-) -> Result<Vec<&'a str, A>, AllocError>
-    ensures { IfOk result (λ paths. map (λ path. path.now) paths.items
-        ≡ files_of (rows_of (found_of found.now))) }
-{
-    match found.get_strs("FILE") {
+    match found.get_strs(argument) {
         Some(paths) => Vec::from_slice(alloc, paths),
         None => Ok(Vec::new(alloc)),
     }

@@ -4,8 +4,8 @@ use Rattle.ps_command.proofs.running.map.Goals as goal
 
 pub returns-then-references-clause-ok : goal.returns-then-references-clause-ok
 returns-then-references-clause-ok g c =
-    let seen = ap (map (λ lib. lib.now)) c.as_slice-libraries.ensures.value ∙ c.in_ok-views.ensures
-    in
+    let libs = c.as_slice-libraries.ensures.value in
+    let seen = ap (map (λ lib. lib.now)) libs ∙ c.in_ok-views.ensures in
     on_ok_weaker c.references_bytes.result (λ mapped. (
       c.as_slice-host.result.now,
       map (λ lib. lib.now) c.as_slice-libraries.result.now,
@@ -18,8 +18,8 @@ returns-then-references-clause-ok g c =
 
 pub returns-clause-ok : goal.returns-clause-ok
 returns-clause-ok g c =
-    let seen = ap (map (λ lib. lib.now)) c.as_slice-libraries.ensures.value ∙ c.in_ok-views.ensures
-    in
+    let libs = c.as_slice-libraries.ensures.value in
+    let seen = ap (map (λ lib. lib.now)) libs ∙ c.in_ok-views.ensures in
     on_ok_weaker c.map_bytes.result (λ mapped. (
       c.as_slice-host.result.now,
       map (λ lib. lib.now) c.as_slice-libraries.result.now,
