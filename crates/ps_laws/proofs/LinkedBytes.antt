@@ -10,7 +10,8 @@ use Rattle.ps_resolve.specs.Standing.References.{RecordHas}
 use Rattle.ps_resolve.specs.LinkedBytes.{IsLinkedByte, HaveLinkedBytes, HaveOneLinkedByte}
 use Rattle.ps_resolve.specs.LinkedBytes.{HaveApartPlaces}
 use Rattle.ps_resolve.specs.AllFaults.{reading_fault}
-use Rattle.ps_resolve.specs.Linking.{Edited, edited_segments, linked_byte}
+use Rattle.ps_resolve.specs.Linking.{edited_segments, linked_byte}
+use Rattle.ps_words.specs.declared.edit.Edit.{Edit}
 use Rattle.ps_laws.proofs.Least.{Least, this}
 use Rattle.ps_laws.proofs.Steps.{Ranked}
 use Rattle.ps_laws.proofs.Sources.{OneStop}
@@ -87,9 +88,9 @@ module _ (law : OneStop) (host : List ℕ) (libs : List (List ℕ)) (none : None
           (file s is).unread targets p (apart s is p) (one_unit host libs none read)
           (one_public host libs none read) (one_base host libs none read) b c x y
 
-    abbrev IsMade : Edited → Type 0
-    IsMade e = (p : ℕ) → p < length e.segment.code
-        → IsLinkedByte (order_of host) (segments_of host libs) e.segment p
+    abbrev IsMade : Segment × List Edit → Type 0
+    IsMade e = (p : ℕ) → p < length e.0.code
+        → IsLinkedByte (order_of host) (segments_of host libs) e.0 p
         (linked_byte (order_of host) e p)
 
     pub bytes : HaveLinkedBytes host libs

@@ -10,14 +10,14 @@ use Rattle.ps_codefile.specs.Dictionary.{block_len}
 use Rattle.ps_resolve.specs.Added.{slot_names}
 use Rattle.ps_resolve.specs.LinkedBytes.{segments_of}
 use Rattle.ps_linkfile.proofs.Words.{known_of, total_words, next_of, host_records}
-use Rattle.ps_resolve.specs.Linking.{Edited, edited_from}
+use Rattle.ps_resolve.specs.Linking.{edited_from}
 use Rattle.ps_linkfile.specs.LinkedFile.{summary_of}
 use Rattle.ps_linkfile.specs.Writing.{summary_in, IsReady}
 use Rattle.ps_linkfile.proofs.Slots.{segments_ascend, segments_small}
 
 -- the segments of those with their edits
-abbrev pub segments_in : List Edited → List Segment
-segments_in es = map (λ e. e.segment) es
+abbrev pub segments_in : List (Segment × List Edit) → List Segment
+segments_in es = map (λ (e : Segment × List Edit). e.0) es
 
 of_edited : (order : Order) (known : Known) (words free : ℕ) (ss : List Segment)
     → segments_in (edited_from order known words free ss) ≡ ss

@@ -11,7 +11,7 @@ use Rattle.ps_linkfile.proofs.Words.{All-nil, in_file, Segment, drop_all, block_
 use Rattle.ps_linkfile.proofs.Words.{All-cons, opened_as, order_of, drop-drop}
 use Rattle.ps_linkfile.proofs.Words.{blocks, get_or_append_left, get_or-replicate}
 use Rattle.ps_linkfile.proofs.Words.{Order, Fault, Origin, pair_of, origins, Reason, origin_of}
-use Rattle.ps_linkfile.proofs.Words.{padded_segment, linked_file}
+use Rattle.ps_linkfile.proofs.Words.{Edit, padded_segment, linked_file}
 use Rattle.ps_linkfile.proofs.Words.{OpenedFile, patched_or_zero, linked_segments}
 use Rattle.std.specs.Prelude.{All, nat_lt, slice_range}
 use Rattle.std.specs.Option.{option_map}
@@ -30,7 +30,7 @@ use Rattle.ps_resolve.specs.Parts.{HasItsParts}
 use Rattle.ps_resolve.specs.Plans.{IsStopped}
 use Rattle.ps_resolve.specs.declared.linkage.Stop.{Stop}
 use Rattle.ps_resolve.specs.Added.{segments, slot_names}
-use Rattle.ps_resolve.specs.Linking.{Edited, linked_byte}
+use Rattle.ps_resolve.specs.Linking.{linked_byte}
 use Rattle.ps_resolve.specs.Faults.{host_fault}
 use Rattle.ps_resolve.specs.AllFaults.{first_fault, reading_fault}
 use Rattle.ps_linkfile.specs.LinkedFile.{all_pairs, dictionary}
@@ -69,34 +69,34 @@ behind : (xs ys : List ℕ) (n j : ℕ) → length xs ≡ n
 behind xs ys n j len = rw (← len) (get_or-append-add xs ys j 0)
 
 -- a code with its edits is at the block of its slot, with zeros up to the end of its last block
-abbrev IsLaid : Order → List ℕ → List Origin → Edited → Type 0
-IsLaid order file all e = (p : ℕ) → p < 512 * blocks (length e.segment.code)
-    → get_or file (512 * block_of all e.segment.slot + p) 0
-    ≡ patched_or_zero order e.segment.code e.edits p
+abbrev IsLaid : Order → List ℕ → List Origin → Segment × List Edit → Type 0
+IsLaid order file all e = (p : ℕ) → p < 512 * blocks (length e.0.code)
+    → get_or file (512 * block_of all e.0.slot + p) 0
+    ≡ patched_or_zero order e.0.code e.1 p
 
 module _ (order : Order) where
-  inside : (e : Edited) (p : ℕ) → p < length e.segment.code
-      → patched_or_zero order e.segment.code e.edits p ≡ linked_byte order e p
-  inside e p lt = let yes : nat_lt p (length e.segment.code) ≡ true = grind (arith, nat_tests)
+  inside : (e : Segment × List Edit) (p : ℕ) → p < length e.0.code
+      → patched_or_zero order e.0.code e.1 p ≡ linked_byte order e p
+  inside e p lt = let yes : nat_lt p (length e.0.code) ≡ true = grind (arith, nat_tests)
       in rw yes
 
-  past : (e : Edited) (p : ℕ)
-      → length e.segment.code ≤ p → patched_or_zero order e.segment.code e.edits p ≡ 0
-  past e p le = let no : nat_lt p (length e.segment.code) ≡ false =
-      le-ltb p (length e.segment.code) le in rw no
+  past : (e : Segment × List Edit) (p : ℕ) → length e.0.code ≤ p
+      → patched_or_zero order e.0.code e.1 p ≡ 0
+  past e p le = let no : nat_lt p (length e.0.code) ≡ false = le-ltb p (length e.0.code) le
+      in rw no
 
-  padded_len : (e : Edited)
-      → length (padded_segment order e) ≡ 512 * blocks (length e.segment.code)
-  padded_len e = length-map-range_with_len (patched_or_zero order e.segment.code e.edits) 0
-      (512 * blocks (length e.segment.code))
+  padded_len : (e : Segment × List Edit)
+      → length (padded_segment order e) ≡ 512 * blocks (length e.0.code)
+  padded_len e = length-map-range_with_len (patched_or_zero order e.0.code e.1) 0
+      (512 * blocks (length e.0.code))
 
-  padded_at : (e : Edited) (p : ℕ) → p < 512 * blocks (length e.segment.code)
-      → get_or (padded_segment order e) p 0 ≡ patched_or_zero order e.segment.code e.edits p
-  padded_at e p lt = get_or-map-range_with_len (patched_or_zero order e.segment.code e.edits) 0
-      (512 * blocks (length e.segment.code)) p p 0 lt (omega arith)
+  padded_at : (e : Segment × List Edit) (p : ℕ) → p < 512 * blocks (length e.0.code)
+      → get_or (padded_segment order e) p 0 ≡ patched_or_zero order e.0.code e.1 p
+  padded_at e p lt = get_or-map-range_with_len (patched_or_zero order e.0.code e.1) 0
+      (512 * blocks (length e.0.code)) p p 0 lt (omega arith)
 
   -- all codes, each in whole blocks, take 512 bytes for each of their blocks
-  codes_len : (es : List Edited)
+  codes_len : (es : List (Segment × List Edit))
       → length (flat_map (padded_segment order) es)
       ≡ 512 * all_blocks (map origin_of (segments_in es))
   codes_len [] = omega arith
@@ -106,26 +106,27 @@ module _ (order : Order) where
         arith,
         padded_len e,
         codes_len es,
-        all_blocks-cons (origin_of e.segment) (map origin_of (segments_in es)),
+        all_blocks-cons (origin_of e.0) (map origin_of (segments_in es)),
       )
 
   -- codes that are put one after another are at the blocks of their slots
-  laid : (all : List Origin) (prefix : List ℕ) (from block : ℕ) (es : List Edited)
-      → Left all from block (map origin_of (segments_in es)) → length prefix ≡ 512 * block
+  laid : (all : List Origin) (prefix : List ℕ) (from block : ℕ)
+      (es : List (Segment × List Edit)) → Left all from block (map origin_of (segments_in es))
+      → length prefix ≡ 512 * block
       → All (IsLaid order (prefix ++ flat_map (padded_segment order) es) all) es
   laid all prefix from block [] left len = All-nil (IsLaid order (prefix ++ []) all)
   laid all prefix from block (e ∷ es) left len =
       let code = padded_segment order e in
       let rest = flat_map (padded_segment order) es in
       let os = map origin_of (segments_in es) in
-      let at : block_of all e.segment.slot ≡ block =
-      first_block all from block (origin_of e.segment) os left in
+      let at : block_of all e.0.slot ≡ block =
+      first_block all from block (origin_of e.0) os left in
       All-cons (IsLaid order (prefix ++ (code ++ rest)) all) e es
       (λ p lt. rw (at, behind prefix (code ++ rest) (512 * block) p len)
       (get_or_append_left code rest 0 p (omega (arith, padded_len e)) ∙ padded_at e p lt))
-      (rw (append_assoc prefix code rest) at (laid all (prefix ++ code) (e.segment.slot + 1)
-      (block + blocks (length e.segment.code)) es
-      (left_more all from block (origin_of e.segment) os left)
+      (rw (append_assoc prefix code rest) at (laid all (prefix ++ code) (e.0.slot + 1)
+      (block + blocks (length e.0.code)) es
+      (left_more all from block (origin_of e.0) os left)
       (length-append prefix code ∙ omega (arith, len, padded_len e))))
 
 -- lists that have the same bytes in the blocks of each segment have the same bytes in all of them
@@ -295,10 +296,10 @@ module _ (host : List ℕ) (libs : List (List ℕ)) where
       → get_or file (512 * block_of (origins host libs) s.slot + p) 0 ≡ 0
 
   -- what holds of each segment with its edits holds of each segment
-  of_all : (P : Segment → Type 0) → All (λ (e : Edited). P e.segment)
+  of_all : (P : Segment → Type 0) → All (λ (e : Segment × List Edit). P e.0)
       (linked_segments host libs) → All P (segments_of host libs)
   of_all P h = subst (λ ss. All P ss) (linked_are host libs)
-      (All-map P (λ (e : Edited). e.segment) (linked_segments host libs) h)
+      (All-map P (λ (e : Segment × List Edit). e.0) (linked_segments host libs) h)
 
   -- where no fault applies, the one list is the linked file of the host and the libraries
   pub there : NamesWhole → NoneFound → AreMade → first_fault host libs ≡ None
@@ -343,7 +344,7 @@ module _ (host : List ℕ) (libs : List (List ℕ)) where
             ∙ get_or-replicate {A = ℕ} 64 (q - 192) 0 0 (omega arith);
         tail = parts.in_tail;
         codes = of_all (IsLinked file) (λ k d lt q within. subst (λ (b : ℕ). IsLinkedByte order
-            (segments_of host libs) (get_or es k d).segment q b)
+            (segments_of host libs) (get_or es k d).0 q b)
             (sym (put k d lt q (omega arith) ∙ inside order (get_or es k d) q within))
             (made host libs stands k d lt q within));
         padding = of_all (IsPadded file) (λ k d lt q beyond within. put k d lt q within

@@ -30,7 +30,7 @@ pub use Rattle.ps_linkinfo.specs.RecordCounts.{next_of}
 pub use Rattle.ps_linkinfo.specs.Records.{reading}
 pub use Rattle.ps_linkinfo.specs.declared.record.LinkRecord.{LinkRecord as Record}
 pub use Rattle.ps_patch.specs.Patched.{patched_or_zero}
-pub use Rattle.ps_resolve.specs.Linking.{Edited, edited_from, edited_segments, known_of}
+pub use Rattle.ps_resolve.specs.Linking.{edited_from, edited_segments, known_of}
 pub use Rattle.ps_resolve.specs.Plans.{IsPlan, LinkSegments, Origin, Planned, origin_of}
 pub use Rattle.ps_resolve.specs.Plans.{origin_of_source}
 pub use Rattle.ps_resolve.specs.Privates.{private_words, total_words}

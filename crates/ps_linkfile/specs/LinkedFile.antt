@@ -15,8 +15,8 @@ use Rattle.ps_resolve.specs.Privates.{total_words}
 use Rattle.ps_resolve.specs.LinkedBytes.{IsLinkedByte, segments_of}
 use Rattle.ps_resolve.specs.Standing.{NoneStands}
 use Rattle.ps_resolve.specs.Plans.{Origin, origin_of}
-use Rattle.ps_resolve.specs.Sources.{order_of}
-use Rattle.ps_resolve.specs.Linking.{Edited, edited_segments}
+use Rattle.ps_resolve.specs.Sources.{Segment, order_of}
+use Rattle.ps_resolve.specs.Linking.{edited_segments}
 use Rattle.ps_patch.specs.Patched.{patched_or_zero}
 use Rattle.ps_linkfile.specs.declared.summary.Summary.{Summary}
 
@@ -63,7 +63,7 @@ pub record LinkedFile (host : List ℕ) (libs : List (List ℕ)) (file : List �
       (segments_of host libs)
 
 -- the segments of a link, by slot, each with its edits
-abbrev pub linked_segments : List ℕ → List (List ℕ) → List Edited
+abbrev pub linked_segments : List ℕ → List (List ℕ) → List (Segment × List Edit)
 linked_segments host libs = edited_segments (order_of host) (segments (order_of host) host libs)
 
 -- the pairs of all slots
@@ -82,8 +82,8 @@ padded_code order code edits = map (patched_or_zero order code edits)
     (range_with_len 0 (block_len * blocks (length code)))
 
 -- the same of a segment with its edits
-abbrev pub padded_segment : Order → Edited → List ℕ
-padded_segment order e = padded_code order e.segment.code e.edits
+abbrev pub padded_segment : Order → Segment × List Edit → List ℕ
+padded_segment order (s, edits) = padded_code order s.code edits
 
 -- the one list that is the linked file where no fault applies
 abbrev pub linked_file : List ℕ → List (List ℕ) → List ℕ

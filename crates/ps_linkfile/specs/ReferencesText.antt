@@ -19,7 +19,6 @@ use Rattle.ps_linkinfo.specs.declared.record.Body.TheVariants.{UnitRef, PublRef,
 use Rattle.ps_linkinfo.specs.declared.record.Body.TheVariants.{ConstDef, Eof}
 use Rattle.ps_linkinfo.specs.declared.record.LinkRecord.{LinkRecord as Record}
 use Rattle.ps_resolve.specs.Sources.{Segment, order_of}
-use Rattle.ps_resolve.specs.Linking.{Edited}
 use Rattle.ps_resolve.specs.Plans.{Origin}
 use Rattle.ps_linkfile.specs.LinkedFile.{origins, block_of, linked_segments}
 use Rattle.ps_linkfile.specs.Lines.{line, shown_name, two_digits, field}
@@ -156,10 +155,10 @@ abbrev pub listed_lines : Listed → List ℕ
 listed_lines s = flat_map (place_line s) (enumerate_from 0 s.causes)
 
 -- those of a segment of a link, with its edits; nothing is stored in one that is linked already
-abbrev pub segment_references : Order → List Origin → Edited → List ℕ
-segment_references order origins e =
-    if needs_linking e.segment.role then listed_lines
-    (listed_in order (block_of origins e.segment.slot) e.segment e.edits) else []
+abbrev pub segment_references : Order → List Origin → Segment × List Edit → List ℕ
+segment_references order origins (s, edits) =
+    if needs_linking s.role
+    then listed_lines (listed_in order (block_of origins s.slot) s edits) else []
 
 -- what a link of a host and its libraries stores, by slot and then by place
 unfoldable pub references_of : List ℕ → List (List ℕ) → List ℕ

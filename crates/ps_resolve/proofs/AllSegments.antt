@@ -10,7 +10,7 @@ use Rattle.ps_resolve.specs.Privates.{owner_of, private_words, all_words}
 use Rattle.ps_resolve.specs.Edits.{AreOfReferences}
 use Rattle.ps_resolve.specs.Stops.{IsStop}
 use Rattle.ps_resolve.specs.References.{Known}
-use Rattle.ps_resolve.specs.Linking.{Edited, segment_edits, edited_from}
+use Rattle.ps_resolve.specs.Linking.{segment_edits, edited_from}
 use Rattle.ps_resolve.specs.Faults.{segment_fault, references_fault_from}
 use Rattle.ps_resolve.specs.Plans.{LinksSegment, LinkSegments}
 use Rattle.ps_resolve.specs.declared.linkage.Stop.{Stop}
@@ -49,9 +49,8 @@ module _ (order : Order) (known : Known) (ss : List Segment) (i : ℕ) (v : Segm
         → references_fault_from order known end (drop (i + 1) ss) ≡ first
     first_on first h none = grind (arith, head_is)
 
-    pub links_on : (words : ℕ) (all : List Edited) (done : List (List Edit)) (d : List Edit)
-        → LinksSegment order
-        (record { segment = v; edits = segment_edits order known words free v }) d
+    pub links_on : (words : ℕ) (all : List (Segment × List Edit)) (done : List (List Edit))
+        (d : List Edit) → LinksSegment order v (segment_edits order known words free v) d
         → ((behind : List (List Edit))
         → LinkSegments order (edited_from order known words free (drop i ss)) behind
         → LinkSegments order all (done ++ behind))

@@ -7,13 +7,13 @@ use Rattle.ps_words.specs.declared.edit.Edit.{Edit}
 use Rattle.ps_resolve.specs.Sources.{Segment}
 use Rattle.ps_resolve.specs.Privates.{private_words}
 use Rattle.ps_resolve.specs.References.{Known}
-use Rattle.ps_resolve.specs.Linking.{Edited, edited_from}
+use Rattle.ps_resolve.specs.Linking.{edited_from}
 use Rattle.ps_resolve.specs.Plans.{LinkSegments, origin_of, origin_of_source}
 use Rattle.ps_resolve.specs.declared.plan.Source.{Source}
 
 -- lists of edits that link segments are as many as these
-linked_len : (order : Order) (es : List Edited) (ds : List (List Edit)) → LinkSegments order es ds
-    → length ds ≡ length es
+linked_len : (order : Order) (es : List (Segment × List Edit)) (ds : List (List Edit))
+    → LinkSegments order es ds → length ds ≡ length es
 linked_len order [] [] h = refl
 linked_len order [] (d ∷ ds) h = absurd h
 linked_len order (e ∷ es) [] h = absurd h

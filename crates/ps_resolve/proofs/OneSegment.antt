@@ -37,10 +37,5 @@ module _ (order : Order) (known : Known) (v : Segment) (free : ℕ) where
         → patched_byte order v.code edits p ≡ patched_byte order v.code listed p)
         → (words : ℕ) → (is_host v.role ≡ true
         → data_edits order words v.code ≡ size ∷ [])
-        → LinksSegment order
-        (record {
-          segment = v;
-          edits =
-              segment_edits order known words free v;
-        }) sorted
+        → LinksSegment order v (segment_edits order known words free v) sorted
     linked_links sorted same ready alike words e = search (rules, IsPermutation-sym)

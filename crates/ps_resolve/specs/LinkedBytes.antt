@@ -26,7 +26,7 @@ use Rattle.ps_linkinfo.specs.declared.record.LinkRecord.{LinkRecord as Record}
 use Rattle.ps_codefile.specs.Roles.{needs_linking, is_host, is_unit}
 use Rattle.ps_resolve.specs.Sources.{Segment, order_of}
 use Rattle.ps_resolve.specs.References.{words_taken_by, record_edits}
-use Rattle.ps_resolve.specs.Linking.{Edited, edited_segments, known_of, data_edits, grown_data_size}
+use Rattle.ps_resolve.specs.Linking.{edited_segments, known_of, data_edits, grown_data_size}
 use Rattle.ps_resolve.specs.Linking.{linked_byte}
 
 -- reference i of record r, the segment's record `rec`, has its operand at x
@@ -126,8 +126,8 @@ segments_of host libs = segments (order_of host) host libs
 -- the bytes that the edits of each segment make are its linked bytes
 abbrev pub HaveLinkedBytes : List ℕ → List (List ℕ) → Type 0
 HaveLinkedBytes host libs =
-    All (λ e. (p : ℕ) → p < length e.segment.code
-    → IsLinkedByte (order_of host) (segments_of host libs) e.segment p
+    All (λ (e : Segment × List Edit). (p : ℕ) → p < length e.0.code
+    → IsLinkedByte (order_of host) (segments_of host libs) e.0 p
     (linked_byte (order_of host) e p)) (edited_segments (order_of host) (segments_of host libs))
 
 -- at each place of a segment there is one linked byte at most
@@ -153,8 +153,8 @@ summed_edits order segs s =
     else []
 
 -- a segment with the edits that have summed offsets
-abbrev pub summed_segment : Order → List Segment → Segment → Edited
-summed_segment order segs s = record { segment = s; edits = summed_edits order segs s }
+abbrev pub summed_segment : Order → List Segment → Segment → Segment × List Edit
+summed_segment order segs s = (s, summed_edits order segs s)
 
 -- the offset that runs along with the records of a link is the sum of what is before each of them
 abbrev pub HaveSummedOffsets : List ℕ → List (List ℕ) → Type 0

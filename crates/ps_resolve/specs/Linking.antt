@@ -61,24 +61,20 @@ segment_edits order known words free s =
     ++ records_edits known s.code free s.records)
     else []
 
--- a segment with its edits
-pub record Edited : Type 0 where
-  pub segment : Segment
-  pub edits : List Edit
-
--- the privates of each segment follow those of the segments before it
-abbrev pub edited_from : Order → Known → ℕ → ℕ → List Segment → List Edited
+-- segments, each with its edits: the privates of each follow those of the segments before it
+abbrev pub edited_from : Order → Known → ℕ → ℕ → List Segment
+    → List (Segment × List Edit)
 edited_from order known words free [] = []
 edited_from order known words free (s ∷ ss) =
-    record { segment = s; edits = segment_edits order known words free s }
+    (s, segment_edits order known words free s)
     ∷ edited_from order known words (free + private_words s.records) ss
 
 -- the segments of a link, each with its edits
-abbrev pub edited_segments : Order → List Segment → List Edited
+abbrev pub edited_segments : Order → List Segment → List (Segment × List Edit)
 edited_segments order segs = edited_from order (known_of segs) (total_words segs)
     (next_of (host_records segs)) segs
 
--- the byte at place p of the segment in the linked file: what its edit there stores, and its
--- input's byte where it has none there
-abbrev pub linked_byte : Order → Edited → ℕ → ℕ
-linked_byte order e p = patched_byte order e.segment.code e.edits p
+-- the byte at place p of a segment, with its edits, in the linked file: what its edit there stores,
+-- and its input's byte where it has none there
+abbrev pub linked_byte : Order → Segment × List Edit → ℕ → ℕ
+linked_byte order (s, edits) p = patched_byte order s.code edits p

@@ -11,7 +11,7 @@ use Rattle.ps_resolve.specs.Added.{segments, slot_names}
 use Rattle.ps_linkinfo.specs.RecordCounts.{next_of}
 use Rattle.ps_resolve.specs.Privates.{owner_of, all_allotted, total_words}
 use Rattle.ps_resolve.specs.Symbols.{definitions}
-use Rattle.ps_resolve.specs.Linking.{Edited, edited_segments, linked_byte, data_size}
+use Rattle.ps_resolve.specs.Linking.{edited_segments, linked_byte, data_size}
 use Rattle.ps_resolve.specs.Faults.{linking_fault}
 use Rattle.ps_resolve.specs.AllFaults.{first_fault, reading_fault}
 use Rattle.ps_resolve.specs.Stops.{IsStop}
@@ -66,18 +66,19 @@ pub record Planned : Type 0 where
   pub private_words : ℕ
   pub data_size : ℕ
 
--- Edits of a segment, ready to be stored: in the order of their places, and apart; one for each
--- that the segment has; and they make each byte the linked byte.
-pub record LinksSegment (order : Order) (e : Edited) (edits : List Edit) : Type 0 where
-  pub ready : AreEdits (length e.segment.code) edits
-  pub each : IsPermutation e.edits edits
-  pub bytes : (p : ℕ) → p < length e.segment.code
-      → patched_byte order e.segment.code edits p ≡ linked_byte order e p
+-- Edits of a segment, ready to be stored: in the order of their places, and apart; one for each of
+-- its own, which are all that it has; and they make each byte the linked byte.
+pub record LinksSegment (order : Order) (s : Segment) (own edits : List Edit) : Type 0 where
+  pub ready : AreEdits (length s.code) edits
+  pub each : IsPermutation own edits
+  pub bytes : (p : ℕ) → p < length s.code
+      → patched_byte order s.code edits p ≡ linked_byte order (s, own) p
 
 -- each list of edits links its segment, and there are as many lists as segments
-abbrev pub LinkSegments : Order → List Edited → List (List Edit) → Type 0
+abbrev pub LinkSegments : Order → List (Segment × List Edit) → List (List Edit) → Type 0
 LinkSegments order [] [] = ⊤
-LinkSegments order (e ∷ es) (d ∷ ds) = LinksSegment order e d × LinkSegments order es ds
+LinkSegments order ((s, own) ∷ es) (d ∷ ds) =
+    LinksSegment order s own d × LinkSegments order es ds
 LinkSegments order [] (d ∷ ds) = ⊥
 LinkSegments order (e ∷ es) [] = ⊥
 

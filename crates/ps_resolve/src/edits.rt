@@ -73,12 +73,9 @@ pub(crate) fn segment_edits<'a, A: Allocator + Copy>(
     ensures links { (words : ℕ)
         → (is_host_spec segment.now.role ≡ true
         → data_edits link.now.order words segment.now.code ≡ link.now.size ∷ [])
-        → IfOk result (λ found. LinksSegment link.now.order
-        (record {
-          segment = segment.now;
-          edits = segment_edits_spec link.now.order link.now.names.now
-              words free segment.now;
-        }) found.0.items) }
+        → IfOk result (λ found. LinksSegment link.now.order segment.now
+        (segment_edits_spec link.now.order link.now.names.now words free segment.now)
+        found.0.items) }
     ensures end { IfOk result (λ found. found.1 ≡ free + private_words segment.now.records) }
     ensures sound { OnOk result
         (segment_fault link.now.order link.now.names.now free segment.now ≡ None) }

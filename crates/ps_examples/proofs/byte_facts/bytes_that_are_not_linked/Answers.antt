@@ -7,13 +7,13 @@ use Rattle.ps_resolve.specs.Faults.{slots_fault, no_host_fault, libraries_fault,
 use Rattle.ps_resolve.specs.Faults.{linking_fault, definitions_fault, privates_fault, data_fault}
 use Rattle.ps_resolve.specs.Faults.{references_fault}
 use Rattle.ps_resolve.specs.AllFaults.{first_fault, reading_fault}
-use Rattle.ps_resolve.specs.Linking.{Edited}
 use Rattle.ps_resolve.specs.Added.{empty_slots, rounds, segments}
 use Rattle.ps_examples.specs.Segments.{count_reference, aux_reference, demo_segment, util_segment}
 use Rattle.ps_examples.specs.Segments.{pair}
 use Rattle.ps_linkinfo.specs.declared.record.Body.TheVariants.{UnitRef, PublRef, PublDef, Eof}
-use Rattle.ps_resolve.specs.Sources.{own_segments}
+use Rattle.ps_resolve.specs.Sources.{Segment, own_segments}
 use Rattle.ps_resolve.specs.Standing.Privates.{words_before}
+use Rattle.ps_words.specs.declared.edit.Edit.{Edit}
 use Rattle.ps_words.specs.Words.{operand_bytes, displacement_at}
 use Rattle.ps_examples.proofs.NotLinked.{of_first, no_host, not_the_slot_of_another_unit}
 use Rattle.ps_examples.proofs.NotLinked.{a_plain_segment_is_no_unit, not_the_unit_of_another_name}
@@ -30,7 +30,7 @@ returns c =
     let of_pair = c.first_of_all.ensures.none host (library ∷ []) refl in
     let made = c.bytes_are_linked.ensures.made host (library ∷ []) of_pair in
     let one = c.bytes_are_linked.ensures.one host (library ∷ []) of_pair in
-    let none : Edited = record { segment = demo_segment; edits = [] } in
+    let none : Segment × List Edit = (demo_segment, []) in
     record {
       not_the_input_s_operand = λ b. let e : 0 ≡ 3 =
           one 1 demo_segment (ltb-true 1 2 refl) 2 0 3 b

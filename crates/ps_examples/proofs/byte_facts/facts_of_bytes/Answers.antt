@@ -3,13 +3,13 @@ use Rattle.std.proofs.Common.{ℕ, List, [], ◌∷◌, refl, arith}
 use Rattle.ps_examples.specs.Files.{host, library, host_in, library_in, blank_name, count}
 use Rattle.ps_examples.specs.Segments.{demo_segment, aux_segment}
 use Rattle.ps_linkinfo.specs.declared.record.Body.TheVariants.{PublDef, Eof}
-use Rattle.ps_resolve.specs.Sources.{own_segments}
+use Rattle.ps_resolve.specs.Sources.{Segment, own_segments}
 use Rattle.ps_resolve.specs.Added.{empty_slots, rounds, segments}
 use Rattle.ps_resolve.specs.Faults.{slots_fault, no_host_fault, libraries_fault, sources_fault}
 use Rattle.ps_resolve.specs.Faults.{linking_fault, definitions_fault, privates_fault, data_fault}
 use Rattle.ps_resolve.specs.Faults.{references_fault}
 use Rattle.ps_resolve.specs.AllFaults.{first_fault, reading_fault}
-use Rattle.ps_resolve.specs.Linking.{Edited}
+use Rattle.ps_words.specs.declared.edit.Edit.{Edit}
 use Rattle.ps_words.specs.declared.order.Order.TheVariants.{Big}
 use Rattle.ps_examples.proofs.byte_facts.facts_of_bytes.Goals as goal
 
@@ -23,7 +23,7 @@ returns c =
     let of_pair = fine host (library ∷ []) refl in
     let made = c.bytes_are_linked.ensures.made host (library ∷ []) of_pair in
     let big : List (List ℕ) = library_in Big ∷ [] in
-    let none : Edited = record { segment = demo_segment; edits = [] } in
+    let none : Segment × List Edit = (demo_segment, []) in
     record {
       segments = refl;
       a_private = refl;
