@@ -3,12 +3,12 @@ use Rattle.std.proofs.Common.{◌≡◌, ◌≢◌, ℕ, zero, suc, ◌+◌, ◌
 use Rattle.std.proofs.Common.{List, [], ◌∷◌, ◌++◌, length, take, drop, get_or, Bool}
 use Rattle.std.proofs.Common.{true, false, if◌then◌else◌, Option, Some, None, Result, Ok}
 use Rattle.std.proofs.Common.{refl, sym, ◌∙◌, ap, subst, arith}
-use Rattle.std.specs.Prelude.{All, is_none}
+use Rattle.std.specs.Prelude.{All, is_none, nat_lt}
 use Rattle.std.specs.List.{filter, filter_map, find, insert, range_with_len}
 use Rattle.std.specs.Option.{option_map_or, option_or}
 use Rattle.std.specs.Result.{result_ok}
 use Rattle.std.proofs.lemmas.List.Elements.{All-nil, All-cons, All-head, All-tail, All-append}
-use Rattle.std.proofs.lemmas.List.Elements.{All-take, All-drop, All-weaker, filter_passes}
+use Rattle.std.proofs.lemmas.List.Elements.{All-weaker, filter_passes}
 use Rattle.std.proofs.lemmas.List.Folds.{find-append}
 use Rattle.std.proofs.lemmas.List.{take-append-drop, drop_all}
 use Rattle.ps_words.specs.declared.order.Order.{Order}
@@ -21,7 +21,8 @@ use Rattle.ps_resolve.specs.Added.{added_segment, empty_slots}
 use Rattle.ps_resolve.specs.Faults.{is_role, source_fault}
 use Rattle.ps_resolve.specs.Linkable.{AscendFrom}
 use Rattle.ps_resolve.specs.Readings.{read_segment, read_segments}
-use Rattle.ps_resolve.specs.Views.{is_in_slot, put_by_slot, segment_in_slot, segments_in_slots}
+use Rattle.ps_resolve.specs.KnownSegments.{is_in_slot, put_by_slot, segment_in_slot}
+use Rattle.ps_resolve.specs.KnownSegments.{segments_in_slots}
 use Rattle.ps_resolve.specs.declared.reading.added.UnitReference.{UnitReference}
 use Rattle.ps_resolve.proofs.EachSegment.{added_made}
 use Rattle.ps_resolve.proofs.InSlots.{InPlace, found_there, same_kept}
@@ -66,17 +67,24 @@ placed_at segs i slot v lt h later before s is =
     grind (arith, drop_at segs i v lt, put_before s v, put_there segs i slot s is before)
 
 pub placed_last : (segs : List Segment) (i slot : ℕ) → length segs ≤ i
-    → AreBefore slot i segs → (s : Segment) → s.slot ≡ slot → insert segs i s ≡ put_by_slot s segs
+    → AreBefore slot i segs → (s : Segment) → s.slot ≡ slot
+    → insert segs i s ≡ put_by_slot s segs
 placed_last segs i slot le before s is =
     let none : drop i segs ≡ [] = grind (arith, drop_all) in
     let here : put_by_slot s (drop i segs) ≡ s ∷ drop i segs = grind arith in
     grind (arith, put_there)
 
 -- what holds of all holds of all with one more
-pub All-insert : {X : Type 0} (P : X → Type 0) (xs : List X) (i : ℕ) (x : X) → All P xs
-    → P x → All P (insert xs i x)
-All-insert P xs i x all h = All-append P (take i xs) (x ∷ drop i xs) (All-take P i xs all)
-    (All-cons P x (drop i xs) h (All-drop P i xs all))
+pub All-put : (P : Segment → Type 0) (s : Segment) (xs : List Segment) → All P xs → P s
+    → All P (put_by_slot s xs)
+All-put P s [] all h = All-cons P s [] h all
+All-put P s (x ∷ xs) all h = by (nat_lt s.slot x.slot)
+    (All-put P s xs (All-tail P x xs all) h)
+  where
+    by : (b : Bool) → All P (put_by_slot s xs)
+        → All P (if b then s ∷ x ∷ xs else x ∷ put_by_slot s xs)
+    by true rest = All-cons P s (x ∷ xs) h all
+    by false rest = All-cons P x (put_by_slot s xs) (All-head P x xs all) rest
 
 -- 2. one segment more among those of slots
 -- before the segments of later slots

@@ -13,13 +13,13 @@ use Rattle.std.proofs.lemmas.List.FromFn.{get_or-range_with_len}
 use Rattle.ps_words.specs.declared.order.Order.{Order}
 use Rattle.ps_words.specs.declared.fault.Reason.{Reason}
 use Rattle.ps_codefile.specs.Dictionary.{slots, entry_at, role_of, code_of}
-use Rattle.ps_codefile.specs.Roles.{is_empty, needs_linking}
+use Rattle.ps_codefile.specs.Roles.{is_empty}
 use Rattle.ps_codefile.specs.declared.entry.Role.{Role}
 use Rattle.ps_codefile.specs.declared.entry.Role.TheVariants.{Wanted}
 use Rattle.ps_resolve.specs.Added.{added_segment, added_segments, as_added, segment_at}
 use Rattle.ps_resolve.specs.Faults.{is_role}
-use Rattle.ps_resolve.specs.Sources.{Segment, file_at, information_block, own_segment}
-use Rattle.ps_resolve.specs.Sources.{records_of, segment_from, source_of, tables_of, unit_source}
+use Rattle.ps_resolve.specs.Sources.{Segment, file_at, own_segment, segment_from, segment_with}
+use Rattle.ps_resolve.specs.Sources.{source_of, unit_source}
 use Rattle.ps_resolve.specs.declared.reading.added.UnitReference.{UnitReference}
 use Rattle.ps_resolve.proofs.FirstSlots.{some_mapped}
 
@@ -35,25 +35,6 @@ find_has {X} P test (y ∷ ys) x h all =
     by rest b e = grind arith
 
 -- 1. what it is made of
--- the segment with this code
-abbrev pub segment_with : Order → List ℕ → List (List ℕ) → ℕ → List ℕ → Role
-    → ℕ × ℕ → List ℕ → Segment
-segment_with order host libs slot name r place code =
-    let file = file_at host libs place.0 in
-    let e = entry_at order file place.1 in
-    record {
-      slot = slot;
-      name = name;
-      role = r;
-      added = false;
-      file = place.0;
-      index = place.1;
-      code = code;
-      tables = tables_of order code (needs_linking r);
-      block = information_block e (needs_linking r);
-      records = records_of order file e (needs_linking r);
-    }
-
 -- the segment has the code of its entry, and is this one
 pub record IsMade (order : Order) (host : List ℕ) (libs : List (List ℕ)) (slot : ℕ)
     (name : List ℕ) (r : Role) (place : ℕ × ℕ) (s : Segment) : Type 0 where

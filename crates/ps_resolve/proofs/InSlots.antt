@@ -8,7 +8,7 @@ use Rattle.ps_words.specs.declared.order.Order.{Order}
 use Rattle.ps_codefile.specs.Roles.{is_empty}
 use Rattle.ps_resolve.specs.Sources.{Segment, own_segment, own_segments}
 use Rattle.ps_resolve.specs.Added.{added_segments, segments, segment_at}
-use Rattle.ps_resolve.specs.Views.{is_in_slot, segment_in_slot, segments_in_slots}
+use Rattle.ps_resolve.specs.KnownSegments.{is_in_slot, segment_in_slot, segments_in_slots}
 use Rattle.ps_resolve.specs.Faults.{is_role}
 use Rattle.ps_resolve.proofs.ReadingKnown.{own_parts}
 

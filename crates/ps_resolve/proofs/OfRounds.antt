@@ -14,11 +14,11 @@ use Rattle.ps_resolve.specs.Added.{all_unit_references, empty_slots, placed_faul
 use Rattle.ps_resolve.specs.Added.{added_segment, RoundsOutcome, requested_units, added_segments}
 use Rattle.ps_resolve.specs.Added.{added_fault}
 use Rattle.ps_resolve.specs.OfLink.{IsOfRound}
-use Rattle.ps_resolve.specs.Sources.{Segment}
+use Rattle.ps_resolve.specs.Sources.{Segment, segment_with}
 use Rattle.ps_resolve.specs.declared.reading.added.UnitReference.{UnitReference}
 use Rattle.ps_resolve.proofs.EachRound.{IsTurn, all_rounds, own_units, requested_rest}
 use Rattle.ps_resolve.proofs.EachRound.{segments_before}
-use Rattle.ps_resolve.proofs.EachSegment.{added_made, segment_with}
+use Rattle.ps_resolve.proofs.EachSegment.{added_made}
 use Rattle.ps_resolve.proofs.Items.{at_left, first_right, some_before}
 use Rattle.ps_resolve.proofs.Requesting.{grown}
 

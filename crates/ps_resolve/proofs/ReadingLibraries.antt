@@ -7,6 +7,7 @@ use Rattle.std.proofs.lemmas.List.{drop_more, drop-map}
 use Rattle.std.proofs.lemmas.Bool.{cases_Bool}
 use Rattle.std.specs.List.{enumerate_from, find, slice_get}
 use Rattle.std.specs.Option.{option_or}
+use Rattle.std.specs.Prelude.{is_some}
 use Rattle.std.specs.Result.{result_err}
 use Rattle.ps_words.specs.declared.order.Order.{Order}
 use Rattle.ps_words.specs.declared.fault.Reason.{Reason}
@@ -16,9 +17,9 @@ use Rattle.ps_codefile.specs.Dictionary.{OpenedFile, FileOrder, file_order, open
 use Rattle.ps_codefile.specs.Dictionary.{opened_beside_as, slots}
 use Rattle.ps_resolve.specs.Searches.{first_of}
 use Rattle.ps_resolve.specs.Sources.{is_named, has_entry, chosen_library, file_at, opened}
-use Rattle.ps_resolve.specs.Sources.{opened_file, opened_files}
+use Rattle.ps_resolve.specs.Sources.{opened_file, opened_files, unit_source}
 use Rattle.ps_resolve.specs.Faults.{library_fault, library_reason}
-use Rattle.ps_resolve.proofs.FirstSlots.{neither_first, none_mapped}
+use Rattle.ps_resolve.proofs.FirstSlots.{any_found, neither_first, none_mapped}
 
 -- a library that is not refused is read as it is
 read_as : (short : Bool) (of : FileOrder) (order : Order) (file : List ℕ)
@@ -93,14 +94,17 @@ abbrev pub chosen_from : Order → List ℕ → List (Bor (List ℕ)) → ℕ
 chosen_from order name libs i = find (λ (lib : ℕ × List ℕ). has_entry order name lib.1)
     (enumerate_from i (drop i (opened order libs)))
 
-pub chosen_here : (order : Order) (name : List ℕ) (libs : List (Bor (List ℕ))) (i : ℕ)
-    → i < length libs → has_entry order name (opened_file order (get_or libs i no_file).now)
-    ≡ true → chosen_from order name libs i
-    ≡ Some (i, opened_file order (get_or libs i no_file).now)
-chosen_here order name libs i lt h =
+pub chosen_here : (order : Order) (name : List ℕ) (libs : List (Bor (List ℕ))) (i j : ℕ)
+    → i < length libs
+    → find (is_named order name (opened_file order (get_or libs i no_file).now)) slots ≡ Some j
+    → chosen_from order name libs i ≡ Some (i, opened_file order (get_or libs i no_file).now)
+chosen_here order name libs i j lt h =
+    let lib = opened_file order (get_or libs i no_file).now in
+    let has : has_entry order name lib ≡ true =
+    any_found (is_named order name lib) slots ∙ ap is_some h in
     ap (λ (xs : List (ℕ × List ℕ)). find
     (λ (lib : ℕ × List ℕ). has_entry order name lib.1) xs) (opened_more order libs i i lt)
-    ∙ rw h
+    ∙ rw has
 
 pub chosen_later : (order : Order) (name : List ℕ) (libs : List (Bor (List ℕ))) (i : ℕ)
     → i < length libs → has_entry order name (opened_file order (get_or libs i no_file).now)
@@ -121,6 +125,13 @@ at_number p (x ∷ xs) n k file h = elim (cases_Bool (p (n, x))) [
       let rest = at_number p xs (n + 1) k file (rw fails at h) in
       (suc rest.0, omega (arith, rest.1), rest.2)
 ]
+
+-- the unit is in the chosen library
+pub source_by : (order : Order) (name : List ℕ) (files : List (List ℕ)) (k i : ℕ)
+    (file : List ℕ) → chosen_library order name files ≡ Some (k, file)
+    → find (is_named order name file) slots ≡ Some i
+    → unit_source order name files ≡ Some (k + 1, i)
+source_by order name files k i file chosen found = rw chosen (rw found refl)
 
 -- the chosen library, of number k from 0, is file k + 1, as the host is file 0
 pub chosen_file : (order : Order) (name : List ℕ) (files : List (List ℕ)) (k : ℕ)

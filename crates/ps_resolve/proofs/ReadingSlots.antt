@@ -22,7 +22,7 @@ use Rattle.ps_resolve.specs.Readings.{opened_host, read_requests, read_rounds, r
 use Rattle.ps_resolve.specs.Readings.{read_segments, fault_of_added, queued_request, slot_after}
 use Rattle.ps_resolve.specs.Readings.{slot_fault, slot_reading, slot_request, wanted_request}
 use Rattle.ps_resolve.specs.declared.reading.request.Request.{Request}
-use Rattle.ps_resolve.specs.Views.{is_in_slot, segments_in_slots}
+use Rattle.ps_resolve.specs.KnownSegments.{is_in_slot, segments_in_slots}
 use Rattle.ps_resolve.proofs.FirstSlots.{neither_first, neither_second}
 use Rattle.ps_resolve.proofs.InSlots.{in_slots_are}
 use Rattle.ps_resolve.proofs.ReadingHosts.{host_is, host_read, host_refused, rest_of}

@@ -1,7 +1,7 @@
 -- The unit of a request: its fault and its segment by the library that has it, and the request of a
 -- slot that wants a unit.
 use Rattle.std.proofs.Common.{arith, ◌≡◌, ℕ, List, Bool, false, ◌&&◌, not, Option, Some}
-use Rattle.std.proofs.Common.{None, Result, Ok, ◌+◌, refl, ◌∙◌, ap}
+use Rattle.std.proofs.Common.{None, Result, Ok, refl, sym, ◌∙◌, ap}
 use Rattle.std.specs.Prelude.{if◌then◌else◌}
 use Rattle.std.specs.List.{find}
 use Rattle.std.specs.Option.{option_and_then, option_map}
@@ -12,36 +12,67 @@ use Rattle.ps_words.specs.declared.fault.Reason.{Reason}
 use Rattle.ps_codefile.specs.Dictionary.{slots, entry_at, is_nameless, role_of, role_of_kind}
 use Rattle.ps_codefile.specs.declared.entry.Role.{Role}
 use Rattle.ps_codefile.specs.declared.entry.Role.TheVariants as role
-use Rattle.ps_resolve.specs.Sources.{Segment, segment_from, chosen_library, is_named, own_segment}
-use Rattle.ps_resolve.specs.Sources.{source_of, unit_source}
+use Rattle.ps_resolve.specs.Sources.{Segment, chosen_library, file_at, is_named, library_file}
+use Rattle.ps_resolve.specs.Sources.{own_segment, segment_from, source_of, unit_source}
 use Rattle.ps_resolve.specs.Faults.{code_fault, entries_reason, request_fault, source_fault}
 use Rattle.ps_resolve.specs.Requests.{as_requested, is_missing, request_by_slot, requested_segment}
-use Rattle.ps_resolve.specs.Views.{IsRead}
+use Rattle.ps_resolve.specs.KnownSegments.{IsRead}
 use Rattle.ps_resolve.specs.declared.reading.request.Request.{Request}
 use Rattle.ps_resolve.specs.declared.reading.request.Requester.{Requester}
 use Rattle.ps_resolve.specs.declared.reading.request.Requester.TheVariants.{Slot}
+use Rattle.ps_resolve.proofs.FirstSlots.{some_mapped}
+use Rattle.ps_resolve.proofs.ReadingLibraries.{chosen_file}
+
+-- the unit of a name is entry i of this file, which is the library that was chosen
+record IsUnitAt (order : Order) (host : List ℕ) (libs : List (List ℕ)) (name : List ℕ)
+    (file i : ℕ) : Type 0 where
+  number : ℕ
+  chosen : chosen_library order name libs ≡ Some (number, file_at host libs file)
+  file_is : file ≡ library_file number
+  found : find (is_named order name (file_at host libs file)) slots ≡ Some i
 
 -- the fault and the segment of a request, by the library's entry
-module _ (order : Order) (host : List ℕ) (libs : List (List ℕ)) (r : Request) where
-  module _ (library : ℕ) (file : List ℕ) (m : is_missing order libs r.name ≡ false)
-      (chosen : chosen_library order r.name libs ≡ Some (library, file)) where
-    pub placed_refused : (why : Reason) → entries_reason order r.name file ≡ Some why
-        → request_fault order host libs r ≡ Some (in_slot (library + 1) r.slot why)
-    placed_refused why e = rw m (rw chosen (rw e refl))
+module _ (order : Order) (host : List ℕ) (libs : List (List ℕ)) (r : Request) (file i : ℕ)
+    (source : unit_source order r.name libs ≡ Some (file, i)) where
+  unit_at : IsUnitAt order host libs r.name file i
+  unit_at = by (chosen_library order r.name libs) refl source
+    where
+      by : (o : Option (ℕ × List ℕ)) → chosen_library order r.name libs ≡ o
+          → option_and_then {U = ℕ × ℕ} (λ (lib : ℕ × List ℕ).
+          option_map {U = ℕ × ℕ} (λ i. (library_file lib.0, i))
+          (find (is_named order r.name lib.1) slots)) o ≡ Some (file, i)
+          → IsUnitAt order host libs r.name file i
+      by None is h = cc
+      by (Some lib) is h =
+          let m = some_mapped {Y = ℕ × ℕ} (λ (j : ℕ). (library_file lib.0, j))
+          (find (is_named order r.name lib.1) slots) (file, i) h in
+          let file_is : file ≡ library_file lib.0 = ap (λ (p : ℕ × ℕ). p.0) m.2 in
+          let there : file_at host libs file ≡ lib.1 = ap (file_at host libs) file_is
+          ∙ chosen_file order r.name libs lib.0 lib.1 host is in
+          record {
+            number = lib.0;
+            chosen = rw there is;
+            file_is = file_is;
+            found = rw there (m.1 ∙ ap (λ (p : ℕ × ℕ). Some p.1) (sym m.2));
+          }
 
-    pub placed_by : (i : ℕ) → entries_reason order r.name file ≡ None
-        → find (is_named order r.name file) slots ≡ Some i
-        → request_fault order host libs r
-        ≡ code_fault order host libs r.slot role.Wanted (library + 1, i)
-    placed_by i e f = rw m (rw chosen (rw (e, f) refl))
+  pub found_at : find (is_named order r.name (file_at host libs file)) slots ≡ Some i
+  found_at = unit_at.found
 
-  pub brought_by : (library : ℕ) (file : List ℕ) (i : ℕ)
-      → chosen_library order r.name libs ≡ Some (library, file)
-      → find (is_named order r.name file) slots ≡ Some i
-      → requested_segment order host libs r
-      ≡ option_map (as_requested r.requester)
-      (segment_from order host libs r.slot r.name role.Wanted (library + 1, i))
-  brought_by library file i chosen f = rw chosen (rw f refl)
+  pub placed_refused : (why : Reason) → is_missing order libs r.name ≡ false
+      → entries_reason order r.name (file_at host libs file) ≡ Some why
+      → request_fault order host libs r ≡ Some (in_slot file r.slot why)
+  placed_refused why m e = grind (arith, unit_at)
+
+  pub placed_by : is_missing order libs r.name ≡ false
+      → entries_reason order r.name (file_at host libs file) ≡ None
+      → request_fault order host libs r
+      ≡ code_fault order host libs r.slot role.Wanted (file, i)
+  placed_by m e = grind (arith, unit_at)
+
+  pub brought_by : requested_segment order host libs r ≡ option_map (as_requested r.requester)
+      (segment_from order host libs r.slot r.name role.Wanted (file, i))
+  brought_by = rw source refl
 
 -- a segment is read, also where it is marked as it is requested
 pub read_marked : (order : Order) (host : List ℕ) (libs : List (List ℕ)) (by : Requester)

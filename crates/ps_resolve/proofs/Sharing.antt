@@ -16,7 +16,8 @@ use Rattle.ps_linkinfo.specs.declared.record.LinkRecord.{LinkRecord as Record}
 use Rattle.ps_codefile.specs.Roles.{needs_linking}
 use Rattle.ps_resolve.specs.Sources.{Segment}
 use Rattle.ps_resolve.specs.Sources.{file_at}
-use Rattle.ps_resolve.specs.Views.{ArePlacedIn, IsRead, IsSound, IsLike, AreAlike, HasRecordsAt}
+use Rattle.ps_resolve.specs.KnownSegments.{ArePlacedIn, IsRead, IsSound, IsLike, AreAlike}
+use Rattle.ps_resolve.specs.KnownSegments.{HasRecordsAt}
 use Rattle.ps_resolve.specs.Operands.{operands}
 use Rattle.ps_resolve.specs.References.{Known, HasTarget, HaveTargets, target_in, target_of}
 use Rattle.ps_resolve.specs.References.{words_taken, records_fault}

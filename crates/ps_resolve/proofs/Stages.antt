@@ -32,7 +32,8 @@ pub keep : {X : Type 0} (a b : Option X) (x : X) → a ≡ Some x → option_or 
 keep a b x h = grind arith
 
 -- a link of these segments, of which one is the host's
-module _ (order : Order) (segs : List Segment) (own : Segment) (is : host_of segs ≡ Some own) where
+module _ (order : Order) (segs : List Segment) (own : Segment)
+    (is : host_of segs ≡ Some own) where
   abbrev owners : List Owner
   owners = map owner_of segs
 

@@ -16,7 +16,7 @@ pub mod Added
 pub mod Readings
 pub mod AllFaults
 pub mod Plans
-pub mod Views
+pub mod KnownSegments
 pub mod First
 pub mod Standing
 pub mod Parts

@@ -15,7 +15,7 @@ use Rattle.ps_resolve.specs.Added.{slot_names}
 use Rattle.ps_resolve.specs.Edits.{IsOfTable}
 use Rattle.ps_resolve.specs.Privates.{owner_of, private_words, all_words}
 use Rattle.ps_resolve.specs.References.{Known, HaveTargets}
-use Rattle.ps_resolve.specs.Views.{IsSound, IsLike, AreAlike}
+use Rattle.ps_resolve.specs.KnownSegments.{IsSound, IsLike, AreAlike}
 use Rattle.ps_resolve.specs.declared.reading.host.HostSegment.{HostSegment}
 use Rattle.ps_words.specs.declared.words.TheConstants.{MAX_WORD}
 

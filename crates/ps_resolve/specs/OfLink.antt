@@ -16,8 +16,8 @@ use Rattle.ps_resolve.specs.Sources.{own_segment, source_of, tables_of, unit_sou
 use Rattle.ps_resolve.specs.Standing.Slots.{HasRole}
 use Rattle.ps_resolve.specs.declared.reading.added.UnitReference.{UnitReference}
 
--- its code is that of its entry of its file; where its references are resolved, its tables are those
--- of its code and have no fault, and its records are all that are in the blocks after it
+-- its code is that of its entry of its file; where its references are resolved, its tables are
+-- those of its code and have no fault, and its records are all that are in the blocks after it
 pub record IsOfFile (order : Order) (host : List ℕ) (libs : List (List ℕ))
     (s : Segment) : Type 0 where
   pub code : let file = file_at host libs s.file in

@@ -19,7 +19,7 @@ use Rattle.ps_resolve.specs.Faults.{slots_fault, no_host_fault, libraries_fault,
 use Rattle.ps_resolve.specs.Faults.{sources_fault}
 use Rattle.ps_resolve.specs.Added.{RoundsOutcome, all_unit_references, empty_slots, requested_from}
 use Rattle.ps_resolve.specs.Added.{request_of, rounds_of}
-use Rattle.ps_resolve.specs.Views.{IsRead, segments_in_slots}
+use Rattle.ps_resolve.specs.KnownSegments.{IsRead, segments_in_slots}
 use Rattle.ps_resolve.specs.declared.reading.added.UnitReference.{UnitReference}
 use Rattle.ps_resolve.specs.declared.reading.request.Request.{Request}
 

@@ -116,15 +116,14 @@ pub record Segment : Type 0 where
   pub block : ℕ
   pub records : List Record
 
--- the segment that a slot gets from an entry of a file, with this name and role, where the entry
--- has a code
-abbrev pub segment_from : Order → List ℕ → List (List ℕ) → ℕ → List ℕ → Role
-    → ℕ × ℕ → Option Segment
-segment_from order host libs slot name role at =
+-- the segment that a slot gets from an entry of a file, with this name, role and code
+abbrev pub segment_with : Order → List ℕ → List (List ℕ) → ℕ → List ℕ → Role
+    → ℕ × ℕ → List ℕ → Segment
+segment_with order host libs slot name role at code =
     let file = file_at host libs at.0 in
     let e = entry_at order file at.1 in
     let linked = needs_linking role in
-    option_map (λ code. record {
+    record {
       slot = slot;
       name = name;
       role = role;
@@ -135,8 +134,15 @@ segment_from order host libs slot name role at =
       tables = tables_of order code linked;
       block = information_block e linked;
       records = records_of order file e linked;
-    })
-    (result_ok (code_of file e))
+    }
+
+-- so with the code of the entry, where it has one
+abbrev pub segment_from : Order → List ℕ → List (List ℕ) → ℕ → List ℕ → Role
+    → ℕ × ℕ → Option Segment
+segment_from order host libs slot name role at =
+    let file = file_at host libs at.0 in
+    option_map (segment_with order host libs slot name role at)
+    (result_ok (code_of file (entry_at order file at.1)))
 
 -- the segment of the slot's own role, where it is not empty
 abbrev pub own_segment : Order → List ℕ → List (List ℕ) → ℕ → Option Segment

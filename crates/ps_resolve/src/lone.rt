@@ -4,7 +4,7 @@ ghost use Rattle.ps_codefile.specs.Roles.{is_unit as is_unit_spec};
 ghost use Rattle.ps_resolve.specs.LoneUnits.{lone_fault as lone_fault_spec, placing_fault as placing_fault_spec};
 ghost use Rattle.ps_resolve.specs.Sources.{opened_files};
 ghost use Rattle.ps_resolve.specs.Stops.{IsStop};
-ghost use Rattle.ps_resolve.specs.Views.{IsSound};
+ghost use Rattle.ps_resolve.specs.KnownSegments.{IsSound};
 
 use crate::allotment::allot;
 use crate::edits::segment_edits;

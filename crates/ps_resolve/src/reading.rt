@@ -9,7 +9,7 @@ ghost use Rattle.ps_resolve.specs.Faults.{slots_fault as slots_fault_spec, no_ho
 ghost use Rattle.ps_resolve.specs.AllFaults.{reading_fault};
 ghost use Rattle.ps_resolve.specs.OfLink.{AreOfLink};
 ghost use Rattle.ps_resolve.specs.Readings.{all_read, host_reading_fault, opened_host, own_reading_fault, queued_request as queued_request_spec, read_requests, read_rounds, read_segments, named_entry, slot_after, slot_entry, slot_fault, slot_reading, slot_request, wanted_request};
-ghost use Rattle.ps_resolve.specs.Views.{IsRead, IsSound, is_in_slot};
+ghost use Rattle.ps_resolve.specs.KnownSegments.{IsRead, IsSound, is_in_slot};
 
 pub(crate) mod added;
 pub(crate) mod entries;
@@ -28,7 +28,7 @@ use crate::reading::host::HostSegment;
 use crate::reading::libraries::libraries_fault;
 use crate::reading::request::{Request, unit_named};
 use crate::reading::segment::Segment;
-use crate::reading::slots::{HOST_FILE, HostSlots, library_file, no_host_fault, slots_fault};
+use crate::reading::slots::{HOST_FILE, HostSlots, no_host_fault, slots_fault};
 use crate::reading::sources::{read_slot, read_slots};
 use crate::reading::unit_slots::UnitSlots;
 use arrayvec::ArrayVec;
@@ -342,10 +342,7 @@ impl<'a> HostReading<'a> {
     {
         match unit_named(&self.slots, name, self.libs) {
             None => None,
-            Some(unit) => Some(EntryPlace {
-                file: library_file(unit.library),
-                index: unit.index,
-            }),
+            Some((_, place)) => Some(place),
         }
     }
 

@@ -6,7 +6,7 @@ ghost use Rattle.ps_resolve.specs.OfLink.{AreOfLink};
 ghost use Rattle.ps_resolve.specs.Plans.{IsPlan, IsStopped};
 ghost use Rattle.ps_resolve.specs.AllFaults.{first_fault};
 ghost use Rattle.ps_resolve.specs.Readings.{own_reading_fault, read_segments};
-ghost use Rattle.ps_resolve.specs.Views.{IsRead};
+ghost use Rattle.ps_resolve.specs.KnownSegments.{IsRead};
 
 use crate::linkage::Stop;
 use crate::linking::link_segments;

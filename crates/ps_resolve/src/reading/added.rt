@@ -1,15 +1,14 @@
-ghost use Rattle.std.specs.Prelude.{◌≡◌, ◌<◌, ◌≤◌, ◌+◌, ◌++◌, ◌∷◌, [], ℕ, List, All, if◌then◌else◌, length, take, slice_get};
+ghost use Rattle.std.specs.Prelude.{◌≡◌, ◌<◌, ◌≤◌, ◌+◌, ◌++◌, ◌∷◌, [], List, All, if◌then◌else◌, length, take, slice_get};
 ghost use Rattle.std.specs.List.{insert, list_any};
 ghost use Rattle.std.specs.Result.{result_err};
 ghost use Rattle.std.specs.Str.{bytes_eq};
 ghost use Rattle.arrayvec.specs.ArrayVec.{array_vec_len};
 ghost use Rattle.ps_codefile.specs.Roles.{is_empty as is_empty_role};
-ghost use Rattle.ps_words.specs.declared.order.Order.{Order as ByteOrder};
 ghost use Rattle.ps_resolve.specs.Sources.{opened, Segment as SegmentOfLink};
 ghost use Rattle.ps_resolve.specs.Added.{unit_references, all_unit_references, is_already_known as is_already_known_spec, requested_from, request_of, empty_slots as empty_slots_spec, unplaced_fault, rounds_from};
 ghost use Rattle.ps_resolve.specs.Faults.{is_role};
 ghost use Rattle.ps_resolve.specs.Readings.{read_segments};
-ghost use Rattle.ps_resolve.specs.Views.{put_by_slot, segments_in_slots, IsRead, AreAlike};
+ghost use Rattle.ps_resolve.specs.KnownSegments.{put_by_slot, segments_in_slots, IsRead, AreAlike};
 
 use crate::linkage::{RecordPlace, SegmentPlace};
 use crate::reading::request::{Request, Requester, read_unit, unit_named};
@@ -251,9 +250,6 @@ fn put<'a>(segments: &mut ArrayVec<Segment<'a>, 16>, segment: Segment<'a>)
     requires { array_vec_len segments.old < 16 }
     ensures segments { segments.new.items ≡ put_by_slot segment.entry segments.old.items }
     ensures len { length segments.new.items ≡ length segments.old.items + 1 }
-    ensures read { (order : ByteOrder) (host : List ℕ) (libs : List (List ℕ))
-        → All (IsRead order host libs) segments.old.items → IsRead order host libs segment.entry
-        → All (IsRead order host libs) segments.new.items }
 {
     let count = count_before(segments.as_slice(), segment.slot);
     segments.insert(count, segment);

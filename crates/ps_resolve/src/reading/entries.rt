@@ -8,7 +8,7 @@ ghost use Rattle.ps_linkinfo.specs.Records.{reading};
 ghost use Rattle.ps_codefile.specs.Roles.{needs_linking as needs_linking_spec, is_host as is_host_spec};
 ghost use Rattle.ps_resolve.specs.Sources.{file_at, information_block, records_of, segment_from, tables_of};
 ghost use Rattle.ps_resolve.specs.Faults.{code_fault, information_fault};
-ghost use Rattle.ps_resolve.specs.Views.{ArePlacedIn, IsPlaced, IsSound};
+ghost use Rattle.ps_resolve.specs.KnownSegments.{ArePlacedIn, IsRead};
 
 use crate::linkage::SegmentPlace;
 use crate::reading::segment::{Resolvable, Segment, records_at};
@@ -133,10 +133,9 @@ pub(crate) fn read_segment<'a>(
         → file_at host libs place.file ≡ from.now.file
         → IfOk result (λ s. segment_from from.now.order host libs place.slot name role
         (place.file, index) ≡ Some s) }
-    ensures placed { (host : List ℕ) (libs : List (List ℕ))
+    ensures read { (host : List ℕ) (libs : List (List ℕ))
         → file_at host libs place.file ≡ from.now.file
-        → IfOk result (IsPlaced from.now.order host libs) }
-    ensures sound { IfOk result (IsSound from.now.order) }
+        → IfOk result (IsRead from.now.order host libs) }
 {
     match from.code(index) {
         Err(reason) => Err(Fault::in_slot(place.file, place.slot, reason)),

@@ -3,7 +3,7 @@ ghost use Rattle.std.specs.Option.{option_map};
 ghost use Rattle.ps_codefile.specs.Roles.{is_host as is_host_spec};
 ghost use Rattle.ps_resolve.specs.Linkable.{IsHost};
 ghost use Rattle.ps_resolve.specs.Sources.{host_of as host_of_spec};
-ghost use Rattle.ps_resolve.specs.Views.{IsSound};
+ghost use Rattle.ps_resolve.specs.KnownSegments.{IsSound};
 
 use crate::reading::segment::Segment;
 use ps_codefile::code_layout::OUTER_BLOCK;

@@ -1,18 +1,16 @@
-ghost use Rattle.std.specs.Prelude.{◌≡◌, ◌<◌, length, Some, IfOk, IfSome, is_none, All};
-ghost use Rattle.std.specs.List.{find};
+ghost use Rattle.std.specs.Prelude.{◌≡◌, ℕ, ◌<◌, List, Some, IfOk, IfSome, is_none, All};
 ghost use Rattle.std.specs.Result.{result_err};
-ghost use Rattle.ps_codefile.specs.Dictionary.{slots};
-ghost use Rattle.ps_resolve.specs.Sources.{is_named, chosen_library as chosen_library_spec, opened};
+ghost use Rattle.ps_resolve.specs.Sources.{file_at, opened, unit_source};
 ghost use Rattle.ps_resolve.specs.Faults.{request_fault};
 ghost use Rattle.ps_resolve.specs.Requests.{as_requested as as_requested_spec, is_missing, missing_at, request_by_slot, requested_segment};
-ghost use Rattle.ps_resolve.specs.Views.{IsRead};
+ghost use Rattle.ps_resolve.specs.KnownSegments.{IsRead};
 
-use crate::linkage::{RecordPlace, SegmentPlace};
+use crate::linkage::{EntryPlace, RecordPlace, SegmentPlace};
 use crate::reading::entries::read_segment;
 use crate::reading::segment::Segment;
-use crate::reading::slots::{HOST_FILE, HostSlots, library_file};
-use crate::reading::units::{UnitSource, chosen_library, entries_reason};
-use ps_codefile::{Role, is_nameless};
+use crate::reading::slots::{HOST_FILE, HostSlots};
+use crate::reading::units::{chosen_library, entries_reason};
+use ps_codefile::{Dict, Role, is_nameless};
 use ps_words::{Fault, Name, Reason};
 
 /// Who requests a unit.
@@ -64,22 +62,22 @@ impl Request {
     }
 }
 
-/// The first library that has a filled entry of this name, and the first such entry in it.
+/// Where the unit of this name is: the first filled entry of the name, of the first library that has
+/// one, with the dictionary of that library.
 pub(crate) fn unit_named<'a>(
     host: &HostSlots<'a>,
     name: Name,
     libs: &'a [&'a [u8]],
-) -> Option<UnitSource<'a>>
+) -> Option<(Dict<'a>, EntryPlace)>
     ensures missing { is_none result
         ≡ is_missing host.now.order (opened host.now.order libs.now) name }
-    ensures library { IfSome result (λ u.
-        chosen_library_spec host.now.order name (opened host.now.order libs.now)
-        ≡ Some (u.library, u.dict.file)) }
-    ensures entry { IfSome result (λ u. find (is_named host.now.order name u.dict.file) slots
-        ≡ Some u.index) }
-    ensures order { IfSome result (λ u. u.dict.order ≡ host.now.order) }
-    ensures in_range { IfSome result (λ u. u.index < 16) }
-    ensures number { IfSome result (λ u. u.library < length libs.now) }
+    ensures source { IfSome result (λ u. unit_source host.now.order name
+        (opened host.now.order libs.now) ≡ Some (u.1.file, u.1.index)) }
+    ensures dict { (file : List ℕ) → IfSome result (λ u. u.0 ≡ record {
+      order = host.now.order;
+      file = file_at file (opened host.now.order libs.now) u.1.file;
+    }) }
+    ensures in_range { IfSome result (λ u. u.1.index < 16) }
 {
     if is_nameless(&name) {
         return None;
@@ -117,22 +115,15 @@ pub(crate) fn read_unit<'a>(
 {
     match unit_named(host, request.name, libs) {
         None => Err(request.missing()),
-        Some(unit) => match entries_reason(&unit.dict, request.name, unit.index) {
-            Some(reason) => Err(Fault::in_slot(library_file(unit.library), request.slot, reason)),
+        Some((dict, at)) => match entries_reason(&dict, request.name, at.index) {
+            Some(reason) => Err(Fault::in_slot(at.file, request.slot, reason)),
             None => {
-                let file = library_file(unit.library);
                 let place = SegmentPlace {
-                    file,
+                    file: at.file,
                     slot: request.slot,
                 };
-                let segment = read_segment(
-                    place,
-                    request.name,
-                    Role::Wanted,
-                    &unit.dict,
-                    unit.index,
-                    earlier,
-                )?;
+                let name = request.name;
+                let segment = read_segment(place, name, Role::Wanted, &dict, at.index, earlier)?;
                 Ok(as_requested(segment, request.requester))
             }
         },

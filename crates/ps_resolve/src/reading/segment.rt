@@ -2,7 +2,7 @@ ghost use Rattle.std.specs.Prelude.{◌≡◌, [], List, true, IfSome, ◌&&◌,
 ghost use Rattle.std.specs.Option.{option_map, option_map_or};
 ghost use Rattle.ps_linkinfo.specs.declared.record.LinkRecord.{LinkRecord as Record};
 ghost use Rattle.ps_codefile.specs.Roles.{needs_linking as needs_linking_spec};
-ghost use Rattle.ps_resolve.specs.Views.{has_records_at, HasRecordsAt};
+ghost use Rattle.ps_resolve.specs.KnownSegments.{has_records_at, HasRecordsAt};
 
 use crate::linkage::SegmentPlace;
 use ps_codefile::{ProcedureDictionary, Role};

@@ -5,7 +5,7 @@ ghost use Rattle.std.specs.Result.{result_err, result_ok};
 ghost use Rattle.ps_resolve.specs.Sources.{own_segment, opened};
 ghost use Rattle.ps_resolve.specs.Faults.{source_fault, sources_fault};
 ghost use Rattle.ps_resolve.specs.Readings.{read_segments};
-ghost use Rattle.ps_resolve.specs.Views.{IsRead};
+ghost use Rattle.ps_resolve.specs.KnownSegments.{IsRead};
 
 use crate::linkage::SegmentPlace;
 use crate::reading::entries::read_segment;

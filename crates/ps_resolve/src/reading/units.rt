@@ -1,24 +1,16 @@
-ghost use Rattle.std.specs.Prelude.{◌≡◌, ◌<◌, ◌≤◌, ◌&&◌, length, Some, IfSome};
+ghost use Rattle.std.specs.Prelude.{◌≡◌, ℕ, ◌<◌, ◌≤◌, ◌&&◌, List, Some, IfSome, is_none};
 ghost use Rattle.std.specs.List.{find, list_any, range_with_len};
 ghost use Rattle.std.specs.Option.{option_map};
 ghost use Rattle.ps_codefile.specs.Dictionary.{slots};
-ghost use Rattle.ps_resolve.specs.Sources.{is_named as is_named_spec, chosen_library as chosen_library_spec, opened, opened_file};
+ghost use Rattle.ps_resolve.specs.Sources.{chosen_library as chosen_library_spec, file_at, is_named as is_named_spec, opened, opened_file, unit_source};
 ghost use Rattle.ps_resolve.specs.Faults.{entries_reason as entries_reason_spec};
 
+use crate::linkage::EntryPlace;
+use crate::reading::slots::library_file;
 use ps_codefile::Dict;
 use ps_codefile::dictionary_layout::SLOTS;
 use ps_codefile::kinds::UNITSEG;
 use ps_words::{Name, Order, Reason};
-
-/// The entry of a library that a unit comes from.
-#[derive(Drop)]
-pub(crate) struct UnitSource<'a> {
-    /// The number of the library, from 0.
-    pub(crate) library: usize,
-    pub(crate) dict: Dict<'a>,
-    /// The slot of the entry in the library, 0 to 15.
-    pub(crate) index: u8,
-}
 
 /// The entry has a code in its file, and this name.
 fn is_named(dict: &Dict, name: Name, index: u8) -> bool
@@ -78,28 +70,25 @@ fn entry_in<'a>(order: Order, name: Name, lib: &'a [u8]) -> Option<(Dict<'a>, u8
     }
 }
 
-/// The first entry of this name of the first library that has one. A library that cannot be opened
-/// has none.
+/// Where the first entry of this name is, of the first library that has one, with the dictionary of
+/// that library. A library that cannot be opened has none.
 pub(crate) fn chosen_library<'a>(
     order: Order,
     name: Name,
     libs: &'a [&'a [u8]],
-) -> Option<UnitSource<'a>>
-    ensures library { option_map (λ u. (u.library, u.dict.file)) result
-        ≡ chosen_library_spec order name (opened order libs.now) }
-    ensures entry { IfSome result (λ u. find (is_named_spec order name u.dict.file) slots
-        ≡ Some u.index) }
-    ensures order { IfSome result (λ u. u.dict.order ≡ order) }
-    ensures in_range { IfSome result (λ u. u.index < 16) }
-    ensures number { IfSome result (λ u. u.library < length libs.now) }
+) -> Option<(Dict<'a>, EntryPlace)>
+    ensures none { is_none result
+        ≡ is_none (chosen_library_spec order name (opened order libs.now)) }
+    ensures source { IfSome result (λ u. unit_source order name (opened order libs.now)
+        ≡ Some (u.1.file, u.1.index)) }
+    ensures dict { (host : List ℕ) → IfSome result (λ u. u.0
+        ≡ record { order = order; file = file_at host (opened order libs.now) u.1.file }) }
+    ensures in_range { IfSome result (λ u. u.1.index < 16) }
 {
     for (library, lib) in libs.iter().enumerate() {
         if let Some((dict, index)) = entry_in(order, name, lib) {
-            return Some(UnitSource {
-                library,
-                dict,
-                index,
-            });
+            let file = library_file(library);
+            return Some((dict, EntryPlace { file, index }));
         }
     }
     None

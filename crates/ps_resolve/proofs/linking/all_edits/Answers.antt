@@ -13,7 +13,7 @@ use Rattle.ps_resolve.specs.Linking.{data_edits, edited_from}
 use Rattle.ps_resolve.specs.Privates.{owner_of, all_words}
 use Rattle.ps_resolve.specs.References.{Known, HaveTargets}
 use Rattle.ps_resolve.specs.Sources.{Segment}
-use Rattle.ps_resolve.specs.Views.{IsSound, IsLike}
+use Rattle.ps_resolve.specs.KnownSegments.{IsSound, IsLike}
 use Rattle.ps_resolve.proofs.AllSegments.{room_at, stop_at, words_on, first_on, links_on, none_left}
 use Rattle.ps_resolve.proofs.FirstSlots.{none_mapped}
 use Rattle.ps_resolve.proofs.Segs.{map_push}

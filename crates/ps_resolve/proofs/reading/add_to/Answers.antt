@@ -5,7 +5,7 @@ use Rattle.ps_resolve.specs.Sources.{Segment, opened, contents, units_of}
 use Rattle.ps_resolve.specs.Added.{RoundsOutcome, all_unit_references, empty_slots, requested_from}
 use Rattle.ps_resolve.specs.Added.{rounds_from}
 use Rattle.ps_resolve.specs.Readings.{read_rounds}
-use Rattle.ps_resolve.specs.Views.{segments_in_slots, AreAlike}
+use Rattle.ps_resolve.specs.KnownSegments.{segments_in_slots, AreAlike}
 use Rattle.ps_resolve.proofs.Adding.{references_both, requested-append, few_kept}
 use Rattle.ps_resolve.proofs.ReadingSlots.{all_of, in_rounds, requests_of}
 use Rattle.ps_resolve.proofs.Sharing.{read_alike}

@@ -1,6 +1,6 @@
 use Rattle.std.proofs.Common.{arith, sym}
 use Rattle.ps_resolve.specs.Sources.{Segment, contents, opened_files}
-use Rattle.ps_resolve.specs.Views.{IsRead, is_in_slot}
+use Rattle.ps_resolve.specs.KnownSegments.{IsRead, is_in_slot}
 use Rattle.ps_resolve.proofs.EachSegment.{find_has}
 use Rattle.ps_resolve.proofs.reading.HostReading.segment.Goals as goal
 

@@ -9,11 +9,12 @@ use Rattle.ps_resolve.specs.Sources.{Segment, opened}
 use Rattle.ps_resolve.specs.Added.{RoundsOutcome, requested_from, unit_references}
 use Rattle.ps_resolve.specs.Added.{all_unit_references, rounds_from}
 use Rattle.ps_resolve.specs.Linkable.{AscendFrom}
-use Rattle.ps_resolve.specs.Views.{put_by_slot, segments_in_slots}
+use Rattle.ps_resolve.specs.KnownSegments.{IsRead, put_by_slot, segments_in_slots}
 use Rattle.ps_resolve.specs.declared.reading.added.UnitReference.{UnitReference}
 use Rattle.ps_resolve.proofs.Adding.{at_round, kept, no_name_left, no_slot_left, round_refused}
 use Rattle.ps_resolve.proofs.Adding.{round_adds, joined, joined_more, references_more, few_kept}
-use Rattle.ps_resolve.proofs.BySlot.{empty_ascend, new_in, own_table, put_table, room_in_table}
+use Rattle.ps_resolve.proofs.BySlot.{All-put, empty_ascend, new_in, own_table, put_table}
+use Rattle.ps_resolve.proofs.BySlot.{room_in_table}
 use Rattle.ps_resolve.proofs.Segs.{drop_at}
 use Rattle.ps_resolve.proofs.reading.added.add_units.Goals as goal
 
@@ -196,8 +197,8 @@ loop-round-preserved c =
       );
       short = rw c.enqueue_segment.ensures
           (few_kept (requested_from units c.loop-round.queue.items gs));
-      read = c.put.ensures.read host.order host.file libs inv.read
-          c.in_ok-segment-in-Some.ensures.read;
+      read = rw c.put.ensures.segments (All-put (IsRead host.order host.file libs) s
+          c.loop-round.segments.items inv.read c.in_ok-segment-in-Some.ensures.read);
     }
 
 pub returns-in-None-requested_at : goal.returns-in-None-requested_at

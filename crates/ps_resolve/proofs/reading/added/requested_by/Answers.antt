@@ -4,7 +4,7 @@ use Rattle.std.proofs.lemmas.List.Elements.{All-take}
 use Rattle.ps_linkinfo.specs.declared.record.LinkRecord.{LinkRecord as Record}
 use Rattle.ps_resolve.specs.Sources.{Segment}
 use Rattle.ps_resolve.specs.Added.{AreAlreadyKnown}
-use Rattle.ps_resolve.specs.Views.{IsLike}
+use Rattle.ps_resolve.specs.KnownSegments.{IsLike}
 use Rattle.ps_resolve.specs.declared.reading.added.UnitReference.{UnitReference}
 use Rattle.ps_resolve.proofs.Requesting.{nothing_new, requested_more}
 use Rattle.ps_resolve.proofs.Sharing.{of_shared}

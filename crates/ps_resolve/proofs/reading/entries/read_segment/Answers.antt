@@ -3,9 +3,9 @@ use Rattle.ps_codefile.specs.Dictionary.{entry_at}
 use Rattle.ps_resolve.proofs.ReadingCodes.{whole}
 use Rattle.ps_resolve.proofs.reading.entries.read_segment.Goals as goal
 
-pub returns-in_ok-resolvable-in-Ok-clause-sound : goal.returns-in_ok-resolvable-in-Ok-clause-sound
-returns-in_ok-resolvable-in-Ok-clause-sound c =
+pub returns-in_ok-resolvable-in-Ok-clause-read : goal.returns-in_ok-resolvable-in-Ok-clause-read
+returns-in_ok-resolvable-in-Ok-clause-read c = λ host libs there.
     let from = c.args.from.now in
     let is = whole from.file (entry_at from.order from.file c.args.index) c.in-Ok.code.now
     c.in-Ok.ensures in
-    grind arith
+    record { placed = grind arith; sound = grind arith }

@@ -1,9 +1,10 @@
-use Rattle.std.proofs.Common.{rules, arith, ◌∙◌, ℕ, List, sym, ap}
+use Rattle.std.proofs.Common.{rules, arith, ◌∙◌, ℕ, List, sym, ap, subst}
 use Rattle.std.proofs.lemmas.Result.{err_from_is_err_and}
 use Rattle.ps_codefile.specs.Dictionary.{OpenedFile}
 use Rattle.ps_codefile.specs.declared.entry.Entry.{Entry}
 use Rattle.ps_resolve.specs.Sources.{segment_from, opened}
 use Rattle.ps_resolve.specs.Faults.{code_fault}
+use Rattle.ps_resolve.specs.KnownSegments.{IsRead}
 use Rattle.ps_resolve.proofs.ReadingSources.{own_fault, read_from_host}
 use Rattle.ps_resolve.proofs.Requested.{wanted_is, wanted_segment}
 use Rattle.ps_resolve.proofs.reading.sources.read_slot.Goals as goal
@@ -48,7 +49,8 @@ returns-in_ok-own-in-Plain c =
           ∙ (ap (λ (o : OpenedFile). segment_from o.order host.file libs c.args.slot
           c.entry.result.name c.in-Ok.role (0, c.args.slot)) (sym dict)
           ∙ c.in_ok-own-in-Plain.ensures.segment host.file libs file)));
-      read = grind arith;
+      read = subst (λ (o : OpenedFile). IsRead o.order host.file libs c.in_ok-own-in-Plain.own)
+          dict (c.in_ok-own-in-Plain.ensures.read host.file libs file);
     }
 
 pub returns-in_err-wanted-in-Wanted : goal.returns-in_err-wanted-in-Wanted

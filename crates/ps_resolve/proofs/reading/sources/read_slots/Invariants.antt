@@ -6,7 +6,7 @@ use Rattle.ps_resolve.specs.Searches.{first_of}
 use Rattle.ps_resolve.specs.Sources.{opened}
 use Rattle.ps_resolve.specs.Faults.{source_fault, sources_fault}
 use Rattle.ps_resolve.specs.Readings.{read_segment, read_segments}
-use Rattle.ps_resolve.specs.Views.{IsRead}
+use Rattle.ps_resolve.specs.KnownSegments.{IsRead}
 use Rattle.ps_resolve.proofs.reading.sources.read_slots.Given as goal
 
 -- the segments so far and those of the slots that are left are all, and so is the first fault

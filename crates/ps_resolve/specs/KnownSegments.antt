@@ -1,4 +1,4 @@
--- What is known of the segments once the files were read without a fault.
+-- What is known of the segments that were read, and which of them is in which slot.
 -- Source: this project's profile.
 use Rattle.std.specs.Prelude.{◌≡◌, ◌≤◌, ◌*◌, ◌==◌, nat_lt, if◌then◌else◌}
 use Rattle.std.specs.Prelude.{ℕ, All, List, [], ◌∷◌, length, drop, Bool, true, Option, Some}
@@ -14,13 +14,8 @@ use Rattle.ps_codefile.specs.Roles.{needs_linking, is_host, is_empty}
 use Rattle.ps_resolve.specs.Sources.{Segment, file_at}
 use Rattle.ps_resolve.specs.Faults.{is_role}
 
--- the link information of the segment, where its references are resolved, begins in its block of
--- its file, and its records are all that are there
-abbrev pub IsPlaced : Order → List ℕ → List (List ℕ) → Segment → Type 0
-IsPlaced order host libs s = needs_linking s.role ≡ true
-    → reading order (drop (block_len * s.block) (file_at host libs s.file)) ≡ (s.records, None)
-
--- so it is with those of the segments that are from this file, which has this number
+-- the records of each segment that is from this file, which has this number, are all that are in
+-- its block there and after it, where its references are resolved
 abbrev pub ArePlacedIn : Order → List ℕ → ℕ → List Segment → Type 0
 ArePlacedIn order file k segs = All (λ s. s.file ≡ k → needs_linking s.role ≡ true
     → reading order (drop (block_len * s.block) file) ≡ (s.records, None)) segs
@@ -77,8 +72,11 @@ pub record IsSound (order : Order) (s : Segment) : Type 0 where
       → s.tables ≡ Some (record { order = order; code = s.code })
   pub slot : s.slot ≤ 15
 
--- a segment as the files have it: its records are those of its place, and it is sound
+-- a segment as the files have it: its records, if its references are resolved, are all that are in
+-- its block of its file and after it, and it is sound
 pub record IsRead (order : Order) (host : List ℕ) (libs : List (List ℕ))
     (s : Segment) : Type 0 where
-  pub placed : IsPlaced order host libs s
+  pub placed : needs_linking s.role ≡ true
+      → reading order (drop (block_len * s.block) (file_at host libs s.file))
+      ≡ (s.records, None)
   pub sound : IsSound order s
