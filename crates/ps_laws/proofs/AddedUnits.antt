@@ -6,12 +6,12 @@ use Rattle.std.proofs.Common.{true, false, refl, sym, ap, subst, ◌∙◌, inl,
 use Rattle.std.proofs.Common.{is_some, length-append, length-take, take}
 use Rattle.ps_laws.proofs.Words.{◌⊎◌, ◌≢◌, slice_get, AddedUnits}
 use Rattle.ps_laws.proofs.Words.{if◌then◌else◌, is_unit_reference, all_unit_references, Order}
-use Rattle.ps_laws.proofs.Words.{list_any, bytes_eq, cases_lt, entry_at, SomeItem, source_of, Asks}
+use Rattle.ps_laws.proofs.Words.{bytes_eq, cases_lt, entry_at, SomeItem, source_of, Asks}
 use Rattle.ps_laws.proofs.Words.{lookup, Record, Before, IsGiver, Reason}
 use Rattle.ps_laws.proofs.Words.{option_map, IsUnitSlot, Role, role_fault, code_fault, own_segment}
 use Rattle.ps_laws.proofs.Words.{bytes_eq-Decides, information_of, unit_references}
 use Rattle.ps_laws.proofs.Words.{cases_order, false≢true, added_fault, unit_source, UnitReference}
-use Rattle.ps_laws.proofs.Words.{role_of, code_of, IsOfFile, HasRole, reading, is_unit, Segment}
+use Rattle.ps_laws.proofs.Words.{code_of, IsOfFile, HasRole, reading, is_unit, Segment}
 use Rattle.ps_laws.proofs.Words.{enumerate_from, nat_lt, requested_from, added_segments}
 use Rattle.ps_laws.proofs.Words.{request_by_slot, needs_linking}
 use Rattle.std.proofs.lemmas.Bool.{or_cases, or_left}
@@ -19,7 +19,7 @@ use Rattle.std.proofs.lemmas.Option.{slice_get_within, slice_get-map}
 use Rattle.ps_resolve.specs.Added.{is_already_known, requested_units}
 use Rattle.ps_codefile.specs.declared.entry.Role.TheVariants as role
 use Rattle.ps_resolve.specs.Faults.{sources_fault}
-use Rattle.ps_resolve.specs.Sources.{information_block, segment_from, own_segments}
+use Rattle.ps_resolve.specs.Sources.{information_block, own_segments}
 use Rattle.ps_resolve.specs.RequestedUnits.{HasSlot, AreGiven, IsOfFirstLibrary}
 use Rattle.ps_laws.proofs.Least.{not_both}
 use Rattle.ps_laws.proofs.Looking.{any_of_items, is_there}
@@ -36,7 +36,7 @@ use Rattle.ps_laws.proofs.UnitPlaces.{unit_place}
 use Rattle.ps_laws.proofs.OneQueue.{giver_of_front}
 use Rattle.ps_resolve.proofs.OfRounds.{in_empty, name_placed, queue_of, round_at, segment_named}
 use Rattle.ps_resolve.proofs.Requesting.{grown}
-use Rattle.ps_laws.proofs.Asked.{reference_of, all_known, own_in, own_at, units_named}
+use Rattle.ps_laws.proofs.Asked.{is_had_there, reference_of, all_known, own_in, own_at, units_named}
 use Rattle.ps_laws.proofs.Asked.{reference_in, references_are}
 
 -- 1. the references of a sequence of segments
@@ -122,23 +122,15 @@ asks_at : (segs : List Segment) (j rec : ℕ) (name : List ℕ) → Asks segs j 
 asks_at [] j rec name t = absurd (let e = t.1 in cc)
 asks_at (q ∷ ss) zero rec name t =
     let there : slice_get q.records rec ≡ Some t.2 = (let a = t.1 in let b = t.3 in cc) in
-    let r = reference_of q.file q.slot 0 q.records rec t.2 there t.4 in (
-      r.0,
-      r.1,
-      owner_first q ss r.0 r.1 r.2,
-      at_left (references_of q) (all_unit_references ss) r.0 r.1 r.2,
-      r.3 ∙ t.5,
-      (let h = r.4 in omega (arith, h)),
-    )
+    let r = reference_of q.file q.slot 0 q.records rec t.2 there t.4 in
+    let at = at_left (references_of q) (all_unit_references ss) r.0 r.1 r.2 in
+    let number : r.1.rec ≡ rec = (let h = r.4 in omega (arith, h)) in
+    (r.0, r.1, owner_first q ss r.0 r.1 r.2, at, r.3 ∙ t.5, number)
 asks_at (q ∷ ss) (suc j) rec name t =
-    let r = asks_at ss j rec name t in (
-      length (references_of q) + r.0,
-      r.1,
-      owner_later q ss r.0 ∙ ap suc r.2,
-      right_at (references_of q) (all_unit_references ss) r.0 ∙ r.3,
-      r.4,
-      r.5,
-    )
+    let r = asks_at ss j rec name t in
+    let own = owner_later q ss r.0 ∙ ap suc r.2 in
+    let at = right_at (references_of q) (all_unit_references ss) r.0 ∙ r.3 in
+    (length (references_of q) + r.0, r.1, own, at, r.4, r.5)
 
 -- they are in the order of their segments and, in each of these, of their records
 in_order : (segs : List Segment) (p q : ℕ) (g h : UnitReference) → p < q
@@ -217,30 +209,20 @@ module _ (units : List (List ℕ × ℕ)) where
       → IsEarliest units queue gs k p g → q < p → slice_get gs q ≡ Some h
       → h.name ≢ g.name
   distinct queue gs k p q g h t l e same =
-      let known = all_known units queue (take p gs) h q (in_front p gs q h l e) in
-      false≢true (sym t.2
-      ∙ ap (is_already_known units (requested_from units queue (take p gs))) (sym same) ∙ known)
+      let known = all_known units queue _ h q (in_front p gs q h l e) in
+      false≢true (sym t.2 ∙ ap (is_already_known units _) (sym same) ∙ known)
 
 -- the earliest reference of a name is of the first record of all that requests it
 giver : (units : List (List ℕ × ℕ)) (segs : List Segment) (k p : ℕ) (g : UnitReference)
     → IsEarliest units [] (all_unit_references segs) k p g → IsGiver segs (owner segs p) g
-giver units segs k p g t = (
-  (of.0, of.1, of.3.5, of.3.6),
-  (
-    of.0,
-    of.1,
-    of.3.0,
-    subst (λ (n : ℕ). slice_get of.0.records n ≡ Some of.3.0)
-        (let a = of.3.4 in omega (arith, a)) of.3.1,
-    of.3.2,
-    of.3.3,
-  ),
-  first,
-)
+giver units segs k p g t = ((of.0, of.1, of.3.5, of.3.6), asked, first)
   where
     of : (s : Segment) × (slice_get segs (owner segs p) ≡ Some s) × (d : ℕ)
         × IsOf s.file s.slot 0 s.records g d
     of = of_place segs p g t.0
+
+    asked : Asks segs (owner segs p) g.rec g.name
+    asked = (of.0, of.1, of.3.0, (let a = of.3.4 in let b = of.3.1 in grind arith), of.3.2, of.3.3)
 
     first : (j k : ℕ) → Before (j ∷ k ∷ []) (owner segs p ∷ g.rec ∷ [])
         → Asks segs j k g.name → ⊥
@@ -252,10 +234,7 @@ giver units segs k p g t = (
           | inl same ↦
               let one : a.1 ≡ g = (let u = a.3 in let v = t.0 in cc) in
               let itself : Before (owner segs p ∷ g.rec ∷ []) (owner segs p ∷ g.rec ∷ []) =
-              subst (λ (h : UnitReference). Before (owner segs p ∷ h.rec ∷ [])
-              (owner segs p ∷ g.rec ∷ [])) one
-              (subst (λ (m : ℕ). Before (owner segs m ∷ a.1.rec
-              ∷ []) (owner segs p ∷ g.rec ∷ [])) same before) in
+              rw (same, one) at before in
               not_both (owner segs p ∷ g.rec ∷ []) (owner segs p ∷ g.rec ∷ []) itself itself
           | inr u ↦ elim u [
             | inl l ↦ distinct units [] (all_unit_references segs) k p a.0 g a.1 t l a.3 a.4
@@ -274,9 +253,8 @@ module _ (order : Order) (host : List ℕ) where
   unfolding requested_units
   given libs segs k g e =
       let all = own_segments order host libs ++ segs in
-      let t = requested_at (own_units order host libs) [] (all_unit_references all) k g
-      (omega arith) e in
-      (owner all t.0, giver (own_units order host libs) all k t.0 g t.1)
+      let t = requested_at _ [] _ k g (omega arith) e in
+      (owner all t.0, giver _ all k t.0 g t.1)
 
   -- 4. what the host's own slots have
   -- a slot of a unit's role is a unit slot
@@ -289,12 +267,10 @@ module _ (order : Order) (host : List ℕ) (libs : List (List ℕ)) where
   pub own_is : (slot : ℕ) (s : Segment)
       → own_segment order host libs slot ≡ Some s → (r : Role)
       × HasRole order host slot r × (s.role ≡ r) × (s.name ≡ (entry_at order host slot).name)
-  own_is slot s e = let t = made_from order host libs slot s e in (
-    t.0,
-    ok_is (role_of (entry_at order host slot)) t.0 t.1,
-    ap (λ (q : Segment). q.role) t.3.is,
-    ap (λ (q : Segment). q.name) t.3.is,
-  )
+  own_is slot s e =
+      let t = made_from order host libs slot s e in
+      let role = ap (λ (q : Segment). q.role) t.3.is in
+      (t.0, ok_is _ t.0 t.1, role, ap (λ (q : Segment). q.name) t.3.is)
 
   -- the name of a unit among the host's own segments is that of a unit slot of the host
   slot_of_unit : (name : List ℕ) → is_some (lookup (bytes_eq name) (own_units order host libs))
@@ -302,14 +278,9 @@ module _ (order : Order) (host : List ℕ) (libs : List (List ℕ)) where
   slot_of_unit name e =
       let t = (units_named name (own_segments order host libs)).0 e in
       let o = own_at order host libs t.1 (t.0, t.2) in
-      let r = own_is o.0 t.1 o.2 in (
-        o.0,
-        o.1,
-        (
-          unit_slot order host o.0 r.0 (sym (ap is_unit r.2) ∙ t.3.0) r.1,
-          sym r.3 ∙ t.3.1,
-        ),
-      )
+      let r = own_is o.0 t.1 o.2 in
+      let unit = unit_slot order host o.0 r.0 (sym (ap is_unit r.2) ∙ t.3.0) r.1 in
+      (o.0, o.1, (unit, sym r.3 ∙ t.3.1))
 
   -- a slot that is not empty has a source, in whose code there is no fault
   source_there : (slot : ℕ) (r : Role) → r ≢ role.Empty
@@ -319,8 +290,7 @@ module _ (order : Order) (host : List ℕ) (libs : List (List ℕ)) where
   source_there slot role.Empty filled e = absurd (filled refl)
   source_there slot role.Wanted filled e =
       let parts = request_parts order host libs (request_by_slot order host slot) e in
-      let at = is_there (unit_source order (entry_at order host slot).name libs)
-      (unit_there order (entry_at order host slot).name libs parts.0) in
+      let at = is_there _ (unit_there order (entry_at order host slot).name libs parts.0) in
       (at.0, at.1, rw at.1 at parts.2)
   source_there slot other filled e = ((0, slot), refl, e)
 
@@ -331,8 +301,7 @@ module _ (order : Order) (host : List ℕ) (libs : List (List ℕ)) where
   has_own fine slot inside r has filled =
       let at = source_there slot r filled (role_none order host libs fine slot inside r has) in
       let name = (entry_at order host slot).name in
-      let s = is_there (segment_from order host libs slot name r at.0)
-      (source_made order host libs slot name r at.0 at.2) in
+      let s = is_there _ (source_made order host libs slot name r at.0 at.2) in
       (s.0, rw (has, at.1) s.1)
 
   -- where the sources have no fault, the name of a unit slot is that of a unit among the host's own
@@ -395,87 +364,64 @@ same_items {A} (x ∷ xs) (y ∷ ys) e =
 module _ (order : Order) (host : List ℕ) (libs : List (List ℕ))
     (fine : sources_fault order host libs ≡ None) (ended : added_fault order host libs ≡ None)
   where
-    queue_is : queue_of order host libs ≡ requested_from (own_units order host libs) []
-        (all_unit_references (own_segments order host libs ++ added_segments order host libs))
-    unfolding requested_units
-    queue_is = refl
+    abbrev queue : List UnitReference
+    queue = queue_of order host libs
 
-    at_queue : (k : ℕ) (g : UnitReference) → slice_get (queue_of order host libs) k ≡ Some g
-        → slice_get (requested_from (own_units order host libs) [] (all_unit_references
-        (own_segments order host libs ++ added_segments order host libs))) k ≡ Some g
-    at_queue k g e = sym (ap (λ (r : List UnitReference). slice_get r k) queue_is) ∙ e
+    abbrev all : List Segment
+    all = own_segments order host libs ++ added_segments order host libs
+
+    earliest : (k : ℕ) (g : UnitReference) → slice_get queue k ≡ Some g
+        → (p : ℕ) × IsEarliest (own_units order host libs) [] (all_unit_references all) k p g
+    unfolding requested_units
+    earliest k g e = requested_at (own_units order host libs) [] (all_unit_references all) k g
+        (omega arith) e
 
     not_slot : (queue : List UnitReference) (name : List ℕ)
         → is_already_known (own_units order host libs) queue name ≡ false
         → HasSlot order host name → ⊥
     not_slot queue name none has = grind (arith, false≢true, or_left, own_units, unit_of_slot)
 
-    is_requested : (k : ℕ) (g : UnitReference) → slice_get (queue_of order host libs) k
-        ≡ Some g → ((i : ℕ) × (i < length (own_segments order host libs) + k)
-        × IsGiver (own_segments order host libs ++ added_segments order host libs) i g)
+    is_requested : (k : ℕ) (g : UnitReference) → slice_get queue k ≡ Some g
+        → ((i : ℕ) × (i < length (own_segments order host libs) + k) × IsGiver all i g)
         × (HasSlot order host g.name → ⊥)
     is_requested k g e =
         let own = own_segments order host libs in
         let segs = added_segments order host libs in
-        let t = requested_at (own_units order host libs) [] (all_unit_references (own ++ segs)) k g
-        (omega arith) (at_queue k g e) in
-        let p = given order host libs (take k segs) k g
-        (name_placed order host libs ended k g e).1.earlier in
-        let within = slice_get_within (own ++ take k segs) p.0 p.1.0.0 p.1.0.1 in
+        let p = given order host libs _ k g (name_placed order host libs ended k g e).1.earlier in
+        let within = slice_get_within _ p.0 p.1.0.0 p.1.0.1 in
         let joined = length-append own (take k segs) in
         let front = length-take k segs in
         let below : p.0 < length own + k = omega (arith, within, joined, front) in
-        ((p.0, below, giver_of_front own segs k p.0 g below p.1), not_slot _ g.name t.1.2)
+        let giver = giver_of_front own segs k p.0 g below p.1 in
+        ((p.0, below, giver), not_slot _ g.name (earliest k g e).1.2)
 
-    is_complete : (i rec : ℕ) (name : List ℕ) → Asks (own_segments order host libs
-        ++ added_segments order host libs) i rec name → HasSlot order host name
-        ⊎ SomeItem (queue_of order host libs) (λ k g. g.name ≡ name)
+    is_complete : (i rec : ℕ) (name : List ℕ) → Asks all i rec name
+        → HasSlot order host name ⊎ SomeItem queue (λ k g. g.name ≡ name)
     is_complete i rec name asks =
-        let segs = own_segments order host libs ++ added_segments order host libs in
-        let a = asks_at segs i rec name asks in
-        let known : is_already_known (own_units order host libs) (queue_of order host libs) name
-        ≡ true =
-        ap (λ (r : List UnitReference). is_already_known
-        (own_units order host libs) r name) queue_is
-        ∙ (ap (λ (n : List ℕ). is_already_known (own_units order host libs)
-        (requested_from (own_units order host libs) [] (all_unit_references segs)) n) (sym a.4)
-        ∙ all_known (own_units order host libs) [] (all_unit_references segs) a.1 a.0 a.3) in
-        elim (or_cases (is_some (lookup (bytes_eq name) (own_units order host libs)))
-        (list_any (λ (g : UnitReference). bytes_eq g.name name) (queue_of order host libs))
-        known) [
+        let a = asks_at all i rec name asks in
+        elim (or_cases _ _ (rw a.4 at (is_had_there order host libs a.1 (a.0, a.3)))) [
           | inl e ↦ inl (slot_of_unit order host libs name e)
-          | inr e ↦ inr ((any_of_items (λ (g : UnitReference). bytes_eq g.name name)
-              (λ (g : UnitReference). g.name ≡ name) (λ g. bytes_eq-Decides g.name name)
-              (queue_of order host libs)).0 e)
+          | inr e ↦ inr ((any_of_items (λ (g : UnitReference). bytes_eq g.name name) (λ (g :
+              UnitReference). g.name ≡ name) (λ g. bytes_eq-Decides g.name name) _).0 e)
         ]
 
-    are_given : (j k : ℕ) (g h : UnitReference) → j < k → slice_get
-        (queue_of order host libs) j ≡ Some g → slice_get (queue_of order host libs) k
-        ≡ Some h → AreGiven (own_segments order host libs ++ added_segments order host libs) g h
+    are_given : (j k : ℕ) (g h : UnitReference) → j < k → slice_get queue j ≡ Some g
+        → slice_get queue k ≡ Some h → AreGiven all g h
     are_given j k g h l e u =
-        let segs = own_segments order host libs ++ added_segments order host libs in
-        let t = requested_at (own_units order host libs) [] (all_unit_references segs) j g
-        (omega arith) (at_queue j g e) in
-        let u = requested_at (own_units order host libs) [] (all_unit_references segs) k h
-        (omega arith) (at_queue k h u) in (
-          owner segs t.0,
-          owner segs u.0,
-          giver (own_units order host libs) segs j t.0 g t.1,
-          giver (own_units order host libs) segs k u.0 h u.1,
-          in_order segs t.0 u.0 g h (in_turn (own_units order host libs) []
-              (all_unit_references segs) j k t.0 u.0 g h l t.1 u.1) t.1.0 u.1.0,
-        )
+        let t = earliest j g e in
+        let v = earliest k h u in
+        let gives = giver _ all j t.0 g t.1 in
+        let follows = giver _ all k v.0 h v.1 in
+        let turn = in_turn _ [] _ j k t.0 v.0 g h l t.1 v.1 in
+        (owner all t.0, owner all v.0, gives, follows, in_order all t.0 v.0 g h turn t.1.0 v.1.0)
 
-    apart : (j k : ℕ) (g h : UnitReference) → j < k
-        → slice_get (queue_of order host libs) j ≡ Some g
-        → slice_get (queue_of order host libs) k ≡ Some h → g.name ≡ h.name → ⊥
-    apart j k g h l e u same =
-        let t = are_given j k g h l e u in
-        t.3.2 t.0 g.rec t.4 (subst (λ (n : List ℕ). Asks
-        (own_segments order host libs ++ added_segments order host libs) t.0 g.rec n) same t.2.1)
+    apart : (j k : ℕ) (g h : UnitReference) → j < k → slice_get queue j ≡ Some g
+        → slice_get queue k ≡ Some h → g.name ≡ h.name → ⊥
+    apart j k g h l e u same = let t = are_given j k g h l e u in
+        t.3.2 t.0 g.rec t.4 (subst (λ (n : List ℕ). Asks all t.0 g.rec n) same t.2.1)
 
-    is_once : (j k : ℕ) (g h : UnitReference) → slice_get (queue_of order host libs) j ≡ Some
-        g → slice_get (queue_of order host libs) k ≡ Some h → g.name ≡ h.name → j ≡ k
+    is_once : (j k : ℕ) (g h : UnitReference) → slice_get queue j ≡ Some g
+        → slice_get queue k ≡ Some h → g.name ≡ h.name → j ≡ k
     is_once j k g h e u same = not_apart j k (λ l. apart j k g h l e u same)
         (λ l. apart k j h g l u e (sym same))
 

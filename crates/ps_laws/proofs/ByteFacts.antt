@@ -79,24 +79,16 @@ becomes : (order : Order) (segs : List Segment) → IsBase segs (next_of (host_r
     → target_in (known_of segs) (private_offset segs s.slot rec) name body ≡ Ok t
     → Becomes segs s rec name body x (stored_bytes order (edit_of s.code t x))
 becomes order segs base s rec name (PrivRef words refs) i x t g e =
-    let is : Base (private_offset segs s.slot rec) ≡ t = cc in (
-      next_of (host_records segs),
-      base,
-      ap
-          (λ u. stored_bytes order (edit_of s.code u x)) (sym is),
-    )
+    let is : Base (private_offset segs s.slot rec) ≡ t = cc in
+    (next_of (host_records segs), base, ap (λ u. stored_bytes order (edit_of s.code u x)) (sym is))
 becomes order segs base s rec name (UnitRef refs) i x t g e =
-    let u = slot_found (lookup (bytes_eq name) (units_of segs)) t e in (
-      u.0,
-      unit_slot_is name segs u.0 u.1,
-      ap (λ v. stored_bytes order (edit_of s.code v x)) u.2,
-    )
+    let u = slot_found (lookup (bytes_eq name) (units_of segs)) t e in
+    let stored = ap (λ v. stored_bytes order (edit_of s.code v x)) u.2 in
+    (u.0, unit_slot_is name segs u.0 u.1, stored)
 becomes order segs base s rec name (PublRef refs) i x t g e =
-    let u = base_found (definition_of name (definitions (host_records segs))) t e in (
-      u.0.value,
-      public_is segs name u.0.value (given name (host_records segs) u.0 u.1 u.2),
-      ap (λ v. stored_bytes order (edit_of s.code v x)) u.3,
-    )
+    let u = base_found (definition_of name (definitions (host_records segs))) t e in
+    let value = public_is segs name u.0.value (given name (host_records segs) u.0 u.1 u.2) in
+    (u.0.value, value, ap (λ v. stored_bytes order (edit_of s.code v x)) u.3)
 becomes order segs base s rec name other i x t g e = absurd (cc)
 
 -- what names one thing becomes one

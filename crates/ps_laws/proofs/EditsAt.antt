@@ -98,12 +98,10 @@ module _ (order : Order) (segs : List Segment) (s : Segment)
   is_reference : (p : ℕ) (f : Edit) → In f others → covers p f ≡ true
       → IsOfReference segs s p f
   is_reference p f t on =
-      let u = of_flat (λ (r : ℕ × Record). record_edits (known_of segs) s.code
-      (private_offset segs s.slot r.0) r.1) (enumerate_from 0 s.records) f t in
+      let u = of_flat (λ (r : ℕ × Record). record_edits (known_of segs) s.code _ r.1) _ f t in
       let n = of_numbered 0 s.records u.1.0 u.0 u.1.1 in
       let at : u.1.0 ≡ u.0.0 = (let h = n.0 in omega (arith, h)) in
-      go u.0.0 u.0.1 (subst (λ m. slice_get s.records m ≡ Some u.0.1) at n.1)
-      (target_of (known_of segs) (offset u.0.0) u.0.1) refl u.2.0 u.2.1
+      go u.0.0 u.0.1 (subst (λ m. slice_get s.records m ≡ Some u.0.1) at n.1) _ refl u.2.0 u.2.1
     where
       go : (rec : ℕ) (r : Record) → slice_get s.records rec ≡ Some r → (o : Result Target
           Reason) → target_of (known_of segs) (offset rec) r ≡ o → (k : ℕ) → slice_get
@@ -140,12 +138,11 @@ module _ (order : Order) (segs : List Segment) (s : Segment)
       × (covers p (edit_of s.code t x) ≡ true)
   reference_covers p rec i x r t h u e =
       let g = edit_place s.code t x in
-      let w = edit_width segs (offset rec) r.name r.body i x s.code t u.0.1 e in
+      let w = edit_width segs _ r.name r.body i x s.code t u.0.1 e in
       let a = u.1.0 in
       let b = u.1.1 in (
-        behind (edit_of s.code t x) h (in_right own others (edit_of s.code t x) there),
-        covering (place_of (edit_of s.code t x)) p (width (edit_of s.code t x))
-            (omega (arith, a, g)) (omega (arith, b, g, w)),
+        behind _ h (in_right own others _ there),
+        covering _ p _ (omega (arith, a, g)) (omega (arith, b, g, w)),
       )
     where
       mine : List Edit
@@ -156,14 +153,10 @@ module _ (order : Order) (segs : List Segment) (s : Segment)
 
       there : In (edit_of s.code t x) others
       there =
-          in_flat (λ (r : ℕ × Record). record_edits (known_of segs) s.code
-          (private_offset segs s.slot r.0) r.1) (enumerate_from 0 s.records) (rec, r)
-          (edit_of s.code t x) (
+          in_flat (λ (r : ℕ × Record). record_edits (known_of segs) s.code _ r.1) _ (rec, r) _ (
             rec,
-            in_numbered 0 s.records rec r u.0.0
-                ∙ ap (λ m. Some (m, r)) (omega arith),
+            in_numbered 0 s.records rec r u.0.0 ∙ ap (λ m. Some (m, r)) (omega arith),
           ) (
             i,
-            ap (λ es. slice_get es i) mine_is
-                ∙ map_at (edit_of s.code t) (refs_of r.body) i x u.0.1,
+            ap (λ es. slice_get es i) mine_is ∙ map_at _ _ i x u.0.1,
           )

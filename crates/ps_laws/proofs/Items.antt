@@ -2,7 +2,8 @@
 use Rattle.std.proofs.Common.{rules, ◌≡◌, ℕ, zero, suc, ◌+◌, ◌<◌, ◌≤◌, List}
 use Rattle.std.proofs.Common.{[], ◌∷◌, ◌++◌, length, take, Option, Some, None, Bool, true}
 use Rattle.std.proofs.Common.{false, refl, ap, ◌∙◌, inl, inr, arith}
-use Rattle.ps_laws.proofs.Words.{if◌then◌else◌, range_with_len, slice_get, filter_map}
+use Rattle.ps_laws.proofs.Words.{◌⊎◌, if◌then◌else◌, range_with_len, slice_get}
+use Rattle.ps_laws.proofs.Words.{filter_map}
 use Rattle.ps_laws.proofs.Words.{enumerate_from}
 use Rattle.ps_laws.proofs.Words.{flat_map, cons_option, find, cases_lt, cases_order}
 use Rattle.std.specs.List.{filter}
@@ -26,48 +27,37 @@ module _ {A : Type 0} (xs ys : List A) (a : A) where
 pub in_flat : {A C : Type 0} (f : A → List C) (xs : List A) (x : A) (y : C) → In x xs
     → In y (f x) → In y (flat_map f xs)
 in_flat f [] x y t u = absurd (let e = t.1 in cc)
-in_flat {A} {C} f (z ∷ xs) x y t u = go (λ i e. in_flat f xs x y (i, e) u) t.0 t.1
-  where
-    go : ((i : ℕ) → slice_get xs i ≡ Some x → In y (flat_map f xs)) → (i : ℕ)
-        → slice_get (z ∷ xs) i ≡ Some x → In y (f z ++ flat_map f xs)
-    go h1 h2 h3 = grind (arith, in_left, in_right)
+in_flat f (z ∷ xs) x y (zero, e) u =
+    let same : z ≡ x = cc in in_left (f z) (flat_map f xs) y (rw same u)
+in_flat f (z ∷ xs) x y (suc i, e) u =
+    in_right (f z) (flat_map f xs) y (in_flat f xs x y (i, e) u)
+
+-- what is in a list with one more item, if there is one
+in_more : {C : Type 0} (o : Option C) (ys : List C) (y : C) → In y ys → In y (cons_option o ys)
+in_more None ys y t = t
+in_more (Some c) ys y t = (suc t.0, t.1)
+
+of_more : {C : Type 0} (o : Option C) (ys : List C) (y : C) → In y (cons_option o ys)
+    → (o ≡ Some y) ⊎ In y ys
+of_more o ys y t = grind arith
 
 -- what an item gives is in the list of what all give
 pub in_filter_map : {A C : Type 0} (f : A → Option C) (xs : List A) (x : A) (y : C) → In x xs
     → f x ≡ Some y → In y (filter_map f xs)
 in_filter_map f [] x y t u = search (rules, arith)
-in_filter_map {A} {C} f (z ∷ xs) x y t u = go (λ i e. in_filter_map f xs x y (i, e) u) t.0 t.1
-  where
-    more : (o : Option C) → In y (filter_map f xs) → In y (cons_option o (filter_map f xs))
-    more None r = r
-    more (Some c) r = (suc r.0, r.1)
-
-    here : (o : Option C) → o ≡ Some y → In y (cons_option o (filter_map f xs))
-    here None e = absurd (cc)
-    here (Some c) e = (zero, e)
-
-    go : ((i : ℕ) → slice_get xs i ≡ Some x → In y (filter_map f xs)) → (i : ℕ)
-        → slice_get (z ∷ xs) i ≡ Some x → In y (cons_option (f z) (filter_map f xs))
-    go later zero e = grind arith
-    go later (suc i) e = more (f z) (later i e)
+in_filter_map f (z ∷ xs) x y (zero, e) u =
+    let same : f z ≡ Some y = cc in rw same (zero, refl)
+in_filter_map f (z ∷ xs) x y (suc i, e) u =
+    in_more (f z) (filter_map f xs) y (in_filter_map f xs x y (i, e) u)
 
 -- what is in the list of what all items give is given by one of them
 pub of_filter_map : {A C : Type 0} (f : A → Option C) (xs : List A) (y : C)
     → In y (filter_map f xs) → (x : A) × In x xs × (f x ≡ Some y)
 of_filter_map f [] y t = grind arith
-of_filter_map {A} {C} f (z ∷ xs) y t = go (λ u. of_filter_map f xs y u) (f z) refl t.0 t.1
-  where
-    Made : List A → Type 0
-    Made zs = (x : A) × In x zs × (f x ≡ Some y)
-
-    further : Made xs → Made (z ∷ xs)
-    further r = (r.0, (suc r.1.0, r.1.1), r.2)
-
-    go : (In y (filter_map f xs) → Made xs) → (o : Option C) → f z ≡ o → (i : ℕ)
-        → slice_get (cons_option o (filter_map f xs)) i ≡ Some y → Made (z ∷ xs)
-    go later None is i e = further (later (i, e))
-    go later (Some c) is zero e = search (rules, arith)
-    go later (Some c) is (suc i) e = further (later (i, e))
+of_filter_map f (z ∷ xs) y t = elim (of_more (f z) (filter_map f xs) y t) [
+  | inl e ↦ (z, (zero, refl), e)
+  | inr u ↦ (let r = of_filter_map f xs y u in (r.0, (suc r.1.0, r.1.1), r.2))
+]
 
 -- numbers of a range
 pub in_range : (a n i : ℕ) → a ≤ i → i < a + n → In i (range_with_len a n)
@@ -95,16 +85,14 @@ of_filter test a (suc n) i j e = grind (arith, of_filter test (a + 1) n i)
 pub in_filter : {A : Type 0} (test : A → Bool) (xs : List A) (x : A) → In x xs
     → test x ≡ true → In x (filter test xs)
 in_filter test [] x t h = search (rules, arith)
-in_filter {A} test (y ∷ xs) x t h = go (λ i e. in_filter test xs x (i, e) h)
-    (test y) refl t.0 t.1
+in_filter test (y ∷ xs) x (zero, e) h =
+    let same : y ≡ x = cc in rw (same, h) (zero, refl)
+in_filter test (y ∷ xs) x (suc i, e) h = behind (test y) (in_filter test xs x (i, e) h)
   where
-    go : ((i : ℕ) → slice_get xs i ≡ Some x → In x (filter test xs)) → (b : Bool)
-        → test y ≡ b → (i : ℕ) → slice_get (y ∷ xs) i ≡ Some x
+    behind : (b : Bool) → In x (filter test xs)
         → In x (if b then y ∷ filter test xs else filter test xs)
-    go later true is zero e = (zero, e)
-    go later false is zero e = grind arith
-    go later true is (suc i) e = let r = later i e in (suc r.0, r.1)
-    go later false is (suc i) e = later i e
+    behind true r = (suc r.0, r.1)
+    behind false r = r
 
 -- an item of a prefix
 pub of_take : {A : Type 0} (n : ℕ) (xs : List A) (i : ℕ) (x : A)

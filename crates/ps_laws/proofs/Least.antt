@@ -5,7 +5,7 @@ use Rattle.std.proofs.Common.{subst, ◌∙◌, inl, inr, arith}
 use Rattle.ps_laws.proofs.Words.{◌⊎◌, if◌then◌else◌, Decides, range_with_len}
 use Rattle.ps_laws.proofs.Words.{enumerate_from, slice_get, filter_map, option_or, option_map}
 use Rattle.ps_laws.proofs.Words.{option_and_then, cases_lt, false≢true, Fault, Before, first_of}
-use Rattle.ps_laws.proofs.Words.{fault_if, Step, key, SomeItem}
+use Rattle.ps_laws.proofs.Words.{fault_if, Step, key, SomeBelow, SomeItem}
 
 -- nothing applies, or this one does, and it is before each other one that applies
 pub data Least {X : Type 0} (IsBefore : X → X → Type 0) (Stands : X → Type 0) : Option X
@@ -107,11 +107,20 @@ least_within {S} f n (suc m) each apart =
     (least_within f (n + 1) m (λ i low high. each i (omega (arith, low)) (omega (arith, high)))
     apart) (λ x y s t. apart n t.0 x y (omega (arith, t.1)) s t.3))
 
-pub least_range : {X : Type 0} {B : X → X → Type 0}
-    {S : ℕ → X → Type 0} (f : ℕ → Option X) → ((i : ℕ) → Least B (S i) (f i))
-    → ((i j : ℕ) (x y : X) → i < j → S i x → S j y → B x y) → (n m : ℕ) → Least B
-    (λ x. (i : ℕ) × (n ≤ i) × (i < n + m) × S i x) (first_of f (range_with_len n m))
-least_range f each apart n m = least_within f n m (λ i low high. each i) apart
+-- each number below one, in order
+pub least_below : {X : Type 0} {B : X → X → Type 0} {S : ℕ → X → Type 0} (f : ℕ
+    → Option X)
+    → ((i : ℕ) → Least B (S i) (f i))
+    → ((i j : ℕ) (x y : X) → i < j → S i x → S j y → B x y) → (n : ℕ)
+    → Least B (λ x. SomeBelow n (λ i. S i x)) (first_of f (range_with_len 0 n))
+least_below f each apart n =
+    least_same (λ x t. (t.0, omega (arith, t.2), t.3)) (λ x t. (
+      t.0,
+      omega arith,
+      omega
+          (arith, t.1),
+      t.2,
+    )) (least_within f 0 n (λ i low high. each i) apart)
 
 -- each item of a list with its number, in order
 pub least_each : {A X : Type 0} {B : X → X → Type 0} {S : ℕ → A → X → Type 0}

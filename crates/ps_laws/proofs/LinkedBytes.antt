@@ -1,7 +1,8 @@
 -- Where no fault applies, the edits of a link make the linked bytes, and each place has one.
-use Rattle.std.proofs.Common.{◌≡◌, ℕ, ◌<◌, ◌≤◌, List, length, map, Some, None}
+use Rattle.std.proofs.Common.{◌≡◌, ℕ, ◌<◌, ◌≤◌, List, length, Some}
+use Rattle.std.proofs.Common.{None}
 use Rattle.std.proofs.Common.{Result, Ok, Err, true, refl, inl}
-use Rattle.ps_laws.proofs.Words.{result_err, table_of, OfReferences, IsSegment, IsOfFile}
+use Rattle.ps_laws.proofs.Words.{table_of, OfReferences, IsSegment, IsOfFile}
 use Rattle.ps_laws.proofs.Words.{private_offset, IsReference, IsOnePlace, segments_of}
 use Rattle.ps_laws.proofs.Words.{summed_segment, NoneStands, Record, needs_linking, is_host}
 use Rattle.ps_laws.proofs.Words.{Segment, order_of, target_of, known_of, Target, in_record, Reason}
@@ -10,7 +11,7 @@ use Rattle.ps_resolve.specs.Standing.References.{RecordHas}
 use Rattle.ps_resolve.specs.LinkedBytes.{IsLinkedByte, HaveLinkedBytes, HaveOneLinkedByte}
 use Rattle.ps_resolve.specs.LinkedBytes.{HaveApartPlaces}
 use Rattle.ps_resolve.specs.AllFaults.{reading_fault}
-use Rattle.ps_resolve.specs.Linking.{edited_segments, linked_byte}
+use Rattle.ps_resolve.specs.Linking.{linked_byte}
 use Rattle.ps_words.specs.declared.edit.Edit.{Edit}
 use Rattle.ps_laws.proofs.Least.{Least, this}
 use Rattle.ps_laws.proofs.Steps.{Ranked}
@@ -27,6 +28,11 @@ use Rattle.ps_laws.proofs.OnePlace.{host_linked, one_place}
 use Rattle.ps_laws.proofs.OneName.{of_segments, one_unit}
 use Rattle.ps_laws.proofs.OneHost.{base_there, one_base, one_public}
 use Rattle.ps_laws.proofs.ByteFacts.{facts, one_byte}
+
+target_there : (o : Result Target Reason) → ((why : Reason) → o ≡ Err why → ⊥)
+    → (t : Target) × (o ≡ Ok t)
+target_there (Ok t) h = (t, refl)
+target_there (Err why) h = absurd (h why refl)
 
 module _ (law : OneStop) (host : List ℕ) (libs : List (List ℕ)) (none : NoneStands host libs)
   where
@@ -51,30 +57,22 @@ module _ (law : OneStop) (host : List ℕ) (libs : List (List ℕ)) (none : None
 
       outer_block : (t : ℕ) → is_host s.role ≡ true
           → table_of (order_of host) s.code 1 ≡ Some t → HasOuter (order_of host) s.code t
-      outer_block t h table = outer (order_of host) s.code t (is_host s.role) h
-          ((file s is).tables (host_linked s.role h)) table
+      outer_block t h table = outer _ s.code t _ h ((file s is).tables (host_linked s.role h)) table
 
       -- each reference of a record has what its operand becomes
       targets : (rec i x : ℕ) (r : Record) → IsReference s rec r i x
           → (t : Target) × (target_of (known_of (segments_of host libs))
           (private_offset (segments_of host libs) s.slot rec) r ≡ Ok t)
-      targets rec i x r u = go (target_of (known_of (segments_of host libs))
-          (private_offset (segments_of host libs) s.slot rec) r) refl (record_rows
-          (segments_of host libs) (private_offset (segments_of host libs) s.slot rec) r.name r.body
-          (asked_is_there (order_of host) host libs (rounds_fine host libs read) s is rec r u.0))
+      targets rec i x r u = target_there (target_of (known_of (segments_of host libs))
+          (private_offset (segments_of host libs) s.slot rec) r) (λ why e. bad why (rw e at
+          (record_rows (segments_of host libs) (private_offset (segments_of host libs) s.slot rec)
+          r.name r.body (asked_is_there (order_of host) host libs (rounds_fine host libs read) s is
+          rec r u.0))))
         where
           bad : (why : Reason) → Least Ranked (RecordHas (segments_of host libs) r.name r.body)
               (Some why) → ⊥
           bad why (this y h l) = none OfReferences (in_record s.file s.slot rec why)
               (record { stands = (s, is, (rec, r, u.0, inl (why, refl, h))) })
-
-          go : (o : Result Target Reason) → target_of (known_of (segments_of host libs))
-              (private_offset (segments_of host libs) s.slot rec) r ≡ o
-              → Least Ranked (RecordHas (segments_of host libs) r.name r.body) (result_err o)
-              → (t : Target) × (target_of (known_of (segments_of host libs))
-              (private_offset (segments_of host libs) s.slot rec) r ≡ Ok t)
-          go (Ok t) e l = (t, e)
-          go (Err why) e l = absurd (bad why l)
 
       is_byte : (p : ℕ) → IsLinkedByte (order_of host) (segments_of host libs) s p
           (linked_byte (order_of host) (summed_segment (order_of host) (segments_of host libs) s) p)
@@ -83,10 +81,9 @@ module _ (law : OneStop) (host : List ℕ) (libs : List (List ℕ)) (none : None
 
       one_at : (p b c : ℕ) → IsLinkedByte (order_of host) (segments_of host libs) s p b
           → IsLinkedByte (order_of host) (segments_of host libs) s p c → b ≡ c
-      one_at p b c x y = one_byte (order_of host) (segments_of host libs)
-          (base_there host libs none read) s long_code outer_block (host_linked s.role)
-          (file s is).unread targets p (apart s is p) (one_unit host libs none read)
-          (one_public host libs none read) (one_base host libs none read) b c x y
+      one_at p b c x y = one_byte _ _ (base_there host libs none read) s long_code outer_block
+          (host_linked s.role) (file s is).unread targets p (apart s is p) (one_unit host libs none
+          read) (one_public host libs none read) (one_base host libs none read) b c x y
 
     abbrev IsMade : Segment × List Edit → Type 0
     IsMade e = (p : ℕ) → p < length e.0.code
@@ -94,12 +91,8 @@ module _ (law : OneStop) (host : List ℕ) (libs : List (List ℕ)) (none : None
         (linked_byte (order_of host) e p)
 
     pub bytes : HaveLinkedBytes host libs
-    bytes = All-same IsMade (edited_segments (order_of host) (segments_of host libs))
-        (map (summed_segment (order_of host) (segments_of host libs)) (segments_of host libs))
-        (offsets host libs) (All-map IsMade (summed_segment (order_of host) (segments_of host libs))
-        (segments_of host libs) (all_items (λ (s : Segment). IsMade
-        (summed_segment (order_of host) (segments_of host libs) s)) (segments_of host libs)
-        (λ k s e p lt. is_byte s (of_segments (order_of host) host libs k s e) p)))
+    bytes = All-same IsMade _ _ (offsets host libs) (All-map IsMade _ _ (all_items (λ (s :
+        Segment). IsMade _) _ (λ k s e p lt. is_byte s (of_segments _ host libs k s e) p)))
 
     abbrev IsOne : Segment → Type 0
     IsOne s = (p b c : ℕ) → IsLinkedByte (order_of host) (segments_of host libs) s p b

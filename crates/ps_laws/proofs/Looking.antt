@@ -2,7 +2,7 @@
 use Rattle.std.proofs.Common.{rules, ◌≡◌, ℕ, zero, suc, ◌<◌, List, [], ◌∷◌, Some}
 use Rattle.std.proofs.Common.{None, Bool, true, false, refl, sym, ap, subst, ◌∙◌, inl, inr}
 use Rattle.std.proofs.Common.{arith, is_none, Option}
-use Rattle.ps_laws.proofs.Words.{◌⊎◌, if◌then◌else◌, not, ◌||◌, Decides, slice_get}
+use Rattle.ps_laws.proofs.Words.{◌⊎◌, if◌then◌else◌, not, Decides, slice_get}
 use Rattle.ps_laws.proofs.Words.{list_any, find, false≢true, Decides-or, Decides-like, SomeItem}
 pub use Rattle.ps_resolve.proofs.LookingBack.{of_test, any_of_take}
 
@@ -17,10 +17,8 @@ pub any_of_items : {A : Type 0} (test : A → Bool) (P : A → Type 0)
     → Decides (list_any test items) (SomeItem items (λ i q. P q))
 any_of_items test P d [] = (λ e. absurd (false≢true e), λ t. absurd (let e = t.2 in cc))
 any_of_items {A} test P d (a ∷ items) =
-    Decides-like (test a || list_any test items)
-    (elim [ inl p ↦ (zero, a, refl, p) | inr t ↦ (suc t.0, t.1, t.2, t.3) ])
-    (λ t. go t.0 t.1 t.2 t.3)
-    (Decides-or (test a) (list_any test items) (d a) (any_of_items test P d items))
+    Decides-like _ (elim [ inl p ↦ (zero, a, refl, p) | inr t ↦ (suc t.0, t.1, t.2, t.3) ]) (λ
+    t. go t.0 t.1 t.2 t.3) (Decides-or _ _ (d a) (any_of_items test P d items))
   where
     go : (i : ℕ) (q : A) → slice_get (a ∷ items) i ≡ Some q → P q
         → P a ⊎ SomeItem items (λ i q. P q)

@@ -2,7 +2,7 @@
 use Rattle.std.proofs.Common.{◌≡◌, List, ◌++◌, Option, false, ◌∙◌, is_none}
 use Rattle.std.proofs.Common.{ℕ, take, Some, None, true, refl, sym, ap, subst, inl, inr, arith}
 use Rattle.ps_codefile.specs.declared.entry.Role.TheVariants as role
-use Rattle.ps_laws.proofs.Words.{Segment, chosen_library, unit_source, own_segment}
+use Rattle.ps_laws.proofs.Words.{Segment, unit_source, own_segment}
 use Rattle.ps_laws.proofs.Words.{IsGiver, HasRole, UnitReference, Order, slice_get}
 use Rattle.ps_laws.proofs.Words.{option_map_or, result_ok}
 use Rattle.ps_laws.proofs.Words.{false≢true, none-some, is_empty, added_segments, is_role}
@@ -35,8 +35,7 @@ module _ (order : Order) (host : List ℕ) (libs : List (List ℕ)) where
   -- 2. a segment of the host's own that a slot wants has its library
   none_source : (name : List ℕ) → NoneHas order name libs
       → unit_source order name libs ≡ None
-  none_source name none = rw (nothing_is (chosen_library order name libs)
-      ((none_has order name libs).1 none)) refl
+  none_source name none = rw (nothing_is _ ((none_has order name libs).1 none)) refl
 
   own_has_library : (slot : ℕ) (s : Segment) → own_segment order host libs slot ≡ Some s
       → WantsMissing order host libs slot → ⊥
@@ -46,14 +45,13 @@ module _ (order : Order) (host : List ℕ) (libs : List (List ℕ)) where
   pub not_wanted : (k : ℕ) (g : UnitReference) → IsRequested order host libs k g
       → WantsMissing order host libs g.slot → ⊥
   not_wanted k g t wants =
-      elim (split_at (own_segments order host libs)
-      (take k (added_segments order host libs)) giver.0 s there) [
+      elim (split_at _ _ giver.0 s there) [
         | inl h ↦
             let o = own_at order host libs s (giver.0, h) in
-            own_has_library o.0 s o.2 (subst (λ n. WantsMissing order host libs n)
-            (slot ∙ own_in_slot order host libs o.0 s o.2) wants)
+            own_has_library o.0 s o.2 (subst (λ n. WantsMissing order host libs n) (slot ∙
+            own_in_slot order host libs o.0 s o.2) wants)
         | inr u ↦
-            let v = of_take k (added_segments order host libs) u.0 s u.2 in
+            let v = of_take k _ u.0 s u.2 in
             not_empty s.slot (subst (λ n. HasRole order host n role.Wanted) slot wants.0)
             (added_slot u.0 s v.1)
       ]

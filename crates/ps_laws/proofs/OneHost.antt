@@ -51,17 +51,15 @@ module _ (host : List ℕ) (libs : List (List ℕ)) (none : NoneStands host libs
   -- there is one at most
   found : (k : ℕ) (s : Segment) → slice_get (segments_of host libs) k ≡ Some s
       → is_host s.role ≡ true → host_of (segments_of host libs) ≡ Some s
-  found k s e is = (of_link host libs read s (of_segments (order_of host) host libs k s e)).one_host
-      is
+  found k s e is = (of_link host libs read s (of_segments _ host libs k s e)).one_host is
 
   -- there is one
   pub host_there : (k : ℕ) × (s : Segment) × (slice_get (segments_of host libs) k ≡ Some s)
       × (is_host s.role ≡ true)
   host_there =
-      let s = is_there (host_of (segments_of host libs))
-      (λ e. false≢true (sym (ap is_some e) ∙ has_host host libs read)) in
+      let s = is_there _ (λ e. false≢true (sym (ap is_some e) ∙ has_host host libs read)) in
       let test : Segment → Bool = λ q. is_host q.role in
-      let i = find_in test (segments_of host libs) s.0 s.1 in
+      let i = find_in test _ s.0 s.1 in
       (i.0, s.0, i.1, find_passes test (segments_of host libs) s.0 s.1)
 
   its_records : (s : Segment) → host_of (segments_of host libs) ≡ Some s

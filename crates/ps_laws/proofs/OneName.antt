@@ -3,7 +3,7 @@ use Rattle.std.proofs.Common.{rules, ◌≡◌, ℕ, ◌<◌, List, Some, None, 
 use Rattle.std.proofs.Common.{◌∙◌, inl, inr}
 use Rattle.ps_laws.proofs.Words.{◌⊎◌, slice_get, same_Some, entry_at, is_unit, added_segments}
 use Rattle.ps_laws.proofs.Words.{segments_of, IsOfRound, AddedUnits, Segment, order_of, NoneStands}
-use Rattle.ps_laws.proofs.Words.{OfSlots, IsSegment, IsUnitSlot, UnitReference, in_slot, Order}
+use Rattle.ps_laws.proofs.Words.{OfSlots, IsSegment, IsUnitSlot, UnitReference, Order}
 use Rattle.ps_resolve.specs.Added.{segments}
 use Rattle.ps_resolve.specs.AllFaults.{reading_fault}
 use Rattle.ps_resolve.specs.LinkedBytes.{IsSlotOf}
@@ -44,18 +44,17 @@ module _ (host : List ℕ) (libs : List (List ℕ)) (none : NoneStands host libs
   -- two of the host's own
   before_own : (s q : Segment) → IsOwn s → IsOwn q → s.name ≡ q.name → s.slot < q.slot
       → ⊥
-  before_own s q a b same lt = none OfSlots (in_slot 0 q.slot reason.DoubledSegment)
-      (record {
-        stands = (
-          q.slot,
-          b.0,
-          (
-            reason.DoubledSegment,
-            refl,
-            (b.1, (s.slot, lt, (a.1, a.2 ∙ (same ∙ sym b.2)))),
-          ),
-        );
-      })
+  before_own s q a b same lt = none OfSlots _ (record {
+    stands = (
+      q.slot,
+      b.0,
+      (
+        reason.DoubledSegment,
+        refl,
+        (b.1, (s.slot, lt, (a.1, a.2 ∙ (same ∙ sym b.2)))),
+      ),
+    );
+  })
 
   -- an added one has no name that the host has
   not_both : (s q : Segment) → IsOwn s → IsAdded q → s.name ≡ q.name → ⊥
@@ -65,10 +64,9 @@ module _ (host : List ℕ) (libs : List (List ℕ)) (none : NoneStands host libs
   -- two added ones
   same_added : (s q : Segment) → IsAdded s → IsAdded q → s.name ≡ q.name → s ≡ q
   same_added s q a b same =
-      let at = units.once a.0 b.0 a.1 b.1 a.2.requested b.2.requested
-      (sym a.2.name ∙ same ∙ b.2.name) in
-      same_Some s q (sym a.2.there ∙ ap (slice_get (added_segments order host libs)) at
-      ∙ b.2.there)
+      let at = units.once a.0 b.0 a.1 b.1 a.2.requested b.2.requested (sym a.2.name ∙ same ∙
+      b.2.name) in
+      same_Some s q (sym a.2.there ∙ ap (slice_get _) at ∙ b.2.there)
 
   one_slot : (s q : Segment) → IsSegment order host libs s → IsSegment order host libs q
       → is_unit s.role ≡ true → is_unit q.role ≡ true → s.name ≡ q.name

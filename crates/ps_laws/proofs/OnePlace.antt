@@ -31,17 +31,16 @@ module _ (host : List ℕ) (libs : List (List ℕ)) (none : NoneStands host libs
   one_reference rec i x other j y r q p a b =
       let same =
       not_apart rec other (λ h. no_overlap rec i x other j y r q p a b (inl h))
-      (λ h. no_overlap other j y rec i x q r p b a (inl h)) in (
-        same,
-        not_apart i j (λ h. no_overlap rec i x other j y r q p a b (inr (same, inl h)))
-            (λ h. no_overlap other j y rec i x q r p b a (inr (sym same, inl h))),
-      )
+      (λ h. no_overlap other j y rec i x q r p b a (inl h)) in
+      let number =
+      not_apart i j (λ h. no_overlap rec i x other j y r q p a b (inr (same, inl h)))
+      (λ h. no_overlap other j y rec i x q r p b a (inr (sym same, inl h))) in
+      (same, number)
 
   -- where the outer block's table is
   pub outer_at : (t j p : ℕ) → IsSizePlace (order_of host) s t j p
       → HasOuter (order_of host) s.code t
-  outer_at t j p h = outer (order_of host) s.code t (is_host s.role) h.0
-      (file.tables (host_linked s.role h.0)) h.1
+  outer_at t j p h = outer _ s.code t _ h.0 (file.tables (host_linked s.role h.0)) h.1
 
   not_reserved : (rec i x : ℕ) (r : Record) (p : ℕ) → Reaches s rec r i x p
       → is_reserved (order_of host) s.code p ≡ true → ⊥
@@ -50,9 +49,8 @@ module _ (host : List ℕ) (libs : List (List ℕ)) (none : NoneStands host libs
   pub one_place : (p : ℕ) → IsOnePlace (order_of host) s p
   one_place p = record {
     references = λ rec i x other j y r q a b. one_reference rec i x other j y r q p a b;
-    number = λ rec i x r a n. not_reserved rec i x r p a
-        (number_reserved (order_of host) s.code p n.1);
-    size = λ rec i x t j r a h. not_reserved rec i x r p a
-        (size_reserved (order_of host) s.code t j p (outer_at t j p h) h.1 h.2 h.3);
-    own = λ t j n h. own_apart (order_of host) s.code t j p (outer_at t j p h) h.2 h.3 n.1;
+    number = λ rec i x r a n. not_reserved rec i x r p a (number_reserved _ s.code p n.1);
+    size = λ rec i x t j r a h. not_reserved rec i x r p a (size_reserved _ s.code t j p (outer_at
+        t j p h) h.1 h.2 h.3);
+    own = λ t j n h. own_apart _ s.code t j p (outer_at t j p h) h.2 h.3 n.1;
   }

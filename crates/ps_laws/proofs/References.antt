@@ -1,7 +1,7 @@
 -- The first fault of the references is the smallest that is.
 use Rattle.std.proofs.Common.{◌≡◌, ℕ, ◌+◌, ◌<◌, ◌≤◌, List, [], ◌∷◌}
 use Rattle.std.proofs.Common.{◌++◌, length, take, map, Option, Some, None, Result, Ok, Err}
-use Rattle.std.proofs.Common.{Bool, true, refl, sym, ap, subst, ◌∙◌, inl, inr, arith}
+use Rattle.std.proofs.Common.{Bool, true, refl, sym, ap, ◌∙◌, inl, inr, arith}
 use Rattle.std.proofs.Common.{append_assoc, append-nil, is_some, unwrap_or}
 use Rattle.ps_laws.proofs.Words.{◌≢◌, ◌⊎◌, nat_le, nat_lt, Decides}
 use Rattle.ps_laws.proofs.Words.{range_with_len, enumerate_from, find, slice_get, list_any}
@@ -90,10 +90,9 @@ pub named_some : {D : Type 0} (name : List ℕ) (ds : List (List ℕ × D)) (d :
     → lookup (bytes_eq name) ds ≡ Some d
     → SomeItem ds (λ k e. ((e.0 ≡ name) × (e.1 ≡ d)) × Earliest ds name k)
 named_some {D} name ds d e =
-    let f = some_mapped (λ (x : List ℕ × D). x.1) (find (λ
-    (x : List ℕ × D). bytes_eq name x.0) ds) d (sym (lookup_found (bytes_eq name) ds) ∙ e) in
-    let t = find_some
-    (λ (x : List ℕ × D). bytes_eq name x.0) (λ x. x.0 ≡ name) (is_name name) ds f.0 f.1 in
+    let f = some_mapped (λ (x : List ℕ × D). x.1) _ d (sym (lookup_found _ ds) ∙ e) in
+    let t = find_some (λ (x : List ℕ × D). bytes_eq name x.0) (λ x. x.0 ≡ name) (is_name
+    name) ds f.0 f.1 in
     (t.0, t.1, t.2, ((t.3.1, ap (λ (x : List ℕ × D). x.1) t.3.0 ∙ sym f.2), t.3.2))
 
 -- a name has no two first definitions
@@ -169,9 +168,8 @@ taken_covers : (records : List Record) (rec i : ℕ) (body : Body) (p : ℕ)
     → Decides (list_any (is_in p) (before records rec ++ own body i))
     (BeforeCovers records rec p ⊎ SameRecordCovers body i p)
 taken_covers records rec i body p =
-    simp (list_any-append, any_flat, any_map) (Decides-or _ _ (any_of_take _ _
-    (λ q. any_of_items _ _ (λ y. in_operand p y _) _) rec records)
-    (any_of_take _ _ (λ y. in_operand p y _) i (refs_of body)))
+    simp (list_any-append, any_flat, any_map) (Decides-or _ _ (any_of_take _ _ (λ q. any_of_items _
+    _ (λ y. in_operand p y _) _) rec records) (any_of_take _ _ (λ y. in_operand p y _) i _))
 
 abbrev overlaps : List Record → ℕ → ℕ → Body → ℕ → Bool
 overlaps records rec i body x = list_any
@@ -187,11 +185,10 @@ Overlaps records rec i r x = SomeItem records
 -- segment
 overlapping : (records : List Record) (rec i : ℕ) (r : Record) (x : ℕ) → slice_get records rec
     ≡ Some r → Decides (overlaps records rec i r.body x) (Overlaps records rec i r x)
-overlapping records rec i r x er = Decides-like (overlaps records rec i r.body x)
-    (λ t. to t.0 t.1 t.2 t.3) (λ t. from t.0 t.1 t.2 t.3.0 t.3.1 t.3.2 t.3.3.0 t.3.3.1.0 t.3.3.1.1
-    t.3.3.1.2) (any_of_range (λ p. list_any (is_in p) (before records rec ++ own r.body i))
-    (λ p. BeforeCovers records rec p ⊎ SameRecordCovers r.body i p)
-    (λ p. taken_covers records rec i r.body p) x (operand_width r.body))
+overlapping records rec i r x er = Decides-like _ (λ t. to t.0 t.1 t.2 t.3) (λ t. from t.0 t.1 t.2
+    t.3.0 t.3.1 t.3.2 t.3.3.0 t.3.3.1.0 t.3.3.1.1 t.3.3.1.2) (any_of_range (λ p. list_any (is_in p)
+    _) (λ p. BeforeCovers records rec p ⊎ SameRecordCovers r.body i p) (λ p. taken_covers
+    records rec i r.body p) x _)
   where
     to : (p : ℕ) → x ≤ p → p < x + operand_width r.body → BeforeCovers records rec p
         ⊎ SameRecordCovers r.body i p → Overlaps records rec i r x
@@ -208,20 +205,8 @@ overlapping records rec i r x er = Decides-like (overlaps records rec i r.body x
     from o q a j y g (inr t) p cx cy =
         let same : q ≡ r = (let d = t.0 in cc) in
         elim t.1 [
-          | inl h ↦ (
-            p,
-            cx.0,
-            cx.1,
-            inr (
-              j,
-              h,
-              (
-                y,
-                subst (λ (z : Record). slice_get (refs_of z.body) j ≡ Some y) same g,
-                subst (λ (z : Record). Covers z.body y p) same cy,
-              ),
-            ),
-          )
+          | inl h ↦ (let at = rw same at g in let on = rw same at cy in
+              (p, cx.0, cx.1, inr (j, h, (y, at, on))))
           | inr u ↦ absurd u.1
         ]
 
@@ -271,12 +256,10 @@ reason_at order segs s rec r ref = reason_with (is_reserved order s.code) s.code
 reference_rows : (order : Order) (segs : List Segment) (s : Segment) (rec : ℕ) (r : Record)
     (i x : ℕ) → slice_get s.records rec ≡ Some r → slice_get (refs_of r.body) i ≡ Some x
     → Least Ranked (ReferenceHas order segs s rec r i x) (reason_at order segs s rec r (i, x))
-reference_rows order segs s rec r i x er ex = least_same to from
-    (least_or (least_if _ _ (past _ _ _ (wide r.body i x ex))) (least_or (least_if _ _ reserved)
-    (least_or (least_if _ _ (overlapping s.records rec i r x er))
-    (least_if _ _ (too_large_by s.code x
-    (target_of (known_of segs) (private_offset segs s.slot rec) r)))
-    (λ y z a b. grind arith)) (λ y z a b. grind arith)) (λ y z a b. grind arith))
+reference_rows order segs s rec r i x er ex = least_same to from (least_or (least_if _ _ (past _ _ _
+    (wide r.body i x ex))) (least_or (least_if _ _ reserved) (least_or (least_if _ _ (overlapping
+    s.records rec i r x er)) (least_if _ _ (too_large_by s.code x _)) (λ y z a b. grind arith)) (λ
+    y z a b. grind arith)) (λ y z a b. grind arith))
   where
     Has : Reason → Type 0
     Has = ReferenceHas order segs s rec r i x
@@ -328,14 +311,11 @@ module _ (order : Order) (segs : List Segment) (s : Segment) (rec : ℕ) (r : Re
   -- requests is there
   of_record : slice_get s.records rec ≡ Some r → UnitIsThere segs r.name r.body → Least
       (Precedes OfReferences) (RecordFaults order segs s rec r) (record_fault order segs s (rec, r))
-  of_record er there = least_or (because OfReferences (in_record s.file s.slot rec) (λ
-      a b h. grind arith) (record_rows segs (private_offset segs s.slot rec) r.name r.body there))
-      (least_items (references_of order segs s rec r) (refs_of r.body)
-      (λ i x ex. because OfReferences (in_reference s.file s.slot rec i) (λ a b h. grind arith)
-      (reference_rows order segs s rec r i x er ex)) (λ i j a b x y h. because_apart OfReferences
-      (in_reference s.file s.slot rec i) (in_reference s.file s.slot rec j) (λ q p. grind arith)
-      x y)) (λ x y a t. because_apart OfReferences (in_record s.file s.slot rec)
-      (in_reference s.file s.slot rec t.0) (λ q p. grind arith) x y a t.3)
+  of_record er there = least_or (because OfReferences _ (λ a b h. grind arith) (record_rows segs _
+      r.name r.body there)) (least_items _ _ (λ i x ex. because OfReferences _ (λ a b h. grind
+      arith) (reference_rows order segs s rec r i x er ex)) (λ i j a b x y h. because_apart
+      OfReferences _ _ (λ q p. grind arith) x y)) (λ x y a t. because_apart OfReferences _ _ (λ q
+      p. grind arith) x y a t.3)
 
   -- 3. the search that carries the operands and the offset so far is the one that looks back
   refs_carried : (t : Target) → width_of t ≡ operand_width r.body
@@ -441,20 +421,21 @@ pub step_10 : (order : Order) (host : List ℕ) (libs : List (List ℕ))
 unfolding references_fault
 step_10 order host libs fine =
     let segs = segments order host libs in
-    let e : references_fault_from order (known_of segs) (next_of (host_records segs)) segs
-    ≡ first_of (all_records order segs) segs =
-    all_carried segs (λ n ss. references_fault_from order
-    (known_of segs) n ss ≡ first_of (all_records order segs) ss) (λ n. refl)
-    (λ s rest n offsets later. (let own = carried order segs s n offsets [] s.records 0 refl refl
-    in
+    let e : references_fault_from order (known_of segs) (next_of (host_records segs)) segs ≡
+    first_of (all_records order segs) segs =
+    all_carried segs (λ n ss. references_fault_from order (known_of segs) n ss ≡ first_of
+    (all_records order segs) ss) (λ n. refl) (λ s rest n offsets later. (let own = carried order
+    segs s n offsets [] s.records 0 refl refl in
     let first = offsets 0 in grind (arith, own, first, later))) (ascend order host libs) in
     rw e (over_segments {S =
-    λ s f. SomeItem s.records (λ rec r. RecordFaults order segs s rec r f)}
-    order host libs (all_records order segs)
-    (λ s is. least_items _ s.records (λ rec r e. of_record
-    order segs s rec r e (asked_is_there order host libs fine s is rec r e)) (λ i j a b x y h m n.
-    grind (arith, at_record order segs s i a x m, at_record order segs s j b y n)))
-    (λ s t x y h m n. grind (
+    λ s f. SomeItem s.records (λ rec r. RecordFaults order segs s rec r f)} order host libs _ (λ
+    s is. least_items _ s.records (λ rec r e. of_record order segs s rec r e (asked_is_there order
+    host libs fine s is rec r e)) (λ i j a b x y h m n. grind (
+      arith,
+      at_record order segs s i a x
+          m,
+      at_record order segs s j b y n,
+    ))) (λ s t x y h m n. grind (
       arith,
       at_record order segs s m.0 m.1 x m.3,
       at_record order segs t n.0 n.1 y n.3,

@@ -1,16 +1,15 @@
 -- The first fault of the units that are added is the smallest that is.
 use Rattle.std.proofs.Common.{◌≡◌, ◌≤◌, ◌∷◌, ◌∙◌, append-nil, length-append}
-use Rattle.std.proofs.Common.{ℕ, ◌+◌, length, Option, subst, arith, is_none, unwrap_or}
-use Rattle.std.proofs.Common.{List, [], take, Some, None, Bool, refl, sym, ap, inl, inr}
+use Rattle.std.proofs.Common.{ℕ, ◌+◌, length, Option, subst, arith, unwrap_or}
+use Rattle.std.proofs.Common.{List, [], take, Some, None, Bool, refl, inl, inr}
 use Rattle.ps_laws.proofs.Words.{◌⊎◌, if◌then◌else◌, Decides, slice_get, option_or}
 use Rattle.ps_laws.proofs.Words.{option_map, option_and_then, cases_lt, Decides-or}
 use Rattle.ps_laws.proofs.Words.{RoundsOutcome, after, added_segments, added_fault}
 use Rattle.ps_laws.proofs.Words.{Step, OfSources, OfAdded, rank, part, key}
 use Rattle.ps_laws.proofs.Words.{InRound, entry_fault, code_fault, Before, Segment}
-use Rattle.ps_laws.proofs.Words.{unit_source, chosen_library, UnitReference}
+use Rattle.ps_laws.proofs.Words.{unit_source, UnitReference}
 use Rattle.ps_laws.proofs.Words.{in_record, Order, Fault}
-use Rattle.ps_codefile.specs.Dictionary.{is_nameless}
-use Rattle.ps_resolve.specs.Added.{empty_slots, is_missing, requested_units, rounds}
+use Rattle.ps_resolve.specs.Added.{is_missing, requested_units, rounds}
 use Rattle.ps_resolve.specs.Standing.Keys.{record_read}
 use Rattle.ps_resolve.specs.Standing.Rounds.{IsMissing, PlacedFault}
 use Rattle.ps_codefile.specs.declared.entry.Role.TheVariants as role
@@ -18,7 +17,7 @@ use Rattle.ps_resolve.proofs.EachRound.{IsTurn, all_rounds, round_fault, segment
 use Rattle.ps_laws.proofs.Least.{quiet, least_else, Least, nothing, this, Precedes, least_same}
 use Rattle.ps_laws.proofs.Least.{least_order, least_map}
 use Rattle.ps_laws.proofs.Looking.{of_test}
-use Rattle.ps_laws.proofs.Sources.{OneStop, none_has, unit_least, placed_high}
+use Rattle.ps_laws.proofs.Sources.{OneStop, none_has, unit_least, placed_late}
 use Rattle.ps_words.specs.declared.fault.Reason.TheVariants as reason
 
 -- 1. one round
@@ -52,13 +51,12 @@ placed_least : (law : OneStop) (order : Order) (host : List ℕ) (libs : List (L
     (PlacedFault order host libs name slot) (option_or (entry_fault order name libs slot)
     (option_and_then (code_fault order host libs slot role.Wanted) (unit_source order name libs)))
 placed_least law order host libs k name slot =
-    least_order (λ x y s t. within_round k slot x y (placed_high order host libs name slot x s)
-    (placed_high order host libs name slot y t)) (unit_least law order host libs name slot)
+    least_order (λ x y s t. within_round k slot x y (placed_late order host libs name slot x s)
+    (placed_late order host libs name slot y t)) (unit_least law order host libs name slot)
 
 pub missing : (order : Order) (libs : List (List ℕ)) (name : List ℕ)
     → Decides (is_missing order libs name) (IsMissing order libs name)
-missing order libs name = Decides-or (is_nameless name) (is_none (chosen_library order name libs))
-    (of_test (is_nameless name)) (none_has order name libs)
+missing order libs name = Decides-or _ _ (of_test _) (none_has order name libs)
 
 -- the first fault of a name in its round, with this slot or with none, is the smallest that applies
 round_least : (law : OneStop) (order : Order) (host : List ℕ)
@@ -72,9 +70,8 @@ round_least law order host libs k g None =
         (Some (in_record g.file g.slot g.rec (if b then reason.MissingUnit else reason.NoSlot)))
     go b h1 = grind (arith, this)
 round_least law order host libs k g (Some slot) =
-    least_same to from (least_else (is_missing order libs g.name) _ (missing order libs g.name)
-    (placed_least law order host libs k g.name slot)
-    (λ f p. missing_first k g f (placed_high order host libs g.name slot f p).1))
+    least_same to from (least_else _ _ (missing order libs g.name) (placed_least law order host libs
+    k g.name slot) (λ f p. missing_first k g f (placed_late order host libs g.name slot f p).1))
   where
     Parts : Fault → Type 0
     Parts f = ((f ≡ in_record g.file g.slot g.rec reason.MissingUnit)
@@ -88,8 +85,7 @@ round_least law order host libs k g (Some slot) =
     from : (f : Fault) → RoundHas order host libs g (Some slot) f → Parts f
     from f (inl t) = inl t
     from f (inr (inl t)) = grind arith
-    from f (inr (inr t)) = let same : t.0 ≡ slot = (let e = t.1 in cc) in
-        inr (subst (λ (n : ℕ). PlacedFault order host libs g.name n f) same t.2)
+    from f (inr (inr t)) = let same : t.0 ≡ slot = (let e = t.1 in cc) in inr (rw (← same) t.2)
 
 -- 3. all rounds
 abbrev pub Place : Type 0
@@ -125,19 +121,12 @@ the_round law order host libs prefix rest k g left turn =
     within = grind (arith, length-append)
 
     to : (f : Fault) → RoundHas order host libs g left f → InRound order host libs k f
-    to f h = (
-      g,
-      (within, first),
-      subst (λ (o : Option ℕ). RoundHas order host libs g o f)
-          (sym turn.slot_is) h,
-    )
+    to f h = (g, (within, first), rw turn.slot_is h)
 
     from : (f : Fault) → InRound order host libs k f → RoundHas order host libs g left f
     from f t =
         let same : t.0 ≡ g = (let e = t.1.1 in cc (e, first)) in
-        subst (λ (o : Option ℕ). RoundHas order host libs g o f) turn.slot_is
-        (subst (λ (h : UnitReference). RoundHas order host libs h
-        (slice_get (empty_slots order host) k) f) same t.2)
+        rw (← turn.slot_is, ← same) t.2
 
 module _ (order : Order) (host : List ℕ) (libs : List (List ℕ)) (prefix : List Segment)
     (k : ℕ) where
@@ -161,13 +150,7 @@ module _ (order : Order) (host : List ℕ) (libs : List (List ℕ)) (prefix : Li
   no_name : added_segments order host libs ≡ prefix
       → k ≡ length prefix → slice_get (requested_units order host libs prefix) k ≡ None
       → (p : Place) → FromRound order host libs k p → ⊥
-  no_name is at none p t =
-      let same : t.0 ≡ k = last_is t.0 t.1 is at t.2 t.4 in
-      let named = (subst (λ n. InRound order host libs n t.1) same t.4).1.1 in
-      let prefix_is =
-      segments_before order host libs prefix [] k (is ∙ sym (append-nil prefix)) at in
-      let first = ap (λ ss. slice_get (requested_units order host libs ss) k) prefix_is ∙ none in
-      cc
+  no_name is at none p t = grind (arith, segments_before order host libs prefix [] k, append-nil)
 
 -- the first fault of the rounds from one on, with its step
 abbrev RoundsHave : Order → List ℕ → List (List ℕ) → ℕ → RoundsOutcome → Type 0
@@ -182,7 +165,7 @@ round_more : (order : Order) (host : List ℕ) (libs : List (List ℕ)) (k : ℕ
 round_more order host libs k s rest none r = (r.0, least_same to from r.1, r.2)
   where
     to : (p : Place) → FromRound order host libs (k + 1) p → FromRound order host libs k p
-    to p t = (t.0, t.1, (let a = t.2 in omega (arith, a)), t.3, t.4)
+    to p t = grind arith
 
     from : (p : Place) → FromRound order host libs k p → FromRound order host libs (k + 1) p
     from p t = elim (cases_lt k t.0) [
@@ -197,11 +180,10 @@ pub step_6 : (law : OneStop) (order : Order) (host : List ℕ) (libs : List (Lis
     → (o : Option Place) × Least Earlier
     (λ p. (k : ℕ) × (f : Fault) × (p ≡ (OfAdded k, f)) × InRound order host libs k f) o
     × (option_map (λ (x : Place). x.1) o ≡ added_fault order host libs)
-step_6 law order host libs = (
-  r.0,
-  least_same (λ p t. (t.0, t.1, t.3, t.4)) (λ p t. (t.0, t.1, omega arith, t.2, t.3)) r.1,
-  r.2,
-)
+step_6 law order host libs =
+    let same = least_same (λ p t. (t.0, t.1, t.3, t.4)) (λ p t. (t.0, t.1, omega arith, t.2, t.3))
+    r.1 in
+    (r.0, same, r.2)
   where
     here : (prefix rest : List Segment) (k : ℕ) (g : UnitReference) (slot : Option ℕ)
         (o : Option Fault) → IsTurn order host libs prefix rest k g slot → round_fault
@@ -216,12 +198,9 @@ step_6 law order host libs = (
           nothing (no_name order host libs prefix k is at none),
           refl,
         ))
-        (λ prefix k g slot f turn is. (
-          Some (OfAdded k, f),
-          last_round order host libs prefix k (Some f) (turn.all ∙ append-nil prefix) turn.many
-              (here prefix [] k g slot (Some f) turn is),
-          refl,
-        ))
+        (λ prefix k g slot f turn is. (let least = last_round order host libs prefix k (Some f)
+        (turn.all ∙ append-nil prefix) turn.many (here prefix [] k g slot (Some f) turn is) in
+        (Some (OfAdded k, f), least, refl)))
         (λ prefix k g slot s rest turn fits from later.
         round_more order host libs k s rest
         (quiet (here prefix (s ∷ rest.added) k g (Some slot) None turn fits)) later)

@@ -63,8 +63,7 @@ read_from law order host libs s there inside h = record {
   file = there;
   within = inside;
   code = h.code;
-  slice = slice_of (file_at host libs s.file)
-      (entry_at order (file_at host libs s.file) s.index) s.code h.code;
+  slice = slice_of _ (entry_at order _ s.index) s.code h.code;
   tables = h.kept;
   block = h.block;
   records = λ l. (law order _ s.records).1 (h.records l);
@@ -167,14 +166,12 @@ module _ (law : OneStop) (spells : OneSpelling) (host : List ℕ) (libs : List (
         by other is source fits = here (λ e. let a = sym is ∙ e in cc)
             (λ e. let a = sym is ∙ e in cc) source
 
-  -- an added segment
   -- a segment of the host's own slots, or an added one, is a segment of the link
   own_listed : (k : ℕ) (s : Segment) → slice_get (own_segments order host libs) k ≡ Some s
       → In s (segments order host libs)
   own_listed k s e =
       let o = own_at order host libs s (k, e) in
-      in_segments order host libs o.0 s o.1
-      (ap (λ x. option_or x (added_at order host libs o.0)) o.2)
+      in_segments order host libs o.0 s o.1 (rw o.2 refl)
 
   added_listed : (k : ℕ) (s : Segment) → slice_get (added_segments order host libs) k ≡ Some s
       → In s (segments order host libs)
@@ -203,8 +200,7 @@ module _ (law : OneStop) (spells : OneSpelling) (host : List ℕ) (libs : List (
         let b = (empty_slot order host j s.slot at).1 in
         let i = is_empty_slot slot low (omega (arith, b, lt)) has in
         let before = rises_with i.0 slot s.slot lt i.1 at in
-        let q = is_there (slice_get (added_segments order host libs) i.0)
-        (some_before (added_segments order host libs) i.0 j s (omega (arith, before)) in_round) in
+        let q = is_there _ (some_before _ i.0 j s (omega (arith, before)) in_round) in
         let l = added_listed i.0 q.0 q.1 in
         (l.0, q.0, l.1, (let u = in_empty order host libs i.0 q.0 q.1 in let v = i.1 in cc))
 
@@ -218,28 +214,16 @@ module _ (law : OneStop) (spells : OneSpelling) (host : List ℕ) (libs : List (
         (take j (added_segments order host libs)) giver.0 asks.0 asks.1) [
           | inl h ↦
               let o = own_at order host libs asks.0 (giver.0, h) in
-              let l = own_listed giver.0 asks.0 h in (
-                l.0,
-                asks.0,
-                l.1,
-                (
-                  inl (own_known order host libs fine.0 o.0 asks.0 o.1 o.2).1.not_added,
-                  asking,
-                ),
-              )
+              let l = own_listed giver.0 asks.0 h in
+              let mark = (own_known order host libs fine.0 o.0 asks.0 o.1 o.2).1.not_added in
+              (l.0, asks.0, l.1, (inl mark, asking))
           | inr t ↦
               let u = of_take j (added_segments order host libs) t.0 asks.0 t.2 in
               let l = added_listed t.0 asks.0 u.1 in
-              let a = in_empty order host libs t.0 asks.0 u.1 in (
-                l.0,
-                asks.0,
-                l.1,
-                (
-                  inr (empty_ascend order host t.0 j asks.0.slot s.slot u.0 a
-                      (in_empty order host libs j s in_round)),
-                  asking,
-                ),
-              )
+              let a = in_empty order host libs t.0 asks.0 u.1 in
+              let b = in_empty order host libs j s in_round in
+              let less = empty_ascend order host t.0 j asks.0.slot s.slot u.0 a b in
+              (l.0, asks.0, l.1, (inr less, asking))
         ]
       where
         giver : (i : ℕ)
@@ -294,8 +278,7 @@ module _ (law : OneStop) (spells : OneSpelling) (host : List ℕ) (libs : List (
 
   each : (P : Segment → Type 0) → ((s : Segment) → HasOrigin order host libs s → P s)
       → All P (segments_of host libs)
-  each P h = all_items P (segments_of host libs)
-      (λ k s e. h s (known s (of_segments order host libs k s e)))
+  each P h = all_items P _ (λ k s e. h s (known s (of_segments order host libs k s e)))
 
   pub own : AreOwn host (segments_of host libs)
   own = each _ (λ s k. k.own)
@@ -322,30 +305,21 @@ module _ (law : OneStop) (spells : OneSpelling) (host : List ℕ) (libs : List (
   -- 4. each slot that is not empty has a segment
   has_role : (slot : ℕ) → slot < 16 → (r : Role) × HasRole order host slot r
   unfolding slots_fault
-  has_role slot inside = role_is (role_of (entry_at order host slot))
-      (both_none (result_err (role_of (entry_at order host slot))) _
-      (map_none (in_slot 0 slot) (slot_reason order host slot)
-      (none_at (λ n. option_map (in_slot 0 n) (slot_reason order host n)) 0 16 slot
-      (slots_fine host libs no_fault) (omega arith) (omega (arith, inside))))).0
+  has_role slot inside = role_is _ (both_none _ _ (map_none _ _ (none_at (λ n. option_map (in_slot
+      0 n) (slot_reason order host n)) 0 16 slot (slots_fine host libs no_fault) (omega arith)
+      (omega (arith, inside))))).0
 
   pub one_each : HaveOneEach host (segments_of host libs)
   one_each slot inside filled =
       let r = has_role slot inside in
-      let s = has_own order host libs fine.0 slot inside r.0 r.1
-      (λ e. filled (subst (λ x. HasRole order host slot x) e r.1)) in
-      let i = in_segments order host libs slot s.0 inside
-      (ap (λ x. option_or x (added_at order host libs slot)) s.1) in
-      let at = own_in_slot order host libs slot s.0 s.1 in (
-        i.0,
-        s.0,
-        i.1,
-        (
-          at,
-          λ other q e same. one_place (segments order host libs)
-              (rises 0 (segments order host libs) (ascend order host libs)) other i.0 q s.0 e i.1
-              (same ∙ sym at),
-        ),
-      )
+      let s = has_own order host libs fine.0 slot inside r.0 r.1 (λ e. filled (subst (λ x. HasRole
+      order host slot x) e r.1)) in
+      let i = in_segments order host libs slot s.0 inside (ap (λ x. option_or x (added_at order
+      host libs slot)) s.1) in
+      let at = own_in_slot order host libs slot s.0 s.1 in
+      let segs = segments order host libs in
+      let only = one_place segs (rises 0 segs (ascend order host libs)) in
+      (i.0, s.0, i.1, (at, λ other q e same. only other i.0 q s.0 e i.1 (same ∙ sym at)))
 
 -- the segments of a link are by slot, and each slot is below 16
 pub by_slot : (host : List ℕ) (libs : List (List ℕ)) → AreBySlot (segments_of host libs)

@@ -37,10 +37,14 @@ unfolding segments
 over_segments {B} {S} order host libs g each apart = subst (λ o. Least B (λ f. SomeSegment order
     host libs (λ s. S s f)) o) (sym (first_of_filter_map g (segment_at order host libs) slots))
     (least_same to (λ f t. (t.0.slot, omega arith, omega (arith, t.1.0), (t.0, t.1.1, t.2)))
-    (least_within (λ slot. option_and_then g (segment_at order host libs slot)) 0 16
-    (λ slot low high. least_then g (segment_at order host libs slot)
-    (λ s e. each s (here slot s high e))) (λ i j x y h s t. apart s.0 t.0 x y (omega
-    (arith, h, slot_is order host libs i s.0 s.1, slot_is order host libs j t.0 t.1)) s.2 t.2)))
+    (least_within (λ slot. option_and_then g _) 0 16 (λ slot low high. least_then g _ (λ s e.
+    each s (here slot s high e))) (λ i j x y h s t. apart s.0 t.0 x y (omega (
+      arith,
+      h,
+      slot_is
+          order host libs i s.0 s.1,
+      slot_is order host libs j t.0 t.1,
+    )) s.2 t.2)))
   where
     here : (slot : ℕ) (s : Segment) → slot < 0 + 16
         → segment_at order host libs slot ≡ Some s → IsSegment order host libs s

@@ -1,7 +1,7 @@
 -- The first fault of the sources is the smallest that is.
 use Rattle.std.proofs.Common.{rules, ◌≡◌, ℕ, ◌+◌, ◌-◌, ◌*◌, ◌<◌, ◌≤◌}
 use Rattle.std.proofs.Common.{List, [], ◌∷◌, length, Option, Some, None, Result, Ok, Err}
-use Rattle.std.proofs.Common.{Bool, true, false, refl, sym, ap, subst, ◌∙◌, inl, inr, arith}
+use Rattle.std.proofs.Common.{Bool, true, false, refl, sym, ap, ◌∙◌, inl, inr, arith}
 use Rattle.std.proofs.Common.{leb-true, le-leb, unwrap_or, is_none}
 use Rattle.ps_laws.proofs.Words.{◌⊎◌, ◌≢◌, if◌then◌else◌, nat_lt, not, ◌&&◌}
 use Rattle.ps_laws.proofs.Words.{◌||◌, ◌==◌, nat_le, Decides, range_with_len}
@@ -29,7 +29,7 @@ use Rattle.ps_resolve.specs.Sources.{has_entry}
 use Rattle.ps_resolve.proofs.Requested.{has_name}
 pub use Rattle.ps_resolve.proofs.FirstSlots.{ok_is}
 use Rattle.ps_laws.proofs.Least.{Least, nothing, this, Precedes, least_same, least_or, least_if}
-use Rattle.ps_laws.proofs.Least.{least_then, least_range, least_items, least_guard, least_else}
+use Rattle.ps_laws.proofs.Least.{least_then, least_below, least_items, least_guard, least_else}
 use Rattle.ps_resolve.specs.Standing.Rounds.{PlacedFault}
 use Rattle.ps_laws.proofs.Steps.{Ranked, because, any_of_range, any_lesser}
 use Rattle.ps_laws.proofs.Items.{not_apart}
@@ -41,31 +41,24 @@ use Rattle.ps_words.specs.declared.fault.Reason.TheVariants as reason
 pub at_most : (a b : ℕ) → Decides (nat_le a b) (a ≤ b)
 at_most a b = (λ e. leb-true a b e, λ h. le-leb a b h)
 
--- before rank n in the slot's own faults, or from it on, or in a record
+-- at a slot: before rank n in the slot's own faults, or from it on
 abbrev pub Early : ℕ → ℕ → Fault → Type 0
 Early slot n f = (unwrap_or f.slot f.file ≡ slot) × (part f.rec ≡ 0)
     × (part f.reference ≡ 0) × (rank f.reason < n)
 
 abbrev pub Late : ℕ → ℕ → Fault → Type 0
-Late slot n f = (unwrap_or f.slot f.file ≡ slot)
-    × (((part f.rec ≡ 0) × (part f.reference ≡ 0) × (n ≤ rank f.reason))
-    ⊎ (0 < part f.rec))
+Late slot n f = (unwrap_or f.slot f.file ≡ slot) × (n ≤ rank f.reason)
 
--- of a slot's faults, one before rank n comes before one from it on, and before one of a record
+-- of a slot's faults, one before rank n comes before one from it on
 pub early_late : (slot n : ℕ) (x y : Fault) → Early slot n x → Late slot n y
     → Precedes OfSources x y
 early_late slot n x y a b = grind arith
 
-module _ {P : Reason → Type 0} (k slot n : ℕ) (f : Fault) where
-  -- a fault of a slot is before rank n where each reason that it may have is
-  early : ((why : Reason) → P why → rank why < n)
-      → Because (in_slot k slot) P f → Early slot n f
-  early low t = grind arith
-
-  -- a fault of a slot is from rank n on where each reason that it may have is
-  pub late : ((why : Reason) → P why → n ≤ rank why)
-      → Because (in_slot k slot) P f → Late slot n f
-  late high t = grind arith
+-- a fault of a slot is before rank n where each reason that it may have is
+early : {P : Reason → Type 0} (k slot n : ℕ) (f : Fault)
+    → ((why : Reason) → P why → rank why < n)
+    → Because (in_slot k slot) P f → Early slot n f
+early k slot n f low t = grind arith
 
 -- the first that passes is the first of those
 find_first : {X : Type 0} (p : X → Bool) (xs : List X)
@@ -79,12 +72,11 @@ module _ (order : Order) (name file : List ℕ) where
   named i = grind (arith, bytes_eq-Decides)
 
   pub has : Decides (has_entry order name file) (HasEntry order name file)
-  has = any_lesser (is_named order name file) (λ i. IsNamed order name file i) (named) 16
+  has = any_lesser _ _ named 16
 
 -- the entries of a name, by their numbers
 abbrev NamedAt : Order → List ℕ → List ℕ → ℕ → Type 0
-NamedAt order name lib y = (i : ℕ) × (0 ≤ i) × (i < 0 + 16)
-    × (IsNamed order name lib i × (y ≡ i))
+NamedAt order name lib y = SomeBelow 16 (λ i. IsNamed order name lib i × (y ≡ i))
 
 abbrev Duplicate : Order → List ℕ → List ℕ → Type 0
 Duplicate order name lib =
@@ -100,8 +92,8 @@ module _ (order : Order) (name lib : List ℕ) where
   -- the entry that is found for a name is the smallest that has it
   first_entry : Least
       (λ i j. i < j) (NamedAt order name lib) (find (is_named order name lib) slots)
-  first_entry = rw (find_first (is_named order name lib) slots) (least_range _ (λ i. least_guard _
-      (named order name lib i) (this i refl (λ y e. inl e))) (λ i j x y h s t. grind arith) 0 16)
+  first_entry = rw (find_first (is_named order name lib) slots) (least_below _ (λ i. least_guard _
+      (named order name lib i) (this i refl (λ y e. inl e))) (λ i j x y h s t. grind arith) 16)
 
   -- the reason that is given for a library's entries of a name is the one of smallest rank that
   -- applies
@@ -124,26 +116,21 @@ module _ (order : Order) (name lib : List ℕ) where
         where
           none : (y : Reason) → Has y → ⊥
           none reason.DoubledUnit h = false≢true (d.1 h)
-          none (reason.NotAUnit kind) h = n h.0
-              (h.0, omega arith, (let a = h.1 in omega (arith, a)), (h.2.0, refl))
+          none (reason.NotAUnit kind) h = n h.0 (h.0, h.1, (h.2.0, refl))
           none other h = h
       go false (Some i) d (this j s l) =
           least_same to from (least_if _ _ (Decides-not ((entry_at order lib i).kind == 3)
           (Decides-eqb (entry_at order lib i).kind 3)))
         where
           here : IsNamed order name lib i
-          here = subst (λ k. IsNamed order name lib k) (sym s.3.1) s.3.0
+          here = rw s.2.1 s.2.0
 
           within : i < 16
-          within = let a = s.2 in let b = s.3.1 in omega (arith, a, b)
+          within = rw s.2.1 s.1
 
           to : (y : Reason) → (y ≡ reason.NotAUnit (entry_at order lib i).kind)
               × ((entry_at order lib i).kind ≢ 3) → Has y
-          to y t = subst Has (sym t.0) (
-            i,
-            within,
-            (here, λ j b n. single d j i b within n here, refl, t.1),
-          )
+          to y t = rw t.0 (i, within, (here, λ j b n. single d j i b within n here, refl, t.1))
 
           from : (y : Reason) → Has y → (y ≡ reason.NotAUnit (entry_at order lib i).kind)
               × ((entry_at order lib i).kind ≢ 3)
@@ -183,12 +170,9 @@ module _ (order : Order) (name : List ℕ) (libs : List (List ℕ)) where
   pub is_chosen : (p : ℕ × List ℕ)
       → Least (λ p q. p.0 < q.0) (Found order name libs) (Some p) → IsChosen order name libs p
   is_chosen p (this q s l) = record {
-    there = subst (λ (z : ℕ × List ℕ). slice_get libs z.0 ≡ Some z.1) (sym s.3.1) s.2;
-    has = subst (λ (z : ℕ × List ℕ). HasEntry order name z.1) (sym s.3.1) s.3.0;
-    lesser = λ m other h e k. elim (l (m, other) (m, other, e, (k, refl))) [
-      | inl x ↦ (let y = ap (λ (z : ℕ × List ℕ). z.0) x in omega (arith, y, h))
-      | inr x ↦ omega (arith, x, h)
-    ];
+    there = rw s.3.1 s.2;
+    has = rw s.3.1 s.3.0;
+    lesser = λ m other h e k. (let u = l (m, other) (m, other, e, (k, refl)) in grind arith);
   }
 
   -- the first fault of the chosen library's entries of a name is the smallest that applies
@@ -213,8 +197,7 @@ module _ (order : Order) (name : List ℕ) (libs : List (List ℕ)) where
           from : (f : Fault) → EntryFault order name libs slot f
               → Because (in_slot (p.0 + 1) slot) (EntriesHave order name p.1) f
           from f t = elim (l (t.0, t.1) (t.0, t.1, t.2, (t.3.0.0, refl))) [
-            | inl e ↦ subst (λ (z : ℕ × List ℕ). Because (in_slot (z.0 + 1) slot)
-                (EntriesHave order name z.1) f) e t.3.1
+            | inl e ↦ rw (← e) t.3.1
             | inr h ↦ absurd (t.3.0.1 p.0 p.1 h c.there c.has)
           ]
 
@@ -240,20 +223,11 @@ module _ (order : Order) (code : List ℕ) where
   -- the test of all tables for their places says whether one is bad
   bad_table : Decides
       (not (list_all (is_placed order code) (numbers code))) (HasBadTable order code)
-  bad_table = Decides-at _ _ (not_all _ (numbers code)) (Decides-like _ (λ t. (
-    t.0,
-    t.1,
-    omega
-        (arith, t.2),
-    t.3.0,
-    t.3.1,
-  )) (λ t. (t.0, t.1, omega (arith, t.2), (t.3, t.4))) (any_of_range
-      (λ p. not _) Misplaced (λ p. not_placed _ _ _ _) 1 _))
-    where
-      Misplaced : ℕ → Type 0
-      Misplaced p = (content_of order code p ≢ 0)
-          × ((length code - 2 - 2 * p < content_of order code p + 8)
-          ⊎ (dictionary_start code ≤ length code - 2 - 2 * p - content_of order code p + 1))
+  bad_table = rw (not_all (is_placed order code) (numbers code)) (Decides-like _
+      (λ t. (t.0, t.1, omega (arith, t.2), t.3.0, t.3.1))
+      (λ t. (t.0, t.1, omega (arith, t.2), (t.3, t.4))) (any_of_range _ _ (λ p. not_placed
+      (content_of order code p) (length code - 2 - 2 * p) (length code - 2 - 2 * p
+      - content_of order code p + 1) (dictionary_start code)) 1 (procedures code)))
 
   -- the test of the procedure dictionary and the tables says whether they are bad
   are_bad : (host : Bool) → Decides (nat_lt (length code) (dictionary_len code)
@@ -271,24 +245,11 @@ module _ (order : Order) (code : List ℕ) where
   native_table : Decides (list_any (λ t. slice_index code t == 0) (tables order code))
       ((p : ℕ) × (1 ≤ p) × (p ≤ procedures code)
       × (t : ℕ) × (table_of order code p ≡ Some t) × (slice_index code t ≡ 0))
-  native_table = Decides-at _ _ (any_of_filter _ _ (numbers code)) (Decides-like _ (λ t. (
-    t.0,
-    t.1,
-    omega (arith, t.2),
-    t.3.0,
-    t.3.1,
-    t.3.2,
-  )) (λ t. (
-    t.0,
-    t.1,
-    omega (arith, t.2),
-    (
-      t.3,
-      t.4,
-      t.5,
-    ),
-  )) (any_of_range _ (λ p. (t : ℕ) × (table_of order code p ≡ Some t) × (slice_index
-      code t ≡ 0)) (λ p. is_at _ _ (λ t. Decides-eqb _ 0) _) 1 _))
+  native_table = Decides-at _ _ (any_of_filter _ _ (numbers code)) (Decides-like _
+      (λ t. (t.0, t.1, omega (arith, t.2), t.3.0, t.3.1, t.3.2))
+      (λ t. (t.0, t.1, omega (arith, t.2), (t.3, t.4, t.5))) (any_of_range _ (λ p. (t : ℕ)
+      × (table_of order code p ≡ Some t) × (slice_index code t ≡ 0))
+      (λ p. is_at _ _ (λ t. Decides-eqb _ 0) _) 1 _))
 
   -- the reason that is given for the tables of a code is the one of smallest rank that applies
   pub tables_rows : (host : Bool)
@@ -359,14 +320,25 @@ pub entry_early : (order : Order) (name : List ℕ) (libs : List (List ℕ)) (sl
     (f : Fault) → EntryFault order name libs slot f → Early slot 15 f
 entry_early order name libs slot f t = early (t.0 + 1) slot 15 f (entries_low order name t.1) t.3.1
 
-late_record : (k slot n rec : ℕ) (why : Reason) (f : Fault) → f ≡ in_record k slot rec why
-    → Late slot n f
-late_record k slot n rec why f e = grind arith
+-- a fault of a record is from rank 20 on
+late_record : (order : Order) (file : List ℕ) (e : Entry) (k slot : ℕ) (f : Fault)
+    → RecordStops order file e k slot f → Late slot 20 f
+late_record order file e k slot f t = rw t.2 (
+  refl,
+  record_reason (λ why. 20 ≤ rank why)
+      (omega arith) (omega arith) (omega arith) (omega arith) (omega arith) order _ t.1 t.3.stops,
+)
 
--- a fault of a code, its tables or its records is from rank 15 on, or of a record
+-- a fault of a code, its tables or its records is from rank 15 on
 pub code_late : (order : Order) (file : List ℕ) (k : ℕ) (e : Entry) (slot : ℕ) (r : Role)
     (f : Fault) → CodeFault order file k e slot r f → Late slot 15 f
-code_late order file k e slot r f t = grind (arith, late, code_mid, tables_mid, late_record)
+code_late order file k e slot r f (inl t) = rw t.1 (refl, (code_mid file e t.0 t.2).0)
+code_late order file k e slot r f (inr t) = elim t.2.1 [
+  | inl b ↦ (let m = (tables_mid order t.0 (is_host r) b.0 b.2).0 in
+      rw b.1 (refl, omega (arith, m)))
+  | inr b ↦ (let h = late_record order file e k slot f b in
+      (h.0, (let m = h.1 in omega (arith, m))))
+]
 
 module _ (law : OneStop) (order : Order) where
   -- the first fault of a code, its tables and its records is the smallest that applies
@@ -397,7 +369,7 @@ module _ (law : OneStop) (order : Order) where
       go (Ok code) q = least_same to from (least_guard _ (of_test _) (least_or (because OfSources _
           (λ a b h. grind arith) (tables_rows order code _)) (records_least law order file e at.0
           slot) (λ x y a b. early_late slot 20 x y (early at.0 slot 20 x (λ why h. (tables_mid
-          order code _ why h).1) a) (late_record at.0 slot 20 _ b.1 y b.2))))
+          order code _ why h).1) a) (late_record order file e at.0 slot y b))))
         where
           Linked : Fault → Type 0
           Linked f = (needs_linking r ≡ true)
@@ -408,11 +380,8 @@ module _ (law : OneStop) (order : Order) where
 
           from : (f : Fault) → CodeFault order file at.0 e slot r f → Linked f
           from f (inl t) = search (rules, arith)
-          from f (inr t) = let same : t.0 ≡ code = (let a = t.1 in cc) in (
-            t.2.0,
-            subst (λ (c : List ℕ). Because (in_slot at.0 slot)
-                (TablesHave order c (is_host r)) f ⊎ Records f) same t.2.1,
-          )
+          from f (inr t) = let same : t.0 ≡ code = (let a = t.1 in cc) in
+              (t.2.0, rw same at t.2.1)
 
   -- the first fault of a name's unit in a slot, of the library's entries and then of its code, is
   -- the smallest that applies
@@ -426,37 +395,19 @@ module _ (law : OneStop) (order : Order) where
       role.Wanted y t.2))
 
 module _ (order : Order) where
-  -- the faults of a unit that is looked up are at its slot, and have a rank of 13 or above
+  -- the faults of a unit that is looked up are from rank 13 on
   entries_high : (name lib : List ℕ) (why : Reason)
       → EntriesHave order name lib why → 13 ≤ rank why
   entries_high name lib why h = grind arith
 
-  code_high : (file : List ℕ) (k : ℕ) (e : Entry) (slot : ℕ) (r : Role) (f : Fault)
-      → CodeFault order file k e slot r f → 13 ≤ rank f.reason
-  code_high file k e slot r f (inl t) =
-      rw t.1 (let m = (code_mid file e t.0 t.2).0 in omega (arith, m))
-  code_high file k e slot r f (inr t) = elim t.2.1 [
-    | inl b ↦ rw b.1 (let m = (tables_mid order t.0 (is_host r) b.0 b.2).0 in omega (arith, m))
-    | inr b ↦ rw b.2 (record_reason (λ why. 13 ≤ rank why) (omega arith) (omega arith)
-        (omega arith) (omega arith) (omega arith) order _ b.1 b.3.stops)
-  ]
-
-  pub placed_high : (host : List ℕ) (libs : List (List ℕ)) (name : List ℕ) (slot : ℕ)
+  pub placed_late : (host : List ℕ) (libs : List (List ℕ)) (name : List ℕ) (slot : ℕ)
       (f : Fault) → PlacedFault order host libs name slot f
-      → (unwrap_or f.slot f.file ≡ slot) × (13 ≤ rank f.reason)
-  placed_high host libs name slot f (inl t) = grind (arith, entries_high)
-  placed_high host libs name slot f (inr t) =
+      → Late slot 13 f
+  placed_late host libs name slot f (inl t) = grind (arith, entries_high)
+  placed_late host libs name slot f (inr t) =
       let file = file_at host libs t.0.0 in
-      let e = entry_at order file t.0.1 in (
-        (code_late order file t.0.0 e slot role.Wanted f t.2).0,
-        code_high file t.0.0 e slot role.Wanted f t.2,
-      )
-
--- that a unit is missing comes before a fault of rank 13 or above
-missing_early : (slot : ℕ) (f : Fault) → (unwrap_or f.slot f.file ≡ slot)
-    × (13 ≤ rank f.reason)
-    → Precedes OfSources (in_slot 0 slot reason.MissingUnit) f
-missing_early slot f h = grind arith
+      let late = code_late order file t.0.0 (entry_at order file t.0.1) slot role.Wanted f t.2 in
+      (late.0, (let h = late.1 in omega (arith, h)))
 
 pub is_ok : {X E : Type 0} (o : Result X E) (x : X) → o ≡ Ok x → result_ok o ≡ Some x
 is_ok o x h = grind arith
@@ -478,7 +429,8 @@ of_role law order host libs slot role.Wanted has =
     least_same to from (least_else (is_missing order libs name) _ (Decides-at _ missing
     (ap (λ b. b || missing) (has_name order host libs slot has)) (none_has order name libs))
     (unit_least law order host libs name slot)
-    (λ f p. missing_early slot f (placed_high order host libs name slot f p)))
+    (λ f p. early_late slot 13 (in_slot 0 slot reason.MissingUnit) f
+    (refl, refl, refl, omega arith) (placed_late order host libs name slot f p)))
   where
     name : List ℕ
     name = (entry_at order host slot).name
@@ -512,12 +464,12 @@ pub step_5 : (law : OneStop) (order : Order) (host : List ℕ) (libs : List (Lis
     → Least (Precedes OfSources) (InSources order host libs) (sources_fault order host libs)
 unfolding sources_fault
 step_5 law order host libs =
-    least_same (λ f t. (t.0, omega (arith, t.2), (t.3.0, ok_is _ t.3.0 t.3.1, t.3.2)))
-    (λ f t. (t.0, omega arith, omega (arith, t.1), (t.2.0, is_ok _ t.2.0 t.2.1, t.2.2)))
-    (least_range _ (λ slot. least_then _ _
+    least_same (λ f t. (t.0, t.1, (t.2.0, ok_is _ t.2.0 t.2.1, t.2.2)))
+    (λ f t. (t.0, t.1, (t.2.0, is_ok _ t.2.0 t.2.1, t.2.2)))
+    (least_below _ (λ slot. least_then _ _
     (λ r e. of_role law order host libs slot r (ok_is _ r e)))
     (λ i j x y h s t. inr (
       refl,
       inl (let a = in_place order host libs i s.0 x s.2 in
           let b = in_place order host libs j t.0 y t.2 in omega (arith, a, b, h)),
-    )) 0 16)
+    )) 16)

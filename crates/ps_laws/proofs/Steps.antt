@@ -7,7 +7,7 @@ use Rattle.ps_laws.proofs.Words.{range_with_len, list_any, option_map, option_ma
 use Rattle.ps_laws.proofs.Words.{result_err, bytes_eq, cases_lt, false≢true, Decides-ltb}
 use Rattle.ps_laws.proofs.Words.{Decides-and, Decides-like, bytes_eq-Decides, entry_at}
 use Rattle.ps_laws.proofs.Words.{role_of, Because, SomeBelow, HasRole, IsUnitSlot, Step, OfHost}
-use Rattle.ps_laws.proofs.Words.{OfSlots, OfNoHost, OfLibraries, rank, Entry, Role, is_role}
+use Rattle.ps_laws.proofs.Words.{OfSlots, OfNoHost, OfLibraries, rank, Role, is_role}
 use Rattle.ps_laws.proofs.Words.{is_host, is_unit, Order, Reason, Fault}
 use Rattle.std.proofs.lemmas.Bool.Decides.{Decides-not}
 use Rattle.ps_codefile.specs.Dictionary.{FileOrder, file_order, opened_alone, opened_as}
@@ -18,9 +18,8 @@ use Rattle.ps_resolve.specs.Standing.Libraries.{LibraryHas, InLibraries}
 use Rattle.ps_resolve.specs.Faults.{host_fault, slot_reason, slots_fault, no_host_fault}
 use Rattle.ps_resolve.specs.Faults.{library_reason, libraries_fault}
 use Rattle.ps_words.specs.FaultPlaces.{in_file}
-use Rattle.ps_laws.proofs.Parts.{role_reason}
 use Rattle.ps_laws.proofs.Least.{Least, nothing, this, Precedes, least_same, least_order, least_or}
-use Rattle.ps_laws.proofs.Least.{least_if, least_map, least_range, least_each}
+use Rattle.ps_laws.proofs.Least.{least_if, least_map, least_below, least_each}
 use Rattle.ps_codefile.specs.declared.entry.Role.TheVariants as role
 use Rattle.ps_words.specs.declared.fault.Reason.TheVariants as reason
 
@@ -86,20 +85,13 @@ pub step_4 : (order : Order) (libs : List (List ℕ))
     → Least (Precedes OfLibraries) (InLibraries order libs) (libraries_fault order libs)
 unfolding libraries_fault
 step_4 order libs =
-    least_same (λ f t. (
-      t.0,
-      t.2,
-      t.4,
-      subst (λ k. Because (in_file k) (LibraryHas order t.2) f) (omega (arith, t.3)) t.5,
-    )) (λ f t. (t.0, t.0 + 1, t.1, omega arith, t.2, t.3)) (least_each _ 1 libs (λ i k lib q e.
+    least_same (λ f t. (let has = subst (λ k. Because (in_file k) (LibraryHas order t.2) f)
+    (omega (arith, t.3)) t.5 in (t.0, t.2, t.4, has)))
+    (λ f t. (t.0, t.0 + 1, t.1, omega arith, t.2, t.3)) (least_each _ 1 libs (λ i k lib q e.
     because OfLibraries _ (λ a b r. grind arith) (library_reasons order lib)) (λ i j a b x y h.
     because_apart OfLibraries _ _ (λ r q. inr (refl, inl h)) x y))
 
 -- 2
-role_low : (e : Entry) (why : Reason) → role_of e ≡ Err why → rank why < 9
-role_low e = role_reason (λ why. rank why < 9) (omega arith) (omega arith) (omega arith)
-    (omega arith) e
-
 -- the test of a role passes just where there is one, and it is Host
 pub host_role : (r : Result Role Reason)
     → Decides (option_map_or is_host (result_ok r) false) (r ≡ Ok role.Host)
@@ -132,9 +124,6 @@ module _ (order : Order) (host : List ℕ) where
       units : (i : ℕ) → Decides (is_role is_unit order host i) (IsUnitSlot order host i)
       units i = unit_role (role_of (entry_at order host i))
 
-      low : (x : Reason) → role_of (entry_at order host slot) ≡ Err x → rank x < 9
-      low x e = role_low (entry_at order host slot) x e
-
       Second : Reason → Type 0
       Second x = (x ≡ reason.TwoHosts) × (HasRole order host slot role.Host
           × SomeBelow slot (λ i. HasRole order host i role.Host))
@@ -142,10 +131,6 @@ module _ (order : Order) (host : List ℕ) where
       Third : Reason → Type 0
       Third x = (x ≡ reason.DoubledSegment) × (IsUnitSlot order host slot
           × SomeBelow slot (λ i. IsUnitSlot order host i × (name i ≡ name slot)))
-
-      keep : (x : Reason) → rank x < 9 → role_of (entry_at order host slot) ≡ Err x
-          → SlotHas order host slot x
-      keep x h e = grind arith
 
       to : (x : Reason) → (role_of (entry_at order host slot) ≡ Err x)
           ⊎ (Second x ⊎ Third x) → SlotHas order host slot x
@@ -162,17 +147,8 @@ module _ (order : Order) (host : List ℕ) where
   -- the first fault of the slots is the smallest that applies
   pub step_2 : Least (Precedes OfSlots) (InSlots order host) (slots_fault order host)
   unfolding slots_fault
-  step_2 = least_same (λ f t. (t.0, omega (arith, t.2), t.3)) (λ f t. (
-    t.0,
-    omega arith,
-    omega
-        (arith, t.1),
-    t.2,
-  )) (least_range (λ slot. option_map _ _) (λ slot. because OfSlots _ (λ a b
-      r. grind arith) (slot_rows slot)) (λ i j x y h. because_apart OfSlots _ _ (λ r q. inr (
-        refl,
-        inl h,
-      )) x y) 0 16)
+  step_2 = least_below _ (λ slot. because OfSlots _ (λ a b r. grind arith) (slot_rows slot))
+      (λ i j x y h. because_apart OfSlots _ _ (λ r q. inr (refl, inl h)) x y) 16
 
   -- 3
   pub step_3 : Least (Precedes OfNoHost) (InNoHost order host) (no_host_fault order host)

@@ -46,11 +46,10 @@ module _ (order : Order) (name : List ℕ) (libs : List (List ℕ)) where
   pub unit_place : (at : ℕ × ℕ) → unit_source order name libs ≡ Some at
       → UnitPlace order name libs at
   unit_place at e =
-      option_and_then_some (λ (lib : ℕ × List ℕ). option_map {U = ℕ × ℕ} (λ
-      (i : ℕ). (library_file lib.0, i)) (find (is_named order name lib.1) slots)) (chosen_library
-      order name libs) at e (λ p chosen rest. let entry = some_mapped {Y = ℕ × ℕ}
-      (λ (i : ℕ). (library_file p.0, i)) (find (is_named order name p.1) slots) at rest in subst
-      (UnitPlace order name libs) (sym entry.2) (made p chosen entry.0 entry.1))
+      option_and_then_some (λ (lib : ℕ × List ℕ). option_map {U = ℕ × ℕ} (λ (i : ℕ).
+      (library_file lib.0, i)) _) _ at e (λ p chosen rest. let entry = some_mapped {Y = ℕ × ℕ}
+      (λ (i : ℕ). (library_file p.0, i)) _ at rest in subst (UnitPlace order name libs) (sym
+      entry.2) (made p chosen entry.0 entry.1))
     where
       made : (p : ℕ × List ℕ) → chosen_library order name libs ≡ Some p → (i : ℕ)
           → find (is_named order name p.1) slots ≡ Some i
@@ -131,5 +130,4 @@ module _ (order : Order) (host : List ℕ) (libs : List (List ℕ)) (q : Request
           let has : HasEntry order q.name u.library = (at.1, u.within, u.named) in
           let bad : EntriesHave order q.name u.library why =
           (at.1, u.within, (u.named, one, refl, other)) in
-          fine (in_slot (u.number + 1) q.slot why)
-          (u.number, u.library, u.there, ((has, u.first), (why, refl, bad)))
+          fine _ (u.number, u.library, u.there, ((has, u.first), (why, refl, bad)))

@@ -6,7 +6,7 @@ use Rattle.ps_laws.proofs.Words.{◌⊎◌, ◌≢◌, slice_get, cases_lt, opti
 use Rattle.ps_laws.proofs.Words.{order_of, added_fault, Step, OfHost, OfSlots, OfNoHost}
 use Rattle.ps_laws.proofs.Words.{OfLibraries, OfSources, OfAdded, OfDefinitions, OfPrivates}
 use Rattle.ps_laws.proofs.Words.{OfDataSize, OfReferences, key, InRound, Order, Fault}
-use Rattle.ps_resolve.specs.Faults.{host_fault, slots_fault, no_host_fault, libraries_fault}
+use Rattle.ps_resolve.specs.Faults.{slots_fault}
 use Rattle.ps_resolve.specs.Faults.{sources_fault}
 use Rattle.ps_resolve.specs.Faults.{linking_fault}
 use Rattle.ps_resolve.specs.AllFaults.{first_fault, reading_fault}
@@ -143,9 +143,8 @@ module _ (host : List ℕ) (libs : List (List ℕ)) where
   pub none_read : reading_fault host libs ≡ None → (sources_fault order host libs
       ≡ None) × (added_fault order host libs ≡ None)
   unfolding reading_fault
-  none_read e = both_none _ _ (both_none (libraries_fault order libs) _
-      (both_none (no_host_fault order host) _ (both_none (slots_fault order host) _
-      (both_none (host_fault host) _ e).1).1).1).1
+  none_read e = both_none _ _ (both_none _ _ (both_none _ _ (both_none (slots_fault order host) _
+      (both_none _ _ e).1).1).1).1
 
   -- the first fault of linking is the smallest that applies in turns 7 to 10, where the rounds end
   -- without a fault
