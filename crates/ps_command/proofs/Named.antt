@@ -1,5 +1,6 @@
 -- What the getters of a parse say, put together, and what follows of the command that is named.
-use Rattle.std.proofs.Common.{◌≡◌, ◌≢◌, ◌⊎◌, List, ℕ, Option, Some, None, ap₂, arith}
+use Rattle.std.proofs.Common.{◌≡◌, ◌≢◌, ◌⊎◌, List, ℕ, Option}
+use Rattle.std.proofs.Common.{Some, None, ap₂, arith}
 use Rattle.std.proofs.Common.{inl, inr, option_map, sym}
 use Rattle.std.proofs.lemmas.Option.{none-some, same_Some}
 use Rattle.clap.specs.Words.{Row, Text}

@@ -189,7 +189,8 @@ HasOneEntry order libs name =
     → (i j : ℕ) → i < 16 → j < 16 → IsNamed order name lib i → IsNamed order name lib j
     → i ≡ j
 
-segment : ℕ → List ℕ → Role → Bool → ℕ → ℕ → List ℕ → Option ProcedureTables → ℕ
+segment : ℕ → List ℕ → Role → Bool → ℕ → ℕ → List ℕ
+    → Option ProcedureTables → ℕ
     → List Record → Segment
 segment slot name role added file index code tables block records =
     record {
