@@ -106,12 +106,8 @@ of_place : (segs : List Segment) (p : ℕ) (g : UnitReference)
     × (slice_get segs (owner segs p) ≡ Some s) × (d : ℕ) × IsOf s.file s.slot 0 s.records g d
 of_place [] p g e = absurd (cc)
 of_place (s ∷ ss) p g e = elim (split_at (references_of s) (all_unit_references ss) p g e) [
-  | inl h ↦ rw (owner_first s ss p g h) (
-    s,
-    refl,
-    (reference_is s.file s.slot 0 s.records p g h).0,
-    (reference_is s.file s.slot 0 s.records p g h).1,
-  )
+  | inl h ↦ (let r = reference_is s.file s.slot 0 s.records p g h in
+      rw (owner_first s ss p g h) (s, refl, r.0, r.1))
   | inr t ↦ rw (t.1, owner_later s ss t.0) (of_place ss t.0 g t.2)
 ]
 
@@ -138,15 +134,8 @@ in_order : (segs : List Segment) (p q : ℕ) (g h : UnitReference) → p < q
     → slice_get (all_unit_references segs) q ≡ Some h
     → Before (owner segs p ∷ g.rec ∷ []) (owner segs q ∷ h.rec ∷ [])
 in_order [] p q g h l e u = absurd (cc)
-in_order (s ∷ ss) p q g h l e u = grind (
-  arith,
-  split_at,
-  owner_first,
-  owner_later,
-  references_ascend,
-  slice_get_within,
-  in_order ss,
-)
+in_order (s ∷ ss) p q g h l e u = let rest = in_order ss in
+    grind (arith, split_at, owner_first, owner_later, references_ascend, slice_get_within, rest)
 
 -- 2. the queue: each name at the first of its references that is not known already
 -- reference p is g, and those before it make a queue of k names, of which none is that of g

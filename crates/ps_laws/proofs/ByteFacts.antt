@@ -201,13 +201,11 @@ module _ (order : Order) (segs : List Segment) (base : IsBase segs (next_of (hos
 
       mine : (bytes : List ℕ) × Becomes segs s h.0 h.3.name h.3.body h.2 bytes
           × (byte_at (Some f) ≡ slice_index bytes (p - h.2))
-      mine = (
-        stored_bytes order whole,
-        becomes order segs base s h.0 h.3.name h.3.body h.1 h.2 t h.4.0.1 h.5.1,
-        ap (λ g. byte_at (Some g)) h.5.2
-            ∙ ap (λ n. slice_index (stored_bytes order whole) (p - n))
-            (edit_place s.code t h.2),
-      )
+      mine =
+          let made = becomes order segs base s h.0 h.3.name h.3.body h.1 h.2 t h.4.0.1 h.5.1 in
+          let at = ap (λ g. byte_at (Some g)) h.5.2
+          ∙ ap (λ n. slice_index (stored_bytes order whole) (p - n)) (edit_place s.code t h.2) in
+          (stored_bytes order whole, made, at)
 
       is_it : (rec i x : ℕ) (r : Record) → Reaches s rec r i x p
           → (bytes : List ℕ) × Becomes segs s rec r.name r.body x bytes

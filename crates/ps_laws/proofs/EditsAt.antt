@@ -140,10 +140,10 @@ module _ (order : Order) (segs : List Segment) (s : Segment)
       let g = edit_place s.code t x in
       let w = edit_width segs _ r.name r.body i x s.code t u.0.1 e in
       let a = u.1.0 in
-      let b = u.1.1 in (
-        behind _ h (in_right own others _ there),
-        covering _ p _ (omega (arith, a, g)) (omega (arith, b, g, w)),
-      )
+      let b = u.1.1 in
+      let on = covering (place_of (edit_of s.code t x)) p (width (edit_of s.code t x))
+      (omega (arith, a, g)) (omega (arith, b, g, w)) in
+      (behind _ h (in_right own others _ there), on)
     where
       mine : List Edit
       mine = record_edits (known_of segs) s.code (private_offset segs s.slot rec) r
@@ -153,10 +153,8 @@ module _ (order : Order) (segs : List Segment) (s : Segment)
 
       there : In (edit_of s.code t x) others
       there =
-          in_flat (λ (r : ℕ × Record). record_edits (known_of segs) s.code _ r.1) _ (rec, r) _ (
-            rec,
-            in_numbered 0 s.records rec r u.0.0 ∙ ap (λ m. Some (m, r)) (omega arith),
-          ) (
-            i,
-            ap (λ es. slice_get es i) mine_is ∙ map_at _ _ i x u.0.1,
-          )
+          let at = in_numbered 0 s.records rec r u.0.0 ∙ ap (λ m. Some (m, r)) (omega arith) in
+          let made = ap (λ es. slice_get es i) mine_is
+          ∙ map_at (edit_of s.code t) (refs_of r.body) i x u.0.1 in
+          in_flat (λ (r : ℕ × Record). record_edits (known_of segs) s.code _ r.1) _ (rec, r) _
+          (rec, at) (i, made)

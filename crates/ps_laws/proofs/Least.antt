@@ -110,17 +110,12 @@ least_within {S} f n (suc m) each apart =
 -- each number below one, in order
 pub least_below : {X : Type 0} {B : X → X → Type 0} {S : ℕ → X → Type 0} (f : ℕ
     → Option X)
-    → ((i : ℕ) → Least B (S i) (f i))
-    → ((i j : ℕ) (x y : X) → i < j → S i x → S j y → B x y) → (n : ℕ)
+    (n : ℕ) → ((i : ℕ) → i < n → Least B (S i) (f i))
+    → ((i j : ℕ) (x y : X) → i < j → S i x → S j y → B x y)
     → Least B (λ x. SomeBelow n (λ i. S i x)) (first_of f (range_with_len 0 n))
-least_below f each apart n =
-    least_same (λ x t. (t.0, omega (arith, t.2), t.3)) (λ x t. (
-      t.0,
-      omega arith,
-      omega
-          (arith, t.1),
-      t.2,
-    )) (least_within f 0 n (λ i low high. each i) apart)
+least_below f n each apart = least_same (λ x t. (t.0, omega (arith, t.2), t.3))
+    (λ x t. (let lt = t.1 in (t.0, omega arith, omega (arith, lt), t.2)))
+    (least_within f 0 n (λ i low high. each i (omega (arith, high))) apart)
 
 -- each item of a list with its number, in order
 pub least_each : {A X : Type 0} {B : X → X → Type 0} {S : ℕ → A → X → Type 0}

@@ -1,6 +1,6 @@
 -- Tests of items, and what they decide.
 use Rattle.std.proofs.Common.{rules, ◌≡◌, ℕ, zero, suc, ◌<◌, List, [], ◌∷◌, Some}
-use Rattle.std.proofs.Common.{None, Bool, true, false, refl, sym, ap, subst, ◌∙◌, inl, inr}
+use Rattle.std.proofs.Common.{None, Bool, true, false, refl, sym, ap, ◌∙◌, inl, inr}
 use Rattle.std.proofs.Common.{arith, is_none, Option}
 use Rattle.ps_laws.proofs.Words.{◌⊎◌, if◌then◌else◌, not, Decides, slice_get}
 use Rattle.ps_laws.proofs.Words.{list_any, find, false≢true, Decides-or, Decides-like, SomeItem}
@@ -22,8 +22,7 @@ any_of_items {A} test P d (a ∷ items) =
   where
     go : (i : ℕ) (q : A) → slice_get (a ∷ items) i ≡ Some q → P q
         → P a ⊎ SomeItem items (λ i q. P q)
-    go zero q e p = inl (subst P (cc) p)
-    go (suc i) q e p = inr (i, q, e, p)
+    go i q e p = grind arith
 
 -- a search finds nothing just where no item passes its test
 pub none_of_items : {A : Type 0} (test : A → Bool) (items : List A)

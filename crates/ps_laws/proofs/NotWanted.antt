@@ -1,10 +1,9 @@
 -- The slot of a record that requests a unit does not itself want one that no library has.
-use Rattle.std.proofs.Common.{◌≡◌, List, ◌++◌, Option, false, ◌∙◌, is_none}
-use Rattle.std.proofs.Common.{ℕ, take, Some, None, true, refl, sym, ap, subst, inl, inr, arith}
+use Rattle.std.proofs.Common.{◌≡◌, List, ◌++◌, Option, ◌∙◌, is_none}
+use Rattle.std.proofs.Common.{ℕ, take, Some, None, true, refl, subst, inl, inr, arith}
 use Rattle.ps_codefile.specs.declared.entry.Role.TheVariants as role
 use Rattle.ps_laws.proofs.Words.{Segment, unit_source, own_segment}
 use Rattle.ps_laws.proofs.Words.{IsGiver, HasRole, UnitReference, Order, slice_get}
-use Rattle.ps_laws.proofs.Words.{option_map_or, result_ok}
 use Rattle.ps_laws.proofs.Words.{false≢true, none-some, is_empty, added_segments, is_role}
 use Rattle.ps_resolve.specs.Parts.{WantsMissing}
 use Rattle.ps_resolve.specs.Sources.{own_segments}
@@ -29,8 +28,7 @@ module _ (order : Order) (host : List ℕ) (libs : List (List ℕ)) where
 
   not_empty : (slot : ℕ) → HasRole order host slot role.Wanted
       → is_role is_empty order host slot ≡ true → ⊥
-  not_empty slot has e = false≢true (sym
-      (ap (λ r. option_map_or is_empty (result_ok r) false) has) ∙ e)
+  not_empty slot has e = grind (arith, false≢true)
 
   -- 2. a segment of the host's own that a slot wants has its library
   none_source : (name : List ℕ) → NoneHas order name libs

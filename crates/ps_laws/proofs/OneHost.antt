@@ -3,6 +3,7 @@
 use Rattle.std.proofs.Common.{◌≡◌, ℕ, zero, suc, ◌+◌, ◌<◌, List, [], ◌∷◌}
 use Rattle.std.proofs.Common.{length, Some, None, Bool, true, false, refl, sym, ap}
 use Rattle.std.proofs.Common.{◌∙◌, is_some, arith}
+use Rattle.ps_resolve.specs.Standing.Definitions.{HasEarlierNamesake}
 use Rattle.ps_laws.proofs.Looking.{is_there}
 use Rattle.ps_laws.proofs.Words.{same_Some, cons_option, option_map_or, false≢true, next_of, Body}
 use Rattle.ps_laws.proofs.Words.{Record, segments_of, is_host, Segment, order_of, host_of}
@@ -83,8 +84,7 @@ module _ (host : List ℕ) (libs : List (List ℕ)) (none : NoneStands host libs
 
   one_record : (rec other : ℕ) (r q : Record) → IsHostRecord (segments_of host libs) rec r
       → IsHostRecord (segments_of host libs) other q → rec ≡ other → r ≡ q
-  one_record rec other r q t u e = same_Some r q
-      (sym t.3.1 ∙ (ap (λ n. slice_get t.1.records n) e ∙ of_one_host rec other r q t u))
+  one_record rec other r q t u e = let at = of_one_host rec other r q t u in let b = t.3.1 in cc
 
   pub one_base : (a b : ℕ) → IsBase (segments_of host libs) a
       → IsBase (segments_of host libs) b → a ≡ b
@@ -103,13 +103,10 @@ module _ (host : List ℕ) (libs : List (List ℕ)) (none : NoneStands host libs
       → slice_get s.records l ≡ Some e → d.name ≡ e.name → d.body ≡ PublDef v
       → e.body ≡ PublDef w → k < l → ⊥
   again s is k l d e v w x y same p q lt =
-      none OfDefinitions (in_record 0 s.slot l reason.DoubledDefinition) (record {
-        stands = (
-          s,
-          is,
-          (l, e, y, (refl, (ap is_definition q, (k, lt, (d, x, (ap is_definition p, same)))))),
-        );
-      })
+      let twice : HasEarlierNamesake is_definition s.records l e =
+      (ap is_definition q, (k, lt, (d, x, (ap is_definition p, same)))) in
+      none OfDefinitions (in_record 0 s.slot l reason.DoubledDefinition)
+      (record { stands = (s, is, (l, e, y, (refl, twice))) })
 
   pub one_public : (name : List ℕ) (a b : ℕ) → IsPublic (segments_of host libs) name a
       → IsPublic (segments_of host libs) name b → a ≡ b

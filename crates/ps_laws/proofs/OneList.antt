@@ -84,11 +84,7 @@ module _ (order : Order) (host : List ℕ) (libs : List (List ℕ))
 
   agreed : (k : ℕ) → Agree k Segs others × Agree k Queue other
   agreed zero = search (rules, arith)
-  agreed (suc k) = go (agreed k)
-    where
-      go : Agree k Segs others × Agree k Queue other
-          → Agree (suc k) Segs others × Agree (suc k) Queue other
-      go h = grind (arith, queue_at, agree_longer, segs_at)
+  agreed (suc k) = let h = agreed k in grind (arith, queue_at, agree_longer, segs_at)
 
   pub only_units : (other ≡ Queue) × (others ≡ Segs)
   only_units = (

@@ -1,6 +1,7 @@
 -- Where no fault applies, no two units of a link have a name in common.
 use Rattle.std.proofs.Common.{rules, ◌≡◌, ℕ, ◌<◌, List, Some, None, true, refl, sym, ap}
 use Rattle.std.proofs.Common.{◌∙◌, inl, inr}
+use Rattle.ps_resolve.specs.Standing.Slots.{SlotHas}
 use Rattle.ps_laws.proofs.Words.{◌⊎◌, slice_get, same_Some, entry_at, is_unit, added_segments}
 use Rattle.ps_laws.proofs.Words.{segments_of, IsOfRound, AddedUnits, Segment, order_of, NoneStands}
 use Rattle.ps_laws.proofs.Words.{OfSlots, IsSegment, IsUnitSlot, UnitReference, Order}
@@ -44,17 +45,10 @@ module _ (host : List ℕ) (libs : List (List ℕ)) (none : NoneStands host libs
   -- two of the host's own
   before_own : (s q : Segment) → IsOwn s → IsOwn q → s.name ≡ q.name → s.slot < q.slot
       → ⊥
-  before_own s q a b same lt = none OfSlots _ (record {
-    stands = (
-      q.slot,
-      b.0,
-      (
-        reason.DoubledSegment,
-        refl,
-        (b.1, (s.slot, lt, (a.1, a.2 ∙ (same ∙ sym b.2)))),
-      ),
-    );
-  })
+  before_own s q a b same lt =
+      let has : SlotHas order host q.slot reason.DoubledSegment =
+      (b.1, (s.slot, lt, (a.1, a.2 ∙ (same ∙ sym b.2)))) in
+      none OfSlots _ (record { stands = (q.slot, b.0, (reason.DoubledSegment, refl, has)) })
 
   -- an added one has no name that the host has
   not_both : (s q : Segment) → IsOwn s → IsAdded q → s.name ≡ q.name → ⊥

@@ -421,22 +421,15 @@ pub step_10 : (order : Order) (host : List ℕ) (libs : List (List ℕ))
 unfolding references_fault
 step_10 order host libs fine =
     let segs = segments order host libs in
-    let e : references_fault_from order (known_of segs) (next_of (host_records segs)) segs ≡
-    first_of (all_records order segs) segs =
-    all_carried segs (λ n ss. references_fault_from order (known_of segs) n ss ≡ first_of
-    (all_records order segs) ss) (λ n. refl) (λ s rest n offsets later. (let own = carried order
-    segs s n offsets [] s.records 0 refl refl in
-    let first = offsets 0 in grind (arith, own, first, later))) (ascend order host libs) in
-    rw e (over_segments {S =
-    λ s f. SomeItem s.records (λ rec r. RecordFaults order segs s rec r f)} order host libs _ (λ
-    s is. least_items _ s.records (λ rec r e. of_record order segs s rec r e (asked_is_there order
-    host libs fine s is rec r e)) (λ i j a b x y h m n. grind (
-      arith,
-      at_record order segs s i a x
-          m,
-      at_record order segs s j b y n,
-    ))) (λ s t x y h m n. grind (
-      arith,
-      at_record order segs s m.0 m.1 x m.3,
-      at_record order segs t n.0 n.1 y n.3,
-    )))
+    let e : references_fault_from order (known_of segs) (next_of (host_records segs)) segs
+    ≡ first_of (all_records order segs) segs = all_carried segs (λ n ss. references_fault_from
+    order (known_of segs) n ss ≡ first_of (all_records order segs) ss) (λ n. refl)
+    (λ s rest n offsets later. (let own = carried order segs s n offsets [] s.records 0 refl refl
+    in let first = offsets 0 in grind (arith, own, first, later))) (ascend order host libs) in
+    rw e (over_segments
+    {S = λ s f. SomeItem s.records (λ rec r. RecordFaults order segs s rec r f)} order host libs _
+    (λ s is. least_items _ s.records (λ rec r e. of_record order segs s rec r e
+    (asked_is_there order host libs fine s is rec r e)) (λ i j a b x y h m n.
+    (let p = at_record order segs s i a x m in let q = at_record order segs s j b y n in
+    grind (arith, p, q)))) (λ s t x y h m n. (let p = at_record order segs s m.0 m.1 x m.3 in
+    let q = at_record order segs t n.0 n.1 y n.3 in grind (arith, p, q))))

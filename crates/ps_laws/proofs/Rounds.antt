@@ -193,11 +193,8 @@ step_6 law order host libs =
     r : RoundsHave order host libs 0 (rounds order host libs)
     r =
         all_rounds order host libs (RoundsHave order host libs)
-        (λ prefix k is at none. (
-          None,
-          nothing (no_name order host libs prefix k is at none),
-          refl,
-        ))
+        (λ prefix k is at none. (let ends = no_name order host libs prefix k is at none in
+        (None, nothing ends, refl)))
         (λ prefix k g slot f turn is. (let least = last_round order host libs prefix k (Some f)
         (turn.all ∙ append-nil prefix) turn.many (here prefix [] k g slot (Some f) turn is) in
         (Some (OfAdded k, f), least, refl)))

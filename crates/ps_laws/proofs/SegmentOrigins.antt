@@ -1,6 +1,6 @@
 -- Where no fault applies, the segments of a link have the origins that are said plainly.
 use Rattle.std.proofs.Common.{◌≡◌, ℕ, zero, suc, ◌+◌, ◌<◌, ◌≤◌, List, []}
-use Rattle.std.proofs.Common.{◌∷◌, ◌++◌, take, Option, Some, None, Result, Ok}
+use Rattle.std.proofs.Common.{◌∷◌, ◌++◌, take, Some, None, Result, Ok}
 use Rattle.std.proofs.Common.{true, false, refl, sym, ap, subst, ◌∙◌, inl, inr, arith}
 use Rattle.ps_laws.proofs.Words.{◌≢◌, false≢true, request_fault, UnitReference}
 use Rattle.ps_laws.proofs.Words.{◌⊎◌, slice_get, or_parts, request_of, NoneStands, role_fault}
@@ -143,17 +143,12 @@ module _ (law : OneStop) (spells : OneSpelling) (host : List ℕ) (libs : List (
     of_slot : s.slot < 16 → IsOfSlot order host libs s → HasOrigin order host libs s
     of_slot inside known = by s.role refl known.source known.fits
       where
-        is_own : s.role ≢ role.Empty → IsOwn order host s
-        is_own filled = record { role = known.role; filled = filled; name = known.name }
-
         made : IsReadFrom order host libs s → HasPlace order host libs s → s.role ≢ role.Empty
             → HasOrigin order host libs s
-        made read place filled = grind arith
-
-        here : s.role ≢ role.Empty → s.role ≢ role.Wanted
-            → ◌≡◌ {A = Option (ℕ × ℕ)} (Some (0, s.slot)) (Some (s.file, s.index))
-            → HasOrigin order host libs s
-        here filled other e = grind (arith, some_pair_parts, read_from)
+        made read place filled =
+            let own : IsOwn order host s =
+            record { role = known.role; filled = filled; name = known.name } in
+            grind arith
 
         by : (r : Role) → s.role ≡ r
             → source_of order host libs s.slot r ≡ Some (s.file, s.index)
@@ -161,10 +156,14 @@ module _ (law : OneStop) (spells : OneSpelling) (host : List ℕ) (libs : List (
         by role.Empty is source fits = absurd (cc)
         by role.Wanted is source fits =
             let u = of_unit (request_by_slot order host s.slot) (sym known.name) fits
-            (ap (λ (n : List ℕ). unit_source order n libs) known.name ∙ source) in
+            (rw known.name source) in
             made u.1 (λ x. absurd (x is), λ w. u.0) (λ e. let a = sym is ∙ e in cc)
-        by other is source fits = here (λ e. let a = sym is ∙ e in cc)
-            (λ e. let a = sym is ∙ e in cc) source
+        by other is source fits =
+            let at = some_pair_parts 0 s.file s.slot s.index source in
+            made (read_from spells order host libs s (let e = at.0 in grind arith)
+            (let e = at.1 in omega (arith, e, inside)) h)
+            (λ x. (sym at.0, sym at.1), λ w. absurd (let a = sym is ∙ w in cc))
+            (λ e. let a = sym is ∙ e in cc)
 
   -- a segment of the host's own slots, or an added one, is a segment of the link
   own_listed : (k : ℕ) (s : Segment) → slice_get (own_segments order host libs) k ≡ Some s

@@ -1,14 +1,15 @@
 -- The segments of a link, one slot after another.
-use Rattle.std.proofs.Common.{◌≡◌, ℕ, ◌+◌, ◌<◌, ◌≤◌, List, map, Option, Some}
+use Rattle.std.proofs.Common.{◌≡◌, ℕ, ◌<◌, List, map, Option, Some}
 use Rattle.std.proofs.Common.{sym, subst, arith}
-use Rattle.ps_laws.proofs.Words.{◌==◌, slice_get, find, option_and_then, Decides-eqb, slots}
+use Rattle.ps_laws.proofs.Words.{SomeBelow, ◌==◌, slice_get, find, Decides-eqb}
+use Rattle.ps_laws.proofs.Words.{slots}
 use Rattle.ps_laws.proofs.Words.{SomeItem, IsSegment, first_of, Segment, own_segment, Order, Fault}
 use Rattle.ps_resolve.specs.Added.{segments, segment_at}
 use Rattle.ps_resolve.specs.Standing.Segments.{SomeSegment}
 use Rattle.ps_resolve.specs.Linkable.{AscendFrom}
 pub use Rattle.ps_resolve.proofs.ReadingKnown.{ascend}
 use Rattle.ps_resolve.proofs.ReadingKnown.{own_parts, slot_parts}
-use Rattle.ps_laws.proofs.Least.{Least, least_same, least_then, least_within, first_of_filter_map}
+use Rattle.ps_laws.proofs.Least.{Least, least_same, least_then, least_below, first_of_filter_map}
 use Rattle.ps_laws.proofs.Looking.{find_some}
 
 module _ (order : Order) (host : List ℕ) (libs : List (List ℕ)) (slot : ℕ) (s : Segment) where
@@ -34,27 +35,22 @@ pub over_segments : {B : Fault → Fault → Type 0} {S : Segment → Fault → 
     → ((s t : Segment) (x y : Fault) → s.slot < t.slot → S s x → S t y → B x y) → Least
     B (λ f. SomeSegment order host libs (λ s. S s f)) (first_of g (segments order host libs))
 unfolding segments
-over_segments {B} {S} order host libs g each apart = subst (λ o. Least B (λ f. SomeSegment order
-    host libs (λ s. S s f)) o) (sym (first_of_filter_map g (segment_at order host libs) slots))
-    (least_same to (λ f t. (t.0.slot, omega arith, omega (arith, t.1.0), (t.0, t.1.1, t.2)))
-    (least_within (λ slot. option_and_then g _) 0 16 (λ slot low high. least_then g _ (λ s e.
-    each s (here slot s high e))) (λ i j x y h s t. apart s.0 t.0 x y (omega (
-      arith,
-      h,
-      slot_is
-          order host libs i s.0 s.1,
-      slot_is order host libs j t.0 t.1,
-    )) s.2 t.2)))
+over_segments {B} {S} order host libs g each apart =
+    rw (first_of_filter_map g (segment_at order host libs) slots) (least_same to
+    (λ f t. (t.0.slot, t.1.0, (t.0, t.1.1, t.2))) (least_below _ 16
+    (λ slot lt. least_then g _ (λ s e. each s (here slot s lt e))) (λ i j x y h s t.
+    (let a = slot_is order host libs i s.0 s.1 in let b = slot_is order host libs j t.0 t.1 in
+    apart s.0 t.0 x y (omega (arith, h, a, b)) s.2 t.2))))
   where
-    here : (slot : ℕ) (s : Segment) → slot < 0 + 16
-        → segment_at order host libs slot ≡ Some s → IsSegment order host libs s
-    here slot s high e = let at = slot_is order host libs slot s e in
-        (omega (arith, at, high), subst (λ i. segment_at order host libs i ≡ Some s) (sym at) e)
+    here : (slot : ℕ) (s : Segment) → slot < 16 → segment_at order host libs slot ≡ Some s
+        → IsSegment order host libs s
+    here slot s lt e = let at = slot_is order host libs slot s e in
+        (rw at lt, subst (λ i. segment_at order host libs i ≡ Some s) (sym at) e)
 
-    to : (f : Fault) → ((slot : ℕ) × (0 ≤ slot) × (slot < 0 + 16)
-        × ((s : Segment) × (segment_at order host libs slot ≡ Some s) × S s f))
+    to : (f : Fault) → SomeBelow 16 (λ slot. (s : Segment)
+        × (segment_at order host libs slot ≡ Some s) × S s f)
         → SomeSegment order host libs (λ s. S s f)
-    to f t = (t.3.0, here t.0 t.3.0 t.2 t.3.1, t.3.2)
+    to f t = (t.2.0, here t.0 t.2.0 t.1 t.2.1, t.2.2)
 
 -- slots ascend
 abbrev pub Ascends : ℕ → List Segment → Type 0

@@ -92,8 +92,9 @@ module _ (order : Order) (name lib : List ℕ) where
   -- the entry that is found for a name is the smallest that has it
   first_entry : Least
       (λ i j. i < j) (NamedAt order name lib) (find (is_named order name lib) slots)
-  first_entry = rw (find_first (is_named order name lib) slots) (least_below _ (λ i. least_guard _
-      (named order name lib i) (this i refl (λ y e. inl e))) (λ i j x y h s t. grind arith) 16)
+  first_entry = rw (find_first (is_named order name lib) slots) (least_below _ 16
+      (λ i lt. least_guard _ (named order name lib i) (this i refl (λ y e. inl e)))
+      (λ i j x y h s t. grind arith))
 
   -- the reason that is given for a library's entries of a name is the one of smallest rank that
   -- applies
@@ -323,11 +324,10 @@ entry_early order name libs slot f t = early (t.0 + 1) slot 15 f (entries_low or
 -- a fault of a record is from rank 20 on
 late_record : (order : Order) (file : List ℕ) (e : Entry) (k slot : ℕ) (f : Fault)
     → RecordStops order file e k slot f → Late slot 20 f
-late_record order file e k slot f t = rw t.2 (
-  refl,
-  record_reason (λ why. 20 ≤ rank why)
-      (omega arith) (omega arith) (omega arith) (omega arith) (omega arith) order _ t.1 t.3.stops,
-)
+late_record order file e k slot f t =
+    let high = record_reason (λ why. 20 ≤ rank why) (omega arith) (omega arith) (omega arith)
+    (omega arith) (omega arith) order _ t.1 t.3.stops in
+    rw t.2 (refl, high)
 
 -- a fault of a code, its tables or its records is from rank 15 on
 pub code_late : (order : Order) (file : List ℕ) (k : ℕ) (e : Entry) (slot : ℕ) (r : Role)
@@ -466,10 +466,7 @@ unfolding sources_fault
 step_5 law order host libs =
     least_same (λ f t. (t.0, t.1, (t.2.0, ok_is _ t.2.0 t.2.1, t.2.2)))
     (λ f t. (t.0, t.1, (t.2.0, is_ok _ t.2.0 t.2.1, t.2.2)))
-    (least_below _ (λ slot. least_then _ _
+    (least_below _ 16 (λ slot lt. least_then _ _
     (λ r e. of_role law order host libs slot r (ok_is _ r e)))
-    (λ i j x y h s t. inr (
-      refl,
-      inl (let a = in_place order host libs i s.0 x s.2 in
-          let b = in_place order host libs j t.0 y t.2 in omega (arith, a, b, h)),
-    )) 16)
+    (λ i j x y h s t. (let a = in_place order host libs i s.0 x s.2 in
+    let b = in_place order host libs j t.0 y t.2 in inr (refl, inl (omega (arith, a, b, h))))))

@@ -147,8 +147,9 @@ module _ (order : Order) (host : List ℕ) where
   -- the first fault of the slots is the smallest that applies
   pub step_2 : Least (Precedes OfSlots) (InSlots order host) (slots_fault order host)
   unfolding slots_fault
-  step_2 = least_below _ (λ slot. because OfSlots _ (λ a b r. grind arith) (slot_rows slot))
-      (λ i j x y h. because_apart OfSlots _ _ (λ r q. inr (refl, inl h)) x y) 16
+  step_2 = least_below _ 16
+      (λ slot lt. because OfSlots _ (λ a b r. grind arith) (slot_rows slot))
+      (λ i j x y h. because_apart OfSlots _ _ (λ r q. inr (refl, inl h)) x y)
 
   -- 3
   pub step_3 : Least (Precedes OfNoHost) (InNoHost order host) (no_host_fault order host)
