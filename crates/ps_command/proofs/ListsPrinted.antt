@@ -1,6 +1,6 @@
 -- The lists of files, one after another.
-use Rattle.std.proofs.Common.{◌≡◌, ◌+◌, ℕ, List, ◌∷◌, Option, refl, subst, arith}
-use Rattle.std.specs.Prelude.{max, Result, Ok, Err, IfOk, OnOk}
+use Rattle.std.proofs.Common.{◌≡◌, ◌+◌, ℕ, List, ◌∷◌, Option, refl, arith}
+use Rattle.std.specs.Prelude.{max}
 use Rattle.clap.specs.Words.{Text}
 use Rattle.ps_command.specs.declared.lists.Form.{Form}
 use Rattle.ps_command.specs.Printed.{IsListed, PrintsFiles}
@@ -8,8 +8,7 @@ use Rattle.ps_command.specs.Printed.{IsListed, PrintsFiles}
 module _ (Read : Text → List ℕ → Type 0) (how : Form) (all : List Text)
     (old : Option (List ℕ)) where
   -- the files before this index have this status, and what is printed of those that are left is
-  -- added
-  -- to it
+  -- added to it
   pub record Listing (i : ℕ) (left : List Text) (status : ℕ) (now : Option (List ℕ)) : Type 0
     where
       pub rest : (more : ℕ) (new : Option (List ℕ)) → PrintsFiles Read how i left more now new
@@ -20,16 +19,9 @@ module _ (Read : Text → List ℕ → Type 0) (how : Form) (all : List Text)
       → IsListed Read how j path first before between
       → Listing i (path ∷ left) status before
       → Listing (i + 1) left (max status first) between
-  listed_more i j path left status first before between at listed so_far = record {
+  listed_more i j path left status first before between same listed so_far = record {
     rest = λ more new printed.
-        let is = subst (λ n. IsListed Read how n path first before between) at listed in
         let worst : max status (max first more) ≡ max (max status first) more = omega arith in
-        subst (λ n. PrintsFiles Read how 0 all n old new) worst
-        (so_far.rest (max first more) new (first, more, between, is, printed, refl));
+        rw worst at (so_far.rest (max first more) new
+        (first, more, between, rw same at listed, printed, refl));
   }
-
--- what holds of a value, and that it is there
-pub both_ok : {X E : Type 0} (r : Result X E) (P : X → Type 0) (Q : Type 0) → IfOk r P
-    → OnOk r Q → IfOk r (λ x. P x × Q)
-both_ok (Ok x) P Q p q = (p, q)
-both_ok (Err e) P Q p q = tt

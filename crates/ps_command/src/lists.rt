@@ -179,15 +179,15 @@ fn print_list<'a, R: CodeFiles, A: Allocator + Copy, O: Write, E: Write>(
     ensures err { IfErr result (λ e. e ≡ CommandError.StandardOutput) }
 {
     match read(rt, alloc, path, form) {
-        Ok(contents) => {
-            let Contents {
-                file,
-                phrase,
-                units,
-            } = contents;
-            let (file, units) = (file.as_slice(), units.as_slice());
-            print_file(path, phrase.as_str(), file, units, index, form, out)
-        }
+        Ok(contents) => print_file(
+            path,
+            contents.phrase.as_str(),
+            contents.file.as_slice(),
+            contents.units.as_slice(),
+            index,
+            form,
+            out,
+        ),
         Err(error) => {
             let status = error.of_file(path).report(err);
             print_unread(path, index, form, out)?;

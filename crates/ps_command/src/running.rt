@@ -12,7 +12,7 @@ ghost use Rattle.ps_command.specs.Statuses.{status_of};
 ghost use Rattle.ps_report.specs.Verdicts.{Tells};
 
 use crate::error::CommandError;
-use crate::files::{self, CodeFiles, InputBytes};
+use crate::files::{self, CodeFiles};
 use crate::lists::{Form, print_lists};
 use crate::output;
 use crate::request::{self, Inputs, Request, Task};
@@ -251,9 +251,9 @@ fn link<'a, R: CodeFiles, A: Allocator + Copy, O: Write>(
     ensures usage { IfErr result (λ e. status_of e ≢ 2) }
 {
     let mut line = String::with_capacity(alloc, SUMMARY_LENGTH)?;
-    let InputBytes { host, libraries } = files::read_inputs(rt, alloc, &inputs)?;
-    let views = views(alloc, libraries.as_slice())?;
-    let summary = link_bytes(rt, alloc, host.as_slice(), views.as_slice(), path)?;
+    let bytes = files::read_inputs(rt, alloc, &inputs)?;
+    let views = views(alloc, bytes.libraries.as_slice())?;
+    let summary = link_bytes(rt, alloc, bytes.host.as_slice(), views.as_slice(), path)?;
     output::add_summary(&mut line, summary)?;
     output::print(out, line.as_bytes())
 }
@@ -294,9 +294,9 @@ fn map<'a, R: CodeFiles, A: Allocator + Copy, O: Write>(
     ensures err { IfErr result (λ e. status_of e ≢ 3 → out.new ≡ out.old) }
     ensures usage { IfErr result (λ e. status_of e ≢ 2) }
 {
-    let InputBytes { host, libraries } = files::read_inputs(rt, alloc, &inputs)?;
-    let views = views(alloc, libraries.as_slice())?;
-    let (host, libraries) = (host.as_slice(), views.as_slice());
+    let bytes = files::read_inputs(rt, alloc, &inputs)?;
+    let views = views(alloc, bytes.libraries.as_slice())?;
+    let (host, libraries) = (bytes.host.as_slice(), views.as_slice());
     if references {
         return references_bytes(alloc, host, libraries, json, out);
     }
@@ -396,13 +396,13 @@ fn check<'a, R: CodeFiles, A: Allocator + Copy, O: Write>(
     ensures err { IfErr result (λ e. status_of e ≢ 3 → out.new ≡ out.old) }
     ensures usage { IfErr result (λ e. status_of e ≢ 2) }
 {
-    let InputBytes { host, libraries } = match files::read_inputs(rt, alloc, &inputs) {
-        Ok(contents) => contents,
+    let bytes = match files::read_inputs(rt, alloc, &inputs) {
+        Ok(bytes) => bytes,
         Err(error) => return Err(error.with_cause()),
     };
-    let views = views(alloc, libraries.as_slice())?;
-    let paths = inputs.libraries.as_slice();
-    let report = ps_report::check(alloc, inputs.host, paths, host.as_slice(), views.as_slice())?;
+    let views = views(alloc, bytes.libraries.as_slice())?;
+    let (paths, host) = (inputs.libraries.as_slice(), bytes.host.as_slice());
+    let report = ps_report::check(alloc, inputs.host, paths, host, views.as_slice())?;
     print_report(alloc, &report, json, out)?;
     Ok(report.status(strict))
 }

@@ -11,8 +11,8 @@ returns-clause-ok g c =
       c.as_slice-2.result.now,
       map (λ lib. lib.now) c.as_slice-3.result.now,
       c.in_ok-summary.ensures.file.0,
-      rw c.as_slice-2.ensures.value c.in_ok-host.ensures.host,
-      rw (seen, c.as_slice.ensures.value) c.in_ok-host.ensures.libraries,
+      rw c.as_slice-2.ensures.value c.in_ok-bytes.ensures.host,
+      rw (seen, c.as_slice.ensures.value) c.in_ok-bytes.ensures.libraries,
       c.in_ok-summary.ensures.file.1,
       (
         c.in_ok-summary.ensures.file.2,

@@ -10,8 +10,8 @@ returns-then-references-clause-ok g c =
       c.as_slice-host.result.now,
       map (λ lib. lib.now) c.as_slice-libraries.result.now,
       mapped.0,
-      rw c.as_slice-host.ensures.value c.in_ok-host.ensures.host,
-      rw (seen, c.as_slice.ensures.value) c.in_ok-host.ensures.libraries,
+      rw c.as_slice-host.ensures.value c.in_ok-bytes.ensures.host,
+      rw (seen, c.as_slice.ensures.value) c.in_ok-bytes.ensures.libraries,
       mapped.2,
       (mapped.1, rw c.if-references.true mapped.3, mapped.4),
     )) c.references_bytes.ensures.ok
@@ -24,8 +24,8 @@ returns-clause-ok g c =
       c.as_slice-host.result.now,
       map (λ lib. lib.now) c.as_slice-libraries.result.now,
       mapped.0,
-      rw c.as_slice-host.ensures.value c.in_ok-host.ensures.host,
-      rw (seen, c.as_slice.ensures.value) c.in_ok-host.ensures.libraries,
+      rw c.as_slice-host.ensures.value c.in_ok-bytes.ensures.host,
+      rw (seen, c.as_slice.ensures.value) c.in_ok-bytes.ensures.libraries,
       mapped.2,
       (mapped.1, rw c.if-references.false mapped.3, mapped.4),
     )) c.map_bytes.ensures.ok
