@@ -387,8 +387,8 @@ module _ (order : Order) (host : List ℕ) (libs : List (List ℕ))
         let a = asks_at all i rec name asks in
         elim (or_cases _ _ (rw a.4 at (is_had_there order host libs a.1 (a.0, a.3)))) [
           | inl e ↦ inl (slot_of_unit order host libs name e)
-          | inr e ↦ inr ((any_of_items (λ (g : UnitReference). bytes_eq g.name name) (λ (g :
-              UnitReference). g.name ≡ name) (λ g. bytes_eq-Decides g.name name) _).0 e)
+          | inr e ↦ inr ((any_of_items (λ (g : UnitReference). bytes_eq g.name name)
+              (λ (g : UnitReference). g.name ≡ name) (λ g. bytes_eq-Decides g.name name) _).0 e)
         ]
 
     are_given : (j k : ℕ) (g h : UnitReference) → j < k → slice_get queue j ≡ Some g
