@@ -101,6 +101,7 @@ module _ (s : Segment) (ss : List Segment) where
   unfolding owner
   owner_later q = grind arith
 
+-- each of them is of a UNITREF of its segment
 of_place : (segs : List Segment) (p : ℕ) (g : UnitReference)
     → slice_get (all_unit_references segs) p ≡ Some g → (s : Segment)
     × (slice_get segs (owner segs p) ≡ Some s) × (d : ℕ) × IsOf s.file s.slot 0 s.records g d
@@ -356,6 +357,7 @@ module _ (order : Order) (host : List ℕ) (libs : List (List ℕ))
     abbrev all : List Segment
     all = own_segments order host libs ++ added_segments order host libs
 
+    -- each name of the queue is that of an earliest reference
     earliest : (k : ℕ) (g : UnitReference) → slice_get queue k ≡ Some g
         → (p : ℕ) × IsEarliest (own_units order host libs) [] (all_unit_references all) k p g
     unfolding requested_units

@@ -17,6 +17,7 @@ use Rattle.ps_resolve.proofs.OfRounds.{in_empty}
 use Rattle.ps_laws.proofs.Asked.{empty_slot, own_at}
 use Rattle.ps_laws.proofs.AddedUnits.{given, split_at}
 
+-- what passes the test for None is None
 nothing_is : {A : Type 0} (o : Option A) → is_none o ≡ true → o ≡ None
 nothing_is o h = grind arith
 

@@ -71,6 +71,7 @@ module _ (order : Order) (name : List ℕ) (libs : List (List ℕ)) where
                 (library_at host p.0 p.1 first.there);
           }
 
+-- numbers that are not different are the same
 stable : {a b : ℕ} → ((a ≡ b → ⊥) → ⊥) → a ≡ b
 stable h = grind arith
 
