@@ -101,6 +101,7 @@ module _ (s : Segment) (ss : List Segment) where
   unfolding owner
   owner_later q = grind arith
 
+-- each of them is of a UNITREF of its segment
 of_place : (segs : List Segment) (p : ℕ) (g : UnitReference)
     → slice_get (all_unit_references segs) p ≡ Some g → (s : Segment)
     × (slice_get segs (owner segs p) ≡ Some s) × (d : ℕ) × IsOf s.file s.slot 0 s.records g d
@@ -359,6 +360,7 @@ module _ (order : Order) (host : List ℕ) (libs : List (List ℕ))
     abbrev all : List Segment
     all = own_segments order host libs ++ added_segments order host libs
 
+    -- each name of the queue is that of an earliest reference
     earliest : (k : ℕ) (g : UnitReference) → slice_get queue k ≡ Some g
         → (p : ℕ) × IsEarliest (own_units order host libs) [] (all_unit_references all) k p g
     unfolding requested_units
@@ -390,8 +392,8 @@ module _ (order : Order) (host : List ℕ) (libs : List (List ℕ))
         let a = asks_at all i rec name asks in
         elim (or_cases _ _ (rw a.4 at (is_had_there order host libs a.1 (a.0, a.3)))) [
           | inl e ↦ inl (slot_of_unit order host libs name e)
-          | inr e ↦ inr ((any_of_items (λ (g : UnitReference). bytes_eq g.name name) (λ (g :
-              UnitReference). g.name ≡ name) (λ g. bytes_eq-Decides g.name name) _).0 e)
+          | inr e ↦ inr ((any_of_items (λ (g : UnitReference). bytes_eq g.name name)
+              (λ (g : UnitReference). g.name ≡ name) (λ g. bytes_eq-Decides g.name name) _).0 e)
         ]
 
     are_given : (j k : ℕ) (g h : UnitReference) → j < k → slice_get queue j ≡ Some g

@@ -112,6 +112,7 @@ abbrev pub reference_in : ℕ → ℕ → ℕ × Record → Option UnitReference
 reference_in file slot r = if is_unit_reference r.1.body
     then Some (record { name = r.1.name; file = file; slot = slot; rec = r.0 }) else None
 
+-- the unit references of records are those of each, in their order
 pub references_are : (file slot n : ℕ) (rs : List Record) → unit_references file slot n rs
     ≡ filter_map (reference_in file slot) (enumerate_from n rs)
 references_are file slot n [] = refl

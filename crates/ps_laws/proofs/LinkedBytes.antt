@@ -29,6 +29,7 @@ use Rattle.ps_laws.proofs.OneName.{of_segments, one_unit}
 use Rattle.ps_laws.proofs.OneHost.{base_there, one_base, one_public}
 use Rattle.ps_laws.proofs.ByteFacts.{facts, one_byte}
 
+-- what is no error is a target
 target_there : (o : Result Target Reason) → ((why : Reason) → o ≡ Err why → ⊥)
     → (t : Target) × (o ≡ Ok t)
 target_there (Ok t) h = (t, refl)

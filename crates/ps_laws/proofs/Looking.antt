@@ -17,8 +17,8 @@ pub any_of_items : {A : Type 0} (test : A → Bool) (P : A → Type 0)
     → Decides (list_any test items) (SomeItem items (λ i q. P q))
 any_of_items test P d [] = (λ e. absurd (false≢true e), λ t. absurd (let e = t.2 in cc))
 any_of_items {A} test P d (a ∷ items) =
-    Decides-like _ (elim [ inl p ↦ (zero, a, refl, p) | inr t ↦ (suc t.0, t.1, t.2, t.3) ]) (λ
-    t. go t.0 t.1 t.2 t.3) (Decides-or _ _ (d a) (any_of_items test P d items))
+    Decides-like _ (elim [ inl p ↦ (zero, a, refl, p) | inr t ↦ (suc t.0, t.1, t.2, t.3) ])
+    (λ t. go t.0 t.1 t.2 t.3) (Decides-or _ _ (d a) (any_of_items test P d items))
   where
     go : (i : ℕ) (q : A) → slice_get (a ∷ items) i ≡ Some q → P q
         → P a ⊎ SomeItem items (λ i q. P q)

@@ -17,6 +17,7 @@ use Rattle.ps_resolve.proofs.OfRounds.{in_empty}
 use Rattle.ps_laws.proofs.Asked.{empty_slot, own_at}
 use Rattle.ps_laws.proofs.AddedUnits.{given, split_at}
 
+-- what passes the test for None is None
 nothing_is : {A : Type 0} (o : Option A) → is_none o ≡ true → o ≡ None
 nothing_is o h = grind arith
 
@@ -46,8 +47,8 @@ module _ (order : Order) (host : List ℕ) (libs : List (List ℕ)) where
       elim (split_at _ _ giver.0 s there) [
         | inl h ↦
             let o = own_at order host libs s (giver.0, h) in
-            own_has_library o.0 s o.2 (subst (λ n. WantsMissing order host libs n) (slot ∙
-            own_in_slot order host libs o.0 s o.2) wants)
+            own_has_library o.0 s o.2 (subst (λ n. WantsMissing order host libs n) (slot
+            ∙ own_in_slot order host libs o.0 s o.2) wants)
         | inr u ↦
             let v = of_take k _ u.0 s u.2 in
             not_empty s.slot (subst (λ n. HasRole order host n role.Wanted) slot wants.0)

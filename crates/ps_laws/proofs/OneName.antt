@@ -58,8 +58,8 @@ module _ (host : List ℕ) (libs : List (List ℕ)) (none : NoneStands host libs
   -- two added ones
   same_added : (s q : Segment) → IsAdded s → IsAdded q → s.name ≡ q.name → s ≡ q
   same_added s q a b same =
-      let at = units.once a.0 b.0 a.1 b.1 a.2.requested b.2.requested (sym a.2.name ∙ same ∙
-      b.2.name) in
+      let at = units.once a.0 b.0 a.1 b.1 a.2.requested b.2.requested (sym a.2.name ∙ same
+      ∙ b.2.name) in
       same_Some s q (sym a.2.there ∙ ap (slice_get _) at ∙ b.2.there)
 
   one_slot : (s q : Segment) → IsSegment order host libs s → IsSegment order host libs q

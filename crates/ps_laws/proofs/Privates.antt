@@ -32,8 +32,8 @@ private_rows : (segs : List Segment) (s : Segment) (rec : ℕ) (r : Record) → 
     (PrivateHas segs s rec r) (reason_at (λ n. private_offset segs s.slot n) s.records (rec, r))
 private_rows segs s rec r = least_same to from (least_or (least_if _ reason.DoubledPrivate (again
     is_private_reference s.records rec r)) (least_if _ reason.NoRoom (Decides-and _ _ (of_test _)
-    (Decides-ltb MAX_NEXT_FREE _))) (at_apart Ranked reason.DoubledPrivate reason.NoRoom (omega
-    arith)))
+    (Decides-ltb MAX_NEXT_FREE _))) (at_apart Ranked reason.DoubledPrivate reason.NoRoom
+    (omega arith)))
   where
     to : (x : Reason) → ((x ≡ reason.DoubledPrivate)
         × PrivateHas segs s rec r reason.DoubledPrivate) ⊎ ((x ≡ reason.NoRoom)
@@ -52,13 +52,13 @@ unfolding privates_fault
 step_8 order host libs =
     let segs = segments order host libs in
     let e : first_private_fault (next_of (host_records segs)) (map owner_of segs) ≡ first_of
-    (segment_fault segs) segs = carried segs (λ n ss. first_private_fault n (map owner_of ss) ≡
-    first_of (segment_fault segs) ss) (λ n. refl) (λ s rest n offsets later. (let own =
+    (segment_fault segs) segs = carried segs (λ n ss. first_private_fault n (map owner_of ss)
+    ≡ first_of (segment_fault segs) ss) (λ n. refl) (λ s rest n offsets later. (let own =
     privates_carried (λ why rec. in_record s.file s.slot rec why) (λ m. private_offset segs s.slot
     m) n [] s.records 0 refl offsets in
     grind (arith, own, later))) (ascend order host libs) in
-    subst (λ (o : Option Fault). Least (Precedes OfPrivates) (InPrivates order host libs) o) (sym
-    e) (over_segments order host libs _ (λ s is. least_items _ s.records (λ k r e. because
+    subst (λ (o : Option Fault). Least (Precedes OfPrivates) (InPrivates order host libs) o)
+    (sym e) (over_segments order host libs _ (λ s is. least_items _ s.records (λ k r e. because
     OfPrivates _ (λ a b h. grind arith) (private_rows segs s k r)) (λ i j a b x y h. because_apart
-    OfPrivates _ _ (λ q p. grind arith) x y)) (λ s t x y h a b. because_apart OfPrivates _ _ (λ q
-    p. grind arith) x y a.3 b.3))
+    OfPrivates _ _ (λ q p. grind arith) x y)) (λ s t x y h a b. because_apart OfPrivates _ _
+    (λ q p. grind arith) x y a.3 b.3))

@@ -258,8 +258,8 @@ reference_rows : (order : Order) (segs : List Segment) (s : Segment) (rec : ℕ)
     → Least Ranked (ReferenceHas order segs s rec r i x) (reason_at order segs s rec r (i, x))
 reference_rows order segs s rec r i x er ex = least_same to from (least_or (least_if _ _ (past _ _ _
     (wide r.body i x ex))) (least_or (least_if _ _ reserved) (least_or (least_if _ _ (overlapping
-    s.records rec i r x er)) (least_if _ _ (too_large_by s.code x _)) (λ y z a b. grind arith)) (λ
-    y z a b. grind arith)) (λ y z a b. grind arith))
+    s.records rec i r x er)) (least_if _ _ (too_large_by s.code x _)) (λ y z a b. grind arith))
+    (λ y z a b. grind arith)) (λ y z a b. grind arith))
   where
     Has : Reason → Type 0
     Has = ReferenceHas order segs s rec r i x
@@ -314,8 +314,8 @@ module _ (order : Order) (segs : List Segment) (s : Segment) (rec : ℕ) (r : Re
   of_record er there = least_or (because OfReferences _ (λ a b h. grind arith) (record_rows segs _
       r.name r.body there)) (least_items _ _ (λ i x ex. because OfReferences _ (λ a b h. grind
       arith) (reference_rows order segs s rec r i x er ex)) (λ i j a b x y h. because_apart
-      OfReferences _ _ (λ q p. grind arith) x y)) (λ x y a t. because_apart OfReferences _ _ (λ q
-      p. grind arith) x y a t.3)
+      OfReferences _ _ (λ q p. grind arith) x y)) (λ x y a t. because_apart OfReferences _ _
+      (λ q p. grind arith) x y a t.3)
 
   -- 3. the search that carries the operands and the offset so far is the one that looks back
   refs_carried : (t : Target) → width_of t ≡ operand_width r.body

@@ -389,8 +389,8 @@ module _ (law : OneStop) (order : Order) where
       → Least (Precedes OfSources)
       (PlacedFault order host libs name slot) (option_or (entry_fault order name libs slot)
       (option_and_then (code_fault order host libs slot role.Wanted) (unit_source order name libs)))
-  unit_least host libs name slot = least_or (entry_least order name libs slot) (least_then _ _ (λ
-      at e. code_least slot role.Wanted host libs at)) (λ x y s t. early_late slot 15 x y
+  unit_least host libs name slot = least_or (entry_least order name libs slot) (least_then _ _
+      (λ at e. code_least slot role.Wanted host libs at)) (λ x y s t. early_late slot 15 x y
       (entry_early order name libs slot x s) (code_late order _ t.0.0 (entry_at order _ t.0.1) slot
       role.Wanted y t.2))
 

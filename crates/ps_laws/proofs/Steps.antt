@@ -107,8 +107,8 @@ module _ (order : Order) (host : List ℕ) where
   slot_rows : (slot : ℕ) → Least Ranked (SlotHas order host slot) (slot_reason order host slot)
   slot_rows slot = least_same to from (least_or (least_err _) (least_or (least_if _ reason.TwoHosts
       (Decides-and _ _ (hosts slot) (any_lesser _ (λ i. HasRole order host i role.Host) hosts
-      slot))) (least_if _ reason.DoubledSegment (Decides-and _ _ (units slot) (any_lesser same (λ
-      i. IsUnitSlot order host i × (name i ≡ name slot)) (λ i. Decides-and _ _ (units i)
+      slot))) (least_if _ reason.DoubledSegment (Decides-and _ _ (units slot) (any_lesser same
+      (λ i. IsUnitSlot order host i × (name i ≡ name slot)) (λ i. Decides-and _ _ (units i)
       (bytes_eq-Decides _ _)) slot))) (λ x y s t. rw (s.0, t.0) (omega arith))) apart)
     where
       name : ℕ → List ℕ

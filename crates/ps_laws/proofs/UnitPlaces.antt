@@ -48,8 +48,8 @@ module _ (order : Order) (name : List ℕ) (libs : List (List ℕ)) where
   unit_place at e =
       option_and_then_some (λ (lib : ℕ × List ℕ). option_map {U = ℕ × ℕ} (λ (i : ℕ).
       (library_file lib.0, i)) _) _ at e (λ p chosen rest. let entry = some_mapped {Y = ℕ × ℕ}
-      (λ (i : ℕ). (library_file p.0, i)) _ at rest in subst (UnitPlace order name libs) (sym
-      entry.2) (made p chosen entry.0 entry.1))
+      (λ (i : ℕ). (library_file p.0, i)) _ at rest in subst (UnitPlace order name libs)
+      (sym entry.2) (made p chosen entry.0 entry.1))
     where
       made : (p : ℕ × List ℕ) → chosen_library order name libs ≡ Some p → (i : ℕ)
           → find (is_named order name p.1) slots ≡ Some i
@@ -71,6 +71,7 @@ module _ (order : Order) (name : List ℕ) (libs : List (List ℕ)) where
                 (library_at host p.0 p.1 first.there);
           }
 
+-- numbers that are not different are the same
 stable : {a b : ℕ} → ((a ≡ b → ⊥) → ⊥) → a ≡ b
 stable h = grind arith
 
