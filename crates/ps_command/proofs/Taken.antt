@@ -419,8 +419,8 @@ entered_named : (stop : Option (Text × List Text)) → Stops (built pslink_app)
 entered_named None other passes some leaves = true≢false (sym some)
 entered_named (Some p) other passes some leaves = found (NamesAll p.1) _
     (λ s. answers_to p.0 (label_of s)) (built pslink_app).subs
-    (λ _ some _. true≢false (sym some))
-    (λ s names. names) (each_named p.0 p.1 other) passes some leaves
+    (λ _ some _. true≢false (sym some)) (λ s names. names) (each_named p.0 p.1 other)
+    passes some leaves
 
 -- arguments that clap accepts leave out nothing that they have to name
 pub taken_leaves_nothing_out : (args : List Text) → takes pslink_app args ≡ true
