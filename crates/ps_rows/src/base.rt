@@ -1,24 +1,15 @@
 //! The base pair: a host that wants one unit, the library that has it, and the file that the two
 //! are linked to.
-use crate::code_file::Change::{Bytes, Code, CodeWord, Entry, HostCode, Records, UnitCode};
-use crate::code_file::{Changes, HOST_SEGMENT, LINKED, Slot, UNIT_SEGMENT};
-use crate::information::Record::{End, PrivateReference, PublicDefinition, PublicReference};
-use crate::information::{Name, Record};
+use crate::code_file::Changes;
+use crate::information::Name;
 use ps_words::Order;
 
-/// The names of the base pair's segments and symbols.
-pub const DEMO: Name = *b"DEMO    ";
-
+/// The names of the base pair's unit and symbols.
 pub const UTIL: Name = *b"UTIL    ";
 
 pub const COUNT: Name = *b"COUNT   ";
 
 pub const STATE: Name = *b"STATE   ";
-
-/// A name that has no definition, and one that no unit has.
-pub const CUONT: Name = *b"CUONT   ";
-
-pub const NOBODY: Name = *b"NOBODY  ";
 
 /// The slots of the base host's two segments, and of the unit in the base library.
 pub const DEMO_SLOT: u8 = 1;
@@ -30,60 +21,11 @@ pub const UTIL_ENTRY: u8 = 2;
 /// The length of the base files and of the file that they are linked to.
 pub const BASE_LENGTH: usize = 1536;
 
-/// The lengths of the host's code and of the unit's.
-pub const DEMO_LENGTH: u16 = 18;
-
-pub const UTIL_LENGTH: u16 = 24;
-
-/// The entry of the host segment.
-pub const DEMO_ENTRY: Slot = Slot {
-    name: DEMO,
-    kind: HOST_SEGMENT,
-    address: 1,
-    length: DEMO_LENGTH,
-};
-
-/// The entry of the unit, whose code the host has not.
-pub const WANTED_UTIL: Slot = Slot {
-    name: UTIL,
-    kind: UNIT_SEGMENT,
-    address: 0,
-    length: 0,
-};
-
-/// The entry of the unit in the library.
-pub const LIBRARY_UTIL: Slot = Slot {
-    name: UTIL,
-    kind: UNIT_SEGMENT,
-    address: 1,
-    length: UTIL_LENGTH,
-};
-
-/// The entries of the two segments once they are linked.
-pub const LINKED_DEMO: Slot = Slot {
-    name: DEMO,
-    kind: LINKED,
-    address: 1,
-    length: DEMO_LENGTH,
-};
-
-pub const LINKED_UTIL: Slot = Slot {
-    name: UTIL,
-    kind: LINKED,
-    address: 2,
-    length: UTIL_LENGTH,
-};
-
 /// The host's link information: one definition.
-pub const HOST_RECORDS: [Record<'static>; 2] = [PublicDefinition(COUNT, 3), End(8)];
+pub const HOST_RECORDS: &str = "PUBLDEF COUNT value 3; EOFMARK next 8";
 
 /// The unit's link information: a reference to the host's definition and a private variable.
-pub const LIBRARY_RECORDS: [Record<'static>; 3] = [
-    PublicReference(COUNT, &[1]),
-    PrivateReference(STATE, 4, &[4]),
-    End(0),
-];
-
+pub const LIBRARY_RECORDS: &str = "PUBLREF COUNT at 1; PRIVREF STATE words 4 at 4; EOFMARK next 0";
 /// The host's code, with the attribute table and the procedure dictionary of its one procedure.
 pub fn demo_code(order: Order) -> [u8; 18] {
     match order {
@@ -112,37 +54,22 @@ pub fn util_code(order: Order, number: u8) -> [u8; 24] {
 }
 
 /// The base host.
-pub const HOST: Changes<'static> = &[
-    Entry(DEMO_SLOT, DEMO_ENTRY),
-    Entry(UTIL_SLOT, WANTED_UTIL),
-    Bytes(300, &[0x2A]),
-    HostCode(1),
-    Records(2, &HOST_RECORDS),
-];
+pub const HOST: Changes<'static> = "slot 1 name DEMO kind 1 address 1 length 18; \
+slot 7 name UTIL kind 3; at 300 2A; demo-code 1; \
+records 2; PUBLDEF COUNT value 3; EOFMARK next 8";
 
 /// The base library.
-pub const LIBRARY: Changes<'static> = &[
-    Entry(UTIL_ENTRY, LIBRARY_UTIL),
-    UnitCode(1, UTIL_ENTRY),
-    Records(2, &LIBRARY_RECORDS),
-];
+pub const LIBRARY: Changes<'static> = "slot 2 name UTIL kind 3 address 1 length 24; \
+util-code 1 2; \
+records 2; PUBLREF COUNT at 1; PRIVREF STATE words 4 at 4; EOFMARK next 0";
 
 /// What a host with the base host's segments is linked to where no operand and no size changes: the
 /// two codes are as they were, but for the unit's segment number.
-pub const LINKED_SEGMENTS: Changes<'static> = &[
-    Entry(DEMO_SLOT, LINKED_DEMO),
-    Entry(UTIL_SLOT, LINKED_UTIL),
-    Bytes(300, &[0x2A]),
-    HostCode(1),
-    UnitCode(2, UTIL_SLOT),
-];
+pub const LINKED_SEGMENTS: Changes<'static> = "slot 1 name DEMO kind 0 address 1 length 18; \
+slot 7 name UTIL kind 0 address 2 length 24; at 300 2A; demo-code 1; util-code 2 7";
 
 /// The data size and the operands of what the base pair is linked to.
-pub const LINKED_OPERANDS: Changes<'static> = &[
-    CodeWord(1, 4, 18),
-    Code(2, 1, &[0x80, 3]),
-    Code(2, 4, &[0x80, 10]),
-];
+pub const LINKED_OPERANDS: Changes<'static> = "word 1 4 18; code 2 1 8003; code 2 4 800A";
 
 /// What the base pair is linked to.
 pub const LINKED_PAIR: &[Changes<'static>] = &[LINKED_SEGMENTS, LINKED_OPERANDS];

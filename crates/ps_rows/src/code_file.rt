@@ -1,8 +1,24 @@
-//! Code files that tests make from their parts.
+//! Code files that tests make from text: statements with semicolons between them, each of which
+//! changes what is in the file.
+//!
+//! | Statement | What it changes |
+//! |---|---|
+//! | `slot 7 name UTIL kind 3 address 1 length 24` | these parts of a slot, or some of them |
+//! | `at 300 2A07` | the bytes from a place of the file on |
+//! | `code 1 18 2A07` | the bytes from a place of the code on that begins with a block |
+//! | `word 1 4 18` | a word of the code that begins with a block |
+//! | `fill 512 510 D7` | so many bytes from a place of the file on |
+//! | `names 64 UTIL AUX` | the names from a place of the file on; a dash is a name of blanks |
+//! | `demo-code 1` | the base host's code, from a block's start on |
+//! | `util-code 2 7` | the base unit's code with this segment number |
+//! | `records 2` | nothing: the records behind it, as `EOFMARK next 0`, are from this block on |
+//! | `size 2048` | the file's length: it is truncated, or made longer by zeros |
 use crate::base::{BASE_LENGTH, demo_code, util_code};
-use crate::information::{Information, Name, Record, bytes_of};
+use crate::information::{Information, bytes_of, put};
+use crate::notation::{byte, ends, name, name_of, number, word};
 use ps_words::{BLOCK_SIZE, Order};
-use std::alloc::{AllocError, Global};
+use std::process::Abort;
+use std::str::SplitWhitespace;
 
 /// Where the names and the kinds of a segment dictionary begin.
 const NAMES: usize = 64;
@@ -16,78 +32,38 @@ const NAME_SIZE: usize = 8;
 
 const WORD_SIZE: usize = 2;
 
-/// The kinds of segments that tests name.
-pub const LINKED: u16 = 0;
-
-pub const HOST_SEGMENT: u16 = 1;
-
-pub const UNIT_SEGMENT: u16 = 3;
-
-/// What the segment dictionary says of a slot.
-#[derive(Clone, Copy)]
-pub struct Slot {
-    pub name: Name,
-    pub kind: u16,
-    pub address: u16,
-    pub length: u16,
-}
-
-/// A change of a code file.
-#[derive(Clone, Copy)]
-pub enum Change<'a> {
-    /// A slot gets this entry.
-    Entry(u8, Slot),
-    /// A slot gets this address.
-    Address(u8, u16),
-    /// A slot gets this length.
-    Length(u8, u16),
-    /// A slot gets this kind.
-    Kind(u8, u16),
-    /// From a place of the file on are these bytes.
-    Bytes(usize, &'a [u8]),
-    /// From a place of the code on that begins with a block are these bytes.
-    Code(u16, usize, &'a [u8]),
-    /// At a place of the code that begins with a block is this word.
-    CodeWord(u16, usize, u16),
-    /// From a block's start on is the base host's code.
-    HostCode(u16),
-    /// From a block's start on is the base unit's code with this segment number.
-    UnitCode(u16, u8),
-    /// From a block's start on is this link information.
-    Records(u16, &'a [Record<'a>]),
-    /// The file is truncated, or made longer by zeros, to so many bytes.
-    Resized(usize),
-}
-
 /// Changes of a file, one after the other.
-pub type Changes<'a> = &'a [Change<'a>];
+pub type Changes<'a> = &'a str;
 
-/// A code file that is being made: its bytes, and the order of its words.
+/// A code file that is being made: its bytes, the order of its words, and where the next record
+/// is written.
 #[derive(Drop)]
 pub struct CodeFile {
     order: Order,
     bytes: Vec<u8>,
+    record: usize,
 }
 
 impl CodeFile {
     /// A file of three blocks, all 0 but for the names, which are blank, with these changes, one
-    /// list after the other.
-    pub fn new(alloc: Global, order: Order, lists: &[Changes<'_>]) -> Result<CodeFile, AllocError> {
+    /// text after the other.
+    pub fn new(rt: &(impl Abort + AllocGlobal), order: Order, texts: &[Changes<'_>]) -> CodeFile {
         let mut file = CodeFile {
             order,
-            bytes: Vec::from_elem(alloc, 0, BASE_LENGTH)?,
+            bytes: Vec::from_elem(rt.alloc(), 0, BASE_LENGTH).expect(rt, "no memory"),
+            record: 0,
         };
-        file.bytes(NAMES, &[b' '; KINDS - NAMES]);
-        for changes in lists {
-            file.change(alloc, *changes)?;
+        file.put(NAMES, &[b' '; KINDS - NAMES]);
+        for changes in texts {
+            file.change(rt, *changes);
         }
-        Ok(file)
+        file
     }
 
     /// With these changes.
-    pub fn with(mut self, alloc: Global, changes: Changes<'_>) -> Result<CodeFile, AllocError> {
-        self.change(alloc, changes)?;
-        Ok(self)
+    pub fn with(mut self, rt: &(impl Abort + AllocGlobal), changes: Changes<'_>) -> CodeFile {
+        self.change(rt, changes);
+        self
     }
 
     /// The file's bytes.
@@ -95,59 +71,133 @@ impl CodeFile {
         self.bytes.as_slice()
     }
 
+    /// Puts bytes at a place; those that would lie past the file's end are left out.
+    pub fn put(&mut self, place: usize, bytes: &[u8]) {
+        put(self.bytes.as_mut_slice(), place, bytes)
+    }
+
     /// Makes these changes; bytes that would lie past the file's end are left out.
-    pub fn change(&mut self, alloc: Global, changes: Changes<'_>) -> Result<(), AllocError> {
-        for change in changes {
-            self.change_once(alloc, change)?;
+    pub fn change(&mut self, rt: &(impl Abort + AllocGlobal), changes: Changes<'_>) {
+        let mut rest = changes;
+        for _ in 0..changes.len() {
+            let (statement, others) = rest.split_once(';').unwrap_or((rest, ""));
+            let mut words = statement.split_whitespace();
+            if let Some(kind) = words.next() {
+                self.state(rt, kind, &mut words);
+                ends(rt, &mut words, statement);
+            }
+            rest = others;
         }
-        Ok(())
     }
 
-    fn change_once(&mut self, alloc: Global, change: &Change<'_>) -> Result<(), AllocError> {
-        match *change {
-            Change::Entry(slot, entry) => self.entry(slot, &entry),
-            Change::Address(slot, address) => self.word(PAIR_SIZE * usize::from(slot), address),
-            Change::Length(slot, length) => {
-                self.word(PAIR_SIZE * usize::from(slot) + WORD_SIZE, length)
-            }
-            Change::Kind(slot, kind) => self.word(KINDS + WORD_SIZE * usize::from(slot), kind),
-            Change::Bytes(place, bytes) => self.bytes(place, bytes),
-            Change::Code(block, place, bytes) => self.bytes(code_at(block, place), bytes),
-            Change::CodeWord(block, place, word) => self.word(code_at(block, place), word),
-            Change::HostCode(block) => self.bytes(code_at(block, 0), &demo_code(self.order)),
-            Change::UnitCode(block, number) => {
-                self.bytes(code_at(block, 0), &util_code(self.order, number))
-            }
-            Change::Records(block, records) => {
-                let information = Information::new(alloc, self.order, records)?;
-                self.bytes(code_at(block, 0), information.as_slice());
-            }
-            Change::Resized(length) => self.bytes.resize(length, 0)?,
+    /// Makes the change of a statement: its first word, and the words behind it.
+    fn state(
+        &mut self,
+        rt: &(impl Abort + AllocGlobal),
+        kind: &str,
+        words: &mut SplitWhitespace<'_>,
+    ) {
+        match kind {
+            "slot" => self.slot(rt, words),
+            "size" => self
+                .bytes
+                .resize(number(rt, words), 0)
+                .expect(rt, "no memory"),
+            "records" => self.record = code_place(word(rt, words), 0),
+            "at" | "fill" | "names" => self.at_place(rt, kind, words),
+            "code" | "word" | "demo-code" | "util-code" => self.in_code(rt, kind, words),
+            _ => self.add_record(rt, kind, words),
         }
-        Ok(())
     }
 
-    fn entry(&mut self, slot: u8, entry: &Slot) {
-        let slot = usize::from(slot);
-        self.word(PAIR_SIZE * slot, entry.address);
-        self.word(PAIR_SIZE * slot + WORD_SIZE, entry.length);
-        self.bytes(NAMES + NAME_SIZE * slot, &entry.name);
-        self.word(KINDS + WORD_SIZE * slot, entry.kind);
+    fn slot(&mut self, rt: &impl Abort, words: &mut SplitWhitespace<'_>) {
+        let slot = usize::from(word(rt, words));
+        for _ in 0..4 {
+            match words.next() {
+                None => return,
+                Some("name") => self.put(NAMES + NAME_SIZE * slot, &name(words)),
+                Some("kind") => self.word(KINDS + WORD_SIZE * slot, word(rt, words)),
+                Some("address") => self.word(PAIR_SIZE * slot, word(rt, words)),
+                Some("length") => self.word(PAIR_SIZE * slot + WORD_SIZE, word(rt, words)),
+                Some(part) => assert!(rt; false, "{part}"),
+            }
+        }
+    }
+
+    /// A change from a place of the file on.
+    fn at_place(&mut self, rt: &impl Abort, kind: &str, words: &mut SplitWhitespace<'_>) {
+        let place = number(rt, words);
+        match kind {
+            "at" => self.hex(rt, place, words),
+            "fill" => self.fill(rt, place, words),
+            _ => self.names(place, words),
+        }
+    }
+
+    /// A change of the code that begins with a block.
+    fn in_code(&mut self, rt: &impl Abort, kind: &str, words: &mut SplitWhitespace<'_>) {
+        let block = word(rt, words);
+        match kind {
+            "demo-code" => self.put(code_place(block, 0), &demo_code(self.order)),
+            "util-code" => {
+                let number = u8::try_from(word(rt, words)).expect(rt, "no segment number");
+                self.put(code_place(block, 0), &util_code(self.order, number))
+            }
+            "word" => self.word(code_place(block, number(rt, words)), word(rt, words)),
+            _ => self.hex(rt, code_place(block, number(rt, words)), words),
+        }
+    }
+
+    /// Bytes in two hexadecimal digits each.
+    fn hex(&mut self, rt: &impl Abort, place: usize, words: &mut SplitWhitespace<'_>) {
+        let digits = words.next().unwrap_or("no bytes").as_bytes();
+        let mut place = place;
+        for pair in digits.chunks(2) {
+            self.put(
+                place,
+                &[byte(rt, str::from_utf8(pair).unwrap_or("no text"))],
+            );
+            place = place.saturating_add(1);
+        }
+    }
+
+    /// So many bytes of one value.
+    fn fill(&mut self, rt: &impl Abort, place: usize, words: &mut SplitWhitespace<'_>) {
+        let count = number(rt, words);
+        let byte = byte(rt, words.next().unwrap_or("no byte"));
+        for k in 0..count {
+            self.put(place.saturating_add(k), &[byte]);
+        }
+    }
+
+    fn names(&mut self, place: usize, words: &mut SplitWhitespace<'_>) {
+        for k in 0..16 {
+            match words.next() {
+                Some(word) => self.put(place.saturating_add(NAME_SIZE * k), &name_of(word)),
+                None => return,
+            }
+        }
+    }
+
+    /// Writes a record behind the one before it.
+    fn add_record(
+        &mut self,
+        rt: &(impl Abort + AllocGlobal),
+        kind: &str,
+        words: &mut SplitWhitespace<'_>,
+    ) {
+        let mut information = Information::empty(rt, self.order);
+        information.record(rt, kind, words);
+        self.put(self.record, information.as_slice());
+        self.record = self.record.saturating_add(information.as_slice().len())
     }
 
     fn word(&mut self, place: usize, word: u16) {
-        let bytes = bytes_of(self.order, word);
-        self.bytes(place, &bytes);
-    }
-
-    fn bytes(&mut self, place: usize, bytes: &[u8]) {
-        for (to, from) in self.bytes.iter_mut().skip(place).zip(bytes) {
-            *to = *from;
-        }
+        self.put(place, &bytes_of(self.order, word))
     }
 }
 
 /// Where a place of the code is in the file that begins with a block.
-fn code_at(block: u16, place: usize) -> usize {
+fn code_place(block: u16, place: usize) -> usize {
     (BLOCK_SIZE * usize::from(block)).saturating_add(place)
 }

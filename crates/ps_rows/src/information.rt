@@ -1,6 +1,9 @@
-//! Link information that tests make record by record.
+//! Link information that tests write as `show` does: `PUBLREF COUNT at 1 4; PRIVREF STATE words 4
+//! at 7; EOFMARK next 0`.
+use crate::notation::{ends, name, value, word, word_of};
 use ps_words::Order;
-use std::alloc::{AllocError, Global};
+use std::process::Abort;
+use std::str::SplitWhitespace;
 
 /// A name in a segment dictionary or a record: eight bytes, padded with blanks.
 pub type Name = [u8; 8];
@@ -29,64 +32,10 @@ const NO_NAME: Name = [b' '; 8];
 /// How many references a piece of a record's list holds.
 const REFERENCES_PER_PIECE: usize = 8;
 
-/// A link record.
-#[derive(Clone, Copy)]
-pub enum Record<'a> {
-    /// UNITREF: the unit's name, and the references.
-    UnitReference(Name, &'a [u16]),
-    /// PUBLREF: the definition's name, and the references.
-    PublicReference(Name, &'a [u16]),
-    /// PRIVREF: the variable's name and words, and the references.
-    PrivateReference(Name, u16, &'a [u16]),
-    /// PUBLDEF: the name and its value.
-    PublicDefinition(Name, u16),
-    /// CONSTDEF: the name and its value.
-    ConstantDefinition(Name, u16),
-    /// EOFMARK: the next free base offset.
-    End(u16),
-    /// A name, any type word and any three words after it, and no list.
-    Other(Name, u16, [u16; 3]),
-}
+/// The bytes of a record before its list, and where the number of its references is in them.
+const HEAD_SIZE: usize = 16;
 
-impl<'a> Record<'a> {
-    /// The record's name, type word and further words.
-    fn head(&self) -> (Name, u16, [u16; 3]) {
-        match *self {
-            Record::UnitReference(name, references) => {
-                (name, UNIT_REFERENCE, [BYTE_FORMAT, count_of(references), 0])
-            }
-            Record::PublicReference(name, references) => (
-                name,
-                PUBLIC_REFERENCE,
-                [BIG_FORMAT, count_of(references), 0],
-            ),
-            Record::PrivateReference(name, words, references) => (
-                name,
-                PRIVATE_REFERENCE,
-                [BIG_FORMAT, count_of(references), words],
-            ),
-            Record::PublicDefinition(name, value) => (name, PUBLIC_DEFINITION, [value, 0, 0]),
-            Record::ConstantDefinition(name, value) => (name, CONSTANT_DEFINITION, [value, 0, 0]),
-            Record::End(next) => (NO_NAME, END_MARK, [next, 0, 0]),
-            Record::Other(name, kind, words) => (name, kind, words),
-        }
-    }
-
-    /// The references of its list.
-    fn references(&self) -> &'a [u16] {
-        match *self {
-            Record::UnitReference(_, references)
-            | Record::PublicReference(_, references)
-            | Record::PrivateReference(_, _, references) => references,
-            _ => &[],
-        }
-    }
-}
-
-/// What a record says of the length of its list.
-fn count_of(references: &[u16]) -> u16 {
-    u16::try_from(references.len()).unwrap_or(u16::MAX)
-}
+const COUNT_PLACE: usize = 12;
 
 /// Link information: the bytes of its records, in one byte order.
 #[derive(Drop)]
@@ -96,20 +45,28 @@ pub struct Information {
 }
 
 impl Information {
-    /// The records one after the other, each with its list.
-    pub fn new(
-        alloc: Global,
-        order: Order,
-        records: &[Record<'_>],
-    ) -> Result<Information, AllocError> {
-        let mut information = Information {
+    /// No records.
+    pub fn empty(rt: &(impl Abort + AllocGlobal), order: Order) -> Information {
+        Information {
             order,
-            bytes: Vec::new(alloc),
-        };
-        for record in records {
-            information.record(record)?;
+            bytes: Vec::new(rt.alloc()),
         }
-        Ok(information)
+    }
+
+    /// The records of a text, one after the other, each with its list.
+    pub fn new(rt: &(impl Abort + AllocGlobal), order: Order, text: &str) -> Information {
+        let mut information = Information::empty(rt, order);
+        let mut rest = text;
+        for _ in 0..text.len() {
+            let (record, others) = rest.split_once(';').unwrap_or((rest, ""));
+            let mut words = record.split_whitespace();
+            if let Some(kind) = words.next() {
+                information.record(rt, kind, &mut words);
+                ends(rt, &mut words, record);
+            }
+            rest = others;
+        }
+        information
     }
 
     /// The records' bytes.
@@ -117,30 +74,95 @@ impl Information {
         self.bytes.as_slice()
     }
 
-    fn record(&mut self, record: &Record<'_>) -> Result<(), AllocError> {
-        let (name, kind, words) = record.head();
-        self.bytes.extend_from_slice(&name)?;
-        self.word(kind)?;
-        for word in words {
-            self.word(word)?;
+    /// Adds a record: its kind, and the words behind it.
+    pub fn record(&mut self, rt: &impl Abort, kind: &str, words: &mut SplitWhitespace<'_>) {
+        match kind {
+            "UNITREF" => self.references(rt, UNIT_REFERENCE, BYTE_FORMAT, words),
+            "PUBLREF" => self.references(rt, PUBLIC_REFERENCE, BIG_FORMAT, words),
+            "PRIVREF" => self.private(rt, words),
+            "PUBLDEF" => self.definition(rt, PUBLIC_DEFINITION, words),
+            "CONSTDEF" => self.definition(rt, CONSTANT_DEFINITION, words),
+            "EOFMARK" => self.head(rt, &NO_NAME, END_MARK, [value(rt, words, "next"), 0, 0]),
+            "TYPE" => self.other(rt, words),
+            _ => assert!(rt; false, "{kind}"),
         }
-        for piece in record.references().chunks(REFERENCES_PER_PIECE) {
-            self.piece(piece)?;
-        }
-        Ok(())
     }
 
-    /// A piece of a list, which is filled up with zeros.
-    fn piece(&mut self, references: &[u16]) -> Result<(), AllocError> {
-        for i in 0..REFERENCES_PER_PIECE {
-            self.word(references.get(i).copied().unwrap_or(0))?;
-        }
-        Ok(())
+    /// UNITREF and PUBLREF: the name, and the references.
+    fn references(
+        &mut self,
+        rt: &impl Abort,
+        kind: u16,
+        format: u16,
+        words: &mut SplitWhitespace<'_>,
+    ) {
+        self.head(rt, &name(words), kind, [format, 0, 0]);
+        self.list(rt, words)
     }
 
-    fn word(&mut self, word: u16) -> Result<(), AllocError> {
+    /// PRIVREF: the variable's name and words, and the references.
+    fn private(&mut self, rt: &impl Abort, words: &mut SplitWhitespace<'_>) {
+        let name = name(words);
+        let size = value(rt, words, "words");
+        self.head(rt, &name, PRIVATE_REFERENCE, [BIG_FORMAT, 0, size]);
+        self.list(rt, words)
+    }
+
+    /// PUBLDEF and CONSTDEF: the name and its value.
+    fn definition(&mut self, rt: &impl Abort, kind: u16, words: &mut SplitWhitespace<'_>) {
+        let name = name(words);
+        self.head(rt, &name, kind, [value(rt, words, "value"), 0, 0])
+    }
+
+    /// Any type word, a name, the three words after them, and no list.
+    fn other(&mut self, rt: &impl Abort, words: &mut SplitWhitespace<'_>) {
+        let kind = word(rt, words);
+        let name = name(words);
+        let further = [word(rt, words), word(rt, words), word(rt, words)];
+        self.head(rt, &name, kind, further)
+    }
+
+    fn head(&mut self, rt: &impl Abort, name: &Name, kind: u16, further: [u16; 3]) {
+        self.bytes.extend_from_slice(name).expect(rt, "no memory");
+        self.word(rt, kind);
+        for word in further {
+            self.word(rt, word);
+        }
+    }
+
+    /// The references of a record, and how many they are.
+    fn list(&mut self, rt: &impl Abort, words: &mut SplitWhitespace<'_>) {
+        let place = self.bytes.len().saturating_sub(HEAD_SIZE - COUNT_PLACE);
+        assert!(rt; words.next() == Some("at"), "at");
+        let mut count = 0u16;
+        for _ in 0..u16::MAX {
+            let Some(reference) = words.next() else {
+                break;
+            };
+            self.word(rt, word_of(rt, reference));
+            count = count.saturating_add(1);
+        }
+        self.fill_up(rt, count);
+        put(
+            self.bytes.as_mut_slice(),
+            place,
+            &bytes_of(self.order, count),
+        )
+    }
+
+    /// Fills up the last piece of a list of so many references with zeros.
+    fn fill_up(&mut self, rt: &impl Abort, count: u16) {
+        let last = usize::from(count) % REFERENCES_PER_PIECE;
+        if last > 0 {
+            for _ in last..REFERENCES_PER_PIECE {
+                self.word(rt, 0);
+            }
+        }
+    }
+
+    fn word(&mut self, rt: &impl Abort, word: u16) {
         let bytes = bytes_of(self.order, word);
-        self.bytes.extend_from_slice(&bytes)
+        self.bytes.extend_from_slice(&bytes).expect(rt, "no memory")
     }
 }
 
@@ -149,5 +171,12 @@ pub(crate) fn bytes_of(order: Order, word: u16) -> [u8; 2] {
     match order {
         Order::Little => word.to_le_bytes(),
         Order::Big => word.to_be_bytes(),
+    }
+}
+
+/// Puts bytes at a place; those that would lie past the end are left out.
+pub(crate) fn put(all: &mut [u8], place: usize, bytes: &[u8]) {
+    for (to, from) in all.iter_mut().skip(place).zip(bytes) {
+        *to = *from;
     }
 }

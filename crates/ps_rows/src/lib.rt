@@ -9,6 +9,8 @@ mod code_file;
 #[cfg(test)]
 mod information;
 #[cfg(test)]
+mod notation;
+#[cfg(test)]
 mod tests;
 #[cfg(test)]
 mod units;

@@ -24,14 +24,13 @@ pub(crate) fn refused_allocations(
     let alloc = rt.alloc();
     for allocation in 1..MANY {
         let heap = Refusing::once(alloc, allocation);
-        let text = call.answer(alloc, &heap).expect(rt, "unexpected error");
+        let text = call.answer(alloc, &heap);
         if !heap.has_refused() {
-            is(rt, what, text.as_str(), answer);
+            is(rt, what, text, answer);
             return allocation - 1;
         }
-        is(rt, what, text.as_str(), OUT_OF_MEMORY);
-        let again = call.answer(alloc, &heap).expect(rt, "unexpected error");
-        is(rt, what, again.as_str(), answer);
+        is(rt, what, text, OUT_OF_MEMORY);
+        is(rt, what, call.answer(alloc, &heap), answer);
     }
     assert!(rt; false, "{what}: each allocation was refused");
     MANY
@@ -57,7 +56,6 @@ pub(crate) fn makes_no_allocation(
 ) {
     let alloc = rt.alloc();
     let heap = Refusing::from(alloc, 1);
-    let text = call.answer(alloc, &heap).expect(rt, "unexpected error");
-    is(rt, what, text.as_str(), answer);
+    is(rt, what, call.answer(alloc, &heap), answer);
     assert!(rt; heap.allocations() == 0, "{what}");
 }

@@ -11,9 +11,10 @@ pub(crate) const LITTLE: Order = Order::Little;
 /// The answer of each call whose allocation is refused.
 pub(crate) const OUT_OF_MEMORY: &str = "out of memory";
 
-/// Checks a text.
-pub(crate) fn is(rt: &impl Abort, what: &str, text: &str, wanted: &str) {
-    assert!(rt; text == wanted, "{what}: {text}");
+/// Checks a text, for which there was memory.
+pub(crate) fn is(rt: &impl Abort, what: &str, text: Result<String, AllocError>, wanted: &str) {
+    let text = text.expect(rt, "no memory");
+    assert!(rt; text.as_str() == wanted, "{what}: {text}");
 }
 
 /// A link's answer: the program's line for a Summary, or the text of an error.
@@ -53,7 +54,6 @@ pub(crate) fn links(rt: &(impl Abort + AllocGlobal), what: &str, files: &Link<'_
     let alloc = rt.alloc();
     let mut out = Vec::new(alloc);
     let answered = link(alloc, files.host, files.libraries, &mut out);
-    let text = text_of(alloc, answered).expect(rt, "unexpected error");
-    is(rt, what, text.as_str(), answer);
+    is(rt, what, text_of(alloc, answered), answer);
     assert!(rt; out.as_slice() == files.linked, "{what}");
 }

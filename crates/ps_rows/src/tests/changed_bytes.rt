@@ -1,9 +1,8 @@
 //! The base pair with each byte of the host's segment dictionary changed.
 use super::answers::{LITTLE, links};
 use super::link_allocations::Link;
-use super::tables::{LIBRARY_LISTS, PAIR_FILES};
-use crate::code_file::Change::{Address, Bytes, CodeWord, Length, Resized};
-use crate::code_file::{Changes, CodeFile};
+use super::tables::{HOST_TEXTS, LIBRARY_TEXTS, LINKED_TEXTS};
+use crate::code_file::CodeFile;
 use std::alloc::{AllocError, Global};
 use std::process::Abort;
 
@@ -44,14 +43,6 @@ fn expected(place: usize, byte: u8) -> Wanted {
     }
 }
 
-/// The changes from the base pair's linked file to that of the host segment alone.
-const HOST_ALONE: Changes<'static> = &[
-    CodeWord(1, 4, 10),
-    Address(7, 0),
-    Length(7, 0),
-    Resized(1024),
-];
-
 /// The line that is answered.
 fn answer(alloc: Global, wanted: Wanted) -> Result<String, AllocError> {
     match wanted {
@@ -64,41 +55,48 @@ fn answer(alloc: Global, wanted: Wanted) -> Result<String, AllocError> {
 
 /// The file that is written where the byte at a place of the host's dictionary is this one, empty
 /// where nothing is.
-fn written(alloc: Global, wanted: &Wanted, changed: Changes<'_>) -> Result<CodeFile, AllocError> {
-    let mut linked = PAIR_FILES.linked(alloc, &[])?;
+fn written(rt: &(impl Abort + AllocGlobal), wanted: &Wanted, place: usize, byte: u8) -> CodeFile {
+    let mut linked = CodeFile::new(rt, LITTLE, &LINKED_TEXTS);
     match wanted {
         Pair => (),
-        PairWithByte => linked.change(alloc, changed)?,
-        HostAlone => linked.change(alloc, HOST_ALONE)?,
-        Refused(_, _) => linked.change(alloc, &[Resized(0)])?,
+        PairWithByte => linked.put(place, &[byte]),
+        HostAlone => linked.change(rt, "word 1 4 10; slot 7 address 0 length 0; size 1024"),
+        Refused(_, _) => linked.change(rt, "size 0"),
     }
-    Ok(linked)
+    linked
 }
 
 /// Checks the answer where the byte at a place of the host's dictionary is this one.
 fn check(rt: &(impl Abort + AllocGlobal), library: &[u8], place: usize, byte: u8) {
-    let alloc = rt.alloc();
     let wanted = expected(place, byte);
-    let changed = [Bytes(place, &[byte])];
-    let linked = written(alloc, &wanted, &changed).expect(rt, "unexpected error");
-    let host = PAIR_FILES
-        .host(alloc, &changed)
-        .expect(rt, "unexpected error");
-    let answer = answer(alloc, wanted).expect(rt, "unexpected error");
-    let what = format!(in alloc; "byte {place} set to {byte}").expect(rt, "unexpected error");
+    let linked = written(rt, &wanted, place, byte);
+    let mut host = CodeFile::new(rt, LITTLE, &HOST_TEXTS);
+    host.put(place, &[byte]);
     let files = Link {
         host: host.as_slice(),
         libraries: &[library],
         linked: linked.as_slice(),
     };
-    links(rt, what.as_str(), &files, answer.as_str())
+    answers(rt, &files, wanted, (place, byte))
+}
+
+/// Checks the answer to these files.
+fn answers(
+    rt: &(impl Abort + AllocGlobal),
+    files: &Link<'_>,
+    wanted: Wanted,
+    (place, byte): (usize, u8),
+) {
+    let alloc = rt.alloc();
+    let answer = answer(alloc, wanted).expect(rt, "no memory");
+    let what = format!(in alloc; "byte {place} set to {byte}").expect(rt, "no memory");
+    links(rt, what.as_str(), files, answer.as_str())
 }
 
 #[test]
 fn each_byte_of_the_dictionary(rt: HostRuntime) {
-    let alloc = rt.alloc();
-    let host = PAIR_FILES.host(alloc, &[]).expect(&rt, "unexpected error");
-    let library = CodeFile::new(alloc, LITTLE, &LIBRARY_LISTS).expect(&rt, "unexpected error");
+    let host = CodeFile::new(&rt, LITTLE, &HOST_TEXTS);
+    let library = CodeFile::new(&rt, LITTLE, &LIBRARY_TEXTS);
     for place in 0..512 {
         for byte in [0x00, 0x01, 0x7F, 0x80, 0xFF] {
             if host.as_slice().get(place) != Some(&byte) {

@@ -1,7 +1,7 @@
 //! Files truncated to every length.
 use super::answers::links;
 use super::link_allocations::Link;
-use super::tables::{BIG_PAIR, Base, PAIR};
+use super::tables::{BIG_PAIR, Base, Check, PAIR};
 use std::process::Abort;
 
 const WHOLE: &str = "segments 2 private words 4 blocks 3";
@@ -62,18 +62,24 @@ fn answers(
     links(rt, "a cut file", &files, answer)
 }
 
-/// Checks the answers to each length of the files of a pair.
-fn cuts(rt: &(impl Abort + AllocGlobal), host: &[u8], library: &[u8], linked: &[u8]) {
-    for (from, to, answer) in &HOSTS {
-        for length in *from..*to {
-            let cut = host.get(..length).unwrap_or(&[]);
-            answers(rt, cut, library, *answer, linked);
+/// A host and a library, each of which is cut to each length.
+#[derive(Clone, Copy)]
+struct Cuts;
+
+impl Check for Cuts {
+    fn check<R: Abort + AllocGlobal>(&self, rt: &R, link: &Link<'_>) {
+        let library = link.libraries.first().copied().unwrap_or(&[]);
+        for (from, to, answer) in &HOSTS {
+            for length in *from..*to {
+                let cut = link.host.get(..length).unwrap_or(&[]);
+                answers(rt, cut, library, *answer, link.linked);
+            }
         }
-    }
-    for (from, to, answer) in &LIBRARIES {
-        for length in *from..*to {
-            let cut = library.get(..length).unwrap_or(&[]);
-            answers(rt, host, cut, *answer, linked);
+        for (from, to, answer) in &LIBRARIES {
+            for length in *from..*to {
+                let cut = library.get(..length).unwrap_or(&[]);
+                answers(rt, link.host, cut, *answer, link.linked);
+            }
         }
     }
 }
@@ -82,13 +88,7 @@ static PAIRS: [Base<'static>; 2] = [PAIR, BIG_PAIR];
 
 #[test]
 fn each_length_in_either_byte_order(rt: HostRuntime) {
-    let alloc = rt.alloc();
     for base in &PAIRS {
-        let host = base.host(alloc, &[]).expect(&rt, "unexpected error");
-        let libraries = base.libraries(alloc, &[]).expect(&rt, "unexpected error");
-        let linked = base.linked(alloc, &[]).expect(&rt, "unexpected error");
-        for library in libraries.iter() {
-            cuts(&rt, host.as_slice(), library.as_slice(), linked.as_slice());
-        }
+        base.check(&rt, ("", "", ""), &Cuts);
     }
 }

@@ -2,11 +2,10 @@
 ghost use Rattle.std.specs.Prelude.{◌<◌};
 
 use super::answers::is;
-use super::tables::{LIBRARY_LISTS, PAIR_FILES};
+use super::tables::{HOST_TEXTS, LIBRARY_TEXTS};
 use crate::base::{
     HOST, HOST_RECORDS, LIBRARY, LINKED_PAIR, UTIL, UTIL_ENTRY, demo_code, util_code,
 };
-use crate::code_file::Change::{Bytes, Resized};
 use crate::code_file::{Changes, CodeFile};
 use crate::information::Information;
 use crate::units::HAS_UNIT;
@@ -29,6 +28,13 @@ fn add_slot(text: &mut String, dictionary: &Dict<'_>, slot: u8) -> Result<(), Al
         write!(text, "slot {slot} {name} {role:?} kind {} ", entry.kind)?;
         write!(text, "address {} length {}", entry.address, entry.length)?;
     }
+    add_code(text, dictionary, slot)
+}
+
+/// Adds how long a slot's code is, and what follows it.
+fn add_code(text: &mut String, dictionary: &Dict<'_>, slot: u8) -> Result<(), AllocError>
+    requires { slot < 16 }
+{
     if dictionary.filled(slot) {
         let code = dictionary.code(slot).map(|code| code.len());
         let after = dictionary.after(slot).len();
@@ -81,9 +87,9 @@ static FILES: [(&[Changes<'static>], bool, bool, &str); 9] = [
     (&[HOST, HAS_UNIT], true, false, IN_PLACE),
     (&[LIBRARY], false, false, LIBRARY_TEXT),
     (&[LIBRARY], false, true, "OrderMismatch"),
-    (&[LIBRARY, &[Resized(511)]], false, false, "ShortFile"),
-    (&[LIBRARY, &[Resized(511)]], false, true, "ShortFile"),
-    (&[&[Bytes(64, &[0; 128]), Resized(512)]], false, false, ""),
+    (&[LIBRARY, "size 511"], false, false, "ShortFile"),
+    (&[LIBRARY, "size 511"], false, true, "ShortFile"),
+    (&["fill 64 128 00; size 512"], false, false, ""),
     (LINKED_PAIR, false, false, LINKED),
     (LINKED_PAIR, true, false, "NoHost"),
 ];
@@ -92,16 +98,15 @@ static FILES: [(&[Changes<'static>], bool, bool, &str); 9] = [
 fn files_in_either_byte_order(rt: HostRuntime) {
     let alloc = rt.alloc();
     for (order, other) in ORDERS {
-        for (lists, is_host, is_turned, wanted) in &FILES {
+        for (texts, is_host, is_turned, wanted) in &FILES {
             let own = if *is_turned { other } else { order };
-            let file = CodeFile::new(alloc, own, *lists).expect(&rt, "unexpected error");
+            let file = CodeFile::new(&rt, own, *texts);
             let answer = if *is_host {
                 Dict::read(file.as_slice())
             } else {
                 Dict::read_beside(file.as_slice(), order)
             };
-            let text = describe(alloc, answer, order).expect(&rt, "unexpected error");
-            is(&rt, "a file", text.as_str(), *wanted);
+            is(&rt, "a file", describe(alloc, answer, order), *wanted);
         }
     }
 }
@@ -128,18 +133,14 @@ fn gives_the_host_s_parts(rt: &impl Abort, dictionary: &Dict<'_>, information: &
 
 #[test]
 fn parts_of_the_base_files(rt: HostRuntime) {
-    let alloc = rt.alloc();
     for (order, _) in ORDERS {
-        let host = CodeFile::new(alloc, order, PAIR_FILES.host).expect(&rt, "unexpected error");
-        let information = Information::new(alloc, order, &HOST_RECORDS).expect(
-            &rt,
-            "unexpected error",
-        );
+        let host = CodeFile::new(&rt, order, &HOST_TEXTS);
+        let information = Information::new(&rt, order, HOST_RECORDS);
         match Dict::read(host.as_slice()) {
             Ok(host) => gives_the_host_s_parts(&rt, &host, information.as_slice()),
             Err(_) => assert!(rt; false, "no dictionary"),
         }
-        let library = CodeFile::new(alloc, order, &LIBRARY_LISTS).expect(&rt, "unexpected error");
+        let library = CodeFile::new(&rt, order, &LIBRARY_TEXTS);
         let library = Dict::read_beside(library.as_slice(), order);
         let code = library.and_then(|library| library.code(2));
         assert!(rt; code == Ok(util_code(order, UTIL_ENTRY).as_slice()));

@@ -1,73 +1,61 @@
 //! Why a host is refused, whatever units it has.
 use super::tables::Memory::NoAllocation;
 use super::tables::{HOST_ALONE, IN_PLACE, PAIR, Refusal, Table, refuse_tables};
-use crate::base::{COUNT, WANTED_UTIL};
-use crate::code_file::Change::{Address, Bytes, Code, Entry, Kind, Length, Records, Resized};
-use crate::code_file::{HOST_SEGMENT, Slot};
-use crate::information::Record::{ConstantDefinition, End, PublicDefinition};
-
-/// A slot with no name that has the host segment's code.
-pub(crate) const LIKE_DEMO: Slot = Slot {
-    name: [b' '; 8],
-    kind: HOST_SEGMENT,
-    address: 1,
-    length: 18,
-};
 
 /// Segment dictionaries.
 const DICTIONARIES: [Refusal<'static>; 9] = [
     (
         "no whole block",
-        &[Resized(511)],
-        &[],
+        "size 511",
+        "",
         "refused 1 ShortFile file 0",
     ),
     (
         "a byte of either order",
-        &[Bytes(193, &[1])],
-        &[],
+        "at 193 01",
+        "",
         "refused 2 NoOrder file 0",
     ),
     (
         "a host segment with no code",
-        &[Length(1, 0)],
-        &[],
+        "slot 1 length 0",
+        "",
         "refused 4 NoHost file 0",
     ),
     (
         "a second host segment",
-        &[Entry(2, LIKE_DEMO)],
-        &[],
+        "slot 2 name - kind 1 address 1 length 18",
+        "",
         "refused 5 TwoHosts file 0 slot 2",
     ),
     (
         "a unit and a wanted unit of one name",
-        &[Entry(8, WANTED_UTIL)],
-        &[],
+        "slot 8 name UTIL kind 3 address 0 length 0",
+        "",
         "refused 6 DoubledSegment file 0 slot 8",
     ),
     (
         "kind 2",
-        &[Entry(8, LIKE_DEMO), Kind(8, 2)],
-        &[],
+        "slot 8 name - kind 2 address 1 length 18",
+        "",
         "refused 7 SegmentProcedure file 0 slot 8",
     ),
     (
         "kind 4",
-        &[Entry(8, LIKE_DEMO), Kind(8, 4)],
-        &[],
+        "slot 8 name - kind 4 address 1 length 18",
+        "",
         "refused 8 NativeSegment file 0 slot 8",
     ),
     (
         "kind 6",
-        &[Entry(8, LIKE_DEMO), Kind(8, 6)],
-        &[],
+        "slot 8 name - kind 6 address 1 length 18",
+        "",
         "refused 9 Intrinsic file 0 slot 8",
     ),
     (
         "kind 8",
-        &[Entry(8, LIKE_DEMO), Kind(8, 8)],
-        &[],
+        "slot 8 name - kind 8 address 1 length 18",
+        "",
         "refused 10 UnknownKind file 0 slot 8",
     ),
 ];
@@ -76,20 +64,20 @@ const DICTIONARIES: [Refusal<'static>; 9] = [
 const CODES: [Refusal<'static>; 3] = [
     (
         "an odd length",
-        &[Length(1, 17)],
-        &[],
+        "slot 1 length 17",
+        "",
         "refused 11 BadLength file 0 slot 1",
     ),
     (
         "address 0",
-        &[Address(1, 0)],
-        &[],
+        "slot 1 address 0",
+        "",
         "refused 12 BadAddress file 0 slot 1",
     ),
     (
         "17 bytes of 18",
-        &[Resized(529)],
-        &[],
+        "size 529",
+        "",
         "refused 16 Truncated file 0 slot 1",
     ),
 ];
@@ -97,8 +85,8 @@ const CODES: [Refusal<'static>; 3] = [
 /// Procedure dictionaries and attribute tables.
 const PROCEDURES: [Refusal<'static>; 1] = [(
     "no body of procedure 1",
-    &[Code(1, 14, &[0])],
-    &[],
+    "code 1 14 00",
+    "",
     "refused 17 BadProcDict file 0 slot 1",
 )];
 
@@ -106,14 +94,14 @@ const PROCEDURES: [Refusal<'static>; 1] = [(
 const RECORDS: [Refusal<'static>; 2] = [
     (
         "no information",
-        &[Resized(530)],
-        &[],
+        "size 530",
+        "",
         "refused 19 RecordsTruncated file 0 slot 1 record 0",
     ),
     (
         "a file that ends before it",
-        &[Resized(1023)],
-        &[],
+        "size 1023",
+        "",
         "refused 19 RecordsTruncated file 0 slot 1 record 0",
     ),
 ];
@@ -122,28 +110,14 @@ const RECORDS: [Refusal<'static>; 2] = [
 pub(crate) const DEFINITIONS: [Refusal<'static>; 2] = [
     (
         "two definitions",
-        &[Records(
-            2,
-            &[
-                PublicDefinition(COUNT, 3),
-                PublicDefinition(COUNT, 4),
-                End(8),
-            ],
-        )],
-        &[],
+        "records 2; PUBLDEF COUNT value 3; PUBLDEF COUNT value 4; EOFMARK next 8",
+        "",
         "refused 24 DoubledDefinition file 0 slot 1 record 1",
     ),
     (
         "a constant and a definition",
-        &[Records(
-            2,
-            &[
-                ConstantDefinition(COUNT, 3),
-                PublicDefinition(COUNT, 4),
-                End(8),
-            ],
-        )],
-        &[],
+        "records 2; CONSTDEF COUNT value 3; PUBLDEF COUNT value 4; EOFMARK next 8",
+        "",
         "refused 24 DoubledDefinition file 0 slot 1 record 1",
     ),
 ];

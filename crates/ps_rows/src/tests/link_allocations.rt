@@ -2,7 +2,7 @@
 use super::allocations::{Allocating, refused_allocations};
 use super::answers::{is, text_of};
 use super::plan::{describe, text_of_stop};
-use super::tables::{Base, IN_PLACE, LONG_UNIT_PAIR, PAIR, bytes_of};
+use super::tables::{Base, Check, IN_PLACE, LONG_UNIT_PAIR, PAIR};
 use super::writers::{Full, Room};
 use ps_linkfile::{Counting, LinkError, Linked, Summary, link, map_text, prepare};
 use ps_resolve::resolve;
@@ -22,6 +22,22 @@ impl Link<'_> {
     /// A writer with room for the linked file, which takes no memory.
     fn room(&self, alloc: Global) -> Result<Room, AllocError> {
         Room::new(alloc, (self.linked.len(), usize::MAX, Full::Stalls))
+    }
+
+    /// Checks an answer, and what was written.
+    fn has(
+        &self,
+        rt: &(impl Abort + AllocGlobal),
+        answer: Result<Summary, LinkError>,
+        written: &[u8],
+        wanted: &str,
+    ) {
+        is(
+            rt,
+            wanted,
+            self.text_of(rt.alloc(), answer, written),
+            wanted,
+        )
     }
 
     /// An answer as text, where no other bytes were written than it says.
@@ -80,23 +96,31 @@ impl<'a> Allocating for Prepare<'a> {
     }
 }
 
-/// Writes a prepared link to a writer of each kind: the answers as text, where each has the linked
-/// file.
-fn written<A: Allocator + Copy>(
-    alloc: Global,
+/// Checks what is answered and written where a prepared link is written to a writer of each kind.
+fn writes_to_each<A: Allocator + Copy>(
+    rt: &(impl Abort + AllocGlobal),
     link: &Link<'_>,
     linked: &Linked<'_, A>,
-) -> Result<String, AllocError> {
-    let mut room = link.room(alloc)?;
+    summary: &str,
+) {
+    let mut room = link.room(rt.alloc()).expect(rt, "no memory");
     let answer = linked.write(&mut room).map_err(LinkError::Write);
-    let first = link.text_of(alloc, answer, room.written())?;
-    let mut list = Vec::new(alloc);
-    let answer = linked.write(&mut list).map_err(LinkError::Write);
-    let second = link.text_of(alloc, answer, list.as_slice())?;
-    let mut told = Counting::new(link.room(alloc)?);
+    link.has(rt, answer, room.written(), summary);
+    writes_to_a_list(rt, link, linked, summary);
+    let mut told = Counting::new(link.room(rt.alloc()).expect(rt, "no memory"));
     let answer = linked.write_told(&mut told).map_err(LinkError::Write);
-    let third = link.text_of(alloc, answer, told.into_inner().written())?;
-    format!(in alloc; "{first}, {second}, {third}")
+    link.has(rt, answer, told.into_inner().written(), summary)
+}
+
+fn writes_to_a_list<A: Allocator + Copy>(
+    rt: &(impl Abort + AllocGlobal),
+    link: &Link<'_>,
+    linked: &Linked<'_, A>,
+    summary: &str,
+) {
+    let mut list = Vec::new(rt.alloc());
+    let answer = linked.write(&mut list).map_err(LinkError::Write);
+    link.has(rt, answer, list.as_slice(), summary)
 }
 
 /// Checks that preparing a link makes so many allocations, of so many bytes in all, and that
@@ -107,24 +131,18 @@ fn writing_grows_nothing(
     asked: (u64, u64),
     summary: &str,
 ) {
-    let alloc = rt.alloc();
-    let heap = Refusing::once(alloc, 0);
+    let heap = Refusing::once(rt.alloc(), 0);
     let heap = &heap;
     let linked = prepare(heap, link.host, link.libraries).expect(rt, "unexpected error");
-    let (allocations, bytes) = (heap.allocations(), heap.bytes());
-    assert!(rt; (allocations, bytes) == asked, "{allocations} {bytes}");
-    let text = written(alloc, link, &linked).expect(rt, "unexpected error");
-    let wanted = format!(in alloc; "{summary}, {summary}, {summary}").expect(
-        rt,
-        "unexpected error",
-    );
-    is(
-        rt,
-        "a room, a list and a writer that counts",
-        text.as_str(),
-        wanted.as_str(),
-    );
-    assert!(rt; heap.allocations() == allocations);
+    has_grown(rt, heap, asked);
+    writes_to_each(rt, link, &linked, summary);
+    has_grown(rt, heap, asked)
+}
+
+/// Checks how many allocations there were on a heap, and of how many bytes.
+fn has_grown(rt: &impl Abort, heap: &Refusing<Global>, asked: (u64, u64)) {
+    let grown = (heap.allocations(), heap.bytes());
+    assert!(rt; grown == asked, "{grown:?}");
 }
 
 /// Checks that the map of a link takes memory for its plan and for its text alone. The text has 128
@@ -149,34 +167,29 @@ fn a_map_grows_by_its_text(
     );
 }
 
-/// A link of unchanged files, how many allocations its plan makes and of how many bytes, the plan,
+/// A link of unchanged files: how many allocations its plan makes and of how many bytes, the plan,
 /// and the program's line.
-type Planned<'a> = (Base<'a>, (u64, u64), &'a str, &'a str);
+#[derive(Clone, Copy)]
+struct Planned<'a> {
+    asked: (u64, u64),
+    plan: &'a str,
+    summary: &'a str,
+}
 
-/// Checks the answers of `resolve` and of `prepare` with each allocation refused in turn, that both
-/// make so many, and that a linked file is written without any.
-fn only_the_plan_grows(
-    rt: &(impl Abort + AllocGlobal),
-    (base, asked, planned, summary): &Planned<'_>,
-) {
-    let alloc = rt.alloc();
-    let host = base.host(alloc, &[]).expect(rt, "unexpected error");
-    let libraries = base.libraries(alloc, &[]).expect(rt, "unexpected error");
-    let libraries = bytes_of(alloc, libraries.as_slice()).expect(rt, "unexpected error");
-    let linked = base.linked(alloc, &[]).expect(rt, "unexpected error");
-    let link = Link {
-        host: host.as_slice(),
-        libraries: libraries.as_slice(),
-        linked: linked.as_slice(),
-    };
-    let planning = refused_allocations(rt, "resolve", &Resolve { link }, *planned);
-    let preparing = refused_allocations(rt, "prepare", &Prepare { link }, *summary);
-    assert!(rt;
-        (planning, preparing) == (asked.0, asked.0),
-        "{planning} {preparing}"
-    );
-    writing_grows_nothing(rt, &link, *asked, *summary);
-    a_map_grows_by_its_text(rt, &link, *asked)
+impl<'a> Check for Planned<'a> {
+    /// The answers of `resolve` and of `prepare` with each allocation refused in turn, that both
+    /// make so many, and that a linked file is written without any.
+    fn check<R: Abort + AllocGlobal>(&self, rt: &R, link: &Link<'_>) {
+        let planning = refused_allocations(rt, "resolve", &Resolve { link: *link }, self.plan);
+        let preparing = refused_allocations(rt, "prepare", &Prepare { link: *link }, self.summary);
+        let (allocations, _) = self.asked;
+        assert!(rt;
+            (planning, preparing) == (allocations, allocations),
+            "{planning} {preparing}"
+        );
+        writing_grows_nothing(rt, link, self.asked, self.summary);
+        a_map_grows_by_its_text(rt, link, self.asked)
+    }
 }
 
 /// The table of definitions takes four allocations of 244 bytes, since the kit's has nine places at
@@ -185,36 +198,42 @@ fn only_the_plan_grows(
 /// each of its code's 18, 24 or 530, and a list 16 for each edit that there is room for: one for
 /// each reference and two more. A private variable takes 24 bytes, and its name 8 while names are
 /// compared.
-static PLANS: [Planned<'static>; 3] = [
+static PLANS: [(Base<'static>, Planned<'static>); 3] = [
     (
         PAIR,
-        (11, 604),
-        "slot 1 file 0 entry 1 length 18: word at 4: 18 byte at 16: 1; \
+        Planned {
+            asked: (11, 604),
+            plan: "slot 1 file 0 entry 1 length 18: word at 4: 18 byte at 16: 1; \
 slot 7 file 1 entry 2 length 24: big at 1: 3 big at 4: 10 byte at 22: 7; \
 definitions 1 privates 1 words 4 next 12 data 18",
-        "segments 2 private words 4 blocks 3",
+            summary: "segments 2 private words 4 blocks 3",
+        },
     ),
     (
         LONG_UNIT_PAIR,
-        (9, 2580),
-        "slot 1 file 0 entry 1 length 18: word at 4: 10 byte at 16: 1; \
+        Planned {
+            asked: (9, 2580),
+            plan: "slot 1 file 0 entry 1 length 18: word at 4: 10 byte at 16: 1; \
 slot 7 file 1 entry 2 length 530: big at 511: 258 byte at 528: 7; \
 definitions 1 privates 0 words 0 next 8 data 10",
-        "segments 2 private words 0 blocks 4",
+            summary: "segments 2 private words 0 blocks 4",
+        },
     ),
     (
         IN_PLACE,
-        (9, 556),
-        "slot 1 file 0 entry 1 length 18: word at 4: 10 byte at 16: 1; \
+        Planned {
+            asked: (9, 556),
+            plan: "slot 1 file 0 entry 1 length 18: word at 4: 10 byte at 16: 1; \
 slot 7 file 0 entry 7 length 24: big at 1: 3 byte at 22: 7; \
 definitions 1 privates 0 words 0 next 8 data 10",
-        "segments 2 private words 0 blocks 3",
+            summary: "segments 2 private words 0 blocks 3",
+        },
     ),
 ];
 
 #[test]
 fn writing_takes_no_memory(rt: HostRuntime) {
-    for planned in &PLANS {
-        only_the_plan_grows(&rt, planned);
+    for (base, planned) in &PLANS {
+        base.check(&rt, ("", "", ""), planned);
     }
 }

@@ -3,8 +3,7 @@
 use super::answers::is;
 use super::records::describe;
 use crate::base::{COUNT, LIBRARY_RECORDS, STATE};
-use crate::information::Record::{Other, PrivateReference};
-use crate::information::{Information, Name, Record};
+use crate::information::{Information, Name};
 use ps_linkinfo::{LinkInformation, ReadFault};
 use ps_words::Order;
 use std::alloc::{AllocError, Global};
@@ -58,16 +57,20 @@ fn reads(
     let alloc = rt.alloc();
     match read {
         Ok(information) => {
-            let text = describe_all(alloc, &information).expect(rt, "unexpected error");
-            is(rt, "link information", text.as_str(), wanted);
+            is(
+                rt,
+                "link information",
+                describe_all(alloc, &information),
+                wanted,
+            );
             assert!(rt;
                 information.digest().finish() == digest_of(names),
                 "{wanted}"
             );
         }
         Err(fault) => {
-            let text = format!(in alloc; "{fault:?}").expect(rt, "unexpected error");
-            is(rt, "link information", text.as_str(), wanted);
+            let text = format!(in alloc; "{fault:?}");
+            is(rt, "link information", text, wanted);
         }
     }
 }
@@ -90,45 +93,42 @@ const BASE_READ: &str = "[3, 0, 1, 1, 0, 2, 0] 0 PUBLREF COUNT    at 1; \
 1 PRIVREF STATE    words 4 at 4; 2 EOFMARK next 0;";
 
 /// Records, the length that they are truncated to, what they are read as, and the names.
-type Read<'a> = (&'a [Record<'a>], usize, &'a str, &'a [Name]);
+type Read<'a> = (&'a str, usize, &'a str, &'a [Name]);
 
 static READ: [Read<'static>; 7] = [
-    (&LIBRARY_RECORDS, 80, BASE_READ, &[STATE]),
+    (LIBRARY_RECORDS, 80, BASE_READ, &[STATE]),
     (
-        &LIBRARY_RECORDS,
+        LIBRARY_RECORDS,
         79,
         "ReadFault { rec: 2, reason: RecordsTruncated }",
         &[],
     ),
     (
-        &LIBRARY_RECORDS,
+        LIBRARY_RECORDS,
         64,
         "ReadFault { rec: 2, reason: RecordsTruncated }",
         &[],
     ),
     (
-        &LIBRARY_RECORDS,
+        LIBRARY_RECORDS,
         63,
         "ReadFault { rec: 1, reason: RecordsTruncated }",
         &[],
     ),
     (
-        &LIBRARY_RECORDS,
+        LIBRARY_RECORDS,
         31,
         "ReadFault { rec: 0, reason: RecordsTruncated }",
         &[],
     ),
     (
-        &LIBRARY_RECORDS,
+        LIBRARY_RECORDS,
         0,
         "ReadFault { rec: 0, reason: RecordsTruncated }",
         &[],
     ),
     (
-        &[
-            PrivateReference(STATE, 4, &[4]),
-            Other(COUNT, 11, [2, 0, 0]),
-        ],
+        "PRIVREF STATE words 4 at 4; TYPE 11 COUNT 2 0 0",
         48,
         "ReadFault { rec: 1, reason: SeparateRecord }",
         &[],
@@ -143,10 +143,7 @@ fn records_counts_and_names(rt: HostRuntime) {
     reads(&rt, full, WORDS_IN_FULL_READ, &[LIMIT, COUNT]);
     for order in [Order::Little, Order::Big] {
         for (records, length, wanted, names) in &READ {
-            let information = Information::new(rt.alloc(), order, *records).expect(
-                &rt,
-                "unexpected error",
-            );
+            let information = Information::new(&rt, order, *records);
             let bytes = information.as_slice().get(..*length).unwrap_or(&[]);
             reads(&rt, LinkInformation::read(order, bytes), *wanted, *names);
         }

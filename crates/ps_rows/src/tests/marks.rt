@@ -1,10 +1,8 @@
 //! What show says of UNITREF records whose unit the file has, and of those whose unit it has not.
 use super::texts::{show_of, shows};
-use crate::base::{LIBRARY, UTIL};
-use crate::code_file::Change::Records;
+use crate::base::LIBRARY;
 use crate::code_file::{Changes, CodeFile};
-use crate::information::Record::{End, UnitReference};
-use crate::units::{AUX, HAS_AUX, USES_AUX};
+use crate::units::{HAS_AUX, USES_AUX};
 use ps_words::Order;
 
 const SHOW_OF_THE_LIBRARY_OF_TWO: &str = show_of!(
@@ -66,40 +64,30 @@ static SHOWS: [(Order, &[Changes<'static>], &str); 6] = [
         Order::Little,
         &[
             LIBRARY,
-            &[Records(2, &[UnitReference([0; 8], &[2]), End(0)])],
+            "records 2; UNITREF \0\0\0\0\0\0\0\0 at 2; EOFMARK next 0",
         ],
         SHOW_OF_A_NAME_OF_ZEROS,
     ),
     (
         Order::Little,
-        &[LIBRARY, &[Records(2, &[UnitReference(AUX, &[2]), End(0)])]],
+        &[LIBRARY, "records 2; UNITREF AUX at 2; EOFMARK next 0"],
         SHOW_OF_A_REFERENCE,
     ),
     (
         Order::Little,
-        &[LIBRARY, &[Records(2, &[UnitReference(AUX, &[]), End(0)])]],
+        &[LIBRARY, "records 2; UNITREF AUX at; EOFMARK next 0"],
         SHOW_OF_NO_REFERENCE,
     ),
     (
         Order::Little,
-        &[
-            LIBRARY,
-            &[Records(2, &[UnitReference(AUX, &[2, 5]), End(0)])],
-        ],
+        &[LIBRARY, "records 2; UNITREF AUX at 2 5; EOFMARK next 0"],
         SHOW_OF_TWO_REFERENCES,
     ),
     (
         Order::Big,
         &[
             LIBRARY,
-            &[Records(
-                2,
-                &[
-                    UnitReference(UTIL, &[2]),
-                    UnitReference(AUX, &[2, 5]),
-                    End(0),
-                ],
-            )],
+            "records 2; UNITREF UTIL at 2; UNITREF AUX at 2 5; EOFMARK next 0",
         ],
         SHOWN_BIG_ENDIAN,
     ),
@@ -112,8 +100,8 @@ static SHOWS: [(Order, &[Changes<'static>], &str); 6] = [
 
 #[test]
 fn the_show_of_units_that_a_file_has_and_has_not(rt: HostRuntime) {
-    for (order, lists, text) in &SHOWS {
-        let file = CodeFile::new(rt.alloc(), *order, *lists).expect(&rt, "unexpected error");
+    for (order, texts, text) in &SHOWS {
+        let file = CodeFile::new(&rt, *order, *texts);
         shows(&rt, "a library", file.as_slice(), *text);
     }
 }

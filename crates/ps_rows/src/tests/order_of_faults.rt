@@ -1,23 +1,20 @@
 //! Files with several faults, of which the first in the order of the checks is answered.
-use super::host_faults::LIKE_DEMO;
 use super::tables::Memory::Ample;
 use super::tables::{Base, PAIR, Refusal, Table, refuse_tables};
-use crate::base::{COUNT, CUONT, LIBRARY, LIBRARY_UTIL, LINKED_PAIR};
-use crate::code_file::Change::{Bytes, Code, Entry, Kind, Length, Records, Resized};
-use crate::information::Record::{End, PublicDefinition, PublicReference};
+use crate::base::{LIBRARY, LINKED_PAIR};
 
 /// Faults of dictionaries, and others after them.
 const DICTIONARIES: [Refusal<'static>; 2] = [
     (
         "a kind in slot 8 and a second host segment in slot 9",
-        &[Entry(8, LIKE_DEMO), Kind(8, 8), Entry(9, LIKE_DEMO)],
-        &[],
+        "slot 8 name - kind 8 address 1 length 18; slot 9 name - kind 1 address 1 length 18",
+        "",
         "refused 10 UnknownKind file 0 slot 8",
     ),
     (
         "a short library and a length in the host",
-        &[Length(1, 17)],
-        &[Resized(511)],
+        "slot 1 length 17",
+        "size 511",
         "refused 1 ShortFile file 1",
     ),
 ];
@@ -26,14 +23,14 @@ const DICTIONARIES: [Refusal<'static>; 2] = [
 const ENTRIES_AND_CODES: [Refusal<'static>; 2] = [
     (
         "two entries of the name, one of kind 5",
-        &[],
-        &[Kind(2, 5), Entry(3, LIBRARY_UTIL)],
+        "",
+        "slot 2 kind 5; slot 3 name UTIL kind 3 address 1 length 24",
         "refused 15 DoubledUnit file 1 slot 7",
     ),
     (
         "a table past the dictionary and native code",
-        &[],
-        &[Code(1, 18, &[0]), Code(1, 23, &[2])],
+        "",
+        "code 1 18 00; code 1 23 02",
         "refused 17 BadProcDict file 1 slot 7",
     ),
 ];
@@ -42,44 +39,27 @@ const ENTRIES_AND_CODES: [Refusal<'static>; 2] = [
 const NAMES_AND_SIZES: [Refusal<'static>; 4] = [
     (
         "a missing definition of the library and a duplicate one",
-        &[Records(
-            2,
-            &[
-                PublicDefinition(COUNT, 3),
-                PublicDefinition(COUNT, 4),
-                End(8),
-            ],
-        )],
-        &[Bytes(1024, &CUONT)],
+        "records 2; PUBLDEF COUNT value 3; PUBLDEF COUNT value 4; EOFMARK next 8",
+        "names 1024 CUONT",
         "refused 24 DoubledDefinition file 0 slot 1 record 1",
     ),
     (
         "a missing definition and a duplicate one",
-        &[Records(
-            2,
-            &[
-                PublicDefinition(COUNT, 3),
-                PublicReference(CUONT, &[]),
-                PublicDefinition(COUNT, 4),
-                End(8),
-            ],
-        )],
-        &[],
+        "records 2; PUBLDEF COUNT value 3; PUBLREF CUONT at; PUBLDEF COUNT value 4; \
+EOFMARK next 8",
+        "",
         "refused 24 DoubledDefinition file 0 slot 1 record 2",
     ),
     (
         "no room and a data size",
-        &[
-            Records(2, &[PublicDefinition(COUNT, 3), End(32760)]),
-            Code(1, 4, &[0xF8, 0xFF]),
-        ],
-        &[Bytes(1070, &[8])],
+        "records 2; PUBLDEF COUNT value 3; EOFMARK next 32760; code 1 4 F8FF",
+        "at 1070 08",
         "refused 26 NoRoom file 1 slot 7 record 1",
     ),
     (
         "a data size and a missing definition",
-        &[Code(1, 4, &[0xF8, 0xFF])],
-        &[Bytes(1024, &CUONT)],
+        "code 1 4 F8FF",
+        "names 1024 CUONT",
         "refused 27 DataTooLarge file 0 slot 1",
     ),
 ];
@@ -88,24 +68,14 @@ const NAMES_AND_SIZES: [Refusal<'static>; 4] = [
 const REFERENCES: [Refusal<'static>; 2] = [
     (
         "an operand that is too large and the same again",
-        &[Records(2, &[PublicDefinition(COUNT, 32767), End(8)])],
-        &[
-            Code(1, 2, &[1]),
-            Records(2, &[PublicReference(COUNT, &[1, 1]), End(0)]),
-        ],
+        "records 2; PUBLDEF COUNT value 32767; EOFMARK next 8",
+        "code 1 2 01; records 2; PUBLREF COUNT at 1 1; EOFMARK next 0",
         "refused 34 OperandTooLarge file 1 slot 7 record 0 reference 0",
     ),
     (
         "a reserved place and an overlap in the next record",
-        &[],
-        &[Records(
-            2,
-            &[
-                PublicReference(COUNT, &[1, 4, 10]),
-                PublicReference(COUNT, &[2]),
-                End(0),
-            ],
-        )],
+        "",
+        "records 2; PUBLREF COUNT at 1 4 10; PUBLREF COUNT at 2; EOFMARK next 0",
         "refused 32 ReservedPlace file 1 slot 7 record 0 reference 2",
     ),
 ];
@@ -115,7 +85,7 @@ const REFERENCES: [Refusal<'static>; 2] = [
 const SHORT_AND_BIG: Base<'static> = Base {
     libraries: &[
         (false, &[LIBRARY]),
-        (false, &[LIBRARY, &[Resized(511)]]),
+        (false, &[LIBRARY, "size 511"]),
         (true, &[LIBRARY]),
     ],
     ..PAIR
@@ -123,8 +93,8 @@ const SHORT_AND_BIG: Base<'static> = Base {
 
 const OTHER_KIND_SECOND: Base<'static> = Base {
     libraries: &[
-        (false, &[LIBRARY, &[Length(2, 0)]]),
-        (false, &[LIBRARY, &[Kind(2, 5)]]),
+        (false, &[LIBRARY, "slot 2 length 0"]),
+        (false, &[LIBRARY, "slot 2 kind 5"]),
         (false, &[LIBRARY]),
     ],
     ..PAIR
@@ -153,15 +123,15 @@ static TABLES: [Table<'static, Refusal<'static>>; 8] = [
     (
         SHORT_AND_BIG,
         Ample,
-        &[("a short library", &[], &[], "refused 1 ShortFile file 2")],
+        &[("a short library", "", "", "refused 1 ShortFile file 2")],
     ),
     (
         OTHER_KIND_SECOND,
         Ample,
         &[(
             "a library with the name",
-            &[],
-            &[],
+            "",
+            "",
             "refused 14 NotAUnit kind 5 file 2 slot 7",
         )],
     ),
@@ -170,8 +140,8 @@ static TABLES: [Table<'static, Refusal<'static>>; 8] = [
         Ample,
         &[(
             "a linked library",
-            &[],
-            &[],
+            "",
+            "",
             "refused 14 NotAUnit kind 0 file 1 slot 7",
         )],
     ),
@@ -180,8 +150,8 @@ static TABLES: [Table<'static, Refusal<'static>>; 8] = [
         Ample,
         &[(
             "an order of a library and a length of the host",
-            &[Length(1, 17)],
-            &[],
+            "slot 1 length 17",
+            "",
             "refused 3 OrderMismatch file 2",
         )],
     ),

@@ -4,12 +4,8 @@ use super::tables::{
     BIG_PAIR, Base, HOST_ALONE, LONG_UNIT_PAIR, NINE_REFERENCES, PAIR, Refusal, Row, Table,
     link_tables, refuse_tables,
 };
-use crate::base::{COUNT, LIBRARY, LINKED_OPERANDS, LINKED_PAIR, LINKED_SEGMENTS, STATE};
-use crate::code_file::Change::{
-    Address, Bytes, Code, CodeWord, Entry, Kind, Length, Records, Resized,
-};
-use crate::code_file::{Changes, LINKED, Slot, UNIT_SEGMENT};
-use crate::information::Record::{End, PrivateReference, PublicDefinition, PublicReference};
+use crate::base::{LIBRARY, LINKED_OPERANDS, LINKED_PAIR, LINKED_SEGMENTS};
+use crate::code_file::Changes;
 use crate::units::LINKED_REFERENCE;
 use ps_words::Order;
 
@@ -17,56 +13,41 @@ const BASE_SUMMARY: &str = "segments 2 private words 4 blocks 3";
 
 const NO_PRIVATE_WORDS: &str = "segments 2 private words 0 blocks 3";
 
-/// A segment that is linked already.
-const TOOLS: Slot = Slot {
-    name: *b"TOOLS   ",
-    kind: LINKED,
-    address: 3,
-    length: 5,
-};
-
 /// Link information.
 const RECORDS: [Row<'static>; 5] = [
     Row {
         what: "a definition, a reference to it and a private variable",
-        host: &[],
-        library: &[],
-        linked: &[],
+        host: "",
+        library: "",
+        linked: "",
         summary: BASE_SUMMARY,
     },
     Row {
         what: "the largest operand",
-        host: &[Records(2, &[PublicDefinition(COUNT, 32767), End(8)])],
-        library: &[],
-        linked: &[Code(2, 1, &[0xFF, 0xFF])],
+        host: "records 2; PUBLDEF COUNT value 32767; EOFMARK next 8",
+        library: "",
+        linked: "code 2 1 FFFF",
         summary: BASE_SUMMARY,
     },
     Row {
         what: "an EOFMARK alone",
-        host: &[],
-        library: &[Records(2, &[End(0)])],
-        linked: &[CodeWord(1, 4, 10), Code(2, 2, &[0]), Code(2, 5, &[2])],
+        host: "",
+        library: "records 2; EOFMARK next 0",
+        linked: "word 1 4 10; code 2 2 00; code 2 5 02",
         summary: NO_PRIVATE_WORDS,
     },
     Row {
         what: "the last private variable that has room",
-        host: &[Records(2, &[PublicDefinition(COUNT, 3), End(32760)])],
-        library: &[Records(
-            2,
-            &[
-                PublicReference(COUNT, &[1]),
-                PrivateReference(STATE, 7, &[4]),
-                End(0),
-            ],
-        )],
-        linked: &[CodeWord(1, 4, 24), Code(2, 4, &[0xFF, 0xFA])],
+        host: "records 2; PUBLDEF COUNT value 3; EOFMARK next 32760",
+        library: "records 2; PUBLREF COUNT at 1; PRIVREF STATE words 7 at 4; EOFMARK next 0",
+        linked: "word 1 4 24; code 2 4 FFFA",
         summary: "segments 2 private words 7 blocks 3",
     },
     Row {
         what: "files cut behind the last record",
-        host: &[Resized(1056)],
-        library: &[Resized(1104)],
-        linked: &[],
+        host: "size 1056",
+        library: "size 1104",
+        linked: "",
         summary: BASE_SUMMARY,
     },
 ];
@@ -74,14 +55,9 @@ const RECORDS: [Row<'static>; 5] = [
 /// A host whose slot of the unit is none that wants it.
 const NOT_WANTED: Row<'static> = Row {
     what: "a unit that is not wanted",
-    host: &[Kind(7, LINKED)],
-    library: &[],
-    linked: &[
-        CodeWord(1, 4, 10),
-        Address(7, 0),
-        Length(7, 0),
-        Resized(1024),
-    ],
+    host: "slot 7 kind 0",
+    library: "",
+    linked: "word 1 4 10; slot 7 address 0 length 0; size 1024",
     summary: "segments 1 private words 0 blocks 2",
 };
 
@@ -89,30 +65,30 @@ const NOT_WANTED: Row<'static> = Row {
 const SLOT_ROWS: [Row<'static>; 5] = [
     Row {
         what: "a wanted unit with a length and no address",
-        host: &[Length(7, 24)],
-        library: &[],
-        linked: &[],
+        host: "slot 7 length 24",
+        library: "",
+        linked: "",
         summary: BASE_SUMMARY,
     },
     Row {
         what: "a wanted unit with an address and no length",
-        host: &[Address(7, 1)],
-        library: &[],
-        linked: &[],
+        host: "slot 7 address 1",
+        library: "",
+        linked: "",
         summary: BASE_SUMMARY,
     },
     Row {
         what: "a blank slot of kind 3 with a length",
-        host: &[Kind(8, UNIT_SEGMENT), Length(8, 24)],
-        library: &[],
-        linked: &[],
+        host: "slot 8 kind 3 length 24",
+        library: "",
+        linked: "",
         summary: BASE_SUMMARY,
     },
     Row {
         what: "a segment that is linked already",
-        host: &[Resized(1541), Entry(8, TOOLS), Code(3, 0, &[1, 2, 3, 4, 5])],
-        library: &[],
-        linked: &[Resized(2048), Entry(8, TOOLS), Code(3, 0, &[1, 2, 3, 4, 5])],
+        host: "size 1541; slot 8 name TOOLS kind 0 address 3 length 5; code 3 0 0102030405",
+        library: "",
+        linked: "size 2048; slot 8 name TOOLS kind 0 address 3 length 5; code 3 0 0102030405",
         summary: "segments 3 private words 4 blocks 4",
     },
     NOT_WANTED,
@@ -121,26 +97,26 @@ const SLOT_ROWS: [Row<'static>; 5] = [
 /// The base pair, unchanged.
 const BASE_PAIR: [Row<'static>; 1] = [Row {
     what: "the base pair",
-    host: &[],
-    library: &[],
-    linked: &[],
+    host: "",
+    library: "",
+    linked: "",
     summary: BASE_SUMMARY,
 }];
 
 /// References of a unit.
 const NINE_ROW: [Row<'static>; 1] = [Row {
     what: "nine references of one record",
-    host: &[],
-    library: &[],
-    linked: &[],
+    host: "",
+    library: "",
+    linked: "",
     summary: NO_PRIVATE_WORDS,
 }];
 
 const LONG_ROW: [Row<'static>; 1] = [Row {
     what: "an operand in two blocks, which are the last byte of one and the first of the next",
-    host: &[],
-    library: &[],
-    linked: &[Bytes(1535, &[0x81, 2])],
+    host: "",
+    library: "",
+    linked: "at 1535 8102",
     summary: "segments 2 private words 0 blocks 4",
 }];
 
@@ -156,7 +132,7 @@ const BIG_BEFORE_A_LINKED_FILE: Base<'static> = Base {
     ..BEFORE_A_LINKED_FILE
 };
 
-const ZEROS_IN_THE_CODE: Changes<'static> = &[CodeWord(1, 6, 0)];
+const ZEROS_IN_THE_CODE: Changes<'static> = "word 1 6 0";
 
 const BEFORE_ANOTHER: Base<'static> = Base {
     libraries: &[(false, &[LIBRARY]), (false, &[LIBRARY, ZEROS_IN_THE_CODE])],
@@ -165,7 +141,7 @@ const BEFORE_ANOTHER: Base<'static> = Base {
 
 const BEHIND_ANOTHER: Base<'static> = Base {
     libraries: &[(false, &[LIBRARY, ZEROS_IN_THE_CODE]), (false, &[LIBRARY])],
-    linked: &[LINKED_SEGMENTS, LINKED_OPERANDS, &[CodeWord(2, 6, 0)]],
+    linked: &[LINKED_SEGMENTS, LINKED_OPERANDS, "word 2 6 0"],
     ..PAIR
 };
 
@@ -199,7 +175,7 @@ const LINKED_IN_PLACE: Base<'static> = Base {
     ..HOST_ALONE
 };
 
-const NO_HOST: [Refusal<'static>; 1] = [("a linked file", &[], &[], "refused 4 NoHost file 0")];
+const NO_HOST: [Refusal<'static>; 1] = [("a linked file", "", "", "refused 4 NoHost file 0")];
 
 static REFUSALS: [Table<'static, Refusal<'static>>; 6] = [
     (LINKED_HOST, Ample, &NO_HOST),

@@ -1,6 +1,7 @@
 //! Edits on codes, at once and block by block.
 use ps_patch::{Patcher, apply};
 use ps_words::{Edit, Order};
+use std::process::Abort;
 
 #[test]
 fn edits_at_once(rt: HostRuntime) {
@@ -42,30 +43,30 @@ fn edits_at_once(rt: HostRuntime) {
     assert!(rt; code == [9, 2, 1]);
 }
 
+/// Checks the blocks of a code without edits, with so many of its bytes in each and zeros behind
+/// them.
+fn fills(rt: &impl Abort, code: &[u8], counts: &[usize]) {
+    let mut patcher = Patcher::new(Order::Little, code, &[]);
+    let zeros = [0; 512];
+    let mut block = [0xEE; 512];
+    let mut from = 0usize;
+    for count in counts {
+        assert!(rt; patcher.fill(&mut block) == *count);
+        let end = from.saturating_add(*count);
+        assert!(rt; block.get(..*count) == code.get(from..end), "{from}");
+        assert!(rt;
+            block.get(*count..) == zeros.get(*count..),
+            "zeros past the end"
+        );
+        from = end;
+    }
+}
+
 #[test]
 fn blocks_of_codes_without_edits(rt: HostRuntime) {
-    let code = [0xD7; 1024];
-    let mut block = [0; 512];
-    let mut patcher = Patcher::new(Order::Little, &code, &[]);
-    for want in [512, 512] {
-        assert!(rt; patcher.fill(&mut block) == want);
-        assert!(rt; block == [0xD7; 512]);
-    }
-    for _ in 0..2 {
-        assert!(rt; patcher.fill(&mut block) == 0);
-        assert!(rt; block == [0; 512], "zeros past the end");
-    }
-    let mut block = [0xEE; 512];
-    let mut patcher = Patcher::new(Order::Little, &[1, 2, 3, 4, 5], &[]);
-    assert!(rt; patcher.fill(&mut block) == 5);
-    assert!(rt; block.starts_with(&[1, 2, 3, 4, 5]));
-    assert!(rt; block.ends_with(&[0; 507]));
-    assert!(rt; patcher.fill(&mut block) == 0);
-    assert!(rt; block == [0; 512]);
-    let mut block = [0xEE; 512];
-    let mut patcher = Patcher::new(Order::Little, &[], &[]);
-    assert!(rt; patcher.fill(&mut block) == 0);
-    assert!(rt; block == [0; 512]);
+    fills(&rt, &[0xD7; 1024], &[512, 512, 0, 0]);
+    fills(&rt, &[1, 2, 3, 4, 5], &[5, 0]);
+    fills(&rt, &[], &[0])
 }
 
 #[test]

@@ -1,15 +1,12 @@
 //! The calls that a plan is made by, each by itself.
 use super::allocations::{Allocating, refuses_each_allocation};
 use super::answers::{OUT_OF_MEMORY, is};
-use super::tables::{BIG_IN_PLACE, BIG_PAIR, Base, IN_PLACE, PAIR, USED_UNIT, bytes_of};
+use super::link_allocations::Link;
+use super::tables::{BIG_IN_PLACE, BIG_PAIR, Base, Check, IN_PLACE, PAIR, USED_UNIT};
 use crate::base::{COUNT, DEMO_SLOT, HOST_RECORDS, LIBRARY_RECORDS, STATE, UTIL_SLOT};
-use crate::code_file::Change::Records;
 use crate::code_file::Changes;
-use crate::information::Record::{
-    ConstantDefinition, End, PrivateReference, PublicDefinition, PublicReference,
-};
-use crate::information::{Information, Name, Record};
-use ps_resolve::{Allotment, Def, Definitions, Linkage, Plan, Source, Stop, resolve};
+use crate::information::{Information, Name};
+use ps_resolve::{Allotment, Def, Definitions, Linkage, Plan, Private, Source, Stop, resolve};
 use ps_words::{Edit, Order};
 use std::alloc::{AllocError, Allocator, Global};
 use std::process::Abort;
@@ -39,12 +36,17 @@ fn describe_definitions<A: Allocator + Copy>(
         write!(text, "{name} {kind:?} {value}; ")?;
     }
     for name in &[COUNT, STATE, LIMIT] {
-        match definitions.look(name) {
-            Some(Def { kind, value }) => write!(text, "{kind:?} {value}, ")?,
-            None => text.push_str("none, ")?,
-        }
+        add_definition(&mut text, definitions.look(name))?;
     }
     Ok(text)
+}
+
+/// Adds a definition that was looked up.
+fn add_definition(text: &mut String, found: Option<Def>) -> Result<(), AllocError> {
+    match found {
+        Some(Def { kind, value }) => write!(text, "{kind:?} {value}, "),
+        None => text.push_str("none, "),
+    }
 }
 
 /// The slots and records of which the offset is looked up.
@@ -57,9 +59,7 @@ fn describe_allotment<A: Allocator + Copy>(
 ) -> Result<String, AllocError> {
     let mut text = String::new(alloc);
     for private in allotment.privates() {
-        let name = str::from_utf8(&private.name).unwrap_or("no text");
-        write!(text, "slot {} record {} {name} ", private.slot, private.rec)?;
-        write!(text, "offset {} words {}; ", private.offset, private.words)?;
+        add_private(&mut text, private)?;
     }
     for (slot, rec) in &PLACES {
         write!(text, "{:?} ", allotment.offset(*slot, *rec))?;
@@ -67,6 +67,12 @@ fn describe_allotment<A: Allocator + Copy>(
     let (words, next) = (allotment.words(), allotment.next_free());
     write!(text, "words {words} next {next}")?;
     Ok(text)
+}
+
+fn add_private(text: &mut String, private: &Private) -> Result<(), AllocError> {
+    let name = str::from_utf8(&private.name).unwrap_or("no text");
+    write!(text, "slot {} record {} {name} ", private.slot, private.rec)?;
+    write!(text, "offset {} words {}; ", private.offset, private.words)
 }
 
 /// A call that builds from the link information of one segment.
@@ -94,49 +100,36 @@ impl<'a> Allocating for Build<'a> {
 
 /// The records of a segment, from which offset on its private variables are, or None where it is
 /// the host's and its definitions are built, and the answer.
-type Built<'a> = (&'a [Record<'a>], Option<u16>, &'a str);
+type Built<'a> = (&'a str, Option<u16>, &'a str);
 
 static BUILT: [Built<'static>; 6] = [
     (
-        &HOST_RECORDS,
+        HOST_RECORDS,
         None,
         "COUNT    Public 3; Public 3, none, none, ",
     ),
     (
-        &[
-            PublicDefinition(COUNT, 3),
-            PublicReference(STATE, &[]),
-            ConstantDefinition(LIMIT, 9),
-            End(8),
-        ],
+        "PUBLDEF COUNT value 3; PUBLREF STATE at; CONSTDEF LIMIT value 9; EOFMARK next 8",
         None,
         "COUNT    Public 3; LIMIT    Constant 9; Public 3, none, Constant 9, ",
     ),
     (
-        &[
-            PublicDefinition(COUNT, 3),
-            ConstantDefinition(COUNT, 4),
-            End(8),
-        ],
+        "PUBLDEF COUNT value 3; CONSTDEF COUNT value 4; EOFMARK next 8",
         None,
         "refused 24 DoubledDefinition file 0 slot 1 record 1",
     ),
     (
-        &LIBRARY_RECORDS,
+        LIBRARY_RECORDS,
         Some(8),
         "slot 7 record 1 STATE    offset 8 words 4; Some(8) None None None None words 4 next 12",
     ),
     (
-        &LIBRARY_RECORDS,
+        LIBRARY_RECORDS,
         Some(32764),
         "refused 26 NoRoom file 1 slot 7 record 1",
     ),
     (
-        &[
-            PrivateReference(STATE, 4, &[]),
-            PrivateReference(STATE, 4, &[]),
-            End(0),
-        ],
+        "PRIVREF STATE words 4 at; PRIVREF STATE words 4 at; EOFMARK next 0",
         Some(8),
         "refused 25 DoubledPrivate file 1 slot 7 record 1",
     ),
@@ -144,7 +137,7 @@ static BUILT: [Built<'static>; 6] = [
 
 /// Checks what is built of a segment in this byte order, with each allocation refused in turn.
 fn builds(rt: &(impl Abort + AllocGlobal), order: Order, (records, next, answer): &Built<'_>) {
-    let information = Information::new(rt.alloc(), order, *records).expect(rt, "unexpected error");
+    let information = Information::new(rt, order, *records);
     let bytes = information.as_slice();
     let call = match *next {
         Some(next) => Build::Allotment(next, linkage(1, UTIL_SLOT, order, bytes)),
@@ -213,32 +206,40 @@ pub(crate) fn describe<A: Allocator + Copy>(
     for (k, source) in plan.sources().iter().enumerate() {
         describe_segment(&mut text, source, plan.edits(k))?;
     }
+    add_numbers(&mut text, plan)?;
+    Ok(text)
+}
+
+/// Adds the numbers of the linked file.
+fn add_numbers<A: Allocator + Copy>(
+    text: &mut String,
+    plan: &Plan<'_, A>,
+) -> Result<(), AllocError> {
     let definitions = plan.definitions().len();
     let privates = plan.allotment().privates().len();
     let words = plan.private_words();
     let (next, data) = (plan.next_free(), plan.data_size());
     write!(text, "definitions {definitions} privates {privates} ")?;
-    write!(text, "words {words} next {next} data {data}")?;
-    Ok(text)
+    write!(text, "words {words} next {next} data {data}")
 }
 
 /// Files, changes of the host, and the plan of their link.
 static PLANS: [(Base<'static>, Changes<'static>, &str); 5] = [
-    (PAIR, &[], BASE_PLAN),
-    (BIG_PAIR, &[], BASE_PLAN),
+    (PAIR, "", BASE_PLAN),
+    (BIG_PAIR, "", BASE_PLAN),
     (
         IN_PLACE,
-        &[Records(2, &[PublicDefinition(COUNT, 3), End(40000)])],
+        "records 2; PUBLDEF COUNT value 3; EOFMARK next 40000",
         BEHIND_THE_LAST_OFFSET,
     ),
     (
         BIG_IN_PLACE,
-        &[Records(2, &[PublicDefinition(COUNT, 3), End(40000)])],
+        "records 2; PUBLDEF COUNT value 3; EOFMARK next 40000",
         BEHIND_THE_LAST_OFFSET,
     ),
     (
         USED_UNIT,
-        &[],
+        "",
         "slot 1 file 0 entry 1 length 18: word at 4: 18 byte at 16: 1; \
 slot 7 file 1 entry 2 length 24: byte at 2: 8 byte at 22: 7; \
 slot 8 added file 1 entry 3 length 24: big at 1: 3 big at 4: 10 byte at 22: 8; \
@@ -263,24 +264,35 @@ fn is_plan(
     text: &str,
     linked: &[u8],
 ) {
-    let described = describe(rt.alloc(), plan).expect(rt, "unexpected error");
-    is(rt, "a plan", described.as_str(), text);
+    is(rt, "a plan", describe(rt.alloc(), plan), text);
     assert!(rt; plan.order() == order);
     assert!(rt; Some(plan.names().as_flattened()) == linked.get(64..192));
     assert!(rt; Some(plan.tail()) == linked.get(256..512));
 }
 
-#[test]
-fn plans(rt: HostRuntime) {
-    let alloc = rt.alloc();
-    for (base, changes, text) in &PLANS {
-        let host = base.host(alloc, *changes).expect(&rt, "unexpected error");
-        let libraries = base.libraries(alloc, &[]).expect(&rt, "unexpected error");
-        let libraries = bytes_of(alloc, libraries.as_slice()).expect(&rt, "unexpected error");
-        let linked = base.linked(alloc, &[]).expect(&rt, "unexpected error");
-        match resolve(alloc, host.as_slice(), libraries.as_slice()) {
-            Ok(plan) => is_plan(&rt, &plan, base.order, *text, linked.as_slice()),
+/// A plan: its byte order, and itself as text.
+#[derive(Clone, Copy)]
+struct PlanCheck<'a> {
+    order: Order,
+    text: &'a str,
+}
+
+impl<'a> Check for PlanCheck<'a> {
+    fn check<R: Abort + AllocGlobal>(&self, rt: &R, link: &Link<'_>) {
+        match resolve(rt.alloc(), link.host, link.libraries) {
+            Ok(plan) => is_plan(rt, &plan, self.order, self.text, link.linked),
             Err(_) => assert!(rt; false, "no plan"),
         }
+    }
+}
+
+#[test]
+fn plans(rt: HostRuntime) {
+    for (base, changes, text) in &PLANS {
+        let plan = PlanCheck {
+            order: base.order,
+            text: *text,
+        };
+        base.check(&rt, (*changes, "", ""), &plan);
     }
 }

@@ -50,8 +50,8 @@ fn has(
     (order, code, is_host): (Order, &[u8], bool),
     wanted: &str,
 ) {
-    let text = describe(rt.alloc(), order, code, is_host).expect(rt, "unexpected error");
-    is(rt, "procedures", text.as_str(), wanted)
+    let text = describe(rt.alloc(), order, code, is_host);
+    is(rt, "procedures", text, wanted)
 }
 
 #[test]

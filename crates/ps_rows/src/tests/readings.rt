@@ -2,17 +2,13 @@
 ghost use Rattle.std.specs.Prelude.{◌<◌};
 
 use super::answers::is;
-use super::tables::{BIG_PAIR, Base, USED_UNIT, bytes_of};
-use crate::code_file::Change::{Entry, Length, Records, Resized};
-use crate::code_file::{Changes, LINKED, Slot};
-use crate::information::Record::{End, UnitReference};
-use crate::units::LIBRARY_AUX;
+use super::link_allocations::Link;
+use super::tables::{BIG_PAIR, Base, Check, USED_UNIT};
+use crate::code_file::Changes;
 use ps_codefile::dictionary_layout::SLOTS;
 use ps_resolve::{HostReading, Reading, Requester, read};
 use ps_words::Reason;
 use std::process::Abort;
-
-const BLANK: [u8; 8] = [b' '; 8];
 
 /// Who requests the unit of a slot.
 #[derive(Clone, Copy, Debug, PartialEq, Eq)]
@@ -46,14 +42,11 @@ type Row = (
     &'static str,
 );
 
-/// The library whose unit uses another one.
-static USED_FILES: Base<'static> = USED_UNIT;
-
 static ROWS: [Row; 6] = [
     (
         "a unit that only a unit names",
-        &[],
-        &[],
+        "",
+        "",
         &[
             (1, Asked::Not, Found::Own(0, 1)),
             (7, Asked::BySlot, Found::Own(1, 2)),
@@ -63,17 +56,8 @@ static ROWS: [Row; 6] = [
     ),
     (
         "a requested name that is blank",
-        &[],
-        &[
-            Entry(
-                3,
-                Slot {
-                    name: BLANK,
-                    ..LIBRARY_AUX
-                },
-            ),
-            Records(2, &[UnitReference(BLANK, &[2]), End(0)]),
-        ],
+        "",
+        "slot 3 name - kind 3 address 3 length 24; records 2; UNITREF - at 2; EOFMARK next 0",
         &[
             (1, Asked::Not, Found::Own(0, 1)),
             (7, Asked::BySlot, Found::Own(1, 2)),
@@ -87,8 +71,8 @@ static ROWS: [Row; 6] = [
     ),
     (
         "a unit that was read after a fault",
-        &[Length(1, 17)],
-        &[Records(2, &[End(0)])],
+        "slot 1 length 17",
+        "records 2; EOFMARK next 0",
         &[
             (1, Asked::Not, Found::Refused(Reason::BadLength)),
             (7, Asked::BySlot, Found::Own(1, 2)),
@@ -97,8 +81,8 @@ static ROWS: [Row; 6] = [
     ),
     (
         "a library that cannot be opened",
-        &[],
-        &[Resized(511)],
+        "",
+        "size 511",
         &[
             (1, Asked::Not, Found::Own(0, 1)),
             (7, Asked::BySlot, Found::Refused(Reason::MissingUnit)),
@@ -107,34 +91,24 @@ static ROWS: [Row; 6] = [
     ),
     (
         "a slot with nothing in it",
-        &[Entry(
-            7,
-            Slot {
-                name: BLANK,
-                kind: LINKED,
-                address: 0,
-                length: 0,
-            },
-        )],
-        &[],
+        "slot 7 name - kind 0 address 0 length 0",
+        "",
         &[(1, Asked::Not, Found::Own(0, 1))],
         "none",
     ),
     (
         "a host of no bytes",
-        &[Resized(0)],
-        &[],
+        "size 0",
+        "",
         &[],
         "refused 1 ShortFile file 0",
     ),
 ];
 
-static BIG_FILES: Base<'static> = BIG_PAIR;
-
 static BIG_ROW: Row = (
     "a big-endian host and its library",
-    &[],
-    &[],
+    "",
+    "",
     &[
         (1, Asked::Not, Found::Own(0, 1)),
         (7, Asked::BySlot, Found::Own(1, 2)),
@@ -181,29 +155,38 @@ fn has_slots(rt: &impl Abort, what: &str, reading: &Reading, slots: &[(u8, Asked
     assert!(rt; reading.segments().len() == segments, "{what}");
 }
 
-fn is_read(rt: &(impl Abort + AllocGlobal), base: &Base<'_>, row: &Row) {
-    let (what, host, library, slots, first) = *row;
-    let alloc = rt.alloc();
-    let host = base.host(alloc, host).expect(rt, "unexpected error");
-    let libraries = base
-        .libraries(alloc, library)
-        .expect(rt, "unexpected error");
-    let libraries = bytes_of(alloc, libraries.as_slice()).expect(rt, "unexpected error");
-    let reading = read(host.as_slice(), libraries.as_slice());
-    has_slots(rt, what, &reading, slots);
-    match reading.fault() {
-        None => is(rt, what, "none", first),
-        Some(fault) => {
-            let text = format!(in alloc; "{fault}").expect(rt, "unexpected error");
-            is(rt, what, text.as_str(), first)
-        }
+/// What is read of a link.
+#[derive(Clone, Copy)]
+struct ReadCheck<'a> {
+    what: &'a str,
+    slots: &'a [(u8, Asked, Found)],
+    first: &'a str,
+}
+
+impl<'a> Check for ReadCheck<'a> {
+    fn check<R: Abort + AllocGlobal>(&self, rt: &R, link: &Link<'_>) {
+        let reading = read(link.host, link.libraries);
+        has_slots(rt, self.what, &reading, self.slots);
+        let text = match reading.fault() {
+            None => String::from_str(rt.alloc(), "none"),
+            Some(fault) => format!(in rt.alloc(); "{fault}"),
+        };
+        is(rt, self.what, text, self.first)
     }
 }
 
+fn is_read(rt: &(impl Abort + AllocGlobal), base: &Base<'_>, row: &Row) {
+    let (what, host, library, slots, first) = *row;
+    base.check(rt, (host, library, ""), &ReadCheck { what, slots, first })
+}
+
+static FILES: [Base<'static>; 2] = [USED_UNIT, BIG_PAIR];
+
 #[test]
 fn each_slot_is_read(rt: HostRuntime) {
+    let [used_unit, big_pair] = &FILES;
     for row in &ROWS {
-        is_read(&rt, &USED_FILES, row);
+        is_read(&rt, used_unit, row);
     }
-    is_read(&rt, &BIG_FILES, &BIG_ROW)
+    is_read(&rt, big_pair, &BIG_ROW)
 }

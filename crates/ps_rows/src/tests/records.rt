@@ -1,12 +1,8 @@
 //! Link information as `read_records` reads it.
 use super::allocations::{Allocating, makes_no_allocation, refuses_each_allocation};
 use super::answers::{LITTLE, OUT_OF_MEMORY, is};
-use crate::base::{COUNT, DEMO, LIBRARY_RECORDS, STATE, UTIL};
-use crate::information::Record::{
-    ConstantDefinition, End, Other, PrivateReference, PublicDefinition, PublicReference,
-    UnitReference,
-};
-use crate::information::{Information, Record};
+use crate::base::LIBRARY_RECORDS;
+use crate::information::Information;
 use ps_linkinfo::{Body, LinkRecord, ReadStop, Refs, read_records};
 use ps_words::Order;
 use std::alloc::{AllocError, Allocator, Global};
@@ -74,61 +70,54 @@ pub(crate) fn read<A: Allocator + Copy>(
 /// length.
 pub(crate) fn reads_records(
     rt: &(impl Abort + AllocGlobal),
-    records: &[Record<'_>],
+    records: &str,
     length: usize,
     wanted: &str,
 ) {
     let alloc = rt.alloc();
     for order in [Order::Little, Order::Big] {
-        let information = Information::new(alloc, order, records).expect(rt, "unexpected error");
+        let information = Information::new(rt, order, records);
         let bytes = information.as_slice().get(..length).unwrap_or(&[]);
-        let text = read(alloc, alloc, order, bytes).expect(rt, "unexpected error");
-        is(rt, "records", text.as_str(), wanted);
+        is(rt, "records", read(alloc, alloc, order, bytes), wanted);
     }
 }
 
 /// A record of each type, and what they are read as.
-const EACH_TYPE: [Record<'static>; 6] = [
-    UnitReference(UTIL, &[1]),
-    PublicReference(COUNT, &[2, 4]),
-    PrivateReference(STATE, 4, &[6]),
-    PublicDefinition(COUNT, 3),
-    ConstantDefinition(DEMO, 9),
-    End(7),
-];
+const EACH_TYPE: &str = "UNITREF UTIL at 1; PUBLREF COUNT at 2 4; PRIVREF STATE words 4 at 6; \
+PUBLDEF COUNT value 3; CONSTDEF DEMO value 9; EOFMARK next 7";
 
 const EACH_TYPE_READ: &str =
     "UNITREF UTIL     at 1; PUBLREF COUNT    at 2 4; PRIVREF STATE    words 4 at 6; \
 PUBLDEF COUNT    value 3; CONSTDEF DEMO     value 9; EOFMARK next 7; ";
 
 /// Records, the length that they are truncated to, and what they are read as.
-type Read<'a> = (&'a [Record<'a>], usize, &'a str);
+type Read<'a> = (&'a str, usize, &'a str);
 
 static READ: [Read<'static>; 10] = [
-    (&LIBRARY_RECORDS, 80, BASE_RECORDS),
-    (&LIBRARY_RECORDS, 79, "RecordsTruncated at record 2"),
-    (&LIBRARY_RECORDS, 64, "RecordsTruncated at record 2"),
-    (&LIBRARY_RECORDS, 31, "RecordsTruncated at record 0"),
-    (&LIBRARY_RECORDS, 0, "RecordsTruncated at record 0"),
-    (&EACH_TYPE, 144, EACH_TYPE_READ),
+    (LIBRARY_RECORDS, 80, BASE_RECORDS),
+    (LIBRARY_RECORDS, 79, "RecordsTruncated at record 2"),
+    (LIBRARY_RECORDS, 64, "RecordsTruncated at record 2"),
+    (LIBRARY_RECORDS, 31, "RecordsTruncated at record 0"),
+    (LIBRARY_RECORDS, 0, "RecordsTruncated at record 0"),
+    (EACH_TYPE, 144, EACH_TYPE_READ),
     (
-        &[PublicReference(COUNT, &[]), End(0)],
+        "PUBLREF COUNT at; EOFMARK next 0",
         32,
         "PUBLREF COUNT    at; EOFMARK next 0; ",
     ),
     (
-        &[PublicReference(COUNT, &[1, 2, 3, 4, 5, 6, 7, 8]), End(0)],
+        "PUBLREF COUNT at 1 2 3 4 5 6 7 8; EOFMARK next 0",
         48,
         "PUBLREF COUNT    at 1 2 3 4 5 6 7 8; EOFMARK next 0; ",
     ),
     (
-        &[PublicReference(COUNT, &[1, 2, 3, 4, 5, 6, 7, 8, 9]), End(0)],
+        "PUBLREF COUNT at 1 2 3 4 5 6 7 8 9; EOFMARK next 0",
         64,
         "PUBLREF COUNT    at 1 2 3 4 5 6 7 8 9; EOFMARK next 0; ",
     ),
     // a type 99 behind the end mark is not read
     (
-        &[End(0), Other(COUNT, 99, [0, 0, 0])],
+        "EOFMARK next 0; TYPE 99 COUNT 0 0 0",
         32,
         "EOFMARK next 0; ",
     ),
@@ -139,15 +128,6 @@ fn records_in_either_byte_order(rt: HostRuntime) {
     for (records, length, wanted) in &READ {
         reads_records(&rt, *records, *length, *wanted);
     }
-}
-
-/// So many references, from 0 on.
-pub(crate) fn references(alloc: Global, count: u16) -> Result<Vec<u16>, AllocError> {
-    let mut references = Vec::new(alloc);
-    for reference in 0..count {
-        references.push(reference)?;
-    }
-    Ok(references)
 }
 
 /// A record of references 0, 1, 2 and so on, as many as it can have, and an end mark, as text
@@ -175,14 +155,12 @@ fn has_size(rt: &(impl Abort + AllocGlobal), bytes: &[u8], size: usize) {
 
 #[test]
 fn as_many_references_as_a_record_can_have(rt: HostRuntime) {
-    let alloc = rt.alloc();
-    let references = references(alloc, 65_535).expect(&rt, "unexpected error");
-    let records = [PublicReference(COUNT, references.as_slice()), End(0)];
-    let wanted = every_reference(alloc, "", "; EOFMARK next 0; ").expect(&rt, "unexpected error");
-    let information = Information::new(alloc, LITTLE, &records).expect(&rt, "unexpected error");
+    let text = every_reference(rt.alloc(), "", "; EOFMARK next 0; ").expect(&rt, "no memory");
+    let text = text.as_str();
+    let information = Information::new(&rt, LITTLE, text);
     has_size(&rt, information.as_slice(), 131_088);
-    reads_records(&rt, &records, 131_104, wanted.as_str());
-    reads_records(&rt, &records, 131_087, "RecordsTruncated at record 0")
+    reads_records(&rt, text, 131_104, text);
+    reads_records(&rt, text, 131_087, "RecordsTruncated at record 0")
 }
 
 /// `read_records` on these little-endian bytes.
@@ -199,21 +177,14 @@ impl<'a> Allocating for ReadRecords<'a> {
 
 #[test]
 fn each_allocation_refused_and_a_claimed_list_that_is_not_there(rt: HostRuntime) {
-    let alloc = rt.alloc();
-    let information = Information::new(alloc, LITTLE, &LIBRARY_RECORDS).expect(
-        &rt,
-        "unexpected error",
-    );
-    let bytes = information.as_slice();
-    refuses_each_allocation(
-        &rt,
-        "the base library",
-        &ReadRecords { bytes },
-        BASE_RECORDS,
-    );
-    let records = [Other(COUNT, 3, [2, 65535, 0])];
-    let information = Information::new(alloc, LITTLE, &records).expect(&rt, "unexpected error");
-    let bytes = information.as_slice();
-    let refused = "RecordsTruncated at record 0";
-    makes_no_allocation(&rt, "a claim", &ReadRecords { bytes }, refused)
+    let information = Information::new(&rt, LITTLE, LIBRARY_RECORDS);
+    let call = ReadRecords {
+        bytes: information.as_slice(),
+    };
+    refuses_each_allocation(&rt, "the base library", &call, BASE_RECORDS);
+    let information = Information::new(&rt, LITTLE, "TYPE 3 COUNT 2 65535 0");
+    let call = ReadRecords {
+        bytes: information.as_slice(),
+    };
+    makes_no_allocation(&rt, "a claim", &call, "RecordsTruncated at record 0")
 }

@@ -39,7 +39,7 @@ pub(crate) enum Memory {
     EachAllocationRefused,
 }
 
-/// The files that entries of a table change, each made by lists of changes.
+/// The files that entries of a table change, each made by texts of changes.
 #[derive(Clone, Copy)]
 pub(crate) struct Base<'a> {
     /// The byte order of the host and of the linked file.
@@ -146,13 +146,16 @@ pub(crate) const LONG_UNIT_PAIR: Base<'static> = Base {
     ..PAIR
 };
 
-/// The base pair and the host with its unit in place, for functions that need them at once.
-pub(crate) static PAIR_FILES: Base<'static> = PAIR;
-
-pub(crate) static IN_PLACE_FILES: Base<'static> = IN_PLACE;
-
 /// The base library alone.
-pub(crate) static LIBRARY_LISTS: [Changes<'static>; 1] = [LIBRARY];
+pub(crate) static LIBRARY_TEXTS: [Changes<'static>; 1] = [LIBRARY];
+
+/// What the base pair is linked to.
+pub(crate) static LINKED_TEXTS: [Changes<'static>; 2] = [LINKED_SEGMENTS, LINKED_OPERANDS];
+
+/// The base host alone, and the host with its unit in place.
+pub(crate) static HOST_TEXTS: [Changes<'static>; 1] = [HOST];
+
+pub(crate) static IN_PLACE_TEXTS: [Changes<'static>; 2] = [HOST, HAS_UNIT];
 
 /// The other byte order.
 fn turned(order: Order) -> Order {
@@ -162,49 +165,61 @@ fn turned(order: Order) -> Order {
     }
 }
 
+/// What is checked of a link.
+pub(crate) trait Check {
+    fn check<R: Abort + AllocGlobal>(&self, rt: &R, link: &Link<'_>);
+}
+
 impl Base<'_> {
     /// The host with changes.
-    pub(crate) fn host(&self, alloc: Global, changes: Changes<'_>) -> Result<CodeFile, AllocError> {
-        CodeFile::new(alloc, self.order, self.host)?.with(alloc, changes)
+    pub(crate) fn host(&self, rt: &(impl Abort + AllocGlobal), changes: Changes<'_>) -> CodeFile {
+        CodeFile::new(rt, self.order, self.host).with(rt, changes)
     }
 
     /// The libraries, the first of them with changes.
-    pub(crate) fn libraries(
-        &self,
-        alloc: Global,
-        changes: Changes<'_>,
-    ) -> Result<Vec<CodeFile>, AllocError> {
-        let mut libraries = Vec::new(alloc);
-        for (k, (is_turned, lists)) in self.libraries.iter().enumerate() {
+    fn libraries(&self, rt: &(impl Abort + AllocGlobal), changes: Changes<'_>) -> Vec<CodeFile> {
+        let mut libraries = Vec::new(rt.alloc());
+        for (k, (is_turned, texts)) in self.libraries.iter().enumerate() {
             let order = if *is_turned {
                 turned(self.order)
             } else {
                 self.order
             };
-            let mut library = CodeFile::new(alloc, order, *lists)?;
-            if k == 0 {
-                library.change(alloc, changes)?;
-            }
-            libraries.push(library)?;
+            let changes = if k == 0 { changes } else { "" };
+            let library = CodeFile::new(rt, order, *texts).with(rt, changes);
+            libraries.push(library).expect(rt, "no memory");
         }
-        Ok(libraries)
+        libraries
     }
 
     /// What they are linked to, with changes.
-    pub(crate) fn linked(
+    pub(crate) fn linked(&self, rt: &(impl Abort + AllocGlobal), changes: Changes<'_>) -> CodeFile {
+        CodeFile::new(rt, self.order, self.linked).with(rt, changes)
+    }
+
+    /// Checks the link of the files, with changes of the host, of the first library and of what
+    /// they are linked to.
+    pub(crate) fn check(
         &self,
-        alloc: Global,
-        changes: Changes<'_>,
-    ) -> Result<CodeFile, AllocError> {
-        CodeFile::new(alloc, self.order, self.linked)?.with(alloc, changes)
+        rt: &(impl Abort + AllocGlobal),
+        (host, library, linked): (Changes<'_>, Changes<'_>, Changes<'_>),
+        check: &impl Check,
+    ) {
+        let host = self.host(rt, host);
+        let linked = self.linked(rt, linked);
+        let libraries = self.libraries(rt, library);
+        let libraries = bytes_of(rt.alloc(), libraries.as_slice()).expect(rt, "no memory");
+        let link = Link {
+            host: host.as_slice(),
+            libraries: libraries.as_slice(),
+            linked: linked.as_slice(),
+        };
+        check.check(rt, &link)
     }
 }
 
 /// The bytes of each file.
-pub(crate) fn bytes_of<'a>(
-    alloc: Global,
-    files: &'a [CodeFile],
-) -> Result<Vec<&'a [u8]>, AllocError> {
+fn bytes_of<'a>(alloc: Global, files: &'a [CodeFile]) -> Result<Vec<&'a [u8]>, AllocError> {
     let mut bytes = Vec::new(alloc);
     for file in files {
         bytes.push(file.as_slice())?;
@@ -212,30 +227,24 @@ pub(crate) fn bytes_of<'a>(
     Ok(bytes)
 }
 
-/// Checks one link of a table: its answer and what was written.
-fn answers(
-    rt: &(impl Abort + AllocGlobal),
-    (base, memory): (&Base<'_>, Memory),
-    (what, host, library): (&str, Changes<'_>, Changes<'_>),
-    answer: &str,
-    linked: &[u8],
-) {
-    let alloc = rt.alloc();
-    let host = base.host(alloc, host).expect(rt, "unexpected error");
-    let libraries = base
-        .libraries(alloc, library)
-        .expect(rt, "unexpected error");
-    let libraries = bytes_of(alloc, libraries.as_slice()).expect(rt, "unexpected error");
-    let link = Link {
-        host: host.as_slice(),
-        libraries: libraries.as_slice(),
-        linked,
-    };
-    links(rt, what, &link, answer);
-    match memory {
-        Memory::Ample => (),
-        Memory::NoAllocation => makes_no_allocation(rt, what, &link, answer),
-        Memory::EachAllocationRefused => refuses_each_allocation(rt, what, &link, answer),
+/// What a link shows, the memory that it is tried with, and its answer.
+#[derive(Clone, Copy)]
+struct Answer<'a> {
+    what: &'a str,
+    memory: Memory,
+    answer: &'a str,
+}
+
+impl<'a> Check for Answer<'a> {
+    fn check<R: Abort + AllocGlobal>(&self, rt: &R, link: &Link<'_>) {
+        links(rt, self.what, link, self.answer);
+        match self.memory {
+            Memory::Ample => (),
+            Memory::NoAllocation => makes_no_allocation(rt, self.what, link, self.answer),
+            Memory::EachAllocationRefused => {
+                refuses_each_allocation(rt, self.what, link, self.answer)
+            }
+        }
     }
 }
 
@@ -243,11 +252,12 @@ fn answers(
 pub(crate) fn link_tables(rt: &(impl Abort + AllocGlobal), tables: &[Table<'_, Row<'_>>]) {
     for (base, memory, rows) in tables {
         for row in *rows {
-            let linked = base
-                .linked(rt.alloc(), row.linked)
-                .expect(rt, "unexpected error");
-            let changes = (row.what, row.host, row.library);
-            answers(rt, (base, *memory), changes, row.summary, linked.as_slice());
+            let answer = Answer {
+                what: row.what,
+                memory: *memory,
+                answer: row.summary,
+            };
+            base.check(rt, (row.host, row.library, row.linked), &answer);
         }
     }
 }
@@ -256,8 +266,12 @@ pub(crate) fn link_tables(rt: &(impl Abort + AllocGlobal), tables: &[Table<'_, R
 pub(crate) fn refuse_tables(rt: &(impl Abort + AllocGlobal), tables: &[Table<'_, Refusal<'_>>]) {
     for (base, memory, refusals) in tables {
         for (what, host, library, fault) in *refusals {
-            let changes = (*what, *host, *library);
-            answers(rt, (base, *memory), changes, *fault, &[]);
+            let answer = Answer {
+                what: *what,
+                memory: *memory,
+                answer: *fault,
+            };
+            base.check(rt, (*host, *library, "size 0"), &answer);
         }
     }
 }

@@ -1,14 +1,13 @@
 //! The map of a link and the show of a code file, as text.
 use super::allocations::{Allocating, makes_no_allocation, refuses_each_allocation};
 use super::answers::{LITTLE, text_of_error};
-use super::records::{every_reference, references};
-use super::tables::{Base, LIBRARY_LISTS, PAIR, PAIR_FILES, TWO_UNITS, USED_UNIT, bytes_of};
+use super::link_allocations::Link;
+use super::records::every_reference;
+use super::tables::{Base, Check, HOST_TEXTS, LIBRARY_TEXTS, PAIR, TWO_UNITS, USED_UNIT};
 use super::writers::Full;
 use super::writing::{NO_WRITE, Writing, writes, writes_long_text, writes_text};
-use crate::base::{BASE_LENGTH, COUNT};
-use crate::code_file::Change::{Bytes, Records, Resized};
+use crate::base::BASE_LENGTH;
 use crate::code_file::{Changes, CodeFile};
-use crate::information::Record::{ConstantDefinition, End, PublicDefinition, PublicReference};
 use ps_linkfile::{LinkError, map_text, show_text};
 use std::alloc::{AllocError, Allocator, Global};
 use std::process::Abort;
@@ -115,41 +114,38 @@ impl<'a> Allocating for Show<'a> {
 type Mapped<'a> = (Base<'a>, Changes<'a>, &'a str);
 
 static MAPS: [Mapped<'static>; 4] = [
-    (PAIR, &[], MAP),
-    (USED_UNIT, &[], MAP_OF_AN_ADDED_UNIT),
-    (TWO_UNITS, &[], MAP_OF_TWO_UNITS),
+    (PAIR, "", MAP),
+    (USED_UNIT, "", MAP_OF_AN_ADDED_UNIT),
+    (TWO_UNITS, "", MAP_OF_TWO_UNITS),
     (
         PAIR,
-        &[Records(
-            2,
-            &[
-                PublicDefinition(COUNT, 3),
-                ConstantDefinition(*b"LIMIT   ", 9),
-                End(8),
-            ],
-        )],
+        "records 2; PUBLDEF COUNT value 3; CONSTDEF LIMIT value 9; EOFMARK next 8",
         MAP_WITH_A_CONSTANT,
     ),
 ];
 
-/// Checks the map of a link, as a text and written.
-fn maps(rt: &(impl Abort + AllocGlobal), (base, changes, text): &Mapped<'_>) {
-    let alloc = rt.alloc();
-    let host = base.host(alloc, *changes).expect(rt, "unexpected error");
-    let libraries = base.libraries(alloc, &[]).expect(rt, "unexpected error");
-    let libraries = bytes_of(alloc, libraries.as_slice()).expect(rt, "unexpected error");
-    let call = Map {
-        host: host.as_slice(),
-        libraries: libraries.as_slice(),
-    };
-    refuses_each_allocation(rt, "a map", &call, *text);
-    writes_text(rt, &call, *text)
+/// The map of a link.
+#[derive(Clone, Copy)]
+struct MapCheck<'a> {
+    text: &'a str,
+}
+
+impl<'a> Check for MapCheck<'a> {
+    /// As a text and written.
+    fn check<R: Abort + AllocGlobal>(&self, rt: &R, link: &Link<'_>) {
+        let call = Map {
+            host: link.host,
+            libraries: link.libraries,
+        };
+        refuses_each_allocation(rt, "a map", &call, self.text);
+        writes_text(rt, &call, self.text)
+    }
 }
 
 #[test]
 fn maps_of_pairs(rt: HostRuntime) {
-    for mapped in &MAPS {
-        maps(&rt, mapped);
+    for (base, changes, text) in &MAPS {
+        base.check(&rt, (*changes, "", ""), &MapCheck { text: *text });
     }
 }
 
@@ -176,17 +172,11 @@ static SHOWS: [(usize, &str); 3] = [
 
 #[test]
 fn shows_of_a_library(rt: HostRuntime) {
-    let alloc = rt.alloc();
+    let library = CodeFile::new(&rt, LITTLE, &LIBRARY_TEXTS);
     for (length, last) in &SHOWS {
-        let library = CodeFile::new(alloc, LITTLE, &LIBRARY_LISTS)
-            .expect(&rt, "unexpected error")
-            .with(alloc, &[Resized(*length)])
-            .expect(&rt, "unexpected error");
-        let text = format!(in alloc; "{SLOTS_OF_THE_LIBRARY}{last}").expect(
-            &rt,
-            "unexpected error",
-        );
-        shows(&rt, *last, library.as_slice(), text.as_str());
+        let text = format!(in rt.alloc(); "{SLOTS_OF_THE_LIBRARY}{last}").expect(&rt, "no memory");
+        let cut = library.as_slice().get(..*length).unwrap_or(&[]);
+        shows(&rt, *last, cut, text.as_str());
     }
 }
 
@@ -199,14 +189,11 @@ const LAST_LINK: &str = "\n1 EOFMARK next 0\n";
 #[test]
 fn a_long_show(rt: HostRuntime) {
     let alloc = rt.alloc();
-    let references = references(alloc, 65_535).expect(&rt, "unexpected error");
-    let records = [PublicReference(COUNT, references.as_slice()), End(0)];
-    let library = CodeFile::new(alloc, LITTLE, &LIBRARY_LISTS)
-        .expect(&rt, "unexpected error")
-        .with(alloc, &[Resized(132_128), Records(2, &records)])
-        .expect(&rt, "unexpected error");
-    let before = format!(in alloc; "{SLOTS_OF_THE_LIBRARY}{LINKS}").expect(&rt, "unexpected error");
-    let text = every_reference(alloc, before.as_str(), LAST_LINK).expect(&rt, "unexpected error");
+    let changes = every_reference(alloc, "size 132128; records 2; ", "; EOFMARK next 0");
+    let changes = changes.expect(&rt, "no memory");
+    let library = CodeFile::new(&rt, LITTLE, &LIBRARY_TEXTS).with(&rt, changes.as_str());
+    let before = format!(in alloc; "{SLOTS_OF_THE_LIBRARY}{LINKS}").expect(&rt, "no memory");
+    let text = every_reference(alloc, before.as_str(), LAST_LINK).expect(&rt, "no memory");
     let call = Show {
         file: library.as_slice(),
     };
@@ -222,17 +209,13 @@ fn refuses_text<T: Allocating + Writing>(rt: &(impl Abort + AllocGlobal), call: 
 
 #[test]
 fn maps_and_shows_that_are_refused(rt: HostRuntime) {
-    let alloc = rt.alloc();
-    let host = PAIR_FILES.host(alloc, &[]).expect(&rt, "unexpected error");
+    let host = CodeFile::new(&rt, LITTLE, &HOST_TEXTS);
     let call = Map {
         host: host.as_slice(),
         libraries: &[],
     };
     refuses_text(&rt, &call, "refused 13 MissingUnit file 0 slot 7");
-    let mixed = CodeFile::new(alloc, LITTLE, &[])
-        .expect(&rt, "unexpected error")
-        .with(alloc, &[Resized(512), Bytes(192, &[1, 1])])
-        .expect(&rt, "unexpected error");
+    let mixed = CodeFile::new(&rt, LITTLE, &[]).with(&rt, "size 512; at 192 0101");
     let file = mixed.as_slice();
     refuses_text(&rt, &Show { file }, "refused 2 NoOrder file 0");
     let file = file.get(..511).unwrap_or(&[]);

@@ -6,7 +6,7 @@ use std::fmt::Write;
 use std::process::Abort;
 
 #[test]
-fn words_and_blocks(rt: HostRuntime) {
+fn words_of_either_order(rt: HostRuntime) {
     let mut bytes = [0x0A, 0x02, 0x77];
     assert!(rt; get(Order::Little, &bytes, 0) == 522);
     assert!(rt; get(Order::Big, &bytes, 0) == 2562);
@@ -14,13 +14,19 @@ fn words_and_blocks(rt: HostRuntime) {
     assert!(rt; bytes == [0x0A, 0x0A, 0x02]);
     put(Order::Big, &mut bytes, 1, 522);
     assert!(rt; bytes == [0x0A, 0x02, 0x0A]);
+}
 
+#[test]
+fn operands(rt: HostRuntime) {
     assert!(rt; get_big(&[0x81, 0x02], 0) == 258);
     assert!(rt; get_big(&[0x01, 0x02], 0) == 258, "bit 7 is not looked at");
     let mut bytes = [0xAB, 0, 0, 0xAB];
     put_big(&mut bytes, 1, 258);
     assert!(rt; bytes == [0xAB, 0x81, 0x02, 0xAB]);
+}
 
+#[test]
+fn blocks(rt: HostRuntime) {
     for (len, wanted) in [
         (0, 0),
         (1, 1),
@@ -116,17 +122,26 @@ fn faults_as_text(rt: HostRuntime) {
     let alloc = rt.alloc();
     for (fault, number, name, wanted) in &FAULTS {
         let reason = fault.reason;
+        assert!(rt;
+            (reason.number(), reason.name()) == (*number, *name),
+            "{wanted}"
+        );
+        is(&rt, *name, format!(in alloc; "{reason}"), *name);
+        is(&rt, "a fault", format!(in alloc; "{fault}"), *wanted);
         // a width changes no text
-        let text = format!(in alloc;
-            "{} {} {reason} {fault} {fault:>100}{fault:<100}{fault:.3}",
-            reason.number(),
-            reason.name()
-        )
-        .expect(&rt, "unexpected error");
-        let wanted = format!(in alloc;
-            "{number} {name} {name} {wanted} {wanted}{wanted}{wanted}"
-        ).expect(&rt, "unexpected error");
-        is(&rt, "a fault", text.as_str(), wanted.as_str());
+        is(
+            &rt,
+            "to the right",
+            format!(in alloc; "{fault:>100}"),
+            *wanted,
+        );
+        is(
+            &rt,
+            "to the left",
+            format!(in alloc; "{fault:<100}"),
+            *wanted,
+        );
+        is(&rt, "cut", format!(in alloc; "{fault:.3}"), *wanted);
     }
 }
 

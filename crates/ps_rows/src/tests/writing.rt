@@ -1,11 +1,12 @@
 //! What a writer is given of a linked file, a map or a show, where it takes all or little, stalls
 //! or fails.
-use super::answers::{is, text_of, text_of_error};
+use super::answers::{LITTLE, is, text_of, text_of_error};
 use super::link_allocations::Link;
-use super::tables::{Base, IN_PLACE_FILES, PAIR_FILES, bytes_of};
+use super::tables::{Base, Check, IN_PLACE, IN_PLACE_TEXTS, PAIR};
 use super::texts::{Map, Show};
 use super::writers::Full::{Fails, Stalls};
 use super::writers::{Counts, Full, Room, Writer};
+use crate::code_file::CodeFile;
 use ps_linkfile::{
     Counting, LinkError, Linked, NotedWriter, Noting, Summary, ToldWriter, WriteFault, link,
     prepare, write_show, write_show_noted,
@@ -43,10 +44,16 @@ impl<'a> Writing for Show<'a> {
 
 impl<'a> Writing for Map<'a> {
     fn write<W: Write>(&self, alloc: Global, out: &mut W) -> Result<Option<Summary>, LinkError> {
-        let linked = prepare(alloc, self.host, self.libraries)?;
-        linked.write_map(out)?;
-        Ok(None)
+        match prepare(alloc, self.host, self.libraries) {
+            Ok(linked) => writes_map(&linked, out),
+            Err(error) => Err(error),
+        }
     }
+}
+
+fn writes_map<W: Write>(linked: &Linked<'_>, out: &mut W) -> Result<Option<Summary>, LinkError> {
+    linked.write_map(out)?;
+    Ok(None)
 }
 
 /// The answer of a call that writes, as text.
@@ -214,32 +221,47 @@ fn writes_to_any_room(rt: &(impl Abort + AllocGlobal), files: &Link<'_>, linked:
     }
 }
 
-/// Writes the linked file of these files, which has this summary, into each writer, and into those
-/// of any room.
-fn with_files(rt: &(impl Abort + AllocGlobal), base: &Base<'_>, summary: &str, any_room: bool) {
-    let alloc = rt.alloc();
-    let host = base.host(alloc, &[]).expect(rt, "unexpected error");
-    let libraries = base.libraries(alloc, &[]).expect(rt, "unexpected error");
-    let libraries = bytes_of(alloc, libraries.as_slice()).expect(rt, "unexpected error");
-    let linked = base.linked(alloc, &[]).expect(rt, "unexpected error");
-    let files = Link {
-        host: host.as_slice(),
-        libraries: libraries.as_slice(),
-        linked: linked.as_slice(),
-    };
-    let prepared = prepare(alloc, files.host, files.libraries).expect(rt, "unexpected error");
-    writes_to_each(rt, &files, &prepared, summary);
-    if any_room {
-        writes_to_any_room(rt, &files, &prepared);
+/// The summary of a linked file that is written into each writer, and whether it is into those of
+/// any room.
+#[derive(Clone, Copy)]
+struct WriteCheck {
+    summary: &'static str,
+    any_room: bool,
+}
+
+impl Check for WriteCheck {
+    fn check<R: Abort + AllocGlobal>(&self, rt: &R, link: &Link<'_>) {
+        let linked = prepare(rt.alloc(), link.host, link.libraries);
+        let linked = linked.expect(rt, "unexpected error");
+        writes_to_each(rt, link, &linked, self.summary);
+        if self.any_room {
+            writes_to_any_room(rt, link, &linked);
+        }
     }
 }
 
+static WRITTEN_FILES: [(Base<'static>, WriteCheck); 2] = [
+    (
+        IN_PLACE,
+        WriteCheck {
+            summary: "segments 2 private words 0 blocks 3",
+            any_room: false,
+        },
+    ),
+    (
+        PAIR,
+        WriteCheck {
+            summary: "segments 2 private words 4 blocks 3",
+            any_room: true,
+        },
+    ),
+];
+
 #[test]
 fn writers_of_linked_files(rt: HostRuntime) {
-    let summary = "segments 2 private words 0 blocks 3";
-    with_files(&rt, &IN_PLACE_FILES, summary, false);
-    let summary = "segments 2 private words 4 blocks 3";
-    with_files(&rt, &PAIR_FILES, summary, true)
+    for (base, check) in &WRITTEN_FILES {
+        base.check(&rt, ("", "", ""), check);
+    }
 }
 
 /// Writes this short text into writers that take all or little, stall or fail. No write is made
@@ -341,21 +363,39 @@ fn has_counted(rt: &impl Abort, is_written: bool, out: Noting<Room>, wanted: (u6
     assert!(rt; (errors, stalls) == wanted, "{wanted:?}");
 }
 
+/// Writes a map to a writer that counts its failures.
+fn counts_of_a_map(
+    rt: &(impl Abort + AllocGlobal),
+    linked: &Linked<'_>,
+    writer: Writer,
+    wanted: (u64, u64),
+) {
+    let mut out = Noting::new(Room::new(rt.alloc(), writer).expect(rt, "no memory"));
+    let is_written = linked.write_map_noted(&mut out).is_ok();
+    has_counted(rt, is_written, out, wanted)
+}
+
+/// Writes a show to one.
+fn counts_of_a_show(
+    rt: &(impl Abort + AllocGlobal),
+    file: &[u8],
+    writer: Writer,
+    wanted: (u64, u64),
+) {
+    let mut out = Noting::new(Room::new(rt.alloc(), writer).expect(rt, "no memory"));
+    let is_written = write_show_noted(file, &mut out).is_ok();
+    has_counted(rt, is_written, out, wanted)
+}
+
 #[test]
 fn failures_of_a_map_and_a_show_are_counted(rt: HostRuntime) {
-    let alloc = rt.alloc();
-    let host = IN_PLACE_FILES
-        .host(alloc, &[])
-        .expect(&rt, "unexpected error");
-    let linked = prepare(alloc, host.as_slice(), &[]).expect(&rt, "unexpected error");
+    let host = CodeFile::new(&rt, LITTLE, &IN_PLACE_TEXTS);
+    let host = host.as_slice();
+    let linked = prepare(rt.alloc(), host, &[]).expect(&rt, "unexpected error");
     for (room, full, wanted) in &FAILURES {
         let writer = (*room, ALL, *full);
-        let mut out = Noting::new(Room::new(alloc, writer).expect(&rt, "unexpected error"));
-        let is_written = linked.write_map_noted(&mut out).is_ok();
-        has_counted(&rt, is_written, out, *wanted);
-        let mut out = Noting::new(Room::new(alloc, writer).expect(&rt, "unexpected error"));
-        let is_written = write_show_noted(host.as_slice(), &mut out).is_ok();
-        has_counted(&rt, is_written, out, *wanted);
+        counts_of_a_map(&rt, &linked, writer, *wanted);
+        counts_of_a_show(&rt, host, writer, *wanted);
     }
 }
 
@@ -411,35 +451,42 @@ fn is_error(rt: &(impl Abort + AllocGlobal), error: Option<LinkError>, way: Brok
     let alloc = rt.alloc();
     match error {
         Some(LinkError::Write(WriteFault::Device(error))) => {
-            let text = described(alloc, &error).expect(rt, "unexpected error");
-            let wanted = described(alloc, &way.error()).expect(rt, "unexpected error");
-            is(rt, wanted.as_str(), text.as_str(), wanted.as_str());
+            let wanted = described(alloc, &way.error()).expect(rt, "no memory");
+            let wanted = wanted.as_str();
+            is(rt, wanted, described(alloc, &error), wanted);
         }
         _ => assert!(rt; false, "no error of the write"),
     }
 }
 
+/// Checks that a call gives the error of a writer.
+fn gives_error<T: Writing>(rt: &(impl Abort + AllocGlobal), call: &T, way: Broken) {
+    let mut out = way;
+    is_error(rt, call.write(rt.alloc(), &mut out).err(), way)
+}
+
+/// Checks the same of a writer that counts.
+fn tells_error(rt: &(impl Abort + AllocGlobal), linked: &Linked<'_>, way: Broken) {
+    let mut out = Counting::new(way);
+    let answer = linked.write_told(&mut out).map_err(LinkError::Write);
+    is_error(rt, answer.err(), way);
+    assert!(rt; out.flush().is_err());
+    assert!(rt; counts_of(&out) == [1, 1, 0, 0]);
+}
+
 #[test]
 fn the_error_of_the_write_comes_back(rt: HostRuntime) {
-    let alloc = rt.alloc();
-    let host = IN_PLACE_FILES
-        .host(alloc, &[])
-        .expect(&rt, "unexpected error");
+    let host = CodeFile::new(&rt, LITTLE, &IN_PLACE_TEXTS);
     let files = Link {
         host: host.as_slice(),
         libraries: &[],
         linked: &[],
     };
-    let linked = prepare(alloc, files.host, &[]).expect(&rt, "unexpected error");
+    let linked = prepare(rt.alloc(), files.host, &[]).expect(&rt, "unexpected error");
     for way in &WAYS {
-        let mut out = *way;
-        is_error(&rt, files.write(alloc, &mut out).err(), *way);
-        is_error(&rt, Writing::write(&linked, alloc, &mut out).err(), *way);
-        let mut out = Counting::new(out);
-        let answer = linked.write_told(&mut out).map_err(LinkError::Write);
-        is_error(&rt, answer.err(), *way);
-        assert!(rt; out.flush().is_err());
-        assert!(rt; counts_of(&out) == [1, 1, 0, 0]);
+        gives_error(&rt, &files, *way);
+        gives_error(&rt, &linked, *way);
+        tells_error(&rt, &linked, *way);
     }
 }
 
@@ -450,23 +497,24 @@ fn texts_of_write_faults(rt: HostRuntime) {
         "{torn}, {}, {}",
         WriteFault::Stalled,
         LinkError::Write(WriteFault::Stalled)
-    )
-    .expect(&rt, "unexpected error");
+    );
     let wanted = "the tape is torn, the writer takes no more bytes, the writer takes no more bytes";
-    is(&rt, "faults of writes", text.as_str(), wanted)
+    is(&rt, "faults of writes", text, wanted)
 }
 
 /// A list whose memory is refused takes no byte.
 #[test]
 fn a_list_that_cannot_grow(rt: HostRuntime) {
     let alloc = rt.alloc();
-    let host = IN_PLACE_FILES
-        .host(alloc, &[])
-        .expect(&rt, "unexpected error");
+    let host = CodeFile::new(&rt, LITTLE, &IN_PLACE_TEXTS);
     let heap = Refusing::once(alloc, 1);
     let mut list = Vec::new(&heap);
     let answer = link(alloc, host.as_slice(), &[], &mut list);
-    let text = text_of(alloc, answer).expect(&rt, "unexpected error");
-    is(&rt, "a list", text.as_str(), "device error OutOfMemory");
+    is(
+        &rt,
+        "a list",
+        text_of(alloc, answer),
+        "device error OutOfMemory",
+    );
     assert!(rt; list.is_empty());
 }

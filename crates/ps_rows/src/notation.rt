@@ -1,0 +1,50 @@
+//! The words of the texts by which tests describe files and records.
+use crate::information::{Name, put};
+use std::process::Abort;
+use std::str::SplitWhitespace;
+
+/// The next word as a number.
+pub fn number(rt: &impl Abort, words: &mut SplitWhitespace<'_>) -> usize {
+    let word = words.next().unwrap_or("a number that is not there");
+    word.parse().expect(rt, word)
+}
+
+/// The next word as a number of sixteen bits.
+pub fn word(rt: &impl Abort, words: &mut SplitWhitespace<'_>) -> u16 {
+    word_of(rt, words.next().unwrap_or("a number that is not there"))
+}
+
+/// A number of sixteen bits.
+pub fn word_of(rt: &impl Abort, word: &str) -> u16 {
+    word.parse().expect(rt, word)
+}
+
+/// A byte in two hexadecimal digits.
+pub fn byte(rt: &impl Abort, digits: &str) -> u8 {
+    u8::from_str_radix(digits, 16).expect(rt, digits)
+}
+
+/// The number behind a word that says what it is.
+pub fn value(rt: &impl Abort, words: &mut SplitWhitespace<'_>, what: &str) -> u16 {
+    assert!(rt; words.next() == Some(what), "{what}");
+    word(rt, words)
+}
+
+/// The next word as a name.
+pub fn name(words: &mut SplitWhitespace<'_>) -> Name {
+    name_of(words.next().unwrap_or("-"))
+}
+
+/// A name, filled up with blanks; a dash is the name of blanks.
+pub fn name_of(word: &str) -> Name {
+    let mut name = [b' '; 8];
+    if word != "-" {
+        put(&mut name, 0, word.as_bytes());
+    }
+    name
+}
+
+/// Checks that no word of a text is left.
+pub fn ends(rt: &impl Abort, words: &mut SplitWhitespace<'_>, text: &str) {
+    assert!(rt; words.next().is_none(), "{text}");
+}
