@@ -206,8 +206,7 @@ module _ (slot next : ℕ) (duplicate : Option ℕ) (before : List Private) (all
     room_fault other lt = grind (arith, nat_tests, names, fresh)
 
 -- a stop at the first segment that is left is one at all
-module _ (place : SegmentPlace) (rs : List Record)
-    (rest all : List Owner) (next free : ℕ) where
+module _ (place : SegmentPlace) (rs : List Record) (rest all : List Owner) (next free : ℕ) where
   pub stopped_in : (before : List Private) (stop : Stop)
       → before ++ all_allotted free ((place, rs) ∷ rest) ≡ all_allotted next all
       → first_private_fault free ((place, rs) ∷ rest) ≡ first_private_fault next all

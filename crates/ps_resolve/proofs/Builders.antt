@@ -168,8 +168,7 @@ words_are : (rs : List Record) → words_taken_by rs ≡ private_words rs
 words_are [] = refl
 words_are (r ∷ rs) = search (rules, sum_by-cons, words_before, words_are rs)
 
-all_are : (ss : List Owner)
-    → words_taken_by (flat_map (λ (q : Owner). q.1) ss) ≡ all_words ss
+all_are : (ss : List Owner) → words_taken_by (flat_map (λ (q : Owner). q.1) ss) ≡ all_words ss
 all_are [] = refl
 all_are (s ∷ ss) = grind (arith, sum_by-append, words_are, all_are ss)
 
@@ -179,8 +178,7 @@ one_behind [] s = omega arith
 one_behind (q ∷ prefix) s = omega (arith, one_behind prefix s)
 
 -- the offset at a record of the first segment after a prefix
-offset_is : (base : ℕ) (prefix : List Owner)
-    (s : Owner) (rest : List Owner) (rec : ℕ)
+offset_is : (base : ℕ) (prefix : List Owner) (s : Owner) (rest : List Owner) (rec : ℕ)
     → offset_at base (prefix ++ s ∷ rest) (length prefix) s.1 rec
     ≡ base + all_words prefix + private_words (take rec s.1)
 offset_is base prefix s rest rec =
@@ -401,8 +399,7 @@ words_allotted slot rec next (r ∷ rs) =
     grind arith
 
 -- and so have the privates of all segments
-pub summed : (next : ℕ) (ss : List Owner)
-    → words_of_all (all_allotted next ss) ≡ all_words ss
+pub summed : (next : ℕ) (ss : List Owner) → words_of_all (all_allotted next ss) ≡ all_words ss
 summed next [] = refl
 summed next (s ∷ ss) =
     grind (arith, sum_by-append, words_allotted, summed (next + private_words s.1) ss)
@@ -417,8 +414,7 @@ asked_allotted place rec next (r ∷ rs) =
     grind arith
 
 -- and those of all segments, which are what all records request
-pub asked : (next : ℕ) (ss : List Owner)
-    → map asked_of (all_allotted next ss) ≡ all_asked ss
+pub asked : (next : ℕ) (ss : List Owner) → map asked_of (all_allotted next ss) ≡ all_asked ss
 asked next [] = refl
 asked next (s ∷ ss) =
     grind (arith, map-append, asked_allotted, asked (next + private_words s.1) ss)

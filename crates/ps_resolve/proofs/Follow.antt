@@ -24,7 +24,6 @@ prefixed : (slot : ℕ) (rs : List Record) (rec next : ℕ) (tail : List Private
 prefixed slot [] rec next tail h = grind arith
 prefixed slot (r ∷ rs) rec next tail h = grind (arith, follow_cons, prefixed slot rs)
 
-pub follow : (next : ℕ) (ss : List Owner)
-    → FollowOn next (all_allotted next ss)
+pub follow : (next : ℕ) (ss : List Owner) → FollowOn next (all_allotted next ss)
 follow next [] = λ k d lt. absurd (omega arith)
 follow next (s ∷ ss) = grind (arith, prefixed, follow (next + private_words s.1) ss)

@@ -81,7 +81,8 @@ HaveRoom base ss =
 
 -- why the private of a record is refused: an earlier private of its segment has its name, or else
 -- it ends past MAX_NEXT_FREE
-abbrev pub IsUnfit : ℕ → List Owner → ℕ → List Record → ℕ → Record → Reason → Type 0
+abbrev pub IsUnfit : ℕ → List Owner → ℕ → List Record → ℕ → Record → Reason
+    → Type 0
 IsUnfit base ss k rs rec r reason.DoubledPrivate = HasEarlierNamesake is_private_reference rs rec r
 IsUnfit base ss k rs rec r reason.NoRoom =
     (HasEarlierNamesake is_private_reference rs rec r → ⊥)
@@ -129,8 +130,7 @@ asked_in place r = option_map
 
 -- what all records of the segments request, by segment and then by record
 abbrev pub all_asked : List Owner → List Asked
-all_asked ss = flat_map (λ (s : Owner). filter_map (asked_in s.0)
-    (enumerate_from 0 s.1)) ss
+all_asked ss = flat_map (λ (s : Owner). filter_map (asked_in s.0) (enumerate_from 0 s.1)) ss
 
 -- a private without its offset
 abbrev pub asked_of : Private → Asked
