@@ -1,5 +1,5 @@
--- Records, owners of privates, and privates, as the builders of definitions and of allotments have
--- them.
+-- Records, segments by their places and records, and privates, as the builders of definitions and
+-- of allotments have them.
 -- Source: this project's examples.
 use Rattle.std.specs.Prelude.{List, [], ◌∷◌}
 use Rattle.ps_examples.specs.Files.{count, state, nobody}
@@ -24,24 +24,21 @@ defined_again =
     ∷ record { name = count; body = ConstDef 4 }
     ∷ record { name = state; body = ConstDef 5 } ∷ []
 
--- UTIL as an owner of privates
+-- UTIL, its place and its records
 abbrev pub util_owner : Owner
 util_owner = owner_of util_segment
 
--- AUX as an owner of privates
+-- AUX
 abbrev pub aux_owner : Owner
 aux_owner = owner_of aux_segment
 
 -- UTIL with two privates of one name
 abbrev pub duplicate_owner : Owner
-duplicate_owner = record util_owner {
-  records =
-      count_reference ∷ state_reference ∷ state_reference ∷ [];
-}
+duplicate_owner = (util_owner.0, count_reference ∷ state_reference ∷ state_reference ∷ [])
 
 -- UTIL without a private
 abbrev pub plain_owner : Owner
-plain_owner = record util_owner { records = count_reference ∷ end_mark ∷ [] }
+plain_owner = (util_owner.0, count_reference ∷ end_mark ∷ [])
 
 -- a private of four words, the first of UTIL
 abbrev pub first_private : Private

@@ -20,8 +20,9 @@ pub fn facts_of_builders()
     ensures a_second_definition_of_a_name { StopsDefinitions 0 1 defined_again
         (Refused (in_record 0 1 2 reason.DoubledDefinition)) }
     ensures no_memory_for_a_definition { StopsDefinitions 0 1 defined_once Memory }
-    ensures an_offset { offset_at 8 (util_owner ∷ aux_owner ∷ []) 1 aux_owner 1 ≡ 12 }
-    ensures an_offset_behind_it { offset_at 8 (util_owner ∷ aux_owner ∷ []) 1 aux_owner 2 ≡ 16 }
+    ensures an_offset { offset_at 8 (util_owner ∷ aux_owner ∷ []) 1 aux_owner.1 1 ≡ 12 }
+    ensures an_offset_behind_it { offset_at 8 (util_owner ∷ aux_owner ∷ []) 1 aux_owner.1 2
+        ≡ 16 }
     ensures a_name_in_two_segments { HaveDistinctPrivates (util_owner ∷ aux_owner ∷ []) }
     ensures room_to_the_last_word { HaveRoom 32763 (util_owner ∷ []) }
     ensures room_for_no_private { HaveRoom 32768 (plain_owner ∷ []) }

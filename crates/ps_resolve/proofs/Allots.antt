@@ -10,7 +10,8 @@ use Rattle.std.specs.Str.{bytes_eq}
 use Rattle.std.proofs.lemmas.Bool.Decides.{nat_tests}
 use Rattle.ps_words.specs.declared.fault.Reason.TheVariants as reason
 use Rattle.ps_linkinfo.specs.RecordCounts.{is_private_reference, privates_in}
-use Rattle.ps_resolve.specs.Privates.{Owner, words_in, allotted_privates, private_words}
+use Rattle.ps_resolve.specs.Privates.{Owner}
+use Rattle.ps_resolve.specs.Privates.{words_in, allotted_privates, private_words}
 use Rattle.ps_resolve.specs.Privates.{private_fault, all_allotted, first_private_fault}
 use Rattle.ps_resolve.specs.Privates.{unallotted_fault}
 use Rattle.ps_resolve.specs.Stops.{IsStop}
@@ -20,6 +21,7 @@ use Rattle.ps_resolve.specs.Standing.Definitions.{HasEarlierNamesake}
 use Rattle.ps_resolve.proofs.Apart.{one_private}
 use Rattle.ps_resolve.proofs.LookingBack.{asks_is, names}
 use Rattle.ps_resolve.proofs.EarlierNames.{Stands, further, looked, one_name, same_names, there}
+use Rattle.ps_resolve.specs.declared.linkage.SegmentPlace.{SegmentPlace}
 use Rattle.ps_resolve.specs.declared.linkage.Stop.{Stop}
 use Rattle.ps_resolve.specs.declared.allotment.Private.{Private}
 use Rattle.ps_resolve.specs.declared.allotment.TheConstants.{MAX_NEXT_FREE}
@@ -204,11 +206,11 @@ module _ (slot next : ℕ) (duplicate : Option ℕ) (before : List Private) (all
     room_fault other lt = grind (arith, nat_tests, names, fresh)
 
 -- a stop at the first segment that is left is one at all
-module _ (o : Owner) (rest all : List Owner) (next free : ℕ) where
+module _ (place : SegmentPlace) (rs : List Record) (rest all : List Owner) (next free : ℕ) where
   pub stopped_in : (before : List Private) (stop : Stop)
-      → before ++ all_allotted free (o ∷ rest) ≡ all_allotted next all
-      → first_private_fault free (o ∷ rest) ≡ first_private_fault next all
-      → IsStop (0 < length (allotted_privates o.slot 0 free o.records))
-      (unallotted_fault o.file o.slot free o.records) stop
+      → before ++ all_allotted free ((place, rs) ∷ rest) ≡ all_allotted next all
+      → first_private_fault free ((place, rs) ∷ rest) ≡ first_private_fault next all
+      → IsStop (0 < length (allotted_privates place.slot 0 free rs))
+      (unallotted_fault place.file place.slot free rs) stop
       → IsStop (0 < length (all_allotted next all)) (first_private_fault next all) stop
   stopped_in before stop privates first d = grind (arith, length-append)

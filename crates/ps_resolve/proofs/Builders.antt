@@ -20,7 +20,8 @@ use Rattle.ps_words.specs.declared.fault.Reason.TheVariants as reason
 use Rattle.ps_resolve.specs.First.{Before}
 use Rattle.ps_resolve.specs.Searches.{first_of, fault_if}
 use Rattle.ps_resolve.specs.Symbols.{definitions, first_duplicate}
-use Rattle.ps_resolve.specs.Privates.{Owner, allotted_privates, private_words, private_fault}
+use Rattle.ps_resolve.specs.Privates.{Owner}
+use Rattle.ps_resolve.specs.Privates.{allotted_privates, private_words, private_fault}
 use Rattle.ps_resolve.specs.Privates.{all_allotted, all_words, first_private_fault}
 use Rattle.ps_resolve.specs.Offsets.{RiseFrom}
 use Rattle.ps_resolve.specs.Standing.Phrases.{SomeItem}
@@ -33,6 +34,7 @@ use Rattle.ps_resolve.specs.Builders.{HaveDistinctPrivates, HaveRoom, IsUnfit, I
 use Rattle.ps_resolve.specs.Builders.{StopsPrivates, asked_in, all_asked, asked_of, AreByRecord}
 use Rattle.ps_resolve.specs.Builders.{words_of_all}
 use Rattle.ps_resolve.specs.declared.allotment.Private.{Private}
+use Rattle.ps_resolve.specs.declared.linkage.SegmentPlace.{SegmentPlace}
 use Rattle.ps_resolve.specs.declared.linkage.Stop.{Stop}
 use Rattle.ps_resolve.specs.declared.linkage.Stop.TheVariants.{Refused, Memory}
 use Rattle.ps_resolve.proofs.LookingBack.{is_again, again, take_prefix, longer, definitions_carried}
@@ -166,48 +168,55 @@ words_are : (rs : List Record) → words_taken_by rs ≡ private_words rs
 words_are [] = refl
 words_are (r ∷ rs) = search (rules, sum_by-cons, words_before, words_are rs)
 
-all_are : (ss : List Owner) → words_taken_by (flat_map (λ q. q.records) ss) ≡ all_words ss
+all_are : (ss : List Owner) → words_taken_by (flat_map (λ (q : Owner). q.1) ss) ≡ all_words ss
 all_are [] = refl
 all_are (s ∷ ss) = grind (arith, sum_by-append, words_are, all_are ss)
 
 one_behind : (prefix : List Owner) (s : Owner)
-    → all_words (prefix ++ s ∷ []) ≡ all_words prefix + private_words s.records
+    → all_words (prefix ++ s ∷ []) ≡ all_words prefix + private_words s.1
 one_behind [] s = omega arith
 one_behind (q ∷ prefix) s = omega (arith, one_behind prefix s)
 
 -- the offset at a record of the first segment after a prefix
 offset_is : (base : ℕ) (prefix : List Owner) (s : Owner) (rest : List Owner) (rec : ℕ)
-    → offset_at base (prefix ++ s ∷ rest) (length prefix) s rec
-    ≡ base + all_words prefix + private_words (take rec s.records)
-offset_is base prefix s rest rec = grind (arith, take_prefix, sum_by-append, all_are, words_are)
+    → offset_at base (prefix ++ s ∷ rest) (length prefix) s.1 rec
+    ≡ base + all_words prefix + private_words (take rec s.1)
+offset_is base prefix s rest rec =
+    rw (take_prefix prefix (s ∷ rest)) (omega (
+      arith,
+      sum_by-append (λ (r : Record). words_taken r.body)
+          (flat_map (λ (q : Owner). q.1) prefix) (take rec s.1),
+      all_are prefix,
+      words_are (take rec s.1),
+    ))
 
 -- 3. privates
 module _ (base : ℕ) (ss : List Owner) where
   abbrev record_faults : ℕ × Owner → ℕ × Record → Option Fault
-  record_faults k = record_fault (λ why rec. in_record k.1.file k.1.slot rec why)
-      (λ rec. offset_at base ss k.0 k.1 rec) k.1.records
+  record_faults k = record_fault (λ why rec. in_record k.1.0.file k.1.0.slot rec why)
+      (λ rec. offset_at base ss k.0 k.1.1 rec) k.1.1
 
   abbrev segment_fault : ℕ × Owner → Option Fault
-  segment_fault k = first_of (record_faults k) (enumerate_from 0 k.1.records)
+  segment_fault k = first_of (record_faults k) (enumerate_from 0 k.1.1)
 
   -- the search that carries the offset so far is the one that looks back over the segments
-  segments_carried : (prefix rest : List Owner) (n : ℕ) → ss ≡ prefix ++ rest
-      → n ≡ length prefix
+  segments_carried : (prefix rest : List Owner) (n : ℕ)
+      → ss ≡ prefix ++ rest → n ≡ length prefix
       → first_private_fault (base + all_words prefix) rest
       ≡ first_of segment_fault (enumerate_from n rest)
   segments_carried prefix [] n is e = refl
   segments_carried prefix (s ∷ rest) n is e =
       let start = base + all_words prefix in
-      let h : Reason → ℕ → Fault = λ why rec. in_record s.file s.slot rec why in
-      let mine : option_map (λ (f : ℕ × Reason). h f.1 f.0) (private_fault 0 start [] s.records)
+      let h : Reason → ℕ → Fault = λ why rec. in_record s.0.file s.0.slot rec why in
+      let mine : option_map (λ (f : ℕ × Reason). h f.1 f.0) (private_fault 0 start [] s.1)
       ≡ segment_fault (n, s) =
       ap (λ (m : ℕ). option_map (λ (f : ℕ × Reason). h f.1 f.0)
-      (private_fault 0 m [] s.records)) (omega arith)
-      ∙ privates_carried h (λ rec. offset_at base ss n s rec) start [] s.records 0 refl
-      (λ rec. ap (λ (qs : List Owner). offset_at base qs n s rec) is
-      ∙ (ap (λ (k : ℕ). offset_at base (prefix ++ s ∷ rest) k s rec) e
+      (private_fault 0 m [] s.1)) (omega arith)
+      ∙ privates_carried h (λ rec. offset_at base ss n s.1 rec) start [] s.1 0 refl
+      (λ rec. ap (λ (qs : List Owner). offset_at base qs n s.1 rec) is
+      ∙ (ap (λ (k : ℕ). offset_at base (prefix ++ s ∷ rest) k s.1 rec) e
       ∙ offset_is base prefix s rest rec)) in
-      let later : first_private_fault (start + private_words s.records) rest
+      let later : first_private_fault (start + private_words s.1) rest
       ≡ first_of segment_fault (enumerate_from (n + 1) rest) =
       grind (
         arith,
@@ -224,60 +233,64 @@ module _ (base : ℕ) (ss : List Owner) where
   segments_back = ap (λ (n : ℕ). first_private_fault n ss) (omega arith)
       ∙ segments_carried [] ss 0 refl refl
 
-  module _ (k : ℕ) (s : Owner) (rec : ℕ) (r : Record) where
+  module _ (k : ℕ) (rs : List Record) (rec : ℕ) (r : Record) where
     abbrev full : Bool
     full = is_private_reference r.body && nat_lt MAX_NEXT_FREE
-        (offset_at base ss k s rec + words_taken r.body)
+        (offset_at base ss k rs rec + words_taken r.body)
 
     is_full : Decides full ((is_private_reference r.body ≡ true)
-        × (MAX_NEXT_FREE < offset_at base ss k s rec + words_taken r.body))
+        × (MAX_NEXT_FREE < offset_at base ss k rs rec + words_taken r.body))
     is_full = grind arith
 
-    neither : record_faults (k, s) (rec, r) ≡ None
-        → (fault_if (is_again is_private_reference s.records (rec, r)) reason.DoubledPrivate
+    neither : reason_at (λ n. offset_at base ss k rs n) rs (rec, r) ≡ None
+        → (fault_if (is_again is_private_reference rs (rec, r)) reason.DoubledPrivate
         ≡ None) × (fault_if full reason.NoRoom ≡ None)
     neither e = grind arith
 
     -- a record without a fault is not unfit
-    fits : record_faults (k, s) (rec, r) ≡ None → (why : Reason)
-        → IsUnfit base ss k s rec r why → ⊥
+    fits : reason_at (λ n. offset_at base ss k rs n) rs (rec, r) ≡ None → (why : Reason)
+        → IsUnfit base ss k rs rec r why → ⊥
     fits e reason.DoubledPrivate u = not_there
-        (is_again is_private_reference s.records (rec, r)) reason.DoubledPrivate
-        (again is_private_reference s.records rec r) (neither e).0 u
+        (is_again is_private_reference rs (rec, r)) reason.DoubledPrivate
+        (again is_private_reference rs rec r) (neither e).0 u
     fits e reason.NoRoom u = not_there full reason.NoRoom is_full (neither e).1 (u.1, u.2)
     fits e other u = u
 
     -- a record is unfit by the reason that the search gives
-    unfit : (why : Reason) → reason_at (λ n. offset_at base ss k s n) s.records (rec, r)
-        ≡ Some why → IsUnfit base ss k s rec r why
-    unfit why e = go (is_again is_private_reference s.records (rec, r)) full
-        (again is_private_reference s.records rec r) is_full e
+    unfit : (why : Reason) → reason_at (λ n. offset_at base ss k rs n) rs (rec, r)
+        ≡ Some why → IsUnfit base ss k rs rec r why
+    unfit why e = go (is_again is_private_reference rs (rec, r)) full
+        (again is_private_reference rs rec r) is_full e
       where
-        go : (b c : Bool) → Decides b (HasEarlierNamesake is_private_reference s.records rec r)
+        go : (b c : Bool) → Decides b (HasEarlierNamesake is_private_reference rs rec r)
             → Decides c ((is_private_reference r.body ≡ true)
-            × (MAX_NEXT_FREE < offset_at base ss k s rec + words_taken r.body))
+            × (MAX_NEXT_FREE < offset_at base ss k rs rec + words_taken r.body))
             → option_or (fault_if b reason.DoubledPrivate) (fault_if c reason.NoRoom) ≡ Some why
-            → IsUnfit base ss k s rec r why
+            → IsUnfit base ss k rs rec r why
         go b c d f h = search rules
 
-  none_in : (k : ℕ) (s : Owner) → segment_fault (k, s) ≡ None → (rec : ℕ) (r : Record)
-      → slice_get s.records rec ≡ Some r → (why : Reason) → IsUnfit base ss k s rec r why
-      → ⊥
-  none_in k s e rec r there = grind (arith, fits, none_given)
+  none_in : (k : ℕ) (place : SegmentPlace) (rs : List Record)
+      → segment_fault (k, (place, rs)) ≡ None → (rec : ℕ) (r : Record)
+      → slice_get rs rec ≡ Some r → (why : Reason) → IsUnfit base ss k rs rec r why → ⊥
+  none_in k place rs e rec r there =
+      grind (arith, fits, none_given (record_faults (k, (place, rs))) 0 rs e rec rec r)
 
   none_unfit : first_private_fault base ss ≡ None
-      → (k : ℕ) (s : Owner) (rec : ℕ) (r : Record) → slice_get ss k ≡ Some s
-      → slice_get s.records rec ≡ Some r → (why : Reason) → IsUnfit base ss k s rec r why
-      → ⊥
-  none_unfit e k s rec r of there = grind (arith, none_in, none_given, segments_back)
+      → (k : ℕ) (place : SegmentPlace) (rs : List Record) (rec : ℕ) (r : Record)
+      → slice_get ss k ≡ Some (place, rs) → slice_get rs rec ≡ Some r → (why : Reason)
+      → IsUnfit base ss k rs rec r why → ⊥
+  none_unfit e k place rs rec r of there = none_in k place rs
+      (none_given segment_fault 0 ss (sym segments_back ∙ e) k k (place, rs) (omega arith) of)
+      rec r there
 
   pub distinct_names : first_private_fault base ss ≡ None → HaveDistinctPrivates ss
-  distinct_names e k s of rec r there is = none_unfit e k s rec r of there reason.DoubledPrivate is
+  distinct_names e k place rs of rec r there is =
+      none_unfit e k place rs rec r of there reason.DoubledPrivate is
 
   pub room : first_private_fault base ss ≡ None → HaveRoom base ss
-  room e k rec s r of there asks =
-      elim (cases_lt MAX_NEXT_FREE (offset_at base ss k s rec + words_taken r.body)) [
-        | inl lt ↦ absurd (none_unfit e k s rec r of there reason.NoRoom (
+  room e k rec place rs r of there asks =
+      elim (cases_lt MAX_NEXT_FREE (offset_at base ss k rs rec + words_taken r.body)) [
+        | inl lt ↦ absurd (none_unfit e k place rs rec r of there reason.NoRoom (
           grind (arith, distinct_names),
           asks,
           lt,
@@ -292,44 +305,48 @@ module _ (base : ℕ) (ss : List Owner) where
       let found = some_given segment_fault 0 ss fault (sym segments_back ∙ e) in
       let k = found.at in
       let s = found.item in
-      let one = some_given (record_faults (k, s)) 0 s.records fault (found.gives k (omega arith)) in
-      let why = some_mapped (λ (w : Reason). in_record s.file s.slot one.at w)
-      (reason_at (λ n. offset_at base ss k s n) s.records (one.at, one.item)) fault
+      let one = some_given (record_faults (k, s)) 0 s.1 fault (found.gives k (omega arith)) in
+      let why = some_mapped (λ (w : Reason). in_record s.0.file s.0.slot one.at w)
+      (reason_at (λ n. offset_at base ss k s.1 n) s.1 (one.at, one.item)) fault
       (one.gives one.at (omega arith)) in
       record {
         segment = k;
         rec = one.at;
-        owner = s;
+        place = s.0;
+        records = s.1;
         item = one.item;
         why = why.0;
         of = found.there;
         there = one.there;
-        unfit = unfit k s one.at one.item why.0 why.1;
+        unfit = unfit k s.1 one.at one.item why.0 why.1;
         told = why.2;
-        first = λ j n q r other of there u b. elim b [
-          | inl lt ↦ grind (arith, none_in)
+        first = λ j n q rs r other of there u b. elim b [
+          | inl lt ↦ none_in j q rs (found.before j j (q, rs) lt (omega arith) of) n r there
+              other u
           | inr t ↦ elim t.1 [
-            | inl lt ↦ same_segment k s one.at found.there one.before j n q r
+            | inl lt ↦ same_segment k s one.at found.there one.before j n q rs r
                 other of there u t.0 lt
             | inr x ↦ x.1
           ]
         ];
       }
     where
-      same_segment : (k : ℕ) (s : Owner) (rec : ℕ) → slice_get ss k ≡ Some s
-          → ((j i : ℕ) (b : Record) → j < rec → i ≡ 0 + j
-          → slice_get s.records j ≡ Some b → record_faults (k, s) (i, b) ≡ None)
-          → (j n : ℕ) (q : Owner) (r : Record) (other : Reason) → slice_get ss j ≡ Some q
-          → slice_get q.records n ≡ Some r → IsUnfit base ss j q n r other → j ≡ k
-          → n < rec → ⊥
-      same_segment k s rec at_k before j n q r other of there u h lt = grind (arith, fits)
+      same_segment : (k : ℕ) (s : Owner) (rec : ℕ)
+          → slice_get ss k ≡ Some s → ((j i : ℕ) (b : Record) → j < rec → i ≡ 0 + j
+          → slice_get s.1 j ≡ Some b → record_faults (k, s) (i, b) ≡ None)
+          → (j n : ℕ) (q : SegmentPlace) (rs : List Record) (r : Record) (other : Reason)
+          → slice_get ss j ≡ Some (q, rs) → slice_get rs n ≡ Some r
+          → IsUnfit base ss j rs n r other → j ≡ k → n < rec → ⊥
+      same_segment k s rec at_k before j n q rs r other of there u h lt =
+          grind (arith, fits, before n n r)
 
 -- where a private of segments is allotted, a record of one of them requests it
-some_segment : (next : ℕ) (ss : List Owner) → 0 < length (all_allotted next ss)
-    → SomeItem ss (λ k s. SomeItem s.records (λ rec r. is_private_reference r.body ≡ true))
+some_segment : (next : ℕ) (ss : List Owner)
+    → 0 < length (all_allotted next ss)
+    → SomeItem ss (λ k s. SomeItem s.1 (λ rec r. is_private_reference r.body ≡ true))
 some_segment next [] h = absurd (omega (arith, h))
 some_segment next (s ∷ ss) h =
-    elim (cases_lt 0 (length (allotted_privates s.slot 0 next s.records))) [
+    elim (cases_lt 0 (length (allotted_privates s.0.slot 0 next s.1))) [
       | inl some ↦ (
         zero,
         s,
@@ -337,13 +354,13 @@ some_segment next (s ∷ ss) h =
         grind (arith, some_counted, privates_counted),
       )
       | inr none ↦
-          let t = some_segment (next + private_words s.records) ss
+          let t = some_segment (next + private_words s.1) ss
           (omega (
             arith,
             h,
             none,
-            length-append (allotted_privates s.slot 0 next s.records)
-                (all_allotted (next + private_words s.records) ss),
+            length-append (allotted_privates s.0.slot 0 next s.1)
+                (all_allotted (next + private_words s.1) ss),
           )) in
           (suc t.0, t.1, t.2, t.3)
     ]
@@ -385,19 +402,19 @@ words_allotted slot rec next (r ∷ rs) =
 pub summed : (next : ℕ) (ss : List Owner) → words_of_all (all_allotted next ss) ≡ all_words ss
 summed next [] = refl
 summed next (s ∷ ss) =
-    grind (arith, sum_by-append, words_allotted, summed (next + private_words s.records) ss)
+    grind (arith, sum_by-append, words_allotted, summed (next + private_words s.1) ss)
 
 -- the privates of a segment, without their offsets
-asked_allotted : (s : Owner) (rec next : ℕ) (rs : List Record)
-    → map asked_of (allotted_privates s.slot rec next rs)
-    ≡ filter_map (asked_in s) (enumerate_from rec rs)
-asked_allotted s rec next [] = refl
-asked_allotted s rec next (r ∷ rs) =
-    let rest = λ (n : ℕ). asked_allotted s (rec + 1) n rs in
+asked_allotted : (place : SegmentPlace) (rec next : ℕ) (rs : List Record)
+    → map asked_of (allotted_privates place.slot rec next rs)
+    ≡ filter_map (asked_in place) (enumerate_from rec rs)
+asked_allotted place rec next [] = refl
+asked_allotted place rec next (r ∷ rs) =
+    let rest = λ (n : ℕ). asked_allotted place (rec + 1) n rs in
     grind arith
 
 -- and those of all segments, which are what all records request
 pub asked : (next : ℕ) (ss : List Owner) → map asked_of (all_allotted next ss) ≡ all_asked ss
 asked next [] = refl
 asked next (s ∷ ss) =
-    grind (arith, map-append, asked_allotted, asked (next + private_words s.records) ss)
+    grind (arith, map-append, asked_allotted, asked (next + private_words s.1) ss)

@@ -3,7 +3,8 @@ use Rattle.std.proofs.Common.{◌≡◌, ℕ, zero, suc, ◌+◌, ◌++◌, List
 use Rattle.std.proofs.Common.{take, ◌∙◌, arith}
 use Rattle.std.proofs.lemmas.List.Sums.{sum_by-cons}
 use Rattle.ps_linkinfo.specs.declared.record.LinkRecord.{LinkRecord as Record}
-use Rattle.ps_resolve.specs.Privates.{allotted_privates, private_words, all_allotted, Owner}
+use Rattle.ps_resolve.specs.Privates.{Owner}
+use Rattle.ps_resolve.specs.Privates.{allotted_privates, private_words, all_allotted}
 use Rattle.ps_resolve.specs.Offsets.{FollowOn}
 use Rattle.ps_resolve.specs.declared.allotment.Private.{Private}
 
@@ -25,4 +26,4 @@ prefixed slot (r ∷ rs) rec next tail h = grind (arith, follow_cons, prefixed s
 
 pub follow : (next : ℕ) (ss : List Owner) → FollowOn next (all_allotted next ss)
 follow next [] = λ k d lt. absurd (omega arith)
-follow next (s ∷ ss) = grind (arith, prefixed, follow (next + private_words s.records) ss)
+follow next (s ∷ ss) = grind (arith, prefixed, follow (next + private_words s.1) ss)

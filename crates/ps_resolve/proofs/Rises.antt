@@ -9,8 +9,8 @@ use Rattle.std.proofs.lemmas.Bool.{cases_lt, cases_order}
 use Rattle.std.proofs.lemmas.Bool.Decides.{nat_tests}
 use Rattle.ps_linkinfo.specs.declared.record.LinkRecord.{LinkRecord as Record}
 use Rattle.ps_resolve.specs.Linkable.{AscendFrom}
-use Rattle.ps_resolve.specs.Privates.{words_in, allotted_privates, private_words, all_allotted}
 use Rattle.ps_resolve.specs.Privates.{Owner}
+use Rattle.ps_resolve.specs.Privates.{words_in, allotted_privates, private_words, all_allotted}
 use Rattle.ps_resolve.specs.Offsets.{is_from, RiseFrom, is_of, offset_listed}
 use Rattle.ps_resolve.specs.declared.allotment.Private.{Private}
 
@@ -38,13 +38,13 @@ prefixed slot (r ∷ rs) rec next tail h =
     )
 
 -- the privates of segments that are by slot rise by slot and then by record
-pub rise : (next from : ℕ) (ss : List Owner) → AscendFrom from (map (λ s. s.slot) ss)
-    → RiseFrom from 0 (all_allotted next ss)
+pub rise : (next from : ℕ) (ss : List Owner)
+    → AscendFrom from (map (λ s. s.0.slot) ss) → RiseFrom from 0 (all_allotted next ss)
 rise next from [] h = tt
 rise next from (s ∷ ss) h =
-    weaker s.slot 0 from 0 (all_allotted next (s ∷ ss)) (λ p k. grind arith)
-    (prefixed s.slot s.records 0 next (all_allotted (next + private_words s.records) ss)
-    (rise (next + private_words s.records) (s.slot + 1) ss h.1))
+    weaker s.0.slot 0 from 0 (all_allotted next (s ∷ ss)) (λ p k. grind arith)
+    (prefixed s.0.slot s.1 0 next (all_allotted (next + private_words s.1) ss)
+    (rise (next + private_words s.1) (s.0.slot + 1) ss h.1))
 
 -- where privates rise from a record on, each of them is of this record or of a later one
 all_behind : (a b : ℕ) (ps : List Private) (k : ℕ) (d : Private) → RiseFrom a b ps

@@ -16,7 +16,7 @@ pub map_push : {X Y : Type 0} (f : X → Y) (xs : List X) (x : X) (ys : List Y)
     → map f (xs ++ x ∷ []) ++ ys ≡ map f xs ++ f x ∷ ys
 map_push {X} {Y} f xs x ys = grind (arith, map-append, append_assoc)
 
-pub slots_are : (segs : List Segment) → map (λ o. o.slot) (map owner_of segs)
+pub slots_are : (segs : List Segment) → map (λ o. o.0.slot) (map owner_of segs)
     ≡ map (λ s. s.slot) segs
 slots_are [] = refl
 slots_are (s ∷ ss) = rw (slots_are ss) refl

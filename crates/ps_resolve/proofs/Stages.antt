@@ -11,7 +11,7 @@ use Rattle.ps_linkinfo.specs.RecordCounts.{next_of}
 use Rattle.ps_resolve.specs.Sources.{Segment, host_of, host_records, units_of}
 use Rattle.ps_resolve.specs.Symbols.{definitions, first_duplicate}
 use Rattle.ps_resolve.specs.Stops.{IsStop, duplicate_fault}
-use Rattle.ps_resolve.specs.Privates.{Owner, Allotted, owner_of, all_allotted, allotment_of}
+use Rattle.ps_resolve.specs.Privates.{Allotted, owner_of, all_allotted, allotment_of}
 use Rattle.ps_resolve.specs.Privates.{first_private_fault, total_words}
 use Rattle.ps_resolve.specs.Edits.{IsOfSize, AreOfReferences}
 use Rattle.ps_resolve.specs.Linkable.{HasOneHost}
@@ -50,7 +50,8 @@ module _ (order : Order) (segs : List Segment) (own : Segment)
   unfolding definitions_fault
   definitions_are = rw is refl
 
-  privates_are : privates_fault segs ≡ first_private_fault (next_of own.records) owners
+  privates_are : privates_fault segs
+      ≡ first_private_fault (next_of own.records) (map owner_of segs)
   unfolding privates_fault
   privates_are = grind arith
 
@@ -76,21 +77,22 @@ module _ (order : Order) (segs : List Segment) (own : Segment)
         (option_or (data_fault order segs) (references_fault order segs))
     behind_definitions = grind (arith, stages, definitions_are)
 
-    fault_is : first_private_fault next owners ≡ privates_fault segs
+    fault_is : first_private_fault next (map owner_of segs) ≡ privates_fault segs
     fault_is = grind (arith, privates_are)
 
-    pub privates_stop : (stop : Stop) → IsStop (0 < length (all_allotted next owners))
-        (first_private_fault next owners) stop → AreStopped order segs stop
+    pub privates_stop : (stop : Stop)
+        → IsStop (0 < length (all_allotted next (map owner_of segs)))
+        (first_private_fault next (map owner_of segs)) stop → AreStopped order segs stop
     privates_stop stop d = grind (arith, behind_definitions, fault_is)
 
     -- the privates, and how many words they take
-    module _ (a : Allotted) (a_is : a ≡ allotment_of next owners)
-        (allotted : first_private_fault next owners ≡ None) (words : ℕ)
+    module _ (a : Allotted) (a_is : a ≡ allotment_of next (map owner_of segs))
+        (allotted : first_private_fault next (map owner_of segs) ≡ None) (words : ℕ)
         (words_is : words ≡ a.words) where
       pub words_are : words ≡ total_words segs
       words_are = grind arith
 
-      pub allotment_is : a ≡ allotment_of (next_of (host_records segs)) owners
+      pub allotment_is : a ≡ allotment_of (next_of (host_records segs)) (map owner_of segs)
       allotment_is = grind arith
 
       behind_privates : linking_fault order segs

@@ -17,6 +17,7 @@ use Rattle.ps_resolve.specs.Standing.Definitions.{HasEarlierNamesake}
 use Rattle.ps_linkinfo.specs.RecordCounts.{is_definition, is_private_reference}
 use Rattle.ps_resolve.specs.References.{words_taken, words_taken_by}
 use Rattle.ps_resolve.specs.declared.allotment.Private.{Private}
+use Rattle.ps_resolve.specs.declared.linkage.SegmentPlace.{SegmentPlace}
 use Rattle.ps_resolve.specs.declared.linkage.Stop.{Stop}
 use Rattle.ps_resolve.specs.declared.linkage.Stop.TheVariants.{Refused, Memory}
 use Rattle.ps_words.specs.FaultPlaces.{in_record}
@@ -58,58 +59,60 @@ abbrev pub private_numbers : List Record → List ℕ
 private_numbers rs = map (λ r. from_be_bytes w64 r.name)
     (filter (λ r. is_private_reference r.body) rs)
 
--- 2. privates, of segments in the order of their slots
--- the offset at record `rec` of segment k, which is s: the base offset, and the words of all
--- privates of the segments before it and of the records before it in its own
-abbrev pub offset_at : ℕ → List Owner → ℕ → Owner → ℕ → ℕ
-offset_at base ss k s rec = base + words_taken_by
-    (flat_map (λ q. q.records) (take k ss) ++ take rec s.records)
+-- 2. privates, of segments in the order of their slots, each its place and its records
+-- the offset at record `rec` of segment k, whose records are these: the base offset, and the words
+-- of all privates of the segments before it and of the records before it in its own
+abbrev pub offset_at : ℕ → List Owner → ℕ → List Record → ℕ → ℕ
+offset_at base ss k rs rec = base + words_taken_by
+    (flat_map (λ (s : Owner). s.1) (take k ss) ++ take rec rs)
 
 -- in no segment has a private the name of an earlier private of that segment
 abbrev pub HaveDistinctPrivates : List Owner → Type 0
-HaveDistinctPrivates ss = (k : ℕ) (s : Owner) → slice_get ss k ≡ Some s
-    → HaveNoNamesakes is_private_reference s.records
+HaveDistinctPrivates ss = (k : ℕ) (place : SegmentPlace) (rs : List Record)
+    → slice_get ss k ≡ Some (place, rs) → HaveNoNamesakes is_private_reference rs
 
 -- every private ends at MAX_NEXT_FREE at most
 abbrev pub HaveRoom : ℕ → List Owner → Type 0
 HaveRoom base ss =
-    (k rec : ℕ) (s : Owner) (r : Record) → slice_get ss k ≡ Some s
-    → slice_get s.records rec ≡ Some r
+    (k rec : ℕ) (place : SegmentPlace) (rs : List Record) (r : Record)
+    → slice_get ss k ≡ Some (place, rs) → slice_get rs rec ≡ Some r
     → is_private_reference r.body ≡ true
-    → offset_at base ss k s rec + words_taken r.body ≤ MAX_NEXT_FREE
+    → offset_at base ss k rs rec + words_taken r.body ≤ MAX_NEXT_FREE
 
 -- why the private of a record is refused: an earlier private of its segment has its name, or else
 -- it ends past MAX_NEXT_FREE
-abbrev pub IsUnfit : ℕ → List Owner → ℕ → Owner → ℕ → Record → Reason → Type 0
-IsUnfit base ss k s rec r reason.DoubledPrivate =
-    HasEarlierNamesake is_private_reference s.records rec r
-IsUnfit base ss k s rec r reason.NoRoom =
-    (HasEarlierNamesake is_private_reference s.records rec r → ⊥)
+abbrev pub IsUnfit : ℕ → List Owner → ℕ → List Record → ℕ → Record → Reason
+    → Type 0
+IsUnfit base ss k rs rec r reason.DoubledPrivate = HasEarlierNamesake is_private_reference rs rec r
+IsUnfit base ss k rs rec r reason.NoRoom =
+    (HasEarlierNamesake is_private_reference rs rec r → ⊥)
     × (is_private_reference r.body ≡ true)
-    × (MAX_NEXT_FREE < offset_at base ss k s rec + words_taken r.body)
-IsUnfit base ss k s rec r other = ⊥
+    × (MAX_NEXT_FREE < offset_at base ss k rs rec + words_taken r.body)
+IsUnfit base ss k rs rec r other = ⊥
 
 -- the fault is that of the first private that is refused: by segment, and then by record
 pub record IsFirstUnfit (base : ℕ) (ss : List Owner) (fault : Fault) : Type 0 where
   pub segment : ℕ
   pub rec : ℕ
-  pub owner : Owner
+  pub place : SegmentPlace
+  pub records : List Record
   pub item : Record
   pub why : Reason
-  pub of : slice_get ss segment ≡ Some owner
-  pub there : slice_get owner.records rec ≡ Some item
-  pub unfit : IsUnfit base ss segment owner rec item why
-  pub told : fault ≡ in_record owner.file owner.slot rec why
-  pub first : (k n : ℕ) (s : Owner) (r : Record) (other : Reason) → slice_get ss k ≡ Some s
-      → slice_get s.records n ≡ Some r
-      → IsUnfit base ss k s n r other → Before (k ∷ n ∷ []) (segment ∷ rec ∷ []) → ⊥
+  pub of : slice_get ss segment ≡ Some (place, records)
+  pub there : slice_get records rec ≡ Some item
+  pub unfit : IsUnfit base ss segment records rec item why
+  pub told : fault ≡ in_record place.file place.slot rec why
+  pub first : (k n : ℕ) (q : SegmentPlace) (rs : List Record) (r : Record) (other : Reason)
+      → slice_get ss k ≡ Some (q, rs) → slice_get rs n ≡ Some r
+      → IsUnfit base ss k rs n r other
+      → Before (k ∷ n ∷ []) (segment ∷ rec ∷ []) → ⊥
 
 -- Why the privates of segments are not allotted: the first that is unfit is refused; or memory ran
 -- out, and a record requests a private.
 abbrev pub StopsPrivates : ℕ → List Owner → Stop → Type 0
 StopsPrivates base ss (Refused fault) = IsFirstUnfit base ss fault
 StopsPrivates base ss Memory = SomeItem ss
-    (λ k s. SomeItem s.records (λ rec r. is_private_reference r.body ≡ true))
+    (λ k s. SomeItem s.1 (λ rec r. is_private_reference r.body ≡ true))
 
 -- 3. what is allotted
 -- a private before it has an offset: its slot, its record, its name and its words
@@ -120,14 +123,14 @@ pub record Asked : Type 0 where
   pub words : ℕ
 
 -- what a record of a segment, with its index, requests: a PRIVREF record for a private
-abbrev pub asked_in : Owner → ℕ × Record → Option Asked
-asked_in s r = option_map
-    (λ words. record { slot = s.slot; rec = r.0; name = r.1.name; words = words })
+abbrev pub asked_in : SegmentPlace → ℕ × Record → Option Asked
+asked_in place r = option_map
+    (λ words. record { slot = place.slot; rec = r.0; name = r.1.name; words = words })
     (words_in r.1.body)
 
 -- what all records of the segments request, by segment and then by record
 abbrev pub all_asked : List Owner → List Asked
-all_asked ss = flat_map (λ s. filter_map (asked_in s) (enumerate_from 0 s.records)) ss
+all_asked ss = flat_map (λ (s : Owner). filter_map (asked_in s.0) (enumerate_from 0 s.1)) ss
 
 -- a private without its offset
 abbrev pub asked_of : Private → Asked

@@ -10,6 +10,7 @@ use Rattle.std.specs.Option.{option_map, option_or}
 use Rattle.ps_linkinfo.specs.Records.{reading}
 use Rattle.ps_resolve.specs.Sources.{Segment}
 use Rattle.ps_resolve.specs.declared.linkage.Linkage.{Linkage}
+use Rattle.ps_resolve.specs.declared.linkage.SegmentPlace.{SegmentPlace}
 use Rattle.ps_words.specs.declared.fault.Reason.{Reason}
 use Rattle.ps_words.specs.declared.fault.Reason.TheVariants as reason
 use Rattle.ps_words.specs.declared.fault.Fault.{Fault}
@@ -71,43 +72,36 @@ abbrev pub unallotted_fault : ℕ → ℕ → ℕ → List Record → Option Fau
 unallotted_fault file slot next rs = option_map (λ f. in_record file slot f.0 f.1)
     (private_fault 0 next [] rs)
 
--- a segment as far as its privates need it: its slot, the number of the file that it comes from,
--- and its records
-pub record Owner : Type 0 where
-  pub slot : ℕ
-  pub file : ℕ
-  pub records : List Record
+-- an owner of privates is the place of a segment, and its records
+abbrev pub Owner : Type 0
+Owner = SegmentPlace × List Record
 
--- the owner of privates that a linkage stands for
+-- the owner that a linkage stands for
 abbrev pub owner_of_linkage : Linkage → Owner
-owner_of_linkage s = record {
-  slot = s.slot;
-  file = s.file;
-  records =
-      (reading s.order s.bytes.now).0;
-}
+owner_of_linkage s =
+    (record { file = s.file; slot = s.slot }, (reading s.order s.bytes.now).0)
 
 -- a segment as an owner of privates
 abbrev pub owner_of : Segment → Owner
-owner_of s = record { slot = s.slot; file = s.file; records = s.records }
+owner_of s = (record { file = s.file; slot = s.slot }, s.records)
 
 -- the privates of all segments, by slot and then by record, from the offset `next` on
 abbrev pub all_allotted : ℕ → List Owner → List Private
 all_allotted next [] = []
-all_allotted next (s ∷ ss) = allotted_privates s.slot 0 next s.records
-    ++ all_allotted (next + private_words s.records) ss
+all_allotted next ((place, rs) ∷ ss) = allotted_privates place.slot 0 next rs
+    ++ all_allotted (next + private_words rs) ss
 
--- the words of the privates of these owners
+-- the words of the privates of these segments
 abbrev pub all_words : List Owner → ℕ
 all_words [] = 0
-all_words (s ∷ ss) = private_words s.records + all_words ss
+all_words ((place, rs) ∷ ss) = private_words rs + all_words ss
 
 -- the first fault of the privates
 abbrev pub first_private_fault : ℕ → List Owner → Option Fault
 first_private_fault next [] = None
-first_private_fault next (s ∷ ss) =
-    option_or (unallotted_fault s.file s.slot next s.records)
-    (first_private_fault (next + private_words s.records) ss)
+first_private_fault next ((place, rs) ∷ ss) =
+    option_or (unallotted_fault place.file place.slot next rs)
+    (first_private_fault (next + private_words rs) ss)
 
 -- what an allotment holds: the privates, the words of all of them, and the offset after the last
 pub record Allotted : Type 0 where
@@ -115,7 +109,7 @@ pub record Allotted : Type 0 where
   pub words : ℕ
   pub next_free : ℕ
 
--- the allotment of these owners from a base offset on
+-- the allotment of these segments from a base offset on
 abbrev pub allotment_of : ℕ → List Owner → Allotted
 allotment_of next ss = record {
   privates = all_allotted next ss;

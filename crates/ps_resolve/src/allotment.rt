@@ -114,17 +114,16 @@ impl<A: Allocator> Model for Allotment<A> {
 
 /// A segment that privates are allotted to.
 pub(crate) trait AsksForPrivates {
-    /// Its slot, the file that it comes from, and its records.
+    /// Its place, and its records.
     ghost owner: { Self → Owner };
 
     /// Where it is.
     fn place(&self) -> SegmentPlace
-        ensures file { result.file ≡ (owner self.now).file }
-        ensures slot { result.slot ≡ (owner self.now).slot };
+        ensures { result ≡ (owner self.now).0 };
 
     /// Its link information; `None` where it is linked already, so that it has no records.
     fn records(&self) -> Option<LinkInformation<'_>>
-        ensures { unwrap_or result [] ≡ (owner self.now).records };
+        ensures { unwrap_or result [] ≡ (owner self.now).1 };
 }
 
 impl<'a> AsksForPrivates for Linkage<'a> {
@@ -188,7 +187,7 @@ impl<A: Allocator + Copy> Allotment<A> {
     ///
     /// Source: this project's profile.
     pub fn build(alloc: A, next: u16, segments: &[Linkage]) -> Result<Self, Stop>
-        requires { AscendFrom 0 (map (λ s. s.slot) (map owner_of_linkage segments.now)) }
+        requires { AscendFrom 0 (map (λ s. s.0.slot) (map owner_of_linkage segments.now)) }
         ensures names { IfOk result (λ _. HaveDistinctPrivates
             (map owner_of_linkage segments.now)) }
         ensures room { IfOk result (λ _. HaveRoom next (map owner_of_linkage segments.now)) }
@@ -216,7 +215,7 @@ impl<A: Allocator + Copy> Allotment<A> {
         next: u16,
         segments: &[S],
     ) -> Result<Self, Stop>
-        requires { AscendFrom 0 (map (λ s. s.slot) (map S.owner segments.now)) }
+        requires { AscendFrom 0 (map (λ s. s.0.slot) (map S.owner segments.now)) }
         ensures found { IfOk result (λ a. a ≡ allotment_of next (map S.owner segments.now)) }
         ensures once { IfOk result (λ _. first_private_fault next (map S.owner segments.now)
             ≡ None) }

@@ -26,9 +26,10 @@ returns c = record {
   no_memory_without_a_definition = λ t. none_passes
       (λ (r : Record). is_definition r.body ≡ true) (count_reference ∷ [])
       (λ e. false≢true e, tt) t.0 t.1 t.2 t.3;
-  a_name_twice_in_a_segment = λ h. h 1 duplicate_owner refl 2 state_reference refl duplicate;
+  a_name_twice_in_a_segment = λ h.
+      h 1 duplicate_owner.0 duplicate_owner.1 refl 2 state_reference refl duplicate;
   no_room_for_the_last_word = λ h. let le : 32768 ≤ 32767 =
-      h 0 1 util_owner state_reference refl refl refl in omega (arith, le);
+      h 0 1 util_owner.0 util_owner.1 state_reference refl refl refl in omega (arith, le);
   not_the_later_private = not_the_later_private;
   not_a_record_without_a_private = not_a_record_without_a_private;
   not_for_room_where_its_name_is_duplicate = not_for_room_where_its_name_is_duplicate;

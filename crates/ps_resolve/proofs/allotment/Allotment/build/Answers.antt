@@ -1,7 +1,7 @@
-use Rattle.std.proofs.Common.{rules, ℕ, List, map, arith, sym, subst}
+use Rattle.std.proofs.Common.{rules, ℕ, map, arith, sym, subst}
 use Rattle.std.proofs.lemmas.Result.{IfOk-weaker}
 use Rattle.ps_resolve.specs.Offsets.{FollowOn}
-use Rattle.ps_resolve.specs.Privates.{Allotted, Owner, allotment_of, owner_of_linkage}
+use Rattle.ps_resolve.specs.Privates.{Allotted, allotment_of, owner_of_linkage}
 use Rattle.ps_resolve.proofs.Builders.{distinct_names, room, not_allotted, by_record, asked, summed}
 use Rattle.ps_resolve.proofs.Follow.{follow}
 use Rattle.ps_resolve.proofs.Rises.{rise}
@@ -10,7 +10,7 @@ use Rattle.ps_resolve.proofs.allotment.Allotment.build.Goals as goal
 pub returns : goal.returns
 returns g c =
     let next : ℕ = c.args.next in
-    let ss : List Owner = map owner_of_linkage c.args.segments.now in
+    let ss = map owner_of_linkage c.args.segments.now in
     let made = c.of_segments in
     -- what holds of the allotment of the segments holds of this one
     let found = λ (P : Allotted → Type 0)
