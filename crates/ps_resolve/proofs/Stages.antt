@@ -32,11 +32,7 @@ pub keep : {X : Type 0} (a b : Option X) (x : X) → a ≡ Some x → option_or 
 keep a b x h = grind arith
 
 -- a link of these segments, of which one is the host's
-module _ (order : Order) (segs : List Segment) (own : Segment)
-    (is : host_of segs ≡ Some own) where
-  abbrev owners : List Owner
-  owners = map owner_of segs
-
+module _ (order : Order) (segs : List Segment) (own : Segment) (is : host_of segs ≡ Some own) where
   pub records_are : host_records segs ≡ own.records
   records_are = ap (λ (o : Option Segment). option_map_or (λ s. s.records) o []) is
 
