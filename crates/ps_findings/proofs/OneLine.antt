@@ -175,6 +175,7 @@ one_letter x h false false false false false true = refl
 one_letter x h false false false false false false = h
 
 one_quoted : (c : ℕ) → one_line (quoted_char c) ≡ true
+unfolding quoted_char
 one_quoted c = one_letter (other_char c) (one_other c) (c == 0) (c == 9) (c == 10) (c == 13)
     (c == 34) (c == 92)
 
