@@ -26,6 +26,7 @@ pub const HOST_RECORDS: &str = "PUBLDEF COUNT value 3; EOFMARK next 8";
 
 /// The unit's link information: a reference to the host's definition and a private variable.
 pub const LIBRARY_RECORDS: &str = "PUBLREF COUNT at 1; PRIVREF STATE words 4 at 4; EOFMARK next 0";
+
 /// The host's code, with the attribute table and the procedure dictionary of its one procedure.
 pub fn demo_code(order: Order) -> [u8; 18] {
     match order {
