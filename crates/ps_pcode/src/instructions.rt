@@ -1,90 +1,48 @@
-//! Instructions of P-code: how long they are, and which of them jump, call or return.
+//! Instructions of P-code: how long they are, and which of them jump, return, or have an operand that
+//! a link fills in.
+use crate::table::{Effect, Operands, Release, Row};
 use ps_words::{Order, get};
 
-/// The opcodes of the calls of a procedure of the same segment, whose number follows.
-const CALLS: [u8; 3] = [0xAE, 0xC2, 0xCE];
+/// From this byte on the first byte of a BIG operand has another after it.
+const TWO_BYTES: u8 = 0x80;
 
-/// The opcode of the call of a procedure of level 1.
-const GLOBAL_CALL: u8 = 0xCF;
+/// The types, two times their number, of which a length follows: byte arrays and word arrays.
+const BYTE_ARRAYS: u8 = 10;
 
-/// The opcode of the jump without a condition.
-const ALWAYS: u8 = 0xB9;
+const WORD_ARRAYS: u8 = 12;
 
-/// The opcodes of the returns.
-const RETURNS: [u8; 3] = [0xAD, 0xC1, 0xD6];
+/// The other types whose values have a length that is known: reals, strings and booleans.
+const REALS: u8 = 2;
 
-/// The opcodes with an operand that is a variable of the program: LAO, LDO and SRO.
-///
-/// Source: P-code of II.0, *(open)* in FORMAT.md.
-pub const GLOBAL_OPCODES: [u8; 3] = [0xA5, 0xA9, 0xAB];
+const STRINGS: u8 = 4;
 
-/// The opcode with an operand that is the number of a segment: CXP.
-///
-/// Source: P-code of II.0, *(open)* in FORMAT.md.
-pub const SEGMENT_OPCODES: [u8; 1] = [0xCD];
-
-/// Above it an opcode is no constant.
-const LAST_CONSTANT_OPCODE: u8 = 0x7F;
-
-/// What follows the opcode of an instruction.
-#[derive(Clone, Copy)]
-pub(crate) enum Operands {
-    /// So many bytes.
-    Bytes(usize),
-    /// So many bytes, and then one or two.
-    Big(usize),
-    /// How many bytes a jump goes on; above 127 by the jump table.
-    Jump,
-    /// How many bytes follow.
-    Text,
-    /// How many words follow, from an even place on.
-    Words,
-    /// A type; of arrays, then the length in one or two bytes.
-    Type,
-    /// From an even place on the least and the greatest index of a case, a jump, and a word for each
-    /// index.
-    Case,
-}
+const BOOLEANS: u8 = 6;
 
 impl Operands {
-    /// Source: P-code of II.0, *(open)* in FORMAT.md.
-    fn of(opcode: u8) -> Operands {
-        match opcode {
-            0x9E | 0xA0 | 0xAA | 0xAD | 0xAE | 0xBC | 0xBD | 0xC1 | 0xC2 | 0xCE | 0xCF => {
-                Operands::Bytes(1)
-            }
-            0xC0 | 0xC7 | 0xCD => Operands::Bytes(2),
-            0xA2..=0xA5 | 0xA8 | 0xA9 | 0xAB | 0xC6 | 0xCA | 0xCC | 0xD5 => Operands::Big(0),
-            0x9D | 0xA7 | 0xB2 | 0xB6 | 0xB8 | 0xD1 => Operands::Big(1),
-            0xA1 | 0xB9 | 0xD3 | 0xD4 => Operands::Jump,
-            0xA6 | 0xD0 => Operands::Text,
-            0xB3 => Operands::Words,
-            0xAF..=0xB1 | 0xB4 | 0xB5 | 0xB7 => Operands::Type,
-            0xAC => Operands::Case,
-            _ => Operands::Bytes(0),
-        }
-    }
-
-    /// The length of an instruction at a place with these operands; none of a case without a table.
+    /// The length of an instruction at a place with these operands, of which these bytes are the
+    /// first; none of a case without a table.
     fn length(self, order: Order, place: usize, bytes: &[u8]) -> Option<usize> {
-        let first = usize::from(bytes.first().copied()?);
+        let first = bytes.first().copied()?;
         match self {
-            Operands::Bytes(count) => Some(count.saturating_add(1)),
-            Operands::Big(count) => big_end(bytes, count),
-            Operands::Jump => Some(2),
-            Operands::Text => Some(first + 2),
-            Operands::Words => Some(2 * first + 2 + place % 2),
-            Operands::Type if first == 10 || first == 12 => big_end(bytes, 1),
+            Operands::Nothing | Operands::Exit => Some(1),
+            Operands::Byte | Operands::Jump | Operands::Return => Some(2),
+            Operands::TwoBytes | Operands::Call => Some(3),
+            Operands::Big | Operands::Variable => Some(big_end(first, 0)),
+            Operands::ByteAndBig => Some(big_end(bytes.get(1).copied()?, 1)),
+            Operands::Text => Some(usize::from(first) + 2),
+            Operands::WordList => Some(2 * usize::from(first) + 2 + place % 2),
+            Operands::Type if first == BYTE_ARRAYS || first == WORD_ARRAYS => {
+                Some(big_end(bytes.get(1).copied()?, 1))
+            }
             Operands::Type => Some(2),
             Operands::Case => case_length(order, place, bytes),
         }
     }
 }
 
-/// Where an instruction ends whose BIG operand comes after so many bytes.
-fn big_end(bytes: &[u8], before: usize) -> Option<usize> {
-    let high = bytes.get(before).copied()?;
-    Some(before.saturating_add(2 + usize::from(high / 128)))
+/// Where an instruction ends whose BIG operand has this byte first, after so many others.
+fn big_end(high: u8, before: usize) -> usize {
+    before.saturating_add(2 + usize::from(TWO_BYTES <= high))
 }
 
 /// The length of a case at a place; none where its least index is above its greatest.
@@ -103,62 +61,122 @@ fn case_length(order: Order, place: usize, bytes: &[u8]) -> Option<usize> {
 
 /// An instruction.
 #[derive(Clone, Copy)]
-pub(crate) struct Instruction<'c> {
-    pub(crate) opcode: u8,
-    /// The byte after the opcode.
-    pub(crate) operand: u8,
-    pub(crate) operands: Operands,
-    /// The code after the opcode.
-    pub(crate) bytes: &'c [u8],
+pub(crate) struct Instruction {
+    operands: Operands,
+    effect: Effect,
+    /// The first two bytes after the opcode.
+    bytes: [u8; 2],
     /// How many bytes it has.
     pub(crate) length: usize,
 }
 
-impl<'c> Instruction<'c> {
-    /// That at a place of a code; none where no whole one is.
-    pub(crate) fn at(order: Order, code: &'c [u8], place: usize) -> Option<Instruction<'c>> {
+impl Instruction {
+    /// That at a place of a code, in a release; none where no whole one is.
+    pub(crate) fn at(
+        order: Order,
+        release: Release,
+        code: &[u8],
+        place: usize,
+    ) -> Option<Instruction> {
         let (opcode, bytes) = match code.get(place..) {
             Some([opcode, bytes @ ..]) => (*opcode, bytes),
             _ => return None,
         };
-        let operands = Operands::of(opcode);
+        let Row(_, _, operands, effect) = Row::of(opcode, release);
         Some(Instruction {
-            opcode,
-            operand: bytes.first().copied()?,
             operands,
-            bytes,
+            effect,
+            bytes: [bytes.first().copied()?, bytes.get(1).copied()?],
             length: operands.length(order, place, bytes)?,
         })
     }
 
-    pub(crate) fn is_return(self) -> bool {
-        RETURNS.contains(&self.opcode)
-    }
-
-    pub(crate) fn is_constant(self) -> bool {
-        self.opcode <= LAST_CONSTANT_OPCODE
+    /// How many bytes a jump goes on; above 127 by the jump table. None of what is no jump.
+    pub(crate) fn jump(self) -> Option<u8> {
+        match self.operands {
+            Operands::Jump => Some(self.bytes[0]),
+            _ => None,
+        }
     }
 
     pub(crate) fn is_case(self) -> bool {
         matches!(self.operands, Operands::Case)
     }
 
-    pub(crate) fn is_jump(self) -> bool {
-        matches!(self.operands, Operands::Jump)
+    /// The procedure or the program is left.
+    pub(crate) fn is_return(self) -> bool {
+        matches!(self.operands, Operands::Return | Operands::Exit)
     }
 
-    /// It jumps, whatever is on the evaluation stack.
-    pub(crate) fn always_jumps(self) -> bool {
-        self.opcode == ALWAYS
+    /// The words of the evaluation stack that it takes, and those that it then puts there; none where
+    /// these are not known.
+    pub(crate) fn words(self) -> Option<(usize, usize)> {
+        let operand = self.bytes[0];
+        let words = usize::from(operand);
+        match self.effect {
+            Effect::Words(taken, put) => Some((taken, put)),
+            Effect::Loads(taken) => Some((taken, words)),
+            Effect::Stores(more) => Some((words.saturating_add(more), 0)),
+            Effect::Compares => match operand {
+                REALS => Some((4, 1)),
+                STRINGS | BOOLEANS | BYTE_ARRAYS | WORD_ARRAYS => Some((2, 1)),
+                _ => None,
+            },
+            Effect::Unknown => None,
+        }
     }
 
-    /// It calls the procedure of the same segment whose number is the operand.
-    pub(crate) fn is_call(self) -> bool {
-        CALLS.contains(&self.opcode)
+    /// It has a variable of the program in an operand that is longer than it need be, as a compiler
+    /// leaves it to a link.
+    pub(crate) fn is_left_to_link(self) -> bool {
+        matches!(self.operands, Operands::Variable)
+            && self.bytes[0] == TWO_BYTES
+            && self.bytes[1] < TWO_BYTES
     }
 
-    /// It is the call of a procedure of level 1, which the compiler's segment has.
-    pub(crate) fn is_call_of_segment(self) -> bool {
-        self.is_call() || self.opcode == GLOBAL_CALL
+    /// It has another operand that is longer than it need be.
+    pub(crate) fn is_lengthened(self) -> bool {
+        matches!(self.operands, Operands::Big)
+            && self.bytes[0] == TWO_BYTES
+            && self.bytes[1] < TWO_BYTES
     }
+}
+
+/// What a reference fills in.
+///
+/// Source: the published II.0 Linker source.
+#[derive(Clone, Copy)]
+pub enum Filled {
+    /// The number of a segment.
+    Segment,
+    /// The base offset of a variable of the program.
+    Variable,
+}
+
+/// The byte at this place of a code may be the first of an operand of the kind, in any release: that
+/// after an opcode that has one or, for a segment, a constant, which is an opcode below 128.
+///
+/// Source: P-code of II.0, *(open)* in FORMAT.md.
+pub fn may_be_operand(code: &[u8], place: usize, filled: Filled) -> bool {
+    let is_constant = match code.get(place) {
+        Some(byte) => *byte < TWO_BYTES,
+        None => false,
+    };
+    let before = match code.get(..place) {
+        Some([.., opcode]) => *opcode,
+        _ => return matches!(filled, Filled::Segment) && is_constant,
+    };
+    match filled {
+        Filled::Segment => is_constant
+            || matches!(operands_of(before, Release::Later), Operands::Call),
+        Filled::Variable => {
+            matches!(operands_of(before, Release::Later), Operands::Variable)
+                || matches!(operands_of(before, Release::Earlier), Operands::Variable)
+        }
+    }
+}
+
+fn operands_of(opcode: u8, release: Release) -> Operands {
+    let Row(_, _, operands, _) = Row::of(opcode, release);
+    operands
 }

@@ -1,6 +1,5 @@
 //! The evaluation stack of a procedure of P-code: it is empty where a jump goes from and where it
 //! goes to, but for the index of a case.
-use crate::effects::Effect;
 use crate::instructions::Instruction;
 
 /// The words that are on the evaluation stack.
@@ -17,9 +16,20 @@ impl Stack {
         is_whole: true,
     };
 
-    /// That before an instruction, to which a jump may go; none where words are left for it that
-    /// a jump does not leave.
-    pub(crate) fn before(self, instruction: Instruction<'_>, is_target: bool) -> Option<Stack> {
+    /// That of which nothing is known.
+    pub(crate) const UNKNOWN: Stack = Stack {
+        words: 0,
+        is_whole: false,
+    };
+
+    /// That after an instruction, to which a jump may go; none where words are left that a jump does
+    /// not leave, or the instruction takes words that are not there.
+    pub(crate) fn after(self, instruction: Instruction, is_target: bool) -> Option<Stack> {
+        self.before(instruction, is_target)?.changed_by(instruction)
+    }
+
+    /// That which the instruction finds.
+    fn before(self, instruction: Instruction, is_target: bool) -> Option<Stack> {
         let index = usize::from(instruction.is_case());
         if !is_target && index == 0 {
             Some(self)
@@ -33,22 +43,18 @@ impl Stack {
         }
     }
 
-    /// That after an instruction; none where it takes words that are not there, or jumps with words
-    /// that are left.
-    pub(crate) fn after(self, instruction: Instruction<'_>, effect: Effect) -> Option<Stack> {
-        let Effect::Words { taken, put } = effect else {
-            return Some(Stack {
-                words: 0,
-                is_whole: false,
-            });
+    fn changed_by(self, instruction: Instruction) -> Option<Stack> {
+        let Some((taken, put)) = instruction.words() else {
+            return Some(Stack::UNKNOWN);
         };
         if self.is_whole && self.words < taken {
             return None;
         }
         let words = self.words.saturating_sub(taken).saturating_add(put);
-        if !instruction.is_jump() && !instruction.is_case() {
+        if instruction.jump().is_none() && !instruction.is_case() {
             Some(Stack { words, ..self })
-        } else if words <= usize::from(instruction.always_jumps()) {
+        } else if words <= usize::from(taken == 0) {
+            // (a jump that takes no condition leaves the index of a case)
             Some(Stack::EMPTY)
         } else {
             None

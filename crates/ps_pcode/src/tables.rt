@@ -1,7 +1,7 @@
 //! What the attribute table of a procedure says of the code before it.
 use ps_codefile::ProcedureDictionary;
-use ps_codefile::code_layout::{DATA_SIZE_BEFORE_TABLE, NUMBERS};
-use ps_words::{Order, WORD_LEN, get};
+use ps_codefile::code_layout::NUMBERS;
+use ps_words::{Order, get};
 
 /// The procedures of a code; none where its procedure dictionary is not whole, or one of them is
 /// native code.
@@ -37,31 +37,5 @@ impl Ends {
             }),
             _ => None,
         }
-    }
-}
-
-/// What a procedure's table says of its variables.
-#[derive(Clone, Copy)]
-pub(crate) struct Frame {
-    pub(crate) level: u8,
-    /// The words of its parameters.
-    pub(crate) parameters: u16,
-    /// Those and its own words.
-    pub(crate) words: u16,
-}
-
-impl Frame {
-    /// That of the table at this place; none where the code has no whole table there.
-    pub(crate) fn at(order: Order, segment: &[u8], table: usize) -> Option<Frame> {
-        let sizes = segment.get(table.checked_sub(DATA_SIZE_BEFORE_TABLE)?..)?;
-        if sizes.len() < DATA_SIZE_BEFORE_TABLE + 2 {
-            return None;
-        }
-        let (data, parameters) = (get(order, sizes, 0), get(order, sizes, WORD_LEN));
-        Some(Frame {
-            level: sizes[DATA_SIZE_BEFORE_TABLE + 1],
-            parameters: parameters / 2,
-            words: data / 2 + parameters / 2,
-        })
     }
 }

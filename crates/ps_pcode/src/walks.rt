@@ -1,77 +1,144 @@
-//! How far the instructions of a procedure of P-code were read, and the rules that they kept to.
-use crate::bodies::Body;
+//! A walk over the instructions of a procedure of P-code, from where it is entered to its return.
+use crate::bodies::{Body, Target};
 use crate::instructions::Instruction;
-use crate::jumps::Targets;
-use crate::rules::Rules;
+use crate::places::Places;
+use crate::rules::{Reading, Shown};
 use crate::stacks::Stack;
+use crate::table::Release;
 
-/// So many constants one after another are no expression.
-const MANY_CONSTANTS: usize = 32;
-
-/// How far the instructions of a procedure were read.
+/// How far the instructions of a procedure were read, and what they show. Places count from where
+/// the procedure is entered.
 #[derive(Clone, Copy)]
 pub(crate) struct Walk {
-    pub(crate) place: usize,
-    /// Where the short jumps go.
-    targets: Targets,
+    place: usize,
+    /// Where an instruction begins.
+    starts: Places,
+    /// Where short jumps lead to.
+    short: Places,
+    /// Where jumps by the jump table lead to.
+    by_table: Places,
+    has_table_jump: bool,
+    /// A jump by the jump table leads to no place of the procedure.
+    leads_outside: bool,
+    /// The place of the first case.
+    first_case: Option<usize>,
     /// The place was reached where the procedure is left.
-    pub(crate) is_left: bool,
-    /// How many constants are one after another.
-    constants: usize,
-    pub(crate) stack: Stack,
+    is_left: bool,
+    /// Its return was reached.
+    is_whole: bool,
+    stack: Stack,
+    /// The first place where the evaluation stack has too much or too little.
+    first_odd_stack: Option<usize>,
+    left_to_link: usize,
+    is_lengthened: bool,
 }
 
 impl Walk {
-    /// Nothing was read before this place.
-    pub(crate) fn from(place: usize) -> Walk {
-        Walk {
-            place,
-            targets: Targets::NONE,
-            is_left: false,
-            constants: 0,
-            stack: Stack::EMPTY,
-        }
-    }
+    const NONE: Walk = Walk {
+        place: 0,
+        starts: Places::NONE,
+        short: Places::NONE,
+        by_table: Places::NONE,
+        has_table_jump: false,
+        leads_outside: false,
+        first_case: None,
+        is_left: false,
+        is_whole: false,
+        stack: Stack::EMPTY,
+        first_odd_stack: None,
+        left_to_link: 0,
+        is_lengthened: false,
+    };
 
-    /// With the place looked at: it may be that where the procedure is left.
-    pub(crate) fn at(self, leave: usize) -> Walk {
-        Walk {
-            is_left: self.is_left || self.place == leave,
-            ..self
-        }
-    }
-
-    /// After an instruction; none where it breaks a rule, or where a jump goes into it.
-    pub(crate) fn after(
-        self,
-        body: Body<'_>,
-        instruction: Instruction<'_>,
-        rules: Rules,
-    ) -> Option<Walk> {
-        let constants = match instruction.is_constant() {
-            true => self.constants.saturating_add(1),
-            false => 0,
-        };
-        if rules.constants && MANY_CONSTANTS <= constants || !body.allows(instruction, rules) {
-            return None;
-        }
-        let stack = match rules.stacks {
-            true => {
-                let before = self.stack.before(instruction, self.targets.is_here())?;
-                before.after(instruction, body.effect(instruction))?
+    /// What the instructions of a procedure show, by the table of a release.
+    pub(crate) fn of(body: Body<'_>, release: Release) -> Reading {
+        let mut walk = Walk::NONE;
+        for _ in 0..body.len() {
+            let place = body.ends.enter.saturating_add(walk.place);
+            match Instruction::at(body.order, release, body.code, place) {
+                Some(instruction) if !walk.is_whole => walk.pass(body, place, instruction),
+                _ => return walk.reading(),
             }
-            false => self.stack,
-        };
-        let mut targets = self.targets.after(instruction.length)?;
-        if instruction.is_jump() {
-            targets = targets.with(instruction.operand);
         }
-        Some(Walk {
-            place: self.place.saturating_add(instruction.length),
-            targets,
-            constants,
-            stack,
-            ..self
-        })
+        walk.reading()
+    }
+
+    /// Goes over an instruction.
+    fn pass(&mut self, body: Body<'_>, place: usize, instruction: Instruction) {
+        self.starts.add(self.place);
+        self.is_left = self.is_left || place == body.ends.leave;
+        if instruction.is_case() && self.first_case.is_none() {
+            self.first_case = Some(self.place);
+        }
+        self.pass_stack(instruction);
+        if self.is_left && instruction.is_return() {
+            self.is_whole = true;
+            return;
+        }
+        if let Some(operand) = instruction.jump() {
+            self.add_target(body.target(operand, place.saturating_add(instruction.length)));
+        }
+        self.left_to_link = self
+            .left_to_link
+            .saturating_add(usize::from(instruction.is_left_to_link()));
+        self.is_lengthened = self.is_lengthened || instruction.is_lengthened();
+        self.place = self.place.saturating_add(instruction.length);
+    }
+
+    /// Notes what the instruction does to the evaluation stack.
+    fn pass_stack(&mut self, instruction: Instruction) {
+        let is_target = self.short.has(self.place) || self.by_table.has(self.place);
+        let is_odd_return = self.is_left && instruction.is_return() && !self.stack.is_empty();
+        self.stack = match self.stack.after(instruction, is_target) {
+            Some(stack) if !is_odd_return => stack,
+            _ => {
+                self.first_odd_stack = self.first_odd_stack.or(Some(self.place));
+                Stack::UNKNOWN
+            }
+        };
+    }
+
+    /// Notes where a jump leads to.
+    fn add_target(&mut self, target: Target) {
+        match target {
+            Target::Short(place) => self.short.add(place),
+            Target::ByTable(place) => {
+                self.by_table.add(place);
+                self.has_table_jump = true;
+            }
+            Target::Outside => {
+                self.leads_outside = true;
+                self.has_table_jump = true;
+            }
+        }
+    }
+
+    /// What was shown. What comes after the first case tells of `Cases`, and of the evaluation stack
+    /// where `Cases` is kept.
+    fn reading(&self) -> Reading {
+        let limit = self.first_case.unwrap_or(usize::MAX);
+        let odd_short = self.short.first_beside(&self.starts);
+        let odd_by_table = self.by_table.first_beside(&self.starts);
+        let has_case = self.first_case.is_some();
+        let is_read = (self.is_whole || has_case) && !is_before(odd_short, limit);
+        let is_all_read = self.is_whole && odd_short.is_none() && odd_by_table.is_none();
+        let is_table_kept = !self.leads_outside && !is_before(odd_by_table, limit);
+        let last = if is_all_read { usize::MAX } else { limit };
+        Reading {
+            instructions: Shown::by(true, is_read),
+            cases: Shown::by(is_read && has_case, is_all_read),
+            table_jumps: Shown::by(is_read && self.has_table_jump, is_table_kept),
+            stack: Shown::by(is_read, !is_before(self.first_odd_stack, last)),
+            left_to_link: if is_all_read { self.left_to_link } else { 0 },
+            is_lengthened: is_read && self.is_lengthened,
+        }
+    }
+}
+
+/// There is such a place, and it is before this one.
+fn is_before(place: Option<usize>, limit: usize) -> bool {
+    match place {
+        Some(place) => place < limit,
+        None => false,
     }
 }

@@ -1,0 +1,727 @@
+"""Good files: hosts and libraries as compilers write them, made at random in many styles. Nothing of them is damaged, and all that
+docs/FORMAT.md allows or says is ignored may be there. The instructions are written from their names, by the tables of a later and
+of an earlier release, apart from the table of crates/ps_pcode."""
+import dataclasses
+import random
+import typing
+
+BLOCK = 512
+LINKED, HOSTSEG, UNITSEG, SEPRTSEG = 0, 1, 3, 4
+UNITREF, PUBLREF, PRIVREF, PUBLDEF, CONSTDEF = 1, 3, 4, 7, 8
+
+# What opcodes are called in both releases, and in one of them.
+OPCODES = """80 ABI 81 ABR 82 ADI 83 ADR 84 LAND 85 DIF 86 DVI 87 DVR 88 CHK 89 FLO 8A FLT 8B INN 8C INT 8D LOR 8E MODI 8F MPI 90 MPR
+91 NGI 92 NGR 93 LNOT 94 SRS 95 SBI 96 SBR 97 SGS 98 SQI 99 SQR 9A STO 9B IXS 9C UNI 9E CSP 9F LDCN A0 ADJ A1 FJP A2 INC A3 IND
+A4 IXA A5 LAO A6 LCA A8 MOV AA SAS AB SRO AC XJP AD RNP AE CIP AF EQU B0 GEQ B1 GRT B2 LDA B3 LDC B4 LEQ B5 LES B6 LOD B7 NEQ B8 STR
+B9 UJP BA LDP BB STP BC LDM BD STM BE LDB BF STB C0 IXP C1 RBP C2 CBP C3 EQUI C4 GEQI C5 GRTI C6 LLA C7 LDCI C8 LEQI C9 LESI CA LDL
+CB NEQI CC STL CD CXP CE CLP CF CGP D3 EFJ D4 NFJ D5 BPT D6 XIT D7 NOP"""
+LATER = "9D LDE A7 LAE A9 LDO D0 LPA D1 STE"
+EARLIER = "9D S2P A7 LDO A9 MVB D0 S1P D1 IXB D2 BYT"
+SLDL, SLDO, SIND = 0xD8, 0xE8, 0xF8
+REALS, STRINGS, BOOLEANS, BYTES, WORDS = 2, 4, 6, 10, 12
+IDLE_COMPARISON = [(BOOLEANS, 0), (STRINGS, 0), (BYTES, 1), (WORDS, 1)]
+
+
+def opcodes(text):
+    words = text.split()
+    return {name: int(code, 16) for code, name in zip(words[::2], words[1::2])}
+
+
+RELEASES = {"later": {**opcodes(OPCODES), **opcodes(LATER)}, "earlier": {**opcodes(OPCODES), **opcodes(EARLIER)}}
+
+
+@dataclasses.dataclass
+class Style:
+    """What a compiler does in its own way."""
+
+    name: str
+    release: str = "later"
+    order: str = "little"
+    exits: bool = False  # EXIT of a procedure of a unit: its segment is a constant that a link fills in
+    strings: bytes = b"ABCDEFGHIJKLMNOPQRSTUVWXYZ abcdefghijklmnopqrstuvwxyz0123456789.,:;-+*/()"
+    long: bool = False  # operands take two bytes everywhere
+    short: bool = True  # variables and constants have instructions of one byte
+    rows: bool = False  # rows of constants
+    returns: bool = False  # a return in the middle
+    held: bool = False  # words are left on the evaluation stack over jumps
+    cleared: bool = True  # what follows the code and the end mark in a block is zeros
+    old_records: bool = False  # records of another segment follow the end mark
+    old_mark: bool = False  # the end mark has a name, and words where it has no value
+    tail: typing.Callable = lambda random, slots: {}  # what the tail of block 0 has
+    assembled: bool = False  # assembled entries beside the units
+    empty_unit: bool = False  # a unit of four zeros
+    definitions: int = 0  # so many more definitions
+    text: bool = False  # the text of interfaces
+    in_place: bool = False  # units in the host
+    small: bool = False  # names in small letters
+    other_names: bool = False  # names that are no identifiers
+    host_refs: bool = False  # UNITREF records in the host
+    tables: bool = False  # each jump goes by the jump table
+    padding: int = 0  # the byte that makes a length even
+
+
+# Procedures ----------------------------------------------------------------------------------------------------------
+
+
+class Procedure:
+    """The statements of a procedure, as parts: bytes, references, labels, jumps and cases."""
+
+    def __init__(self, source, style, number, calls, names):
+        self.source, self.style, self.number, self.calls, self.names = source, style, number, calls, names
+        self.codes, self.parts, self.labels = RELEASES[style.release], [], 0
+        self.locals, self.parameters = source.randrange(4, 24), source.randrange(0, 4)
+        self.level = 1
+
+    # Instructions
+
+    def op(self, name, *operands):
+        self.parts.append(("bytes", bytes([self.codes[name], *operands])))
+
+    def big(self, name, value, *before):
+        long = self.style.long or value > 127
+        self.op(name, *before, *([128 + value // 256, value % 256] if long else [value]))
+
+    def label(self):
+        self.labels += 1
+        return self.labels
+
+    def put(self, label):
+        self.parts.append(("label", label))
+
+    def jump(self, name, label):
+        self.parts.append(("jump", self.codes[name], label))
+
+    def constant(self, value):
+        if value < 0:
+            self.constant(-value)
+            self.op("NGI")
+        elif value < 128:
+            self.parts.append(("bytes", bytes([value])))
+        else:
+            self.op("LDCI", *value.to_bytes(2, self.style.order))
+
+    def number_of_segment(self, name, before, *after):
+        self.parts.append(("segment", bytes(before), name, bytes(after)))
+
+    def variable(self, name):
+        """An instruction for a variable of the program: of a unit, a link fills in its operand."""
+        if self.names["publics"] or self.names["privates"]:
+            kind = self.source.choice([kind for kind in ("publics", "privates") if self.names[kind]])
+            words = self.names[kind]
+            which = self.source.choice(list(words))
+            self.parts.append(("variable", self.codes[name], kind, which, self.source.randrange(words[which])))
+        elif name == "LDO" and self.style.short and self.source.random() < 0.7:
+            self.parts.append(("bytes", bytes([SLDO + self.source.randrange(16)])))
+        else:
+            self.big(name, self.source.randrange(1, 300))
+
+    def local(self):
+        index = self.source.randrange(1, self.locals + self.parameters + 1)
+        if index <= 16 and self.style.short:
+            self.parts.append(("bytes", bytes([SLDL + index - 1])))
+        else:
+            self.big("LDL", index)
+
+    # Expressions: each puts a word on the evaluation stack
+
+    def address(self):
+        form = self.source.randrange(5)
+        if form == 0:
+            self.variable("LAO")
+        elif form == 1 and self.level > 1:
+            self.big("LDA", self.source.randrange(1, 9), 1)
+        elif form == 2:
+            self.address()
+            self.big("INC", self.source.randrange(1, 200))
+        elif form == 3:
+            self.address()
+            self.word(1)
+            self.big("IXA", self.source.randrange(1, 30))
+        else:
+            self.big("LLA", self.source.randrange(1, self.locals + 1))
+
+    def text(self, longest=30):
+        return bytes(self.source.choice(self.style.strings) for _ in range(self.source.randrange(1, longest)))
+
+    def word(self, depth=0):
+        form = self.source.randrange(22 if depth < 3 else 6)
+        if form < 2:
+            self.constant(self.source.choice([0, 1, 1, 2, 3, 10, 13, 32, 80, 127, 128, 255, 1000, -1, -5]))
+        elif form < 4:
+            self.local()
+        elif form < 6:
+            self.variable("LDO")
+        elif form < 11:
+            self.word(depth + 1)
+            self.word(depth + 1)
+            self.op(self.source.choice(["ADI", "SBI", "MPI", "DVI", "MODI"]))
+        elif form == 11:
+            self.word(depth + 1)
+            self.op(self.source.choice(["ABI", "NGI", "SQI", "LNOT"]))
+        elif form == 12:
+            self.address()
+            if self.style.short:
+                self.parts.append(("bytes", bytes([SIND + self.source.randrange(8)])))
+            else:
+                self.big("IND", self.source.randrange(20))
+        elif form == 13:
+            self.address()
+            self.big("IND", self.source.randrange(8, 90))
+        elif form == 14:
+            self.address()
+            self.word(depth + 1)
+            self.op("LDB")
+        elif form == 15:
+            self.word(depth + 1)
+            self.constant(0)
+            self.constant(79)
+            self.op("CHK")
+        elif form == 16:
+            self.address()
+            self.word(depth + 1)
+            self.op("IXP", 8, 2)
+            self.op("LDP")
+        elif form == 17:
+            self.function(depth + 1)
+        elif form == 18:
+            self.real()
+            self.op("CSP", self.source.choice([22, 23]))  # TRUNC and ROUND
+        elif form == 19:
+            self.word(depth + 1)
+            self.words(2)
+            self.constant(2)
+            self.op("INN")
+        elif form == 20 and self.level > 1:
+            self.big("LOD", self.source.randrange(1, 9), 1)
+        else:
+            self.condition(depth + 1)
+
+    def words(self, count):
+        self.parts.append(("constant", self.codes["LDC"], [self.source.randrange(1 << 16) for _ in range(count)]))
+
+    def real(self):
+        self.words(2)
+        if self.source.random() < 0.5:
+            self.word(2)
+            self.op("FLT")
+            self.op(self.source.choice(["ADR", "SBR", "MPR", "DVR"]))
+        self.op(self.source.choice(["ABR", "NGR", "SQR"]))
+
+    def condition(self, depth=0):
+        form = self.source.randrange(6)
+        if form < 3:
+            self.word(depth + 1)
+            self.word(depth + 1)
+            self.op(self.source.choice(["EQUI", "NEQI", "LEQI", "LESI", "GEQI", "GRTI"]))
+        elif form == 3:
+            self.real()
+            self.real()
+            self.op(self.source.choice(["EQU", "LES"]), REALS)
+        elif form == 4:
+            kind, length = self.source.choice(IDLE_COMPARISON)
+            self.address()
+            self.address()
+            name = self.source.choice(["EQU", "NEQ"])
+            self.big(name, self.source.randrange(2, 200), kind) if length else self.op(name, kind)
+        else:
+            self.word(depth + 1)
+            self.word(depth + 1)
+            self.op(self.source.choice(["LAND", "LOR"]))
+
+    def function(self, depth):
+        self.constant(0)
+        self.constant(0)
+        self.word(depth)
+        self.op(self.source.choice(["CLP", "CGP"]), self.source.randrange(1, self.calls + 1))
+
+    # Statements: each leaves the evaluation stack as it was
+
+    def statement(self, depth=0):
+        choices = [self.assign] * 4 + [self.store] * 2 + [self.call] * 2 + [self.write, self.string, self.move, self.set_byte]
+        choices += [self.choice, self.loop, self.repeat, self.count] if depth < 3 else []
+        choices += [self.case, self.exit, self.row, self.leave, *[self.hold] * 4] if depth < 2 else []
+        self.source.choice(choices)(depth)
+
+    def statements(self, depth):
+        for _ in range(self.source.randrange(1, 4)):
+            self.statement(depth + 1)
+
+    def assign(self, _):
+        self.word()
+        if self.source.random() < 0.6:
+            self.big("STL", self.source.randrange(1, self.locals + 1))
+        elif self.level > 1 and self.source.random() < 0.5:
+            self.big("STR", self.source.randrange(1, 9), 1)
+        else:
+            self.variable("SRO")
+
+    def store(self, _):
+        self.address()
+        self.word()
+        self.op("STO")
+
+    def call(self, _):
+        if self.names["units"] and self.source.random() < 0.5:
+            self.number_of_segment(self.source.choice(self.names["units"]), [self.codes["CXP"]], self.source.randrange(1, 9))
+            return
+        for _ in range(self.source.randrange(3)):
+            self.word(1)
+        self.op(self.source.choice(["CLP", "CGP", "CIP"]), self.source.randrange(1, self.calls + 1))
+
+    def write(self, _):
+        self.variable("LAO")
+        self.op("LCA", len(text := self.text()), *text)
+        self.constant(0)
+        self.op("CXP", 0, 19)
+        self.op("CSP", 0)
+
+    def string(self, _):
+        self.address()
+        if self.style.release == "later" and self.source.random() < 0.3:
+            self.op("LPA", len(text := self.text()), *text)
+            self.big("MOV", self.source.randrange(1, 40))
+        elif self.style.release == "earlier" and self.source.random() < 0.3:
+            self.op("LCA", len(text := self.text()), *text)
+            self.op("S1P")
+            self.big("MVB", self.source.randrange(1, 40))
+        else:
+            self.op("LCA", len(text := self.text()), *text)
+            self.op("SAS", self.source.randrange(80, 255))
+
+    def move(self, _):
+        self.address()
+        self.address()
+        self.big("MOV", self.source.randrange(1, 300))
+
+    def set_byte(self, _):
+        self.address()
+        if self.source.random() < 0.5:
+            self.word(1)
+            self.word(1)
+            self.op("STB")
+        else:
+            self.address()
+            self.op("LDM", words := self.source.randrange(1, 5))
+            self.op("STM", words)
+
+    def choice(self, depth):
+        other, end = self.label(), self.label()
+        self.condition()
+        self.jump("FJP", other)
+        self.statements(depth)
+        if self.source.random() < 0.4:
+            self.jump("UJP", end)
+            self.put(other)
+            self.statements(depth)
+        else:
+            self.put(other)
+        self.put(end)
+
+    def loop(self, depth):
+        start, end = self.label(), self.label()
+        self.put(start)
+        if self.source.random() < 0.3:
+            self.word()
+            self.word()
+            self.jump(self.source.choice(["EFJ", "NFJ"]), end)
+        else:
+            self.condition()
+            self.jump("FJP", end)
+        self.statements(depth)
+        self.jump("UJP", start)
+        self.put(end)
+
+    def repeat(self, depth):
+        start = self.label()
+        self.put(start)
+        self.statements(depth)
+        self.condition()
+        self.jump("FJP", start)
+
+    def count(self, depth):
+        index, start, end = self.source.randrange(1, self.locals + 1), self.label(), self.label()
+        self.word()
+        self.big("STL", index)
+        self.put(start)
+        self.big("LDL", index)
+        self.word()
+        self.op("LEQI")
+        self.jump("FJP", end)
+        self.statements(depth)
+        self.big("LDL", index)
+        self.constant(1)
+        self.op("ADI")
+        self.big("STL", index)
+        self.jump("UJP", start)
+        self.put(end)
+
+    def case(self, depth):
+        table, end = self.label(), self.label()
+        low = self.source.choice([0, 1, 5, 65, -2])
+        labels = [self.label() for _ in range(self.source.randrange(2, 6))]
+        self.word()
+        self.jump("UJP", table)
+        for label in labels:
+            self.put(label)
+            self.statements(depth)
+            self.jump("UJP", end)
+        self.put(table)
+        targets = [self.source.choice([*labels, *labels]) for _ in range(self.source.randrange(len(labels), 12))]
+        self.parts.append(("case", self.codes["XJP"], low, self.codes["UJP"], end, targets))
+        self.put(end)
+
+    def exit(self, _):
+        if self.style.exits and self.names["own"]:
+            self.number_of_segment(self.names["own"], [])
+            self.constant(self.source.randrange(1, self.calls + 1))
+            self.op("CSP", 4)
+
+    def row(self, _):
+        if self.style.rows and self.source.random() < 0.5:
+            for _ in range(count := self.source.randrange(33, 60)):
+                self.constant(self.source.randrange(100))
+            self.op("CSP", 50 + count % 20)
+
+    def leave(self, _):
+        if self.style.returns and self.source.random() < 0.5:
+            end = self.label()
+            self.condition()
+            self.jump("FJP", end)
+            self.op("RNP", 0)
+            self.put(end)
+
+    def hold(self, _):
+        """A value that is chosen: both ways leave a word on the evaluation stack."""
+        if self.style.held:
+            other, end = self.label(), self.label()
+            self.condition()
+            self.jump("FJP", other)
+            self.word(1)
+            self.jump("UJP", end)
+            self.put(other)
+            self.word(1)
+            self.put(end)
+            self.big("STL", self.source.randrange(1, self.locals + 1))
+
+    # Its bytes
+
+    def size(self, part, place):
+        kind, *rest = part
+        if kind == "bytes":
+            return len(rest[0])
+        if kind == "segment":
+            return len(rest[0]) + 1 + len(rest[2])
+        if kind == "constant":
+            return 2 + place % 2 + 2 * len(rest[1])
+        if kind == "case":
+            return 1 + (1 - place % 2) + 6 + 2 * len(rest[4])
+        return {"label": 0, "jump": 2, "variable": 3}[kind]
+
+    def made(self, start, out):
+        """Its bytes from an even place on, with its table, and the table's place; what a link fills in is added to `out`."""
+        places, place, labels = [], start, {}
+        for part in self.parts:
+            places.append(place)
+            if part[0] == "label":
+                labels[part[1]] = place
+            place += self.size(part, place)
+        leave, end = places[-1], place + place % 2
+        table = []  # the targets of its jump table
+
+        def operand(target, after):
+            distance = labels[target] - after
+            if 0 <= distance < 128 and not self.style.tables:
+                return distance
+            if labels[target] not in table:
+                table.append(labels[target])
+            return 246 - 2 * table.index(labels[target])
+
+        word = lambda value: (value % 65536).to_bytes(2, self.style.order)
+        code = b""
+        for part, place in zip(self.parts, places):
+            kind, *rest = part
+            if kind == "bytes":
+                code += rest[0]
+            elif kind == "segment":
+                before, name, after = rest
+                out.append((UNITREF, name, place + len(before)))
+                code += before + b"\0" + after
+            elif kind == "variable":
+                opcode, names, name, displacement = rest
+                out.append(({"publics": PUBLREF, "privates": PRIVREF}[names], name, place + 1))
+                code += bytes([opcode, 128 + displacement // 256, displacement % 256])
+            elif kind == "constant":
+                code += bytes([rest[0], len(rest[1])]) + bytes(place % 2) + b"".join(map(word, rest[1]))
+            elif kind == "jump":
+                code += bytes([rest[0], operand(rest[1], place + 2)])
+            elif kind == "case":
+                opcode, low, jump, other, targets = rest
+                at = place + 1 + (1 - place % 2)
+                code += bytes([opcode]) + bytes(at - place - 1) + word(low) + word(low + len(targets) - 1)
+                code += bytes([jump, operand(other, at + 6)])
+                code += b"".join(word(at + 6 + 2 * k - labels[target]) for k, target in enumerate(targets))
+        code += bytes([self.style.padding]) * (start + len(code) - end and 1)
+        last = start + len(code) + 2 * len(table) + 8
+        words = [last - 10 - 2 * k - target for k, target in reversed(list(enumerate(table)))]
+        words += [2 * self.locals, 2 * self.parameters, last - 4 - leave, last - 2 - start]
+        return code + b"".join(map(word, words)) + bytes([self.number, self.level]), last, len(table)
+
+
+def procedure(source, style, number, calls, names, is_program=False, shortest=4):
+    """A procedure of some hundred bytes; one that is too long for its jump table is made anew."""
+    while True:
+        made = Procedure(source, style, number, calls, names)
+        made.level = source.randrange(1, 4)
+        for _ in range(source.randrange(shortest, 14)):
+            made.statement()
+        if is_program:
+            made.level, made.parameters, made.locals = 0, 2, 400
+        made.op("RBP" if is_program else "RNP", source.choice([0, 0, 1]) * (not is_program))
+        code, _, jumps = made.made(0, [])
+        if len(code) < 1300 and jumps < 50:
+            return made
+
+
+# Segments and files --------------------------------------------------------------------------------------------------
+
+
+@dataclasses.dataclass
+class Segment:
+    name: str
+    kind: int
+    code: bytes = b""
+    records: bytes = b""
+    text: bytes = b""
+
+
+class Maker:
+    """A set of files of one style."""
+
+    def __init__(self, style, source):
+        self.style, self.source = style, source
+        self.names_used = set()
+
+    def word(self, value):
+        return (value % 65536).to_bytes(2, self.style.order)
+
+    def name(self):
+        while True:
+            letters = "ABCDEFGHIJKLMNOPQRSTUVWXYZ"
+            name = self.source.choice(letters) + "".join(self.source.choice(letters + "0123456789") for _ in range(self.source.randrange(2, 8)))
+            if self.style.other_names:
+                name = (name[:3] + self.source.choice(["$", "/", "?", ".", "_"]) + name[4:]).strip()
+            name = name.lower() if self.style.small else name
+            if name not in self.names_used:
+                self.names_used.add(name)
+                return name
+
+    def record(self, name, *words):
+        return name.encode().ljust(8)[:8] + b"".join(map(self.word, [*words, 0, 0, 0, 0][:4]))
+
+    def reference_record(self, kind, name, places, words=0):
+        form = 1 if kind == UNITREF else 2
+        listed = b"".join(map(self.word, places))
+        return self.record(name, kind, form, len(places), words) + listed + bytes(-len(listed) % 16)
+
+    def mark(self, following):
+        if self.style.old_mark:
+            return self.name().encode().ljust(8)[:8] + self.word(0) + self.word(following) + self.source.randbytes(4)
+        return self.source.choice([b" " * 8, bytes(8)]) + self.word(0) + self.word(following) + bytes(4)
+
+    def segment_code(self, number, procedures, program=None):
+        """The code of a segment, and what a link fills in."""
+        code, tables, out = b"", {}, []
+        for one in [*procedures, *([program] if program else [])]:
+            made, tables[one.number], _ = one.made(len(code), out)
+            code += made
+        code += b"".join(self.word(len(code) + 2 * k - tables[n]) for k, n in enumerate(range(len(tables), 0, -1)))
+        return code + bytes([number, len(tables)]), out
+
+    def records_of(self, out, privates):
+        """The reference records of a segment."""
+        found = b""
+        keys = list(dict.fromkeys((kind, name) for kind, name, _ in out))
+        self.source.shuffle(keys)
+        for kind, name in keys:
+            places = [place for other, named, place in out if (other, named) == (kind, name)]
+            if kind == PRIVREF or len(places) < 9 or self.source.random() < 0.5:
+                found += self.reference_record(kind, name, places, privates.get(name, 0))
+            else:  # two records of one name
+                found += self.reference_record(kind, name, places[:8]) + self.reference_record(kind, name, places[8:])
+        return found
+
+    def unit(self, name, publics, units, slot):
+        """A unit that refers to these variables of the host, and to these units."""
+        privates = {self.name(): self.source.randrange(1, 200) for _ in range(self.source.randrange(1, 4))}
+        names = {"publics": publics, "privates": privates, "units": units, "own": name}
+        count = self.source.randrange(9, 14)
+        procedures = [procedure(self.source, self.style, number, count, names) for number in range(1, count + 1)]
+        self.source.shuffle(procedures)
+        code, out = self.segment_code(slot, procedures)
+        return Segment(name, UNITSEG, code, self.records_of(out, privates) + self.mark(0), self.interface() if self.style.text else b"")
+
+    def interface(self):
+        lines = [b"INTERFACE\r", b"\x10\x22PROCEDURE " + self.name().encode() + b";\r"] * self.source.randrange(1, 9)
+        page = b"".join(lines)[:1000]
+        return page.ljust(1024, b"\0")
+
+    def host(self, name, publics, units, slot):
+        """The host program: it defines these variables."""
+        names = {"publics": {}, "privates": {}, "units": units if self.style.host_refs else [], "own": ""}
+        count = self.source.randrange(9, 14)
+        procedures = [procedure(self.source, self.style, number, count, names) for number in range(2, count + 1)]
+        program = procedure(self.source, self.style, 1, count, names, is_program=True)
+        code, out = self.segment_code(slot, procedures, program)
+        values = dict(publics)
+        following = 1 + program.parameters + program.locals
+        records, value = b"", 3
+        for defined, words in values.items():
+            records += self.record(defined, PUBLDEF, value)
+            value += words
+        for _ in range(self.style.definitions):
+            records += self.record(self.name(), *self.source.choice([(PUBLDEF, self.source.randrange(3, following)), (CONSTDEF, self.source.randrange(300))]))
+        return Segment(name, HOSTSEG, code, records + self.records_of(out, {}) + self.mark(following))
+
+    def assembled(self):
+        """An assembled procedure: native code, with long runs of zeros."""
+        native = self.source.randbytes(40) + bytes(self.source.choice([0, 200])) + self.source.randbytes(40)
+        code = native + self.word(0) * 3 + self.word(len(native) + 4) + bytes([0, 1])
+        code += self.word(len(code) - (len(code) - 2)) + bytes([1, 1])
+        kind = self.source.choice([SEPRTSEG, LINKED])
+        return Segment(self.name(), kind, code, self.record(self.name(), 7, 4) + self.mark(0) if kind == SEPRTSEG else b"")
+
+    def filled(self, part):
+        """Whole blocks: the rest of the last has zeros, or what was there before."""
+        rest = -len(part) % BLOCK
+        return part + (bytes(rest) if self.style.cleared else self.source.randbytes(rest))
+
+    def records_filled(self, records):
+        """The blocks of link information, where a compiler may leave records that it wrote before."""
+        if not records:
+            return b""
+        if self.style.old_records:
+            old = b"".join(self.record(self.name(), PUBLDEF, self.source.randrange(300)) for _ in range(32))
+            last = len(records) % BLOCK
+            before = records[-last - BLOCK : -last] if len(records) > BLOCK and last else old
+            return records + before[last:] if last else records
+        return self.filled(records)
+
+    def file(self, slots):
+        """The code file of these segments, by slot."""
+        blocks, entries = b"", {}
+        for slot in self.source.sample(sorted(slots), len(slots)):
+            one, text, address = slots[slot], 0, 0
+            if one.text:
+                text = 1 + len(blocks) // BLOCK
+                blocks += one.text
+            if one.code:
+                address = 1 + len(blocks) // BLOCK
+                blocks += self.filled(one.code) + self.records_filled(one.records)
+            entries[slot] = (address, len(one.code), text)
+        none = Segment("", LINKED)
+        pairs = b"".join(self.word(value) for slot in range(16) for value in entries.get(slot, (0, 0, 0))[:2])
+        names = b"".join(slots.get(slot, none).name.encode().ljust(8)[:8] for slot in range(16))
+        kinds = b"".join(self.word(slots.get(slot, none).kind) for slot in range(16))
+        texts = b"".join(self.word(entries.get(slot, (0, 0, 0))[2]) for slot in range(16))
+        tail = bytearray(256)
+        for place, part in self.style.tail(self.source, {slot: one.kind for slot, one in slots.items() if one.code}).items():
+            part = part if isinstance(part, bytes) else b"".join(map(self.word, part))
+            tail[place - 256 : place - 256 + len(part)] = part
+        return pairs + names + kinds + texts + bytes(tail) + blocks
+
+    def files(self):
+        """A host and its libraries."""
+        publics = {self.name(): self.source.randrange(1, 20) for _ in range(self.source.randrange(1, 6))}
+        wanted = [self.name() for _ in range(self.source.randrange(1, 4))]
+        added = [self.name() for _ in range(self.source.randrange(2))]
+        slots = dict(zip([*wanted, *added], self.source.sample(range(7, 16), len(wanted + added))))
+        at = self.source.choice([1, 1, 1, 2, 6])
+        host = {at: self.host(self.name(), publics, wanted, at)}
+        libraries = [{} for _ in range(self.source.randrange(1, 3))]
+        for index, name in enumerate([*wanted, *added]):
+            uses = added if index < len(wanted) else []
+            in_host = self.style.in_place and index == 0
+            library = self.source.choice(libraries)
+            free = [slot for slot in range(1, 16) if slot not in library]
+            slot = slots[name] if in_host else self.source.choice(free)
+            unit = self.unit(name, publics, [*uses, name] if self.source.random() < 0.5 else uses, slot)
+            if name in wanted:
+                host[slots[name]] = unit if in_host else Segment(name, UNITSEG)
+            if not in_host:
+                library[slot] = unit
+        for library in libraries:
+            self.add_others(library)
+        return self.file(host), [self.file(library) for library in libraries]
+
+    def add_others(self, library):
+        """Entries that no link takes."""
+        free = [slot for slot in range(1, 16) if slot not in library]
+        if self.style.assembled:
+            for slot in self.source.sample(free, 2):
+                library[slot] = self.assembled()
+        if self.style.empty_unit:
+            slot = self.source.choice([slot for slot in free if slot not in library])
+            library[slot] = Segment(self.name(), UNITSEG, bytes(4), self.mark(0))
+        if not library:
+            library[1] = self.unit(self.name(), {self.name(): 3}, [], 1)
+
+
+# Styles --------------------------------------------------------------------------------------------------------------
+
+COMMENT = b"(c) 1979 Regents of the University of California. All rights reserved."
+
+
+def told(machine, version):
+    """What II.1 has of each slot: its number, a machine type and a version."""
+    kinds = {SEPRTSEG: 7}
+    return lambda source, slots: {256: [slot + 256 * (kinds.get(slots[slot], machine) + 32 * version) if slot in slots else 0 for slot in range(16)]}
+
+
+def text_at(*places):
+    return lambda source, slots: {place: COMMENT[: min(len(COMMENT), 40 if place < 432 else 80)] for place in places}
+
+
+def styles():
+    later = [
+        Style("plain"),
+        Style("plain, for a big-endian machine", order="big"),
+        Style("EXIT of procedures of units", exits=True),
+        Style("tabs and letters above 127 in strings", strings=bytes([9, 10, 12, 13, 27, *range(32, 127), *range(160, 256)])),
+        Style("a comment at 432", tail=text_at(432)),
+        Style("text at 256", tail=text_at(256)),
+        Style("text at 296 and at 432", tail=text_at(296, 432)),
+        Style("numbers, machines and versions of slots", tail=told(2, 1)),
+        Style("the same for a big-endian machine", order="big", tail=told(1, 2)),
+        Style("the same with assembled entries", tail=told(2, 2), assembled=True),
+        Style("blocks that are not cleared", cleared=False),
+        Style("old records after the end mark", old_records=True),
+        Style("words and a name in the end mark", old_mark=True),
+        Style("more than 31 definitions, and a block that is not cleared", old_records=True, definitions=40),
+        Style("assembled entries", assembled=True),
+        Style("assembled entries, and blocks that are not cleared", assembled=True, cleared=False),
+        Style("an empty unit", empty_unit=True),
+        Style("text of interfaces", text=True),
+        Style("units in the host", in_place=True),
+        Style("names in small letters", small=True),
+        Style("names that are no identifiers", other_names=True),
+        Style("UNITREF records in the host", host_refs=True),
+        Style("operands of two bytes everywhere", long=True),
+        Style("no instructions of one byte", short=False),
+        Style("rows of constants", rows=True),
+        Style("returns in the middle", returns=True),
+        Style("values over jumps", held=True),
+        Style("all jumps by the table", tables=True),
+        Style("NOP as padding", padding=0xD7),
+        Style("all at once", exits=True, cleared=False, old_mark=True, rows=True, returns=True, held=True, assembled=True, empty_unit=True, in_place=True, host_refs=True, definitions=35, tail=text_at(256, 432)),
+    ]  # fmt: skip
+    return later + [dataclasses.replace(style, name=f"{style.name}, earlier release", release="earlier") for style in later]
+
+
+STYLES = styles()
+
+
+def sets(count):
+    """So many sets of files: of each the style, the host and the libraries."""
+    for number in range(count):
+        style = STYLES[number % len(STYLES)]
+        yield (style.name, *Maker(style, random.Random(number)).files())

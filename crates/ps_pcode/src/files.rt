@@ -1,0 +1,195 @@
+//! What the procedures of a file show of its P-code, and the one that breaks a rule which the others
+//! keep: damage hits one procedure, and a compiler's habit many.
+use crate::bodies::Body;
+use crate::rules::{Reading, Rule, Shown};
+use crate::tables::procedures_of;
+use ps_codefile::Dict;
+use ps_codefile::dictionary_layout::SLOTS;
+use ps_words::Order;
+
+/// So many long procedures that keep to a rule are no chance.
+const MANY: usize = 8;
+
+/// Procedures from this length on say what a compiler writes.
+const LONG: usize = 32;
+
+/// Of so many procedures that are read, one may be damaged.
+const FEW: usize = 4;
+
+/// A procedure, the only one of its file, that breaks a rule which the others keep.
+#[derive(Clone, Copy)]
+pub struct Misfit {
+    /// Its number, from 1.
+    pub procedure: usize,
+    pub rule: Rule,
+}
+
+/// How many procedures of a file keep to a rule, and how many do not.
+#[derive(Clone, Copy)]
+struct Tally {
+    /// The long ones that do not break it.
+    kept: usize,
+    /// One of the file shows that it keeps to it.
+    is_shown: bool,
+    broken: usize,
+    /// The slot and the number of the last that breaks it.
+    last: Option<(u8, usize)>,
+}
+
+impl Tally {
+    const NONE: Tally = Tally {
+        kept: 0,
+        is_shown: false,
+        broken: 0,
+        last: None,
+    };
+
+    /// With a procedure, where it is, and what it shows.
+    fn with(self, place: (u8, usize), is_long: bool, shown: Shown) -> Tally {
+        match shown {
+            Shown::Broken => Tally {
+                broken: self.broken.saturating_add(1),
+                last: Some(place),
+                ..self
+            },
+            Shown::Kept | Shown::Nothing => Tally {
+                kept: self.kept.saturating_add(usize::from(is_long)),
+                is_shown: self.is_shown || matches!(shown, Shown::Kept),
+                ..self
+            },
+        }
+    }
+
+    /// The number of the only procedure that breaks the rule, where it is in this slot and the others
+    /// keep to it.
+    fn misfit(self, slot: u8) -> Option<usize> {
+        let (place, procedure) = self.last?;
+        if place == slot && self.broken == 1 && MANY <= self.kept && self.is_shown {
+            Some(procedure)
+        } else {
+            None
+        }
+    }
+}
+
+/// What the procedures of a file show of its P-code.
+///
+/// Source: this project's profile.
+#[derive(Clone, Copy)]
+pub struct FileCode {
+    instructions: Tally,
+    cases: Tally,
+    table_jumps: Tally,
+    stack: Tally,
+    /// How many operands a compiler has left to a link, by slot.
+    left_to_link: [usize; 16],
+    /// Its compiler writes other operands longer than need be too.
+    is_lengthened: bool,
+}
+
+impl FileCode {
+    const NONE: FileCode = FileCode {
+        instructions: Tally::NONE,
+        cases: Tally::NONE,
+        table_jumps: Tally::NONE,
+        stack: Tally::NONE,
+        left_to_link: [0; 16],
+        is_lengthened: false,
+    };
+
+    /// That of a whole code file; `order` is that of its words where its kinds show none. A code of
+    /// which the procedure dictionary is not whole, or a procedure is native, shows nothing.
+    ///
+    /// Source: this project's profile.
+    pub fn of(order: Order, file: &[u8]) -> FileCode {
+        let mut found = FileCode::NONE;
+        if let Ok(dict) = Dict::read_beside(file, order) {
+            for slot in 0..SLOTS {
+                if let Ok(code) = dict.code(slot) {
+                    found.add_code(dict.order(), slot, code);
+                }
+            }
+        }
+        found
+    }
+
+    /// Adds the procedures of a code, as far as their bytes together are not more than it has.
+    fn add_code(&mut self, order: Order, slot: u8, code: &[u8]) {
+        let Some(procedures) = procedures_of(order, code) else {
+            return;
+        };
+        let mut left = code.len();
+        for procedure in 1..=procedures.count() {
+            if let Some(table) = procedures.table(procedure) {
+                if let Some(body) = Body::before(order, code, table) {
+                    if left < body.len() {
+                        return;
+                    }
+                    left = left.saturating_sub(body.len());
+                    self.add(slot, procedure, body);
+                }
+            }
+        }
+    }
+
+    /// Adds a procedure.
+    fn add(&mut self, slot: u8, procedure: usize, body: Body<'_>) {
+        let reading = body.reading();
+        let (place, is_long) = ((slot, procedure), LONG <= body.len());
+        self.instructions = self.instructions.with(place, is_long, reading.instructions);
+        if !reading.instructions.is_broken() {
+            self.cases = self.cases.with(place, is_long, reading.cases);
+            self.table_jumps = self.table_jumps.with(place, is_long, reading.table_jumps);
+            self.stack = self.stack.with(place, is_long, reading.stack);
+        }
+        self.is_lengthened = self.is_lengthened || reading.is_lengthened;
+        if let Some(operands) = self.left_to_link.get_mut(usize::from(slot)) {
+            *operands = operands.saturating_add(reading.left_to_link);
+        }
+    }
+
+    /// The procedure of the code of this slot that alone breaks a rule which the others of the file
+    /// keep: at least eight long ones, of which one has what the rule is about. Of several, that of
+    /// the first rule.
+    ///
+    /// Source: this project's profile.
+    pub fn misfit(&self, slot: u8) -> Option<Misfit> {
+        for rule in Rule::ALL {
+            if let Some(procedure) = self.tally(rule).misfit(slot) {
+                return Some(Misfit { procedure, rule });
+            }
+        }
+        None
+    }
+
+    fn tally(&self, rule: Rule) -> Tally {
+        match rule {
+            Rule::Instructions => self.instructions,
+            Rule::Cases => self.cases,
+            Rule::TableJumps => self.table_jumps,
+            Rule::Stack => self.stack,
+        }
+    }
+
+    /// The codes are P-code, as far as the instructions of most procedures say, of which at least
+    /// eight are long.
+    ///
+    /// Source: this project's profile.
+    pub fn is_shown(&self) -> bool {
+        let Tally { kept, broken, .. } = self.instructions;
+        MANY <= kept && broken <= kept / FEW
+    }
+
+    /// How many operands of the code of this slot a compiler has left to a link, as far as its
+    /// instructions are read; none where the file shows no P-code, or other operands are longer than
+    /// need be too.
+    ///
+    /// Source: this project's profile.
+    pub fn operands_left_to_link(&self, slot: u8) -> Option<usize> {
+        if self.is_shown() && !self.is_lengthened {
+            self.left_to_link.get(usize::from(slot)).copied()
+        } else {
+            None
+        }
+    }
+}
