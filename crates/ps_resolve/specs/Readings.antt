@@ -161,3 +161,12 @@ opened_host host libs =
       | Err why ↦ Err why
       | Ok opened ↦ Ok (record { order = opened.order; file = opened.file; libs = libs })
     ]
+
+-- the segments that were read of it without a fault, by slot; none where it cannot be opened
+abbrev pub segments_in : Result HostFiles Reason → List Segment
+segments_in (Err why) = []
+segments_in (Ok host) = all_read host.order host.file (opened_files host.order host.libs)
+
+-- the segments that were read of a host file and its libraries without a fault, by slot
+abbrev pub segments_read : List ℕ → List (List ℕ) → List Segment
+segments_read host libs = segments_in (opened_host host libs)

@@ -187,7 +187,7 @@ impl<A: Allocator + Copy> Allotment<A> {
     ///
     /// Source: this project's profile.
     pub fn build(alloc: A, next: u16, segments: &[Linkage]) -> Result<Self, Stop>
-        requires { AscendFrom 0 (map (λ s. s.0.slot) (map owner_of_linkage segments.now)) }
+        requires { AscendFrom 0 (map (λ s. s.slot) segments.now) }
         ensures names { IfOk result (λ _. HaveDistinctPrivates
             (map owner_of_linkage segments.now)) }
         ensures room { IfOk result (λ _. HaveRoom next (map owner_of_linkage segments.now)) }

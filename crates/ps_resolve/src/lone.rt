@@ -1,7 +1,7 @@
-//! A unit by itself: what refuses it in every link.
+//! A unit by itself: what refuses it in a link with a host that would define each name.
 ghost use Rattle.std.specs.Prelude.{◌≡◌, ◌<◌, IfOk, IfErr, OnOk, None, true, ⊤};
 ghost use Rattle.ps_codefile.specs.Roles.{is_unit as is_unit_spec};
-ghost use Rattle.ps_resolve.specs.LoneUnits.{lone_fault as lone_fault_spec, placing_fault as placing_fault_spec};
+ghost use Rattle.ps_resolve.specs.LoneUnits.{Finds, IsSoundUnit, lone_fault as lone_fault_spec, placing_fault as placing_fault_spec};
 ghost use Rattle.ps_resolve.specs.Sources.{opened_files};
 ghost use Rattle.ps_resolve.specs.Stops.{IsStop};
 ghost use Rattle.ps_resolve.specs.KnownSegments.{IsSound};
@@ -40,6 +40,17 @@ fn place_unit<A: Allocator + Copy>(
     Ok(())
 }
 
+/// What was found by placing a unit: its fault, or none; or that memory ran out.
+fn found(placed: Result<(), Stop>) -> Result<Option<Fault>, AllocError>
+    ensures { Finds placed result }
+{
+    match placed {
+        Ok(()) => Ok(None),
+        Err(Stop::Refused(fault)) => Ok(Some(fault)),
+        Err(Stop::Memory) => Err(AllocError),
+    }
+}
+
 /// The first fault of the privates and references of a segment, where it is a unit's.
 fn placing_fault<A: Allocator + Copy>(
     alloc: A,
@@ -47,15 +58,12 @@ fn placing_fault<A: Allocator + Copy>(
     segment: &Segment<'_>,
 ) -> Result<Option<Fault>, AllocError>
     requires { IsSound order segment.now }
-    ensures { IfOk result (λ fault. fault ≡ placing_fault_spec order segment.now) }
+    ensures fault { IfOk result (λ fault. fault ≡ placing_fault_spec order segment.now) }
+    ensures memory { IfErr result (λ _. is_unit_spec segment.now.role ≡ true) }
 {
     match segment.records() {
         Some(records) if segment.role().is_unit() => {
-            match place_unit(alloc, order, segment, records) {
-                Ok(()) => Ok(None),
-                Err(Stop::Refused(fault)) => Ok(Some(fault)),
-                Err(Stop::Memory) => Err(AllocError),
-            }
+            found(place_unit(alloc, order, segment, records))
         }
         Some(_) | None => Ok(None),
     }
@@ -69,7 +77,8 @@ fn placing_fault<A: Allocator + Copy>(
 /// Such a host defines each name as a public with the base offset 1, has each unit that is named,
 /// and its own variables end before 1. So a unit that has a fault here is refused by every host whose
 /// base offsets are 1 and more, and one that has none may be refused for what a host defines. A
-/// wanted unit is looked for in the libraries that were read beside the file.
+/// wanted unit is looked for in the libraries that were read beside the file. Returns an error only
+/// where memory was refused, which is requested only for a unit that was read without a fault.
 /// Source: this project's profile.
 pub fn lone_fault<A: Allocator + Copy>(
     alloc: A,
@@ -77,7 +86,9 @@ pub fn lone_fault<A: Allocator + Copy>(
     slot: u8,
 ) -> Result<Option<Fault>, AllocError>
     requires { slot < 16 }
-    ensures { IfOk result (λ fault. fault ≡ lone_fault_spec reading.now.order reading.now.file
+    ensures fault { IfOk result (λ fault. fault ≡ lone_fault_spec reading.now.order
+        reading.now.file (opened_files reading.now.order reading.now.libs) slot) }
+    ensures memory { IfErr result (λ _. IsSoundUnit reading.now.order reading.now.file
         (opened_files reading.now.order reading.now.libs) slot) }
 {
     match reading.segment(slot) {

@@ -8,7 +8,7 @@ ghost use Rattle.ps_resolve.specs.Added.{request_of, empty_slots as empty_slots_
 ghost use Rattle.ps_resolve.specs.Faults.{slots_fault as slots_fault_spec, no_host_fault as no_host_fault_spec, libraries_fault as libraries_fault_spec};
 ghost use Rattle.ps_resolve.specs.AllFaults.{reading_fault};
 ghost use Rattle.ps_resolve.specs.OfLink.{AreOfLink};
-ghost use Rattle.ps_resolve.specs.Readings.{all_read, host_reading_fault, opened_host, own_reading_fault, queued_request as queued_request_spec, read_requests, read_rounds, read_segments, named_entry, slot_after, slot_entry, slot_fault, slot_reading, slot_request, wanted_request};
+ghost use Rattle.ps_resolve.specs.Readings.{all_read, host_reading_fault, opened_host, own_reading_fault, queued_request as queued_request_spec, read_requests, read_rounds, read_segments, segments_read, named_entry, slot_after, slot_entry, slot_fault, slot_reading, slot_request, wanted_request};
 ghost use Rattle.ps_resolve.specs.KnownSegments.{IsRead, IsSound, is_in_slot};
 
 pub(crate) mod added;
@@ -467,9 +467,10 @@ impl<'a> Reading<'a> {
     }
 
     /// The segments that have no fault, by slot ascending: those of the link, where reading has no
-    /// fault.
+    /// fault, and none where the host cannot be opened.
     /// Source: this project's profile.
     pub fn segments(&self) -> &[Segment<'a>]
+        ensures read { result.now ≡ segments_read self.now.host self.now.libs }
         ensures all { reading_fault self.now.host self.now.libs ≡ None → result.now
             ≡ all_segments (order_of self.now.host) self.now.host self.now.libs }
         ensures known { reading_fault self.now.host self.now.libs ≡ None
