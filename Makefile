@@ -92,7 +92,7 @@ install-built: install-built-program
 	ln -sf libpslink.so.1 $(DESTDIR)$(LIBDIR)/libpslink.so
 	sed -e 's|@PREFIX@|$(PREFIX)|' -e 's|@LIBDIR@|$(LIBDIR)|' -e 's|@VERSION@|$(VERSION)|' library/pslink.pc.in >$(DESTDIR)$(LIBDIR)/pkgconfig/pslink.pc
 	sed -e 's|@INCLUDE@|$(INCLUDE)|' library/pslinkConfig.cmake.in >$(DESTDIR)$(CONFIG)/pslinkConfig.cmake
-	sed -e 's|@VERSION@|$(VERSION)|' library/pslinkConfigVersion.cmake.in >$(DESTDIR)$(CONFIG)/pslinkConfigVersion.cmake
+	sed -e 's|@VERSION@|$(VERSION)|' rules/pslink-config-version.cmake.in >$(DESTDIR)$(CONFIG)/pslinkConfigVersion.cmake
 	chmod 644 $(DESTDIR)$(LIBDIR)/pkgconfig/pslink.pc $(DESTDIR)$(CONFIG)/*.cmake
 
 # what install-built puts in place, and the folders that are pslink's own

@@ -28,6 +28,12 @@ _pslink() {
                 return
             fi
             ;;
+        show,*)
+            # one file, and options after it
+            if [[ -n $only_files || $current != -* ]]; then
+                options=''
+            fi
+            ;;
         ,* | help,0) ;;
         *) options='' ;;
     esac

@@ -1,8 +1,8 @@
 # pslink_link(TARGET HOST file OUTPUT file [LIBS file...])
 #
 # Adds a target that links HOST with the libraries, in their order, and is part of 'all'. HOST and LIBS are paths from the
-# source folder on or, where there is no such file, from the binary folder; OUTPUT is one from the binary folder. Its
-# whole path is the property PSLINK_OUTPUT of the target. OUTPUT is replaced only if the link succeeds.
+# source folder on or, where there is no such file, from the binary folder; OUTPUT is one from the binary folder, and its
+# folder is made. Its whole path is the property PSLINK_OUTPUT of the target. OUTPUT is replaced only if the link succeeds.
 
 cmake_policy(VERSION 3.18)
 find_program(PSLINK_EXECUTABLE pslink HINTS "${CMAKE_CURRENT_LIST_DIR}/../../../bin" DOC "the linker pslink")
@@ -36,8 +36,10 @@ function(pslink_link target)
   _pslink_inputs(host "${arg_HOST}")
   _pslink_inputs(libraries ${arg_LIBS})
   get_filename_component(output "${arg_OUTPUT}" ABSOLUTE BASE_DIR "${CMAKE_CURRENT_BINARY_DIR}")
+  get_filename_component(folder "${output}" DIRECTORY)
   add_custom_command(
     OUTPUT "${output}"
+    COMMAND "${CMAKE_COMMAND}" -E make_directory "${folder}"
     COMMAND "${PSLINK_EXECUTABLE}" link "${host}" "${output}.new" ${libraries}
     COMMAND "${CMAKE_COMMAND}" -E rename "${output}.new" "${output}"
     DEPENDS "${host}" ${libraries} "${PSLINK_EXECUTABLE}"

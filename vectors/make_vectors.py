@@ -1,6 +1,7 @@
 #!/usr/bin/env python3
 """Writes the cases and their index from the descriptions in the folder descriptions. What is expected is described there,
-and no linker is run. Usage: make_vectors.py [FOLDER]. Without FOLDER it writes to the folder of this script."""
+and no linker is run. Usage: make_vectors.py [FOLDER], or make_vectors.py --large FOLDER for the cases of megabytes, with the script
+'run' beside them. Without FOLDER it writes to the folder of this script."""
 import hashlib
 import json
 import pathlib
@@ -8,10 +9,11 @@ import shutil
 import sys
 
 sys.dont_write_bytecode = True
-from descriptions import faults, limits, links, pairs
+from descriptions import codes, dictionaries, faults, large, limits, links, names, orders, pairs, records, requests
 from descriptions.cases import described, map_of, summary
 from descriptions.model import REASONS, file_bytes, laid_out, show_of
 
+HERE = pathlib.Path(__file__).resolve().parent
 FORMAT = 1  # of the index
 
 
@@ -19,8 +21,14 @@ def all_cases():
     yield from faults.unchanged()
     yield from links.cases()
     yield from limits.cases()
+    yield from requests.cases()
+    yield from codes.cases()
+    yield from dictionaries.cases()
+    yield from records.cases()
+    yield from names.cases()
     yield from faults.cases()
     yield from pairs.cases()
+    yield from orders.cases()
 
 
 def text(lines):
@@ -93,11 +101,20 @@ def write(top, cases=None):
     (top / "index.json").write_text(index_text(entries))
 
 
+def write_large(folder):
+    """Writes the cases of megabytes, and the script that runs a linker over them."""
+    write(folder, large.cases())
+    shutil.copy(HERE / "run", folder)
+
+
 def main():
-    here = pathlib.Path(__file__).resolve().parent
-    folder = pathlib.Path(sys.argv[1]) if len(sys.argv) > 1 else here
+    is_large = sys.argv[1:2] == ["--large"]
+    names = sys.argv[1 + is_large :]
+    if len(names) > 1 or is_large and not names:
+        sys.exit("make_vectors.py: usage: make_vectors.py [FOLDER], or make_vectors.py --large FOLDER")
+    folder = pathlib.Path(names[0]) if names else HERE
     folder.mkdir(parents=True, exist_ok=True)
-    write(folder)
+    write_large(folder) if is_large else write(folder)
 
 
 if __name__ == "__main__":

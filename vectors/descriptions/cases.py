@@ -3,10 +3,11 @@ where, the offset of each private variable); its bytes and its map follow from t
 (docs/LINKING.md, What a reference becomes, The linked file, Map)."""
 import dataclasses
 import functools
+import itertools
 
 from .model import (
-    BLOCK, CONSTDEF, LINKED, PRIVREF, PUBLDEF, PUBLREF, REASONS, UNITREF, UNITSEG, File, Segment, code_bytes, laid_out,
-    name_bytes, operands, printed, source_code,
+    BLOCK, CONSTDEF, EOFMARK, LINKED, PRIVREF, PUBLDEF, PUBLREF, REASONS, UNITREF, UNITSEG, File, Segment, changed, code_bytes,
+    laid_out, name_bytes, operands, printed, source_code,
 )
 
 
@@ -90,7 +91,9 @@ class Case:
     def segment(self, placed):
         file = self.source(placed)
         segment = file.slots[placed.entry]
-        return segment if segment.shares is None else dataclasses.replace(file.slots[segment.shares], name=segment.name)
+        if segment.shares is None:
+            return segment
+        return dataclasses.replace(file.slots[segment.shares], name=segment.name, kind=segment.kind)
 
     def host_segment(self):
         return next(self.segment(placed) for placed in self.link.placed if self.is_host(placed))
@@ -105,7 +108,8 @@ class Case:
         return file, laid_out(file)
 
     def definitions(self):
-        return [record for record in self.host_segment().records if record.type in (PUBLDEF, CONSTDEF)]
+        read = itertools.takewhile(lambda record: record.type != EOFMARK, self.host_segment().records)
+        return [record for record in read if record.type in (PUBLDEF, CONSTDEF)]
 
 
 def value_in(case, slot):
@@ -120,14 +124,11 @@ def value_in(case, slot):
 def linked_code(case, placed):
     file, segment = case.source(placed), case.segment(placed)
     if segment.kind == LINKED or segment.procedures is None:
-        return source_code(file, placed.entry)
+        return changed(source_code(file, placed.entry), segment.linked)
     listed = sorted(place for record in segment.records for place in record.references or [])
     assert listed == [place for place, _ in operands(segment)], f"{case.name}: references of slot {placed.slot}"
     data = case.link.data if case.is_host(placed) else None
-    code = bytearray(code_bytes(segment, placed.slot, case.host.order, value_in(case, placed.slot), data))
-    for place, new in segment.changes.items():
-        code[place : place + len(bytes.fromhex(new))] = bytes.fromhex(new)
-    return bytes(code)
+    return changed(code_bytes(segment, placed.slot, case.host.order, value_in(case, placed.slot), data), segment.changes)
 
 
 def linked_file(case):

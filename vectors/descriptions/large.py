@@ -1,7 +1,7 @@
 """Files of megabytes: more records than sixteen bits count, the largest codes with an operand at each place, and hundreds of libraries.
 They are no part of the cases that are kept: .ci/vectors writes them and runs pslink over them."""
-from .cases import Case, Fault
-from .links import DEMO, as_file, linked, one_unit, private, program, public, unit, unit_of, wanting
+from .cases import Fault
+from .links import DEMO, linked, one_unit, private, program, public, refused, unit, unit_of, wanting
 from .model import HOSTSEG, UNITSEG, Procedure, Segment, eof_mark, priv_ref, publ_def, publ_ref, unit_ref
 
 MANY = 65_536  # records, so that the next one has an index that sixteen bits do not hold
@@ -14,11 +14,6 @@ OPERANDS = 32_752  # bytes of operands in the largest code of a segment to be li
 def definitions(*more):
     """A host program of so many definitions, of which COUNT is the first, and these records."""
     return program(*(publ_def(name, k % 1000) for k, name in enumerate(NUMBERS)), *more)
-
-
-def refused(name, about, host, libraries, fault, given=None):
-    files = [as_file(one, "little") for one in libraries]
-    return Case(f"faults/{name}", about, as_file(host, "little"), files, fault=fault, given=given)
 
 
 def many_records():
@@ -72,9 +67,9 @@ def late_libraries():
     yield linked("libraries-257", "The unit is in the 257th library.", wanting("UTIL"), [other, {2: util}], [DEMO, (7, 257, 2)],
                  given=given)
     yield refused("14-late", "The unit of the 257th library has kind 5.", wanting("UTIL"),
-                  [other, {2: Segment("UTIL", 5, util.procedures, util.records)}], Fault(14, 257, 7, kind=5), given)
+                  [other, {2: Segment("UTIL", 5, util.procedures, util.records)}], Fault(14, 257, 7, kind=5), given=given)
     yield refused("31-late-library", "The unit of the 257th library refers to the last byte of its code.", wanting("UTIL"),
-                  [other, {2: unit_of("UTIL", ["A5", public()], [publ_ref("COUNT", [19])])}], Fault(31, 257, 7, 0, 0), given)
+                  [other, {2: unit_of("UTIL", ["A5", public()], [publ_ref("COUNT", [19])])}], Fault(31, 257, 7, 0, 0), given=given)
 
 
 def cases():

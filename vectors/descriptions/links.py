@@ -61,6 +61,12 @@ def linked(name, about, host, libraries, placed, privates=(), next_free=8, data=
     return Case(f"links/{name}", about, as_file(host, order), files, link=link, given=given)
 
 
+def refused(name, about, host, libraries, fault, order="little", given=None, folder="faults"):
+    """A case whose files are refused."""
+    files = [as_file(one, order) for one in libraries]
+    return Case(f"{folder}/{name}", about, as_file(host, order), files, fault=fault, given=given)
+
+
 DEMO, UTIL = (1, 0, 1), (7, 1, 2)  # where most cases have them: slot, file and entry
 
 

@@ -68,7 +68,8 @@ class Operand:
 @dataclasses.dataclass
 class Procedure:
     """Its instructions, as bytes, as text in hexadecimal and as operands; sizes in bytes. `at` is the offset of its
-    attribute table where another procedure has the table, or 0 for no body."""
+    attribute table where another procedure has the table, or 0 for no body. `said` is the number that its table has, if
+    that is not its own. `pad` is the bytes between instructions and table, if they are not what makes its offset even."""
 
     parts: list
     number: int = 1
@@ -76,6 +77,12 @@ class Procedure:
     data: int = 0
     level: int = 0
     at: int = None
+    said: int = None
+    pad: int = None
+
+    def padding(self, end):
+        """The bytes between its instructions, which end there, and its table."""
+        return end % 2 if self.pad is None else self.pad
 
 
 def parts_of(procedure):
@@ -96,7 +103,7 @@ def operands(segment):
             if isinstance(part, Operand):
                 yield here, part
             here += size_of(part)
-        start = here + here % 2 + (10 if procedure.at is None else 0)
+        start = here + procedure.padding(here) + (10 if procedure.at is None else 0)
 
 
 def places(segment, type, name):
@@ -118,7 +125,7 @@ def code_bytes(segment, number, order, value=None, data=None):
             if isinstance(part, Operand):
                 part = part.before() if value is None else part.after(value(part))
             code += part
-        pad = len(code) % 2
+        pad = procedure.padding(len(code))
         code += bytes(pad)
         tables[procedure.number] = procedure.at
         if procedure.at is None:
@@ -126,7 +133,7 @@ def code_bytes(segment, number, order, value=None, data=None):
             # enter IC and exit IC are self-relative; the exit is the last two bytes of the instructions
             code += word(size) + word(procedure.parameters) + word(6 + pad) + word(len(code) + 6 - start)
             tables[procedure.number] = len(code)
-            code += bytes([procedure.number % 256, procedure.level])
+            code += bytes([procedure.number if procedure.said is None else procedure.said, procedure.level])
     count = max(tables, default=0)
     for number_of in range(count, 0, -1):
         code += word(len(code) - tables[number_of] if tables.get(number_of) else 0)
@@ -186,8 +193,9 @@ def eof_mark(next_free, name=""):
 @dataclasses.dataclass
 class Segment:
     """A slot of a file. It has its procedures, or a code as bytes, or none. `shares` is the slot whose code and records
-    it has. `address` and `length` are what the dictionary says, if that is not where its code is. `changes` are bytes
-    of its code, by offset, that its procedures do not have. `fault` is the fault of a code that is refused."""
+    it has; `inside` is the slot in whose code it lies, and from which of its blocks on. `address` and `length` are what the
+    dictionary says, if that is not where its code is. `changes` are bytes of its code, by offset, that its procedures do not
+    have; `linked` are bytes that the link gives to a code without procedures. `fault` is the fault of a code that is refused."""
 
     name: object
     kind: int = UNITSEG
@@ -196,11 +204,17 @@ class Segment:
     code: bytes = None
     text: int = 0
     shares: int = None
+    inside: tuple = None
     address: int = None
     length: int = None
     number: int = None
     changes: dict = dataclasses.field(default_factory=dict)
+    linked: dict = dataclasses.field(default_factory=dict)
     fault: int = 0
+
+    def has_blocks(self):
+        """Its code and its records have blocks of their own in the file."""
+        return self.shares is None and self.inside is None and (self.procedures is not None or self.code is not None)
 
 
 @dataclasses.dataclass
@@ -225,11 +239,19 @@ class File:
 def source_code(file, slot):
     """The code of a slot as it is in its file."""
     segment = file.slots[slot]
+    if segment.shares is not None:
+        return source_code(file, segment.shares)
     number = slot if segment.number is None else segment.number
-    code = bytearray(segment.code if segment.code is not None else code_bytes(segment, number, file.order))
-    for place, new in segment.changes.items():
-        code[place : place + len(bytes.fromhex(new))] = bytes.fromhex(new)
-    return bytes(code)
+    code = segment.code if segment.code is not None else code_bytes(segment, number, file.order)
+    return changed(code, segment.changes)
+
+
+def changed(content, changes):
+    """These bytes with others, in hexadecimal, at these offsets."""
+    content = bytearray(content)
+    for place, new in changes.items():
+        content[place : place + len(bytes.fromhex(new))] = bytes.fromhex(new)
+    return bytes(content)
 
 
 def laid_out(file):
@@ -237,7 +259,7 @@ def laid_out(file):
     entries, blocks = {}, b""
     for slot, segment in sorted(file.slots.items()):
         address = length = 0
-        if segment.shares is None and (segment.procedures is not None or segment.code is not None):
+        if segment.has_blocks():
             code = source_code(file, slot)
             address, length = 1 + len(blocks) // BLOCK, len(code)
             blocks += whole(code, BLOCK) + whole(b"".join(one.encoded(file.order) for one in segment.records), BLOCK)
@@ -245,6 +267,9 @@ def laid_out(file):
     for slot, segment in file.slots.items():
         if segment.shares is not None:
             entries[slot] = list(entries[segment.shares])
+        if segment.inside is not None:
+            of, block = segment.inside
+            entries[slot] = [entries[of][0] + block, len(source_code(file, slot))]
         if segment.address is not None:
             entries[slot][0] = segment.address
         if segment.length is not None:
@@ -273,10 +298,8 @@ def file_bytes(file, laid):
     names, kinds, texts = (
         {slot: getattr(segment, part) for slot, segment in file.slots.items()} for part in ("name", "kind", "text")
     )
-    encoded = bytearray(dictionary_bytes(entries, names, kinds, texts, file.order, file.tail) + blocks + file.more)
-    for place, new in file.changes.items():
-        encoded[place : place + len(bytes.fromhex(new))] = bytes.fromhex(new)
-    return bytes(encoded[: file.cut])
+    encoded = dictionary_bytes(entries, names, kinds, texts, file.order, file.tail) + blocks + file.more
+    return changed(encoded, file.changes)[: file.cut]
 
 
 def is_filled(segment, entry):

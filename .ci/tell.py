@@ -1,0 +1,160 @@
+"""Runs the linker of linker.py and the wrong ones of wrong_linkers.py over the test vectors, in this process: which of them answers
+each case as its description says, and which cases tell the others."""
+import contextlib
+import functools
+import inspect
+import pathlib
+import re
+import signal
+import textwrap
+import types
+
+import linker
+import wrong_linkers
+
+SOURCE = (pathlib.Path(linker.__file__)).read_text()
+SECONDS = 5  # for one linker over one case
+
+
+class Row:
+    """A wrong linker: what is wrong, and what is changed where."""
+
+    def __init__(self, what, *items):
+        self.what = what
+        if len(items) % 3:
+            items = [item for k in range(1, len(items), 2) for item in (items[0], *items[k : k + 2])]
+        self.changes = {}
+        for function, old, new in (items[k : k + 3] for k in range(0, len(items), 3)):
+            text = self.changes.get(function, source_of(function))
+            if text.count(old) != 1:
+                raise SystemExit(f"wrong_linkers.py, '{what}': {function} has not once: {old}")
+            self.changes[function] = text.replace(old, new)
+
+    @contextlib.contextmanager
+    def linker(self):
+        """The linker with these changes, until the end of the block."""
+        if "" in self.changes:
+            yield module_of(self.changes[""])
+            return
+        before = [(*owner_of(function), text) for function, text in self.changes.items()]
+        kept = [(owner, name, vars(owner)[name]) for owner, name, _ in before]
+        try:
+            for owner, name, text in before:
+                made = {}
+                exec(textwrap.dedent(text), vars(linker), made)
+                setattr(owner, name, staticmethod(made[name]) if isinstance(vars(owner)[name], staticmethod) else made[name])
+            yield linker
+        finally:
+            for owner, name, function in kept:
+                setattr(owner, name, function)
+
+
+def owner_of(function):
+    """The class that has a method, or the module, and the name in it. The name of a method may stand for it alone."""
+    owner, _, name = function.rpartition(".")
+    classes = [one for one in vars(linker).values() if isinstance(one, type) and name in vars(one)]
+    if owner:
+        return getattr(linker, owner), name
+    return (linker, name) if hasattr(linker, name) else (*classes, name)
+
+
+@functools.cache
+def source_of(function):
+    """The text of a function, or of the whole file for \"\"."""
+    if not function:
+        return SOURCE
+    owner, name = owner_of(function)
+    return inspect.getsource(inspect.getattr_static(owner, name)).removeprefix("    @staticmethod\n")
+
+
+def module_of(source):
+    module = types.ModuleType("linker")
+    exec(compile(source, "linker.py", "exec"), vars(module))
+    return module
+
+
+def rows():
+    tables = ("FILES", "ROLES", "CODES", "RECORDS", "SOURCES", "ADDED", "VALUES", "REFERENCES", "WRITTEN")
+    for table in tables:
+        yield from (Row(*row) for row in getattr(wrong_linkers, table))
+    for looseness, form in wrong_linkers.LOOSE.items():
+        for what, *items in wrong_linkers.COMPARED:
+            loose = [re.sub(r"\{([\w.]+)\}", lambda match: form.format(match[1]), item) for item in items]
+            yield Row(f"{what} are compared {looseness}", *loose)
+
+
+class Case:
+    """A case of the index: its files, and what is expected of a link and of each show."""
+
+    def __init__(self, case):
+        folder = case["top"] / case["folder"]
+        read = lambda name: (folder / name).read_bytes()
+        self.name, self.files = case["name"], (read(case["host"]), [read(name) for name in case["libraries"]])
+        self.linked = case["stderr"] if case["fault"] else (case["stdout"], read(case["linked"]), read(case["map"]).decode())
+        self.shows = [(read(name), read(show["stdout"]).decode() if show["stdout"] else show["stderr"]) for name, show in case["shows"].items()]
+        self.cost = sum(len(record) for record, _ in self.shows) + 2000 * len(case["libraries"])
+
+    def is_linked_by(self, linker):
+        """The link is as expected: its summary, its bytes and its map, or its fault."""
+        try:
+            link = linker.Link(*self.files)
+            answer = f"{link.summary()}\n", link.file()[0], "".join(f"{line}\n" for line in link.map())
+        except linker.Fault as fault:
+            answer = f"pslink: {fault.line()}\n"
+        return answer == self.linked
+
+    def is_shown_by(self, linker):
+        for data, wanted in self.shows:
+            try:
+                answer = "".join(f"{line}\n" for line in linker.show(data))
+            except linker.Fault as fault:
+                answer = f"pslink: {fault.line()}\n"
+            if answer != wanted:
+                return False
+        return True
+
+
+def is_right(answers, linker):
+    """Whether a question is answered as expected; a linker that fails, or has no answer in some seconds, is wrong."""
+    signal.alarm(SECONDS)
+    try:
+        return answers(linker)
+    except Exception:
+        return False
+    finally:
+        signal.alarm(0)
+
+
+def stopped(*_):
+    raise TimeoutError
+
+
+def differing(linker, questions):
+    """The first of these questions that a linker answers otherwise than expected, or None."""
+    return next((question for question in questions if not is_right(question, linker)), None)
+
+
+def questions_of(cases):
+    """Each link and each show of the cases, those of small files first."""
+    loaded = sorted(map(Case, cases), key=lambda case: case.cost)
+    return [case.is_linked_by for case in loaded] + [case.is_shown_by for case in loaded]
+
+
+def tell(cases):
+    """The wrong linkers, the cases that tell them, and what is wrong: a right linker that differs, a wrong one that does not."""
+    signal.signal(signal.SIGALRM, stopped)
+    questions, found, told = questions_of(cases), [], {}
+    if question := differing(linker, questions):
+        found.append(f"linker.py answers {question.__self__.name} otherwise")
+    for row in rows():
+        with row.linker() as wrong:
+            question = differing(wrong, questions)
+        if question is None and row.what not in wrong_linkers.UNTOLD:
+            found.append(f"no case tells the linker '{row.what}'")
+        if question is not None and row.what in wrong_linkers.UNTOLD:
+            found.append(f"the linker '{row.what}' is told, by {question.__self__.name}, and is to be told by none")
+        if question is not None:
+            questions.remove(question)
+            questions.insert(0, question)
+        told[row.what] = question and question.__self__.name
+    return told, found
