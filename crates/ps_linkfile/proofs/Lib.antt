@@ -19,5 +19,3 @@ pub mod ShownNames
 pub mod Filling
 pub mod Listings
 pub mod Numbered
-pub mod MapsJson
-pub mod ShowsJson

@@ -1,14 +1,19 @@
--- The map of a plan is the map of its link, and the line of a source.
+-- The map of a plan is the map of its link, and the row of a source.
 use Rattle.std.proofs.Common.{◌≡◌, ℕ, zero, suc, ◌+◌, ◌≤◌, ◌<◌, List, []}
 use Rattle.std.proofs.Common.{◌∷◌, ◌++◌, length, map, get_or, Some, refl, sym}
 use Rattle.std.proofs.Common.{◌∙◌, ap, arith}
-use Rattle.ps_linkfile.proofs.Words.{find, flat_map, get_or-map-range_with_len}
+use Rattle.ps_linkfile.proofs.Words.{find, order_of, get_or-map-range_with_len}
 use Rattle.ps_linkfile.proofs.Words.{Segment, Planned, Origin, origin_of, origin_of_source, IsPlan}
 use Rattle.ps_linkfile.proofs.Words.{nat_tests, Source, block_of, starts_of, Ascend}
 use Rattle.std.specs.Prelude.{◌==◌, slice_get}
 use Rattle.std.proofs.lemmas.Option.{unwrap_or-slice_get}
-use Rattle.ps_resolve.specs.Added.{slot_name, slot_names}
-use Rattle.ps_linkfile.specs.MapText.{code_line, segment_line, name_in, source_line, map_of, map_in}
+use Rattle.ps_resolve.specs.Added.{segments, slot_name, slot_names}
+use Rattle.ps_linkfile.specs.MapText.{code_row, segment_row, name_in, source_row, map_of, map_in}
+use Rattle.ps_linkfile.specs.MapText.{json_end, map_json_in, map_json_of, members_in, members_of}
+use Rattle.ps_linkfile.specs.MapText.{plan_rows, rows_of}
+use Rattle.ps_linkfile.specs.Rows.{row_in, rows_from, rows_in}
+use Rattle.ps_linkfile.specs.declared.rows.Form.{Form}
+use Rattle.ps_linkfile.specs.declared.rows.Form.TheVariants.{Lines, Json}
 use Rattle.ps_linkfile.proofs.Slots.{segments_ascend}
 use Rattle.ps_linkfile.proofs.Views.{no_source, start_at}
 
@@ -35,48 +40,50 @@ name_within host ss a i s h =
       found.2,
     )
 
--- the lines of the sources are those of the segments
-lines_are : (names : List (List ℕ)) (all : List Origin) (ss : List Segment)
+-- the rows of the sources are those of the segments
+rows_are : (form : Form) (names : List (List ℕ)) (all : List Origin) (k : ℕ) (ss : List Segment)
     → ((i : ℕ) (s : Segment) → slice_get ss i ≡ Some s → name_in names s.slot ≡ s.name)
-    → flat_map (source_line names all) (map origin_of ss) ≡ flat_map (segment_line all) ss
-lines_are names all [] h = refl
-lines_are names all (s ∷ ss) h =
-    rw (h zero s refl) (ap (λ bs. segment_line all s ++ bs)
-    (lines_are names all ss (λ i t e. h (suc i) t e)))
-
-four : (a b c d e f g h : List ℕ) → a ≡ e → b ≡ f → c ≡ g → d ≡ h
-    → a ++ b ++ c ++ d ≡ e ++ f ++ g ++ h
-four a b c d e f g h p q r s = cc
+    → rows_from form (source_row names all) k (map origin_of ss)
+    ≡ rows_from form (segment_row all) k ss
+rows_are form names all k [] h = refl
+rows_are form names all k (s ∷ ss) h =
+    rw (h zero s refl) (ap (λ bs. row_in form k (segment_row all s) ++ bs)
+    (rows_are form names all (k + 1) ss (λ i t e. h (suc i) t e)))
 
 -- the map that a plan of a link stands for is the map of the link
-pub plan_map : (host : List ℕ) (libs : List (List ℕ)) (plan : Planned) → IsPlan host libs plan
-    → map_in plan ≡ map_of host libs
-unfolding map_of
-plan_map host libs plan h =
-    grind (arith, lines_are, name_within, segments_ascend, four)
+plan_map : (form : Form) (host : List ℕ) (libs : List (List ℕ)) (plan : Planned)
+    → IsPlan host libs plan → plan_rows form plan ≡ rows_of form host libs
+plan_map form host libs plan h =
+    let segs = segments (order_of host) host libs in
+    let rows : rows_in form (source_row plan.names plan.origins) plan.origins
+    ≡ rows_in form (segment_row (map origin_of segs)) segs =
+    rw (h.names, h.origins) (rows_are form (slot_names host segs) (map origin_of segs) 0 segs
+    (name_within host segs (segments_ascend (order_of host) host libs))) in
+    rw (rows, h.definitions, h.privates, h.next_free, h.data_size, h.origins)
+
+module _ (host : List ℕ) (libs : List (List ℕ)) (plan : Planned) where
+  pub plan_text : IsPlan host libs plan → map_in plan ≡ map_of host libs
+  unfolding map_of
+  plan_text h = plan_map Lines host libs plan h
+
+  pub members_are : IsPlan host libs plan → members_in plan ≡ members_of host libs
+  unfolding members_of
+  members_are h = plan_map Json host libs plan h
+
+  pub plan_json : IsPlan host libs plan → map_json_in plan ≡ map_json_of host libs
+  plan_json h = ap (λ bs. bs ++ json_end) (members_are h)
 
 module _ (names : List (List ℕ)) (starts : List ℕ) (ss : List Source) (os : List Origin)
     (i : ℕ) where
-  -- what is made of the name and the first block of a source, by the names of all slots and by
-  -- where the codes begin
-  pub made_at : map origin_of_source ss ≡ os → starts ≡ starts_of os
-      → i < length ss → (made : List ℕ → ℕ → List ℕ)
-      → let s = get_or ss i no_source in made (get_or names s.slot []) (get_or starts i 0)
-      ≡ made (name_in names s.slot) (block_of os s.slot)
-  made_at h k lt made =
+  -- the row of a source, by the names of all slots and the first block of its code
+  pub row_at : map origin_of_source ss ≡ os → starts ≡ starts_of os
+      → i < length ss → let s = get_or ss i no_source in code_row s.slot
+      (get_or names s.slot []) s.file s.index (get_or starts i 0) (length s.code.now) s.added
+      ≡ source_row names os (origin_of_source s)
+  row_at h k lt =
       let s = get_or ss i no_source in
       let name : get_or names s.slot [] ≡ name_in names s.slot =
       sym (unwrap_or-slice_get names s.slot []) in
       let block : get_or starts i 0 ≡ block_of os s.slot =
       start_at ss starts i (k ∙ ap starts_of (sym h)) lt ∙ ap (λ all. block_of all s.slot) h in
       cc
-
-  -- the line of a source, by the names of all slots and the first block of its code
-  pub line_at : map origin_of_source ss ≡ os → starts ≡ starts_of os
-      → i < length ss → let s = get_or ss i no_source in code_line s.slot
-      (get_or names s.slot []) s.file s.index (get_or starts i 0) (length s.code.now) s.added
-      ≡ source_line names os (origin_of_source s)
-  line_at h k lt =
-      let s = get_or ss i no_source in
-      made_at h k lt (λ name block. code_line s.slot name s.file s.index block
-      (length s.code.now) s.added)

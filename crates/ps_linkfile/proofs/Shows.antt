@@ -11,9 +11,11 @@ use Rattle.std.specs.Prelude.{codes}
 use Rattle.ps_words.specs.declared.order.Order.TheVariants.{Little}
 use Rattle.ps_words.specs.declared.fault.Reason.TheVariants as reason
 use Rattle.ps_codefile.specs.Dictionary.{Zero, opened_beside_as}
-use Rattle.ps_linkfile.specs.Lines.{line, two_digits, fault_words}
-use Rattle.ps_linkfile.specs.ShowText.{unit_names, record_lines, has_links}
-use Rattle.ps_linkfile.specs.ShowText.{links_lines, shown_file, show_of, order_fault}
+use Rattle.ps_linkfile.specs.Rows.{by_form, reason_in}
+use Rattle.ps_linkfile.specs.ShowJson.{show_json_of, shown_json}
+use Rattle.ps_linkfile.specs.ShowText.{unit_names, records_in, has_links, links_head, links_in}
+use Rattle.ps_linkfile.specs.ShowText.{shown_file, show_of, order_fault}
+use Rattle.ps_linkfile.specs.declared.rows.Form.{Form}
 
 -- a file whose kind words show an order
 pub record Shows (short : Bool) (of : FileOrder) (file : List ℕ) (shown : FileOrder)
@@ -76,18 +78,27 @@ pub few_more : {X : Type 0} (b : Bool) (x : X) (xs new : List X) (i : ℕ) → l
     → new ≡ xs ++ (if b then x ∷ [] else []) → length new ≤ i + 1
 few_more b x xs new i h k = grind (arith, length-append)
 
-module _ (order : Order) (file : List ℕ) (slot : ℕ) where
-  -- the lines of a slot whose code is refused
+module _ (form : Form) (order : Order) (file : List ℕ) (slot : ℕ) where
+  -- the link information of a slot whose code is refused
   pub links_of_fault : (why : Reason) → has_links (entry_at order file slot) ≡ true
-      → code_of file (entry_at order file slot) ≡ Err why → line
-      (codes "links " ++ two_digits slot) ++ line (fault_words why) ≡ links_lines order file slot
-  unfolding links_lines
+      → code_of file (entry_at order file slot) ≡ Err why → links_head form slot
+      ++ (by_form form [] (codes ",\"fault\":") ++ reason_in form why
+      ++ by_form form (codes "\n") (codes ",\"records\":[]")) ≡ links_in form order file slot
+  unfolding links_in
   links_of_fault why h k = rw (h, k) refl
 
-  -- the lines of a slot whose code is in the file
+  -- that of a slot whose code is in the file
   pub links_of_records : (code : List ℕ) → has_links (entry_at order file slot) ≡ true
-      → code_of file (entry_at order file slot) ≡ Ok code → line
-      (codes "links " ++ two_digits slot) ++ record_lines (unit_names order file) (reading order
-      (information_of file (entry_at order file slot))) ≡ links_lines order file slot
-  unfolding links_lines
+      → code_of file (entry_at order file slot) ≡ Ok code → links_head form slot
+      ++ (by_form form [] (codes ",\"fault\":null,\"records\":[")
+      ++ records_in form (unit_names order file)
+      (reading order (information_of file (entry_at order file slot)))
+      ++ by_form form [] (codes "\n]")) ≡ links_in form order file slot
+  unfolding links_in
   links_of_records code h k = rw (h, k) refl
+
+pub json_is : (file : List ℕ) (found : FileOrder) (o : OpenedFile) → found ≡ file_order file
+    → o ≡ record { order = known_order (file_order file); file = file }
+    → shown_json found o.order o.file ≡ show_json_of file
+unfolding show_json_of
+json_is file found o h k = rw (h, k)

@@ -3,11 +3,15 @@
 -- Source: RFC 8259; which members there are is this project's profile.
 use Rattle.std.specs.Prelude.{ℕ, ◌==◌, if◌then◌else◌, Bool, List, [], ◌∷◌}
 use Rattle.std.specs.Prelude.{◌++◌, codes, decimal}
-use Rattle.std.specs.List.{flat_map}
+use Rattle.std.specs.List.{enumerate_from, flat_map}
 use Rattle.ps_words.specs.FaultText.{number_of, name_of}
 use Rattle.ps_words.specs.declared.fault.Reason.{Reason}
 use Rattle.ps_linkfile.specs.Lines.{shown_byte}
 use Rattle.ps_linkfile.specs.ReferencesText.{hex_byte}
+
+-- a member that is a number, after another one, as `,"file":1`
+abbrev pub member : List ℕ → ℕ → List ℕ
+member key n = codes ",\"" ++ key ++ codes "\":" ++ decimal n
 
 -- a byte of a name inside a string: as a line shows it, but a quote (34) and a backslash (92) have
 -- a backslash before them
@@ -39,3 +43,12 @@ json_bool b = if b then codes "true" else codes "false"
 abbrev pub json_reason : Reason → List ℕ
 json_reason why = codes "{\"number\":" ++ decimal (number_of why) ++ codes ",\"reason\":\""
     ++ name_of why ++ codes "\"}"
+
+-- one reference, of this index
+abbrev pub reference_item : ℕ × ℕ → List ℕ
+reference_item p = comma_unless (p.0 == 0) ++ decimal p.1
+
+-- all references of a record, as `,"references":[1,4]`
+abbrev pub references_member : List ℕ → List ℕ
+references_member refs = codes ",\"references\":["
+    ++ flat_map reference_item (enumerate_from 0 refs) ++ codes "]"

@@ -8,6 +8,7 @@ pub mod Noted
 pub mod Lines
 pub mod JsonText
 pub mod MapJson
+pub mod Rows
 pub mod ShowJson
 pub mod MapText
 pub mod ShowText

@@ -2,6 +2,7 @@
 -- Source: this project's profile.
 use Rattle.std.specs.Prelude.{ℕ, ◌+◌, ◌/◌, ◌%◌, ◌&&◌, if◌then◌else◌, List}
 use Rattle.std.specs.Prelude.{[], ◌∷◌, ◌++◌, map, nat_le, codes, decimal}
+use Rattle.std.specs.List.{flat_map}
 use Rattle.ps_words.specs.FaultText.{number_of, name_of}
 use Rattle.ps_words.specs.declared.fault.Reason.{Reason}
 
@@ -28,3 +29,11 @@ field word n = (32 ∷ []) ++ word ++ (32 ∷ []) ++ decimal n
 -- `fault 19 RecordsTruncated`
 abbrev pub fault_words : Reason → List ℕ
 fault_words why = codes "fault " ++ decimal (number_of why) ++ (32 ∷ []) ++ name_of why
+
+-- one reference, as ` 4`
+abbrev pub reference : ℕ → List ℕ
+reference place = (32 ∷ []) ++ decimal place
+
+-- all references of a record, as ` at 1 4`
+abbrev pub references : List ℕ → List ℕ
+references refs = codes " at" ++ flat_map reference refs

@@ -1,9 +1,8 @@
 -- The map of a link: its segments by slot, the definitions in record order, the privates by slot
 -- and then by record, and what is free after them.
 -- Source: this project's profile.
-use Rattle.std.specs.Prelude.{ℕ, ◌+◌, if◌then◌else◌, Bool, List, [], ◌∷◌}
-use Rattle.std.specs.Prelude.{◌++◌, length, map, codes, decimal, slice_get, unwrap_or}
-use Rattle.std.specs.List.{flat_map}
+use Rattle.std.specs.Prelude.{ℕ, ◌+◌, List, [], ◌∷◌, ◌++◌, Bool, length, map, codes}
+use Rattle.std.specs.Prelude.{slice_get, unwrap_or}
 use Rattle.ps_resolve.specs.Sources.{Segment, order_of, host_records}
 use Rattle.ps_resolve.specs.Added.{segments}
 use Rattle.ps_linkinfo.specs.RecordCounts.{next_of}
@@ -16,71 +15,105 @@ use Rattle.ps_resolve.specs.declared.definitions.DefKind.{DefKind}
 use Rattle.ps_resolve.specs.declared.definitions.DefKind.TheVariants.{Public, Constant}
 use Rattle.ps_resolve.specs.declared.allotment.Private.{Private}
 use Rattle.ps_linkfile.specs.LinkedFile.{origins, block_of, all_blocks}
-use Rattle.ps_linkfile.specs.Lines.{line, shown_name, two_digits, field}
-
--- what ends the line of a segment that was added for a UNITREF record
-abbrev pub added_word : Bool → List ℕ
-added_word added = if added then codes " added" else []
+use Rattle.ps_linkfile.specs.Rows.{Value, InSlot, OfKind, Named, Total, Number, Short, Flag}
+use Rattle.ps_linkfile.specs.Rows.{by_form, rows_in, values_in}
+use Rattle.ps_linkfile.specs.declared.rows.Form.{Form}
+use Rattle.ps_linkfile.specs.declared.rows.Form.TheVariants.{Lines, Json}
 
 -- `segment 08 AUX      file 1 entry 03 block 3 length 24 added`: the slot and the name of a
 -- segment, the file and the entry that its code comes from, the code's first block and its size in
 -- bytes, and whether it was added
-abbrev pub code_line : ℕ → List ℕ → ℕ → ℕ → ℕ → ℕ → Bool → List ℕ
-code_line slot name file entry block size added =
-    line (codes "segment " ++ two_digits slot ++ (32 ∷ []) ++ shown_name name
-    ++ field (codes "file") file ++ codes " entry " ++ two_digits entry
-    ++ field (codes "block") block ++ field (codes "length") size ++ added_word added)
+abbrev pub code_row : ℕ → List ℕ → ℕ → ℕ → ℕ → ℕ → Bool → List Value
+code_row slot name file entry block size added =
+    InSlot (codes "segment ") slot name ∷ Number (codes "file") file ∷ Short (codes "entry") entry
+    ∷ Number (codes "block") block ∷ Number (codes "length") size
+    ∷ Flag (codes "added") added ∷ []
 
--- the line of a segment, whose code begins in the block that its slot has among these origins
-abbrev pub segment_line : List Origin → Segment → List ℕ
-segment_line origins s = code_line s.slot s.name s.file s.index (block_of origins s.slot)
+-- that of a segment, whose code begins in the block that its slot has among these origins
+abbrev pub segment_row : List Origin → Segment → List Value
+segment_row origins s = code_row s.slot s.name s.file s.index (block_of origins s.slot)
     (length s.code) s.added
 
--- the first word of a definition's line
+-- the first word of a definition's row
 abbrev pub kind_word : DefKind → List ℕ
 kind_word Public = codes "public"
 kind_word Constant = codes "constant"
 
 -- `public COUNT    value 3`
-abbrev pub definition_line : List ℕ × Def → List ℕ
-definition_line d = line (kind_word d.1.kind ++ (32 ∷ []) ++ shown_name d.0
-    ++ field (codes "value") d.1.value)
+abbrev pub definition_row : List ℕ × Def → List Value
+definition_row d = OfKind (kind_word d.1.kind) ∷ Named d.0 ∷ Number (codes "value") d.1.value ∷ []
 
 -- `private 07 STATE    offset 8 words 4`
-abbrev pub private_line : Private → List ℕ
-private_line v = line (codes "private " ++ two_digits v.slot ++ (32 ∷ []) ++ shown_name v.name
-    ++ field (codes "offset") v.offset ++ field (codes "words") v.words)
+abbrev pub private_row : Private → List Value
+private_row v = InSlot (codes "private ") v.slot v.name ∷ Number (codes "offset") v.offset
+    ∷ Number (codes "words") v.words ∷ []
 
 -- `next 12 data 18 blocks 3`
-abbrev pub last_line : ℕ → ℕ → ℕ → List ℕ
-last_line next size blocks =
-    line (codes "next " ++ decimal next ++ field (codes "data") size
-    ++ field (codes "blocks") blocks)
+abbrev pub last_row : ℕ → ℕ → ℕ → List Value
+last_row next size blocks = Total (codes "next") next ∷ Number (codes "data") size
+    ∷ Number (codes "blocks") blocks ∷ []
 
--- the map of a host and its libraries
-unfoldable pub map_of : List ℕ → List (List ℕ) → List ℕ
-map_of host libs =
+-- the rows of a map: of its segments, its definitions and its privates, and the last one
+abbrev pub map_rows : {S : Type 0} → Form → (S → List Value) → List S → List (List ℕ × Def)
+    → List Private → List Value → List ℕ
+map_rows form segment_of segs defs privates last =
+    by_form form [] (codes "{\"segments\":[") ++ rows_in form segment_of segs
+    ++ by_form form [] (codes "\n],\"definitions\":[") ++ rows_in form definition_row defs
+    ++ by_form form [] (codes "\n],\"privates\":[") ++ rows_in form private_row privates
+    ++ by_form form [] (codes "\n]") ++ values_in form last ++ by_form form (codes "\n") []
+
+-- the map of a host and its libraries, but for the end of a document
+abbrev pub rows_of : Form → List ℕ → List (List ℕ) → List ℕ
+rows_of form host libs =
     let order = order_of host in
     let segs = segments order host libs in
-    flat_map (segment_line (origins host libs)) segs
-    ++ flat_map definition_line (definitions (host_records segs))
-    ++ flat_map private_line (all_allotted (next_of (host_records segs)) (map owner_of segs))
-    ++ last_line (next_of (host_records segs) + total_words segs) (data_size order segs)
-    (1 + all_blocks (origins host libs))
+    let records = host_records segs in
+    map_rows form (segment_row (origins host libs)) segs (definitions records)
+    (all_allotted (next_of records) (map owner_of segs))
+    (last_row (next_of records + total_words segs) (data_size order segs)
+    (1 + all_blocks (origins host libs)))
 
 -- the name of a slot, among those of all slots
 abbrev pub name_in : List (List ℕ) → ℕ → List ℕ
 name_in names slot = unwrap_or (slice_get names slot) []
 
--- the line of a plan's source, by the names of all slots
-abbrev pub source_line : List (List ℕ) → List Origin → Origin → List ℕ
-source_line names origins o = code_line o.slot (name_in names o.slot) o.file o.index
+-- the row of a plan's source, by the names of all slots
+abbrev pub source_row : List (List ℕ) → List Origin → Origin → List Value
+source_row names origins o = code_row o.slot (name_in names o.slot) o.file o.index
     (block_of origins o.slot) (length o.code) o.added
 
--- the map that a plan stands for
+-- that of the map that a plan stands for
+abbrev pub plan_rows : Form → Planned → List ℕ
+plan_rows form plan =
+    map_rows form (source_row plan.names plan.origins) plan.origins plan.definitions plan.privates
+    (last_row plan.next_free plan.data_size (1 + all_blocks plan.origins))
+
+-- the map as text, of a host and its libraries and of a plan
+unfoldable pub map_of : List ℕ → List (List ℕ) → List ℕ
+map_of host libs = rows_of Lines host libs
+
 abbrev pub map_in : Planned → List ℕ
-map_in plan =
-    flat_map (source_line plan.names plan.origins) plan.origins
-    ++ flat_map definition_line plan.definitions
-    ++ flat_map private_line plan.privates
-    ++ last_line plan.next_free plan.data_size (1 + all_blocks plan.origins)
+map_in plan = plan_rows Lines plan
+
+-- all of the map as JSON but its end
+unfoldable pub members_of : List ℕ → List (List ℕ) → List ℕ
+members_of host libs = rows_of Json host libs
+
+abbrev pub members_in : Planned → List ℕ
+members_in plan = plan_rows Json plan
+
+-- the end of a document
+abbrev pub json_end : List ℕ
+json_end = codes "}\n"
+
+-- the map as JSON, of a plan and of a host and its libraries
+abbrev pub map_json_in : Planned → List ℕ
+map_json_in plan = members_in plan ++ json_end
+
+abbrev pub map_json_of : List ℕ → List (List ℕ) → List ℕ
+map_json_of host libs = members_of host libs ++ json_end
+
+-- the map in one of its forms
+abbrev pub map_as : Form → Planned → List ℕ
+map_as Lines plan = map_in plan
+map_as Json plan = map_json_in plan

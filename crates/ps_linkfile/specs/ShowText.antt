@@ -2,8 +2,8 @@
 -- that is to be linked, record by record.
 -- Source: this project's profile.
 use Rattle.std.specs.Prelude.{◌≡◌, ℕ, ◌==◌, ◌&&◌, ◌||◌, if◌then◌else◌}
-use Rattle.std.specs.Prelude.{List, [], ◌∷◌, ◌++◌, length, map, nat_lt, codes, decimal}
-use Rattle.std.specs.Prelude.{Bool, Option, Some, None, Ok, Err}
+use Rattle.std.specs.Prelude.{List, [], ◌∷◌, ◌++◌, length, map, nat_lt, codes}
+use Rattle.std.specs.Prelude.{not, Bool, Option, Some, None, Ok, Err}
 use Rattle.std.specs.List.{flat_map, enumerate_from, filter, list_any}
 use Rattle.std.specs.Str.{bytes_eq}
 use Rattle.ps_words.specs.declared.order.Order.{Order}
@@ -11,7 +11,7 @@ use Rattle.ps_words.specs.declared.order.Order.TheVariants.{Little, Big}
 use Rattle.ps_words.specs.FaultPlaces.{in_file}
 use Rattle.ps_words.specs.declared.fault.Reason.{Reason}
 use Rattle.ps_words.specs.declared.fault.Reason.TheVariants as reason
-use Rattle.ps_words.specs.declared.fault.Fault.{Fault}
+use Rattle.ps_words.specs.declared.fault.Fault.{Fault as FileFault}
 use Rattle.ps_codefile.specs.Dictionary.{slots, block_len, FileOrder, Zero, Ordered, Mixed}
 use Rattle.ps_codefile.specs.Dictionary.{file_order, entry_at, is_filled, code_of, information_of}
 use Rattle.ps_codefile.specs.declared.entry.Entry.{Entry}
@@ -19,11 +19,16 @@ use Rattle.ps_linkinfo.specs.Records.{reading}
 use Rattle.ps_linkinfo.specs.declared.record.Body.{Body}
 use Rattle.ps_linkinfo.specs.declared.record.Body.TheVariants.{UnitRef, PublRef, PrivRef, PublDef}
 use Rattle.ps_linkinfo.specs.declared.record.Body.TheVariants.{ConstDef, Eof}
-use Rattle.ps_linkinfo.specs.declared.record.LinkRecord.{LinkRecord as Record}
+use Rattle.ps_linkinfo.specs.declared.record.LinkRecord.{LinkRecord}
 use Rattle.ps_codefile.specs.Roles.{is_unit}
 use Rattle.ps_resolve.specs.Sources.{known_order}
 use Rattle.ps_resolve.specs.Faults.{is_role}
-use Rattle.ps_linkfile.specs.Lines.{line, shown_name, two_digits, field, fault_words}
+use Rattle.ps_linkfile.specs.JsonText.{separator}
+use Rattle.ps_linkfile.specs.Lines.{line, two_digits}
+use Rattle.ps_linkfile.specs.Rows.{Value, InSlot, Number, Flag, Record, Kind, Named, References, Fault}
+use Rattle.ps_linkfile.specs.Rows.{by_form, reason_in, row_in, values_in}
+use Rattle.ps_linkfile.specs.declared.rows.Form.{Form}
+use Rattle.ps_linkfile.specs.declared.rows.Form.TheVariants.{Lines, Json}
 use Rattle.ps_linkfile.specs.declared.error.LinkError.{LinkError}
 use Rattle.ps_linkfile.specs.declared.error.LinkError.TheVariants.{Refused, Memory, Write}
 
@@ -35,21 +40,19 @@ order_words (Ordered Little) = codes "order little"
 order_words (Ordered Big) = codes "order big"
 order_words Mixed = []
 
--- the line of a slot, as `slot 02 UTIL     kind 3 address 1 length 24 text 0`
+-- the row of a slot, as `slot 02 UTIL     kind 3 address 1 length 24 text 0`
+abbrev pub slot_row : ℕ → Entry → List Value
+slot_row slot e = InSlot (codes "slot ") slot e.name ∷ Number (codes "kind") e.kind
+    ∷ Number (codes "address") e.address ∷ Number (codes "length") e.length
+    ∷ Number (codes "text") e.text ∷ []
+
+-- that of an entry, but for the end of an item, in which the link information follows
+abbrev pub entry_in : Form → ℕ → Entry → List ℕ
+entry_in form slot e = by_form form [] (separator slot) ++ values_in form (slot_row slot e)
+    ++ by_form form (codes "\n") []
+
 unfoldable pub slot_line : Order → List ℕ → ℕ → List ℕ
-slot_line order file slot =
-    let e = entry_at order file slot in
-    line (codes "slot " ++ two_digits slot ++ (32 ∷ []) ++ shown_name e.name
-    ++ field (codes "kind") e.kind ++ field (codes "address") e.address
-    ++ field (codes "length") e.length ++ field (codes "text") e.text)
-
--- one reference, as ` 4`
-abbrev pub reference : ℕ → List ℕ
-reference place = (32 ∷ []) ++ decimal place
-
--- all references of a record, as ` at 1 4`
-abbrev pub references : List ℕ → List ℕ
-references refs = codes " at" ++ flat_map reference refs
+slot_line order file slot = entry_in Lines slot (entry_at order file slot)
 
 -- the names of the slots that have a unit, in place or wanted
 unfoldable pub unit_names : Order → List ℕ → List (List ℕ)
@@ -60,59 +63,66 @@ unit_names order file = map (λ slot. (entry_at order file slot).name)
 abbrev pub is_listed : List (List ℕ) → List ℕ → Bool
 is_listed units name = list_any (λ unit. bytes_eq unit name) units
 
--- what ends the line of a UNITREF record whose name none of these units has
-abbrev pub unlisted_word : List (List ℕ) → List ℕ → List ℕ
-unlisted_word units name = if is_listed units name then [] else codes " unlisted"
-
 -- what a record has, in a file with these units
-abbrev pub record_words : List (List ℕ) → List ℕ → Body → List ℕ
-record_words units name (UnitRef refs) =
-    codes " UNITREF " ++ shown_name name ++ references refs ++ unlisted_word units name
-record_words units name (PublRef refs) = codes " PUBLREF " ++ shown_name name ++ references refs
-record_words units name (PrivRef words refs) =
-    codes " PRIVREF " ++ shown_name name ++ field (codes "words") words ++ references refs
-record_words units name (PublDef value) =
-    codes " PUBLDEF " ++ shown_name name ++ field (codes "value") value
-record_words units name (ConstDef value) =
-    codes " CONSTDEF " ++ shown_name name ++ field (codes "value") value
-record_words units name (Eof next) = codes " EOFMARK" ++ field (codes "next") next
+abbrev pub body_row : List (List ℕ) → List ℕ → Body → List Value
+body_row units name (UnitRef refs) = Kind (codes "UNITREF") ∷ Named name ∷ References refs
+    ∷ Flag (codes "unlisted") (not (is_listed units name)) ∷ []
+body_row units name (PublRef refs) =
+    Kind (codes "PUBLREF") ∷ Named name ∷ References refs ∷ []
+body_row units name (PrivRef words refs) = Kind (codes "PRIVREF") ∷ Named name
+    ∷ Number (codes "words") words ∷ References refs ∷ []
+body_row units name (PublDef value) =
+    Kind (codes "PUBLDEF") ∷ Named name ∷ Number (codes "value") value ∷ []
+body_row units name (ConstDef value) =
+    Kind (codes "CONSTDEF") ∷ Named name ∷ Number (codes "value") value ∷ []
+body_row units name (Eof next) = Kind (codes "EOFMARK") ∷ Number (codes "next") next ∷ []
 
--- the line of a record, as `0 PUBLREF COUNT    at 1`
-abbrev pub record_line : List (List ℕ) → ℕ × Record → List ℕ
-record_line units r = line (decimal r.0 ++ record_words units r.1.name r.1.body)
+-- the row of a record, as `0 PUBLREF COUNT    at 1`
+abbrev pub record_in : Form → List (List ℕ) → ℕ × LinkRecord → List ℕ
+record_in form units r = row_in form r.0 (Record r.0 ∷ body_row units r.1.name r.1.body)
 
--- the line of a fault in place of a record, as `2 fault 19 RecordsTruncated`
-abbrev pub fault_line : ℕ → Option Reason → List ℕ
-fault_line rec None = []
-fault_line rec (Some why) = line (decimal rec ++ (32 ∷ []) ++ fault_words why)
+-- the row of a fault in place of a record, as `2 fault 19 RecordsTruncated`
+abbrev pub fault_in : Form → ℕ → Option Reason → List ℕ
+fault_in form rec None = []
+fault_in form rec (Some why) = row_in form rec (Record rec ∷ Fault why ∷ [])
 
 -- the records up to the end mark, or up to the first fault and that fault
-abbrev pub record_lines : List (List ℕ) → List Record × Option Reason → List ℕ
-record_lines units read = flat_map (record_line units) (enumerate_from 0 read.0)
-    ++ fault_line (length read.0) read.1
+abbrev pub records_in : Form → List (List ℕ) → List LinkRecord × Option Reason → List ℕ
+records_in form units read = flat_map (record_in form units) (enumerate_from 0 read.0)
+    ++ fault_in form (length read.0) read.1
 
 -- the slot has a host segment or a unit
 abbrev pub has_links : Entry → Bool
 has_links e = is_filled e && (e.kind == 1 || e.kind == 3)
 
--- `links 02`, then the records of the slot's segment, or the fault of its code; nothing for a slot
--- without link information
-unfoldable pub links_lines : Order → List ℕ → ℕ → List ℕ
-links_lines order file slot =
+-- `links 02`, which only lines have
+abbrev pub links_head : Form → ℕ → List ℕ
+links_head Lines slot = line (codes "links " ++ two_digits slot)
+links_head Json slot = []
+
+-- the link information of a slot's segment: the fault of its code, or its records; neither for a
+-- slot without link information
+unfoldable pub links_in : Form → Order → List ℕ → ℕ → List ℕ
+links_in form order file slot =
     let e = entry_at order file slot in
     if has_links e
-    then line (codes "links " ++ two_digits slot)
-    ++ (elim (code_of file e) [
-      | Err why ↦ line (fault_words why)
-      | Ok code ↦ record_lines (unit_names order file)
-          (reading order (information_of file e))
+    then links_head form slot ++ (elim (code_of file e) [
+      | Err why ↦ by_form form [] (codes ",\"fault\":") ++ reason_in form why
+          ++ by_form form (codes "\n") (codes ",\"records\":[]")
+      | Ok code ↦ by_form form [] (codes ",\"fault\":null,\"records\":[")
+          ++ records_in form (unit_names order file) (reading order (information_of file e))
+          ++ by_form form [] (codes "\n]")
     ])
-    else []
+    else by_form form [] (codes ",\"fault\":null,\"records\":null")
+
+-- the lines of a slot's link information
+unfoldable pub links_lines : Order → List ℕ → ℕ → List ℕ
+links_lines order file slot = links_in Lines order file slot
 
 -- the text of a file that shows this order, and whose words are read in that one
 abbrev pub shown_file : FileOrder → Order → List ℕ → List ℕ
 shown_file found order file = line (order_words found) ++ flat_map (slot_line order file) slots
-    ++ flat_map (links_lines order file) slots
+    ++ flat_map (links_in Lines order file) slots
 
 -- the show of a code file
 unfoldable pub show_of : List ℕ → List ℕ
@@ -124,13 +134,13 @@ order_shown None = Zero
 order_shown (Some order) = Ordered order
 
 -- why a file of 512 bytes or more cannot be shown: its kind words fit neither byte order
-abbrev pub order_fault : FileOrder → Option Fault
+abbrev pub order_fault : FileOrder → Option FileFault
 order_fault Zero = None
 order_fault (Ordered order) = None
 order_fault Mixed = Some (in_file 0 reason.NoOrder)
 
 -- why a file cannot be shown: it has under 512 bytes, or its kind words fit neither byte order
-abbrev pub show_fault : List ℕ → Option Fault
+abbrev pub show_fault : List ℕ → Option FileFault
 show_fault file = if nat_lt (length file) block_len then Some (in_file 0 reason.ShortFile)
     else order_fault (file_order file)
 

@@ -1,12 +1,13 @@
 //! What JSON documents are made of: names, items of an array, and faults.
 ghost use Rattle.std.specs.Prelude.{◌≡◌, ◌++◌};
-ghost use Rattle.std.specs.List.{flat_map};
+ghost use Rattle.std.specs.List.{enumerate_from, flat_map};
 ghost use Rattle.ps_linkfile.specs.Adding.{Adds};
-ghost use Rattle.ps_linkfile.specs.JsonText.{comma_unless, json_bool as json_bool_spec, json_byte, json_name, json_reason, line_end};
+ghost use Rattle.ps_linkfile.specs.JsonText.{comma_unless, json_bool as json_bool_spec, json_byte, json_name, json_reason, line_end, reference_item, references_member};
 
 use crate::lines::{add_number, shown_code};
 use crate::references::add_hex;
 use crate::text_writer::TextWriter;
+use ps_linkinfo::Refs;
 use ps_words::{Name, Reason};
 
 /// Adds a byte of a name inside a string.
@@ -74,4 +75,30 @@ pub(crate) fn add_json_reason<S: TextWriter>(text: &mut S, reason: Reason)
     text.add(b",\"reason\":\"");
     text.add(reason.name().as_bytes());
     text.add(b"\"}");
+}
+
+/// Adds the references of a record.
+pub(crate) fn add_references<S: TextWriter>(text: &mut S, refs: &Refs)
+    ensures { Adds S.added text.old (references_member refs.now) text.new }
+{
+    text.add(b",\"references\":[");
+    add_places(text, refs);
+    text.add(b"]");
+}
+
+/// Adds each reference.
+fn add_places<S: TextWriter>(text: &mut S, refs: &Refs)
+    ensures { Adds S.added text.old
+        (flat_map reference_item (enumerate_from 0 refs.now)) text.new }
+{
+    for index in 0..refs.len() {
+        add_place(text, index, refs.get(index));
+    }
+}
+
+/// Adds a reference of this index.
+fn add_place<S: TextWriter>(text: &mut S, index: usize, place: u16)
+    ensures { Adds S.added text.old (reference_item (index, place)) text.new }
+{
+    add_number(text, comma(index == 0), place);
 }

@@ -5,8 +5,7 @@ ghost use Rattle.ps_resolve.specs.Plans.{IsPlan};
 ghost use Rattle.ps_resolve.specs.Standing.{NoneStands};
 ghost use Rattle.ps_linkfile.specs.Adding.{Adds};
 ghost use Rattle.ps_linkfile.specs.LinkedFile.{summary_of};
-ghost use Rattle.ps_linkfile.specs.MapJson.{map_json_in, map_json_of};
-ghost use Rattle.ps_linkfile.specs.MapText.{map_in, map_of};
+ghost use Rattle.ps_linkfile.specs.MapText.{map_in, map_json_in, map_json_of, map_of, plan_rows};
 ghost use Rattle.ps_linkfile.specs.Writing.{file_in, summary_in, IsReady, StandsFor};
 ghost use Rattle.ps_linkfile.specs.Outcomes.{AppendsPrefix, AppendsLinkedFile, HasUsedNumber, NamesFirst, IsUnprepared, IsUnlinked, LeavesUntouched, LeavesPrefix};
 ghost use Rattle.ps_linkfile.specs.Failures.{failures_with};
@@ -16,8 +15,8 @@ use crate::block_layout::{MAX_FILE_BLOCKS, lay_out};
 use crate::counts::Counts;
 use crate::error::{LinkError, WriteFault};
 use crate::map::{LinkMap, add_map};
-use crate::map_json::JsonMap;
 use crate::noted::NotedWriter;
+use crate::rows::Form;
 use crate::stream::{write_text, write_text_noted};
 use crate::summary::Summary;
 use crate::text_writer::TextWriter;
@@ -119,11 +118,11 @@ impl<'a, A: Allocator + Copy> Linked<'a, A> {
         &self.plan
     }
 
-    /// Adds the map of the link.
-    pub(crate) fn add_map<S: TextWriter>(&self, text: &mut S)
-        ensures { Adds S.added text.old (map_in self.now) text.new }
+    /// Adds the map of the link, but for the end of a document.
+    pub(crate) fn add_map<S: TextWriter>(&self, text: &mut S, form: Form)
+        ensures { Adds S.added text.old (plan_rows form self.now) text.new }
     {
-        add_map(text, &self.plan);
+        add_map(text, form, &self.plan);
     }
 
     /// Writes the map of the link, the text that `map_text` returns, in pieces. It takes no memory.
@@ -137,7 +136,7 @@ impl<'a, A: Allocator + Copy> Linked<'a, A> {
         ensures prefix { OnErr result (AppendsPrefix (W.contents out.old) (W.contents out.new)
             (map_in self.now)) }
     {
-        write_text(&LinkMap(self), out)
+        write_text(&LinkMap(Form::Lines, self), out)
     }
 
     /// Writes the map of the link as `write_map` does, by calls of `noted_write` alone.
@@ -155,7 +154,7 @@ impl<'a, A: Allocator + Copy> Linked<'a, A> {
         ensures failed { IfErr result (λ fault. W.failures out.new
             ≡ failures_with fault (W.failures out.old)) }
     {
-        write_text_noted(&LinkMap(self), out)
+        write_text_noted(&LinkMap(Form::Lines, self), out)
     }
 
     /// Writes the map of the link as one JSON document, in pieces: the values of its lines, of each
@@ -170,7 +169,7 @@ impl<'a, A: Allocator + Copy> Linked<'a, A> {
         ensures prefix { OnErr result (AppendsPrefix (W.contents out.old) (W.contents out.new)
             (map_json_in self.now)) }
     {
-        write_text(&JsonMap(self), out)
+        write_text(&LinkMap(Form::Json, self), out)
     }
 }
 

@@ -1,67 +1,76 @@
-//! The map of a link, as text.
+//! The map of a link, as text and as JSON.
 ghost use Rattle.std.specs.Prelude.{◌≡◌, None, IfOk, IfErr, length};
 ghost use Rattle.ps_linkfile.specs.Adding.{Adds};
-ghost use Rattle.std.specs.List.{flat_map};
 ghost use Rattle.ps_resolve.specs.AllFaults.{first_fault};
 ghost use Rattle.ps_resolve.specs.Sources.{contents};
 ghost use Rattle.ps_resolve.specs.Standing.{NoneStands};
 ghost use Rattle.ps_linkfile.specs.Writing.{starts_of, IsReady};
 ghost use Rattle.ps_linkfile.specs.Outcomes.{HasUsedNumber, IsUnprepared, NamesFirst};
-ghost use Rattle.ps_linkfile.specs.MapText.{added_word as added_word_spec, code_line, source_line, kind_word as kind_word_spec, definition_line, private_line, last_line, map_in, map_of};
+ghost use Rattle.ps_linkfile.specs.MapText.{code_row, source_row, kind_word as kind_word_spec, definition_row, private_row, last_row, plan_rows, map_of};
+ghost use Rattle.ps_linkfile.specs.Rows.{row_in, rows_in, values_in};
 
 use crate::block_layout::lay_out;
 use crate::error::LinkError;
 use crate::in_memory::in_memory;
-use crate::lines::{add_number, add_slot_name, shown_codes, two_digits};
 use crate::linked::{Linked, prepare};
+use crate::rows::{Form, Part, add_by_form, add_parts, add_row};
 use crate::text_writer::{Text, TextWriter};
 use ps_laws::first_of_all;
 use ps_resolve::{Def, DefKind, Definitions, Plan, Private, Source};
 use ps_words::Name;
 use std::alloc::Allocator;
 
-/// What ends the line of a segment, where it was added for a UNITREF record.
-fn added_word(added: bool) -> &'static [u8]
-    ensures { result.now ≡ added_word_spec added }
-{
-    if added { b" added" } else { b"" }
-}
-
-/// Adds the line of a segment of this name, whose code begins in this block.
-fn add_segment<S: TextWriter>(text: &mut S, source: &Source, name: Name, block: u16)
+/// Adds the row of a segment of this name, whose code begins in this block.
+fn add_segment<S: TextWriter>(
+    text: &mut S,
+    form: Form,
+    index: usize,
+    source: &Source,
+    name: Name,
+    block: u16,
+)
     ensures { Adds S.added text.old
-        (code_line source.now.slot name source.now.file source.now.index block
-        (length source.now.code.now) source.now.added) text.new }
+        (row_in form index (code_row source.now.slot name source.now.file source.now.index block
+        (length source.now.code.now) source.now.added)) text.new }
 {
-    add_slot_name(text, b"segment ", source.slot, name);
-    add_number(text, b" file ", source.file);
-    text.add(b" entry ");
-    text.add(&two_digits(source.index));
-    add_number(text, b" block ", block);
-    add_number(text, b" length ", source.code.len());
-    text.add(added_word(source.added));
-    text.add(b"\n");
+    let parts = [
+        Part::InSlot(b"segment ", source.slot, name),
+        Part::Number(b"file", source.file),
+        Part::Short(b"entry", source.index),
+        Part::Number(b"block", block as usize),
+        Part::Number(b"length", source.code.len()),
+        Part::Flag(b"added", source.added),
+    ];
+    add_row(text, form, index, &parts);
 }
 
-/// Adds a line for each segment, by slot. Their codes begin in these blocks.
+/// Adds a row for each segment, by slot. Their codes begin in these blocks.
 fn add_segments<A: Allocator + Copy, S: TextWriter>(
     text: &mut S,
+    form: Form,
     plan: &Plan<'_, A>,
     starts: &[u16],
 )
     requires ready { IsReady plan.now }
     requires starts { starts.now ≡ starts_of plan.now.origins }
     ensures { Adds S.added text.old
-        (flat_map (source_line plan.now.names plan.now.origins) plan.now.origins) text.new }
+        (rows_in form (source_row plan.now.names plan.now.origins) plan.now.origins) text.new }
 {
     let names = plan.names();
     for (k, source) in plan.sources().iter().enumerate() {
-        add_segment(text, source, names[source.slot as usize], starts[k]);
+        add_segment(
+            text,
+            form,
+            k,
+            source,
+            names[source.slot as usize],
+            starts[k],
+        );
     }
 }
 
 /// What the map calls a definition.
-pub(crate) fn kind_word(kind: DefKind) -> &'static [u8]
+fn kind_word(kind: DefKind) -> &'static [u8]
     ensures { result.now ≡ kind_word_spec kind }
 {
     match kind {
@@ -70,88 +79,115 @@ pub(crate) fn kind_word(kind: DefKind) -> &'static [u8]
     }
 }
 
-/// Adds the line of a definition.
-fn add_definition<S: TextWriter>(text: &mut S, name: Name, def: Def)
-    ensures { Adds S.added text.old (definition_line (name, def)) text.new }
+/// Adds the row of a definition.
+fn add_definition<S: TextWriter>(text: &mut S, form: Form, index: usize, name: Name, def: Def)
+    ensures { Adds S.added text.old (row_in form index (definition_row (name, def))) text.new }
 {
-    text.add(kind_word(def.kind));
-    text.add(b" ");
-    text.add(&shown_codes(name));
-    add_number(text, b" value ", def.value);
-    text.add(b"\n");
+    let parts = [
+        Part::OfKind(kind_word(def.kind)),
+        Part::Named(name),
+        Part::Number(b"value", def.value as usize),
+    ];
+    add_row(text, form, index, &parts);
 }
 
-/// Adds a line for each definition, in record order.
-fn add_definitions<A: Allocator + Copy, S: TextWriter>(text: &mut S, definitions: &Definitions<A>)
-    ensures { Adds S.added text.old
-        (flat_map definition_line definitions.now) text.new }
+/// Adds a row for each definition, in record order.
+fn add_definitions<A: Allocator + Copy, S: TextWriter>(
+    text: &mut S,
+    form: Form,
+    definitions: &Definitions<A>,
+)
+    ensures { Adds S.added text.old (rows_in form definition_row definitions.now) text.new }
 {
     for i in 0..definitions.len() {
         if text.has_failed() {
             return;
         }
         let (name, def) = definitions.at(i);
-        add_definition(text, name, def);
+        add_definition(text, form, i, name, def);
     }
 }
 
-/// Adds the line of a private variable.
-fn add_private<S: TextWriter>(text: &mut S, private: &Private)
-    ensures { Adds S.added text.old (private_line private.now) text.new }
+/// Adds the row of a private variable.
+fn add_private<S: TextWriter>(text: &mut S, form: Form, index: usize, private: &Private)
+    ensures { Adds S.added text.old (row_in form index (private_row private.now)) text.new }
 {
-    add_slot_name(text, b"private ", private.slot, private.name);
-    add_number(text, b" offset ", private.offset);
-    add_number(text, b" words ", private.words);
-    text.add(b"\n");
+    let parts = [
+        Part::InSlot(b"private ", private.slot, private.name),
+        Part::Number(b"offset", private.offset as usize),
+        Part::Number(b"words", private.words as usize),
+    ];
+    add_row(text, form, index, &parts);
 }
 
-/// Adds a line for each private variable, by slot and then by record.
-fn add_privates<S: TextWriter>(text: &mut S, privates: &[Private])
-    ensures { Adds S.added text.old (flat_map private_line privates.now)
-        text.new }
+/// Adds a row for each private variable, by slot and then by record.
+fn add_privates<S: TextWriter>(text: &mut S, form: Form, privates: &[Private])
+    ensures { Adds S.added text.old (rows_in form private_row privates.now) text.new }
 {
-    for private in privates {
+    for (i, private) in privates.iter().enumerate() {
         if text.has_failed() {
             return;
         }
-        add_private(text, private);
+        add_private(text, form, i, private);
     }
 }
 
-/// Adds the last line: what is free after the private variables, the data size, and the blocks.
-fn add_last<A: Allocator + Copy, S: TextWriter>(text: &mut S, plan: &Plan<'_, A>, blocks: usize)
+/// Adds the last row: what is free after the private variables, the data size, and the blocks.
+fn add_last<A: Allocator + Copy, S: TextWriter>(
+    text: &mut S,
+    form: Form,
+    plan: &Plan<'_, A>,
+    blocks: usize,
+)
     ensures { Adds S.added text.old
-        (last_line plan.now.next_free plan.now.data_size blocks) text.new }
+        (values_in form (last_row plan.now.next_free plan.now.data_size blocks)) text.new }
 {
-    add_number(text, b"next ", plan.next_free());
-    add_number(text, b" data ", plan.data_size());
-    add_number(text, b" blocks ", blocks);
-    text.add(b"\n");
+    let parts = [
+        Part::Total(b"next", plan.next_free() as usize),
+        Part::Number(b"data", plan.data_size() as usize),
+        Part::Number(b"blocks", blocks),
+    ];
+    add_parts(text, form, &parts);
 }
 
-/// Adds the map of a plan that can be written.
-pub(crate) fn add_map<A: Allocator + Copy, S: TextWriter>(text: &mut S, plan: &Plan<'_, A>)
+/// Adds the map of a plan that can be written, but for the end of a document.
+pub(crate) fn add_map<A: Allocator + Copy, S: TextWriter>(
+    text: &mut S,
+    form: Form,
+    plan: &Plan<'_, A>,
+)
     requires { IsReady plan.now }
-    ensures { Adds S.added text.old (map_in plan.now) text.new }
+    ensures { Adds S.added text.old (plan_rows form plan.now) text.new }
 {
     let layout = lay_out(plan);
-    add_segments(text, plan, layout.starts.as_slice());
-    add_definitions(text, plan.definitions());
-    add_privates(text, plan.allotment().privates());
-    add_last(text, plan, layout.blocks);
+    add_by_form(text, form, b"", b"{\"segments\":[");
+    add_segments(text, form, plan, layout.starts.as_slice());
+    add_by_form(text, form, b"", b"\n],\"definitions\":[");
+    add_definitions(text, form, plan.definitions());
+    add_by_form(text, form, b"", b"\n],\"privates\":[");
+    add_privates(text, form, plan.allotment().privates());
+    add_by_form(text, form, b"", b"\n]");
+    add_last(text, form, plan, layout.blocks);
+    add_by_form(text, form, b"\n", b"");
 }
 
-/// The map of a link that was checked.
+/// The map of a link that was checked, in this form.
 #[derive(Clone, Copy)]
-pub(crate) struct LinkMap<'l, 'a, A: Allocator + Copy>(pub(crate) &'l Linked<'a, A>);
+pub(crate) struct LinkMap<'l, 'a, A: Allocator + Copy>(
+    pub(crate) Form,
+    pub(crate) &'l Linked<'a, A>,
+);
 
 impl<A: Allocator + Copy> Text for LinkMap<'_, '_, A> {
-    ghost use Rattle.ps_linkfile.specs.MapText.{map_in};
+    ghost use Rattle.ps_linkfile.specs.MapText.{map_as};
 
-    ghost bytes = { λ m. map_in m.0.now };
+    ghost bytes = { λ m. map_as m.0 m.1.now };
 
     fn add_to<S: TextWriter>(&self, text: &mut S) {
-        self.0.add_map(text);
+        self.1.add_map(text, self.0);
+        if let Form::Json = self.0 {
+            text.add(b"}\n");
+        }
     }
 }
 
@@ -185,5 +221,5 @@ pub fn map_text<'a, A: Allocator + Copy>(
 {
     first_of_all();
     let linked = prepare(alloc, host, libs)?;
-    Ok(in_memory(alloc, &LinkMap(&linked))?)
+    Ok(in_memory(alloc, &LinkMap(Form::Lines, &linked))?)
 }

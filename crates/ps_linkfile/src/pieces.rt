@@ -2,14 +2,14 @@
 ghost use Rattle.std.specs.Prelude.{◌≡◌, ◌<◌, ◌≤◌, ◌+◌, ◌-◌, ◌++◌, drop, length, take};
 ghost use Rattle.std.specs.List.{flat_map};
 ghost use Rattle.ps_linkfile.specs.Adding.{Adds};
-ghost use Rattle.ps_linkfile.specs.ShowText.{reference};
+ghost use Rattle.ps_linkfile.specs.Lines.{reference, references};
 
 use crate::text_writer::TextWriter;
 use itoa::write_digits;
 use ps_linkinfo::Refs;
 
 /// How many references a piece has, but for the last.
-pub(crate) const PIECE_REFERENCES: usize = 64;
+const PIECE_REFERENCES: usize = 64;
 
 /// How many bytes their text takes at most: six for each, a blank and five digits.
 const PIECE_TEXT_LEN: usize = 6 * PIECE_REFERENCES;
@@ -46,7 +46,7 @@ fn write_piece(refs: &Refs, from: usize, end: usize, piece: &mut [u8; PIECE_TEXT
 }
 
 /// Adds the text of the references from the index `from` on, of at most `PIECE_REFERENCES`.
-pub(crate) fn add_piece<S: TextWriter>(text: &mut S, refs: &Refs, from: usize)
+fn add_piece<S: TextWriter>(text: &mut S, refs: &Refs, from: usize)
     requires { from ≤ length refs.now }
     ensures { Adds S.added text.old
         (flat_map reference (take PIECE_REFERENCES (drop from refs.now))) text.new }
@@ -55,4 +55,14 @@ pub(crate) fn add_piece<S: TextWriter>(text: &mut S, refs: &Refs, from: usize)
     let end = refs.len().min(from + PIECE_REFERENCES);
     let start = write_piece(refs, from, end, &mut piece);
     text.add(&piece[start..]);
+}
+
+/// Adds the references of a record.
+pub(crate) fn add_references<S: TextWriter>(text: &mut S, refs: &Refs)
+    ensures { Adds S.added text.old (references refs.now) text.new }
+{
+    text.add(b" at");
+    for index in 0..refs.len().div_ceil(PIECE_REFERENCES) {
+        add_piece(text, refs, PIECE_REFERENCES * index);
+    }
 }

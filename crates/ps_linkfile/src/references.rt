@@ -16,8 +16,8 @@ use crate::error::{LinkError, WriteFault};
 use crate::lines::{add_number, add_slot_name, shown_codes};
 use crate::linked::{Linked, prepare};
 use crate::listing::{Listing, list_segments};
-use crate::map_json::add_members;
 use crate::references_json::add_references_json;
+use crate::rows::Form;
 use crate::stream::write_text;
 use crate::text_writer::{Text, TextWriter};
 use ps_laws::first_of_all;
@@ -169,7 +169,7 @@ impl<A: Allocator + Copy> Text for ReferenceMap<'_, A> {
     ghost bytes = { λ m. references_text m };
 
     fn add_to<S: TextWriter>(&self, text: &mut S) {
-        self.linked.add_map(text);
+        self.linked.add_map(text, Form::Lines);
         add_listings(text, self.listings.as_slice());
     }
 }
@@ -185,7 +185,7 @@ impl<A: Allocator + Copy> Text for JsonReferences<'_, '_, A> {
 
     fn add_to<S: TextWriter>(&self, text: &mut S) {
         let map = self.0;
-        add_members(text, map.linked.plan());
+        map.linked.add_map(text, Form::Json);
         add_references_json(text, map.listings.as_slice());
     }
 }

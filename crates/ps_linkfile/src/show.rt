@@ -1,5 +1,5 @@
 //! What a code file has, as text.
-ghost use Rattle.std.specs.Prelude.{◌≡◌, ◌<◌, ◌++◌, ◌∷◌, [], if◌then◌else◌, None, Some, IfOk, IfErr, OnOk, decimal};
+ghost use Rattle.std.specs.Prelude.{◌≡◌, ◌<◌, ◌++◌, ◌∷◌, [], if◌then◌else◌, None, Some, IfOk, IfErr, OnOk, codes};
 ghost use Rattle.std.specs.Io.KnownBytes.{Appends};
 ghost use Rattle.std.specs.List.{flat_map};
 ghost use Rattle.ps_words.specs.FaultPlaces.{in_file};
@@ -10,21 +10,24 @@ ghost use Rattle.ps_resolve.specs.Faults.{is_role};
 ghost use Rattle.ps_codefile.specs.Roles.{is_unit as is_unit_role};
 ghost use Rattle.ps_resolve.specs.Sources.{known_order};
 ghost use Rattle.ps_linkfile.specs.Adding.{Adds};
-ghost use Rattle.ps_linkfile.specs.Lines.{line, shown_name};
+ghost use Rattle.ps_linkfile.specs.declared.rows.Form.TheVariants.{Lines};
+ghost use Rattle.ps_linkfile.specs.Lines.{line};
+ghost use Rattle.ps_linkfile.specs.Rows.{Kind, Named, Number, Record, row_in};
 ghost use Rattle.ps_linkfile.specs.Outcomes.{LeavesFailure, LeavesTextPrefix, LeavesUntouched};
-ghost use Rattle.ps_linkfile.specs.ShowText.{order_words, slot_line, references, unit_names as unit_names_spec, is_listed as is_listed_spec, unlisted_word as unlisted_word_spec, record_line, fault_line, record_lines, has_links as has_links_spec, links_lines, show_of, order_shown, show_fault, IsUnshown, IsUnwritten};
+ghost use Rattle.ps_linkfile.specs.ShowText.{entry_in, order_words, slot_line, unit_names as unit_names_spec, is_listed as is_listed_spec, record_in, fault_in, records_in, has_links as has_links_spec, links_head, links_in, show_of, order_shown, show_fault, IsUnshown, IsUnwritten};
 
 use crate::error::LinkError;
 use crate::in_memory::in_memory;
-use crate::lines::{add_fault, add_number, add_slot_name, shown_codes, two_digits};
+use crate::json::separator;
+use crate::lines::two_digits;
 use crate::noted::NotedWriter;
-use crate::pieces::{PIECE_REFERENCES, add_piece};
+use crate::rows::{Form, Part, add_by_form, add_parts, add_reason, add_row};
 use crate::stream::{write_text, write_text_noted};
 use crate::text_writer::{Text, TextWriter};
 use arrayvec::ArrayVec;
 use ps_codefile::dictionary_layout::{SLOT_COUNT, SLOTS};
 use ps_codefile::{Dict, Entry, Role};
-use ps_linkinfo::{Body, LinkRecord, Records, Refs, walk_from_start};
+use ps_linkinfo::{Body, LinkRecord, Records, walk_from_start};
 use ps_words::{Fault, Name, Order, Reason};
 use std::alloc::Allocator;
 use std::io::Write;
@@ -88,6 +91,22 @@ fn add_order<S: TextWriter>(text: &mut S, order: Option<Order>)
     }
 }
 
+/// Adds the row of a slot, but for the end of an item.
+pub(crate) fn add_entry<S: TextWriter>(text: &mut S, form: Form, slot: u8, entry: Entry)
+    ensures { Adds S.added text.old (entry_in form slot entry) text.new }
+{
+    let parts = [
+        Part::InSlot(b"slot ", slot, entry.name),
+        Part::Number(b"kind", entry.kind as usize),
+        Part::Number(b"address", entry.address as usize),
+        Part::Number(b"length", entry.length as usize),
+        Part::Number(b"text", entry.text as usize),
+    ];
+    add_by_form(text, form, b"", separator(slot == 0));
+    add_parts(text, form, &parts);
+    add_by_form(text, form, b"\n", b"");
+}
+
 /// Adds the line of a slot.
 #[tactic(auto, unfolding(crate::specs::ShowText::slot_line))]
 fn add_slot<S: TextWriter>(text: &mut S, dict: &Dict, slot: u8)
@@ -95,19 +114,7 @@ fn add_slot<S: TextWriter>(text: &mut S, dict: &Dict, slot: u8)
     ensures { Adds S.added text.old
         (slot_line dict.now.order dict.now.file slot) text.new }
 {
-    let Entry {
-        address,
-        length,
-        name,
-        kind,
-        text: block,
-    } = dict.entry(slot);
-    add_slot_name(text, b"slot ", slot, name);
-    add_number(text, b" kind ", kind);
-    add_number(text, b" address ", address);
-    add_number(text, b" length ", length);
-    add_number(text, b" text ", block);
-    text.add(b"\n");
+    add_entry(text, Form::Lines, slot, dict.entry(slot));
 }
 
 /// Adds the line of each slot.
@@ -159,95 +166,100 @@ pub(crate) fn is_listed(units: &[Name], name: Name) -> bool
     units.iter().any(|unit| *unit == name)
 }
 
-/// What ends the line of a UNITREF record, where none of these units has its name.
-fn unlisted_word(units: &[Name], name: Name) -> &'static [u8]
-    ensures { result.now ≡ unlisted_word_spec units.now name }
+/// Adds the row of a definition of this kind.
+fn add_valued<S: TextWriter>(
+    text: &mut S,
+    form: Form,
+    rec: usize,
+    kind: &[u8],
+    name: Name,
+    value: u16,
+)
+    ensures { Adds S.added text.old (row_in form rec (Record rec ∷ Kind kind.now ∷ Named name
+        ∷ Number (codes "value") value ∷ [])) text.new }
 {
-    if is_listed(units, name) {
-        b""
-    } else {
-        b" unlisted"
-    }
+    let parts = [
+        Part::Record(rec),
+        Part::Kind(kind),
+        Part::Named(name),
+        Part::Number(b"value", value as usize),
+    ];
+    add_row(text, form, rec, &parts);
 }
 
-/// Adds the references of a record.
-fn add_references<S: TextWriter>(text: &mut S, refs: &Refs)
-    ensures { Adds S.added text.old (references refs.now) text.new }
-{
-    text.add(b" at");
-    for index in 0..refs.len().div_ceil(PIECE_REFERENCES) {
-        add_piece(text, refs, PIECE_REFERENCES * index);
-    }
-}
-
-/// Adds what the line of a record begins with: its index, the word of its kind and its name.
-fn add_head<S: TextWriter>(text: &mut S, rec: usize, kind: &[u8], name: Name)
-    ensures { Adds S.added text.old (decimal rec ++ kind.now ++ shown_name name)
-        text.new }
-{
-    add_number(text, b"", rec);
-    text.add(kind);
-    text.add(&shown_codes(name));
-}
-
-/// Adds the line of a record, which has the index `rec` in its segment's link information, in a
+/// Adds the row of a record, which has the index `rec` in its segment's link information, in a
 /// file with these units.
-fn add_record<S: TextWriter>(text: &mut S, units: &[Name], rec: usize, entry: &LinkRecord)
-    ensures { Adds S.added text.old (record_line units.now (rec, entry.now))
-        text.new }
+fn add_record<S: TextWriter>(
+    text: &mut S,
+    form: Form,
+    units: &[Name],
+    rec: usize,
+    entry: &LinkRecord,
+)
+    ensures { Adds S.added text.old (record_in form units.now (rec, entry.now)) text.new }
 {
+    let name = entry.name;
     match &entry.body {
         Body::UnitRef(refs) => {
-            add_head(text, rec, b" UNITREF ", entry.name);
-            add_references(text, refs);
-            text.add(unlisted_word(units, entry.name));
-            text.add(b"\n");
+            let parts = [
+                Part::Record(rec),
+                Part::Kind(b"UNITREF"),
+                Part::Named(name),
+                Part::References(refs),
+                Part::Flag(b"unlisted", !is_listed(units, name)),
+            ];
+            add_row(text, form, rec, &parts);
         }
         Body::PublRef(refs) => {
-            add_head(text, rec, b" PUBLREF ", entry.name);
-            add_references(text, refs);
-            text.add(b"\n");
+            let parts = [
+                Part::Record(rec),
+                Part::Kind(b"PUBLREF"),
+                Part::Named(name),
+                Part::References(refs),
+            ];
+            add_row(text, form, rec, &parts);
         }
         Body::PrivRef { words, refs } => {
-            add_head(text, rec, b" PRIVREF ", entry.name);
-            add_number(text, b" words ", *words);
-            add_references(text, refs);
-            text.add(b"\n");
+            let parts = [
+                Part::Record(rec),
+                Part::Kind(b"PRIVREF"),
+                Part::Named(name),
+                Part::Number(b"words", *words as usize),
+                Part::References(refs),
+            ];
+            add_row(text, form, rec, &parts);
         }
-        Body::PublDef(value) => {
-            add_head(text, rec, b" PUBLDEF ", entry.name);
-            add_number(text, b" value ", *value);
-            text.add(b"\n");
-        }
-        Body::ConstDef(value) => {
-            add_head(text, rec, b" CONSTDEF ", entry.name);
-            add_number(text, b" value ", *value);
-            text.add(b"\n");
-        }
+        Body::PublDef(value) => add_valued(text, form, rec, b"PUBLDEF", name, *value),
+        Body::ConstDef(value) => add_valued(text, form, rec, b"CONSTDEF", name, *value),
         Body::Eof(next) => {
-            add_number(text, b"", rec);
-            add_number(text, b" EOFMARK next ", *next);
-            text.add(b"\n");
+            let parts = [
+                Part::Record(rec),
+                Part::Kind(b"EOFMARK"),
+                Part::Number(b"next", *next as usize),
+            ];
+            add_row(text, form, rec, &parts);
         }
     }
 }
 
-/// Adds the line of a fault that occurs in place of the record of index `rec`.
-fn add_record_fault<S: TextWriter>(text: &mut S, rec: usize, reason: Reason)
-    ensures { Adds S.added text.old
-        (fault_line rec (Some reason)) text.new }
+/// Adds the row of a fault that occurs in place of the record of index `rec`.
+fn add_record_fault<S: TextWriter>(text: &mut S, form: Form, rec: usize, reason: Reason)
+    ensures { Adds S.added text.old (fault_in form rec (Some reason)) text.new }
 {
-    add_number(text, b"", rec);
-    text.add(b" ");
-    add_fault(text, reason);
-    text.add(b"\n");
+    add_row(text, form, rec, &[Part::Record(rec), Part::Fault(reason)]);
 }
 
-/// Adds the lines of link information in a file with these units: of each record up to its end, or
+/// Adds the rows of link information in a file with these units: of each record up to its end, or
 /// up to the first fault and that fault.
-fn add_records<S: TextWriter>(text: &mut S, units: &[Name], order: Order, information: &[u8])
+fn add_records<S: TextWriter>(
+    text: &mut S,
+    form: Form,
+    units: &[Name],
+    order: Order,
+    information: &[u8],
+)
     ensures { Adds S.added text.old
-        (record_lines units.now (reading order information.now)) text.new }
+        (records_in form units.now (reading order information.now)) text.new }
 {
     walk_from_start();
     let mut rec = 0;
@@ -257,10 +269,10 @@ fn add_records<S: TextWriter>(text: &mut S, units: &[Name], order: Order, inform
         }
         match item {
             Ok(entry) => {
-                add_record(text, units, rec, &entry);
+                add_record(text, form, units, rec, &entry);
                 rec += 1;
             }
-            Err(reason) => add_record_fault(text, rec, reason),
+            Err(reason) => add_record_fault(text, form, rec, reason),
         }
     }
 }
@@ -273,38 +285,62 @@ pub(crate) fn has_links(dict: &Dict, slot: u8) -> bool
     matches!(dict.role(slot), Ok(Role::Host | Role::Unit))
 }
 
+/// Adds what the lines of the link information of a slot begin with.
+fn add_links_head<S: TextWriter>(text: &mut S, form: Form, slot: u8)
+    ensures { Adds S.added text.old (links_head form slot) text.new }
+{
+    match form {
+        Form::Lines => {
+            text.add(b"links ");
+            text.add(&two_digits(slot));
+            text.add(b"\n");
+        }
+        Form::Json => text.add(b""),
+    }
+}
+
 /// Adds the link information of a slot, where it has a segment with one, in a file with these
 /// units.
-#[tactic(auto, unfolding(crate::specs::ShowText::links_lines))]
-fn add_links<S: TextWriter>(text: &mut S, dict: &Dict, units: &[Name], slot: u8)
+#[tactic(auto, unfolding(crate::specs::ShowText::links_in))]
+pub(crate) fn add_links<S: TextWriter>(
+    text: &mut S,
+    form: Form,
+    dict: &Dict,
+    units: &[Name],
+    slot: u8,
+)
     requires in_range { slot < 16 }
     requires units { units.now ≡ unit_names_spec dict.now.order dict.now.file }
     ensures { Adds S.added text.old
-        (links_lines dict.now.order dict.now.file slot) text.new }
+        (links_in form dict.now.order dict.now.file slot) text.new }
 {
     if !has_links(dict, slot) {
+        add_by_form(text, form, b"", b",\"fault\":null,\"records\":null");
         return;
     }
-    text.add(b"links ");
-    text.add(&two_digits(slot));
-    text.add(b"\n");
+    add_links_head(text, form, slot);
     match dict.code(slot) {
         Err(reason) => {
-            add_fault(text, reason);
-            text.add(b"\n");
+            add_by_form(text, form, b"", b",\"fault\":");
+            add_reason(text, form, reason);
+            add_by_form(text, form, b"\n", b",\"records\":[]");
         }
-        Ok(_) => add_records(text, units, dict.order(), dict.after(slot)),
+        Ok(_) => {
+            add_by_form(text, form, b"", b",\"fault\":null,\"records\":[");
+            add_records(text, form, units, dict.order(), dict.after(slot));
+            add_by_form(text, form, b"", b"\n]");
+        }
     }
 }
 
 /// Adds the link information of each slot.
 fn add_all_links<S: TextWriter>(text: &mut S, dict: &Dict)
     ensures { Adds S.added text.old
-        (flat_map (links_lines dict.now.order dict.now.file) slots) text.new }
+        (flat_map (links_in Lines dict.now.order dict.now.file) slots) text.new }
 {
     let units = unit_names(dict);
     for slot in 0..SLOTS {
-        add_links(text, dict, units.as_slice(), slot);
+        add_links(text, Form::Lines, dict, units.as_slice(), slot);
     }
 }
 

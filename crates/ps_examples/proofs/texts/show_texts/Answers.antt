@@ -3,7 +3,7 @@ use Rattle.std.specs.Fmt.{digits}
 use Rattle.ps_examples.specs.Files.{host, library}
 use Rattle.ps_examples.specs.Expected.{linked_pair}
 use Rattle.ps_linkfile.specs.LinkedFile.{linked_file, dictionary, all_pairs}
-use Rattle.ps_linkfile.specs.ShowText.{show_of, slot_line, links_lines, unit_names}
+use Rattle.ps_linkfile.specs.ShowText.{show_of, slot_line, links_in, links_lines, unit_names}
 use Rattle.ps_resolve.specs.Added.{empty_slots, rounds, segments, slot_names}
 use Rattle.ps_resolve.specs.Sources.{own_segments}
 use Rattle.ps_words.specs.declared.order.Order.TheVariants.{Little}
@@ -14,7 +14,7 @@ unfolding own_segments empty_slots rounds segments slot_names dictionary all_pai
 linked = refl
 
 pub returns : goal.returns
-unfolding show_of slot_line links_lines unit_names digits
+unfolding show_of slot_line links_in links_lines unit_names digits
 returns c = record {
   the_library = refl;
   the_library_cut_in_its_end_mark = refl;

@@ -1,8 +1,8 @@
 use Rattle.ps_linkfile.proofs.Words.{err_from_is_err_and}
 use Rattle.std.proofs.Common.{arith, map}
 use Rattle.ps_linkfile.proofs.Plans.{plan_ready, plan_file, plan_summary}
-use Rattle.ps_linkfile.proofs.Maps.{plan_map}
-use Rattle.ps_linkfile.proofs.MapsJson.{plan_json}
+use Rattle.ps_linkfile.proofs.Maps.{plan_text}
+use Rattle.ps_linkfile.proofs.Maps.{plan_json}
 use Rattle.ps_linkfile.proofs.Whole.{names_first, there, long_host}
 use Rattle.ps_linkfile.proofs.linked.prepare.Goals as goal
 
@@ -22,7 +22,7 @@ returns-clause-linked g c =
     }
 
 pub returns-clause-map : goal.returns-clause-map
-returns-clause-map g c = plan_map _ _ c.in_ok-plan.plan c.in_ok-plan.ensures.plan
+returns-clause-map g c = plan_text _ _ c.in_ok-plan.plan c.in_ok-plan.ensures.plan
 
 pub returns-clause-json : goal.returns-clause-json
 returns-clause-json g c = plan_json _ _ c.in_ok-plan.plan c.in_ok-plan.ensures.plan

@@ -1,23 +1,24 @@
 use Rattle.std.proofs.Common.{arith, refl}
-use Rattle.ps_linkfile.proofs.Words.{drop_more, private_line}
-use Rattle.ps_linkfile.proofs.Written.{all_stopped, all_written, items_left, items_over, none_yet}
-use Rattle.ps_linkfile.proofs.Written.{some_more}
+use Rattle.ps_linkfile.specs.MapText.{private_row}
+use Rattle.ps_linkfile.specs.Rows.{row_item}
+use Rattle.ps_linkfile.proofs.Words.{drop_more}
+use Rattle.ps_linkfile.proofs.Numbered.{numbered_left, numbered_over}
+use Rattle.ps_linkfile.proofs.Written.{all_stopped, all_written, none_yet, some_more}
 use Rattle.ps_linkfile.proofs.map.add_privates.Goals as goal
 
-pub loop-private-init : goal.loop-private-init
-loop-private-init g c = none_yet refl
+pub loop-i-init : goal.loop-i-init
+loop-i-init g c = none_yet refl
 
-pub loop-private-preserved : goal.loop-private-preserved
-loop-private-preserved g c =
-    let ps = c.args.privates.now in
-    some_more (items_left private_line ps c.loop-private.private-index _
-    (drop_more ps c.loop-private.private-index _ c.loop-private-test.true))
-    c.loop-private.invariant c.add_private.ensures
+pub loop-i-preserved : goal.loop-i-preserved
+loop-i-preserved g c =
+    let xs = c.args.privates.now in
+    some_more (numbered_left (row_item c.args.form private_row) xs c.loop-i.i _
+    (drop_more xs c.loop-i.i _ c.loop-i-test.true)) c.loop-i.invariant c.add_private.ensures
 
 pub returns : goal.returns
-returns g c = all_written (items_over private_line c.args.privates.now c.loop-private.private-index
-    (omega (arith, c.loop-private-test.false))) c.loop-private.invariant
+returns g c = all_written (numbered_over (row_item c.args.form private_row) c.args.privates.now c.loop-i.i
+    (omega (arith, c.loop-i-test.false))) c.loop-i.invariant
 
 pub returns-then-has_failed : goal.returns-then-has_failed
-returns-then-has_failed g c = all_stopped c.loop-private.invariant
+returns-then-has_failed g c = all_stopped c.loop-i.invariant
     (c.has_failed.ensures c.if-has_failed.true _)

@@ -1,11 +1,13 @@
 use Rattle.std.proofs.Common.{drop}
-use Rattle.ps_linkfile.proofs.Words.{flat_map, source_line}
+use Rattle.ps_linkfile.specs.MapText.{source_row}
+use Rattle.ps_linkfile.specs.Rows.{rows_from, rows_in}
 use Rattle.ps_linkfile.proofs.Written.{Written}
 use Rattle.ps_linkfile.proofs.map.add_segments.Given as goal
 
--- the lines of the sources that are left are still to be written
+-- the rows of the sources that are left are still to be written
 abbrev pub invariant-loop-k : goal.invariant-loop-k
 invariant-loop-k g l =
     Written g.S.TextWriter.added l.fn.text
-    (flat_map (source_line l.plan.names l.plan.origins) l.plan.origins)
-    (flat_map (source_line l.plan.names l.plan.origins) (drop l.k l.plan.origins)) l.text
+    (rows_in l.form (source_row l.plan.names l.plan.origins) l.plan.origins)
+    (rows_from l.form (source_row l.plan.names l.plan.origins) l.k (drop l.k l.plan.origins))
+    l.text

@@ -6,7 +6,7 @@ use Rattle.ps_resolve.specs.AllFaults.{first_fault, reading_fault}
 use Rattle.ps_resolve.specs.Readings.{ReadFiles}
 use Rattle.ps_linkfile.specs.ReferencesText.{references_of}
 use Rattle.ps_linkfile.proofs.Listings.{as_plan, joined, references_are}
-use Rattle.ps_linkfile.proofs.MapsJson.{members_are}
+use Rattle.ps_linkfile.proofs.Maps.{members_are}
 use Rattle.ps_linkfile.proofs.Whole.{none_found, reading_first}
 use Rattle.ps_linkfile.proofs.references.prepare_references.Goals as goal
 

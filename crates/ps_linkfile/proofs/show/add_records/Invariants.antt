@@ -1,18 +1,18 @@
 use Rattle.std.proofs.Common.{◌≤◌, ◌+◌, ◌/◌, length}
-use Rattle.ps_linkfile.proofs.Words.{reading, record_lines}
+use Rattle.ps_linkfile.proofs.Words.{reading}
 use Rattle.ps_linkinfo.specs.Left.{items_left}
-use Rattle.ps_linkfile.specs.ShowText.{fault_line, record_line}
+use Rattle.ps_linkfile.specs.ShowText.{fault_in, record_in, records_in}
 use Rattle.ps_linkfile.proofs.Walks.{walked}
 use Rattle.ps_linkfile.proofs.Written.{Written}
 use Rattle.ps_linkfile.proofs.show.add_records.Given as goal
 
--- the lines of what is left are still to be written
+-- the rows of what is left are still to be written
 abbrev pub invariant-loop-item : goal.invariant-loop-item
 invariant-loop-item g l = record {
   can : (goal.iterator-loop-item g).can_next l.item-iterator;
   finite : (goal.iterator-loop-item g).is_finite l.item-iterator;
   lines : Written g.S.TextWriter.added l.fn.text
-      (record_lines l.units (reading l.fn.order l.information))
-      (walked (record_line l.units) fault_line l.rec (items_left l.item-iterator)) l.text;
+      (records_in l.form l.units (reading l.fn.order l.information))
+      (walked (record_in l.form l.units) (fault_in l.form) l.rec (items_left l.item-iterator)) l.text;
   few : l.rec + length (items_left l.item-iterator) ≤ length l.information / 16 + 1;
 }

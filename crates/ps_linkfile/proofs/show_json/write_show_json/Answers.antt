@@ -1,6 +1,6 @@
 use Rattle.std.proofs.Common.{arith}
 use Rattle.ps_linkfile.proofs.Words.{err_from_is_err_and}
-use Rattle.ps_linkfile.proofs.ShowsJson.{json_is}
+use Rattle.ps_linkfile.proofs.Shows.{json_is}
 use Rattle.ps_linkfile.proofs.show_json.write_show_json.Goals as goal
 
 pub returns-clause-written : goal.returns-clause-written

@@ -1,5 +1,0 @@
-use Rattle.ps_linkfile.proofs.Written.{◌⨾◌}
-use Rattle.ps_linkfile.proofs.map_json.add_definition_list.Goals as goal
-
-pub returns : goal.returns
-returns g c = c.add.ensures ⨾ c.add_definitions.ensures

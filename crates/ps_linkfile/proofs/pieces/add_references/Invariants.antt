@@ -1,0 +1,11 @@
+use Rattle.std.proofs.Common.{◌*◌, ℕ, List, drop}
+use Rattle.ps_linkfile.proofs.Words.{flat_map, reference, references, PIECE_REFERENCES}
+use Rattle.ps_linkfile.proofs.Written.{Written}
+use Rattle.ps_linkfile.proofs.pieces.add_references.Given as goal
+
+-- the references that are left are still to be written
+abbrev pub invariant-loop-index : goal.invariant-loop-index
+invariant-loop-index g l =
+    let refs : List ℕ = l.refs in
+    Written g.S.TextWriter.added l.fn.text (references refs)
+    (flat_map reference (drop (PIECE_REFERENCES * l.index) refs)) l.text

@@ -1,0 +1,208 @@
+//! What map and its kin print: rows of values, as lines of text or as items of a JSON document.
+ghost use Rattle.std.specs.Prelude.{◌≡◌, ◌++◌, ◌∷◌, [], if◌then◌else◌, codes, map};
+ghost use Rattle.ps_linkfile.specs.Adding.{Adds};
+ghost use Rattle.ps_linkfile.specs.JsonText.{json_bool as json_bool_spec, json_name, member};
+ghost use Rattle.ps_linkfile.specs.Rows.{by_form, in_item, in_line, reason_in, row_in, value_in, value_of, values_in};
+
+use crate::json::{self, add_json_name, add_json_reason, json_bool, separator};
+use crate::lines::{add_fault, add_number, add_slot_name, shown_codes, two_digits};
+use crate::pieces;
+use crate::text_writer::TextWriter;
+use itoa::Buffer;
+use ps_linkinfo::Refs;
+use ps_words::{Name, Reason};
+
+/// What rows are printed as.
+#[derive(Clone, Copy)]
+pub(crate) enum Form {
+    /// Lines of ASCII text.
+    Lines,
+    /// A JSON document.
+    Json,
+}
+
+/// A value of a row, with its word.
+#[derive(Clone, Copy)]
+pub(crate) enum Part<'w> {
+    /// What a row begins with: a slot and a name, in a line after the word and a blank.
+    InSlot(&'w [u8], u8, Name),
+    /// What a row begins with: a kind.
+    OfKind(&'w [u8]),
+    /// What the last row begins with.
+    Total(&'w [u8], usize),
+    /// A number.
+    Number(&'w [u8], usize),
+    /// A number that a line has in two digits.
+    Short(&'w [u8], u8),
+    /// Whether the word holds: then alone a line has it.
+    Flag(&'w [u8], bool),
+    /// What the row of a record begins with: its index.
+    Record(usize),
+    /// The kind of a record.
+    Kind(&'w [u8]),
+    /// A name.
+    Named(Name),
+    /// The references of a record.
+    References(&'w Refs<'w>),
+    /// A fault in place of what a record has.
+    Fault(Reason),
+}
+
+/// Adds a word after a blank.
+fn add_word<S: TextWriter>(text: &mut S, word: &[u8])
+    ensures { Adds S.added text.old ((32 ∷ []) ++ word.now) text.new }
+{
+    text.add(b" ");
+    text.add(word);
+}
+
+/// Adds a word after a blank, where it holds.
+fn add_flag<S: TextWriter>(text: &mut S, word: &[u8], holds: bool)
+    ensures { Adds S.added text.old (if holds then (32 ∷ []) ++ word.now else []) text.new }
+{
+    if holds {
+        add_word(text, word);
+    }
+}
+
+/// Adds a value as a line has it.
+fn add_in_line<S: TextWriter>(text: &mut S, part: Part)
+    ensures { Adds S.added text.old (in_line (value_of part.entry)) text.new }
+{
+    match part {
+        Part::InSlot(word, slot, name) => add_slot_name(text, word, slot, name),
+        Part::OfKind(kind) => text.add(kind),
+        Part::Total(word, number) => {
+            text.add(word);
+            add_number(text, b" ", number);
+        }
+        Part::Number(word, number) => {
+            add_word(text, word);
+            add_number(text, b" ", number);
+        }
+        Part::Short(word, number) => {
+            add_word(text, word);
+            add_word(text, &two_digits(number));
+        }
+        Part::Flag(word, holds) => add_flag(text, word, holds),
+        Part::Record(index) => add_number(text, b"", index),
+        Part::Kind(kind) => add_word(text, kind),
+        Part::Named(name) => add_word(text, &shown_codes(name)),
+        Part::References(refs) => pieces::add_references(text, refs),
+        Part::Fault(reason) => {
+            text.add(b" ");
+            add_fault(text, reason);
+        }
+    }
+}
+
+/// Adds a number as a member after its word.
+fn add_member<S: TextWriter>(text: &mut S, word: &[u8], number: usize)
+    ensures { Adds S.added text.old (member word.now number) text.new }
+{
+    text.add(b",\"");
+    text.add(word);
+    text.add(b"\":");
+    text.add(Buffer::new().format(number).as_bytes());
+}
+
+/// Adds whether a word holds as a member after it.
+fn add_flag_member<S: TextWriter>(text: &mut S, word: &[u8], holds: bool)
+    ensures { Adds S.added text.old
+        (codes ",\"" ++ word.now ++ codes "\":" ++ json_bool_spec holds) text.new }
+{
+    text.add(b",\"");
+    text.add(word);
+    text.add(b"\":");
+    text.add(json_bool(holds));
+}
+
+/// Adds a kind as a member that begins so.
+fn add_kind<S: TextWriter>(text: &mut S, before: &[u8], kind: &[u8])
+    ensures { Adds S.added text.old (before.now ++ kind.now ++ codes "\"") text.new }
+{
+    text.add(before);
+    text.add(kind);
+    text.add(b"\"");
+}
+
+/// Adds the members of a name after another one.
+fn add_name<S: TextWriter>(text: &mut S, name: Name)
+    ensures { Adds S.added text.old (codes "," ++ json_name name) text.new }
+{
+    text.add(b",");
+    add_json_name(text, name);
+}
+
+/// Adds a value as an item has it.
+fn add_in_item<S: TextWriter>(text: &mut S, part: Part)
+    ensures { Adds S.added text.old (in_item (value_of part.entry)) text.new }
+{
+    match part {
+        Part::InSlot(_, slot, name) => {
+            add_number(text, b"{\"slot\":", slot);
+            add_name(text, name);
+        }
+        Part::OfKind(kind) => add_kind(text, b"{\"kind\":\"", kind),
+        Part::Total(word, number) => add_member(text, word, number),
+        Part::Number(word, number) => add_member(text, word, number),
+        Part::Short(word, number) => add_member(text, word, number as usize),
+        Part::Flag(word, holds) => add_flag_member(text, word, holds),
+        Part::Record(index) => add_number(text, b"{\"record\":", index),
+        Part::Kind(kind) => add_kind(text, b",\"kind\":\"", kind),
+        Part::Named(name) => add_name(text, name),
+        Part::References(refs) => json::add_references(text, refs),
+        Part::Fault(reason) => {
+            text.add(b",\"kind\":\"fault\",\"fault\":");
+            add_json_reason(text, reason);
+        }
+    }
+}
+
+/// Adds a value.
+fn add_part<S: TextWriter>(text: &mut S, form: Form, part: Part)
+    ensures { Adds S.added text.old (value_in form (value_of part.entry)) text.new }
+{
+    match form {
+        Form::Lines => add_in_line(text, part),
+        Form::Json => add_in_item(text, part),
+    }
+}
+
+/// Adds the values of a row.
+pub(crate) fn add_parts<S: TextWriter>(text: &mut S, form: Form, parts: &[Part])
+    ensures { Adds S.added text.old (values_in form (map value_of parts.now)) text.new }
+{
+    for part in parts {
+        add_part(text, form, *part);
+    }
+}
+
+/// Adds what a line has, or what a document has in its place.
+pub(crate) fn add_by_form<S: TextWriter>(text: &mut S, form: Form, line: &[u8], item: &[u8])
+    ensures { Adds S.added text.old (by_form form line.now item.now) text.new }
+{
+    match form {
+        Form::Lines => text.add(line),
+        Form::Json => text.add(item),
+    }
+}
+
+/// Adds a fault of a code.
+pub(crate) fn add_reason<S: TextWriter>(text: &mut S, form: Form, reason: Reason)
+    ensures { Adds S.added text.old (reason_in form reason) text.new }
+{
+    match form {
+        Form::Lines => add_fault(text, reason),
+        Form::Json => add_json_reason(text, reason),
+    }
+}
+
+/// Adds the row of this index.
+pub(crate) fn add_row<S: TextWriter>(text: &mut S, form: Form, index: usize, parts: &[Part])
+    ensures { Adds S.added text.old (row_in form index (map value_of parts.now)) text.new }
+{
+    add_by_form(text, form, b"", separator(index == 0));
+    add_parts(text, form, parts);
+    add_by_form(text, form, b"\n", b"}");
+}
