@@ -47,8 +47,8 @@ lib:
 	library/build
 
 bench: build lib
-	python3 bench/large_files.py $(BINARY)
-	python3 bench/in_process.py $(BINARY) $(LIBRARY) $(OTHER)
+	python3 bench/large_files.py "$(BINARY)"
+	python3 bench/in_process.py "$(BINARY)" $(LIBRARY) $(OTHER)
 
 vectors:
 	vectors/make_vectors.py
@@ -60,7 +60,7 @@ install-program: build install-built-program
 # what is built already, put in place: the program, its manual pages and the documents
 install-built-program: install-texts
 	install -d $(DESTDIR)$(PREFIX)/bin $(DESTDIR)$(MAN)/man1 $(DESTDIR)$(MAN)/man5
-	install -m 755 $(BINARY) $(DESTDIR)$(PREFIX)/bin/pslink
+	install -m 755 "$(BINARY)" $(DESTDIR)$(PREFIX)/bin/pslink
 	install -m 644 man/pslink.1 $(DESTDIR)$(MAN)/man1/pslink.1
 	install -m 644 man/pslink.5 $(DESTDIR)$(MAN)/man5/pslink.5
 	for file in $(BESIDE); do install -D -m 644 $$file $(DESTDIR)$(DOC)/$$file || exit 1; done

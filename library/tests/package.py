@@ -14,7 +14,7 @@ import pickle
 import shutil
 import subprocess
 import sys
-import time
+import tracemalloc
 import zipfile
 
 ROOT = pathlib.Path(__file__).resolve().parents[2]
@@ -120,18 +120,15 @@ def of_threads():
     check(all(result == linked for result in results[1::2]), "a thread has another result")
 
 
-def of_time():
-    """A small link makes no large room: that took half a millisecond."""
+def of_room():
+    """A small link makes no room for the longest linked file: a link of the sample pair, of three blocks, takes less memory than
+    sixty have."""
     host, library = HOST.read_bytes(), LIBRARY.read_bytes()
-    best = min(timed(host, library) for _ in range(7))
-    check(best < 200e-6, f"a link of the sample pair takes {1e6 * best:.0f} microseconds")
-
-
-def timed(host, library, turns=200):
-    start = time.perf_counter()
-    for _ in range(turns):
-        pslink.link(host, [library])
-    return (time.perf_counter() - start) / turns
+    tracemalloc.start()
+    pslink.link(host, [library])
+    _, most = tracemalloc.get_traced_memory()
+    tracemalloc.stop()
+    check(3 * 512 <= most < 60 * 512, f"a link of the sample pair takes {most} bytes")
 
 
 def imported(**env):
@@ -177,7 +174,7 @@ def of_installing():
 
 
 def main():
-    for part in (of_files, of_reports, of_refusals, of_threads, of_time, of_installing):
+    for part in (of_files, of_reports, of_refusals, of_threads, of_room, of_installing):
         part()
     for line in found:
         print(line)
