@@ -14,7 +14,6 @@ import pickle
 import shutil
 import subprocess
 import sys
-import time
 import zipfile
 
 ROOT = pathlib.Path(__file__).resolve().parents[2]
@@ -59,6 +58,7 @@ def of_files():
     }  # fmt: skip
     for what, (one, all_) in same.items():
         check(pslink.link(one, all_) == linked, f"{what} are linked to another file")
+    check(pslink.link(Longer(host), [library]) == linked, "a length is trusted that is not that of the bytes")
     check(pslink.link_with_summary(host, [library]) == (linked, (2, 4, 3)), "the summary is another")
     check(pslink.map(HOST, [LIBRARY]).encode() == (ROOT / "samples/host.map").read_bytes(), "the map is another")
     check(pslink.show(LIBRARY) == pslink.show(library) and pslink.show(library).startswith("order little\n"), "the show is another")
@@ -90,6 +90,8 @@ def of_reports():
         report = pslink.check(host, [warned], ["\N{FLOPPY DISK}", "two"], strict)
         check((report.warnings, report.fault, report.ok) == (1, None, not strict), f"a warning is {report[1:]}")
         check("file 0 \N{FLOPPY DISK}: " in report.text and "\nwarning: two, segment UTIL" in report.text, f"its text is {report.text}")
+    check(pslink.check(host, [library]) and not pslink.check(host), "a report is true otherwise than where it is ok")
+    check(pslink.check(host) == pslink.check(host) != pslink.check(host, [library]), "two reports are equal otherwise than by what they hold")
     check(raised(ValueError, pslink.check, host, [library], ["one"]), "a name too few is no ValueError")
     check(raised(TypeError, pslink.check, host, library), "one library is a list for a report")
     for names in ("12", b"12", 2, [b"one", b"two"], [1, 2]):
@@ -120,18 +122,17 @@ def of_threads():
     check(all(result == linked for result in results[1::2]), "a thread has another result")
 
 
-def of_time():
-    """A small link makes no large room: that took half a millisecond."""
-    host, library = HOST.read_bytes(), LIBRARY.read_bytes()
-    best = min(timed(host, library) for _ in range(7))
-    check(best < 200e-6, f"a link of the sample pair takes {1e6 * best:.0f} microseconds")
+def of_names():
+    names = {}
+    exec("from pslink import *", names)
+    check("map" not in names and names["link"] is pslink.link, "import * takes Python's own map away, or gives no link")
 
 
-def timed(host, library, turns=200):
-    start = time.perf_counter()
-    for _ in range(turns):
-        pslink.link(host, [library])
-    return (time.perf_counter() - start) / turns
+class Longer(bytes):
+    """Bytes that say another length than they have."""
+
+    def __len__(self):
+        return super().__len__() + 64
 
 
 def imported(**env):
@@ -156,6 +157,8 @@ def of_installing():
         import build_backend
 
         zipfile.ZipFile(FOLDER / build_backend.build_wheel(FOLDER)).extractall(FOLDER / "site")
+        zipfile.ZipFile(FOLDER / build_backend.build_editable(FOLDER)).extractall(FOLDER / "editable")
+        check((FOLDER / "editable/pslink.pth").read_text() == f"{source}\n", "an editable installation is of another folder")
     there = f"True {FOLDER}/site/pslink/__init__.py"
     config = FOLDER / "pkgconfig"
     config.mkdir()
@@ -177,7 +180,7 @@ def of_installing():
 
 
 def main():
-    for part in (of_files, of_reports, of_refusals, of_threads, of_time, of_installing):
+    for part in (of_files, of_reports, of_refusals, of_names, of_threads, of_installing):
         part()
     for line in found:
         print(line)
