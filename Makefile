@@ -9,12 +9,16 @@
 # make bench: times links of large files, of malicious input, and in one process; with OTHER=ARCHIVE also those of another library with the same header
 PREFIX ?= /usr/local
 LIBDIR ?= $(PREFIX)/lib
-INCLUDE = $(PREFIX)/include
-MAN = $(PREFIX)/share/man
-DOC = $(PREFIX)/share/doc/pslink
-BASH_FOLDER = $(PREFIX)/share/bash-completion/completions
-ZSH_FOLDER = $(PREFIX)/share/zsh/site-functions
-FISH_FOLDER = $(PREFIX)/share/fish/vendor_completions.d
+# a relative path is one from this folder on
+whole = $(if $(filter /%,$(firstword $(1))),$(1),$(CURDIR)/$(1))
+AT = $(call whole,$(PREFIX))
+LIB = $(call whole,$(LIBDIR))
+INCLUDE = $(AT)/include
+MAN = $(AT)/share/man
+DOC = $(AT)/share/doc/pslink
+BASH_FOLDER = $(AT)/share/bash-completion/completions
+ZSH_FOLDER = $(AT)/share/zsh/site-functions
+FISH_FOLDER = $(AT)/share/fish/vendor_completions.d
 VERSION = 0.1.0
 LIBRARY = library/out
 DIST = pslink-$(VERSION)-x86_64-linux
@@ -22,7 +26,7 @@ PACKED = $(LIBRARY)/$(DIST)
 TARBALL = $(DIST).tar.gz
 PROGRAM = crates/ps_linker
 BINARY = $(PROGRAM)/out/ps_linker
-CONFIG = $(LIBDIR)/cmake/pslink
+CONFIG = $(LIB)/cmake/pslink
 # man NAME finds pslink(3) for each function of the header
 CALLS = pslink_link pslink_map pslink_check pslink_show pslink_link_files pslink_map_files pslink_check_files pslink_fault_text pslink_fault_name \
 	pslink_status_text pslink_release pslink_version
@@ -59,51 +63,52 @@ install-program: build install-built-program
 
 # what is built already, put in place: the program, its manual pages and the documents
 install-built-program: install-texts
-	install -d $(DESTDIR)$(PREFIX)/bin $(DESTDIR)$(MAN)/man1 $(DESTDIR)$(MAN)/man5
-	install -m 755 "$(BINARY)" $(DESTDIR)$(PREFIX)/bin/pslink
-	install -m 644 man/pslink.1 $(DESTDIR)$(MAN)/man1/pslink.1
-	install -m 644 man/pslink.5 $(DESTDIR)$(MAN)/man5/pslink.5
-	for file in $(BESIDE); do install -D -m 644 $$file $(DESTDIR)$(DOC)/$$file || exit 1; done
+	install -d "$(DESTDIR)$(AT)/bin" "$(DESTDIR)$(MAN)/man1" "$(DESTDIR)$(MAN)/man5"
+	install -m 755 "$(BINARY)" "$(DESTDIR)$(AT)/bin/pslink"
+	install -m 644 man/pslink.1 "$(DESTDIR)$(MAN)/man1/pslink.1"
+	install -m 644 man/pslink.5 "$(DESTDIR)$(MAN)/man5/pslink.5"
+	for file in $(BESIDE); do install -D -m 644 $$file "$(DESTDIR)$(DOC)/$$file" || exit 1; done
 
 # the test vectors, and what shells, make and CMake read
 install-texts:
-	install -d $(DESTDIR)$(INCLUDE) $(DESTDIR)$(CONFIG) $(DESTDIR)$(DOC)/vectors
-	install -d $(DESTDIR)$(BASH_FOLDER) $(DESTDIR)$(ZSH_FOLDER) $(DESTDIR)$(FISH_FOLDER)
-	vectors/make_vectors.py $(DESTDIR)$(DOC)/vectors
-	install -m 644 vectors/README.md $(DESTDIR)$(DOC)/vectors/README.md
-	chmod -R u=rwX,go=rX $(DESTDIR)$(DOC)/vectors
-	install -m 755 vectors/run $(DESTDIR)$(DOC)/vectors/run
-	install -m 644 completions/pslink.bash $(DESTDIR)$(BASH_FOLDER)/pslink
-	install -m 644 completions/_pslink $(DESTDIR)$(ZSH_FOLDER)/_pslink
-	install -m 644 completions/pslink.fish $(DESTDIR)$(FISH_FOLDER)/pslink.fish
-	install -m 644 rules/pslink.mk $(DESTDIR)$(INCLUDE)/pslink.mk
-	install -m 644 rules/pslink-config.cmake $(DESTDIR)$(CONFIG)/pslink-config.cmake
-	sed -e 's|@VERSION@|$(VERSION)|' rules/pslink-config-version.cmake.in >$(DESTDIR)$(CONFIG)/pslink-config-version.cmake
-	chmod 644 $(DESTDIR)$(CONFIG)/pslink-config-version.cmake
+	install -d "$(DESTDIR)$(INCLUDE)" "$(DESTDIR)$(CONFIG)" "$(DESTDIR)$(DOC)/vectors"
+	install -d "$(DESTDIR)$(BASH_FOLDER)" "$(DESTDIR)$(ZSH_FOLDER)" "$(DESTDIR)$(FISH_FOLDER)"
+	vectors/make_vectors.py "$(DESTDIR)$(DOC)/vectors"
+	install -m 644 vectors/README.md "$(DESTDIR)$(DOC)/vectors/README.md"
+	chmod -R u=rwX,go=rX "$(DESTDIR)$(DOC)/vectors"
+	install -m 755 vectors/run "$(DESTDIR)$(DOC)/vectors/run"
+	install -m 644 completions/pslink.bash "$(DESTDIR)$(BASH_FOLDER)/pslink"
+	install -m 644 completions/_pslink "$(DESTDIR)$(ZSH_FOLDER)/_pslink"
+	install -m 644 completions/pslink.fish "$(DESTDIR)$(FISH_FOLDER)/pslink.fish"
+	install -m 644 rules/pslink.mk "$(DESTDIR)$(INCLUDE)/pslink.mk"
+	install -m 644 rules/pslink-config.cmake "$(DESTDIR)$(CONFIG)/pslink-config.cmake"
+	sed -e 's|@VERSION@|$(VERSION)|' rules/pslink-config-version.cmake.in >"$(DESTDIR)$(CONFIG)/pslink-config-version.cmake"
+	chmod 644 "$(DESTDIR)$(CONFIG)/pslink-config-version.cmake"
 
 # that and the library
 install-built: install-built-program
-	install -d $(DESTDIR)$(INCLUDE) $(DESTDIR)$(LIBDIR)/pkgconfig $(DESTDIR)$(CONFIG) $(DESTDIR)$(MAN)/man3
-	install -m 644 man/pslink.3 $(DESTDIR)$(MAN)/man3/pslink.3
-	for call in $(CALLS); do echo '.so man3/pslink.3' >$(DESTDIR)$(MAN)/man3/$$call.3 && chmod 644 $(DESTDIR)$(MAN)/man3/$$call.3 || exit 1; done
-	install -m 644 include/pslink.h $(DESTDIR)$(INCLUDE)/pslink.h
-	install -m 644 $(LIBRARY)/libpslink.a $(DESTDIR)$(LIBDIR)/libpslink.a
-	install -m 755 $(LIBRARY)/libpslink.so.1 $(DESTDIR)$(LIBDIR)/libpslink.so.1
-	ln -sf libpslink.so.1 $(DESTDIR)$(LIBDIR)/libpslink.so
-	sed -e 's|@PREFIX@|$(PREFIX)|' -e 's|@LIBDIR@|$(LIBDIR)|' -e 's|@VERSION@|$(VERSION)|' library/pslink.pc.in >$(DESTDIR)$(LIBDIR)/pkgconfig/pslink.pc
-	sed -e 's|@INCLUDE@|$(INCLUDE)|' library/pslinkConfig.cmake.in >$(DESTDIR)$(CONFIG)/pslinkConfig.cmake
-	sed -e 's|@VERSION@|$(VERSION)|' rules/pslink-config-version.cmake.in >$(DESTDIR)$(CONFIG)/pslinkConfigVersion.cmake
-	chmod 644 $(DESTDIR)$(LIBDIR)/pkgconfig/pslink.pc $(DESTDIR)$(CONFIG)/*.cmake
+	install -d "$(DESTDIR)$(INCLUDE)" "$(DESTDIR)$(LIB)/pkgconfig" "$(DESTDIR)$(CONFIG)" "$(DESTDIR)$(MAN)/man3"
+	install -m 644 man/pslink.3 "$(DESTDIR)$(MAN)/man3/pslink.3"
+	for call in $(CALLS); do echo '.so man3/pslink.3' >"$(DESTDIR)$(MAN)/man3/$$call.3" && chmod 644 "$(DESTDIR)$(MAN)/man3/$$call.3" || exit 1; done
+	install -m 644 include/pslink.h "$(DESTDIR)$(INCLUDE)/pslink.h"
+	install -m 644 $(LIBRARY)/libpslink.a "$(DESTDIR)$(LIB)/libpslink.a"
+	install -m 755 $(LIBRARY)/libpslink.so.1 "$(DESTDIR)$(LIB)/libpslink.so.1"
+	ln -sf libpslink.so.1 "$(DESTDIR)$(LIB)/libpslink.so"
+	sed -e 's|@PREFIX@|$(AT)|' -e 's|@LIBDIR@|$(LIB)|' -e 's|@VERSION@|$(VERSION)|' library/pslink.pc.in >"$(DESTDIR)$(LIB)/pkgconfig/pslink.pc"
+	sed -e 's|@INCLUDE@|$(INCLUDE)|' library/pslinkConfig.cmake.in >"$(DESTDIR)$(CONFIG)/pslinkConfig.cmake"
+	sed -e 's|@VERSION@|$(VERSION)|' rules/pslink-config-version.cmake.in >"$(DESTDIR)$(CONFIG)/pslinkConfigVersion.cmake"
+	chmod 644 "$(DESTDIR)$(LIB)/pkgconfig/pslink.pc" "$(DESTDIR)$(CONFIG)"/*.cmake
 
 # what install-built puts in place, and the folders that are pslink's own
 uninstall:
-	rm -f $(DESTDIR)$(PREFIX)/bin/pslink $(DESTDIR)$(INCLUDE)/pslink.h $(DESTDIR)$(INCLUDE)/pslink.mk
-	rm -f $(DESTDIR)$(BASH_FOLDER)/pslink $(DESTDIR)$(ZSH_FOLDER)/_pslink $(DESTDIR)$(FISH_FOLDER)/pslink.fish
-	rm -f $(addprefix $(DESTDIR)$(LIBDIR)/,libpslink.a libpslink.so libpslink.so.1 pkgconfig/pslink.pc)
-	rm -f $(addprefix $(DESTDIR)$(MAN)/,man1/pslink.1 man3/pslink.3 man5/pslink.5 $(CALLS:%=man3/%.3))
-	rm -rf $(DESTDIR)$(DOC) $(DESTDIR)$(CONFIG)
+	rm -f "$(DESTDIR)$(AT)/bin/pslink" "$(DESTDIR)$(INCLUDE)/pslink.h" "$(DESTDIR)$(INCLUDE)/pslink.mk"
+	rm -f "$(DESTDIR)$(BASH_FOLDER)/pslink" "$(DESTDIR)$(ZSH_FOLDER)/_pslink" "$(DESTDIR)$(FISH_FOLDER)/pslink.fish"
+	for name in libpslink.a libpslink.so libpslink.so.1 pkgconfig/pslink.pc; do rm -f "$(DESTDIR)$(LIB)/$$name" || exit 1; done
+	for name in man1/pslink.1 man3/pslink.3 man5/pslink.5 $(CALLS:%=man3/%.3); do rm -f "$(DESTDIR)$(MAN)/$$name" || exit 1; done
+	rm -rf "$(DESTDIR)$(DOC)" "$(DESTDIR)$(CONFIG)"
 
-# the program, the library and all that is read beside them, in one file, and what they need
+# the program, the library and all that is read beside them, in one file, and what they need; the files have the time of the
+# commit that they are of, so that cargo, make and ninja see a newer archive
 dist: build lib
 	rm -rf $(PACKED)
 	$(MAKE) --no-print-directory install-built PREFIX=/usr/local LIBDIR=/usr/local/lib DESTDIR=$(PACKED)/root
@@ -114,4 +119,4 @@ dist: build lib
 	sed -i -e 's|^prefix=.*|prefix=$${pcfiledir}/../..|' -e 's|^libdir=.*|libdir=$${prefix}/lib|' $(PACKED)/lib/pkgconfig/pslink.pc
 	sed -i 's|"/usr/local/include"|"../include"|' $(PACKED)/lib/cmake/pslink/pslinkConfig.cmake
 	library/needs $(PACKED)/bin/pslink $(PACKED)/lib/libpslink.so.1 | tee $(PACKED)/NEEDS
-	tar --sort=name --owner=0 --group=0 --numeric-owner --mtime=@0 -C $(PACKED) -czf $(TARBALL) --transform='s|^[.]|$(DIST)|' .
+	tar --sort=name --owner=0 --group=0 --numeric-owner --mtime=@$${SOURCE_DATE_EPOCH:-$$(git log -1 --format=%ct)} -C $(PACKED) -czf $(TARBALL) --transform='s|^[.]|$(DIST)|' .

@@ -38,9 +38,10 @@
  * this page:
  *
  * - A pointer with its length names memory of the caller that is there for the whole call: it may
- *   be read, and for `out` and `answer` also written. A length is at most PTRDIFF_MAX bytes. A
- *   pointer may be NULL where its length is 0. `lengths` is aligned as a size_t is. `answer` is
- *   never NULL, and is aligned as its type is.
+ *   be read, and for `out` and `answer` also written. A length is at most PTRDIFF_MAX bytes.
+ *   Where a pointer is NULL, its length is taken for 0, whatever it is: so `out` from a malloc that
+ *   failed is PSLINK_TOO_SMALL. `lengths` is aligned as a size_t is. `answer` is never NULL, and is
+ *   aligned as its type is.
  * - `out` and `answer` overlap each other in no byte, and nothing else that the call is given.
  *   Inputs may overlap one another. No thread writes to what is given during the call, and none
  *   reads `out` or `answer`.
@@ -306,14 +307,14 @@ static inline uint32_t pslink_check_files(pslink_named_file host, const pslink_n
 
 /* What follows is of no interest to a caller. */
 
-/* A pointer of another type in place of a `void *`, without a cast where none is needed. */
+/* A pointer of another type in place of a `void *`, as each of the two languages has it. */
 #ifdef __cplusplus
 #define PSLINK_POINTER(type, pointer) static_cast<type *>(pointer)
 #else
-#define PSLINK_POINTER(type, pointer) (pointer)
+#define PSLINK_POINTER(type, pointer) ((type *)(pointer))
 #endif
 
-/* What to point to in place of NULL; nothing is read or written there. */
+/* What to point to in place of NULL; nothing is read or written there, since its length is 0. */
 static inline const void *pslink_read_at(const void *bytes)
 {
     static const size_t nothing = 0;
@@ -332,22 +333,30 @@ static inline void *pslink_write_at(void *bytes)
     return bytes == NULL ? &nothing : bytes;
 }
 
+/* A length, and 0 where the pointer is NULL. */
+static inline size_t pslink_length_at(const void *bytes, size_t length)
+{
+    return bytes == NULL ? 0 : length;
+}
+
 static inline uint32_t pslink_link(const void *host, size_t host_length, const void *libs,
                                    size_t libs_length, const size_t *lengths, size_t count,
                                    void *out, size_t out_length, pslink_answer *answer)
 {
-    return pslink_link_nonnull(pslink_read_at(host), host_length, pslink_read_at(libs), libs_length,
-                               pslink_lengths_at(lengths), count, pslink_write_at(out), out_length,
-                               answer);
+    return pslink_link_nonnull(pslink_read_at(host), pslink_length_at(host, host_length),
+                               pslink_read_at(libs), pslink_length_at(libs, libs_length),
+                               pslink_lengths_at(lengths), pslink_length_at(lengths, count),
+                               pslink_write_at(out), pslink_length_at(out, out_length), answer);
 }
 
 static inline uint32_t pslink_map(const void *host, size_t host_length, const void *libs,
                                   size_t libs_length, const size_t *lengths, size_t count,
                                   void *out, size_t out_length, pslink_answer *answer)
 {
-    return pslink_map_nonnull(pslink_read_at(host), host_length, pslink_read_at(libs), libs_length,
-                              pslink_lengths_at(lengths), count, pslink_write_at(out), out_length,
-                              answer);
+    return pslink_map_nonnull(pslink_read_at(host), pslink_length_at(host, host_length),
+                              pslink_read_at(libs), pslink_length_at(libs, libs_length),
+                              pslink_lengths_at(lengths), pslink_length_at(lengths, count),
+                              pslink_write_at(out), pslink_length_at(out, out_length), answer);
 }
 
 static inline uint32_t pslink_check(const void *host, size_t host_length, const void *libs,
@@ -356,37 +365,43 @@ static inline uint32_t pslink_check(const void *host, size_t host_length, const 
                                     const size_t *name_lengths, int strict, void *out,
                                     size_t out_length, pslink_check_answer *answer)
 {
-    return pslink_check_nonnull(pslink_read_at(host), host_length, pslink_read_at(libs),
-                                libs_length, pslink_lengths_at(lengths), count,
-                                pslink_read_at(names), names_length, name_lengths, count + 1,
-                                strict != 0, pslink_write_at(out), out_length, answer);
+    return pslink_check_nonnull(pslink_read_at(host), pslink_length_at(host, host_length),
+                                pslink_read_at(libs), pslink_length_at(libs, libs_length),
+                                pslink_lengths_at(lengths), pslink_length_at(lengths, count),
+                                pslink_read_at(names), pslink_length_at(names, names_length),
+                                pslink_lengths_at(name_lengths),
+                                pslink_length_at(name_lengths, count + 1), strict != 0,
+                                pslink_write_at(out), pslink_length_at(out, out_length), answer);
 }
 
 static inline uint32_t pslink_show(const void *file, size_t file_length, void *out,
                                    size_t out_length, pslink_answer *answer)
 {
-    return pslink_show_nonnull(pslink_read_at(file), file_length, pslink_write_at(out), out_length,
-                               answer);
+    return pslink_show_nonnull(pslink_read_at(file), pslink_length_at(file, file_length),
+                               pslink_write_at(out), pslink_length_at(out, out_length), answer);
 }
 
 static inline size_t pslink_fault_text(const pslink_answer *answer, char *out, size_t out_length)
 {
-    return pslink_fault_text_nonnull(answer, pslink_write_at(out), out_length);
+    return pslink_fault_text_nonnull(answer, pslink_write_at(out),
+                                     pslink_length_at(out, out_length));
 }
 
 static inline size_t pslink_fault_name(uint8_t fault, char *out, size_t out_length)
 {
-    return pslink_fault_name_nonnull(fault, pslink_write_at(out), out_length);
+    return pslink_fault_name_nonnull(fault, pslink_write_at(out),
+                                     pslink_length_at(out, out_length));
 }
 
 static inline size_t pslink_status_text(uint32_t status, char *out, size_t out_length)
 {
-    return pslink_status_text_nonnull(status, pslink_write_at(out), out_length);
+    return pslink_status_text_nonnull(status, pslink_write_at(out),
+                                      pslink_length_at(out, out_length));
 }
 
 static inline size_t pslink_release(char *out, size_t out_length)
 {
-    return pslink_release_nonnull(pslink_write_at(out), out_length);
+    return pslink_release_nonnull(pslink_write_at(out), pslink_length_at(out, out_length));
 }
 
 /* A status, with every other field 0. */
@@ -408,18 +423,20 @@ static inline uint32_t pslink_call_files(pslink_call *call, pslink_file host,
                                          size_t out_length, pslink_answer *answer)
 {
     const size_t most = PTRDIFF_MAX;
-    size_t total = 0, at = 0, k;
+    size_t total = 0, at = 0, length, k;
     size_t *lengths;
     void *block, *behind;
     char *bytes;
     uint32_t status;
 
+    count = pslink_length_at(libs, count);
     if (count > most / sizeof *lengths)
         return pslink_bare(PSLINK_NO_MEMORY, answer);
     for (k = 0; k < count; k++) {
-        if (libs[k].length > most - count * sizeof *lengths - total)
+        length = pslink_length_at(libs[k].bytes, libs[k].length);
+        if (length > most - count * sizeof *lengths - total)
             return pslink_bare(PSLINK_NO_MEMORY, answer);
-        total += libs[k].length;
+        total += length;
     }
     block = malloc(count * sizeof *lengths + total + 1);
     if (block == NULL)
@@ -428,13 +445,15 @@ static inline uint32_t pslink_call_files(pslink_call *call, pslink_file host,
     behind = lengths + count;
     bytes = PSLINK_POINTER(char, behind);
     for (k = 0; k < count; k++) {
-        lengths[k] = libs[k].length;
-        if (libs[k].length != 0)
-            memcpy(bytes + at, libs[k].bytes, libs[k].length);
-        at += libs[k].length;
+        length = pslink_length_at(libs[k].bytes, libs[k].length);
+        lengths[k] = length;
+        if (length != 0)
+            memcpy(bytes + at, libs[k].bytes, length);
+        at += length;
     }
-    status = call(pslink_read_at(host.bytes), host.length, bytes, total, lengths, count,
-                  pslink_write_at(out), out_length, answer);
+    status = call(pslink_read_at(host.bytes), pslink_length_at(host.bytes, host.length), bytes,
+                  total, lengths, count, pslink_write_at(out), pslink_length_at(out, out_length),
+                  answer);
     free(block);
     return status;
 }
@@ -480,10 +499,10 @@ static inline void pslink_put_file(const pslink_named_file *file, char **bytes, 
     *name += *name_length;
     if (bytes == NULL)
         return;
-    *length = file->length;
-    if (file->length != 0)
-        memcpy(*bytes, file->bytes, file->length);
-    *bytes += file->length;
+    *length = pslink_length_at(file->bytes, file->length);
+    if (*length != 0)
+        memcpy(*bytes, file->bytes, *length);
+    *bytes += *length;
 }
 
 /* In one block: the lengths of libraries and names, and then the bytes of both. */
@@ -499,12 +518,13 @@ static inline uint32_t pslink_check_files(pslink_named_file host, const pslink_n
     uint32_t status;
     int fits;
 
+    count = pslink_length_at(libs, count);
     if (count >= most / each)
         return pslink_bare_check(PSLINK_NO_MEMORY, answer);
     total = (count + 1) * each;
     fits = pslink_add_length(strlen(host.name), &names_length);
     for (k = 0; k < count && fits; k++)
-        fits = pslink_add_length(libs[k].length, &libs_length) &&
+        fits = pslink_add_length(pslink_length_at(libs[k].bytes, libs[k].length), &libs_length) &&
                pslink_add_length(strlen(libs[k].name), &names_length);
     fits = fits && pslink_add_length(libs_length, &total) &&
            pslink_add_length(names_length, &total);

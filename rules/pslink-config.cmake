@@ -7,8 +7,11 @@
 cmake_policy(VERSION 3.18)
 find_program(PSLINK_EXECUTABLE pslink HINTS "${CMAKE_CURRENT_LIST_DIR}/../../../bin" DOC "the linker pslink")
 if(NOT PSLINK_EXECUTABLE)
-  set(pslink_FOUND FALSE)
-  set(pslink_NOT_FOUND_MESSAGE "there is no program pslink beside it and on the path")
+  # (the library alone is found without the program, and pslink_link is not there)
+  if(NOT TARGET pslink::pslink)
+    set(pslink_FOUND FALSE)
+    set(pslink_NOT_FOUND_MESSAGE "there is no program pslink beside it and on the path")
+  endif()
   return()
 endif()
 

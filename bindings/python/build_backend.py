@@ -29,7 +29,16 @@ def recorded(name, data):
 
 
 def build_wheel(wheel_directory, config_settings=None, metadata_directory=None):
-    files = {name: (HERE / name).read_bytes() for name in SOURCES if name.startswith("pslink/")}
+    return packed(wheel_directory, {name: (HERE / name).read_bytes() for name in SOURCES if name.startswith("pslink/")})
+
+
+def build_editable(wheel_directory, config_settings=None, metadata_directory=None):
+    """What `pip install -e` installs: the path of this folder."""
+    return packed(wheel_directory, {"pslink.pth": f"{HERE}\n".encode()})
+
+
+def packed(wheel_directory, files):
+    """Writes the wheel with these files, and returns its name."""
     files[f"{INFO}/METADATA"] = METADATA.encode()
     files[f"{INFO}/WHEEL"] = WHEEL.encode()
     files[f"{INFO}/LICENSE"] = (HERE / "LICENSE").read_bytes()

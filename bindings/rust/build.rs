@@ -35,7 +35,8 @@ fn main() {
         println!("cargo:rerun-if-env-changed={name}");
     }
     let folders: Vec<PathBuf> = match env::var_os("PSLINK_LIB_DIR") {
-        Some(folder) => vec![folder.into()],
+        // The linker runs in another folder than this script, so a relative path is made whole here.
+        Some(folder) => vec![std::path::absolute(&folder).unwrap_or_else(|_| folder.into())],
         None => folder_of_pkg_config()
             .into_iter()
             .chain(USUAL.map(PathBuf::from))
@@ -47,8 +48,14 @@ fn main() {
         );
         exit(1);
     };
-    // A replaced archive is seen.
-    println!("cargo:rerun-if-changed={}", folder.join(ARCHIVE).display());
+    // A replaced archive is seen, and one that comes or goes, or another pslink.pc.
+    for changed in [
+        folder.clone(),
+        folder.join(ARCHIVE),
+        folder.join("pkgconfig").join("pslink.pc"),
+    ] {
+        println!("cargo:rerun-if-changed={}", changed.display());
+    }
     println!("cargo:rustc-link-search=native={}", folder.display());
     println!("cargo:rustc-link-lib=static=pslink");
 }

@@ -59,6 +59,7 @@ def of_files():
     }  # fmt: skip
     for what, (one, all_) in same.items():
         check(pslink.link(one, all_) == linked, f"{what} are linked to another file")
+    check(pslink.link(Longer(host), [library]) == linked, "a length is trusted that is not that of the bytes")
     check(pslink.link_with_summary(host, [library]) == (linked, (2, 4, 3)), "the summary is another")
     check(pslink.map(HOST, [LIBRARY]).encode() == (ROOT / "samples/host.map").read_bytes(), "the map is another")
     check(pslink.show(LIBRARY) == pslink.show(library) and pslink.show(library).startswith("order little\n"), "the show is another")
@@ -90,6 +91,8 @@ def of_reports():
         report = pslink.check(host, [warned], ["\N{FLOPPY DISK}", "two"], strict)
         check((report.warnings, report.fault, report.ok) == (1, None, not strict), f"a warning is {report[1:]}")
         check("file 0 \N{FLOPPY DISK}: " in report.text and "\nwarning: two, segment UTIL" in report.text, f"its text is {report.text}")
+    check(pslink.check(host, [library]) and not pslink.check(host), "a report is true otherwise than where it is ok")
+    check(pslink.check(host) == pslink.check(host) != pslink.check(host, [library]), "two reports are equal otherwise than by what they hold")
     check(raised(ValueError, pslink.check, host, [library], ["one"]), "a name too few is no ValueError")
     check(raised(TypeError, pslink.check, host, library), "one library is a list for a report")
     for names in ("12", b"12", 2, [b"one", b"two"], [1, 2]):
@@ -131,6 +134,19 @@ def of_room():
     check(3 * 512 <= most < 60 * 512, f"a link of the sample pair takes {most} bytes")
 
 
+def of_names():
+    names = {}
+    exec("from pslink import *", names)
+    check("map" not in names and names["link"] is pslink.link, "import * takes Python's own map away, or gives no link")
+
+
+class Longer(bytes):
+    """Bytes that say another length than they have."""
+
+    def __len__(self):
+        return super().__len__() + 64
+
+
 def imported(**env):
     """What an import of the installed package says, with these variables alone."""
     env = {"PATH": os.environ["PATH"], "HOME": str(FOLDER), "PYTHONPATH": str(FOLDER / "site"), **env}
@@ -153,6 +169,8 @@ def of_installing():
         import build_backend
 
         zipfile.ZipFile(FOLDER / build_backend.build_wheel(FOLDER)).extractall(FOLDER / "site")
+        zipfile.ZipFile(FOLDER / build_backend.build_editable(FOLDER)).extractall(FOLDER / "editable")
+        check((FOLDER / "editable/pslink.pth").read_text() == f"{source}\n", "an editable installation is of another folder")
     there = f"True {FOLDER}/site/pslink/__init__.py"
     config = FOLDER / "pkgconfig"
     config.mkdir()
@@ -174,7 +192,7 @@ def of_installing():
 
 
 def main():
-    for part in (of_files, of_reports, of_refusals, of_threads, of_room, of_installing):
+    for part in (of_files, of_reports, of_refusals, of_names, of_threads, of_room, of_installing):
         part()
     for line in found:
         print(line)

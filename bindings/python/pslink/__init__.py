@@ -13,12 +13,19 @@ where pkg-config has it. If there is none, or one of another version, the import
 import ctypes
 import os
 import subprocess
-from typing import Iterable, NamedTuple, Optional, Tuple, Union
+from typing import TYPE_CHECKING, Any, Iterable, NamedTuple, Optional, Tuple, Union
 
-__all__ = ["File", "Refused", "Report", "Summary", "check", "fault_name", "link", "link_with_summary", "map", "release", "show"]
+if TYPE_CHECKING:
+    from array import array
+    from mmap import mmap
+
+# (`map` is not among them, so that `import *` keeps Python's own)
+__all__ = ["File", "Refused", "Report", "Summary", "check", "fault_name", "link", "link_with_summary", "release", "show"]
 __version__ = "0.1.0"
 
-File = Union[bytes, bytearray, memoryview, str, "os.PathLike[str]"]
+# What has a whole code file, or names one. (An `array`, `mmap.mmap` and whatever else has bytes will do too: Python 3.8
+# has no name for these.)
+File = Union[bytes, bytearray, memoryview, "array[Any]", "mmap", str, "os.PathLike[str]", "os.PathLike[bytes]"]
 
 _DONE, _REFUSED, _NO_MEMORY, _TOO_SMALL = 0, 1, 4, 5
 _VERSION = 1
@@ -89,7 +96,8 @@ def _candidates():
     command = [os.environ.get("PKG_CONFIG", "pkg-config"), "--variable=libdir", "pslink"]
     try:
         found = subprocess.run(command, stdout=subprocess.PIPE, stderr=subprocess.DEVNULL, check=True)
-    except (OSError, subprocess.CalledProcessError):
+    except (OSError, RuntimeError, subprocess.CalledProcessError):
+        # (an isolated subinterpreter starts no program)
         return
     yield os.path.join(os.fsdecode(found.stdout).strip(), _NAME)
 
@@ -114,7 +122,10 @@ def _load():
             function = getattr(library, name)
             function.argtypes, function.restype = arguments, result
     except AttributeError as error:
-        raise ImportError(f"{path} is no library of pslink: {error}") from error
+        # (a library of the same version that lacks a function is of an earlier release)
+        has_version = hasattr(library, "pslink_version")
+        why = f"is of an earlier release than {__version__}" if has_version else "is no library of pslink"
+        raise ImportError(f"{path} {why}: {error}") from error
     return library
 
 
@@ -171,6 +182,12 @@ class Refused(Exception):
     def __str__(self) -> str:
         return self.text
 
+    def __eq__(self, other: object) -> bool:
+        return self.args == other.args if isinstance(other, Refused) else NotImplemented
+
+    def __hash__(self) -> int:
+        return hash(self.args)
+
 
 def _refusal(answer):
     return Refused(
@@ -195,7 +212,8 @@ class Summary(NamedTuple):
 
 def _contents(file):
     """The bytes of a file."""
-    if isinstance(file, bytes):
+    # (a class of one's own may have another length than its bytes)
+    if type(file) is bytes:
         return file
     if isinstance(file, (str, os.PathLike)):
         with open(file, "rb") as stream:
@@ -287,7 +305,7 @@ class Report(NamedTuple):
 
     text: the report, for a person. warnings: how many warnings it has. fault: why the files are refused, not raised here, or
     None. summary: what their linked file would have, or None where they are refused. ok: whether the files are linked, and,
-    of a strict check, without a warning.
+    of a strict check, without a warning. A report is true where it is ok; two are equal if they hold the same.
     """
 
     text: str
@@ -295,6 +313,9 @@ class Report(NamedTuple):
     fault: Optional[Refused]
     summary: Optional[Summary]
     ok: bool
+
+    def __bool__(self) -> bool:
+        return self.ok
 
 
 def _name(file, number):

@@ -105,10 +105,10 @@ listed_text form.Json i path phrase file = separator i ++ list_json_of path phra
 listed_text form.Units i path phrase file =
     list_of path phrase file ++ lone_text path (lone_units file)
 
--- a file or a segment is refused, or where its units are listed one of these, or there is none
-abbrev pub is_refused_in : Form → List ℕ → Bool
-is_refused_in form.Units file = is_refused file || has_no_sound (lone_units file)
-is_refused_in _ file = is_refused file
+-- a file or a segment is refused, or, where its units are listed, one of these, or there is none
+abbrev pub is_refused_in : Form → List ℕ → List ℕ → Bool
+is_refused_in form.Units phrase file = has_no_sound (lone_units file)
+is_refused_in _ phrase file = is_refused phrase file
 
 -- nothing, where the file at a path cannot be read; or as JSON an item that says so
 abbrev pub PrintsUnread : Form → ℕ → Text → Option (List ℕ) → Option (List ℕ)
@@ -122,7 +122,7 @@ abbrev pub IsListed : (Text → List ℕ → Type 0) → Form → ℕ → Text �
     → Option (List ℕ) → Option (List ℕ) → Type 0
 IsListed Reads how i path status old new =
     ((file : List ℕ) × (phrase : List ℕ) × Reads path file
-    × (status ≡ (if is_refused_in how file then 1 else 0))
+    × (status ≡ (if is_refused_in how phrase file then 1 else 0))
     × Appends old new (listed_text how i path phrase file))
     ⊎ ((status ≡ 3) × PrintsUnread how i path old new)
 

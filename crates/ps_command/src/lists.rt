@@ -104,15 +104,15 @@ fn print_text<O: Write>(
     }
 }
 
-/// The file or one of its segments is refused, or where its units are printed one of these, or it
+/// The file or one of its segments is refused, or, where its units are printed, one of these, or it
 /// has none.
-fn is_refused(file: &[u8], units: &[LoneUnit], form: Form) -> bool
+fn is_refused(phrase: &str, file: &[u8], units: &[LoneUnit], form: Form) -> bool
     requires { units.now ≡ listed_units form file.now }
-    ensures { result ≡ is_refused_in form file.now }
+    ensures { result ≡ is_refused_in form phrase.now file.now }
 {
     match form {
-        Form::Lines | Form::Json => ps_listing::is_refused(file),
-        Form::Units => ps_listing::is_refused(file) || ps_listing::has_no_sound(units),
+        Form::Lines | Form::Json => ps_listing::is_refused(phrase, file),
+        Form::Units => ps_listing::has_no_sound(units),
     }
 }
 
@@ -129,14 +129,14 @@ fn print_file<O: Write>(
 ) -> Result<u8, CommandError<'static>>
     requires { units.now ≡ listed_units form file.now }
     ensures status { IfOk result (λ status. status
-        ≡ (if is_refused_in form file.now then 1 else 0)) }
+        ≡ (if is_refused_in form phrase.now file.now then 1 else 0)) }
     ensures few { IfOk result (λ status. status ≤ 1) }
     ensures text { OnOk result (Appends (O.contents out.old) (O.contents out.new)
         (listed_text form index path.now phrase.now file.now)) }
     ensures err { IfErr result (λ e. e ≡ CommandError.StandardOutput) }
 {
     print_text(path, phrase, file, units, index, form, out)?;
-    Ok(refusal_status(is_refused(file, units, form)))
+    Ok(refusal_status(is_refused(phrase, file, units, form)))
 }
 
 /// Prints as JSON the item of this index, of a file that cannot be read, and nothing else.

@@ -1,24 +1,32 @@
 -- What a code file is for, by the kinds of its segments, and how a file is read by itself.
 -- Source: this project's profile, over the kinds of the UCSD Pascal II.0 manual.
 use Rattle.std.specs.Prelude.{ℕ, ◌==◌, ◌&&◌, ◌||◌, not, if◌then◌else◌, List}
-use Rattle.std.specs.Prelude.{slice_index, nat_le, Bool, false, Option, Some, None, Result}
+use Rattle.std.specs.Prelude.{nat_le, Bool, false, Option, Some, None, Result}
 use Rattle.std.specs.Prelude.{Ok, Err, codes}
-use Rattle.std.specs.List.{list_any}
+use Rattle.std.specs.List.{list_all, list_any}
 use Rattle.std.specs.Option.{option_map_or}
 use Rattle.std.specs.Result.{is_ok, result_ok}
 use Rattle.ps_words.specs.declared.order.Order.{Order}
 use Rattle.ps_words.specs.declared.order.Order.TheVariants.{Little, Big}
 use Rattle.ps_words.specs.declared.fault.Reason.{Reason}
 use Rattle.ps_words.specs.declared.fault.Reason.TheVariants as reason
-use Rattle.ps_codefile.specs.Dictionary.{OpenedFile, code_of, entry_at, is_filled, opened_alone}
-use Rattle.ps_codefile.specs.Dictionary.{opened_beside, slots}
+use Rattle.ps_codefile.specs.Dictionary.{OpenedFile, code_of, entry_at, is_filled}
+use Rattle.ps_codefile.specs.Dictionary.{is_nameless, opened_alone, opened_beside, role_of, slots}
+use Rattle.ps_codefile.specs.Roles.{is_wanted}
 use Rattle.ps_codefile.specs.declared.entry.Entry.{Entry}
+use Rattle.ps_codefile.specs.declared.entry.Role.{Role}
+use Rattle.ps_shown.specs.Shown.{is_printed}
 use Rattle.ps_filetype.specs.declared.code_file.CodeFile.{CodeFile}
 use Rattle.ps_filetype.specs.declared.code_file.CodeFile.TheVariants.{Host, Library, Linked, Mixed}
 
--- the entry says what its file is for: it is filled, or of a unit that may be wanted
+-- a slot of this role wants a unit
+abbrev pub wants_unit : Result Role Reason → Bool
+wants_unit (Ok role) = is_wanted role
+wants_unit (Err why) = false
+
+-- the entry says what its file is for: it is filled, or wants a unit
 abbrev pub tells : Entry → Bool
-tells e = is_filled e || e.kind == 3
+tells e = is_filled e || wants_unit (role_of e)
 
 -- the entry of a slot says it, and is of this kind
 abbrev pub is_kind : ℕ → Order → List ℕ → ℕ → Bool
@@ -38,12 +46,54 @@ is_other order file slot = tells (entry_at order file slot) && not (is_kind 1 or
 unfoldable pub has_other : Order → List ℕ → Bool
 has_other order file = list_any (is_other order file) slots
 
--- what a file is for, by the kinds of the entries that say it, and nothing where none does
-unfoldable pub code_file : Order → List ℕ → Option CodeFile
-code_file order file =
+-- what the entries that say it say a file is for, by their kinds, and nothing where none does
+abbrev pub purpose_of : Order → List ℕ → Option CodeFile
+purpose_of order file =
     if has_kind 1 order file then Some Host
     else (if has_kind 0 order file then (if has_other order file then Some Mixed else Some Linked)
     else (if has_other order file then Some Library else None))
+
+-- the entry of a slot has a name, and its code is whole in the file
+abbrev pub is_whole : Order → List ℕ → ℕ → Bool
+is_whole order file slot = is_filled (entry_at order file slot)
+    && not (is_nameless (entry_at order file slot).name)
+    && is_ok (code_of file (entry_at order file slot))
+
+-- some entry has a name, and its code is whole in the file
+unfoldable pub has_code : Order → List ℕ → Bool
+has_code order file = list_any (is_whole order file) slots
+
+-- a person can read the name: ASCII prints each of its bytes, and it is not blank
+abbrev pub is_readable : List ℕ → Bool
+is_readable name = list_all is_printed name && not (is_nameless name)
+
+-- the entry of a slot is that of a code: its kind is one of those that there are, and its name can
+-- be read
+abbrev pub shows_code : Order → List ℕ → ℕ → Bool
+shows_code order file slot = is_filled (entry_at order file slot)
+    && nat_le (entry_at order file slot).kind 7 && is_readable (entry_at order file slot).name
+
+-- some entry is that of a code
+unfoldable pub has_shown_code : Order → List ℕ → Bool
+has_shown_code order file = list_any (shows_code order file) slots
+
+-- the kind of a slot is not 0
+abbrev pub has_other_kind : Order → List ℕ → ℕ → Bool
+has_other_kind order file slot = not ((entry_at order file slot).kind == 0)
+
+-- some kind is not 0
+unfoldable pub has_kinds : Order → List ℕ → Bool
+has_kinds order file = list_any (has_other_kind order file) slots
+
+-- The file is a code file: some entry is that of a code. Where all kinds are 0 they say nothing, so
+-- some code with a name is whole.
+abbrev pub is_code_file : Order → List ℕ → Bool
+is_code_file order file = if has_kinds order file then has_shown_code order file
+    else has_code order file
+
+-- what a code file is for, and nothing where the file is none
+unfoldable pub code_file : Order → List ℕ → Option CodeFile
+code_file order file = if is_code_file order file then purpose_of order file else None
 
 -- the word for it
 abbrev pub code_file_word : CodeFile → List ℕ
@@ -51,19 +101,6 @@ code_file_word Host = codes "host"
 code_file_word Library = codes "library"
 code_file_word Linked = codes "linked"
 code_file_word Mixed = codes "mixed"
-
--- the name begins with a letter, a digit or another sign
-abbrev pub is_named : List ℕ → Bool
-is_named name = nat_le 33 (slice_index name 0) && nat_le (slice_index name 0) 126
-
--- the entry of a slot has a name, and its code is in the file
-abbrev pub is_whole : Order → List ℕ → ℕ → Bool
-is_whole order file slot = is_filled (entry_at order file slot)
-    && is_named (entry_at order file slot).name && is_ok (code_of file (entry_at order file slot))
-
--- some entry has a name, and its code is in the file
-unfoldable pub has_code : Order → List ℕ → Bool
-has_code order file = list_any (is_whole order file) slots
 
 -- the same of a file that can be read in this order
 abbrev pub has_code_beside : Order → List ℕ → Bool

@@ -1,14 +1,15 @@
 //! Which code file a file is.
 ghost use Rattle.std.specs.Prelude.{◌≡◌, ◌<◌, ◌≤◌};
-ghost use Rattle.std.specs.List.{list_any, range_with_len};
+ghost use Rattle.std.specs.List.{list_all, list_any, range_with_len};
 ghost use Rattle.std.specs.Result.{is_ok};
-ghost use Rattle.ps_codefile.specs.Dictionary.{code_of, entry_at};
-ghost use Rattle.ps_filetype.specs.CodeFiles.{code_file, code_file_word, has_code as has_code_spec, has_code_beside, has_kind as has_kind_spec, has_other as has_other_spec, is_kind as is_kind_spec, is_named as is_named_spec, is_other as is_other_spec, is_whole as is_whole_spec, opened, order_by_codes as order_by_codes_spec, tells as tells_spec};
+ghost use Rattle.ps_codefile.specs.Dictionary.{code_of, entry_at, role_of};
+ghost use Rattle.ps_shown.specs.Shown.{is_printed};
+ghost use Rattle.ps_filetype.specs.CodeFiles.{code_file, code_file_word, has_code as has_code_spec, has_code_beside, has_kind as has_kind_spec, has_kinds as has_kinds_spec, has_other as has_other_spec, has_other_kind as has_other_kind_spec, has_shown_code as has_shown_code_spec, is_code_file as is_code_file_spec, is_kind as is_kind_spec, is_other as is_other_spec, is_readable as is_readable_spec, is_whole as is_whole_spec, opened, order_by_codes as order_by_codes_spec, purpose_of as purpose_of_spec, shows_code as shows_code_spec, tells as tells_spec, wants_unit as wants_unit_spec};
 
 use ps_codefile::dictionary_layout::SLOTS;
-use ps_codefile::kinds::{HOSTSEG, LINKED, UNITSEG};
-use ps_codefile::{Dict, Entry};
-use ps_words::{Order, Reason, WORD_LEN, get};
+use ps_codefile::kinds::{HOSTSEG, LAST_INTRINSIC, LINKED, UNITSEG};
+use ps_codefile::{Dict, Entry, Role, is_nameless};
+use ps_words::{Name, Order, Reason, WORD_LEN, get};
 use std::fmt::{self, Formatter};
 
 /// What a code file is for, by the kinds of its segments.
@@ -32,19 +33,23 @@ impl fmt::Display for CodeFile {
     }
 }
 
-/// The name begins as a name does.
-fn is_named(entry: &Entry) -> bool
-    ensures { result ≡ is_named_spec entry.now.name }
+/// The slot wants a unit.
+fn wants_unit(dict: &Dict<'_>, slot: u8) -> bool
+    requires { slot < 16 }
+    ensures { result ≡ wants_unit_spec (role_of (entry_at dict.now.order dict.now.file slot)) }
 {
-    matches!(entry.name[0], b'!'..=b'~')
+    match dict.role(slot) {
+        Ok(role) => matches!(role, Role::Wanted),
+        Err(_) => false,
+    }
 }
 
-/// The entry says what its file is for: it is filled, or of a unit that may be wanted.
+/// The entry says what its file is for: it is filled, or wants a unit.
 fn tells(dict: &Dict<'_>, slot: u8) -> bool
     requires { slot < 16 }
     ensures { result ≡ tells_spec (entry_at dict.now.order dict.now.file slot) }
 {
-    dict.filled(slot) || dict.entry(slot).kind == UNITSEG
+    dict.filled(slot) || wants_unit(dict, slot)
 }
 
 /// The entry says what its file is for, and is of this kind.
@@ -95,24 +100,38 @@ fn has_other(dict: &Dict<'_>) -> bool
     has_other_below(dict, SLOTS)
 }
 
+/// What the entries that say it say a file is for.
+fn purpose_of(dict: &Dict<'_>) -> Option<CodeFile>
+    ensures { result ≡ purpose_of_spec dict.now.order dict.now.file }
+{
+    match (
+        has_kind(dict, HOSTSEG),
+        has_kind(dict, LINKED),
+        has_other(dict),
+    ) {
+        (true, _, _) => Some(CodeFile::Host),
+        (false, true, true) => Some(CodeFile::Mixed),
+        (false, true, false) => Some(CodeFile::Linked),
+        (false, false, true) => Some(CodeFile::Library),
+        (false, false, false) => None,
+    }
+}
+
 impl CodeFile {
-    /// What the file with this dictionary is for; none where no entry says it. An entry does that
-    /// is filled, and one of kind 3 (UNITSEG).
-    /// Source: this project's profile.
+    /// What the file with this dictionary is for; none where it is no code file.
+    ///
+    /// A code file has a filled entry of a kind up to 7 with a name that is not blank and of which
+    /// ASCII prints each byte. Where all kinds are 0, as in a linked file, it has a code that is
+    /// whole in the file and has a name. What it is for is said by each entry that is filled or
+    /// wants a unit. Source: this project's profile.
     #[tactic(auto, unfolding(crate::specs::CodeFiles::code_file))]
     pub fn of(dict: &Dict<'_>) -> Option<CodeFile>
         ensures { result ≡ code_file dict.now.order dict.now.file }
     {
-        match (
-            has_kind(dict, HOSTSEG),
-            has_kind(dict, LINKED),
-            has_other(dict),
-        ) {
-            (true, _, _) => Some(CodeFile::Host),
-            (false, true, true) => Some(CodeFile::Mixed),
-            (false, true, false) => Some(CodeFile::Linked),
-            (false, false, true) => Some(CodeFile::Library),
-            (false, false, false) => None,
+        if is_code_file(dict) {
+            purpose_of(dict)
+        } else {
+            None
         }
     }
 
@@ -142,15 +161,15 @@ fn is_in_file(dict: &Dict<'_>, slot: u8) -> bool
     }
 }
 
-/// The entry has a name, and its code is in the file.
+/// The entry has a name, and its code is whole in the file.
 fn is_whole(dict: &Dict<'_>, slot: u8) -> bool
     requires { slot < 16 }
     ensures { result ≡ is_whole_spec dict.now.order dict.now.file slot }
 {
-    dict.filled(slot) && is_named(&dict.entry(slot)) && is_in_file(dict, slot)
+    dict.filled(slot) && !is_nameless(&dict.entry(slot).name) && is_in_file(dict, slot)
 }
 
-/// One of the entries below `end` has a name, and its code is in the file.
+/// One of the entries below `end` has a name, and its code is whole in the file.
 fn has_code_below(dict: &Dict<'_>, end: u8) -> bool
     requires { end ≤ 16 }
     ensures { result ≡ list_any (is_whole_spec dict.now.order dict.now.file)
@@ -159,11 +178,86 @@ fn has_code_below(dict: &Dict<'_>, end: u8) -> bool
     (0..end).any(|slot| is_whole(dict, slot))
 }
 
-/// Some entry has a name, and its code is in the file.
+/// Some entry has a name, and its code is whole in the file.
 fn has_code(dict: &Dict<'_>) -> bool
     ensures { result ≡ has_code_spec dict.now.order dict.now.file }
 {
     has_code_below(dict, SLOTS)
+}
+
+/// A person can read the name: ASCII prints each of its bytes, and it is not blank.
+fn is_readable(name: &Name) -> bool
+    ensures { result ≡ is_readable_spec name.now }
+{
+    are_printed(name) && !is_nameless(name)
+}
+
+/// ASCII prints each byte.
+fn are_printed(text: &[u8]) -> bool
+    ensures { result ≡ list_all is_printed text.now }
+{
+    text.iter()
+        .all(|byte| *byte == b' ' || byte.is_ascii_graphic())
+}
+
+/// The entry is that of a code: its kind is one of those that there are, and its name can be read.
+fn shows_code(dict: &Dict<'_>, slot: u8) -> bool
+    requires { slot < 16 }
+    ensures { result ≡ shows_code_spec dict.now.order dict.now.file slot }
+{
+    let entry = dict.entry(slot);
+    dict.filled(slot) && entry.kind <= LAST_INTRINSIC && is_readable(&entry.name)
+}
+
+/// One of the entries below `end` is that of a code.
+fn has_shown_code_below(dict: &Dict<'_>, end: u8) -> bool
+    requires { end ≤ 16 }
+    ensures { result ≡ list_any (shows_code_spec dict.now.order dict.now.file)
+        (range_with_len 0 end) }
+{
+    (0..end).any(|slot| shows_code(dict, slot))
+}
+
+/// Some entry is that of a code.
+fn has_shown_code(dict: &Dict<'_>) -> bool
+    ensures { result ≡ has_shown_code_spec dict.now.order dict.now.file }
+{
+    has_shown_code_below(dict, SLOTS)
+}
+
+/// The kind of a slot is not 0.
+fn has_other_kind(dict: &Dict<'_>, slot: u8) -> bool
+    requires { slot < 16 }
+    ensures { result ≡ has_other_kind_spec dict.now.order dict.now.file slot }
+{
+    dict.entry(slot).kind != LINKED
+}
+
+/// One of the kinds below `end` is not 0.
+fn has_kinds_below(dict: &Dict<'_>, end: u8) -> bool
+    requires { end ≤ 16 }
+    ensures { result ≡ list_any (has_other_kind_spec dict.now.order dict.now.file)
+        (range_with_len 0 end) }
+{
+    (0..end).any(|slot| has_other_kind(dict, slot))
+}
+
+/// Some kind is not 0.
+fn has_kinds(dict: &Dict<'_>) -> bool
+    ensures { result ≡ has_kinds_spec dict.now.order dict.now.file }
+{
+    has_kinds_below(dict, SLOTS)
+}
+
+/// The file is a code file.
+fn is_code_file(dict: &Dict<'_>) -> bool
+    ensures { result ≡ is_code_file_spec dict.now.order dict.now.file }
+{
+    if has_kinds(dict) {
+        has_shown_code(dict)
+    } else {
+        has_code(dict)
+    }
 }
 
 /// An entry with a name has its code in the file, whose words are read in this order.
@@ -206,14 +300,17 @@ pub fn open(file: &[u8]) -> Result<Dict<'_>, Reason>
 
 /// What a code file is for; none where the file is no code file.
 pub(crate) fn code_file_of(bytes: &[u8]) -> Option<CodeFile> {
-    match Dict::read(bytes) {
-        Ok(dict) => CodeFile::of(&dict),
-        Err(Reason::NoHost)
-            if has_code_in(bytes, Order::Little) || has_code_in(bytes, Order::Big) => {
-            Some(CodeFile::Linked)
-        }
-        Err(_) => None,
-    }
+    CodeFile::of(&open(bytes).ok()?)
+}
+
+/// The file is a code file, and an entry with a name that can be read has its code whole in it.
+pub(crate) fn has_readable_code(bytes: &[u8]) -> bool {
+    let Ok(dict) = open(bytes) else {
+        return false;
+    };
+    let has_code = (0..SLOTS).any(|slot| is_whole(&dict, slot)
+        && is_readable(&dict.entry(slot).name));
+    has_code && is_code_file(&dict)
 }
 
 /// Each table of a code of so many procedures has its number so many bytes after the byte that its
@@ -248,17 +345,21 @@ pub fn is_swapped(order: Order, code: &[u8]) -> bool {
     }
 }
 
-/// The bytes of a code file are exchanged in pairs.
+/// The bytes of a code file are exchanged in pairs: so are those of each code that is to be linked,
+/// and there is one. An assembled entry says nothing, since it has a native procedure by right.
 pub(crate) fn is_swapped_file(bytes: &[u8]) -> bool {
-    let Ok(dict) = Dict::read(bytes) else {
+    let Ok(dict) = open(bytes) else {
         return false;
     };
+    let mut is_found = false;
     for slot in 0..SLOTS {
-        if let Ok(code) = dict.code(slot) {
-            if dict.filled(slot) && is_swapped(dict.order(), code) {
-                return true;
+        let needs_linking = matches!(dict.entry(slot).kind, HOSTSEG | UNITSEG);
+        if let (true, true, Ok(code)) = (needs_linking, dict.filled(slot), dict.code(slot)) {
+            if !is_swapped(dict.order(), code) {
+                return false;
             }
+            is_found = true;
         }
     }
-    false
+    is_found
 }

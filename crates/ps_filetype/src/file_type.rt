@@ -1,8 +1,10 @@
 //! What a file is.
 use crate::bytes::only_byte;
 use crate::code_file::{CodeFile, code_file_of, is_swapped_file};
+use crate::images::{Image, image_of};
 use crate::line_ends::LineEnds;
-use crate::signatures::{behind_header, by_first_bytes, volume_name};
+use crate::release::{Release, later_release};
+use crate::signatures::{behind_header, by_first_bytes};
 use crate::texts::{is_system_text, text_type};
 use ps_shown::ShownName;
 use ps_words::Name;
@@ -27,14 +29,19 @@ pub enum FileType {
     Elf,
     AppleSingle,
     AppleDouble,
-    /// The image of a disk, whose volume has this name.
-    Volume { name: Name },
+    /// A code file of a release that is not supported.
+    Later(Release),
+    /// The image of a disk, and the name of its volume, if that is one of a p-System.
+    Disk { image: Image, name: Option<Name> },
     /// A text of a p-System.
     SystemText,
     Text,
     Base64,
     Uuencode,
     HexDump,
+    SRecords,
+    /// A text in UTF-16.
+    WideText,
     /// A file without a byte.
     Empty,
     /// A file that is one byte throughout.
@@ -53,6 +60,9 @@ impl FileType {
         }
         if let Some(byte) = only_byte(bytes) {
             return FileType::OneByte { byte };
+        }
+        if let Some(release) = later_release(bytes) {
+            return FileType::Later(release);
         }
         match code_file_of(bytes) {
             Some(_) if is_swapped_file(bytes) => FileType::Swapped,
@@ -82,8 +92,16 @@ impl FileType {
             FileType::Base64 => "a text in base64",
             FileType::Uuencode => "a uuencoded text",
             FileType::HexDump => "a dump in hexadecimal digits",
+            FileType::SRecords => "a text of S-records",
+            FileType::WideText => "a text in UTF-16",
             FileType::Empty => "an empty file",
-            _ => "no code file of a known form",
+            FileType::Code(_)
+            | FileType::Header { .. }
+            | FileType::Later(_)
+            | FileType::Disk { .. }
+            | FileType::OneByte { .. }
+            | FileType::Converted(_)
+            | FileType::Unknown => "no code file of a known form",
         }
     }
 }
@@ -93,8 +111,8 @@ fn other_type(bytes: &[u8]) -> FileType {
     if let Some(file_type) = by_first_bytes(bytes) {
         return file_type;
     }
-    if let Some(name) = volume_name(bytes) {
-        return FileType::Volume { name };
+    if let Some((image, name)) = image_of(bytes) {
+        return FileType::Disk { image, name };
     }
     if let Some(file_type) = behind_header(bytes) {
         return file_type;
@@ -116,8 +134,19 @@ impl fmt::Display for FileType {
             FileType::Header { bytes } => {
                 write!(f, "a code file behind a header of {bytes} bytes")
             }
-            FileType::Volume { name } => {
-                write!(f, "a disk image, of the volume {}", ShownName(name))
+            FileType::Later(release) => {
+                write!(
+                    f,
+                    "a code file of release {release}, which is not supported"
+                )
+            }
+            FileType::Disk { image, name: None } => write!(f, "{image}"),
+            FileType::Disk {
+                image,
+                name: Some(name),
+            } => {
+                let name = ShownName(name);
+                write!(f, "{image}, of the volume {name}")
             }
             FileType::OneByte { byte } => write!(f, "a file of the byte {byte:02X} alone"),
             FileType::Converted(line_ends) => {

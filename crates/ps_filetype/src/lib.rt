@@ -5,7 +5,9 @@
 mod bytes;
 mod code_file;
 mod file_type;
+mod images;
 mod line_ends;
+mod release;
 mod remedy;
 mod signatures;
 mod texts;
@@ -13,5 +15,7 @@ mod texts;
 pub use bytes::only_byte;
 pub use code_file::{CodeFile, is_swapped, open};
 pub use file_type::FileType;
+pub use images::Image;
 pub use line_ends::LineEnds;
+pub use release::Release;
 pub use remedy::Remedy;

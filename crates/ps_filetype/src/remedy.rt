@@ -59,11 +59,15 @@ impl Remedy<'_> {
                 "Give the file beside ",
                 " that has the same name without ._ before it.",
             ),
-            FileType::Volume { .. } => (
+            FileType::Later(_) => (
+                "Compile the program of ",
+                " by a compiler of release II.0, and give the code file that it makes.",
+            ),
+            FileType::Disk { .. } => (
                 "Take the code file off the volume in ",
                 ", as binary, and give that.",
             ),
-            FileType::SystemText | FileType::Text => (
+            FileType::SystemText | FileType::Text | FileType::WideText => (
                 "Give the code file that the compiler made of ",
                 ", or of its program.",
             ),
@@ -72,6 +76,10 @@ impl Remedy<'_> {
             FileType::HexDump => (
                 "Turn ",
                 " into bytes again, as by xxd -r, and give what comes out.",
+            ),
+            FileType::SRecords => (
+                "Turn ",
+                " into bytes again, as by objcopy -I srec -O binary, and give what comes out.",
             ),
             FileType::Elf => ("Give a code file of a p-System in place of ", "."),
             FileType::Empty | FileType::OneByte { .. } => (

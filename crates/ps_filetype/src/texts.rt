@@ -55,14 +55,58 @@ fn is_dump(sample: &[u8]) -> bool {
     }
 }
 
+/// How many bytes above 7F a text may have, of each four.
+const FOREIGN: usize = 3;
+
+/// Each second byte of a text in UTF-16 is 0, and the others are those of a text.
+fn is_wide(sample: &[u8], zeros: usize) -> bool {
+    let (mut has_text, mut are_pairs) = (false, true);
+    for (place, byte) in sample.iter().enumerate() {
+        let is_zero = place % 2 == zeros;
+        are_pairs = are_pairs && (*byte == 0) == is_zero && (is_zero || is_text(*byte));
+        has_text = has_text || byte.is_ascii_alphanumeric();
+    }
+    are_pairs && has_text
+}
+
+/// The text is in UTF-16: it has its mark, or each second byte is 0.
+fn is_utf_16(sample: &[u8]) -> bool {
+    match sample {
+        [0xFF, 0xFE, rest @ ..] => is_wide(rest, 1),
+        [0xFE, 0xFF, rest @ ..] => is_wide(rest, 0),
+        _ => is_wide(sample, 0) || is_wide(sample, 1),
+    }
+}
+
+/// The text begins with a record of S-records: S, a digit, and digits in pairs.
+fn is_s_record(sample: &[u8]) -> bool {
+    match sample {
+        [b'S', b'0'..=b'9', rest @ ..] => {
+            let digits = rest.get(..8).unwrap_or(rest);
+            digits.len() == 8 && digits.iter().all(|byte| byte.is_ascii_hexdigit())
+        }
+        _ => false,
+    }
+}
+
+/// Most bytes of a text are ASCII.
+fn is_foreign(sample: &[u8]) -> bool {
+    let high = sample.iter().filter(|byte| !byte.is_ascii()).count();
+    sample.len() / 4 * FOREIGN < high
+}
+
 /// The kind of text of a file that is one.
 pub(crate) fn text_type(bytes: &[u8]) -> Option<FileType> {
     let sample = bytes.get(..SAMPLE).unwrap_or(bytes);
     let letters = Letters::of(sample);
-    if !letters.are_text {
+    if is_utf_16(sample) {
+        Some(FileType::WideText)
+    } else if !letters.are_text || is_foreign(sample) {
         None
     } else if sample.starts_with(b"begin ") {
         Some(FileType::Uuencode)
+    } else if is_s_record(sample) {
+        Some(FileType::SRecords)
     } else if letters.are_hex || is_dump(sample) {
         Some(FileType::HexDump)
     } else if letters.are_base64 {

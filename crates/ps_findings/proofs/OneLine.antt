@@ -5,7 +5,7 @@ use Rattle.std.proofs.Common.{List, Bool, true, false, not, cond, length, take, 
 use Rattle.std.proofs.Common.{subst, arith}
 use Rattle.std.specs.Prelude.{if◌then◌else◌, Option, Some, None, IfSome, MatchOption, chars}
 use Rattle.std.specs.Prelude.{nat_lt}
-use Rattle.std.specs.Char.{encode_utf8, is_control}
+use Rattle.std.specs.Char.{encode_utf8}
 use Rattle.std.specs.Fmt.{digit_glyph, digits, digits_onto}
 use Rattle.std.specs.List.{after_first, before_first, flat_map, list_any, position_or_len}
 use Rattle.std.specs.Str.{IsUtf8}
@@ -13,7 +13,7 @@ use Rattle.std.proofs.Math.Utf8.{encode, encodes}
 use Rattle.std.proofs.lemmas.Bool.Decides.{nat_tests}
 use Rattle.std.proofs.lemmas.Str.{encodes-chars}
 use Rattle.ps_shown.specs.Shown.{control_escape, hex_digit, is_printed, is_quoted, other_char}
-use Rattle.ps_shown.specs.Shown.{quoted_char, quotes, shown_byte, shown_name, shown_path, trimmed}
+use Rattle.ps_shown.specs.Shown.{is_hidden, quoted_char, quotes, shown_byte, shown_name, shown_path, trimmed}
 use Rattle.ps_findings.specs.SlotLines.{one_line}
 
 pub and_left : (x y : Bool) → (x && y) ≡ true → x ≡ true
@@ -140,21 +140,21 @@ one_encode c other = by (nat_lt c 128) (nat_lt c 2048) (nat_lt c 65536)
         (rest (c / 4096) ((128 + (c / 64) % 64) ∷ (128 + c % 64) ∷ [])
         (rest (c / 64) ((128 + c % 64) ∷ []) (rest c [] refl)))
 
-not_ten : (c : ℕ) → is_control c ≡ false → (c == 10) ≡ false
+not_ten : (c : ℕ) → is_hidden c ≡ false → (c == 10) ≡ false
 not_ten c shown = by (c == 10) refl
   where
     by : (t : Bool) → (c == 10) ≡ t → t ≡ false
     by false e = refl
-    by true e = let ten : c ≡ 10 = grind (arith, nat_tests) in let no : is_control 10 ≡ false =
-        subst (λ (n : ℕ). is_control n ≡ false) ten shown in cc
+    by true e = let ten : c ≡ 10 = grind (arith, nat_tests) in let no : is_hidden 10 ≡ false =
+        subst (λ (n : ℕ). is_hidden n ≡ false) ten shown in cc
 
 one_escape : (c : ℕ) → one_line (control_escape c) ≡ true
 one_escape c = one_append (digits 16 false c) (125 ∷ []) (one_digits 16 c) refl
 
 one_other : (c : ℕ) → one_line (other_char c) ≡ true
-one_other c = by (is_control c) refl
+one_other c = by (is_hidden c) refl
   where
-    by : (t : Bool) → is_control c ≡ t
+    by : (t : Bool) → is_hidden c ≡ t
         → one_line (if t then control_escape c else encode_utf8 c) ≡ true
     by true e = one_escape c
     by false e = one_encode c (not_ten c e)
@@ -187,18 +187,18 @@ or_right : (x y : Bool) → (x || y) ≡ false → y ≡ false
 or_right true y h = cc
 or_right false y h = h
 
-one_chars : (cs : List ℕ) → list_any is_control cs ≡ false → one_line (encodes cs) ≡ true
+one_chars : (cs : List ℕ) → list_any is_hidden cs ≡ false → one_line (encodes cs) ≡ true
 one_chars [] h = refl
 one_chars (c ∷ cs) h =
     one_append (encode c) (encodes cs) (one_encode c
-    (not_ten c (or_left (is_control c) (list_any is_control cs) h)))
-    (one_chars cs (or_right (is_control c) (list_any is_control cs) h))
+    (not_ten c (or_left (is_hidden c) (list_any is_hidden cs) h)))
+    (one_chars cs (or_right (is_hidden c) (list_any is_hidden cs) h))
 
 pub one_path : (path : List ℕ) → IsUtf8 path → one_line (shown_path path) ≡ true
 unfolding shown_path
-one_path path text = by (list_any is_control (chars path)) refl
+one_path path text = by (list_any is_hidden (chars path)) refl
   where
-    by : (t : Bool) → list_any is_control (chars path) ≡ t
+    by : (t : Bool) → list_any is_hidden (chars path) ≡ t
         → one_line (if t then 34 ∷ (flat_map quoted_char (chars path) ++ 34 ∷ []) else path)
         ≡ true
     by true e = one_append (flat_map quoted_char (chars path)) (34 ∷ [])

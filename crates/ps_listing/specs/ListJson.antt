@@ -186,10 +186,15 @@ unread_members =
     codes
     ",\"length\":null,\"type\":null,\"order\":null,\"contents\":null,\"fault\":null,\"segments\":[\n]}"
 
+-- the items of the segments: a file of which the phrase says that it is something else has none
+abbrev pub segment_items : List ℕ → Order → List ℕ → List ℕ
+segment_items phrase order file = if length phrase == 0
+    then slot_items true order file slots else []
+
 -- the item of a file of so many bytes
 abbrev pub item_of : List ℕ → List ℕ → ℕ → Result OpenedFile Reason → List ℕ
 item_of path phrase size (Ok f) = file_members path phrase size
-    ++ opened_members f.order (code_file f.order f.file) ++ slot_items true f.order f.file slots
+    ++ opened_members f.order (code_file f.order f.file) ++ segment_items phrase f.order f.file
     ++ codes "\n]}"
 item_of path phrase size (Err why) = file_members path phrase size ++ unopened_members why
 

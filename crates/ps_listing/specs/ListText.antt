@@ -2,10 +2,10 @@
 -- Each begins with the path.
 -- Source: this project's profile.
 use Rattle.std.specs.Prelude.{ℕ, ◌-◌, take, is_none, is_some, ◌==◌, ◌||◌}
-use Rattle.std.specs.Prelude.{if◌then◌else◌, List, [], ◌∷◌, ◌++◌, length, nat_lt}
+use Rattle.std.specs.Prelude.{if◌then◌else◌, not, List, [], ◌∷◌, ◌++◌, length, chars}
 use Rattle.std.specs.Prelude.{codes, decimal, Bool, true, false, Option, Some, None, Result, Ok}
 use Rattle.std.specs.Prelude.{Err}
-use Rattle.std.specs.Char.{is_ascii_whitespace}
+use Rattle.std.specs.Char.{encode_utf8, is_ascii_whitespace}
 use Rattle.std.specs.List.{flat_map, list_any, suffix_len}
 use Rattle.ps_words.specs.declared.order.Order.{Order}
 use Rattle.ps_words.specs.declared.order.Order.TheVariants.{Little, Big}
@@ -23,16 +23,17 @@ use Rattle.ps_linkinfo.specs.declared.record.LinkRecord.{LinkRecord as Record}
 use Rattle.ps_resolve.specs.Faults.{code_fault}
 use Rattle.ps_resolve.specs.Sources.{records_of}
 use Rattle.ps_linkfile.specs.Lines.{line, shown_name, two_digits}
+use Rattle.ps_shown.specs.Shown.{is_hidden}
 use Rattle.ps_filetype.specs.CodeFiles.{code_file, code_file_word, opened}
 use Rattle.ps_filetype.specs.declared.code_file.CodeFile.{CodeFile}
 
--- a byte of a path: a question mark for one that could end the line
-abbrev pub shown_path_byte : ℕ → List ℕ
-shown_path_byte b = (if nat_lt b 32 || b == 127 then 63 else b) ∷ []
+-- a character of a path: a question mark for a hidden one, as one that could end the line
+abbrev pub shown_char : ℕ → List ℕ
+shown_char c = if is_hidden c then 63 ∷ [] else encode_utf8 c
 
--- a path as each of its lines begins with it
+-- a path as each of its lines begins with it, and a phrase
 abbrev pub shown_path : List ℕ → List ℕ
-shown_path path = flat_map shown_path_byte path
+shown_path path = flat_map shown_char (chars path)
 
 -- a text without the white space at its end, which in a name as it is shown is blanks
 abbrev pub trimmed : List ℕ → List ℕ
@@ -125,7 +126,7 @@ purpose_words (Some purpose) = codes ", " ++ code_file_word purpose
 
 -- what a file is that is no code file as it ought to be
 abbrev pub phrase_words : List ℕ → List ℕ
-phrase_words phrase = if length phrase == 0 then [] else codes ", " ++ phrase
+phrase_words phrase = if length phrase == 0 then [] else codes ", " ++ shown_path phrase
 
 -- the line of a file, as `PATH: little-endian, 1536 bytes, library`
 unfoldable pub file_line : List ℕ → List ℕ → ℕ → Order → List ℕ → List ℕ
@@ -133,11 +134,16 @@ file_line path phrase size order file = line
     (shown_path path ++ codes ": " ++ order_words order ++ size_words size
     ++ purpose_words (code_file order file) ++ phrase_words phrase)
 
+-- the lines of the slots: a file of which the phrase says that it is something else has none
+abbrev pub slot_lines : List ℕ → List ℕ → Order → List ℕ → List ℕ
+slot_lines path phrase order file = if length phrase == 0
+    then flat_map (slot_line path order file) slots else []
+
 -- the lines of a file of so many bytes: one that cannot be read has one, as `PATH: 4096 bytes, a
 -- gzip file, refused 2 NoOrder`
 abbrev pub lines_of : List ℕ → List ℕ → ℕ → Result OpenedFile Reason → List ℕ
 lines_of path phrase size (Ok f) = file_line path phrase size f.order f.file
-    ++ flat_map (slot_line path f.order f.file) slots
+    ++ slot_lines path phrase f.order f.file
 lines_of path phrase size (Err why) = line
     (shown_path path ++ (codes ": " ++ decimal size) ++ codes " bytes" ++ phrase_words phrase
     ++ refused_words why None)
@@ -171,6 +177,7 @@ abbrev pub is_refused_as : Result OpenedFile Reason → Bool
 is_refused_as (Ok f) = is_none (code_file f.order f.file) || has_refused f.order f.file
 is_refused_as (Err why) = true
 
--- the list of a file says that the file or a segment is refused, or that there is none
-unfoldable pub is_refused : List ℕ → Bool
-is_refused file = is_refused_as (opened file)
+-- the list of a file says that the file or a segment is refused, that there is none, or, by the
+-- phrase, that the file is something else
+unfoldable pub is_refused : List ℕ → List ℕ → Bool
+is_refused phrase file = not (length phrase == 0) || is_refused_as (opened file)

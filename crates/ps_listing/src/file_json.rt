@@ -3,7 +3,7 @@ ghost use Rattle.std.specs.Prelude.{◌≡◌, OnOk, OnErr};
 ghost use Rattle.std.specs.Io.KnownBytes.{Appends};
 ghost use Rattle.ps_linkfile.specs.Adding.{Adds};
 ghost use Rattle.ps_linkfile.specs.Outcomes.{AppendsPrefix};
-ghost use Rattle.ps_listing.specs.ListJson.{file_members, item_of, list_json_of, opened_members, order_member, path_member, phrase_member, purpose_member, unopened_members, unread_json_of};
+ghost use Rattle.ps_listing.specs.ListJson.{file_members, item_of, list_json_of, opened_members, order_member, path_member, phrase_member, purpose_member, segment_items, unopened_members, unread_json_of};
 
 use crate::json::{add_fault, add_text};
 use crate::slots_json::{add_length, add_slots};
@@ -136,6 +136,19 @@ fn add_unopened<S: TextWriter>(text: &mut S, reason: Reason)
     text.add(b",\"segments\":[\n]}");
 }
 
+/// Adds the items of the segments, of a file of which the phrase does not say that it is something
+/// else.
+fn add_segments<S: TextWriter>(text: &mut S, phrase: &[u8], dict: &Dict)
+    ensures { Adds S.added text.old (segment_items phrase.now dict.now.order dict.now.file)
+        text.new }
+{
+    if phrase.is_empty() {
+        add_slots(text, dict);
+    } else {
+        text.add(b"");
+    }
+}
+
 /// Adds the item of a file of so many bytes that was opened, or was not.
 fn add_item<S: TextWriter>(
     text: &mut S,
@@ -150,7 +163,7 @@ fn add_item<S: TextWriter>(
     match opened {
         Ok(dict) => {
             add_opened(text, dict.order(), CodeFile::of(&dict));
-            add_slots(text, &dict);
+            add_segments(text, phrase, &dict);
             text.add(b"\n]}");
         }
         Err(reason) => add_unopened(text, reason),

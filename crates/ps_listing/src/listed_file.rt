@@ -3,7 +3,7 @@ ghost use Rattle.std.specs.Prelude.{◌≡◌, OnOk, OnErr};
 ghost use Rattle.std.specs.Io.KnownBytes.{Appends};
 ghost use Rattle.ps_linkfile.specs.Adding.{Adds};
 ghost use Rattle.ps_linkfile.specs.Outcomes.{AppendsPrefix};
-ghost use Rattle.ps_listing.specs.ListText.{file_line, is_refused as is_refused_spec, is_refused_as as is_refused_as_spec, lines_of, list_of};
+ghost use Rattle.ps_listing.specs.ListText.{file_line, is_refused as is_refused_spec, is_refused_as as is_refused_as_spec, lines_of, list_of, slot_lines};
 
 use crate::slots::{add_slots, has_refused};
 use crate::words::{add_order, add_path, add_phrase, add_purpose, add_refusal, add_size};
@@ -16,8 +16,8 @@ use std::io::Write;
 /// A file, its path and the phrase for what it is.
 #[derive(Drop)]
 struct ListedFile<'a> {
-    path: &'a [u8],
-    phrase: &'a [u8],
+    path: &'a str,
+    phrase: &'a str,
     file: &'a [u8],
 }
 
@@ -40,8 +40,8 @@ impl Text for ListedFile<'_> {
 /// Adds the lines of a file of so many bytes that was opened, or was not.
 fn add_lines<S: TextWriter>(
     text: &mut S,
-    path: &[u8],
-    phrase: &[u8],
+    path: &str,
+    phrase: &str,
     size: usize,
     opened: Result<Dict, Reason>,
 )
@@ -50,7 +50,7 @@ fn add_lines<S: TextWriter>(
     match opened {
         Ok(dict) => {
             add_file(text, path, phrase, size, &dict);
-            add_slots(text, path, &dict);
+            add_segments(text, path, phrase, &dict);
         }
         Err(reason) => {
             add_path(text, path);
@@ -63,8 +63,21 @@ fn add_lines<S: TextWriter>(
     }
 }
 
+/// Adds the lines of the slots, of a file of which the phrase does not say that it is something
+/// else.
+fn add_segments<S: TextWriter>(text: &mut S, path: &str, phrase: &str, dict: &Dict)
+    ensures { Adds S.added text.old
+        (slot_lines path.now phrase.now dict.now.order dict.now.file) text.new }
+{
+    if phrase.is_empty() {
+        add_slots(text, path, dict);
+    } else {
+        text.add(b"");
+    }
+}
+
 /// Adds the line of a file of so many bytes.
-fn add_file<S: TextWriter>(text: &mut S, path: &[u8], phrase: &[u8], size: usize, dict: &Dict)
+fn add_file<S: TextWriter>(text: &mut S, path: &str, phrase: &str, size: usize, dict: &Dict)
     ensures { Adds S.added text.old
         (file_line path.now phrase.now size dict.now.order dict.now.file) text.new }
 {
@@ -79,10 +92,10 @@ fn add_file<S: TextWriter>(text: &mut S, path: &[u8], phrase: &[u8], size: usize
 
 /// Writes what a file has, as lines made for grep: a line of the file, with its byte order, its
 /// length and what it is for; and a line of each slot that is not empty. Each begins with the path,
-/// in which a byte that could end the line is a question mark.
+/// in which a hidden character, as one that could end the line, is a question mark.
 ///
-/// `file` is a whole file, of any contents, and `phrase` says what it is, as [`phrase`] does; it is
-/// printed where it is not empty. A segment that is in the file has its kind, its length and the
+/// `file` is a whole file, of any contents, and `phrase` says what it is, as [`phrase`] does; where
+/// it is not empty, it is printed as the path is, and no slot has a line. A segment that is in the file has its kind, its length and the
 /// units that its UNITREF records name. One whose kind, code, procedure tables or records are
 /// refused ends with the number and the name of its first fault, and with the index of the record.
 /// A file that is no code file has one line.
@@ -95,21 +108,6 @@ fn add_file<S: TextWriter>(text: &mut S, path: &[u8], phrase: &[u8], size: usize
 pub fn write_list<W: Write>(
     path: &str,
     phrase: &str,
-    file: &[u8],
-    out: &mut W,
-) -> Result<(), WriteFault>
-    ensures written { OnOk result (Appends (W.contents out.old) (W.contents out.new)
-        (list_of path.now phrase.now file.now)) }
-    ensures prefix { OnErr result (AppendsPrefix (W.contents out.old) (W.contents out.new)
-        (list_of path.now phrase.now file.now)) }
-{
-    write_bytes(path.as_bytes(), phrase.as_bytes(), file, out)
-}
-
-/// Writes the list of a file at this path, with this phrase.
-fn write_bytes<W: Write>(
-    path: &[u8],
-    phrase: &[u8],
     file: &[u8],
     out: &mut W,
 ) -> Result<(), WriteFault>
@@ -132,10 +130,15 @@ fn is_refused_as(opened: Result<Dict, Reason>) -> bool
     }
 }
 
-/// A file is refused, or one of its segments is, or it has none: so says its list.
+/// The list of a file says that the file is refused, or one of its segments is, that it has none,
+/// or, by a phrase that is not empty, that it is something else. `phrase` says what it is, as
+/// [`phrase`] does.
 /// Source: this project's profile.
-pub fn is_refused(file: &[u8]) -> bool
-    ensures { result ≡ is_refused_spec file.now }
+///
+/// [`phrase`]: crate::phrase
+#[tactic(auto, unfolding(crate::specs::ListText::is_refused))]
+pub fn is_refused(phrase: &str, file: &[u8]) -> bool
+    ensures { result ≡ is_refused_spec phrase.now file.now }
 {
-    is_refused_as(open(file))
+    !phrase.is_empty() || is_refused_as(open(file))
 }

@@ -106,7 +106,7 @@ pub fn has_no_sound(units: &[LoneUnit]) -> bool
 /// The units of a file at a path.
 #[derive(Drop)]
 struct LoneLines<'a> {
-    path: &'a [u8],
+    path: &'a str,
     units: &'a [LoneUnit],
 }
 
@@ -134,7 +134,7 @@ fn add_words<S: TextWriter>(text: &mut S, fault: Option<Fault>)
 }
 
 /// Adds the line of a unit.
-fn add_line<S: TextWriter>(text: &mut S, path: &[u8], unit: &LoneUnit)
+fn add_line<S: TextWriter>(text: &mut S, path: &str, unit: &LoneUnit)
     ensures { Adds S.added text.old (lone_line path.now unit.now) text.new }
 {
     add_path(text, path);
@@ -145,7 +145,7 @@ fn add_line<S: TextWriter>(text: &mut S, path: &[u8], unit: &LoneUnit)
 }
 
 /// Adds the line of each unit.
-fn add_lines<S: TextWriter>(text: &mut S, path: &[u8], units: &[LoneUnit])
+fn add_lines<S: TextWriter>(text: &mut S, path: &str, units: &[LoneUnit])
     ensures { Adds S.added text.old (lone_text path.now units.now) text.new }
 {
     for unit in units {
@@ -156,24 +156,14 @@ fn add_lines<S: TextWriter>(text: &mut S, path: &[u8], units: &[LoneUnit])
 /// Writes a line of each unit, as `PATH: slot 02 UTIL     by itself, no fault`, or with its fault as
 /// `PATH: slot 02 UTIL     by itself, refused 33 Overlap record 1 reference 0`.
 ///
-/// Each begins with the path, in which a byte that could end the line is a question mark. Refused
-/// where the writer failed, which is not called again, and then has a prefix of the text. It takes
-/// no memory. Source: this project's profile.
+/// Each begins with the path, in which a hidden character, as one that could end the line, is a
+/// question mark. Refused where the writer failed, which is not called again, and then has a prefix
+/// of the text. It takes no memory. Source: this project's profile.
 pub fn write_lone_units<W: Write>(
     path: &str,
     units: &[LoneUnit],
     out: &mut W,
 ) -> Result<(), WriteFault>
-    ensures written { OnOk result (Appends (W.contents out.old) (W.contents out.new)
-        (lone_text path.now units.now)) }
-    ensures prefix { OnErr result (AppendsPrefix (W.contents out.old) (W.contents out.new)
-        (lone_text path.now units.now)) }
-{
-    write_lines(path.as_bytes(), units, out)
-}
-
-/// Writes a line of each unit of a file at this path.
-fn write_lines<W: Write>(path: &[u8], units: &[LoneUnit], out: &mut W) -> Result<(), WriteFault>
     ensures written { OnOk result (Appends (W.contents out.old) (W.contents out.new)
         (lone_text path.now units.now)) }
     ensures prefix { OnErr result (AppendsPrefix (W.contents out.old) (W.contents out.new)

@@ -37,7 +37,7 @@ pub(crate) fn kind_of(dict: &Dict, slot: u8) -> u16
 }
 
 /// Adds what the line of a slot begins with.
-fn add_head<S: TextWriter>(text: &mut S, path: &[u8], dict: &Dict, slot: u8)
+fn add_head<S: TextWriter>(text: &mut S, path: &str, dict: &Dict, slot: u8)
     requires { slot < 16 }
     ensures { Adds S.added text.old (slot_head path.now dict.now.order dict.now.file slot)
         text.new }
@@ -63,7 +63,7 @@ fn add_found<S: TextWriter>(text: &mut S, dict: &Dict, slot: u8, role: Role)
 /// Adds the line of a segment of this role that is in the file, with the word for it.
 fn add_found_line<S: TextWriter>(
     text: &mut S,
-    path: &[u8],
+    path: &str,
     dict: &Dict,
     slot: u8,
     role: Role,
@@ -82,7 +82,7 @@ fn add_found_line<S: TextWriter>(
 }
 
 /// Adds the line of a segment whose kind is refused.
-fn add_refused_line<S: TextWriter>(text: &mut S, path: &[u8], dict: &Dict, slot: u8, reason: Reason)
+fn add_refused_line<S: TextWriter>(text: &mut S, path: &str, dict: &Dict, slot: u8, reason: Reason)
     requires { slot < 16 }
     ensures { Adds S.added text.old
         (refused_line path.now dict.now.order dict.now.file slot reason) text.new }
@@ -97,7 +97,7 @@ fn add_refused_line<S: TextWriter>(text: &mut S, path: &[u8], dict: &Dict, slot:
 /// Adds the line of a slot of this role, where it has one.
 fn add_role_line<S: TextWriter>(
     text: &mut S,
-    path: &[u8],
+    path: &str,
     dict: &Dict,
     slot: u8,
     role: Result<Role, Reason>,
@@ -121,7 +121,7 @@ fn add_role_line<S: TextWriter>(
 }
 
 /// Adds the line of a slot, where it has one.
-fn add_slot<S: TextWriter>(text: &mut S, path: &[u8], dict: &Dict, slot: u8)
+fn add_slot<S: TextWriter>(text: &mut S, path: &str, dict: &Dict, slot: u8)
     requires { slot < 16 }
     ensures { Adds S.added text.old (slot_line path.now dict.now.order dict.now.file slot)
         text.new }
@@ -130,7 +130,7 @@ fn add_slot<S: TextWriter>(text: &mut S, path: &[u8], dict: &Dict, slot: u8)
 }
 
 /// Adds the line of each slot that has one.
-pub(crate) fn add_slots<S: TextWriter>(text: &mut S, path: &[u8], dict: &Dict)
+pub(crate) fn add_slots<S: TextWriter>(text: &mut S, path: &str, dict: &Dict)
     ensures { Adds S.added text.old
         (flat_map (slot_line path.now dict.now.order dict.now.file) slots) text.new }
 {

@@ -1,32 +1,34 @@
 //! The words of the lines.
-ghost use Rattle.std.specs.Prelude.{◌≡◌, codes};
+ghost use Rattle.std.specs.Prelude.{◌≡◌, chars, codes};
 ghost use Rattle.std.specs.List.{flat_map};
 ghost use Rattle.ps_linkfile.specs.Adding.{Adds};
-ghost use Rattle.ps_listing.specs.ListText.{order_words, phrase_words, purpose_words, refused_words, shown_path, shown_path_byte as shown_path_byte_spec, size_words, trimmed as trimmed_spec, used_words};
+ghost use Rattle.ps_listing.specs.ListText.{order_words, phrase_words, purpose_words, refused_words, shown_char, shown_path, size_words, trimmed as trimmed_spec, used_words};
 ghost use Rattle.ps_words.specs.FaultText.{part_text};
 
 use ps_filetype::CodeFile;
 use ps_linkfile::{TextWriter, add_number, shown_codes};
 use ps_linkinfo::{Body, LinkInformation, LinkRecord};
+use ps_shown::is_hidden;
 use ps_words::{Order, Reason};
 
-/// A byte of a path as a line shows it: a question mark for one that could end the line.
-fn shown_path_byte(byte: u8) -> [u8; 1]
-    ensures { result ≡ shown_path_byte_spec byte }
+/// Adds a character of a path: a question mark for a hidden one, as one that could end the line.
+fn add_char<S: TextWriter>(text: &mut S, c: char)
+    ensures { Adds S.added text.old (shown_char c) text.new }
 {
-    if byte < b' ' || byte == 0x7F {
-        [b'?']
+    if is_hidden(c) {
+        text.add(b"?");
     } else {
-        [byte]
+        let mut room = [0u8; 4];
+        text.add(c.encode_utf8(&mut room).as_bytes());
     }
 }
 
 /// Adds a path.
-pub(crate) fn add_path<S: TextWriter>(text: &mut S, path: &[u8])
+pub(crate) fn add_path<S: TextWriter>(text: &mut S, path: &str)
     ensures { Adds S.added text.old (shown_path path.now) text.new }
 {
-    for byte in path {
-        text.add(&shown_path_byte(*byte));
+    for c in path.chars() {
+        add_char(text, c);
     }
 }
 
@@ -125,13 +127,13 @@ pub(crate) fn add_purpose<S: TextWriter>(text: &mut S, purpose: Option<CodeFile>
 }
 
 /// Adds what a file is, where that is said.
-pub(crate) fn add_phrase<S: TextWriter>(text: &mut S, phrase: &[u8])
+pub(crate) fn add_phrase<S: TextWriter>(text: &mut S, phrase: &str)
     ensures { Adds S.added text.old (phrase_words phrase.now) text.new }
 {
     if phrase.is_empty() {
         text.add(b"");
     } else {
         text.add(b", ");
-        text.add(phrase);
+        add_path(text, phrase);
     }
 }

@@ -2,7 +2,7 @@
 -- Source: this project's profile.
 use Rattle.std.specs.Prelude.{ℕ, ◌==◌, ◌&&◌, ◌||◌, ◌+◌, ◌/◌, ◌%◌}
 use Rattle.std.specs.Prelude.{not, if◌then◌else◌, Bool, false, Option, Some, None, List, []}
-use Rattle.std.specs.Prelude.{◌∷◌, ◌++◌, length, nat_lt, chars}
+use Rattle.std.specs.Prelude.{◌∷◌, ◌++◌, length, nat_le, nat_lt, chars}
 use Rattle.std.specs.Char.{encode_utf8, is_ascii_graphic, is_control}
 use Rattle.std.specs.Fmt.{digits}
 use Rattle.std.specs.List.{flat_map, list_all, list_any}
@@ -39,7 +39,17 @@ unfoldable pub shown_name : List ℕ → List ℕ
 shown_name name = let mark = quotes (is_quoted (trimmed name)) in
     mark ++ (flat_map shown_byte (trimmed name) ++ mark)
 
--- a control character by its number in hexadecimal digits, as `\u{1b}`
+-- a character that takes no room on a line or turns the direction of what follows: the soft hyphen,
+-- the marks of direction, joiners and blanks without width, the byte order mark
+abbrev pub is_unseen : ℕ → Bool
+is_unseen c = c == 173 || c == 1564 || c == 6158 || (nat_le 8203 c && nat_le c 8207)
+    || (nat_le 8234 c && nat_le c 8238) || (nat_le 8288 c && nat_le c 8303) || c == 65279
+
+-- a character that is not shown as it is: a control character, or one that is unseen
+abbrev pub is_hidden : ℕ → Bool
+is_hidden c = is_control c || is_unseen c
+
+-- a hidden character by its number in hexadecimal digits, as `\u{1b}`
 abbrev pub control_escape : ℕ → List ℕ
 control_escape c = 92 ∷ 117 ∷ 123 ∷ (digits 16 false c ++ 125 ∷ [])
 
@@ -51,9 +61,9 @@ escape_letter c =
     else (if c == 10 then Some 110 else (if c == 13 then Some 114
     else (if c == 34 then Some 34 else (if c == 92 then Some 92 else None)))))
 
--- any other character: a control character by its number, and any other as it is
+-- any other character: a hidden one by its number, and any other as it is
 abbrev pub other_char : ℕ → List ℕ
-other_char c = if is_control c then control_escape c else encode_utf8 c
+other_char c = if is_hidden c then control_escape c else encode_utf8 c
 
 -- a character of a path between quotes
 unfoldable pub quoted_char : ℕ → List ℕ
@@ -62,7 +72,7 @@ quoted_char c = elim (escape_letter c) [
   | None ↦ other_char c
 ]
 
--- a path as it is, or, where it has a control character, in quotes with each of these escaped
+-- a path as it is, or, where it has a hidden character, in quotes with each of these escaped
 unfoldable pub shown_path : List ℕ → List ℕ
-shown_path path = if list_any is_control (chars path)
+shown_path path = if list_any is_hidden (chars path)
     then 34 ∷ (flat_map quoted_char (chars path) ++ 34 ∷ []) else path

@@ -6,4 +6,4 @@ mod name;
 mod path;
 
 pub use name::ShownName;
-pub use path::ShownPath;
+pub use path::{ShownPath, is_hidden};

@@ -1,27 +1,52 @@
 //! Paths as they are shown.
 ghost use Rattle.std.specs.Prelude.{◌≡◌, Some, chars};
-ghost use Rattle.std.specs.Char.{is_control};
 ghost use Rattle.std.specs.Fmt.{WritesOnOk};
 ghost use Rattle.std.specs.List.{flat_map, list_any};
-ghost use Rattle.ps_shown.specs.Shown.{control_escape, escape_letter as escape_letter_spec, other_char, quoted_char, shown_path};
+ghost use Rattle.ps_shown.specs.Shown.{control_escape, escape_letter as escape_letter_spec, is_hidden as is_hidden_spec, is_unseen as is_unseen_spec, other_char, quoted_char, shown_path};
 
 use std::fmt::{self, Formatter};
 
-/// A path in a line for a person: as it is, or, where it has a control character, in quotes with
-/// each of these escaped. So it never ends the line.
+/// A path in a line for a person: as it is, or, where it has a hidden character, in quotes with
+/// each of these escaped. So it never ends the line, and no part of it looks like another text.
 ///
 /// Source: this project's profile.
 #[derive(Clone, Copy)]
 pub struct ShownPath<'a>(pub &'a str);
 
-/// A character of the path is a control character, as the end of a line.
-fn has_control(path: &str) -> bool
-    ensures { result ≡ list_any is_control (chars path.now) }
+/// The character takes no room on a line, or turns the direction of what follows.
+fn is_unseen(c: char) -> bool
+    ensures { result ≡ is_unseen_spec c }
 {
-    path.chars().any(|c| c.is_control())
+    matches!(
+        c,
+        '\u{AD}'
+            | '\u{61C}'
+            | '\u{180E}'
+            | '\u{200B}'..='\u{200F}'
+            | '\u{202A}'..='\u{202E}'
+            | '\u{2060}'..='\u{206F}'
+            | '\u{FEFF}'
+    )
 }
 
-/// A control character by its number.
+/// The character is not shown as it is: it is a control character, as the end of a line, or takes
+/// no room on a line, or turns the direction of what follows, as U+202E does.
+///
+/// Source: this project's profile, over the characters of Unicode.
+pub fn is_hidden(c: char) -> bool
+    ensures { result ≡ is_hidden_spec c }
+{
+    c.is_control() || is_unseen(c)
+}
+
+/// A character of the path is hidden.
+fn has_hidden(path: &str) -> bool
+    ensures { result ≡ list_any is_hidden_spec (chars path.now) }
+{
+    path.chars().any(is_hidden)
+}
+
+/// A hidden character by its number.
 #[derive(Clone, Copy)]
 struct Escape(char);
 
@@ -57,7 +82,7 @@ impl fmt::Display for OtherChar {
     ghost output = { λ c. Some (other_char c.0) };
 
     fn fmt<W: fmt::Write>(&self, f: &mut Formatter<W>) -> fmt::Result {
-        if self.0.is_control() {
+        if is_hidden(self.0) {
             let escape = Escape(self.0);
             write!(f, "{escape}")
         } else {
@@ -103,18 +128,11 @@ impl fmt::Display for ShownPath<'_> {
     #[tactic(auto, unfolding(crate::specs::Shown::shown_path))]
     fn fmt<W: fmt::Write>(&self, f: &mut Formatter<W>) -> fmt::Result {
         let path = self.0;
-        if !has_control(path) {
+        if !has_hidden(path) {
             return f.write_str(path);
         }
         f.write_str("\"")?;
         write_quoted(f, path)?;
         f.write_str("\"")
-    }
-}
-
-impl fmt::Debug for ShownPath<'_> {
-    fn fmt<W: fmt::Write>(&self, f: &mut Formatter<W>) -> fmt::Result {
-        let path = self.0;
-        write!(f, "{path:?}")
     }
 }
