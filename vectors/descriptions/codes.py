@@ -204,8 +204,8 @@ def lengths():
     for size in (510, 512, 514, 1024):
         # 2 bytes of instructions and 14 of the table and the dictionary follow these parts
         demo = program(publ_ref("COUNT", [1]), parts=["A5", public(displacement=4), "D7" * (size - 3 - 2 - 14)])
-        yield linked(f"code-{size}-of-the-program", f"A host program of {size} bytes, with link information after its blocks.",
-                     {1: demo, 7: Segment("UTIL"), 8: Segment("TOOLS", LINKED, code=b"\xd7" * size)}, [{2: unit_of("UTIL")}],
+        yield linked(f"code-{size}-of-the-program", f"A host program of {size} bytes, with link information after its blocks, and a plain segment of {size + 1}.",
+                     {1: demo, 7: Segment("UTIL"), 8: Segment("TOOLS", LINKED, code=b"\xd7" * (size + 1))}, [{2: unit_of("UTIL")}],
                      [DEMO, UTIL, (8, 0, 8)])
     for block, slots in [(129, (3, 4)), (257, (3, 4, 5, 6))]:
         library = {**{slot: Segment(f"TOOL{slot}", LINKED, code=bytes(32767)) for slot in slots},
