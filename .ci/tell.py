@@ -2,6 +2,7 @@
 each case as its description says, and which cases tell the others."""
 import contextlib
 import functools
+import heapq
 import inspect
 import pathlib
 import re
@@ -14,6 +15,7 @@ import wrong_linkers
 
 SOURCE = (pathlib.Path(linker.__file__)).read_text()
 SECONDS = 5  # for one linker over one case
+LIKELY = 40  # questions that are asked first
 
 
 class Row:
@@ -93,9 +95,11 @@ class Case:
         def read(name):
             return (case["top"] / case["folder"] / name).read_bytes()
 
-        self.name, self.files = case["name"], (read(case["host"]), [read(name) for name in case["libraries"]])
+        self.name, self.words = case["name"], words_of(f"{case['name']} {case['about']}")
+        self.files = read(case["host"]), [read(name) for name in case["libraries"]]
         self.linked = case["stderr"] if case["fault"] else (case["stdout"], read(case["linked"]), read(case["map"]).decode())
-        self.shows = [(read(name), read(show["stdout"]).decode() if show["stdout"] else show["stderr"]) for name, show in case["shows"].items()]
+        self.shows = [(read(name), read(show["stdout"]).decode() if show["stdout"] else show["stderr"])
+                      for name, show in case["shows"].items()]
         self.cost = sum(len(record) for record, _ in self.shows) + 2000 * len(case["libraries"])
 
     def is_linked_by(self, linker):
@@ -116,6 +120,16 @@ class Case:
             if answer != wanted:
                 return False
         return True
+
+
+def words_of(text):
+    return set(re.findall(r"\w+", text.lower()))
+
+
+def likely(row, questions):
+    """The questions about cases whose names and sentences share most words with what is wrong."""
+    words = words_of(row.what)
+    return heapq.nlargest(LIKELY, questions, key=lambda question: len(words & question.__self__.words))
 
 
 def is_right(answers, linker):
@@ -152,7 +166,7 @@ def tell(cases):
         found.append(f"linker.py answers {question.__self__.name} otherwise")
     for row in rows():
         with row.linker() as wrong:
-            question = differing(wrong, questions)
+            question = differing(wrong, likely(row, questions) + questions)
         if question is None and row.what not in wrong_linkers.UNTOLD:
             found.append(f"no case tells the linker '{row.what}'")
         if question is not None and row.what in wrong_linkers.UNTOLD:
