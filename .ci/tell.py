@@ -2,6 +2,7 @@
 each case as its description says, and which cases tell the others."""
 import contextlib
 import functools
+import heapq
 import inspect
 import pathlib
 import re
@@ -14,6 +15,7 @@ import wrong_linkers
 
 SOURCE = (pathlib.Path(linker.__file__)).read_text()
 SECONDS = 5  # for one linker over one case
+LIKELY = 40  # questions that are asked first
 
 
 class Row:
@@ -36,26 +38,29 @@ class Row:
         if "" in self.changes:
             yield module_of(self.changes[""])
             return
-        before = [(*owner_of(function), text) for function, text in self.changes.items()]
-        kept = [(owner, name, vars(owner)[name]) for owner, name, _ in before]
+        places = {owner_of(function): text for function, text in self.changes.items()}
+        right = {(owner, name): vars(owner)[name] for owner, name in places}
         try:
-            for owner, name, text in before:
+            for (owner, name), text in places.items():
                 made = {}
                 exec(textwrap.dedent(text), vars(linker), made)
-                setattr(owner, name, staticmethod(made[name]) if isinstance(vars(owner)[name], staticmethod) else made[name])
+                is_static = isinstance(right[owner, name], staticmethod)
+                setattr(owner, name, staticmethod(made[name]) if is_static else made[name])
             yield linker
         finally:
-            for owner, name, function in kept:
+            for (owner, name), function in right.items():
                 setattr(owner, name, function)
 
 
 def owner_of(function):
-    """The class that has a method, or the module, and the name in it. The name of a method may stand for it alone."""
+    """The module or the class that has a function, and its name there. A method that one class has may stand without the class."""
     owner, _, name = function.rpartition(".")
-    classes = [one for one in vars(linker).values() if isinstance(one, type) and name in vars(one)]
     if owner:
         return getattr(linker, owner), name
-    return (linker, name) if hasattr(linker, name) else (*classes, name)
+    if hasattr(linker, name):
+        return linker, name
+    [owner] = [one for one in vars(linker).values() if isinstance(one, type) and name in vars(one)]
+    return owner, name
 
 
 @functools.cache
@@ -87,11 +92,14 @@ class Case:
     """A case of the index: its files, and what is expected of a link and of each show."""
 
     def __init__(self, case):
-        folder = case["top"] / case["folder"]
-        read = lambda name: (folder / name).read_bytes()
-        self.name, self.files = case["name"], (read(case["host"]), [read(name) for name in case["libraries"]])
+        def read(name):
+            return (case["top"] / case["folder"] / name).read_bytes()
+
+        self.name, self.words = case["name"], words_of(f"{case['name']} {case['about']}")
+        self.files = read(case["host"]), [read(name) for name in case["libraries"]]
         self.linked = case["stderr"] if case["fault"] else (case["stdout"], read(case["linked"]), read(case["map"]).decode())
-        self.shows = [(read(name), read(show["stdout"]).decode() if show["stdout"] else show["stderr"]) for name, show in case["shows"].items()]
+        self.shows = [(read(name), read(show["stdout"]).decode() if show["stdout"] else show["stderr"])
+                      for name, show in case["shows"].items()]
         self.cost = sum(len(record) for record, _ in self.shows) + 2000 * len(case["libraries"])
 
     def is_linked_by(self, linker):
@@ -112,6 +120,16 @@ class Case:
             if answer != wanted:
                 return False
         return True
+
+
+def words_of(text):
+    return set(re.findall(r"\w+", text.lower()))
+
+
+def likely(row, questions):
+    """The questions about cases whose names and sentences share most words with what is wrong."""
+    words = words_of(row.what)
+    return heapq.nlargest(LIKELY, questions, key=lambda question: len(words & question.__self__.words))
 
 
 def is_right(answers, linker):
@@ -148,7 +166,7 @@ def tell(cases):
         found.append(f"linker.py answers {question.__self__.name} otherwise")
     for row in rows():
         with row.linker() as wrong:
-            question = differing(wrong, questions)
+            question = differing(wrong, likely(row, questions) + questions)
         if question is None and row.what not in wrong_linkers.UNTOLD:
             found.append(f"no case tells the linker '{row.what}'")
         if question is not None and row.what in wrong_linkers.UNTOLD:

@@ -38,7 +38,8 @@ def in_the_host():
     parts = [part for name in every for part in ("CD", unit(name), "01")]
     records = [unit_ref(name, [1 + 3 * k]) for k, name in enumerate(every)]
     host = {1: program(*records, parts=parts), **{slot: unit_of(name) for slot, name in zip(slots, every)}}
-    yield linked("names-alike-in-the-host", "The host has UTIL and units of seven names that are nearly so, and refers to each.", host, [],
+    yield linked("names-alike-in-the-host", "The host has UTIL and units of seven names that are nearly so, and refers to each.", host,
+                 [],
                  [DEMO, *((slot, 0, slot) for slot in slots)])
     every = ["MORE", *alike("MORE")]
     parts = [part for name in every for part in ("CD", unit(name), "01")]
@@ -47,10 +48,12 @@ def in_the_host():
     yield linked("names-alike-requested", "UTIL uses MORE and units of seven names that are nearly so: eight units are added.",
                  wanting("UTIL"), [library], [DEMO, (7, 1, 0), *((8 + k, 1, 1 + k, True) for k in range(8))])
     user = unit_of("USER", (), [unit_ref(name, []) for name in ["USER", *alike("USER"), "", bytes(8)]])
-    yield linked("show-names-alike", "A library that is not used has UNITREFs to seven names that are nearly that of its unit, and to blank ones.",
+    yield linked("show-names-alike", "A library that is not used has UNITREFs to seven names that are nearly that of its unit, and to "
+                 "blank ones.",
                  {1: program()}, [{2: user, 3: Segment("")}], [DEMO])
     plain = {2 + k: Segment(name, LINKED, code=b"\xd7") for k, name in enumerate(alike("UTIL"))}
-    yield linked("wanted-and-plain-of-one-name", "A plain segment has the name of a unit that a later slot wants, and others nearly so.",
+    yield linked("wanted-and-plain-of-one-name", "A plain segment has the name of a unit that a later slot wants, and "
+                 "others nearly so.",
                  {**plain, 9: Segment("UTIL", LINKED, code=b"\xd7"), 1: program(), 10: Segment("UTIL")}, [{2: unit_of("UTIL")}],
                  [DEMO, *((2 + k, 0, 2 + k) for k in range(7)), (9, 0, 9), (10, 1, 2)])
     yield linked("wanted-of-the-programs-name", "A slot before that of the program wants a unit of its name.",
@@ -82,7 +85,8 @@ def with_zeros():
                for record in (publ_ref(name, [1 + 9 * k]), priv_ref(name, 2, [4 + 9 * k]), unit_ref(name, [7 + 9 * k]))]
     user = unit_of(b"N\0THREE ", [*parts, "CD", unit(b"N\0FOUR  "), "01"], [*records, unit_ref(b"N\0FOUR  ", [19])])
     library = {2: unit_of(b"N\0FIVE  ", ["05"]), 3: user, 4: unit_of(b"N\0FOUR  ")}
-    yield linked("names-that-differ-after-a-zero-byte", "Units, definitions and private variables whose names differ after a zero byte alone.", host,
+    yield linked("names-that-differ-after-a-zero-byte", "Units, definitions and private variables whose names differ after a zero "
+                 "byte alone.", host,
                  [library], [DEMO, (7, 0, 7), (8, 0, 8), (9, 1, 3), (10, 1, 4, True)], [(9, one, 8, 2), (9, two, 10, 2)], 12, 18)
 
 
@@ -121,26 +125,32 @@ def of_units():
     records = [publ_def("COUNT", 99), const_def("COUNT", 98), publ_def("COUNT", 97), const_def("OTHER", 1), publ_ref("COUNT", [1])]
     yield one_unit("definitions-of-a-unit", "A unit defines COUNT three times, also as a constant: its definitions are ignored.",
                    ["A5", public(displacement=1)], records)
-    host = program(priv_ref("OWN", 1, [1]), publ_ref("LATE", [4]), publ_def("LATE", 6), unit_ref("UTIL", []), const_def("LIMIT", 9), publ_def("LAST", 7),
+    host = program(priv_ref("OWN", 1, [1]), publ_ref("LATE", [4]), publ_def("LATE", 6), unit_ref("UTIL", []), const_def("LIMIT", 9),
+                   publ_def("LAST", 7),
                    parts=["AB", private("OWN"), "A5", public("LATE")])
-    yield one_unit("definitions-after-references", "The host defines names after its reference records, and uses them before.", ["A5", public("LAST")],
+    yield one_unit("definitions-after-references", "The host defines names after its reference records, and uses them before.",
+                   ["A5", public("LAST")],
                    [publ_ref("LAST", [1])], host=host, privates=[(1, "OWN", 8, 1)], next_free=9, data=12)
     host = {**wanting("UTIL"), 0: unit_of("LOW", ["A5", public(displacement=2)], [const_def("COUNT", 5), publ_ref("COUNT", [1])])}
-    yield linked("definitions-of-a-unit-in-the-host", "A unit in slot 0 of the host defines COUNT as a constant: that is ignored.", host,
+    yield linked("definitions-of-a-unit-in-the-host", "A unit in slot 0 of the host defines COUNT as a constant: that is ignored.",
+                 host,
                  [{2: unit_of("UTIL", ["A5", public()], [publ_ref("COUNT", [1])])}], [(0, 0, 0), DEMO, UTIL])
-    host = {1: program(priv_ref("COUNT", 2, [4]), publ_ref("COUNT", [1]), parts=["A5", public(), "AB", private("COUNT", 1)]), 7: Segment("UTIL")}
+    host = {1: program(priv_ref("COUNT", 2, [4]), publ_ref("COUNT", [1]), parts=["A5", public(), "AB", private("COUNT", 1)]),
+            7: Segment("UTIL")}
     yield linked("private-of-a-public-of-the-program", "The host program has a private variable of the name that it defines.", host,
                  [{2: unit_of("UTIL", ["A5", public(displacement=1)], [publ_ref("COUNT", [1])])}], [DEMO, UTIL],
                  [(1, "COUNT", 8, 2)], 10, 14)
     host = {**wanting("UTIL"), 8: unit_of("AUX", ["AB", private("COUNT", 1)], [priv_ref("COUNT", 2, [1])])}
-    yield linked("private-of-a-public-of-another", "A unit has a private variable of the name of a definition to which another refers.", host,
+    yield linked("private-of-a-public-of-another", "A unit has a private variable of the name of a definition to which "
+                 "another refers.", host,
                  [{2: unit_of("UTIL", ["A5", public(displacement=1)], [publ_ref("COUNT", [1])])}], [DEMO, UTIL, (8, 0, 8)],
                  [(8, "COUNT", 8, 2)], 10, 14)
     host = {**wanting("UTIL"), 8: unit_of("AUX", (), [priv_ref("STATE", 2, [])])}
     yield refused("28-private-of-another", "UTIL has a PUBLREF to a name that is a private variable of AUX.", host,
                   [{2: unit_of("UTIL", ["A5", public("STATE")], [publ_ref("STATE", [1])])}], Fault(28, 1, 7, 0))
     yield refused("28-private-of-its-own", "UTIL has a PUBLREF to a name that is a private variable of its own.", wanting("UTIL"),
-                  [{2: unit_of("UTIL", ["A5", public("STATE")], [priv_ref("STATE", 2, []), publ_ref("STATE", [1])])}], Fault(28, 1, 7, 1))
+                  [{2: unit_of("UTIL", ["A5", public("STATE")], [priv_ref("STATE", 2, []), publ_ref("STATE", [1])])}],
+                  Fault(28, 1, 7, 1))
     host = {1: program(priv_ref("STATE", 2, [])), 7: Segment("UTIL")}
     yield refused("28-private-of-the-program", "UTIL has a PUBLREF to a name that is a private variable of the host program.", host,
                   [{2: unit_of("UTIL", ["A5", public("STATE")], [publ_ref("STATE", [1])])}], Fault(28, 1, 7, 0))
@@ -148,19 +158,22 @@ def of_units():
     yield refused("28-of-a-library", "UTIL has a PUBLREF to a name that only a program in the library defines.", wanting("UTIL"),
                   [{2: unit_of("UTIL", ["A5", public("CUONT")], [publ_ref("CUONT", [1])]), 1: program_there}], Fault(28, 1, 7, 0))
     yield refused("29-no-reference", "UTIL has a PUBLREF without references to a constant.",
-                  wanting("UTIL", host=program(const_def("LIMIT", 5))), [{2: unit_of("UTIL", (), [publ_ref("LIMIT", [])])}], Fault(29, 1, 7, 0))
+                  wanting("UTIL", host=program(const_def("LIMIT", 5))), [{2: unit_of("UTIL", (), [publ_ref("LIMIT", [])])}],
+                  Fault(29, 1, 7, 0))
     for name, later in [("24-public-and-constant", const_def("COUNT", 3)), ("24-of-one-value", publ_def("COUNT", 3))]:
         yield refused(name, "The host defines COUNT a second time, with the same value.", {1: program(publ_def("OTHER", 1), later)}, [],
                       Fault(24, 0, 1, 2))
     host = program(priv_ref("STATE", 1, []), publ_ref("COUNT", []), publ_def("COUNT", 9))
-    yield refused("24-after-other-records", "The host defines COUNT a second time, after records of other kinds.", {1: host}, [], Fault(24, 0, 1, 3))
+    yield refused("24-after-other-records", "The host defines COUNT a second time, after records of other kinds.", {1: host}, [],
+                  Fault(24, 0, 1, 3))
     host = program(const_def("LIMIT", 4), publ_def("LIMIT", 5), publ_def("COUNT", 6), const_def("LIMIT", 7))
     yield refused("24-two-names", "The host defines LIMIT a second time, then COUNT, and then LIMIT a third time.", {1: host}, [],
                   Fault(24, 0, 1, 2))
     for name, library in [("wanted", {2: unit_of("UTIL"), 3: unit_of("UTIL2")}), ("unit", {})]:
         low = Segment("UTIL") if name == "wanted" else unit_of("UTIL")
         other = unit_of("UTIL") if name == "wanted" else Segment("UTIL")
-        yield refused(f"6-{name}-then-{'unit' if name == 'wanted' else 'wanted'}", "Two slots have one name: one has the unit, and one wants it.",
+        yield refused(f"6-{name}-then-{'unit' if name == 'wanted' else 'wanted'}", "Two slots have one name: one has the unit, and "
+                      "one wants it.",
                       {1: program(), 3: low, 9: other}, [library] if library else [], Fault(6, 0, 9))
 
 

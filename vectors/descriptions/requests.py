@@ -51,7 +51,8 @@ def searched():
                  [DEMO, UTIL, (8, 1, 4, True)])
     host = {**wanting("UTIL"), 8: unit_of("AUX", ["D7"]), 9: TOOLS}
     library = {2: unit_of("UTIL", (), [unit_ref("AUX", [])]), 3: coded("AUX", "05"), 4: coded("TOOLS", "05"), 5: coded("DEMO", "05")}
-    yield linked("host-before-libraries", "The library has units of the names of the host's own unit, plain segment and program.", host, [library],
+    yield linked("host-before-libraries", "The library has units of the names of the host's own unit, plain segment and program.",
+                 host, [library],
                  [DEMO, UTIL, (8, 0, 8), (9, 0, 9)])
     good = {5: unit_of("UTIL"), 6: unit_of("MORE")}
     for name, about, unit_there, fault in [
@@ -65,10 +66,12 @@ def searched():
                       [{2: unit_there, 3: unit_of("OTHER")}, good], fault)
     yield refused("15-first-of-two", "The first library has UTIL twice, and the second once.", wanting("UTIL"),
                   [{2: unit_of("UTIL"), 3: Segment("UTIL", UNITSEG, shares=2)}, good], Fault(15, 1, 7))
-    yield refused("16-added-first-of-two", "The first library has MORE, which UTIL uses, past the end of its file, and the second without a fault.",
+    yield refused("16-added-first-of-two", "The first library has MORE, which UTIL uses, past the end of its file, and the second "
+                  "without a fault.",
                   wanting("UTIL"), [{2: asking, 3: unit_of("MORE", address=900, fault=16)}, good], Fault(16, 1, 8))
     yield linked("other-kind-in-a-later", "The first library has UTIL and MORE, and the second each of them with kind 5.",
-                 wanting("UTIL"), [{2: asking, 4: unit_of("MORE")}, {2: Segment("MORE", 5, code=b"\xd7"), 3: Segment("UTIL", 5, code=b"\xd7")}],
+                 wanting("UTIL"), [{2: asking, 4: unit_of("MORE")},
+                                   {2: Segment("MORE", 5, code=b"\xd7"), 3: Segment("UTIL", 5, code=b"\xd7")}],
                  [DEMO, UTIL, (8, 1, 4, True)])
 
 
@@ -82,7 +85,8 @@ def many_libraries():
                   "a name without a definition.", wanting("UTIL"),
                   [{2: unit_of("OTHER")}, {2: unit_of("UTIL", (), [publ_ref("CUONT", [])])}], Fault(28, 2, 7, 0), given=[1, 2, 2])
     other, given = {2: unit_of("OTHER")}, [1] * 256 + [2]
-    for name, unit_there in [("256", {2: unit_of("UTIL")}), ("of-300", {2: unit_of("UTIL", ["A5", public()], [publ_ref("COUNT", [1])])})]:
+    for name, unit_there in [("256", {2: unit_of("UTIL")}),
+                             ("of-300", {2: unit_of("UTIL", ["A5", public()], [publ_ref("COUNT", [1])])})]:
         before = [1] * (255 if name == "256" else 299)
         yield linked(f"libraries-{name}", f"Library {len(before) + 1} has the unit; those before it are one file.", wanting("UTIL"),
                      [other, unit_there], [DEMO, (7, len(before) + 1, 2)], given=[*before, 2])
@@ -104,7 +108,8 @@ def entries():
              for slot, (name, kind, address, length) in without_code.items()}
     yield linked("second-entry-without-a-code", "The library has more entries of UTIL and MORE, of many kinds, that are not filled.",
                  wanting("UTIL"), [{**empty, 2: util, 12: more}], [DEMO, UTIL, (8, 1, 12, True)])
-    yield linked("entry-without-a-code-first", "The first library has entries of UTIL and MORE that are not filled; the second has the units.",
+    yield linked("entry-without-a-code-first", "The first library has entries of UTIL and MORE that are not filled; the second "
+                 "has the units.",
                  wanting("UTIL"), [{**empty, 2: unit_of("OTHER")}, {2: util, 12: more}], [DEMO, (7, 2, 2), (8, 2, 12, True)])
     program_there = Segment("DEMO", HOSTSEG, program().procedures, [publ_def("COUNT", 77), eof_mark(99)])
     yield linked("library-with-a-program", "The library is a host itself, with a program, wanted units and other kinds.",
@@ -155,7 +160,8 @@ def slots():
     yield linked("added-in-slots-of-each-kind", "Nine units are added in empty slots that have names, kinds, addresses and texts.",
                  {1: host_using("CHAIN0"), **empty}, [library], [DEMO, *((7 + k, 1, k, True) for k in range(9))])
     library = {k: unit_of(name) for k, name in enumerate(names)}
-    yield linked("added-in-slots-of-some-kinds", "Two units are added. The empty slots that are left have names, kinds, addresses and texts.",
+    yield linked("added-in-slots-of-some-kinds", "Two units are added. The empty slots that are left have names, kinds, "
+                 "addresses and texts.",
                  {1: host_using("CHAIN0", "CHAIN1"), **empty}, [library], [DEMO, (7, 1, 0, True), (8, 1, 1, True)])
     low = {slot: Segment(name, kind, address=address, length=0)
            for slot, kind, address, name in [(0, 2, 5, "DEMO"), (2, 1, 1, "DEMO"), (3, 4, 1, "UTIL"), (4, 5, 1, "UTIL"),
@@ -170,7 +176,8 @@ def slots():
     variables = ["AB", private("STATE", 1)]
     host = {1: program(priv_ref("OWN", 1, [1]), unit_ref("MORE", []), parts=["AB", private("OWN"), "D7"]), 12: Segment("UTIL"),
             10: unit_of("AUX", variables, [priv_ref("STATE", 5, [1])])}
-    library = {2: unit_of("UTIL", ["AB", private("STATE", 2), "CD", unit("MORE"), "01"], [priv_ref("STATE", 3, [1]), unit_ref("MORE", [4])]),
+    library = {2: unit_of("UTIL", ["AB", private("STATE", 2), "CD", unit("MORE"), "01"],
+                          [priv_ref("STATE", 3, [1]), unit_ref("MORE", [4])]),
                5: unit_of("MORE", ["AB", private("CACHE")], [priv_ref("CACHE", 2, [1])])}
     yield linked("added-below", "The added unit is in slot 7, below the units in 10 and 12, and its words come before theirs.", host,
                  [library], [DEMO, (7, 1, 5, True), (10, 0, 10), (12, 1, 2)],
@@ -180,7 +187,8 @@ def slots():
                  [{5: unit_of("MORE", ["AB", private("CACHE")], [priv_ref("CACHE", 2, [1])])}], [(7, 1, 5, True), (13, 0, 13)],
                  [(7, "CACHE", 8, 2), (13, "OWN", 10, 4)], 14, 22)
     host = {0: using("LOW", "B"), 9: program(unit_ref("C", []), unit_ref("A", [])), 8: using("AUX", "A", "B")}
-    yield linked("added-by-slot-of-the-asking", "The program is in slot 9: units in 0 and 8 ask before it, for B and A, and it for C.", host,
+    yield linked("added-by-slot-of-the-asking", "The program is in slot 9: units in 0 and 8 ask before it, for B and A, and it for C.",
+                 host,
                  [{1: unit_of("A"), 2: unit_of("B"), 3: unit_of("C")}],
                  [(0, 0, 0), (7, 1, 2, True), (8, 0, 8), (9, 0, 9), (10, 1, 1, True), (11, 1, 3, True)])
     library = {1: using("A", "C", "D"), 2: using("B", "E", "C"), 3: using("C", "F"), 4: unit_of("D"), 5: unit_of("E"), 6: unit_of("F")}
@@ -205,29 +213,37 @@ def who_asks():
         entry = {} if name == "NOBODY" else {9: Segment(name, UNITSEG, shares=5)}
         yield refused(f"13-by-an-added-unit{end}", f"MORE, which is added, requests a unit whose name {what}.", wanting("UTIL"),
                       [first, {5: asking(name), **entry}], Fault(13, 2, 8, 2))
-    yield refused("13-by-an-added-unit-late", "MORE, of the third library, is in slot 9, and its fifth record requests what no library has.",
+    yield refused("13-by-an-added-unit-late", "MORE, of the third library, is in slot 9, and its fifth record requests what no "
+                  "library has.",
                   {**wanting("UTIL"), 8: TOOLS}, [first, {2: unit_of("OTHER")}, {5: asking("NOBODY", *few)}], Fault(13, 3, 9, 4))
     chain = [{**first, 7: using("LAST", "UTIL", "NOBODY")}, {5: using("MORE", "LAST")}]
-    yield refused("13-by-the-second-added-unit", "UTIL uses MORE, which uses LAST, which requests what no library has.", wanting("UTIL"), chain,
+    yield refused("13-by-the-second-added-unit", "UTIL uses MORE, which uses LAST, which requests what no library has.",
+                  wanting("UTIL"), chain,
                   Fault(13, 1, 9, 1))
-    yield refused("13-library-is-searched-not-the-host", "A unit of the host's name that only an empty slot of the host has is missing.",
+    yield refused("13-library-is-searched-not-the-host", "A unit of the host's name that only an empty slot of the host has "
+                  "is missing.",
                   {**wanting("UTIL"), 9: Segment("MORE", 5, address=1, length=0)}, [first], Fault(13, 1, 7, 0))
-    yield refused("35-by-an-added-unit", "MORE, which is added in the last empty slot, requests LAST.", {**wanting("UTIL"), **plain(range(9, 16))},
+    yield refused("35-by-an-added-unit", "MORE, which is added in the last empty slot, requests LAST.",
+                  {**wanting("UTIL"), **plain(range(9, 16))},
                   [first, {5: asking("LAST"), 6: unit_of("LAST")}], Fault(35, 2, 8, 2))
     yield refused("35-by-an-added-unit-late", "MORE, of the third library, is in slot 11, and its fifth record requests LAST.",
-                  {**wanting("UTIL"), **plain([8, 9, 10, 12, 13, 14, 15])}, [first, {2: unit_of("OTHER")}, {5: asking("LAST", *few), 6: unit_of("LAST")}],
+                  {**wanting("UTIL"), **plain([8, 9, 10, 12, 13, 14, 15])},
+                  [first, {2: unit_of("OTHER")}, {5: asking("LAST", *few), 6: unit_of("LAST")}],
                   Fault(35, 3, 11, 4))
     full = plain(range(7, 16))
-    yield refused("35-by-the-program", "All slots from 7 on are filled, and the host program requests MORE.", {1: host_using("MORE"), **full},
+    yield refused("35-by-the-program", "All slots from 7 on are filled, and the host program requests MORE.",
+                  {1: host_using("MORE"), **full},
                   [{5: unit_of("MORE")}], Fault(35, 0, 1, 1))
     yield refused("35-by-a-unit-of-the-host", "All slots from 7 on are filled, and the unit in slot 9 requests MORE.",
                   {1: program(), **full, 9: using("AUX", "AUX", "MORE")}, [{5: unit_of("MORE")}], Fault(35, 0, 9, 1))
     names = [f"UNIT{k}" for k in range(10)]
     library = {k: unit_of(name) for k, name in enumerate(names)}
-    yield refused("35-tenth", "The host program requests ten units, and nine slots are empty from 7 on.", {1: host_using(*names)}, [library],
+    yield refused("35-tenth", "The host program requests ten units, and nine slots are empty from 7 on.", {1: host_using(*names)},
+                  [library],
                   Fault(35, 0, 1, 10))
     forty = [f"N{k:02}" for k in range(40)]
-    yield refused("35-of-forty", "The host program requests forty units, of which the library has the first sixteen.", {1: host_using(*forty)},
+    yield refused("35-of-forty", "The host program requests forty units, of which the library has the first sixteen.",
+                  {1: host_using(*forty)},
                   [{k: unit_of(name) for k, name in enumerate(forty[:16])}], Fault(35, 0, 1, 10))
     library = {k: using(name, *names[k + 1 : k + 2]) for k, name in enumerate(names)}
     yield refused("35-tenth-of-a-chain", "A chain of ten units, of which each uses the next, and nine slots are empty from 7 on.",
@@ -238,15 +254,18 @@ def who_asks():
     yield refused("13-asked-thrice", "Three segments of the host request what no library has: the first of them is reported.", host, [],
                   Fault(13, 0, 0, 1))
     host = {**wanting("UTIL"), 12: using("AUX", "AUX", "NOBODY")}
-    yield refused("13-asked-by-an-added-unit-too", "MORE, added in slot 8, and before it AUX in slot 12 of the host request what no library has.",
+    yield refused("13-asked-by-an-added-unit-too", "MORE, added in slot 8, and before it AUX in slot 12 of the host request what no "
+                  "library has.",
                   host, [{2: using("UTIL", "MORE"), 3: using("MORE", "NOBODY")}], Fault(13, 0, 12, 1))
     twice = using("UTIL", "NOBODY", "UTIL")
     twice.records.insert(-1, unit_ref("NOBODY", []))
-    yield refused("13-asked-twice", "Two records of UTIL request what no library has.", wanting("UTIL"), [{2: twice}], Fault(13, 1, 7, 0))
+    yield refused("13-asked-twice", "Two records of UTIL request what no library has.", wanting("UTIL"), [{2: twice}],
+                  Fault(13, 1, 7, 0))
     yield refused("13-no-reference", "A UNITREF without references requests what no library has.", wanting("UTIL"),
                   [{2: unit_of("UTIL", (), [unit_ref("NOBODY", [])])}], Fault(13, 1, 7, 0))
     yield refused("35-no-reference", "All slots from 7 on are filled, and a UNITREF without references requests MORE.",
-                  {**full, **wanting("UTIL")}, [{2: unit_of("UTIL", (), [unit_ref("MORE", [])]), 3: unit_of("MORE")}], Fault(35, 1, 7, 0))
+                  {**full, **wanting("UTIL")}, [{2: unit_of("UTIL", (), [unit_ref("MORE", [])]), 3: unit_of("MORE")}],
+                  Fault(35, 1, 7, 0))
 
 
 # The order of faults of what is requested -----------------------------------------------------------------------------
@@ -262,7 +281,8 @@ def order():
                [{2: both, 3: unit_of("MORE")}], Fault(35, 1, 7, 0))
     yield case("13-before-35-of-a-later-name", "No slot is left: NOBODY is requested before MORE, which is there.", full,
                [{2: using("UTIL", "NOBODY", "MORE"), 3: unit_of("MORE")}], Fault(13, 1, 7, 0))
-    yield case("13-before-35", "No slot is left, and no library has the unit.", full, [{2: using("UTIL", "NOBODY")}], Fault(13, 1, 7, 0))
+    yield case("13-before-35", "No slot is left, and no library has the unit.", full, [{2: using("UTIL", "NOBODY")}],
+               Fault(13, 1, 7, 0))
     yield case("13-blank-before-35", "No slot is left, and the name is blank.", full,
                [{2: using("UTIL", ""), 3: Segment("", UNITSEG, shares=2)}], Fault(13, 1, 7, 0))
     yield case("35-before-14", "No slot is left, and MORE has kind 5.", full,
@@ -277,11 +297,14 @@ def order():
                wanting("UTIL"), [{2: both, 3: unit_of("MORE", changes={10: "00"})}], Fault(18, 1, 8))
     wrong = unit_of("MORE", (), [publ_ref("COUNT", [])])
     wrong.records[0].type, wrong.records[0].fault = 15, 20
-    yield case("20-before-14-of-a-later-name", "A record of MORE has type 15, and LAST, requested after it, has kind 5.", wanting("UTIL"),
+    yield case("20-before-14-of-a-later-name", "A record of MORE has type 15, and LAST, requested after it, has kind 5.",
+               wanting("UTIL"),
                [{2: using("UTIL", "MORE", "LAST"), 3: wrong, 4: Segment("LAST", 5, code=b"\xd7\xd7")}], Fault(20, 1, 8, 0))
-    yield case("13-of-the-first-round", "UTIL requests MORE and then NOBODY; MORE requests LAST, which is missing too.", wanting("UTIL"),
+    yield case("13-of-the-first-round", "UTIL requests MORE and then NOBODY; MORE requests LAST, which is missing too.",
+               wanting("UTIL"),
                [{2: both, 3: using("MORE", "LAST")}], Fault(13, 1, 7, 1))
-    yield case("14-of-the-first-round", "UTIL requests MORE and then OTHER, of kind 5; MORE requests LAST, which is missing.", wanting("UTIL"),
+    yield case("14-of-the-first-round", "UTIL requests MORE and then OTHER, of kind 5; MORE requests LAST, which is missing.",
+               wanting("UTIL"),
                [{2: using("UTIL", "MORE", "OTHER"), 3: using("MORE", "LAST"), 4: Segment("OTHER", 5, code=b"\xd7\xd7")}],
                Fault(14, 1, 9, kind=5))
     host = {1: host_using("MORE"), 12: unit_of("AUX", (), [publ_ref("CUONT", [])])}
@@ -293,11 +316,12 @@ def order():
     yield case("25-of-an-added-unit-first", "MORE, added in slot 7, and AUX in slot 12 have a private variable twice.", host,
                [{3: unit_of("MORE", (), [publ_def("COUNT", 1), *doubled])}], Fault(25, 1, 7, 2))
     host = {1: host_using("MORE"), 12: unit_of("AUX", (), [priv_ref("STATE", 20000, [])])}
-    yield case("26-by-slot", "MORE, added in slot 7, has 20000 private words and AUX in slot 12 as many: those of AUX do not fit.", host,
+    yield case("26-by-slot", "MORE, added in slot 7, has 20000 private words and AUX in slot 12 as many: those of AUX do not fit.",
+               host,
                [{3: unit_of("MORE", (), [priv_ref("CACHE", 20000, [])])}], Fault(26, 0, 12, 0))
     host = {1: host_using("MORE"), 12: unit_of("AUX", changes={10: "00"})}
-    yield case("18-of-the-host-before-17-of-an-added-unit", "AUX in slot 12 of the host has a native procedure; MORE, which would be in slot 7, "
-               "a dictionary that is too long.", host, [{3: unit_of("MORE", changes={15: "FF"})}], Fault(18, 0, 12))
+    yield case("18-of-the-host-before-17-of-an-added-unit", "AUX in slot 12 of the host has a native procedure; MORE, which would be "
+               "in slot 7, a dictionary that is too long.", host, [{3: unit_of("MORE", changes={15: "FF"})}], Fault(18, 0, 12))
     yield case("13-of-a-slot-before-13-of-a-name", "NOBODY is requested, and slot 12 wants a unit that is missing too.",
                {1: host_using("NOBODY"), 12: Segment("NONE")}, [], Fault(13, 0, 12))
     yield case("18-before-13-of-a-later-slot", "The procedure of UTIL has number 0, and slot 8 wants a unit that is missing.",
