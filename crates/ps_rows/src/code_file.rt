@@ -13,6 +13,9 @@
 //! | `util-code 2 7` | the base unit's code with this segment number |
 //! | `records 2` | nothing: the records behind it, as `EOFMARK next 0`, are from this block on |
 //! | `size 2048` | the file's length: it is truncated, or made longer by zeros |
+//!
+//! Each statement changes a byte or the length; of a list of records one does. Where none does, where a
+//! byte would lie past the file's end, and where a record is behind no `records`, the test stops.
 use crate::base::{BASE_LENGTH, demo_code, util_code};
 use crate::information::{Information, bytes_of, put};
 use crate::notation::{byte, ends, name, name_of, number, word};
@@ -35,13 +38,15 @@ const WORD_SIZE: usize = 2;
 /// Changes of a file, one after the other.
 pub type Changes<'a> = &'a str;
 
-/// A code file that is being made: its bytes, the order of its words, and where the next record
-/// is written.
+/// A code file that is being made: its bytes, and the order of its words.
 #[derive(Drop)]
 pub struct CodeFile {
     order: Order,
     bytes: Vec<u8>,
-    record: usize,
+    /// Where the next record is written, behind a `records`.
+    record: Option<usize>,
+    /// Whether the last statement changed the file, or the last list of records.
+    has_changed: bool,
 }
 
 impl CodeFile {
@@ -51,9 +56,10 @@ impl CodeFile {
         let mut file = CodeFile {
             order,
             bytes: Vec::from_elem(rt.alloc(), 0, BASE_LENGTH).expect(rt, "no memory"),
-            record: 0,
+            record: None,
+            has_changed: false,
         };
-        file.put(NAMES, &[b' '; KINDS - NAMES]);
+        file.put(rt, NAMES, &[b' '; KINDS - NAMES]);
         for changes in texts {
             file.change(rt, *changes);
         }
@@ -71,13 +77,16 @@ impl CodeFile {
         self.bytes.as_slice()
     }
 
-    /// Puts bytes at a place; those that would lie past the file's end are left out.
-    pub fn put(&mut self, place: usize, bytes: &[u8]) {
-        put(self.bytes.as_mut_slice(), place, bytes)
+    /// Puts bytes at a place of the file.
+    pub fn put(&mut self, rt: &impl Abort, place: usize, bytes: &[u8]) {
+        if put(rt, self.bytes.as_mut_slice(), place, bytes) {
+            self.has_changed = true;
+        }
     }
 
-    /// Makes these changes; bytes that would lie past the file's end are left out.
+    /// Makes these changes.
     pub fn change(&mut self, rt: &(impl Abort + AllocGlobal), changes: Changes<'_>) {
+        self.has_changed = true;
         let mut rest = changes;
         for _ in 0..changes.len() {
             let (statement, others) = rest.split_once(';').unwrap_or((rest, ""));
@@ -86,8 +95,19 @@ impl CodeFile {
                 self.state(rt, kind, &mut words);
                 ends(rt, &mut words, statement);
             }
+            if others.is_empty() {
+                break;
+            }
             rest = others;
         }
+        self.settle(rt, "the end")
+    }
+
+    /// Checks that what is before this statement changed the file.
+    fn settle(&mut self, rt: &impl Abort, statement: &str) {
+        assert!(rt; self.has_changed, "nothing changes before {statement}");
+        self.has_changed = false;
+        self.record = None
     }
 
     /// Makes the change of a statement: its first word, and the words behind it.
@@ -97,28 +117,45 @@ impl CodeFile {
         kind: &str,
         words: &mut SplitWhitespace<'_>,
     ) {
+        if let Some(b'A'..=b'Z') = kind.as_bytes().first() {
+            return self.add_record(rt, kind, words);
+        }
+        self.settle(rt, kind);
+        self.state_change(rt, kind, words)
+    }
+
+    /// The same of a statement that is no record.
+    fn state_change(
+        &mut self,
+        rt: &(impl Abort + AllocGlobal),
+        kind: &str,
+        words: &mut SplitWhitespace<'_>,
+    ) {
         match kind {
             "slot" => self.slot(rt, words),
-            "size" => self
-                .bytes
-                .resize(number(rt, words), 0)
-                .expect(rt, "no memory"),
-            "records" => self.record = code_place(word(rt, words), 0),
+            "size" => self.size(rt, number(rt, words)),
+            "records" => self.record = Some(code_place(word(rt, words), 0)),
             "at" | "fill" | "names" => self.at_place(rt, kind, words),
             "code" | "word" | "demo-code" | "util-code" => self.in_code(rt, kind, words),
-            _ => self.add_record(rt, kind, words),
+            _ => assert!(rt; false, "{kind}"),
         }
+    }
+
+    fn size(&mut self, rt: &impl Abort, size: usize) {
+        self.has_changed = size != self.bytes.len();
+        self.bytes.resize(size, 0).expect(rt, "no memory")
     }
 
     fn slot(&mut self, rt: &impl Abort, words: &mut SplitWhitespace<'_>) {
         let slot = usize::from(word(rt, words));
+        assert!(rt; slot < 16, "slot {slot}");
         for _ in 0..4 {
             match words.next() {
                 None => return,
-                Some("name") => self.put(NAMES + NAME_SIZE * slot, &name(words)),
-                Some("kind") => self.word(KINDS + WORD_SIZE * slot, word(rt, words)),
-                Some("address") => self.word(PAIR_SIZE * slot, word(rt, words)),
-                Some("length") => self.word(PAIR_SIZE * slot + WORD_SIZE, word(rt, words)),
+                Some("name") => self.put(rt, NAMES + NAME_SIZE * slot, &name(rt, words)),
+                Some("kind") => self.word(rt, KINDS + WORD_SIZE * slot, word(rt, words)),
+                Some("address") => self.word(rt, PAIR_SIZE * slot, word(rt, words)),
+                Some("length") => self.word(rt, PAIR_SIZE * slot + WORD_SIZE, word(rt, words)),
                 Some(part) => assert!(rt; false, "{part}"),
             }
         }
@@ -130,7 +167,7 @@ impl CodeFile {
         match kind {
             "at" => self.hex(rt, place, words),
             "fill" => self.fill(rt, place, words),
-            _ => self.names(place, words),
+            _ => self.names(rt, place, words),
         }
     }
 
@@ -138,12 +175,12 @@ impl CodeFile {
     fn in_code(&mut self, rt: &impl Abort, kind: &str, words: &mut SplitWhitespace<'_>) {
         let block = word(rt, words);
         match kind {
-            "demo-code" => self.put(code_place(block, 0), &demo_code(self.order)),
+            "demo-code" => self.put(rt, code_place(block, 0), &demo_code(self.order)),
             "util-code" => {
                 let number = u8::try_from(word(rt, words)).expect(rt, "no segment number");
-                self.put(code_place(block, 0), &util_code(self.order, number))
+                self.put(rt, code_place(block, 0), &util_code(self.order, number))
             }
-            "word" => self.word(code_place(block, number(rt, words)), word(rt, words)),
+            "word" => self.word(rt, code_place(block, number(rt, words)), word(rt, words)),
             _ => self.hex(rt, code_place(block, number(rt, words)), words),
         }
     }
@@ -153,10 +190,8 @@ impl CodeFile {
         let digits = words.next().unwrap_or("no bytes").as_bytes();
         let mut place = place;
         for pair in digits.chunks(2) {
-            self.put(
-                place,
-                &[byte(rt, str::from_utf8(pair).unwrap_or("no text"))],
-            );
+            let byte = byte(rt, str::from_utf8(pair).unwrap_or("no text"));
+            self.put(rt, place, &[byte]);
             place = place.saturating_add(1);
         }
     }
@@ -166,16 +201,17 @@ impl CodeFile {
         let count = number(rt, words);
         let byte = byte(rt, words.next().unwrap_or("no byte"));
         for k in 0..count {
-            self.put(place.saturating_add(k), &[byte]);
+            self.put(rt, place.saturating_add(k), &[byte]);
         }
     }
 
-    fn names(&mut self, place: usize, words: &mut SplitWhitespace<'_>) {
+    fn names(&mut self, rt: &impl Abort, place: usize, words: &mut SplitWhitespace<'_>) {
         for k in 0..16 {
-            match words.next() {
-                Some(word) => self.put(place.saturating_add(NAME_SIZE * k), &name_of(word)),
-                None => return,
-            }
+            let Some(word) = words.next() else {
+                return;
+            };
+            let name = name_of(rt, word);
+            self.put(rt, place.saturating_add(NAME_SIZE * k), &name)
         }
     }
 
@@ -188,12 +224,13 @@ impl CodeFile {
     ) {
         let mut information = Information::empty(rt, self.order);
         information.record(rt, kind, words);
-        self.put(self.record, information.as_slice());
-        self.record = self.record.saturating_add(information.as_slice().len())
+        let place = self.record.expect(rt, "a record that is behind no records");
+        self.put(rt, place, information.as_slice());
+        self.record = Some(place.saturating_add(information.as_slice().len()))
     }
 
-    fn word(&mut self, place: usize, word: u16) {
-        self.put(place, &bytes_of(self.order, word))
+    fn word(&mut self, rt: &impl Abort, place: usize, word: u16) {
+        self.put(rt, place, &bytes_of(self.order, word))
     }
 }
 

@@ -64,6 +64,9 @@ impl Information {
                 information.record(rt, kind, &mut words);
                 ends(rt, &mut words, record);
             }
+            if others.is_empty() {
+                break;
+            }
             rest = others;
         }
         information
@@ -96,13 +99,13 @@ impl Information {
         format: u16,
         words: &mut SplitWhitespace<'_>,
     ) {
-        self.head(rt, &name(words), kind, [format, 0, 0]);
+        self.head(rt, &name(rt, words), kind, [format, 0, 0]);
         self.list(rt, words)
     }
 
     /// PRIVREF: the variable's name and words, and the references.
     fn private(&mut self, rt: &impl Abort, words: &mut SplitWhitespace<'_>) {
-        let name = name(words);
+        let name = name(rt, words);
         let size = value(rt, words, "words");
         self.head(rt, &name, PRIVATE_REFERENCE, [BIG_FORMAT, 0, size]);
         self.list(rt, words)
@@ -110,14 +113,14 @@ impl Information {
 
     /// PUBLDEF and CONSTDEF: the name and its value.
     fn definition(&mut self, rt: &impl Abort, kind: u16, words: &mut SplitWhitespace<'_>) {
-        let name = name(words);
+        let name = name(rt, words);
         self.head(rt, &name, kind, [value(rt, words, "value"), 0, 0])
     }
 
     /// Any type word, a name, the three words after them, and no list.
     fn other(&mut self, rt: &impl Abort, words: &mut SplitWhitespace<'_>) {
         let kind = word(rt, words);
-        let name = name(words);
+        let name = name(rt, words);
         let further = [word(rt, words), word(rt, words), word(rt, words)];
         self.head(rt, &name, kind, further)
     }
@@ -143,11 +146,8 @@ impl Information {
             count = count.saturating_add(1);
         }
         self.fill_up(rt, count);
-        put(
-            self.bytes.as_mut_slice(),
-            place,
-            &bytes_of(self.order, count),
-        )
+        let count = bytes_of(self.order, count);
+        put(rt, self.bytes.as_mut_slice(), place, &count);
     }
 
     /// Fills up the last piece of a list of so many references with zeros.
@@ -174,9 +174,17 @@ pub(crate) fn bytes_of(order: Order, word: u16) -> [u8; 2] {
     }
 }
 
-/// Puts bytes at a place; those that would lie past the end are left out.
-pub(crate) fn put(all: &mut [u8], place: usize, bytes: &[u8]) {
-    for (to, from) in all.iter_mut().skip(place).zip(bytes) {
+/// Puts bytes at a place that has room for them. Returns whether one of them was another before.
+pub(crate) fn put(rt: &impl Abort, all: &mut [u8], place: usize, bytes: &[u8]) -> bool {
+    let end = place.saturating_add(bytes.len());
+    let Some(part) = all.get_mut(place..end) else {
+        assert!(rt; false, "no room at {place}");
+        return false;
+    };
+    let mut has_changed = false;
+    for (to, from) in part.iter_mut().zip(bytes) {
+        has_changed = has_changed || *to != *from;
         *to = *from;
     }
+    has_changed
 }

@@ -21,6 +21,7 @@ pub fn word_of(rt: &impl Abort, word: &str) -> u16 {
 
 /// A byte in two hexadecimal digits.
 pub fn byte(rt: &impl Abort, digits: &str) -> u8 {
+    assert!(rt; digits.len() == 2, "{digits}");
     u8::from_str_radix(digits, 16).expect(rt, digits)
 }
 
@@ -31,15 +32,15 @@ pub fn value(rt: &impl Abort, words: &mut SplitWhitespace<'_>, what: &str) -> u1
 }
 
 /// The next word as a name.
-pub fn name(words: &mut SplitWhitespace<'_>) -> Name {
-    name_of(words.next().unwrap_or("-"))
+pub fn name(rt: &impl Abort, words: &mut SplitWhitespace<'_>) -> Name {
+    name_of(rt, words.next().unwrap_or("a name that is not there"))
 }
 
-/// A name, filled up with blanks; a dash is the name of blanks.
-pub fn name_of(word: &str) -> Name {
+/// A name of eight bytes at most, filled up with blanks; a dash is the name of blanks.
+pub fn name_of(rt: &impl Abort, word: &str) -> Name {
     let mut name = [b' '; 8];
     if word != "-" {
-        put(&mut name, 0, word.as_bytes());
+        put(rt, &mut name, 0, word.as_bytes());
     }
     name
 }

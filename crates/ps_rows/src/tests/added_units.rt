@@ -4,8 +4,9 @@ use super::tables::Memory::{Ample, EachAllocationRefused, NoAllocation};
 use super::tables::{
     BIG_USED_UNIT, Base, Refusal, Row, Table, USED_UNIT, link_tables, refuse_tables,
 };
-use crate::base::HOST;
+use crate::base::{HOST, LIBRARY};
 use crate::code_file::Changes;
+use crate::units::USES_AUX;
 
 const ONE_ADDED: &str = "segments 3 private words 4 blocks 4";
 
@@ -19,7 +20,28 @@ const USED_UNIT_ROW: [Row<'static>; 1] = [Row {
 }];
 
 /// Links in which the second unit is added.
-const LINKS: [Row<'static>; 3] = [
+const LINKS: [Row<'static>; 6] = [
+    Row {
+        what: "an empty slot with an address",
+        host: "slot 8 address 9",
+        library: "",
+        linked: "",
+        summary: ONE_ADDED,
+    },
+    Row {
+        what: "an empty slot with a name, a kind and an address",
+        host: "slot 8 name TOOLS kind 5 address 9",
+        library: "",
+        linked: "",
+        summary: ONE_ADDED,
+    },
+    Row {
+        what: "an empty slot of kind 3 with an address",
+        host: "slot 8 kind 3 address 9",
+        library: "",
+        linked: "",
+        summary: ONE_ADDED,
+    },
     Row {
         what: "units that name each other and themselves",
         host: "",
@@ -77,6 +99,29 @@ const FAULTS: [Refusal<'static>; 4] = [
     ),
 ];
 
+/// The unit that is added is in a second library, and names a unit that no library has.
+const MISSES_ANOTHER: [Refusal<'static>; 1] = [(
+    "a unit that an added unit names, and that no library has",
+    "",
+    "",
+    "refused 13 MissingUnit file 2 slot 8 record 1",
+)];
+
+const IN_TWO_LIBRARIES: Base<'static> = Base {
+    libraries: &[
+        (false, &[LIBRARY, USES_AUX]),
+        (
+            false,
+            &[
+                LIBRARY,
+                "slot 2 name AUX; util-code 1 3; \
+records 2; PUBLREF COUNT at; UNITREF NOBODY at 2; EOFMARK next 0",
+            ],
+        ),
+    ],
+    ..USED_UNIT
+};
+
 /// Hosts that are filled up with segments that are linked already, from slot 8 to slot 14.
 const FILLED: Base<'static> = Base {
     host: &[HOST, FILLED_TO_14],
@@ -107,8 +152,22 @@ slot 15 name AUX kind 0 address 10 length 24; util-code 10 15; code 10 2 03; cod
     summary: "segments 10 private words 4 blocks 11",
 }];
 
-/// The same host with slot 15 filled too.
-const NO_SLOT: [Refusal<'static>; 2] = [
+/// The same host, whose last slot the added unit takes, which names another one; and the same host
+/// with slot 15 filled too.
+const NO_SLOT: [Refusal<'static>; 4] = [
+    (
+        "a unit that the unit in the last slot names",
+        "",
+        "slot 4 name THIRD kind 3 address 3 length 24; \
+records 4; PUBLREF COUNT at; UNITREF THIRD at 2; EOFMARK next 0",
+        "refused 35 NoSlot file 1 slot 15 record 1",
+    ),
+    (
+        "sixteen segments, and two entries of the unit's name",
+        "slot 15 name TOOLS kind 0 address 3 length 5",
+        "slot 4 name AUX kind 3 address 3 length 24",
+        "refused 35 NoSlot file 1 slot 7 record 0",
+    ),
     (
         "sixteen segments",
         "slot 15 name TOOLS kind 0 address 3 length 5",
@@ -210,8 +269,9 @@ static TABLES: [Table<'static, Row<'static>>; 5] = [
     (ELEVEN, Ample, &NINE_NAMED),
 ];
 
-static REFUSALS: [Table<'static, Refusal<'static>>; 3] = [
+static REFUSALS: [Table<'static, Refusal<'static>>; 4] = [
     (USED_UNIT, NoAllocation, &FAULTS),
+    (IN_TWO_LIBRARIES, NoAllocation, &MISSES_ANOTHER),
     (FILLED, NoAllocation, &NO_SLOT),
     (ELEVEN, Ample, &TOO_MANY),
 ];

@@ -59,7 +59,7 @@ fn written(rt: &(impl Abort + AllocGlobal), wanted: &Wanted, place: usize, byte:
     let mut linked = CodeFile::new(rt, LITTLE, &LINKED_TEXTS);
     match wanted {
         Pair => (),
-        PairWithByte => linked.put(place, &[byte]),
+        PairWithByte => linked.put(rt, place, &[byte]),
         HostAlone => linked.change(rt, "word 1 4 10; slot 7 address 0 length 0; size 1024"),
         Refused(_, _) => linked.change(rt, "size 0"),
     }
@@ -71,7 +71,7 @@ fn check(rt: &(impl Abort + AllocGlobal), library: &[u8], place: usize, byte: u8
     let wanted = expected(place, byte);
     let linked = written(rt, &wanted, place, byte);
     let mut host = CodeFile::new(rt, LITTLE, &HOST_TEXTS);
-    host.put(place, &[byte]);
+    host.put(rt, place, &[byte]);
     let files = Link {
         host: host.as_slice(),
         libraries: &[library],

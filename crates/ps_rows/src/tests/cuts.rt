@@ -6,58 +6,65 @@ use std::process::Abort;
 
 const WHOLE: &str = "segments 2 private words 4 blocks 3";
 
-/// Lengths of the base host, from one on to the one before another, and what is answered for it
-/// where it is truncated to them.
-static HOSTS: [(usize, usize, &str); 5] = [
-    (0, 512, "refused 1 ShortFile file 0"),
-    (512, 530, "refused 16 Truncated file 0 slot 1"),
+/// Whether it is the base host that is truncated, and not the base library, the lengths from one on to
+/// the one before another, and what is answered.
+static CUTS: [(bool, usize, usize, &str); 11] = [
+    (true, 0, 512, "refused 1 ShortFile file 0"),
+    (true, 512, 530, "refused 16 Truncated file 0 slot 1"),
     (
+        true,
         530,
         1040,
         "refused 19 RecordsTruncated file 0 slot 1 record 0",
     ),
     (
+        true,
         1040,
         1056,
         "refused 19 RecordsTruncated file 0 slot 1 record 1",
     ),
-    (1056, 1537, WHOLE),
-];
-
-/// The same of the base library.
-static LIBRARIES: [(usize, usize, &str); 6] = [
-    (0, 512, "refused 1 ShortFile file 1"),
-    (512, 536, "refused 16 Truncated file 1 slot 7"),
+    (true, 1056, 1537, WHOLE),
+    (false, 0, 512, "refused 1 ShortFile file 1"),
+    (false, 512, 536, "refused 16 Truncated file 1 slot 7"),
     (
+        false,
         536,
         1056,
         "refused 19 RecordsTruncated file 1 slot 7 record 0",
     ),
     (
+        false,
         1056,
         1088,
         "refused 19 RecordsTruncated file 1 slot 7 record 1",
     ),
     (
+        false,
         1088,
         1104,
         "refused 19 RecordsTruncated file 1 slot 7 record 2",
     ),
-    (1104, 1537, WHOLE),
+    (false, 1104, 1537, WHOLE),
 ];
 
-/// Checks the answer to a host and a library, and what is written where they are linked.
+/// Checks the answer to a host and a library, of which one is truncated to this length, and what is
+/// written where they are linked.
 fn answers(
     rt: &(impl Abort + AllocGlobal),
-    host: &[u8],
-    library: &[u8],
+    link: &Link<'_>,
+    (is_host, length): (bool, usize),
     answer: &str,
-    linked: &[u8],
 ) {
+    let library = link.libraries.first().copied().unwrap_or(&[]);
+    let (host, library) = if is_host {
+        (link.host.get(..length).unwrap_or(&[]), library)
+    } else {
+        (link.host, library.get(..length).unwrap_or(&[]))
+    };
     let files = Link {
         host,
         libraries: &[library],
-        linked: if answer == WHOLE { linked } else { &[] },
+        linked: if answer == WHOLE { link.linked } else { &[] },
     };
     links(rt, "a cut file", &files, answer)
 }
@@ -68,17 +75,9 @@ struct Cuts;
 
 impl Check for Cuts {
     fn check<R: Abort + AllocGlobal>(&self, rt: &R, link: &Link<'_>) {
-        let library = link.libraries.first().copied().unwrap_or(&[]);
-        for (from, to, answer) in &HOSTS {
+        for (is_host, from, to, answer) in &CUTS {
             for length in *from..*to {
-                let cut = link.host.get(..length).unwrap_or(&[]);
-                answers(rt, cut, library, *answer, link.linked);
-            }
-        }
-        for (from, to, answer) in &LIBRARIES {
-            for length in *from..*to {
-                let cut = library.get(..length).unwrap_or(&[]);
-                answers(rt, link.host, cut, *answer, link.linked);
+                answers(rt, link, (*is_host, length), *answer);
             }
         }
     }

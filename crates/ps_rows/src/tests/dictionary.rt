@@ -123,10 +123,9 @@ const EMPTY: Entry = Entry {
 /// Checks what the base host's dictionary gives of its slots and of the tail, the host segment's
 /// code and its link information.
 fn gives_the_host_s_parts(rt: &impl Abort, dictionary: &Dict<'_>, information: &[u8]) {
-    assert!(rt; dictionary.names()[7] == UTIL);
-    assert!(rt; dictionary.entry(15) == EMPTY);
-    assert!(rt; dictionary.tail().len() == 256);
-    assert!(rt; dictionary.tail().get(44).copied() == Some(0x2A));
+    assert!(rt; (dictionary.names()[7], dictionary.entry(15)) == (UTIL, EMPTY));
+    let tail = dictionary.tail();
+    assert!(rt; (tail.len(), tail.get(44).copied()) == (256, Some(0x2A)));
     assert!(rt; dictionary.code(1) == Ok(demo_code(dictionary.order()).as_slice()));
     assert!(rt; dictionary.after(1).starts_with(information));
 }

@@ -1,6 +1,6 @@
 //! Why a host is refused, whatever units it has.
 use super::tables::Memory::NoAllocation;
-use super::tables::{HOST_ALONE, IN_PLACE, PAIR, Refusal, Table, refuse_tables};
+use super::tables::{Base, HOST_ALONE, IN_PLACE, PAIR, Refusal, refuse_each};
 
 /// Segment dictionaries.
 const DICTIONARIES: [Refusal<'static>; 9] = [
@@ -61,10 +61,16 @@ const DICTIONARIES: [Refusal<'static>; 9] = [
 ];
 
 /// Codes.
-const CODES: [Refusal<'static>; 3] = [
+const CODES: [Refusal<'static>; 4] = [
     (
         "an odd length",
         "slot 1 length 17",
+        "",
+        "refused 11 BadLength file 0 slot 1",
+    ),
+    (
+        "a length of 2",
+        "slot 1 length 2",
         "",
         "refused 11 BadLength file 0 slot 1",
     ),
@@ -83,12 +89,21 @@ const CODES: [Refusal<'static>; 3] = [
 ];
 
 /// Procedure dictionaries and attribute tables.
-const PROCEDURES: [Refusal<'static>; 1] = [(
-    "no body of procedure 1",
-    "code 1 14 00",
-    "",
-    "refused 17 BadProcDict file 0 slot 1",
-)];
+const PROCEDURES: [Refusal<'static>; 2] = [
+    (
+        "no body of procedure 1",
+        "code 1 14 00",
+        "",
+        "refused 17 BadProcDict file 0 slot 1",
+    ),
+    // the table of procedure 2 is at 10, of the number 0
+    (
+        "no body of procedure 1, and native code in procedure 2",
+        "code 1 10 0000020000000102",
+        "",
+        "refused 17 BadProcDict file 0 slot 1",
+    ),
+];
 
 /// Link information.
 const RECORDS: [Refusal<'static>; 2] = [
@@ -122,24 +137,17 @@ pub(crate) const DEFINITIONS: [Refusal<'static>; 2] = [
     ),
 ];
 
-/// The refusals that are found before anything grows: with the unit in place, in a library and
-/// nowhere.
-static FAULTS: [Table<'static, Refusal<'static>>; 12] = [
-    (IN_PLACE, NoAllocation, &DICTIONARIES),
-    (IN_PLACE, NoAllocation, &CODES),
-    (IN_PLACE, NoAllocation, &PROCEDURES),
-    (IN_PLACE, NoAllocation, &RECORDS),
-    (PAIR, NoAllocation, &DICTIONARIES),
-    (PAIR, NoAllocation, &CODES),
-    (PAIR, NoAllocation, &PROCEDURES),
-    (PAIR, NoAllocation, &RECORDS),
-    (HOST_ALONE, NoAllocation, &DICTIONARIES),
-    (HOST_ALONE, NoAllocation, &CODES),
-    (HOST_ALONE, NoAllocation, &PROCEDURES),
-    (HOST_ALONE, NoAllocation, &RECORDS),
-];
+/// The hosts: with the unit in place, in a library and nowhere.
+static HOSTS: [Base<'static>; 3] = [IN_PLACE, PAIR, HOST_ALONE];
+
+/// The refusals that are found before anything grows.
+static FAULTS: [&[Refusal<'static>]; 4] = [&DICTIONARIES, &CODES, &PROCEDURES, &RECORDS];
 
 #[test]
 fn faults_of_hosts(rt: HostRuntime) {
-    refuse_tables(&rt, &FAULTS)
+    for base in &HOSTS {
+        for refusals in &FAULTS {
+            refuse_each(&rt, base, NoAllocation, *refusals);
+        }
+    }
 }

@@ -135,7 +135,7 @@ const HIGH_BYTES_FIRST: [Row<'static>; 1] = [Row {
     what: "a linked dictionary has the host's byte order",
     host: "",
     library: "",
-    linked: "at 4 00010012; at 28 00020018",
+    linked: "fill 4 4 00; at 4 00010012; fill 28 4 00; at 28 00020018",
     summary: SUMMARY,
 }];
 

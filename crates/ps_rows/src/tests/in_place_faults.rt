@@ -80,7 +80,8 @@ PRIVREF STATE words 0 at 4; EOFMARK next 0",
     ),
     (
         "65536 bytes of data",
-        "code 1 4 F8FF; records 4; PRIVREF STATE words 4 at 4; EOFMARK next 0",
+        "code 1 4 F8FF; records 4; PUBLREF COUNT at 1; PRIVREF STATE words 4 at 4; \
+EOFMARK next 0",
         "",
         "refused 27 DataTooLarge file 0 slot 1",
     ),

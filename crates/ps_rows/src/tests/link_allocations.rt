@@ -156,15 +156,17 @@ fn a_map_grows_by_its_text(
     let heap = Refusing::once(rt.alloc(), 0);
     let heap = &heap;
     let text = map_text(heap, link.host, link.libraries).expect(rt, "unexpected error");
-    let length = text.len() as u64;
-    assert!(rt; (128..256).contains(&length), "{length}");
     let grown = heap.allocations().saturating_sub(allocations);
-    assert!(rt; (1..8).contains(&grown), "{grown}");
     let asked = heap.bytes().saturating_sub(bytes);
-    assert!(rt;
-        length <= asked && asked <= length.saturating_mul(4),
-        "{asked}"
-    );
+    has_room(rt, text.len() as u64, (grown, asked))
+}
+
+/// Checks how often a text of this length grew, and how many bytes it requested.
+fn has_room(rt: &impl Abort, length: u64, (grown, asked): (u64, u64)) {
+    let is_right = (128..256).contains(&length)
+        && (1..8).contains(&grown)
+        && (length..=length.saturating_mul(4)).contains(&asked);
+    assert!(rt; is_right, "{length} {grown} {asked}");
 }
 
 /// A link of unchanged files: how many allocations its plan makes and of how many bytes, the plan,

@@ -65,7 +65,7 @@ EOFMARK next 8",
 ];
 
 /// Faults of references, and others after them.
-const REFERENCES: [Refusal<'static>; 2] = [
+const REFERENCES: [Refusal<'static>; 3] = [
     (
         "an operand that is too large and the same again",
         "records 2; PUBLDEF COUNT value 32767; EOFMARK next 8",
@@ -78,10 +78,45 @@ const REFERENCES: [Refusal<'static>; 2] = [
         "records 2; PUBLREF COUNT at 1 4 10; PUBLREF COUNT at 2; EOFMARK next 0",
         "refused 32 ReservedPlace file 1 slot 7 record 0 reference 2",
     ),
+    (
+        "a reserved place and a missing definition in the next record",
+        "",
+        "records 2; PUBLREF COUNT at 1 4 10; PUBLREF CUONT at; EOFMARK next 0",
+        "refused 32 ReservedPlace file 1 slot 7 record 0 reference 2",
+    ),
 ];
 
-/// Three libraries with faults, of which the first is reported: a length and then an order, the
-/// first that has the name, and a linked file that has it.
+/// Several faults of one reference, whose number is 3. Of the unit's bytes 8 to 10 the last is
+/// reserved; bytes 9 and 10, and bytes 2 and 3, are the displacement 32767.
+const ONE_REFERENCE: [Refusal<'static>; 4] = [
+    (
+        "a reserved place and an overlap",
+        "",
+        "records 2; PUBLREF COUNT at 8 9; EOFMARK next 0",
+        "refused 32 ReservedPlace file 1 slot 7 record 0 reference 1",
+    ),
+    (
+        "a reserved place and an operand that is too large",
+        "",
+        "code 1 9 7FFF; records 2; PUBLREF COUNT at 9; EOFMARK next 0",
+        "refused 32 ReservedPlace file 1 slot 7 record 0 reference 0",
+    ),
+    (
+        "an overlap and an operand that is too large",
+        "",
+        "code 1 2 7FFF; records 2; PUBLREF COUNT at 1 2; EOFMARK next 0",
+        "refused 33 Overlap file 1 slot 7 record 0 reference 1",
+    ),
+    (
+        "all three",
+        "",
+        "code 1 9 7FFF; records 2; PUBLREF COUNT at 8 9; EOFMARK next 0",
+        "refused 32 ReservedPlace file 1 slot 7 record 0 reference 1",
+    ),
+];
+
+/// Libraries with faults, of which the first is reported: a length and then an order, the first that
+/// has the name, and a linked file that has it.
 const SHORT_AND_BIG: Base<'static> = Base {
     libraries: &[
         (false, &[LIBRARY]),
@@ -101,11 +136,7 @@ const OTHER_KIND_SECOND: Base<'static> = Base {
 };
 
 const LINKED_FIRST: Base<'static> = Base {
-    libraries: &[
-        (false, LINKED_PAIR),
-        (false, &[LIBRARY]),
-        (false, &[LIBRARY]),
-    ],
+    libraries: &[(false, LINKED_PAIR), (false, &[LIBRARY])],
     ..PAIR
 };
 
@@ -115,11 +146,12 @@ const BIG_SECOND: Base<'static> = Base {
     ..PAIR
 };
 
-static TABLES: [Table<'static, Refusal<'static>>; 8] = [
+static TABLES: [Table<'static, Refusal<'static>>; 9] = [
     (PAIR, Ample, &DICTIONARIES),
     (PAIR, Ample, &ENTRIES_AND_CODES),
     (PAIR, Ample, &NAMES_AND_SIZES),
     (PAIR, Ample, &REFERENCES),
+    (PAIR, Ample, &ONE_REFERENCE),
     (
         SHORT_AND_BIG,
         Ample,

@@ -4,7 +4,7 @@ use super::tables::Memory::{EachAllocationRefused, NoAllocation};
 use super::tables::{BIG_LIBRARY, HOST_ALONE, LITTLE_LIBRARY, PAIR, Refusal, Table, refuse_tables};
 
 /// Segment dictionaries of the library.
-const LIBRARIES: [Refusal<'static>; 4] = [
+const LIBRARIES: [Refusal<'static>; 5] = [
     (
         "kind 2",
         "",
@@ -15,6 +15,12 @@ const LIBRARIES: [Refusal<'static>; 4] = [
         "kind 5",
         "",
         "slot 2 kind 5",
+        "refused 14 NotAUnit kind 5 file 1 slot 7",
+    ),
+    (
+        "kind 5 and address 0",
+        "",
+        "slot 2 kind 5 address 0",
         "refused 14 NotAUnit kind 5 file 1 slot 7",
     ),
     (
@@ -141,7 +147,7 @@ const SIZES: [Refusal<'static>; 3] = [
 ];
 
 /// Places of operands.
-const PLACES: [Refusal<'static>; 3] = [
+const PLACES: [Refusal<'static>; 6] = [
     (
         "the last byte",
         "",
@@ -159,6 +165,25 @@ const PLACES: [Refusal<'static>; 3] = [
         "",
         "at 1072 02",
         "refused 33 Overlap file 1 slot 7 record 1 reference 0",
+    ),
+    (
+        "an operand over the byte of a unit's number",
+        "",
+        "records 2; UNITREF UTIL at 2; PUBLREF COUNT at 1; EOFMARK next 0",
+        "refused 33 Overlap file 1 slot 7 record 1 reference 0",
+    ),
+    // the table is at 16, so that its last byte is 17, and bytes 18 and 19 are not reserved
+    (
+        "an operand whose first byte is the last of a table",
+        "",
+        "word 1 20 4; records 2; PUBLREF COUNT at 17; EOFMARK next 0",
+        "refused 32 ReservedPlace file 1 slot 7 record 0 reference 0",
+    ),
+    (
+        "the last byte of a table alone",
+        "",
+        "word 1 20 4; records 2; UNITREF UTIL at 17; EOFMARK next 0",
+        "refused 32 ReservedPlace file 1 slot 7 record 0 reference 0",
     ),
 ];
 

@@ -62,7 +62,7 @@ const NOT_WANTED: Row<'static> = Row {
 };
 
 /// Slots of the host.
-const SLOT_ROWS: [Row<'static>; 5] = [
+const SLOT_ROWS: [Row<'static>; 6] = [
     Row {
         what: "a wanted unit with a length and no address",
         host: "slot 7 length 24",
@@ -91,6 +91,14 @@ const SLOT_ROWS: [Row<'static>; 5] = [
         linked: "size 2048; slot 8 name TOOLS kind 0 address 3 length 5; code 3 0 0102030405",
         summary: "segments 3 private words 4 blocks 4",
     },
+    Row {
+        what: "entries of the name without code",
+        host: "",
+        library: "slot 1 name UTIL kind 3 length 24; slot 3 name UTIL kind 3 address 1; \
+slot 4 name UTIL address 1",
+        linked: "",
+        summary: BASE_SUMMARY,
+    },
     NOT_WANTED,
 ];
 
@@ -116,8 +124,20 @@ const LONG_ROW: [Row<'static>; 1] = [Row {
     what: "an operand in two blocks, which are the last byte of one and the first of the next",
     host: "",
     library: "",
-    linked: "at 1535 8102",
+    linked: "fill 1535 2 00; at 1535 8102",
     summary: "segments 2 private words 0 blocks 4",
+}];
+
+/// The base host with its own segment in the last slot, and what it is linked to: the unit is in
+/// block 1 there, and the host segment in block 2.
+const IN_THE_LAST_SLOT: [Row<'static>; 1] = [Row {
+    what: "the host segment in the last slot",
+    host: "slot 1 name - kind 0 address 0 length 0; slot 15 name DEMO kind 1 address 1 length 18",
+    library: "",
+    linked: "slot 1 name - address 0 length 0; slot 7 address 1; \
+slot 15 name DEMO address 2 length 18; fill 512 512 00; fill 1024 24 00; \
+util-code 1 7; code 1 1 8003; code 1 4 800A; demo-code 2; word 2 4 18; code 2 16 0F",
+    summary: BASE_SUMMARY,
 }];
 
 /// The base pair with a second library, the linked base pair or a library whose unit has zeros at
@@ -145,11 +165,12 @@ const BEHIND_ANOTHER: Base<'static> = Base {
     ..PAIR
 };
 
-static LINKS: [Table<'static, Row<'static>>; 11] = [
+static LINKS: [Table<'static, Row<'static>>; 12] = [
     (PAIR, Ample, &BASE_PAIR),
     (BIG_PAIR, Ample, &BASE_PAIR),
     (PAIR, EachAllocationRefused, &RECORDS),
     (PAIR, Ample, &SLOT_ROWS),
+    (BIG_PAIR, Ample, &IN_THE_LAST_SLOT),
     (HOST_ALONE, Ample, &[NOT_WANTED]),
     (NINE_REFERENCES, EachAllocationRefused, &NINE_ROW),
     (LONG_UNIT_PAIR, Ample, &LONG_ROW),

@@ -1,4 +1,5 @@
 //! Edits on codes, at once and block by block.
+use crate::information::put;
 use ps_patch::{Patcher, apply};
 use ps_words::{Edit, Order};
 use std::process::Abort;
@@ -43,30 +44,39 @@ fn edits_at_once(rt: HostRuntime) {
     assert!(rt; code == [9, 2, 1]);
 }
 
-/// Checks the blocks of a code without edits, with so many of its bytes in each and zeros behind
-/// them.
-fn fills(rt: &impl Abort, code: &[u8], counts: &[usize]) {
-    let mut patcher = Patcher::new(Order::Little, code, &[]);
-    let zeros = [0; 512];
-    let mut block = [0xEE; 512];
-    let mut from = 0usize;
+/// Checks that a block has these bytes, and zeros behind them.
+fn has(rt: &impl Abort, block: &[u8; 512], bytes: &[u8]) {
+    let mut wanted = [0; 512];
+    put(rt, &mut wanted, 0, bytes);
+    assert!(rt; *block == wanted);
+}
+
+/// Checks that a patcher gives these bytes, with so many of them in each block and zeros behind them.
+fn fills(rt: &impl Abort, patcher: Patcher<'_>, wanted: &[u8], counts: &[usize]) {
+    let mut patcher = patcher;
+    let mut left = wanted;
     for count in counts {
+        let mut block = [0xEE; 512];
         assert!(rt; patcher.fill(&mut block) == *count);
-        let end = from.saturating_add(*count);
-        assert!(rt; block.get(..*count) == code.get(from..end), "{from}");
-        assert!(rt;
-            block.get(*count..) == zeros.get(*count..),
-            "zeros past the end"
-        );
-        from = end;
+        let (bytes, rest) = left.split_at_checked(*count).unwrap_or((&[], &[]));
+        has(rt, &block, bytes);
+        left = rest;
     }
 }
 
 #[test]
 fn blocks_of_codes_without_edits(rt: HostRuntime) {
-    fills(&rt, &[0xD7; 1024], &[512, 512, 0, 0]);
-    fills(&rt, &[1, 2, 3, 4, 5], &[5, 0]);
-    fills(&rt, &[], &[0])
+    let long = [0xD7; 1024];
+    let patcher = Patcher::new(Order::Little, &long, &[]);
+    fills(&rt, patcher, &long, &[512, 512, 0, 0]);
+    let short = [1, 2, 3, 4, 5];
+    fills(
+        &rt,
+        Patcher::new(Order::Little, &short, &[]),
+        &short,
+        &[5, 0],
+    );
+    fills(&rt, Patcher::new(Order::Little, &[], &[]), &[], &[0])
 }
 
 #[test]
@@ -86,17 +96,12 @@ fn an_operand_across_two_blocks(rt: HostRuntime) {
             value: 7,
         },
     ];
-    let mut block = [0; 512];
-    let mut patcher = Patcher::new(Order::Little, &code, &edits);
-    assert!(rt; patcher.fill(&mut block) == 512);
-    assert!(rt; block.ends_with(&[0xD7, 0xA5, 0x81]));
-    assert!(rt; patcher.fill(&mut block) == 18);
-    assert!(rt;
-        block.starts_with(&[
-            2, 0xD7, 0xAD, 0, 0, 0, 0, 0, 6, 0, 0x0A, 2, 1, 0, 2, 0, 7, 1, 0
-        ])
-    );
-    assert!(rt; patcher.fill(&mut block) == 0);
+    let mut wanted = code;
+    wanted[511] = 0x81;
+    wanted[512] = 0x02;
+    wanted[528] = 7;
+    let patcher = Patcher::new(Order::Little, &code, &edits);
+    fills(&rt, patcher, &wanted, &[512, 18, 0])
 }
 
 #[test]
@@ -106,19 +111,16 @@ fn operands_at_the_end_and_at_the_start_of_a_block(rt: HostRuntime) {
         place: 510,
         value: 3,
     }];
+    let mut wanted = code;
+    wanted[510..512].copy_from_slice(&[0x80, 0x03]);
+    let patcher = Patcher::new(Order::Little, &code, &end);
+    fills(&rt, patcher, &wanted, &[512, 512]);
     let start = [Edit::Big {
         place: 512,
         value: 3,
     }];
-    let mut block = [0; 512];
-    let mut patcher = Patcher::new(Order::Little, &code, &end);
-    assert!(rt; patcher.fill(&mut block) == 512);
-    assert!(rt; block.ends_with(&[0xD7, 0x80, 0x03]));
-    assert!(rt; patcher.fill(&mut block) == 512);
-    assert!(rt; block == [0xD7; 512]);
-    let mut patcher = Patcher::new(Order::Big, &code, &start);
-    assert!(rt; patcher.fill(&mut block) == 512);
-    assert!(rt; block == [0xD7; 512]);
-    assert!(rt; patcher.fill(&mut block) == 512);
-    assert!(rt; block.starts_with(&[0x80, 0x03, 0xD7]));
+    let mut wanted = code;
+    wanted[512..514].copy_from_slice(&[0x80, 0x03]);
+    let patcher = Patcher::new(Order::Big, &code, &start);
+    fills(&rt, patcher, &wanted, &[512, 512])
 }

@@ -146,7 +146,7 @@ fn builds(rt: &(impl Abort + AllocGlobal), order: Order, (records, next, answer)
     refuses_each_allocation(rt, *answer, &call, *answer)
 }
 
-fn linkage(file: usize, slot: u8, order: Order, bytes: &[u8]) -> Linkage<'_> {
+pub(crate) fn linkage(file: usize, slot: u8, order: Order, bytes: &[u8]) -> Linkage<'_> {
     Linkage {
         file,
         slot,

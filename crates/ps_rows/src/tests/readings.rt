@@ -137,22 +137,36 @@ fn found_in(host: &HostReading, slot: u8) -> Found
     }
 }
 
-/// Checks what was read of each slot, and how many segments there are.
-fn has_slots(rt: &impl Abort, what: &str, reading: &Reading, slots: &[(u8, Asked, Found)]) {
-    let mut segments = 0usize;
-    if let Ok(host) = reading.host() {
-        for slot in 0..SLOTS {
-            let wanted = slots.iter().find(|row| row.0 == slot);
-            let wanted = wanted.map_or((Asked::Not, Found::Nothing), |row| (row.1, row.2));
-            let read = (asked_in(host, slot), found_in(host, slot));
-            assert!(rt; read == wanted, "{what}: {slot} {read:?}");
-            segments = segments.saturating_add(usize::from(matches!(
-                read.1,
-                Found::Own(..) | Found::Added(..)
-            )));
+/// What is to be read of a slot, by these rows.
+fn wanted_in(slots: &[(u8, Asked, Found)], slot: u8) -> (Asked, Found) {
+    for (row, asked, found) in slots {
+        if *row == slot {
+            return (*asked, *found);
         }
     }
-    assert!(rt; reading.segments().len() == segments, "{what}");
+    (Asked::Not, Found::Nothing)
+}
+
+/// How many of these rows have a segment.
+fn segments_in(slots: &[(u8, Asked, Found)]) -> usize {
+    let mut segments = 0usize;
+    for (_, _, found) in slots {
+        if let Found::Own(..) | Found::Added(..) = found {
+            segments = segments.saturating_add(1);
+        }
+    }
+    segments
+}
+
+/// Checks what was read of each slot, and how many segments there are.
+fn has_slots(rt: &impl Abort, what: &str, reading: &Reading, slots: &[(u8, Asked, Found)]) {
+    if let Ok(host) = reading.host() {
+        for slot in 0..SLOTS {
+            let read = (asked_in(host, slot), found_in(host, slot));
+            assert!(rt; read == wanted_in(slots, slot), "{what}: {slot} {read:?}");
+        }
+    }
+    assert!(rt; reading.segments().len() == segments_in(slots), "{what}");
 }
 
 /// What is read of a link.

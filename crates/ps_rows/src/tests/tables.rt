@@ -265,13 +265,23 @@ pub(crate) fn link_tables(rt: &(impl Abort + AllocGlobal), tables: &[Table<'_, R
 /// Checks each refusal of these tables, and that nothing is written.
 pub(crate) fn refuse_tables(rt: &(impl Abort + AllocGlobal), tables: &[Table<'_, Refusal<'_>>]) {
     for (base, memory, refusals) in tables {
-        for (what, host, library, fault) in *refusals {
-            let answer = Answer {
-                what: *what,
-                memory: *memory,
-                answer: *fault,
-            };
-            base.check(rt, (*host, *library, "size 0"), &answer);
-        }
+        refuse_each(rt, base, *memory, *refusals);
+    }
+}
+
+/// The same of one table.
+pub(crate) fn refuse_each(
+    rt: &(impl Abort + AllocGlobal),
+    base: &Base<'_>,
+    memory: Memory,
+    refusals: &[Refusal<'_>],
+) {
+    for (what, host, library, fault) in refusals {
+        let answer = Answer {
+            what: *what,
+            memory,
+            answer: *fault,
+        };
+        base.check(rt, (*host, *library, "size 0"), &answer);
     }
 }

@@ -354,10 +354,15 @@ static FAILURES: [(usize, Full, (u64, u64)); 4] = [
     (9, Stalls, (0, 1)),
 ];
 
-/// Checks what was counted where a text was written, or was not.
+/// Checks what was counted where a text was written, or was not. A flush is handed on, and is not
+/// counted.
 fn has_counted(rt: &impl Abort, is_written: bool, out: Noting<Room>, wanted: (u64, u64)) {
+    let mut out = out;
+    assert!(rt; out.flush().is_err());
     let failures = out.failures();
-    let [_, errors, stalls, _] = out.into_inner().counts();
+    let inner = out.into_inner();
+    let [_, errors, stalls, _] = inner.counts();
+    assert!(rt; inner.flushes == 1);
     assert!(rt; is_written == (wanted == (0, 0)), "{wanted:?}");
     assert!(rt; (failures.errors, failures.stalls) == wanted, "{wanted:?}");
     assert!(rt; (errors, stalls) == wanted, "{wanted:?}");

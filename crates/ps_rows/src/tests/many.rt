@@ -1,0 +1,133 @@
+//! More records and more libraries than a word counts.
+use super::answers::{LITTLE, links};
+use super::link_allocations::Link;
+use super::plan::linkage;
+use super::tables::{HOST_TEXTS, LIBRARY_TEXTS};
+use crate::code_file::CodeFile;
+use crate::information::{Information, Name};
+use ps_linkfile::map_text;
+use ps_linkinfo::{Body, LinkRecord, read_records};
+use ps_resolve::{Allotment, Def, DefKind, Definitions};
+use std::alloc::{AllocError, Global};
+use std::process::Abort;
+
+/// How many definitions there are, and how many private variables.
+const NUMBERED: usize = 100_000;
+
+/// A definition and a private variable of each number in turn, and an end mark. The values are the
+/// numbers' last three digits; each fourth variable has a word.
+fn numbered(alloc: Global) -> Result<String, AllocError> {
+    let mut text = String::new(alloc);
+    for number in 0..NUMBERED {
+        let (value, words) = (number % 1000, usize::from(number % 4 == 0));
+        write!(
+            text,
+            "PUBLDEF N{number} value {value}; PRIVREF N{number} words {words} at; "
+        )?;
+    }
+    text.push_str("EOFMARK next 8")?;
+    Ok(text)
+}
+
+/// Checks the definition of a number, by its name and by its index.
+fn is_defined(rt: &impl Abort, number: usize, (name, value): (Name, u16), found: &Definitions) {
+    let wanted = Def {
+        kind: DefKind::Public,
+        value: (number % 1000) as u16,
+    };
+    assert!(rt; value == wanted.value && number < found.len());
+    assert!(rt; found.look(&name) == Some(wanted));
+    assert!(rt; found.at(number) == (name, wanted))
+}
+
+/// Checks what was read and built of a record; its private variable has this offset, if it has one.
+/// Returns the next offset.
+fn is_numbered(
+    rt: &impl Abort,
+    (rec, record): (usize, &LinkRecord<'_>),
+    (definitions, allotment): (&Definitions, &Allotment),
+    offset: u16,
+) -> u16 {
+    match record.body {
+        Body::PublDef(value) => is_defined(rt, rec / 2, (record.name, value), definitions),
+        Body::PrivRef { words, .. } => {
+            assert!(rt; allotment.offset(7, rec) == Some(offset));
+            return offset.saturating_add(words);
+        }
+        _ => assert!(rt; rec == 2 * NUMBERED),
+    }
+    offset
+}
+
+/// Checks what was read and built of each record.
+fn are_numbered(
+    rt: &impl Abort,
+    records: &[LinkRecord<'_>],
+    definitions: &Definitions,
+    allotment: &Allotment,
+) {
+    let mut offset = 8;
+    for record in records.iter().enumerate() {
+        offset = is_numbered(rt, record, (definitions, allotment), offset);
+    }
+    let counted = (records.len(), definitions.len(), allotment.words(), offset);
+    assert!(rt; counted == (200_001, NUMBERED, 25_000, 25_008));
+}
+
+#[test]
+fn records_of_a_hundred_thousand_names(rt: HostRuntime) {
+    let alloc = rt.alloc();
+    let text = numbered(alloc).expect(&rt, "no memory");
+    let information = Information::new(&rt, LITTLE, text.as_str());
+    let segment = linkage(1, 7, LITTLE, information.as_slice());
+    let read = (
+        read_records(alloc, LITTLE, information.as_slice()),
+        Definitions::build(alloc, &segment),
+        Allotment::build(alloc, 8, &[segment]),
+    );
+    match &read {
+        (Ok(records), Ok(definitions), Ok(allotment)) => {
+            are_numbered(&rt, records.as_slice(), definitions, allotment)
+        }
+        _ => assert!(rt; false, "nothing was built"),
+    }
+}
+
+/// The map of the base pair where the library is the last of 65,537.
+const MAP_OF_MANY: &str = "segment 01 DEMO     file 0 entry 01 block 1 length 18
+segment 07 UTIL     file 65537 entry 02 block 2 length 24
+public COUNT    value 3
+private 07 STATE    offset 8 words 4
+next 12 data 18 blocks 3
+";
+
+/// Checks a map.
+fn maps(rt: &(impl Abort + AllocGlobal), host: &[u8], libraries: &[&[u8]], wanted: &str) {
+    match map_text(rt.alloc(), host, libraries) {
+        Ok(map) => assert!(rt; map.as_slice() == wanted.as_bytes()),
+        Err(_) => assert!(rt; false, "no map"),
+    }
+}
+
+#[test]
+fn libraries_past_the_number_of_a_word(rt: HostRuntime) {
+    let host = CodeFile::new(&rt, LITTLE, &HOST_TEXTS);
+    let library = CodeFile::new(&rt, LITTLE, &LIBRARY_TEXTS);
+    let zeros = [0; 512];
+    let libraries = Vec::from_elem(rt.alloc(), zeros.as_slice(), 65_536);
+    let mut libraries = libraries.expect(&rt, "no memory");
+    libraries.push(library.as_slice()).expect(&rt, "no memory");
+    maps(&rt, host.as_slice(), libraries.as_slice(), MAP_OF_MANY);
+    libraries.push(&[]).expect(&rt, "no memory");
+    let link = Link {
+        host: host.as_slice(),
+        libraries: libraries.as_slice(),
+        linked: &[],
+    };
+    links(
+        &rt,
+        "a short library",
+        &link,
+        "refused 1 ShortFile file 65538",
+    )
+}
