@@ -6,14 +6,14 @@ pub use Rattle.ps_codefile.specs.declared.entry.Entry.{Entry}
 pub use Rattle.ps_linkfile.specs.Counts.{NoneFailed, Rises}
 pub use Rattle.ps_linkfile.specs.Failures.{failures_with}
 pub use Rattle.ps_linkfile.specs.JsonText.{json_byte, reference_item}
-pub use Rattle.ps_linkfile.specs.Lines.{field, line, reference, references, shown_name, two_digits}
+pub use Rattle.ps_linkfile.specs.Lines.{field, hex_byte, line, reference, references, shown_name}
+pub use Rattle.ps_linkfile.specs.Lines.{two_digits}
 pub use Rattle.ps_linkfile.specs.LinkedFile.{LinkedFile, all_blocks, block_of, origins}
 pub use Rattle.ps_linkfile.specs.LinkedFile.{linked_file, linked_segments, padded_code}
 pub use Rattle.ps_linkfile.specs.LinkedFile.{padded_segment, pair_of}
 pub use Rattle.ps_linkfile.specs.Outcomes.{AppendsPrefix}
-pub use Rattle.ps_linkfile.specs.ReferencesJson.{listed_items, place_item, references_json}
-pub use Rattle.ps_linkfile.specs.ReferencesText.{Listed, hex_byte, listed_in, listed_lines}
-pub use Rattle.ps_linkfile.specs.ReferencesText.{place_line, segment_references}
+pub use Rattle.ps_linkfile.specs.ReferencesText.{Listed, listed_in, listing_in, listings_in}
+pub use Rattle.ps_linkfile.specs.ReferencesText.{listings_of, place_in, references_in}
 pub use Rattle.ps_linkfile.specs.ShowText.{order_shown}
 pub use Rattle.ps_linkfile.specs.Writing.{Ascend, HaveEdits, file_in, padded_codes}
 pub use Rattle.ps_linkfile.specs.Writing.{starts_of}

@@ -6,8 +6,7 @@ use Rattle.std.specs.Prelude.{◌++◌, codes, decimal}
 use Rattle.std.specs.List.{enumerate_from, flat_map}
 use Rattle.ps_words.specs.FaultText.{number_of, name_of}
 use Rattle.ps_words.specs.declared.fault.Reason.{Reason}
-use Rattle.ps_linkfile.specs.Lines.{shown_byte}
-use Rattle.ps_linkfile.specs.ReferencesText.{hex_byte}
+use Rattle.ps_linkfile.specs.Lines.{hex_byte, shown_byte}
 
 -- a member that is a number, after another one, as `,"file":1`
 abbrev pub member : List ℕ → ℕ → List ℕ

@@ -1,7 +1,7 @@
 -- Lines of text, as map and show print them: names, numbers and reasons.
 -- Source: this project's profile.
 use Rattle.std.specs.Prelude.{ℕ, ◌+◌, ◌/◌, ◌%◌, ◌&&◌, if◌then◌else◌, List}
-use Rattle.std.specs.Prelude.{[], ◌∷◌, ◌++◌, map, nat_le, codes, decimal}
+use Rattle.std.specs.Prelude.{[], ◌∷◌, ◌++◌, map, nat_le, nat_lt, codes, decimal}
 use Rattle.std.specs.List.{flat_map}
 use Rattle.ps_words.specs.FaultText.{number_of, name_of}
 use Rattle.ps_words.specs.declared.fault.Reason.{Reason}
@@ -37,3 +37,11 @@ reference place = (32 ∷ []) ++ decimal place
 -- all references of a record, as ` at 1 4`
 abbrev pub references : List ℕ → List ℕ
 references refs = codes " at" ++ flat_map reference refs
+
+-- a digit of a hexadecimal number, from `0` to `9` and from `A` to `F`
+abbrev pub hex_digit : ℕ → ℕ
+hex_digit n = if nat_lt n 10 then 48 + n else 55 + n
+
+-- a byte in two hexadecimal digits
+abbrev pub hex_byte : ℕ → List ℕ
+hex_byte b = hex_digit (b / 16) ∷ hex_digit (b % 16) ∷ []

@@ -1,10 +1,10 @@
--- What a link stores in each segment, as text: by slot and then by place, a line for the number of
--- the segment, for the data size of the host's outer block, and for each reference.
+-- What a link stores in each segment: by slot and then by place, a row for the number of the
+-- segment, for the data size of the host's outer block, and for each reference.
 -- Source: this project's profile.
-use Rattle.std.specs.Prelude.{ℕ, ◌+◌, ◌*◌, ◌/◌, ◌%◌, ◌==◌}
+use Rattle.std.specs.Prelude.{ℕ, ◌+◌, ◌*◌, ◌==◌}
 use Rattle.std.specs.Prelude.{if◌then◌else◌, Bool, false, List, [], ◌∷◌, ◌++◌}
-use Rattle.std.specs.Prelude.{length, map, take, drop, codes, nat_lt, Option, Some, None}
-use Rattle.std.specs.List.{flat_map, enumerate_from, list_any, range_with_len}
+use Rattle.std.specs.Prelude.{length, map, take, drop, codes, Option, Some, None}
+use Rattle.std.specs.List.{flat_map, enumerate_from, filter, list_any, range_with_len}
 use Rattle.std.specs.Option.{option_or}
 use Rattle.ps_words.specs.Edits.{patched_byte}
 use Rattle.ps_words.specs.declared.order.Order.{Order}
@@ -21,15 +21,20 @@ use Rattle.ps_linkinfo.specs.declared.record.LinkRecord.{LinkRecord as Record}
 use Rattle.ps_resolve.specs.Sources.{Segment, order_of}
 use Rattle.ps_resolve.specs.Plans.{Origin}
 use Rattle.ps_linkfile.specs.LinkedFile.{origins, block_of, linked_segments}
-use Rattle.ps_linkfile.specs.Lines.{line, shown_name, two_digits, field}
+use Rattle.ps_linkfile.specs.JsonText.{separator}
+pub use Rattle.ps_linkfile.specs.Lines.{hex_byte}
+use Rattle.ps_linkfile.specs.Rows.{Value, Stored, Named, Number, Bytes, by_form, values_in}
+use Rattle.ps_linkfile.specs.declared.rows.Form.{Form}
+use Rattle.ps_linkfile.specs.declared.rows.Form.TheVariants.{Lines}
 use Rattle.ps_linkfile.specs.declared.cause.ReferenceKind.{ReferenceKind}
 use Rattle.ps_linkfile.specs.declared.cause.ReferenceKind.TheVariants.{Unit, Public, Private}
 use Rattle.ps_linkfile.specs.declared.cause.Cause.{Cause}
-use Rattle.ps_linkfile.specs.declared.cause.Cause.TheVariants.{Number, DataSize, Reference}
+use Rattle.ps_linkfile.specs.declared.cause.Cause.TheVariants.{DataSize, Reference}
+use Rattle.ps_linkfile.specs.declared.cause.Cause.TheVariants as cause
 
 -- the segment's number is at the last place but one of its code
 abbrev pub number_at : ℕ → ℕ → Option Cause
-number_at size p = if p + 2 == size then Some Number else None
+number_at size p = if p + 2 == size then Some cause.Number else None
 
 -- the edit stores a word that begins at the place
 abbrev pub is_word_at : ℕ → Edit → Bool
@@ -95,72 +100,81 @@ kind_width Private = 2
 
 -- how many bytes are stored
 abbrev pub cause_width : Cause → ℕ
-cause_width Number = 1
+cause_width cause.Number = 1
 cause_width DataSize = 2
 cause_width (Reference kind name rec) = kind_width kind
 
--- the first word of the line
+-- the first word of its row
 abbrev pub cause_word : Cause → List ℕ
-cause_word Number = codes "number "
-cause_word DataSize = codes "data size "
-cause_word (Reference kind name rec) = codes "reference "
+cause_word cause.Number = codes "number"
+cause_word DataSize = codes "data size"
+cause_word (Reference kind name rec) = codes "reference"
 
 -- the kind of a record
 abbrev pub kind_of_reference : ReferenceKind → List ℕ
-kind_of_reference Unit = codes " UNITREF "
-kind_of_reference Public = codes " PUBLREF "
-kind_of_reference Private = codes " PRIVREF "
+kind_of_reference Unit = codes "UNITREF"
+kind_of_reference Public = codes "PUBLREF"
+kind_of_reference Private = codes "PRIVREF"
 
--- what ends the line of a reference: the kind, the name and the index of its record
-abbrev pub cause_record : Cause → List ℕ
-cause_record Number = []
-cause_record DataSize = []
-cause_record (Reference kind name rec) =
-    kind_of_reference kind ++ shown_name name ++ field (codes "record") rec
+-- so many bytes of a code from a place on, or those that are there
+abbrev pub bytes_at : List ℕ → ℕ → ℕ → List ℕ
+bytes_at code p width = take width (drop p code)
 
--- a digit of a hexadecimal number, from `0` to `9` and from `A` to `F`
-abbrev pub hex_digit : ℕ → ℕ
-hex_digit n = if nat_lt n 10 then 48 + n else 55 + n
+-- the row of a place, as `number 07 UTIL     at 22 file 1046 was 02 is 07`: the slot and the name of
+-- the segment, the place in its code and in the linked file, and the bytes there before and after
+-- the link
+abbrev pub place_row : Form → Listed → ℕ → Cause → List Value
+place_row form s p cause =
+    Stored (cause_word cause) s.slot s.name ∷ Number (codes "at") p
+    ∷ Number (by_form form (codes "file") (codes "offset")) (block_len * s.block + p)
+    ∷ Bytes (codes "was") (bytes_at s.code p (cause_width cause))
+    ∷ Bytes (codes "is") (bytes_at s.linked p (cause_width cause)) ∷ []
 
--- a byte in two hexadecimal digits
-abbrev pub hex_byte : ℕ → List ℕ
-hex_byte b = hex_digit (b / 16) ∷ hex_digit (b % 16) ∷ []
+-- the record of a reference, as ` PUBLREF COUNT    record 0` or
+-- `,"record":{"kind":"PUBLREF","name":..,"name_hex":..,"index":0}`; nothing else has one
+abbrev pub record_in : Form → Cause → List ℕ
+record_in form cause.Number = by_form form [] (codes ",\"record\":null")
+record_in form DataSize = by_form form [] (codes ",\"record\":null")
+record_in form (Reference kind name rec) =
+    by_form form (codes " ") (codes ",\"record\":{\"kind\":\"") ++ kind_of_reference kind
+    ++ by_form form [] (codes "\"") ++ values_in form
+    (Named name ∷ Number (by_form form (codes "record") (codes "index")) rec ∷ [])
+    ++ by_form form [] (codes "}")
 
--- so many bytes of a code from a place on, as it has them
-abbrev pub hex_bytes : List ℕ → ℕ → ℕ → List ℕ
-hex_bytes code p width = flat_map hex_byte (take width (drop p code))
+-- what is after an item: the number of a segment is the last that a link stores there
+abbrev pub item_end : Cause → List ℕ
+item_end cause.Number = codes "}"
+item_end DataSize = codes "},\n"
+item_end (Reference kind name rec) = codes "},\n"
 
--- a word and such bytes, each after a blank
-abbrev pub hex_field : List ℕ → List ℕ → ℕ → ℕ → List ℕ
-hex_field word code p width = (32 ∷ []) ++ word ++ (32 ∷ []) ++ hex_bytes code p width
+-- the row of a place with its record, if a link stores what begins there
+abbrev pub place_in : Form → Listed → ℕ × Option Cause → List ℕ
+place_in form s (p, None) = []
+place_in form s (p, Some cause) = values_in form (place_row form s p cause)
+    ++ record_in form cause ++ by_form form (codes "\n") (item_end cause)
 
--- `reference 07 UTIL     at 1 file 1025 was 8001 is 8004 PUBLREF COUNT    record 0`, or
--- `number 07 UTIL     at 22 file 1046 was 02 is 07`, or
--- `data size 01 HOST     at 110 file 622 was 0800 is 1000`: the slot and the name of the segment,
--- the place in its code and in the linked file, and the bytes there before and after the link
-abbrev pub cause_line : Listed → ℕ → Cause → List ℕ
-cause_line s p cause =
-    line (cause_word cause ++ two_digits s.slot ++ (32 ∷ []) ++ shown_name s.name
-    ++ field (codes "at") p ++ field (codes "file") (block_len * s.block + p)
-    ++ hex_field (codes "was") s.code p (cause_width cause)
-    ++ hex_field (codes "is") s.linked p (cause_width cause) ++ cause_record cause)
+-- the rows of a segment, by place
+abbrev pub listing_in : Form → ℕ × Listed → List ℕ
+listing_in form s = by_form form [] (separator s.0)
+    ++ flat_map (place_in form s.1) (enumerate_from 0 s.1.causes)
 
--- the line of a place, if a link stores what begins there
-abbrev pub place_line : Listed → ℕ × Option Cause → List ℕ
-place_line s (p, None) = []
-place_line s (p, Some cause) = cause_line s p cause
+-- those of all segments, by slot; in a document they are after the members of the map
+abbrev pub references_in : Form → List Listed → List ℕ
+references_in form listings = by_form form [] (codes ",\"references\":[")
+    ++ flat_map (listing_in form) (enumerate_from 0 listings)
+    ++ by_form form [] (codes "\n]}\n")
 
--- the lines of a segment, by place
-abbrev pub listed_lines : Listed → List ℕ
-listed_lines s = flat_map (place_line s) (enumerate_from 0 s.causes)
+-- what a link stores in each of these segments with their edits, by slot, where the codes are of
+-- these origins; nothing is stored in one that is linked already
+abbrev pub listings_in : Order → List Origin → List (Segment × List Edit) → List Listed
+listings_in order origins es =
+    map (λ e. listed_in order (block_of origins e.0.slot) e.0 e.1)
+    (filter (λ e. needs_linking e.0.role) es)
 
--- those of a segment of a link, with its edits; nothing is stored in one that is linked already
-abbrev pub segment_references : Order → List Origin → Segment × List Edit → List ℕ
-segment_references order origins (s, edits) =
-    if needs_linking s.role
-    then listed_lines (listed_in order (block_of origins s.slot) s edits) else []
+-- what a link of a host and its libraries stores, by slot
+unfoldable pub listings_of : List ℕ → List (List ℕ) → List Listed
+listings_of host libs = listings_in (order_of host) (origins host libs) (linked_segments host libs)
 
--- what a link of a host and its libraries stores, by slot and then by place
+-- the lines of that
 unfoldable pub references_of : List ℕ → List (List ℕ) → List ℕ
-references_of host libs = flat_map (segment_references (order_of host) (origins host libs))
-    (linked_segments host libs)
+references_of host libs = references_in Lines (listings_of host libs)

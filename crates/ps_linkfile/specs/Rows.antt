@@ -6,16 +6,17 @@ use Rattle.std.specs.List.{flat_map, enumerate_from}
 use Rattle.ps_words.specs.declared.fault.Reason.{Reason}
 use Rattle.ps_linkfile.specs.JsonText.{json_bool, json_name, json_reason, member}
 use Rattle.ps_linkfile.specs.JsonText.{references_member, separator}
-use Rattle.ps_linkfile.specs.Lines.{fault_words, references, shown_name, two_digits}
+use Rattle.ps_linkfile.specs.Lines.{fault_words, hex_byte, references, shown_name, two_digits}
 use Rattle.ps_linkfile.specs.declared.rows.Form.{Form}
 use Rattle.ps_linkfile.specs.declared.rows.Form.TheVariants.{Lines, Json}
 use Rattle.ps_linkfile.specs.declared.rows.Part.{Part}
 use Rattle.ps_linkfile.specs.declared.rows.Part.TheVariants as part
 
--- a value of a row: the slot and the name, or the kind, that a row begins with; the
--- number that the last row begins with; a number; a number that a line has in two digits; whether
--- the word holds; and of a record its index, which its row begins with, its kind, its name and its
--- references, or a fault in place of these
+-- A value of a row: the slot and the name, or the kind, that a row begins with; the number that the
+-- last row begins with; a number; a number that a line has in two digits; whether the word holds; of
+-- a record its index, which its row begins with, its kind, its name and its references, or a fault
+-- in place of these; what is stored, with the slot and the name of its segment, which a row begins
+-- with; and bytes.
 pub data Value : Type 0 where
   InSlot : List ℕ → ℕ → List ℕ → Value
   OfKind : List ℕ → Value
@@ -28,6 +29,8 @@ pub data Value : Type 0 where
   Named : List ℕ → Value
   References : List ℕ → Value
   Fault : Reason → Value
+  Stored : List ℕ → ℕ → List ℕ → Value
+  Bytes : List ℕ → List ℕ → Value
 
 -- that of a part of a row in the code
 abbrev pub value_of : Part → Value
@@ -42,9 +45,11 @@ value_of (part.Kind kind) = Kind kind.now
 value_of (part.Named name) = Named name
 value_of (part.References refs) = References refs.now
 value_of (part.Fault why) = Fault why
+value_of (part.Stored word slot name) = Stored word.now slot name
+value_of (part.Bytes word bytes) = Bytes word.now bytes.now
 
--- a value in a line, as `segment 08 AUX     `, `public`, ` COUNT   `, `next 12`, ` file 1`, ` entry 03`
--- or ` added`
+-- a value in a line, as `segment 08 AUX     `, `public`, ` COUNT   `, `next 12`, ` file 1`,
+-- ` entry 03`, ` added` or ` was 8000`
 abbrev pub in_line : Value → List ℕ
 in_line (InSlot word slot name) = word ++ two_digits slot ++ (32 ∷ []) ++ shown_name name
 in_line (OfKind kind) = kind
@@ -57,9 +62,12 @@ in_line (Kind kind) = (32 ∷ []) ++ kind
 in_line (Named name) = (32 ∷ []) ++ shown_name name
 in_line (References refs) = references refs
 in_line (Fault why) = (32 ∷ []) ++ fault_words why
+in_line (Stored word slot name) =
+    word ++ ((32 ∷ []) ++ two_digits slot ++ (32 ∷ []) ++ shown_name name)
+in_line (Bytes word bytes) = (32 ∷ []) ++ word ++ ((32 ∷ []) ++ flat_map hex_byte bytes)
 
 -- a value in an item, as `{"slot":8,"name":..`, `{"kind":"public"`, `,"name":..`, `,"next":12`,
--- `,"entry":3` or `,"added":true`
+-- `,"entry":3`, `,"added":true` or `,"was":"8000"`
 abbrev pub in_item : Value → List ℕ
 in_item (InSlot word slot name) =
     codes "{\"slot\":" ++ decimal slot ++ (codes "," ++ json_name name)
@@ -73,6 +81,11 @@ in_item (Kind kind) = codes ",\"kind\":\"" ++ kind ++ codes "\""
 in_item (Named name) = codes "," ++ json_name name
 in_item (References refs) = references_member refs
 in_item (Fault why) = codes ",\"kind\":\"fault\",\"fault\":" ++ json_reason why
+in_item (Stored word slot name) =
+    codes "{\"stores\":\"" ++ word ++ codes "\"" ++ member (codes "slot") slot
+    ++ (codes "," ++ json_name name)
+in_item (Bytes word bytes) =
+    codes ",\"" ++ word ++ codes "\":\"" ++ (flat_map hex_byte bytes ++ codes "\"")
 
 abbrev pub value_in : Form → Value → List ℕ
 value_in Lines v = in_line v

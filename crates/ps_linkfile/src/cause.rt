@@ -34,14 +34,14 @@ pub(crate) enum Cause {
 }
 
 impl ReferenceKind {
-    /// The word of a line for it, between blanks.
+    /// The word for it.
     pub(crate) fn word(self) -> &'static [u8]
         ensures { result.now ≡ kind_of_reference self }
     {
         match self {
-            ReferenceKind::Unit => b" UNITREF ",
-            ReferenceKind::Public => b" PUBLREF ",
-            ReferenceKind::Private => b" PRIVREF ",
+            ReferenceKind::Unit => b"UNITREF",
+            ReferenceKind::Public => b"PUBLREF",
+            ReferenceKind::Private => b"PRIVREF",
         }
     }
 
@@ -68,14 +68,14 @@ impl Cause {
         }
     }
 
-    /// The first word of a line for it.
+    /// The first word of a row of it.
     pub(crate) fn word(self) -> &'static [u8]
         ensures { result.now ≡ cause_word self }
     {
         match self {
-            Cause::Number => b"number ",
-            Cause::DataSize => b"data size ",
-            Cause::Reference { .. } => b"reference ",
+            Cause::Number => b"number",
+            Cause::DataSize => b"data size",
+            Cause::Reference { .. } => b"reference",
         }
     }
 }

@@ -20,7 +20,6 @@ mod map;
 mod noted;
 mod pieces;
 mod references;
-mod references_json;
 mod rows;
 mod show;
 mod show_json;

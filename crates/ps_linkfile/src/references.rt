@@ -1,28 +1,29 @@
-//! The references of a link, as text after its map.
-ghost use Rattle.std.specs.Prelude.{◌≡◌, ◌<◌, ◌+◌, ◌*◌, ◌++◌, List, ℕ, length, IfOk, IfErr, OnOk, OnErr, take, drop};
-ghost use Rattle.std.specs.List.{flat_map};
+//! The references of a link, after its map.
+ghost use Rattle.std.specs.Prelude.{◌≡◌, ◌<◌, ◌+◌, ◌*◌, ◌++◌, List, ℕ, length, IfOk, IfErr, OnOk, OnErr, Some};
+ghost use Rattle.std.specs.List.{enumerate_from, flat_map};
 ghost use Rattle.std.specs.Io.KnownBytes.{Appends};
 ghost use Rattle.ps_linkfile.specs.Adding.{Adds};
 ghost use Rattle.ps_resolve.specs.Sources.{contents};
 ghost use Rattle.ps_resolve.specs.Standing.{NoneStands};
+ghost use Rattle.ps_linkfile.specs.Lines.{hex_byte, hex_digit as hex_digit_spec};
 ghost use Rattle.ps_linkfile.specs.LinkedFile.{LinkedFile};
 ghost use Rattle.ps_linkfile.specs.MapText.{map_of};
 ghost use Rattle.ps_linkfile.specs.Outcomes.{AppendsPrefix, HasUsedNumber, IsUnprepared, NamesFirst};
 ghost use Rattle.ps_linkfile.specs.ReferencesJson.{IsReferencesJson, referenced_json, references_text};
-ghost use Rattle.ps_linkfile.specs.ReferencesText.{cause_line, cause_record, hex_byte, hex_bytes, hex_digit as hex_digit_spec, listed_lines, references_of};
+ghost use Rattle.ps_linkfile.specs.declared.cause.Cause.TheVariants.{Reference};
+ghost use Rattle.ps_linkfile.specs.ReferencesText.{bytes_at as bytes_at_spec, item_end as item_end_spec, listing_in, place_in, record_in, references_in, references_of};
 
-use crate::cause::Cause;
+use crate::cause::{Cause, ReferenceKind};
 use crate::error::{LinkError, WriteFault};
-use crate::lines::{add_number, add_slot_name, shown_codes};
+use crate::json::separator;
 use crate::linked::{Linked, prepare};
 use crate::listing::{Listing, list_segments};
-use crate::references_json::add_references_json;
-use crate::rows::Form;
+use crate::rows::{Form, Part, add_by_form, add_parts, by_form};
 use crate::stream::write_text;
 use crate::text_writer::{Text, TextWriter};
 use ps_laws::first_of_all;
 use ps_resolve::read;
-use ps_words::BLOCK_SIZE;
+use ps_words::{BLOCK_SIZE, Name};
 use std::alloc::{Allocator, Global};
 use std::io::Write;
 use std::marker::Model;
@@ -58,92 +59,137 @@ pub fn add_hex<S: TextWriter>(text: &mut S, bytes: &[u8])
 
 /// So many bytes of a code from a place on, or those that are there.
 fn bytes_at(code: &[u8], place: usize, width: usize) -> &[u8]
-    ensures { result.now ≡ take width (drop place code.now) }
+    ensures { result.now ≡ bytes_at_spec code.now place width }
 {
     let rest = &code[place.min(code.len())..];
     &rest[..width.min(rest.len())]
 }
 
-/// Adds so many bytes of a code from a place on, after this text.
-pub(crate) fn add_bytes<S: TextWriter>(
-    text: &mut S,
-    before: &[u8],
-    code: &[u8],
-    place: usize,
-    width: usize,
-)
-    ensures { Adds S.added text.old (before.now ++ hex_bytes code.now place width) text.new }
-{
-    text.add(before);
-    add_hex(text, bytes_at(code, place, width));
-}
-
-/// Adds the record of a reference.
-fn add_record<S: TextWriter>(text: &mut S, cause: Cause)
-    ensures { Adds S.added text.old (cause_record cause) text.new }
-{
-    match cause {
-        Cause::Number | Cause::DataSize => text.add(b""),
-        Cause::Reference { kind, name, record } => {
-            text.add(kind.word());
-            text.add(&shown_codes(name));
-            add_number(text, b" record ", record);
-        }
-    }
-}
-
 /// Where a place of a code is in the linked file, whose block the code begins in.
-pub(crate) fn file_offset(block: u16, place: usize) -> usize
+fn file_offset(block: u16, place: usize) -> usize
     requires { place < 9223372036854775808 }
     ensures { result ≡ 512 * block + place }
 {
     BLOCK_SIZE * block as usize + place
 }
 
-/// Adds the line of a place at which a link stores bytes for this cause.
-fn add_line<S: TextWriter, A: Allocator>(
+/// What is after the item of a place. The number of a segment is the last that a link stores there.
+fn item_end(cause: Cause) -> &'static [u8]
+    ensures { result.now ≡ item_end_spec cause }
+{
+    match cause {
+        Cause::Number => b"}",
+        Cause::DataSize => b"},\n",
+        Cause::Reference { .. } => b"},\n",
+    }
+}
+
+/// Adds the kind, the name and the index of the record of a reference.
+fn add_reference<S: TextWriter>(
     text: &mut S,
+    form: Form,
+    kind: ReferenceKind,
+    name: Name,
+    index: usize,
+)
+    ensures { Adds S.added text.old (record_in form (Reference kind name index)) text.new }
+{
+    let parts = [
+        Part::Named(name),
+        Part::Number(by_form(form, b"record", b"index"), index),
+    ];
+    add_by_form(text, form, b" ", b",\"record\":{\"kind\":\"");
+    text.add(kind.word());
+    add_by_form(text, form, b"", b"\"");
+    add_parts(text, form, &parts);
+    add_by_form(text, form, b"", b"}");
+}
+
+/// Adds the record of a reference.
+fn add_record<S: TextWriter>(text: &mut S, form: Form, cause: Cause)
+    ensures { Adds S.added text.old (record_in form cause) text.new }
+{
+    match cause {
+        Cause::Number | Cause::DataSize => add_by_form(text, form, b"", b",\"record\":null"),
+        Cause::Reference { kind, name, record } => {
+            add_reference(text, form, kind, name, record);
+        }
+    }
+}
+
+/// Adds the row of a place at which a link stores bytes for this cause.
+fn add_place<S: TextWriter, A: Allocator>(
+    text: &mut S,
+    form: Form,
     listing: &Listing<'_, A>,
     place: usize,
     cause: Cause,
 )
     requires { place < length listing.now.causes }
-    ensures { Adds S.added text.old (cause_line listing.now place cause) text.new }
+    ensures { Adds S.added text.old (place_in form listing.now (place, Some cause)) text.new }
 {
     let width = cause.width();
-    add_slot_name(text, cause.word(), listing.slot, listing.name);
-    add_number(text, b" at ", place);
-    add_number(text, b" file ", file_offset(listing.block, place));
-    add_bytes(text, b" was ", listing.code, place, width);
-    add_bytes(text, b" is ", listing.linked.as_slice(), place, width);
-    add_record(text, cause);
-    text.add(b"\n");
+    let parts = [
+        Part::Stored(cause.word(), listing.slot, listing.name),
+        Part::Number(b"at", place),
+        Part::Number(
+            by_form(form, b"file", b"offset"),
+            file_offset(listing.block, place),
+        ),
+        Part::Bytes(b"was", bytes_at(listing.code, place, width)),
+        Part::Bytes(b"is", bytes_at(listing.linked.as_slice(), place, width)),
+    ];
+    add_parts(text, form, &parts);
+    add_record(text, form, cause);
+    add_by_form(text, form, b"\n", item_end(cause));
 }
 
-/// Adds a line for each place of a code at which a link stores bytes.
-fn add_listing<S: TextWriter, A: Allocator>(text: &mut S, listing: &Listing<'_, A>)
-    ensures { Adds S.added text.old (listed_lines listing.now) text.new }
+/// Adds a row for each place of a code at which a link stores bytes, as those of this index.
+fn add_listing<S: TextWriter, A: Allocator>(
+    text: &mut S,
+    form: Form,
+    index: usize,
+    listing: &Listing<'_, A>,
+)
+    ensures { Adds S.added text.old (listing_in form (index, listing.now)) text.new }
 {
+    add_by_form(text, form, b"", separator(index == 0));
     for (place, cause) in listing.causes.iter().enumerate() {
         if text.has_failed() {
             return;
         }
         if let Some(cause) = cause {
-            add_line(text, listing, place, *cause);
+            add_place(text, form, listing, place, *cause);
         }
     }
 }
 
-/// Adds the lines of all segments, by slot.
-fn add_listings<S: TextWriter, A: Allocator>(text: &mut S, listings: &[Listing<'_, A>])
-    ensures { Adds S.added text.old (flat_map listed_lines listings.now) text.new }
+/// Adds the rows of all segments, by slot.
+fn add_listings<S: TextWriter, A: Allocator>(text: &mut S, form: Form, listings: &[Listing<'_, A>])
+    ensures { Adds S.added text.old
+        (flat_map (listing_in form) (enumerate_from 0 listings.now)) text.new }
 {
+    let mut index = 0;
     for listing in listings {
         if text.has_failed() {
             return;
         }
-        add_listing(text, listing);
+        add_listing(text, form, index, listing);
+        index += 1;
     }
+}
+
+/// Adds what a link stores; in a document it is after the members of the map.
+fn add_references<S: TextWriter, A: Allocator>(
+    text: &mut S,
+    form: Form,
+    listings: &[Listing<'_, A>],
+)
+    ensures { Adds S.added text.old (references_in form listings.now) text.new }
+{
+    add_by_form(text, form, b"", b",\"references\":[");
+    add_listings(text, form, listings);
+    add_by_form(text, form, b"", b"\n]}\n");
 }
 
 /// The map of a link that was checked, and after it a line for each operand, number and data size
@@ -163,30 +209,19 @@ impl<'a, A: Allocator + Copy> Model for ReferenceMap<'a, A> {
     ghost view = { λ m. record { plan = m.linked; listings = m.listings.items } };
 }
 
-impl<A: Allocator + Copy> Text for ReferenceMap<'_, A> {
-    ghost use Rattle.ps_linkfile.specs.ReferencesJson.{references_text};
-
-    ghost bytes = { λ m. references_text m };
-
-    fn add_to<S: TextWriter>(&self, text: &mut S) {
-        self.linked.add_map(text, Form::Lines);
-        add_listings(text, self.listings.as_slice());
-    }
-}
-
-/// A map with its references, as JSON.
+/// The map with its references, in this form.
 #[derive(Clone, Copy)]
-struct JsonReferences<'m, 'a, A: Allocator + Copy>(&'m ReferenceMap<'a, A>);
+struct Referenced<'m, 'a, A: Allocator + Copy>(Form, &'m ReferenceMap<'a, A>);
 
-impl<A: Allocator + Copy> Text for JsonReferences<'_, '_, A> {
-    ghost use Rattle.ps_linkfile.specs.ReferencesJson.{referenced_json};
+impl<A: Allocator + Copy> Text for Referenced<'_, '_, A> {
+    ghost use Rattle.ps_linkfile.specs.ReferencesJson.{referenced_in};
 
-    ghost bytes = { λ m. referenced_json m.0.now };
+    ghost bytes = { λ m. referenced_in m.0 m.1.now };
 
     fn add_to<S: TextWriter>(&self, text: &mut S) {
-        let map = self.0;
-        map.linked.add_map(text, Form::Json);
-        add_references_json(text, map.listings.as_slice());
+        let map = self.1;
+        map.linked.add_map(text, self.0);
+        add_references(text, self.0, map.listings.as_slice());
     }
 }
 
@@ -202,7 +237,7 @@ impl<'a, A: Allocator + Copy> ReferenceMap<'a, A> {
         ensures prefix { OnErr result (AppendsPrefix (W.contents out.old) (W.contents out.new)
             (references_text self.now)) }
     {
-        write_text(self, out)
+        write_text(&Referenced(Form::Lines, self), out)
     }
 
     /// Writes the map and the references as one JSON document, in pieces: the values of the lines,
@@ -218,7 +253,7 @@ impl<'a, A: Allocator + Copy> ReferenceMap<'a, A> {
         ensures prefix { OnErr result (AppendsPrefix (W.contents out.old) (W.contents out.new)
             (referenced_json self.now)) }
     {
-        write_text(&JsonReferences(self), out)
+        write_text(&Referenced(Form::Json, self), out)
     }
 }
 

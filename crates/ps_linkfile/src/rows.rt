@@ -1,12 +1,15 @@
 //! What map and its kin print: rows of values, as lines of text or as items of a JSON document.
 ghost use Rattle.std.specs.Prelude.{◌≡◌, ◌++◌, ◌∷◌, [], if◌then◌else◌, codes, map};
+ghost use Rattle.std.specs.List.{flat_map};
 ghost use Rattle.ps_linkfile.specs.Adding.{Adds};
 ghost use Rattle.ps_linkfile.specs.JsonText.{json_bool as json_bool_spec, json_name, member};
-ghost use Rattle.ps_linkfile.specs.Rows.{by_form, in_item, in_line, reason_in, row_in, value_in, value_of, values_in};
+ghost use Rattle.ps_linkfile.specs.Lines.{hex_byte};
+ghost use Rattle.ps_linkfile.specs.Rows.{by_form as by_form_spec, in_item, in_line, reason_in, row_in, value_in, value_of, values_in};
 
 use crate::json::{self, add_json_name, add_json_reason, json_bool, separator};
 use crate::lines::{add_fault, add_number, add_slot_name, shown_codes, two_digits};
 use crate::pieces;
+use crate::references::add_hex;
 use crate::text_writer::TextWriter;
 use itoa::Buffer;
 use ps_linkinfo::Refs;
@@ -46,6 +49,10 @@ pub(crate) enum Part<'w> {
     References(&'w Refs<'w>),
     /// A fault in place of what a record has.
     Fault(Reason),
+    /// What the row of what a link stores begins with: the slot and the name of the segment.
+    Stored(&'w [u8], u8, Name),
+    /// Bytes, in hexadecimal digits.
+    Bytes(&'w [u8], &'w [u8]),
 }
 
 /// Adds a word after a blank.
@@ -93,7 +100,23 @@ fn add_in_line<S: TextWriter>(text: &mut S, part: Part)
             text.add(b" ");
             add_fault(text, reason);
         }
+        Part::Stored(word, slot, name) => {
+            text.add(word);
+            add_slot_name(text, b" ", slot, name);
+        }
+        Part::Bytes(word, bytes) => {
+            add_word(text, word);
+            add_hex_after(text, b" ", bytes);
+        }
     }
+}
+
+/// Adds bytes in hexadecimal digits after this text.
+fn add_hex_after<S: TextWriter>(text: &mut S, before: &[u8], bytes: &[u8])
+    ensures { Adds S.added text.old (before.now ++ flat_map hex_byte bytes.now) text.new }
+{
+    text.add(before);
+    add_hex(text, bytes);
 }
 
 /// Adds a number as a member after its word.
@@ -126,6 +149,35 @@ fn add_kind<S: TextWriter>(text: &mut S, before: &[u8], kind: &[u8])
     text.add(b"\"");
 }
 
+/// Adds bytes as a member after its word.
+fn add_bytes_member<S: TextWriter>(text: &mut S, word: &[u8], bytes: &[u8])
+    ensures { Adds S.added text.old
+        (codes ",\"" ++ word.now ++ codes "\":\""
+        ++ (flat_map hex_byte bytes.now ++ codes "\"")) text.new }
+{
+    text.add(b",\"");
+    text.add(word);
+    text.add(b"\":\"");
+    add_hex_before(text, bytes, b"\"");
+}
+
+/// Adds bytes in hexadecimal digits, and this text.
+fn add_hex_before<S: TextWriter>(text: &mut S, bytes: &[u8], after: &[u8])
+    ensures { Adds S.added text.old (flat_map hex_byte bytes.now ++ after.now) text.new }
+{
+    add_hex(text, bytes);
+    text.add(after);
+}
+
+/// Adds what the item of what a link stores begins with.
+fn add_stored<S: TextWriter>(text: &mut S, word: &[u8], slot: u8)
+    ensures { Adds S.added text.old (codes "{\"stores\":\"" ++ word.now ++ codes "\""
+        ++ member (codes "slot") slot) text.new }
+{
+    add_kind(text, b"{\"stores\":\"", word);
+    add_member(text, b"slot", slot as usize);
+}
+
 /// Adds the members of a name after another one.
 fn add_name<S: TextWriter>(text: &mut S, name: Name)
     ensures { Adds S.added text.old (codes "," ++ json_name name) text.new }
@@ -156,6 +208,11 @@ fn add_in_item<S: TextWriter>(text: &mut S, part: Part)
             text.add(b",\"kind\":\"fault\",\"fault\":");
             add_json_reason(text, reason);
         }
+        Part::Stored(word, slot, name) => {
+            add_stored(text, word, slot);
+            add_name(text, name);
+        }
+        Part::Bytes(word, bytes) => add_bytes_member(text, word, bytes),
     }
 }
 
@@ -178,14 +235,21 @@ pub(crate) fn add_parts<S: TextWriter>(text: &mut S, form: Form, parts: &[Part])
     }
 }
 
-/// Adds what a line has, or what a document has in its place.
-pub(crate) fn add_by_form<S: TextWriter>(text: &mut S, form: Form, line: &[u8], item: &[u8])
-    ensures { Adds S.added text.old (by_form form line.now item.now) text.new }
+/// What a line has, or what a document has in its place.
+pub(crate) fn by_form<'w>(form: Form, line: &'w [u8], item: &'w [u8]) -> &'w [u8]
+    ensures { result.now ≡ by_form_spec form line.now item.now }
 {
     match form {
-        Form::Lines => text.add(line),
-        Form::Json => text.add(item),
+        Form::Lines => line,
+        Form::Json => item,
     }
+}
+
+/// Adds what a line has, or what a document has in its place.
+pub(crate) fn add_by_form<S: TextWriter>(text: &mut S, form: Form, line: &[u8], item: &[u8])
+    ensures { Adds S.added text.old (by_form_spec form line.now item.now) text.new }
+{
+    text.add(by_form(form, line, item));
 }
 
 /// Adds a fault of a code.

@@ -16,8 +16,8 @@ loop-i-preserved g c =
     (drop_more xs c.loop-i.i _ c.loop-i-test.true)) c.loop-i.invariant c.add_private.ensures
 
 pub returns : goal.returns
-returns g c = all_written (numbered_over (row_item c.args.form private_row) c.args.privates.now c.loop-i.i
-    (omega (arith, c.loop-i-test.false))) c.loop-i.invariant
+returns g c = all_written (numbered_over (row_item c.args.form private_row)
+    c.args.privates.now c.loop-i.i (omega (arith, c.loop-i-test.false))) c.loop-i.invariant
 
 pub returns-then-has_failed : goal.returns-then-has_failed
 returns-then-has_failed g c = all_stopped c.loop-i.invariant

@@ -1,13 +1,12 @@
-use Rattle.std.proofs.Common.{rules}
-use Rattle.std.proofs.Common.{arith, refl}
+use Rattle.std.proofs.Common.{rules, arith}
 use Rattle.ps_linkfile.proofs.Words.{drop_more, drop_all}
 use Rattle.ps_linkfile.proofs.Numbered.{numbered_left}
-use Rattle.ps_linkfile.proofs.Written.{adds_none, all_stopped, all_written, none_yet, some_more}
+use Rattle.ps_linkfile.proofs.Written.{adds_none, all_stopped, all_written, some_more}
 use Rattle.ps_linkfile.proofs.references.add_listing.Goals as goal
 use Rattle.ps_linkfile.proofs.references.add_listing.Goals.{in-Some, in_default}
 
 pub loop-place-init : goal.loop-place-init
-loop-place-init g c = none_yet refl
+loop-place-init g c = grind arith
 
 pub loop-place-preserved : goal.loop-place-preserved
 loop-place-preserved g c =

@@ -8,6 +8,7 @@ use Rattle.ps_linkfile.proofs.show.add_all_links.Given as goal
 -- the lines of the slots that are left are still to be written
 abbrev pub invariant-loop-slot : goal.invariant-loop-slot
 invariant-loop-slot g l =
-    Written g.S.TextWriter.added l.fn.text (flat_map (links_in Lines l.dict.order l.dict.file) slots)
+    Written g.S.TextWriter.added l.fn.text
+    (flat_map (links_in Lines l.dict.order l.dict.file) slots)
     (flat_map (links_in Lines l.dict.order l.dict.file) (range_with_len l.slot (16 - l.slot)))
     l.text

@@ -5,8 +5,13 @@ use Rattle.ps_linkfile.proofs.Written.{none_yet, some_more, all_stopped, all_wri
 use Rattle.ps_linkfile.proofs.show.add_records.Goals as goal
 
 pub loop-item-init : goal.loop-item-init
-loop-item-init g c = grind
-    (arith, none_yet, walked, walked_all (record_in c.args.form c.args.units.now) (fault_in c.args.form) (λ n. refl))
+loop-item-init g c = grind (
+  arith,
+  none_yet,
+  walked,
+  walked_all (record_in c.args.form c.args.units.now)
+      (fault_in c.args.form) (λ n. refl),
+)
 
 pub loop-item-preserved-in-Ok : goal.loop-item-preserved-in-Ok
 loop-item-preserved-in-Ok g c = grind (arith, some_more, record_next)

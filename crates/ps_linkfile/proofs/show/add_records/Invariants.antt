@@ -13,6 +13,7 @@ invariant-loop-item g l = record {
   finite : (goal.iterator-loop-item g).is_finite l.item-iterator;
   lines : Written g.S.TextWriter.added l.fn.text
       (records_in l.form l.units (reading l.fn.order l.information))
-      (walked (record_in l.form l.units) (fault_in l.form) l.rec (items_left l.item-iterator)) l.text;
+      (walked (record_in l.form l.units) (fault_in l.form) l.rec (items_left l.item-iterator))
+      l.text;
   few : l.rec + length (items_left l.item-iterator) ≤ length l.information / 16 + 1;
 }

@@ -1,0 +1,15 @@
+use Rattle.ps_linkfile.proofs.Written.{adds_is, ◌⨾◌}
+use Rattle.ps_linkfile.proofs.references.add_place.Goals as goal
+
+pub returns : goal.returns
+returns g c = adds_is (rw (
+  c.word.ensures,
+  c.by_form.ensures,
+  c.file_offset.ensures,
+  c.bytes_at.ensures,
+  c.bytes_at-2.ensures,
+  c.width-width.ensures,
+  c.as_slice.ensures.value,
+  c.item_end.ensures,
+  ← c.listing.view_is,
+)) (c.add_parts.ensures ⨾ c.add_record.ensures ⨾ c.add_by_form.ensures)
