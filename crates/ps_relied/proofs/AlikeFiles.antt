@@ -1,5 +1,6 @@
 -- Files that are read alike link to the same bytes, or have the same first fault.
-use Rattle.std.proofs.Common.{◌≡◌, ℕ, List, [], ◌∷◌, map, Option, Some, None, refl, sym, ap}
+use Rattle.std.proofs.Common.{◌≡◌, ℕ, List, [], ◌∷◌, map, Option, Some, None, refl}
+use Rattle.std.proofs.Common.{sym, ap}
 use Rattle.std.proofs.Common.{◌∙◌, inl}
 use Rattle.ps_relied.proofs.Words.{option_map, option_or, Segment, Fault, Entry, order_of}
 use Rattle.ps_relied.proofs.Words.{entry_at}
@@ -45,7 +46,8 @@ module _ (law : OneSpelling) (host other : List ℕ) (libs others : List (List �
 
   late : late_faults (order_of host) other others ≡ late_faults (order_of host) host libs
   late = late_moved (order_of host) own_number refl law host other libs others alike.hosts
-      (λ slot h w. found (entry_at (order_of host) host slot).name) (inl found) ∙ same_faults (late_faults (order_of host) host libs)
+      (λ slot h w. found (entry_at (order_of host) host slot).name) (inl found) ∙ same_faults
+      (late_faults (order_of host) host libs)
 
   pub first_same : first_fault other others ≡ first_fault host libs
   first_same =
@@ -81,10 +83,12 @@ module _ (law : OneSpelling) (host other : List ℕ) (libs others : List (List �
   read_of none = (or_none (reading_fault host libs)
       (linking_fault (order_of host) (segments (order_of host) host libs)) none).0
 
-  pub file_same : first_fault host libs ≡ None → linked_file host libs ≡ linked_file other others
+  pub file_same : first_fault host libs ≡ None → linked_file host libs
+      ≡ linked_file other others
   file_same none =
       let segs = segments_same (order_of host) own_number refl law host other libs others
-      alike.hosts (λ slot h w. found (entry_at (order_of host) host slot).name) (inl found) (read_of none) refl
+      alike.hosts (λ slot h w. found (entry_at (order_of host) host slot).name) (inl found)
+      (read_of none) refl
       ∙ same_segments (segments (order_of host) host libs) in
       same_head (order_of host) host other (segments (order_of host) host libs)
       (λ slot h. ap (λ (e : Entry). e.name) (alike.hosts.entries slot h)) alike.tail

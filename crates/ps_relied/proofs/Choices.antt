@@ -1,5 +1,6 @@
 -- Which library is chosen for a name, among libraries that are read alike or stand elsewhere.
-use Rattle.std.proofs.Common.{◌≡◌, ℕ, ◌+◌, ◌<◌, ◌≤◌, List, [], ◌∷◌, ◌++◌, length, Option, Some}
+use Rattle.std.proofs.Common.{◌≡◌, ℕ, ◌+◌, ◌<◌, ◌≤◌, List, [], ◌∷◌}
+use Rattle.std.proofs.Common.{◌++◌, length, Option, Some}
 use Rattle.std.proofs.Common.{Bool, true, false, refl, sym, subst, inl, arith}
 use Rattle.ps_relied.proofs.Words.{if◌then◌else◌, enumerate_from, find, Order, library_file}
 use Rattle.ps_relied.proofs.Information.{OneSpelling}
@@ -46,8 +47,10 @@ module _ (order : Order) (number : ℕ → ℕ) (same_host : number 0 ≡ 0) (la
         go false later = later
 
     -- the same libraries, from two numbers on
-    pub shifted : (n m : ℕ) (files : List (List ℕ)) → ((i j : ℕ) → n ≤ i → j + n ≡ i + m
-        → library_file j ≡ number (library_file i)) → IsMoved (found_of n files) (found_of m files)
+    pub shifted : (n m : ℕ) (files : List (List ℕ))
+        → ((i j : ℕ) → n ≤ i → j + n ≡ i + m
+        → library_file j ≡ number (library_file i)) → IsMoved (found_of n files)
+        (found_of m files)
     shifted n m [] h = tt
     shifted n m (x ∷ xs) h = go (has_entry order name x) (shifted (n + 1) (m + 1) xs
         (λ i j low e. h i j (omega (arith, low)) (omega (arith, e))))

@@ -1,7 +1,8 @@
 -- What a link stores in its segments does not depend on the files that they come from.
 use Rattle.std.proofs.Common.{◌≡◌, ℕ, ◌+◌, List, [], ◌∷◌, map, Option, Some, None}
 use Rattle.std.proofs.Common.{refl, ap, ◌∙◌}
-use Rattle.ps_relied.proofs.Words.{if◌then◌else◌, find, cons_option, option_map, option_map_or}
+use Rattle.ps_relied.proofs.Words.{if◌then◌else◌, find, cons_option, option_map}
+use Rattle.ps_relied.proofs.Words.{option_map_or}
 use Rattle.ps_relied.proofs.Words.{Edit, Order, is_host, is_unit, next_of, known_of, Known}
 use Rattle.ps_relied.proofs.Words.{edited_from, edited_segments, total_words}
 use Rattle.ps_relied.proofs.Words.{private_words, Segment, host_of, host_records, units_of}
@@ -24,7 +25,8 @@ module _ (new : Segment → Segment) where
     records = s.records;
   }
 
-  pub host_moved : (segs : List Segment) → host_of (map moved segs) ≡ option_map moved (host_of segs)
+  pub host_moved : (segs : List Segment) → host_of (map moved segs) ≡ option_map moved
+      (host_of segs)
   host_moved segs = find_mapped (λ (s : Segment). is_host s.role) moved segs
 
   pub records_moved : (segs : List Segment)

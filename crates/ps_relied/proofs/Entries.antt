@@ -1,7 +1,8 @@
 -- What is read of the entries of two files that are read alike.
 use Rattle.std.proofs.Common.{◌≡◌, ℕ, ◌<◌, List, Option, Some, None, Ok, Err}
 use Rattle.std.proofs.Common.{Bool, true, false, refl, ap, ◌∙◌, arith}
-use Rattle.ps_relied.proofs.Words.{◌≢◌, ◌&&◌, ◌==◌, not, if◌then◌else◌, slots, find, list_any}
+use Rattle.ps_relied.proofs.Words.{◌≢◌, ◌&&◌, ◌==◌, not, if◌then◌else◌, slots}
+use Rattle.ps_relied.proofs.Words.{find, list_any}
 use Rattle.ps_relied.proofs.Words.{range_with_len, option_and_then, bytes_eq, Order, Reason, Role}
 use Rattle.ps_codefile.specs.Dictionary.{is_nameless, role_of_kind}
 use Rattle.ps_laws.proofs.Words.{false≢true}
@@ -61,7 +62,8 @@ of_kind false false false false false true k r l e = absurd (cc)
 of_kind false false false false false false k r l e = absurd (cc)
 
 -- a filled slot of the host has a role of its own
-pub filled_role : (e : Entry) (r : Role) → role_of e ≡ Ok r → r ≢ role.Wanted → r ≢ role.Empty
+pub filled_role : (e : Entry) (r : Role) → role_of e ≡ Ok r → r ≢ role.Wanted
+    → r ≢ role.Empty
     → is_filled e ≡ true
 filled_role e r h w n = filled_by (e.kind == 3) (e.address == 0) (e.length == 0)
     (is_nameless e.name) e.kind r h w n

@@ -1,5 +1,6 @@
 -- The faults of segments whose files have other numbers, once all were read.
-use Rattle.std.proofs.Common.{◌≡◌, ℕ, ◌+◌, List, [], ◌∷◌, map, Option, Some, None, Bool, true}
+use Rattle.std.proofs.Common.{◌≡◌, ℕ, ◌+◌, List, [], ◌∷◌, map, Option, Some, None}
+use Rattle.std.proofs.Common.{Bool, true}
 use Rattle.std.proofs.Common.{false, refl, sym, ap, ◌∙◌}
 use Rattle.ps_relied.proofs.Words.{option_and_then, option_map, option_or, fault_if, nat_lt}
 use Rattle.ps_relied.proofs.Words.{in_record, in_slot, Fault, Reason, Order, Record, Segment}
@@ -142,7 +143,8 @@ module _ (number : ℕ → ℕ) (same_host : number 0 ≡ 0) where
       ∙ sym (or_mapped refiled own rest))
 
   references_refiled : (order : Order) (segs : List Segment)
-      → references_fault order (others_of segs) ≡ option_map refiled (references_fault order segs)
+      → references_fault order (others_of segs) ≡ option_map refiled
+      (references_fault order segs)
   unfolding references_fault
   references_refiled order segs =
       ap (λ k. references_fault_from order k (next_of (host_records (others_of segs)))

@@ -1,7 +1,8 @@
 -- The faults of hosts and of libraries by themselves, that are read alike.
 use Rattle.std.specs.Prelude.{⊤}
 use Rattle.ps_resolve.proofs.FirstSlots.{or_none, none_mapped}
-use Rattle.std.proofs.Common.{◌≡◌, ℕ, suc, ◌+◌, ◌<◌, List, [], ◌∷◌, ◌++◌, length, Option, None, Bool}
+use Rattle.std.proofs.Common.{◌≡◌, ℕ, suc, ◌+◌, ◌<◌, List, [], ◌∷◌, ◌++◌}
+use Rattle.std.proofs.Common.{length, Option, None, Bool}
 use Rattle.std.proofs.Common.{Ok, Err, true, false, refl, sym, ap, ◌∙◌, arith}
 use Rattle.ps_relied.proofs.Words.{if◌then◌else◌, not, ◌&&◌, nat_lt, slots}
 use Rattle.ps_relied.proofs.Words.{range_with_len, enumerate_from, option_map, option_map_or}
@@ -19,7 +20,8 @@ use Rattle.ps_resolve.specs.Faults.{host_fault, slots_fault, no_host_fault, slot
 use Rattle.ps_resolve.specs.Faults.{libraries_fault, library_fault, library_reason}
 use Rattle.ps_words.specs.declared.fault.Reason.TheVariants as reason
 
-same_first : {A C : Type 0} (f g : A → Option C) (xs : List A) → ((x : A) → In x xs → f x ≡ g x)
+same_first : {A C : Type 0} (f g : A → Option C) (xs : List A)
+    → ((x : A) → In x xs → f x ≡ g x)
     → first_of f xs ≡ first_of g xs
 same_first f g [] h = refl
 same_first f g (x ∷ xs) h =
@@ -103,7 +105,8 @@ module _ (order : Order) (file other : List ℕ) (like : IsReadAlike order file 
       ∙ (ap (λ k. reason_by b i y k p) w
       ∙ ap (λ k. reason_by b i y v k) z)))
 
-  same_reason : (slot : ℕ) → slot < 16 → slot_reason order other slot ≡ slot_reason order file slot
+  same_reason : (slot : ℕ) → slot < 16 → slot_reason order other slot
+      ≡ slot_reason order file slot
   same_reason slot inside = by_parts _ _ _ _ _ _ _ _ _ _
       (ap (λ (e : Entry). result_err (role_of e)) (sym (like.entries slot inside)))
       (has_role is_host slot inside)
@@ -118,7 +121,8 @@ module _ (order : Order) (file other : List ℕ) (like : IsReadAlike order file 
 
   pub same_slots_fault : slots_fault order other ≡ slots_fault order file
   unfolding slots_fault
-  same_slots_fault = same_first (λ slot. option_map (in_slot 0 slot) (slot_reason order other slot))
+  same_slots_fault = same_first (λ slot. option_map (in_slot 0 slot)
+      (slot_reason order other slot))
       (λ slot. option_map (in_slot 0 slot) (slot_reason order file slot)) slots
       (λ slot t. ap (λ o. option_map (in_slot 0 slot) o) (same_reason slot (in_slots slot t)))
 
@@ -143,7 +147,8 @@ libraries_alike order n (lib ∷ libs) (other ∷ others) t =
     (libraries_alike order (n + 1) libs others t.1)
 
 pub same_libraries_fault : (order : Order) (libs others : List (List ℕ))
-    → AreReadAlike order libs others → libraries_fault order others ≡ libraries_fault order libs
+    → AreReadAlike order libs others → libraries_fault order others
+    ≡ libraries_fault order libs
 unfolding libraries_fault
 same_libraries_fault order libs others t = libraries_alike order 1 libs others t
 

@@ -1,5 +1,6 @@
 -- Link information is read up to its end mark.
-use Rattle.std.proofs.Common.{◌≡◌, ℕ, zero, suc, ◌+◌, ◌*◌, ◌/◌, ◌<◌, ◌≤◌, List, [], ◌∷◌, ◌++◌, length}
+use Rattle.std.proofs.Common.{◌≡◌, ℕ, zero, suc, ◌+◌, ◌*◌, ◌/◌, ◌<◌}
+use Rattle.std.proofs.Common.{◌≤◌, List, [], ◌∷◌, ◌++◌, length}
 use Rattle.std.proofs.Common.{map, drop, None, refl, sym, ap, ◌∙◌, inl, inr, arith}
 use Rattle.std.specs.Prelude.{◌↔◌, slice_index}
 use Rattle.std.proofs.lemmas.List.{take-append-le, length-append}
@@ -41,7 +42,8 @@ module _ (order : Order) (xs more : List ℕ) where
       ≡ map (λ i. word_at order xs (16 + 2 * i)) (range_with_len a n)
   words_more a zero h = refl
   words_more a (suc n) h =
-      ap (λ w. w ∷ map (λ i. word_at order (xs ++ more) (16 + 2 * i)) (range_with_len (a + 1) n))
+      ap (λ w. w ∷ map (λ i. word_at order (xs ++ more) (16 + 2 * i))
+      (range_with_len (a + 1) n))
       (word_more (16 + 2 * a) (omega (arith, h)))
       ∙ ap (λ ws. word_at order xs (16 + 2 * a) ∷ ws) (words_more (a + 1) n (omega (arith, h)))
 

@@ -1,7 +1,9 @@
 -- Lists whose items are changed one by one.
-use Rattle.std.proofs.Common.{◌≡◌, ℕ, zero, suc, List, [], ◌∷◌, ◌++◌, map, Option, Some, None}
+use Rattle.std.proofs.Common.{◌≡◌, ℕ, zero, suc, List, [], ◌∷◌, ◌++◌, map, Option}
+use Rattle.std.proofs.Common.{Some, None}
 use Rattle.std.proofs.Common.{Bool, true, false, refl, sym, ap, subst, ◌∙◌, arith}
-use Rattle.ps_relied.proofs.Words.{if◌then◌else◌, slice_get, find, list_any, filter, filter_map}
+use Rattle.ps_relied.proofs.Words.{if◌then◌else◌, slice_get, find, list_any, filter}
+use Rattle.ps_relied.proofs.Words.{filter_map}
 use Rattle.ps_relied.proofs.Words.{cons_option, option_map, option_or, first_of}
 use Rattle.ps_laws.proofs.Items.{In}
 use Rattle.ps_resolve.proofs.FirstSlots.{or_none}
@@ -41,7 +43,8 @@ or_mapped f None p = refl
 or_mapped f (Some x) p = refl
 
 -- searches by tests that agree on the items
-pub same_find : {A : Type 0} (f g : A → Bool) (xs : List A) → ((x : A) → In x xs → f x ≡ g x)
+pub same_find : {A : Type 0} (f g : A → Bool) (xs : List A)
+    → ((x : A) → In x xs → f x ≡ g x)
     → find f xs ≡ find g xs
 same_find f g [] h = refl
 same_find {A} f g (x ∷ xs) h =
@@ -50,7 +53,8 @@ same_find {A} f g (x ∷ xs) h =
     ap (λ b. if b then Some x else find f xs) now
     ∙ ap (λ o. if g x then Some x else o) later
 
-pub same_any : {A : Type 0} (f g : A → Bool) (xs : List A) → ((x : A) → In x xs → f x ≡ g x)
+pub same_any : {A : Type 0} (f g : A → Bool) (xs : List A)
+    → ((x : A) → In x xs → f x ≡ g x)
     → list_any f xs ≡ list_any g xs
 same_any f g [] h = refl
 same_any {A} f g (x ∷ xs) h =
@@ -76,7 +80,8 @@ first_mapped {A} {C} m f g (x ∷ xs) h =
     let now = h x (0, refl) in
     let later = first_mapped m f g xs (λ y t. h y (suc t.0, t.1)) in
     ap (λ o. option_or o (first_of g xs)) now
-    ∙ (ap (λ o. option_or (option_map m (f x)) o) later ∙ sym (or_mapped m (f x) (first_of f xs)))
+    ∙ (ap (λ o. option_or (option_map m (f x)) o) later ∙ sym
+    (or_mapped m (f x) (first_of f xs)))
 
 -- all that the items give, where each gives another one's, changed
 pub all_mapped : {A C : Type 0} (m : C → C) (f g : A → Option C) (xs : List A)
@@ -95,7 +100,8 @@ all_mapped {A} {C} m f g (x ∷ xs) h =
     more (Some y) = refl
 
 -- where no item gives a fault, none is given by each
-pub none_of : {A C : Type 0} (f : A → Option C) (xs : List A) → first_of f xs ≡ None → (x : A)
+pub none_of : {A C : Type 0} (f : A → Option C) (xs : List A) → first_of f xs ≡ None
+    → (x : A)
     → In x xs → f x ≡ None
 none_of f [] e x t = absurd (let h = t.1 in cc)
 none_of {A} {C} f (y ∷ ys) e x (k, at) =

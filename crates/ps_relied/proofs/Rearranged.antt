@@ -1,5 +1,6 @@
 -- Links whose libraries stand elsewhere, or one of which is left out.
-use Rattle.std.proofs.Common.{◌≡◌, ℕ, ◌+◌, ◌<◌, ◌≤◌, List, ◌∷◌, ◌++◌, length, map, Option, Some}
+use Rattle.std.proofs.Common.{◌≡◌, ℕ, ◌+◌, ◌<◌, ◌≤◌, List, ◌∷◌}
+use Rattle.std.proofs.Common.{◌++◌, length, map, Option, Some}
 use Rattle.std.proofs.Common.{None, Bool, true, false, refl, sym, ap, ◌∙◌, inl, inr, arith}
 use Rattle.std.specs.Prelude.{⊤}
 use Rattle.std.proofs.lemmas.Bool.Decides.{nat_tests}
@@ -45,13 +46,15 @@ read_of host libs none = (or_none (reading_fault host libs)
     (linking_fault (order_of host) (segments (order_of host) host libs)) none).0
 
 -- what is kept: no fault, the file, and the segments but for the numbers of their files
-pub record IsKept (number : ℕ → ℕ) (host : List ℕ) (libs others : List (List ℕ)) : Type 0 where
+pub record IsKept (number : ℕ → ℕ) (host : List ℕ)
+    (libs others : List (List ℕ)) : Type 0 where
   pub fine : first_fault host others ≡ None
   pub file : linked_file host libs ≡ linked_file host others
   pub segments : segments_of host others ≡ map (renumbered number) (segments_of host libs)
 
 -- 1. the libraries `rest` after `before` become others
-module _ (law : OneSpelling) (host : List ℕ) (before rest more : List (List ℕ)) (number : ℕ → ℕ)
+module _ (law : OneSpelling) (host : List ℕ) (before rest more : List (List ℕ))
+    (number : ℕ → ℕ)
     (same_host : number 0 ≡ 0) where
   abbrev AllFound : Type 0
   AllFound = AreFound (order_of host) number same_host law host host (before ++ rest)
@@ -85,7 +88,8 @@ module _ (law : OneSpelling) (host : List ℕ) (before rest more : List (List �
         segments = segs;
       }
     where
-      none_of_five : {A : Type 0} {a b c d e : Option A} → a ≡ None → b ≡ None → c ≡ None
+      none_of_five : {A : Type 0} {a b c d e : Option A} → a ≡ None → b ≡ None → c
+          ≡ None
           → d ≡ None → e ≡ None
           → option_or a (option_or b (option_or c (option_or d e))) ≡ None
       none_of_five p q r s t = rw (p, q, r, s, t) refl
@@ -95,7 +99,8 @@ module _ (k : ℕ) where
   exchanged_host : exchanged (library_file k) 0 ≡ 0
   exchanged_host = grind (arith, nat_tests)
 
-  exchanged_low : (i : ℕ) → i < k → library_file i ≡ exchanged (library_file k) (library_file i)
+  exchanged_low : (i : ℕ) → i < k → library_file i ≡ exchanged (library_file k)
+      (library_file i)
   exchanged_low i h = grind (arith, nat_tests)
 
   exchanged_high : (i j : ℕ) → k + 1 + 1 ≤ i → j + (k + 1 + 1) ≡ i + (k + 1 + 1)
@@ -206,7 +211,8 @@ module _ (law : OneSpelling) (host : List ℕ) (before after : List (List ℕ)) 
           (before ++ after) name (place + 1) place after (without_high place)
 
   -- a unit of another file is not chosen there
-  from_other : (name : List ℕ) (at : ℕ × ℕ) → unit_source (order_of host) name all ≡ Some at
+  from_other : (name : List ℕ) (at : ℕ × ℕ) → unit_source (order_of host) name all
+      ≡ Some at
       → at.0 ≢ library_file place → IsThere name
   from_other name at e n = there name (λ c. n (go (find (is_named (order_of host) name lib) slots)
       (sym (ap (λ o. option_and_then (λ (l : ℕ × List ℕ). option_map

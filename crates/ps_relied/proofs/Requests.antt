@@ -1,10 +1,13 @@
 -- What files that are read alike give a request, where the number of each may be another.
-use Rattle.std.proofs.Common.{◌≡◌, ℕ, ◌<◌, List, [], ◌∷◌, length, Option, Some, None, Result}
+use Rattle.std.proofs.Common.{◌≡◌, ℕ, ◌<◌, List, [], ◌∷◌, length, Option, Some}
+use Rattle.std.proofs.Common.{None, Result}
 use Rattle.std.proofs.Common.{Ok, Err, Bool, true, false, refl, sym, ap, subst, ◌∙◌, arith}
 use Rattle.std.proofs.Common.{is_none, add-one}
 use Rattle.std.specs.Prelude.{⊤, unwrap_or}
-use Rattle.ps_relied.proofs.Words.{if◌then◌else◌, ◌||◌, ◌==◌, ◌&&◌, not, slots, find, slice_get, list_any, range_with_len}
-use Rattle.ps_relied.proofs.Words.{enumerate_from, option_and_then, option_map, option_or, result_ok}
+use Rattle.ps_relied.proofs.Words.{if◌then◌else◌, ◌||◌, ◌==◌, ◌&&◌, not, slots}
+use Rattle.ps_relied.proofs.Words.{find, slice_get, list_any, range_with_len}
+use Rattle.ps_relied.proofs.Words.{enumerate_from, option_and_then, option_map, option_or}
+use Rattle.ps_relied.proofs.Words.{result_ok}
 use Rattle.ps_relied.proofs.Words.{bytes_eq, fault_if, in_record, in_slot, Fault, Reason, Order}
 use Rattle.ps_relied.proofs.Words.{Role, Entry, Record, Segment, Request, code_of, entry_at}
 use Rattle.ps_relied.proofs.Words.{information_of, is_filled, kind_needs_linking, needs_linking}
@@ -24,14 +27,17 @@ use Rattle.ps_resolve.specs.Requests.{missing_at, as_requested, requested_segmen
 use Rattle.ps_resolve.specs.Sources.{has_entry, segment_from, records_of, tables_of}
 use Rattle.ps_resolve.specs.Sources.{information_block}
 use Rattle.ps_resolve.specs.declared.reading.request.Requester.{Requester}
-use Rattle.ps_resolve.specs.declared.reading.request.Requester.TheVariants.{Slot, Record as OfRecord}
+use Rattle.ps_resolve.specs.declared.reading.request.Requester.TheVariants.{Slot}
+use Rattle.ps_resolve.specs.declared.reading.request.Requester.TheVariants.{Record as OfRecord}
 use Rattle.ps_words.specs.declared.fault.Reason.TheVariants as reason
 
 -- the library that is found has its number among the files, and an entry of the name
-pub chosen_file : (order : Order) (name host : List ℕ) (libs : List (List ℕ)) (c : ℕ × List ℕ)
+pub chosen_file : (order : Order) (name host : List ℕ) (libs : List (List ℕ))
+    (c : ℕ × List ℕ)
     → chosen_library order name libs ≡ Some c → file_at host libs (library_file c.0) ≡ c.1
 chosen_file order name host libs c e =
-    let t = find_in (λ (lib : ℕ × List ℕ). has_entry order name lib.1) (enumerate_from 0 libs) c e
+    let t = find_in (λ (lib : ℕ × List ℕ). has_entry order name lib.1)
+    (enumerate_from 0 libs) c e
     in
     let u = of_numbered 0 libs t.0 c t.1 in
     let n = u.0 in
@@ -68,7 +74,8 @@ module _ (order : Order) where
   same_records file other e true h = ap (λ (read : List Record × Option Reason). read.0) (h refl)
 
   -- the segment, by what is read there
-  abbrev segment_by : ℕ → List ℕ → Role → ℕ × ℕ → Entry → List Record → List ℕ
+  abbrev segment_by : ℕ → List ℕ → Role → ℕ × ℕ → Entry → List Record
+      → List ℕ
       → Segment
   segment_by slot name r at e rs code = record {
     slot = slot;
@@ -276,9 +283,11 @@ module _ (order : Order) where
                 (λ f. kind_needs_linking (entry_at order f i).kind ≡ true) (sym mine)
                 (unit_kind (list_any (λ j. is_named order q.name a.1 j
                 && list_any (is_named order q.name a.1) (range_with_len 0 j)) slots)
-                (entry_at order a.1 i).kind (ap (λ o. if list_any (λ j. is_named order q.name a.1 j
+                (entry_at order a.1 i).kind (ap (λ o. if list_any
+                (λ j. is_named order q.name a.1 j
                 && list_any (is_named order q.name a.1) (range_with_len 0 j)) slots
-                then Some reason.DoubledUnit else option_and_then (λ j. fault_if (not ((entry_at order a.1 j).kind == 3))
+                then Some reason.DoubledUnit else option_and_then
+                (λ j. fault_if (not ((entry_at order a.1 j).kind == 3))
                 (reason.NotAUnit (entry_at order a.1 j).kind)) o) (sym e) ∙ fine));
           }
 

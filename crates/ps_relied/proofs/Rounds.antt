@@ -1,16 +1,20 @@
 -- The segments of files that are read alike, where the number of each may be another.
-use Rattle.std.proofs.Common.{◌≡◌, ℕ, ◌+◌, ◌<◌, List, [], ◌∷◌, ◌++◌, map, Option, Some}
+use Rattle.std.proofs.Common.{◌≡◌, ℕ, ◌+◌, ◌<◌, List, [], ◌∷◌, ◌++◌, map}
+use Rattle.std.proofs.Common.{Option, Some}
 use Rattle.std.proofs.Common.{None, Result, Ok, Err, Bool, true, false, refl, sym, ap, subst}
 use Rattle.std.proofs.Common.{◌∙◌, inl, inr, arith, is_none, is_some}
 use Rattle.std.proofs.lemmas.List.Elements.{All-head, All-tail}
 use Rattle.ps_relied.proofs.Words.{◌≢◌}
-use Rattle.ps_relied.proofs.Words.{◌⊎◌, ◌||◌, ◌==◌, All, if◌then◌else◌, slots, slice_get, find}
+use Rattle.ps_relied.proofs.Words.{◌⊎◌, ◌||◌, ◌==◌, All, if◌then◌else◌, slots}
+use Rattle.ps_relied.proofs.Words.{slice_get, find}
 use Rattle.ps_relied.proofs.Words.{range_with_len, option_and_then, option_map}
 use Rattle.ps_relied.proofs.Words.{option_map_or, option_or, result_ok, bytes_eq, Fault}
-use Rattle.ps_relied.proofs.Words.{Reason, Order, Role, Entry, Record, Segment, Request, UnitReference}
+use Rattle.ps_relied.proofs.Words.{Reason, Order, Role, Entry, Record, Segment, Request}
+use Rattle.ps_relied.proofs.Words.{UnitReference}
 use Rattle.ps_relied.proofs.Words.{RoundsOutcome, after, entry_at, role_of, is_empty, code_fault}
 use Rattle.ps_relied.proofs.Words.{request_fault, is_role, is_unit_reference, chosen_library}
-use Rattle.ps_relied.proofs.Words.{file_at, own_segment, source_of, unit_source, units_of, in_record}
+use Rattle.ps_relied.proofs.Words.{file_at, own_segment, source_of, unit_source, units_of}
+use Rattle.ps_relied.proofs.Words.{in_record}
 use Rattle.ps_relied.proofs.Words.{request_of, unit_references, all_unit_references, requested_from}
 use Rattle.ps_relied.proofs.Words.{role_fault}
 use Rattle.ps_relied.proofs.Information.{OneSpelling}
@@ -28,7 +32,8 @@ use Rattle.ps_laws.proofs.Looking.{is_there}
 use Rattle.ps_codefile.specs.Dictionary.{is_nameless}
 use Rattle.ps_codefile.specs.declared.entry.Role.TheVariants as role
 use Rattle.ps_resolve.specs.Added.{is_already_known, unplaced_fault, placed_fault, added_segment}
-use Rattle.ps_resolve.specs.Added.{rounds_from, rounds_of, rounds, empty_slots, added_at, segment_at}
+use Rattle.ps_resolve.specs.Added.{rounds_from, rounds_of, rounds, empty_slots, added_at}
+use Rattle.ps_resolve.specs.Added.{segment_at}
 use Rattle.ps_resolve.specs.Added.{segments, added_segments, added_fault}
 use Rattle.ps_resolve.specs.Faults.{sources_fault, source_fault}
 use Rattle.ps_resolve.specs.Requests.{is_missing, requested_segment, request_by_slot, as_requested}
@@ -135,7 +140,8 @@ module _ (order : Order) (number : ℕ → ℕ) (same_host : number 0 ≡ 0) (la
               ∙ (sym (as_slot (option_and_then
               (segment_from order other others slot mine_at.name role.Wanted)
               (unit_source order mine_at.name others)))
-              ∙ (m.1 none ∙ ap (λ o. option_map (renumbered number) o) (as_slot (option_and_then
+              ∙ (m.1 none ∙ ap (λ o. option_map (renumbered number) o)
+              (as_slot (option_and_then
               (segment_from order host libs slot mine_at.name role.Wanted)
               (unit_source order mine_at.name libs))))),
         )
@@ -404,7 +410,8 @@ module _ (order : Order) (number : ℕ → ℕ) (same_host : number 0 ≡ 0) (la
     rounds_moved =
         let own = own_segments order host libs in
         ap (λ segs. rounds_of order other others segs) (own_moved found none)
-        ∙ (ap (λ left. rounds_from order other others (units_of (map (renumbered number) own)) left
+        ∙ (ap (λ left. rounds_from order other others
+        (units_of (map (renumbered number) own)) left
         0 (requested_from (units_of (map (renumbered number) own)) []
         (all_unit_references (map (renumbered number) own)))) same_empty
         ∙ (ap (λ units. rounds_from order other others units (empty_slots order host) 0
@@ -425,7 +432,8 @@ module _ (order : Order) (number : ℕ → ℕ) (same_host : number 0 ≡ 0) (la
         (none_of (source_fault order host libs) slots none slot
         (in_range 0 16 slot (omega arith) (omega (arith, inside)))) in
         ap (λ o. option_or o (added_at order other others slot)) own
-        ∙ (ap (λ o. option_or (option_map (renumbered number) (own_segment order host libs slot)) o)
+        ∙ (ap (λ o. option_or (option_map (renumbered number)
+        (own_segment order host libs slot)) o)
         (empty_moved slot inside)
         ∙ sym (or_mapped (renumbered number) (own_segment order host libs slot)
         (added_at order host libs slot)))
@@ -441,7 +449,8 @@ module _ (order : Order) (number : ℕ → ℕ) (same_host : number 0 ≡ 0) (la
           where
             pick : (b : Bool) → (if b then find (λ (s : Segment). s.slot == slot)
                 (map (renumbered number) (added_segments order host libs)) else None)
-                ≡ option_map (renumbered number) (if b then find (λ (s : Segment). s.slot == slot)
+                ≡ option_map (renumbered number) (if b then find
+                (λ (s : Segment). s.slot == slot)
                 (added_segments order host libs) else None)
             pick true = find_mapped (λ (s : Segment). s.slot == slot) (renumbered number)
                 (added_segments order host libs)

@@ -1,5 +1,6 @@
 -- The linked file is that of its segments, from whichever files they come.
-use Rattle.std.proofs.Common.{◌≡◌, ℕ, suc, ◌+◌, ◌<◌, List, [], ◌∷◌, ◌++◌, length, map, Option, Some}
+use Rattle.std.proofs.Common.{◌≡◌, ℕ, suc, ◌+◌, ◌<◌, List, [], ◌∷◌, ◌++◌}
+use Rattle.std.proofs.Common.{length, map, Option, Some}
 use Rattle.std.proofs.Common.{None, Bool, true, false, refl, sym, ap, ◌∙◌, arith}
 use Rattle.std.specs.Prelude.{nat_lt, slice_range, replicate}
 use Rattle.std.proofs.lemmas.List.Sums.{sum_by-cons}
@@ -25,7 +26,8 @@ file_of order host segs =
     dictionary order (slot_names host segs) host (map origin_of segs)
     ++ flat_map (padded_segment order) (edited_segments order segs)
 
-same_flat : {A C : Type 0} (f g : A → List C) (xs : List A) → ((x : A) → In x xs → f x ≡ g x)
+same_flat : {A C : Type 0} (f g : A → List C) (xs : List A)
+    → ((x : A) → In x xs → f x ≡ g x)
     → flat_map f xs ≡ flat_map g xs
 same_flat f g [] h = refl
 same_flat f g (x ∷ xs) h =
@@ -70,7 +72,8 @@ pair_is order slot os =
     ∙ (same (find (λ (o : Origin). o.slot == slot) os)
     ∙ ap (λ o. option_map_or (λ (k : ℕ × List ℕ). word_bytes order
     (1 + blocks_by slot (map key os)) ++ word_bytes order (length k.1)) o
-    (0 ∷ 0 ∷ 0 ∷ 0 ∷ [])) (sym (find_mapped (λ (k : ℕ × List ℕ). k.0 == slot) key os)))
+    (0 ∷ 0 ∷ 0 ∷ 0 ∷ [])) (sym (find_mapped (λ
+    (k : ℕ × List ℕ). k.0 == slot) key os)))
   where
     same : (o : Option Origin) → option_map_or (λ (o : Origin). word_bytes order
         (1 + blocks_by slot (map key os)) ++ word_bytes order (length o.code)) o

@@ -1,5 +1,6 @@
 -- Links of files that are read alike, where the number of each may be another.
-use Rattle.std.proofs.Common.{◌≡◌, ℕ, List, map, Option, Some, None, refl, sym, ap, ◌∙◌}
+use Rattle.std.proofs.Common.{◌≡◌, ℕ, List, map, Option, Some, None, refl, sym, ap}
+use Rattle.std.proofs.Common.{◌∙◌}
 use Rattle.ps_relied.proofs.Words.{option_map, option_or, Order, Fault, order_of}
 use Rattle.ps_relied.proofs.Information.{OneSpelling}
 use Rattle.ps_relied.proofs.Lists.{or_mapped}
@@ -33,7 +34,8 @@ module _ (order : Order) (number : ℕ → ℕ) (same_host : number 0 ≡ 0) (la
   late_moved = go (sources_fault order host libs) refl
     where
       go : (o : Option Fault) → sources_fault order host libs ≡ o
-          → late_faults order other others ≡ option_map (refiled number same_host) (late_faults order host libs)
+          → late_faults order other others ≡ option_map (refiled number same_host)
+          (late_faults order host libs)
       go (Some f) e =
           let theirs = sources ∙ ap (λ o. option_map (refiled number same_host) o) e in
           ap (λ o. option_or (option_or o (added_fault order other others))

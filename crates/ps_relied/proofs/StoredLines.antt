@@ -1,5 +1,6 @@
 -- The lines of the references of a link name each byte that it stores, and no other.
-use Rattle.std.proofs.Common.{◌≡◌, ℕ, zero, suc, ◌+◌, ◌*◌, ◌-◌, ◌<◌, ◌≤◌, List, [], ◌∷◌, ◌++◌}
+use Rattle.std.proofs.Common.{◌≡◌, ℕ, zero, suc, ◌+◌, ◌*◌, ◌-◌, ◌<◌}
+use Rattle.std.proofs.Common.{◌≤◌, List, [], ◌∷◌, ◌++◌}
 use Rattle.std.proofs.Common.{length, map, take, drop, Option, Some, None, Bool, true, false, refl}
 use Rattle.std.proofs.Common.{sym, ap, subst, ◌∙◌, inl, inr, arith, ◌==◌, length-drop}
 use Rattle.std.specs.Prelude.{slice_index}
@@ -98,7 +99,8 @@ ranged_index f a (suc n) zero h = ap f (omega arith)
 ranged_index f a (suc n) (suc p) h = ranged_index f (a + 1) n p (omega (arith, h))
     ∙ ap f (omega arith)
 
-ranged_length : {A : Type 0} (f : ℕ → A) (a n : ℕ) → length (map f (range_with_len a n)) ≡ n
+ranged_length : {A : Type 0} (f : ℕ → A) (a n : ℕ) → length (map f (range_with_len a n))
+    ≡ n
 ranged_length f a zero = refl
 ranged_length f a (suc n) = let h = ranged_length f (a + 1) n in omega (arith, h)
 
@@ -132,13 +134,16 @@ of_body : (m : ℕ) (name : List ℕ) (body : Body) (x : ℕ) (c : Cause)
     → (list_any (λ y. y == x) (refs_of body) ≡ true) × (cause_width c ≡ operand_width body)
 of_body m name body x c e = grind arith
 
-in_body : (m : ℕ) (name : List ℕ) (body : Body) (i x : ℕ) → slice_get (refs_of body) i ≡ Some x
-    → (if list_any (λ y. y == x) (refs_of body) then cause_in m name body else None) ≡ None → ⊥
+in_body : (m : ℕ) (name : List ℕ) (body : Body) (i x : ℕ) → slice_get (refs_of body) i
+    ≡ Some x
+    → (if list_any (λ y. y == x) (refs_of body) then cause_in m name body else None) ≡ None
+    → ⊥
 in_body m name body i x at e =
     let any = any_in (λ y. y == x) (refs_of body) x (i, at) ((Decides-eqb x x).1 refl) in
     go body at (sym (ap (λ b. if b then cause_in m name body else None) any) ∙ e)
   where
-    go : (body : Body) → slice_get (refs_of body) i ≡ Some x → cause_in m name body ≡ None → ⊥
+    go : (body : Body) → slice_get (refs_of body) i ≡ Some x → cause_in m name body ≡ None
+        → ⊥
     go (UnitRef refs) at e = cc
     go (PublRef refs) at e = cc
     go (PrivRef words refs) at e = cc
@@ -148,7 +153,8 @@ in_body m name body i x at e =
 
 some_record : (n : ℕ) (rs : List Record) (x : ℕ) (c : Cause)
     → records_at (numbered_records n rs) x ≡ Some c
-    → (k : ℕ) × (r : Record) × (slice_get rs k ≡ Some r) × ((m : ℕ) × (record_at (m, r) x ≡ Some c))
+    → (k : ℕ) × (r : Record) × (slice_get rs k ≡ Some r) ×
+    ((m : ℕ) × (record_at (m, r) x ≡ Some c))
 some_record n [] x c e = absurd (cc)
 some_record n (r ∷ rs) x c e = go (record_at (n, r) x) refl (some_record (n + 1) rs x c) e
   where
@@ -162,8 +168,10 @@ some_record n (r ∷ rs) x c e = go (record_at (n, r) x) refl (some_record (n + 
     go (Some d) is later e = (0, r, refl, (n, is ∙ e))
     go None is later e = let t = later e in (suc t.0, t.1, t.2, t.3)
 
-none_record : (n : ℕ) (rs : List Record) (x : ℕ) → records_at (numbered_records n rs) x ≡ None
-    → (k : ℕ) (r : Record) → slice_get rs k ≡ Some r → (m : ℕ) × (record_at (m, r) x ≡ None)
+none_record : (n : ℕ) (rs : List Record) (x : ℕ) → records_at (numbered_records n rs) x
+    ≡ None
+    → (k : ℕ) (r : Record) → slice_get rs k ≡ Some r → (m : ℕ) ×
+    (record_at (m, r) x ≡ None)
 none_record n [] x e k r at = absurd (cc)
 none_record n (q ∷ rs) x e zero r at =
     let parts = or_none (record_at (n, q) x) (records_at (numbered_records (n + 1) rs) x) e in
@@ -191,7 +199,8 @@ no_word code (Slot slot) x v q e = cc
 no_word code (Base base) x v q e = cc
 
 -- 4. the segments of one link
-module _ (host : List ℕ) (libs : List (List ℕ)) (file : List ℕ) (is : LinkedFile host libs file)
+module _ (host : List ℕ) (libs : List (List ℕ)) (file : List ℕ)
+    (is : LinkedFile host libs file)
     (made : HaveLinkedBytes host libs) (one : HaveOneLinkedByte host libs)
     (apart : HaveApartPlaces host libs) (summed : HaveSummedOffsets host libs)
     (read : reading_fault host libs ≡ None) where
@@ -239,7 +248,8 @@ module _ (host : List ℕ) (libs : List (List ℕ)) (file : List ℕ) (is : Link
       else filter is_listed (map with_edits ss)))) (sym linked) (0, refl))
   in_lists (q ∷ ss) s (suc k, e) linked = go (needs_linking q.role) (in_lists ss s (k, e) linked)
     where
-      go : (b : Bool) → In (mine s) (lists_by ss) → In (mine s) (map (list_of (order_of host) os)
+      go : (b : Bool) → In (mine s) (lists_by ss) → In (mine s)
+          (map (list_of (order_of host) os)
           (if b then with_edits q ∷ filter is_listed (map with_edits ss)
           else filter is_listed (map with_edits ss)))
       go true t = (suc t.0, t.1)
@@ -276,7 +286,8 @@ module _ (host : List ℕ) (libs : List (List ℕ)) (file : List ℕ) (is : Link
 
     byte_is : (p : ℕ) → p < length s.code
         → slice_index file (start + p) ≡ patched_byte (order_of host) s.code edits p
-    byte_is p h = of_all (λ (q : Segment). (p b c : ℕ) → IsLinkedByte (order_of host) segs q p b
+    byte_is p h = of_all (λ (q : Segment). (p b c : ℕ) → IsLinkedByte
+        (order_of host) segs q p b
         → IsLinkedByte (order_of host) segs q p c → b ≡ c) segs one there.0 s there.1 p
         (slice_index file (start + p)) (patched_byte (order_of host) s.code edits p)
         (linked_file_byte p h) (patched p h)
@@ -306,7 +317,8 @@ module _ (host : List ℕ) (libs : List (List ℕ)) (file : List ℕ) (is : Link
           inside,
           byte_is (at + j) inside
               ∙ (ap (λ n. patched_byte (order_of host) s.code edits n) (sym from_0)
-              ∙ (sym (ranged_index (patched_byte (order_of host) s.code edits) 0 (length s.code) (at + j)
+              ∙ (sym (ranged_index (patched_byte (order_of host) s.code edits) 0 (length s.code)
+              (at + j)
               inside) ∙ (sym (get_or-drop at linked j 0)
               ∙ (sym (get_or-take (cause_width c) (drop at linked) j 0 w.0)
               ∙ ap (λ xs. slice_index xs j) (sym bytes))))),
@@ -326,13 +338,15 @@ module _ (host : List ℕ) (libs : List (List ℕ)) (file : List ℕ) (is : Link
     is_long : needs_linking s.role ≡ true → 2 ≤ length s.code
     is_long h = long (order_of host) s.code (is_host s.role) (fact_of_file.tables h)
 
-    outer_block : (t : ℕ) → is_host s.role ≡ true → table_of (order_of host) s.code 1 ≡ Some t
+    outer_block : (t : ℕ) → is_host s.role ≡ true → table_of (order_of host) s.code 1
+        ≡ Some t
         → HasOuter (order_of host) s.code t
     outer_block t h table = outer (order_of host) s.code t (is_host s.role) h
         (fact_of_file.tables (host_linked s.role h)) table
 
     module _ (p : ℕ) (inside : p < length s.code) (free : (at : ℕ) (new : List ℕ)
-        → IsLine (listings host libs) s.slot at new → at ≤ p → p < at + length new → ⊥) where
+        → IsLine (listings host libs) s.slot at new → at ≤ p → p < at + length new
+        → ⊥) where
       no_cause : needs_linking s.role ≡ true → (at : ℕ) (c : Cause) → cause at ≡ Some c
           → at ≤ p → p < at + cause_width c → ⊥
       no_cause linked_one at c e low high =
@@ -374,7 +388,8 @@ module _ (host : List ℕ) (libs : List (List ℕ)) (file : List ℕ) (is : Link
           (host_linked s.role z.0, e) begin) in
           let stored = (size_covers (order_of host) segs s is_long outer_block p t j
           (host_linked s.role z.0) z).0 in
-          let any = any_in (is_word_at (t - 8)) edits _ stored ((Decides-eqb (t - 8) (t - 8)).1 refl)
+          let any = any_in (is_word_at (t - 8)) edits _ stored
+          ((Decides-eqb (t - 8) (t - 8)).1 refl)
           in
           no_cause (host_linked s.role z.0) (t - 8) DataSize
           (ap (λ o. option_or o (option_or (size_at edits (t - 8))
@@ -396,7 +411,8 @@ module _ (host : List ℕ) (libs : List (List ℕ)) (file : List ℕ) (is : Link
               go : (b : Bool) → needs_linking s.role ≡ b → needs_linking s.role ≡ true
               go true e = e
               go false e = absurd (let n = fact_of_file.unread e in let a = u.0.0 in
-                  let v : slice_get [] rec ≡ Some r = sym (ap (λ rs. slice_get rs rec) n) ∙ a in
+                  let v : slice_get [] rec ≡ Some r = sym (ap (λ rs. slice_get rs rec) n)
+                  ∙ a in
                   cc)
 
           no_word_there : size_at edits x ≡ None

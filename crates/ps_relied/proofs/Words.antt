@@ -2,7 +2,8 @@
 pub use Rattle.std.specs.List.{slice_get, find, list_any, filter, filter_map, flat_map, cons_option}
 pub use Rattle.std.specs.List.{enumerate_from, range_with_len}
 pub use Rattle.std.specs.Option.{option_and_then, option_map, option_map_or, option_or}
-pub use Rattle.std.specs.Prelude.{if◌then◌else◌, nat_le, nat_lt, not, All, ◌&&◌, ◌||◌, ◌==◌}
+pub use Rattle.std.specs.Prelude.{if◌then◌else◌, nat_le, nat_lt, not, All, ◌&&◌, ◌||◌}
+pub use Rattle.std.specs.Prelude.{◌==◌}
 pub use Rattle.std.specs.Prelude.{◌⊎◌, ◌≢◌, is_none}
 pub use Rattle.std.specs.Result.{result_err, result_ok}
 pub use Rattle.std.specs.Str.{bytes_eq}

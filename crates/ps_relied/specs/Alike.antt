@@ -1,7 +1,8 @@
 -- Files that a link reads the same: what may differ between them is not read.
 -- Source: the segment dictionary is that of the UCSD Pascal II.0 manual, the link information that
 -- of the published II.0 Linker source; that nothing else is read is this project's profile.
-use Rattle.std.specs.Prelude.{◌≡◌, ◌⊎◌, ℕ, ◌<◌, List, [], ◌∷◌, ◌++◌, length, true, nat_lt, ⊤}
+use Rattle.std.specs.Prelude.{◌≡◌, ◌⊎◌, ℕ, ◌<◌, List, [], ◌∷◌, ◌++◌}
+use Rattle.std.specs.Prelude.{length, true, nat_lt, ⊤}
 use Rattle.ps_words.specs.declared.order.Order.{Order}
 use Rattle.ps_codefile.specs.Dictionary.{block_len, file_order, entry_at, is_filled, code_of}
 use Rattle.ps_codefile.specs.Dictionary.{kind_needs_linking, information_of, tail_of}
