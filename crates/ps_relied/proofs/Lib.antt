@@ -1,0 +1,16 @@
+pub mod Words
+pub mod Lists
+pub mod Elsewhere
+pub mod Information
+pub mod Entries
+pub mod Faults
+pub mod Requests
+pub mod Rounds
+pub mod SameFile
+pub mod OneFile
+pub mod Hosts
+pub mod Choices
+pub mod SameLink
+pub mod AlikeFiles
+pub mod Rearranged
+pub mod StoredLines

@@ -1,0 +1,4 @@
+pub mod Alike
+pub mod Numbered
+pub mod SameSegments
+pub mod StoredLines
