@@ -56,6 +56,7 @@ class Style:
     small: bool = False  # names in small letters
     other_names: bool = False  # names that are no identifiers
     host_refs: bool = False  # UNITREF records in the host
+    moved: bool = False  # units of a library have the numbers of other slots
     tables: bool = False  # each jump goes by the jump table
     padding: int = 0  # the byte that makes a length even
 
@@ -560,6 +561,10 @@ class Maker:
         code, out = self.segment_code(slot, procedures)
         return Segment(name, UNITSEG, code, self.records_of(out, privates) + self.mark(0), self.interface() if self.style.text else b"")
 
+    def as_moved(self, unit, free):
+        """The unit with the number of a slot that no entry of the library has."""
+        return dataclasses.replace(unit, code=unit.code[:-2] + bytes([20 + self.source.choice(list(free))]) + unit.code[-1:])
+
     def interface(self):
         lines = [b"INTERFACE\r", b"\x10\x22PROCEDURE " + self.name().encode() + b";\r"] * self.source.randrange(1, 9)
         page = b"".join(lines)[:1000]
@@ -582,11 +587,11 @@ class Maker:
             records += self.record(self.name(), *self.source.choice([(PUBLDEF, self.source.randrange(3, following)), (CONSTDEF, self.source.randrange(300))]))
         return Segment(name, HOSTSEG, code, records + self.records_of(out, {}) + self.mark(following))
 
-    def assembled(self):
+    def assembled(self, slot):
         """An assembled procedure: native code, with long runs of zeros."""
         native = self.source.randbytes(40) + bytes(self.source.choice([0, 200])) + self.source.randbytes(40)
         code = native + self.word(0) * 3 + self.word(len(native) + 4) + bytes([0, 1])
-        code += self.word(len(code) - (len(code) - 2)) + bytes([1, 1])
+        code += self.word(2) + bytes([slot, 1])
         kind = self.source.choice([SEPRTSEG, LINKED])
         return Segment(self.name(), kind, code, self.record(self.name(), 7, 4) + self.mark(0) if kind == SEPRTSEG else b"")
 
@@ -648,7 +653,7 @@ class Maker:
             if name in wanted:
                 host[slots[name]] = unit if in_host else Segment(name, UNITSEG)
             if not in_host:
-                library[slot] = unit
+                library[slot] = self.as_moved(unit, slots.values()) if self.style.moved else unit
         for library in libraries:
             self.add_others(library)
         return self.file(host), [self.file(library) for library in libraries]
@@ -658,7 +663,7 @@ class Maker:
         free = [slot for slot in range(1, 16) if slot not in library]
         if self.style.assembled:
             for slot in self.source.sample(free, 2):
-                library[slot] = self.assembled()
+                library[slot] = self.assembled(slot)
         if self.style.empty_unit:
             slot = self.source.choice([slot for slot in free if slot not in library])
             library[slot] = Segment(self.name(), UNITSEG, bytes(4), self.mark(0))
@@ -702,6 +707,7 @@ def styles():
         Style("an empty unit", empty_unit=True),
         Style("text of interfaces", text=True),
         Style("units in the host", in_place=True),
+        Style("units that were moved to other slots", moved=True),
         Style("names in small letters", small=True),
         Style("names that are no identifiers", other_names=True),
         Style("UNITREF records in the host", host_refs=True),

@@ -168,18 +168,13 @@ def order():
 
 
 def damage():
-    """What may have happened, by what is reported."""
-    counted, given = USING.tables("Damaged files")
-    found = [(happened, "".join(report)) for happened, reported, _ in given for report in re.findall(r"refused (\d+)|(nothing)", reported)]
-    causes = {}
-    for happened, _, refused, _, warned, silent, _ in counted:
-        faults = re.findall(r"\d+", refused.partition(":")[2])
-        for report in faults if (warned, silent) == ("0", "0") else [*faults, "nothing"]:
-            causes.setdefault(report, []).append(happened)
-    for happened, report in found:
-        causes.setdefault(report, []).append(happened)
-    ordered = sorted(causes.items(), key=lambda item: int(item[0]) if item[0].isdigit() else 99)
-    yield from table([["Fault", "What may have happened"], *([fault, "; ".join(all_)] for fault, all_ in ordered)])
+    """What may have happened, by what is reported, and what to do."""
+    signs, given = USING.tables("Damaged files")
+    yield from table([["Sign", "What may have happened", "What to do"], *signs])
+    yield ".PP"
+    yield from lines_of("Files that were given in place of others:")
+    yield ".PP"
+    yield from table([["What was given", "What is reported", "What to do"], *given])
 
 
 def warnings():
