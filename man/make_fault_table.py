@@ -1,6 +1,6 @@
 #!/usr/bin/env python3
-"""Writes the table 'What to do about each fault' of docs/LINKING.md and the table of warnings of docs/USING.md from the
-sentences that `pslink check` prints, so that they have one home. man/make_pages.py then copies the tables to man/pslink.1.
+"""Writes the table 'What to do about each fault' of docs/LINKING.md and the tables of warnings and of notes of docs/USING.md from
+the sentences that `pslink check` prints, so that they have one home. man/make_pages.py then copies the tables to man/pslink.1.
 Usage: make_fault_table.py [FOLDER], which is docs/ if none is given."""
 import pathlib
 import re
@@ -10,10 +10,12 @@ ROOT = pathlib.Path(__file__).resolve().parent.parent
 LINKING, USING = ROOT / "docs/LINKING.md", ROOT / "docs/USING.md"
 SENTENCES = next((ROOT / "crates").glob("*/src/sentences.rt"))
 WARNINGS = next((ROOT / "crates").glob("*/src/warnings.rt"))
+LOOKS = ["FileLook", "DictionaryLook", "EntryLook", "CodeLook", "ProcedureLook", "RecordLook", "LinkLook"]
 # A reader of LINKING and of pslink(1) has the section at hand.
 OF_THE_PAGE = " in pslink(1)"
 HEAD = "| No. | What is wrong | What to do |\n|---|---|---|\n"
-HEAD_OF_WARNINGS = "| What `check` warns of | What it means, and what to do |\n|---|---|\n"
+HEAD_OF_WARNINGS = "| What `check` says | Weight | What it means, and what to do |\n|---|---|---|\n"
+HEAD_OF_NOTES = "| What `check` notes | What it means, and what to do |\n|---|---|\n"
 
 
 def numbers():
@@ -45,16 +47,36 @@ def shown(text):
     return re.sub(r"\{(\w+)(:[^}]*)?\}", lambda part: part[1].upper(), text.replace('\\"', '"'))
 
 
-def warnings():
-    """For each warning what is printed, and the comment on its variant."""
+def said_of(enum):
+    """For each variant of an enum of looks what is printed, its name, and the comment on it."""
     source = WARNINGS.read_text()
-    variants = source.split("pub enum Look {", 1)[1].split("\n}\n", 1)[0]
+    variants = source.split(f"pub enum {enum} {{", 1)[1].split("\n}\n", 1)[0]
     meanings = re.findall(r"((?:^    ///.*\n)+)^    (\w+)", variants, re.M)
-    texts = re.findall(r'Look::(\w+)\b[^"]*?"((?:[^"\\]|\\.)*)"', source.split("impl Look {", 1)[1])
+    display = source.split(f"impl fmt::Display for {enum} {{", 1)[1].split("\n}\n", 1)[0]
+    texts = dict(re.findall(enum + r'::(\w+)\b[^"]*?"((?:[^"\\]|\\.)*)"', display))
     for comment, name in meanings:
         meaning = " ".join(line.strip().removeprefix("///").strip() for line in comment.splitlines())
-        for text in [text for other, text in texts if other == name]:
-            yield f"| {shown(text)} | {meaning} |\n"
+        yield name, texts[name], meaning
+
+
+def weights(enum):
+    """The weight of each variant of an enum of looks."""
+    weight = WARNINGS.read_text().split(f"impl {enum} {{", 1)[1].split("\n}\n", 1)[0]
+    arms = re.findall(rf"((?:\|?\s*{enum}::\w+(?: \{{ \.\. \}})?\s*)+)=>\s*\{{?\s*Weight::(\w+)", weight)
+    return {name: weight.lower() for names, weight in arms for name in re.findall(r"::(\w+)", names)}
+
+
+def warnings():
+    """For each look what is printed, its weight, and the comment on its variant."""
+    for enum in LOOKS:
+        for name, text, meaning in said_of(enum):
+            yield f"| {shown(text)} | {weights(enum)[name]} | {meaning} |\n"
+
+
+def notes():
+    """For each guess what is printed, and the comment on its variant."""
+    for _, text, meaning in said_of("Guess"):
+        yield f"| {shown(text)} | {meaning} |\n"
 
 
 def with_table(page, head, rows):
@@ -65,7 +87,7 @@ def with_table(page, head, rows):
 
 def main():
     folder = pathlib.Path(sys.argv[1]) if len(sys.argv) > 1 else ROOT / "docs"
-    for path, head, lines in [(LINKING, HEAD, rows()), (USING, HEAD_OF_WARNINGS, warnings())]:
+    for path, head, lines in [(LINKING, HEAD, rows()), (USING, HEAD_OF_WARNINGS, warnings()), (USING, HEAD_OF_NOTES, notes())]:
         (folder / path.name).write_text(with_table(path.read_text(), head, lines))
 
 

@@ -178,10 +178,11 @@ def damage():
 
 
 def warnings():
-    """What each warning says, what it means and what to do."""
-    for text, meaning in USING.tables("Warnings")[0]:
+    """What each warning says, how much it weighs, what it means and what to do; and the same of each note."""
+    warned, noted = USING.tables("Warnings")[:2]
+    for text, weight, meaning in [*warned, *((text, "note", meaning) for text, meaning in noted)]:
         yield ".TP"
-        yield inline(text)
+        yield inline(f"{text} ({weight})")
         yield from lines_of(meaning)
 
 

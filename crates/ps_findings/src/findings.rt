@@ -9,7 +9,7 @@ use crate::overview::{add_files, add_segments};
 use ps_checked::{Case, Inputs, Segment, segments_of};
 use ps_explained::Explanation;
 use ps_resolve::{Reading, read};
-use ps_warnings::{Warning, warnings_of};
+use ps_warnings::{Looks, looks_of};
 use ps_words::Fault;
 use std::alloc::{AllocError, Allocator};
 use std::fmt::Write as _;
@@ -25,7 +25,7 @@ pub struct Findings<'a, A: Allocator> {
     /// none.
     pub explanation: String<A>,
     /// What looks wrong and is no fault.
-    pub warnings: Vec<Warning<'a>, A>,
+    pub looks: Looks<'a, A>,
 }
 
 /// What is found in a host and its libraries, which are refused for this fault, if for any.
@@ -58,11 +58,11 @@ pub fn findings_of<'a, A: Allocator + Copy>(
     let list = segments_of(alloc, &inputs, &reading)?;
     let overview = overview_of(alloc, &inputs, &reading, list.as_slice())?;
     let explanation = explanation_of(alloc, &inputs, &reading, list.as_slice(), fault)?;
-    let warnings = warnings_of(alloc, &inputs, list.as_slice(), fault)?;
+    let looks = looks_of(alloc, &inputs, list.as_slice(), fault)?;
     Ok(Findings {
         overview,
         explanation,
-        warnings,
+        looks,
     })
 }
 

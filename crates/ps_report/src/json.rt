@@ -181,7 +181,7 @@ fn write_name<W: fmt::Write>(f: &mut Formatter<W>, name: Name) -> fmt::Result {
     f.write_str("\"}")
 }
 
-/// Adds the item of a warning: where something looks wrong, and what.
+/// Adds the item of a warning: how much it weighs, where something looks wrong, and what.
 fn add_warning<A: Allocator + Copy>(
     alloc: A,
     text: &mut String<A>,
@@ -192,11 +192,12 @@ fn add_warning<A: Allocator + Copy>(
     let segment = NameOrNull(segment);
     let rec = NumberOrNull(rec);
     let look = warning.look;
+    let weight = look.weight();
     let words = format!(in alloc; "{look}")?;
     let words = JsonText(words.as_str());
     write!(
         text,
-        "\n{{\"path\":\"{path}\",\"segment\":{segment},\"record\":{rec},\"text\":\"{words}\"}}"
+        "\n{{\"weight\":\"{weight}\",\"path\":\"{path}\",\"segment\":{segment},\"record\":{rec},\"text\":\"{words}\"}}"
     )
 }
 
@@ -217,17 +218,21 @@ fn warning_items<A: Allocator + Copy>(
 
 impl<A: Allocator + Copy> Report<'_, A> {
     /// The report as one JSON document: whether the files are linked, with the summary or with the
-    /// fault and its parts; the warnings, each with the path, the segment and the record where
-    /// something looks wrong, and what; and the text for a person. Returns an error where memory was
-    /// refused.
+    /// fault and its parts; the warnings, what is harmless, and the notes, each with its weight, the
+    /// path, the segment and the record where something looks wrong, and what; and the text for a
+    /// person. Returns an error where memory was refused.
     /// Source: RFC 8259; the document is this project's profile.
     pub fn json(&self, alloc: A) -> Result<String<A>, AllocError>
         ensures verdict { IfOk result (λ text. BeginsWith (string_bytes text) self.now.verdict) }
     {
         let verdict = JsonVerdict(self.verdict);
         let items = warning_items(alloc, self.warnings.as_slice())?;
+        let harmless = warning_items(alloc, self.harmless.as_slice())?;
+        let notes = warning_items(alloc, self.notes.as_slice())?;
         let report = JsonText(self.text.as_str());
-        let rest = format!(in alloc; ",\"warnings\":[{items}\n],\"report\":\"{report}\"}}\n")?;
+        let rest = format!(in alloc;
+            ",\"warnings\":[{items}\n],\"harmless\":[{harmless}\n],\"notes\":[{notes}\n],\"report\":\"{report}\"}}\n"
+        )?;
         format!(in alloc; "{verdict}{rest}")
     }
 }

@@ -11,7 +11,7 @@ use crate::alone::lists_without_host;
 use crate::verdict::{Verdict, verdict_of};
 use ps_findings::{Findings, add_other_lines, findings_of};
 use ps_laws::first_of_all;
-use ps_warnings::Warning;
+use ps_warnings::{Looks, Warning};
 use std::alloc::{AllocError, Allocator};
 use std::fmt::Write as _;
 
@@ -22,8 +22,12 @@ use std::fmt::Write as _;
 pub struct Report<'a, A: Allocator> {
     /// Whether the files are linked.
     pub verdict: Verdict,
-    /// What looks wrong and is no fault.
+    /// What looks wrong and is no fault, and is not harmless.
     pub warnings: Vec<Warning<'a>, A>,
+    /// What looks wrong and is harmless.
+    pub harmless: Vec<Warning<'a>, A>,
+    /// What the P-code makes one guess.
+    pub notes: Vec<Warning<'a>, A>,
     /// The whole text, for a person: the files, the segments, the line of the verdict, what it
     /// means, where no file is a host the list of each, and the warnings.
     pub text: String<A>,
@@ -89,10 +93,20 @@ pub fn check<'a, A: Allocator + Copy>(
     let Findings {
         overview,
         explanation,
-        warnings,
+        looks,
     } = findings;
+    let Looks {
+        warnings,
+        harmless,
+        notes,
+    } = looks;
     let lists = lists_without_host(alloc, verdict, host_path, paths, host, libs)?;
-    let warned = warning_lines(alloc, warnings.as_slice())?;
+    let warned = lines_of(
+        alloc,
+        warnings.as_slice(),
+        harmless.as_slice(),
+        notes.as_slice(),
+    )?;
     let parts = Parts {
         explanation: explanation.as_str(),
         lists: lists.as_str(),
@@ -102,6 +116,8 @@ pub fn check<'a, A: Allocator + Copy>(
     Ok(Report {
         verdict,
         warnings,
+        harmless,
+        notes,
         text,
     })
 }
@@ -114,14 +130,22 @@ struct Parts<'t> {
     warned: &'t str,
 }
 
-/// The line of each warning.
-fn warning_lines<A: Allocator>(
+/// The line of each warning, of each harmless look, and of each note.
+fn lines_of<A: Allocator>(
     alloc: A,
     warnings: &[Warning<'_>],
+    harmless: &[Warning<'_>],
+    notes: &[Warning<'_>],
 ) -> Result<String<A>, AllocError> {
     let mut text = String::new(alloc);
     for warning in warnings {
+        writeln!(text, "warning: {warning}")?;
+    }
+    for warning in harmless {
         writeln!(text, "{warning}")?;
+    }
+    for note in notes {
+        writeln!(text, "{note}")?;
     }
     Ok(text)
 }

@@ -3,8 +3,13 @@
 
 mod looks;
 mod warnings;
+mod weight;
 
 pub use looks::codes::dead_look;
 pub use looks::names::{is_near, plain};
-pub use looks::warnings_of;
-pub use warnings::{Look, Oddity, Place, Warning};
+pub use looks::{Looks, looks_of};
+pub use warnings::{
+    CodeLook, DictionaryLook, EntryLook, FileLook, Guess, LinkLook, Look, Oddity, Place,
+    ProcedureLook, RecordLook, Warning,
+};
+pub use weight::Weight;

@@ -6,11 +6,14 @@ mod extents;
 mod files;
 mod links;
 pub(crate) mod names;
+mod notes;
+mod numbers;
 mod records;
 
-use crate::warnings::{Look, Place, Warning};
-use ps_checked::{Inputs, Segment, Source, in_slot};
-use ps_pcode::Rules;
+use crate::warnings::{Guess, Look, Place, RecordLook, Warning};
+use crate::weight::Weight;
+use ps_checked::{Inputs, Segment, Source, host_of, in_slot};
+use ps_linkinfo::LinkInformation;
 use ps_words::{Fault, Name, Reason};
 use std::alloc::{AllocError, Allocator};
 
@@ -23,12 +26,10 @@ struct Sight<'c, 'a> {
     fault: Option<Fault>,
     /// The file and the slot there of the segment that the fault is in.
     refused: Option<(usize, u8)>,
-    /// The machine type and the version of the host.
-    machine: u8,
     /// No name of an entry has a capital letter.
     are_small: bool,
-    /// What the procedures keep to, where the codes are P-code, as far as their instructions say.
-    rules: Option<Rules>,
+    /// The records of the host program of the link, if it has one.
+    host: Option<&'c LinkInformation<'a>>,
 }
 
 /// Where the segment comes from that a fault is in: its file, and its slot there.
@@ -38,15 +39,19 @@ fn refused_entry(list: &[Segment<'_>], fault: Option<Fault>) -> Option<(usize, u
 }
 
 impl<'c, 'a> Sight<'c, 'a> {
-    fn new(inputs: &'c Inputs<'a>, list: &'c [Segment<'a>], fault: Option<Fault>) -> Self {
+    fn new(
+        inputs: &'c Inputs<'a>,
+        list: &'c [Segment<'a>],
+        host: Option<&'c LinkInformation<'a>>,
+        fault: Option<Fault>,
+    ) -> Self {
         Sight {
             inputs,
             list,
             fault,
             refused: refused_entry(list, fault),
-            machine: entries::machine_of_host(inputs),
             are_small: names::are_small(inputs),
-            rules: Rules::of(inputs.order(), inputs.host, inputs.libs),
+            host,
         }
     }
 
@@ -72,22 +77,35 @@ impl<'c, 'a> Sight<'c, 'a> {
     }
 }
 
-/// The warnings of a report, in their order.
+/// What looks wrong in the files and is no fault, in their order: in the files, each with its
+/// entries, then in the link.
+///
+/// Source: this project's profile.
 #[derive(Drop)]
-struct Warnings<'a, A: Allocator> {
-    list: Vec<Warning<'a>, A>,
+pub struct Looks<'a, A: Allocator> {
+    /// What weighs more than nothing: what a person ought to look at.
+    pub warnings: Vec<Warning<'a>, A>,
+    /// What is harmless.
+    pub harmless: Vec<Warning<'a>, A>,
+    /// What the P-code makes one guess.
+    pub notes: Vec<Warning<'a>, A>,
 }
 
-impl<'a, A: Allocator> Warnings<'a, A> {
-    /// Warns of what looks wrong, if anything does.
+impl<'a, A: Allocator> Looks<'a, A> {
+    /// Adds what looks wrong, if anything does, by its weight.
     fn add(&mut self, place: Place<'a>, look: Option<Look>) -> Result<(), AllocError> {
-        match look {
-            Some(look) => Ok(self.list.push(Warning { place, look })?),
-            None => Ok(()),
+        let Some(look) = look else {
+            return Ok(());
+        };
+        let warning = Warning { place, look };
+        match look.weight() {
+            Weight::Note => Ok(self.notes.push(warning)?),
+            Weight::Harmless => Ok(self.harmless.push(warning)?),
+            Weight::Look | Weight::Damaged => Ok(self.warnings.push(warning)?),
         }
     }
 
-    /// Warns of each of these that looks wrong, in their order.
+    /// Adds each of these that looks wrong, in their order.
     fn add_each(&mut self, place: Place<'a>, looks: &[Option<Look>]) -> Result<(), AllocError> {
         for look in looks {
             self.add(place, *look)?;
@@ -95,17 +113,38 @@ impl<'a, A: Allocator> Warnings<'a, A> {
         Ok(())
     }
 
-    /// Warns of what looks wrong in a record of a segment, if anything does.
+    /// Adds what looks wrong in a record of a segment, if anything does.
     fn add_of_record(
         &mut self,
         place: Place<'a>,
-        found: Option<(usize, Look)>,
+        found: Option<(usize, RecordLook)>,
     ) -> Result<(), AllocError> {
         match found {
             Some((rec, look)) => {
                 let rec = Some(rec);
                 let place = Place { rec, ..place };
-                self.add(place, Some(look))
+                self.add(place, Some(Look::Record(look)))
+            }
+            None => Ok(()),
+        }
+    }
+
+    /// Notes a guess, if there is one.
+    fn note(&mut self, place: Place<'a>, guess: Option<Guess>) -> Result<(), AllocError> {
+        self.add(place, guess.map(Look::Guess))
+    }
+
+    /// Notes a guess about a record of a segment, if there is one.
+    fn note_of_record(
+        &mut self,
+        place: Place<'a>,
+        found: Option<(usize, Guess)>,
+    ) -> Result<(), AllocError> {
+        match found {
+            Some((rec, guess)) => {
+                let rec = Some(rec);
+                let place = Place { rec, ..place };
+                self.note(place, Some(guess))
             }
             None => Ok(()),
         }
@@ -134,28 +173,36 @@ fn in_segment(path: &str, name: Name) -> Place<'_> {
 /// entries, then in the link.
 ///
 /// `list` has the segments of the link, and `fault` is the fault that the report explains, if any:
-/// what the explanation says is no warning. Returns an error where memory was refused.
+/// what the explanation says is said once. Returns an error where memory was refused.
 /// Source: this project's profile.
-pub fn warnings_of<'a, A: Allocator>(
+pub fn looks_of<'a, A: Allocator + Copy>(
     alloc: A,
     inputs: &Inputs<'a>,
     list: &[Segment<'a>],
     fault: Option<Fault>,
-) -> Result<Vec<Warning<'a>, A>, AllocError> {
-    let mut warnings = Warnings {
-        list: Vec::new(alloc),
+) -> Result<Looks<'a, A>, AllocError> {
+    let mut looks = Looks {
+        warnings: Vec::new(alloc),
+        harmless: Vec::new(alloc),
+        notes: Vec::new(alloc),
     };
-    add_looks(&mut warnings, &Sight::new(inputs, list, fault))?;
-    Ok(warnings.list)
+    let host = records_of_host(list);
+    add_looks(&mut looks, &Sight::new(inputs, list, host.as_ref(), fault))?;
+    Ok(looks)
+}
+
+/// The records of the host program of a link, if it has one.
+fn records_of_host<'a>(list: &[Segment<'a>]) -> Option<LinkInformation<'a>> {
+    Some(host_of(list)?.records())
 }
 
 /// Adds all that looks wrong.
 fn add_looks<'a, A: Allocator>(
-    warnings: &mut Warnings<'a, A>,
+    looks: &mut Looks<'a, A>,
     sight: &Sight<'_, 'a>,
 ) -> Result<(), AllocError> {
     for file in 0..=sight.inputs.libs.len() {
-        files::look_at(warnings, sight, file)?;
+        files::look_at(looks, sight, file)?;
     }
-    links::look_at(warnings, sight)
+    links::look_at(looks, sight)
 }

@@ -1,19 +1,19 @@
 //! Codes that look wrong.
+use super::numbers::number_look;
 use super::records::begins_with_record;
-use super::{Sight, Warnings};
-use crate::warnings::{Look, Place};
+use super::{Looks, Sight};
+use crate::warnings::{CodeLook, Look, Place, ProcedureLook};
 use ps_checked::Source;
-use ps_codefile::ProcedureDictionary;
 use ps_codefile::code_layout::NUMBERS;
-use ps_codefile::kinds::{HOSTSEG, LINKED};
+use ps_codefile::kinds::{LINKED, SEPRTSEG};
+use ps_codefile::{Dict, ProcedureDictionary, ProcedureFault};
 use ps_filetype::only_byte;
 use ps_pcode::{Ends, procedures_of};
-use ps_words::{Order, Reason};
+use ps_words::{Order, Reason, WORD_LEN, get};
 use std::alloc::{AllocError, Allocator};
 
-/// What is where nothing was written or read: zeros, what a disk is formatted with, what CP/M pads
-/// with, and what a memory has that is erased.
-const DEAD: [u8; 5] = [0, 0xE5, 0xF6, 0x1A, 0xFF];
+/// What a code may have many of, one after another: blanks of a text, and NOP.
+const REPEATED: [u8; 2] = [0x20, 0xD7];
 
 /// So many of these bytes are the shortest sector of a disk.
 pub(super) const SECTOR: usize = 128;
@@ -21,42 +21,95 @@ pub(super) const SECTOR: usize = 128;
 /// From this length on a code without a byte above 127 looks wrong.
 const STRIPPED_LENGTH: usize = 64;
 
+/// The shortest code that has a procedure: an instruction, a table, its word of the procedure
+/// dictionary, and the two numbers.
+const SHORTEST: usize = 16;
+
 /// Looks at the code of a segment.
 pub(super) fn look_at<'a, A: Allocator>(
-    warnings: &mut Warnings<'a, A>,
+    looks: &mut Looks<'a, A>,
     sight: &Sight<'_, '_>,
     place: Place<'a>,
+    dict: &Dict<'_>,
     source: &Source<'_>,
     code: &[u8],
 ) -> Result<(), AllocError> {
     if let Some(byte) = only_byte(code) {
-        return warnings.add(place, Some(Look::OneByte { byte }));
+        if is_without_procedures(code) {
+            return Ok(());
+        }
+        return looks.add(place, Some(Look::Code(CodeLook::OneByte { byte })));
     }
-    let looks = [
+    let found = [
         unread_look(sight, source, code),
         stripped_look(code),
-        number_look(source, code),
-        procedures_look(sight, source, code),
+        number_look(dict, source, code),
+        procedures_look(source, code),
         records_look(source),
-        table_look(sight, source, code),
-        misfit_look(sight, source, code),
+        table_look(source, code),
     ];
-    warnings.add_each(place, &looks)
+    looks.add_each(place, &found)
 }
 
-/// A part of the code that was not read, where no fault tells of it.
+/// The code is that of a unit without procedures: too short for one, and so says its end.
+pub(super) fn is_without_procedures(code: &[u8]) -> bool {
+    match code {
+        [.., 0] => code.len() < SHORTEST,
+        _ => false,
+    }
+}
+
+/// A part of the code that was not read, where no fault tells of it. Zeros of native code are data.
 fn unread_look(sight: &Sight<'_, '_>, source: &Source<'_>, code: &[u8]) -> Option<Look> {
     if sight.is_refused(source) {
+        return None;
+    }
+    let run = first_dead(code)?;
+    if run.byte == 0 && may_be_native(source, code, run) {
         None
     } else {
-        dead_look(code)
+        Some(look_of(run))
+    }
+}
+
+/// The segment has a native procedure whose table is not in these bytes.
+fn may_be_native(source: &Source<'_>, code: &[u8], run: Run) -> bool {
+    if source.entry.kind == SEPRTSEG {
+        return true;
+    }
+    match native_table(source.order, code) {
+        Some(table) => table < run.start || run.end < table,
+        None => false,
+    }
+}
+
+/// The place of the table of the first native procedure of a code.
+fn native_table(order: Order, code: &[u8]) -> Option<usize> {
+    if code.len() < NUMBERS {
+        return None;
+    }
+    match ProcedureDictionary::read_or_fault(order, code, false) {
+        Err(ProcedureFault::Native { procedure }) => table_place(order, code, procedure),
+        _ => None,
+    }
+}
+
+/// The place of the table of a procedure, as the procedure dictionary has it.
+fn table_place(order: Order, code: &[u8], procedure: usize) -> Option<usize> {
+    let before = WORD_LEN.saturating_mul(procedure).saturating_add(NUMBERS);
+    let place = code.len().checked_sub(before)?;
+    match code.get(place..) {
+        Some(word) if WORD_LEN <= word.len() => {
+            place.checked_sub(usize::from(get(order, word, 0)))
+        }
+        _ => None,
     }
 }
 
 /// A code of which each byte may have lost bit 7.
 fn stripped_look(code: &[u8]) -> Option<Look> {
     if STRIPPED_LENGTH <= code.len() && code.is_ascii() {
-        Some(Look::NoHighBit)
+        Some(Look::Code(CodeLook::NoHighBit))
     } else {
         None
     }
@@ -65,16 +118,10 @@ fn stripped_look(code: &[u8]) -> Option<Look> {
 /// A record after the code of a segment that is linked.
 fn records_look(source: &Source<'_>) -> Option<Look> {
     if source.entry.kind == LINKED && begins_with_record(source.order, source.after) {
-        Some(Look::LinkedWithRecords)
+        Some(Look::Procedure(ProcedureLook::LinkedWithRecords))
     } else {
         None
     }
-}
-
-/// The first procedure that does not keep to the rules.
-fn misfit_look(sight: &Sight<'_, '_>, source: &Source<'_>, code: &[u8]) -> Option<Look> {
-    let procedure = sight.rules?.first_misfit(source.order, code)?;
-    Some(Look::Misfit { procedure })
 }
 
 /// Bytes that are all the same, from the first to the last.
@@ -101,7 +148,7 @@ pub(super) fn first_dead(bytes: &[u8]) -> Option<Run> {
 }
 
 fn dead_run(start: usize, end: usize, byte: u8) -> Option<Run> {
-    if SECTOR <= end.saturating_sub(start) && DEAD.contains(&byte) {
+    if SECTOR <= end.saturating_sub(start) && !REPEATED.contains(&byte) {
         let end = end.saturating_sub(1);
         Some(Run { start, end, byte })
     } else {
@@ -109,81 +156,68 @@ fn dead_run(start: usize, end: usize, byte: u8) -> Option<Run> {
     }
 }
 
+fn look_of(run: Run) -> Look {
+    let Run { start, end, byte } = run;
+    Look::Code(CodeLook::DeadRun { start, end, byte })
+}
+
 /// What looks wrong where a part of a code was not read: the first bytes that are as many as a
 /// sector of a disk and as if nothing was read.
 ///
 /// Source: this project's profile.
 pub fn dead_look(code: &[u8]) -> Option<Look> {
-    let Run { start, end, byte } = first_dead(code)?;
-    Some(Look::DeadRun { start, end, byte })
+    Some(look_of(first_dead(code)?))
 }
 
-/// The numbers at the end of a code that is to be linked.
-fn number_look(source: &Source<'_>, code: &[u8]) -> Option<Look> {
-    let slot = source.index;
-    if !source.needs_linking() {
-        return None;
-    }
-    match code {
-        [.., 0, 0] if slot != 0 => Some(Look::ZeroEnd),
-        [.., found, _] if source.entry.kind == HOSTSEG && *found != slot => {
-            let found = *found;
-            Some(Look::OtherNumber { found, slot })
-        }
-        _ => None,
-    }
-}
-
-/// A procedure dictionary that has no procedure, where codes are P-code.
-fn procedures_look(sight: &Sight<'_, '_>, source: &Source<'_>, code: &[u8]) -> Option<Look> {
-    if sight.rules.is_none() {
-        None
-    } else if source.needs_linking() {
-        no_procedures(source, code)
+/// A procedure dictionary that has no procedure, or that is not whole.
+fn procedures_look(source: &Source<'_>, code: &[u8]) -> Option<Look> {
+    let is_lost = if source.needs_linking() {
+        is_without_number(source, code)
     } else {
-        lost_tables(source.order, code)
+        source.entry.kind == LINKED && has_lost_tables(source.order, code)
+    };
+    if is_lost {
+        Some(Look::Procedure(ProcedureLook::LostTables))
+    } else {
+        None
     }
 }
 
-/// More than a unit without procedures has, where the number of procedures is 0 and no other look
-/// tells of it.
-fn no_procedures(source: &Source<'_>, code: &[u8]) -> Option<Look> {
+/// The number of procedures is 0 and no other look tells of it, in a code that is longer than that
+/// of a unit without procedures.
+fn is_without_number(source: &Source<'_>, code: &[u8]) -> bool {
     match code {
-        [_, _, _, .., number, 0] if *number != 0 || source.index == 0 => Some(Look::LostTables),
-        _ => None,
+        [.., number, 0] if *number != 0 || source.index == 0 => SHORTEST <= code.len(),
+        _ => false,
     }
 }
 
 /// The first procedure whose table has another number, or says that it is entered or left before
 /// the code.
-fn table_look(sight: &Sight<'_, '_>, source: &Source<'_>, code: &[u8]) -> Option<Look> {
-    if !source.needs_linking() && sight.rules.is_none() {
-        return None;
-    }
+fn table_look(source: &Source<'_>, code: &[u8]) -> Option<Look> {
     let procedures = procedures_of(source.order, code)?;
     for procedure in 1..=procedures.count() {
         if let Some(place) = procedures.table(procedure) {
             let found = code.get(place).copied().unwrap_or(0);
             if usize::from(found) != procedure {
-                return Some(Look::OtherProcedure { procedure, found });
+                return Some(Look::Procedure(ProcedureLook::OtherProcedure { procedure, found }));
             }
             if Ends::at(source.order, code, place).is_none() {
-                return Some(Look::OutsideCode { procedure });
+                return Some(Look::Procedure(ProcedureLook::OutsideCode { procedure }));
             }
         }
     }
     None
 }
 
-/// The procedure dictionary of a linked segment, which a link does not read, if it is not whole or
-/// has no procedure.
-fn lost_tables(order: Order, code: &[u8]) -> Option<Look> {
-    if code.len() < NUMBERS {
-        return None;
+/// The procedure dictionary of a linked segment, which a link does not read, is not whole or has no
+/// procedure.
+fn has_lost_tables(order: Order, code: &[u8]) -> bool {
+    if code.len() < NUMBERS || is_without_procedures(code) {
+        return false;
     }
     match ProcedureDictionary::read(order, code, false) {
-        Err(Reason::BadProcDict) => Some(Look::LostTables),
-        Ok(procedures) if procedures.count() == 0 => Some(Look::LostTables),
-        _ => None,
+        Err(reason) => reason == Reason::BadProcDict,
+        Ok(procedures) => procedures.count() == 0,
     }
 }

@@ -2,7 +2,7 @@
 ghost use Rattle.std.specs.Prelude.{◌≤◌};
 
 use super::extents::Extent;
-use crate::warnings::Look;
+use crate::warnings::FileLook;
 use ps_filetype::only_byte;
 use ps_words::BLOCK_SIZE;
 
@@ -11,7 +11,7 @@ const REPEATED: usize = 16;
 
 /// The first block, or sector of 256 or 128 bytes, that may have been read twice: that is equal to
 /// the next one, which ought to be another one.
-pub(super) fn doubled_block(bytes: &[u8], extents: &[Extent]) -> Option<Look> {
+pub(super) fn doubled_block(bytes: &[u8], extents: &[Extent]) -> Option<FileLook> {
     for size in [BLOCK_SIZE, BLOCK_SIZE / 2, BLOCK_SIZE / 4] {
         if let Some(look) = doubled_sector(bytes, size, extents) {
             return Some(look);
@@ -20,7 +20,7 @@ pub(super) fn doubled_block(bytes: &[u8], extents: &[Extent]) -> Option<Look> {
     None
 }
 
-fn doubled_sector(bytes: &[u8], size: usize, extents: &[Extent]) -> Option<Look>
+fn doubled_sector(bytes: &[u8], size: usize, extents: &[Extent]) -> Option<FileLook>
     requires { 1 ≤ size }
 {
     let (mut last, mut second): (&[u8], usize) = (&[], 0);
@@ -30,7 +30,7 @@ fn doubled_sector(bytes: &[u8], size: usize, extents: &[Extent]) -> Option<Look>
             let pair = Pair { start, size };
             if pair.is_by_mistake(bytes, extents) {
                 let end = second.saturating_sub(1);
-                return Some(Look::Doubled { start, end });
+                return Some(FileLook::Doubled { start, end });
             }
         }
         second = second.saturating_add(size);

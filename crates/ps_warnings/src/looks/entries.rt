@@ -1,46 +1,56 @@
 //! Entries of dictionaries that look wrong.
-ghost use Rattle.std.specs.Prelude.{◌<◌};
+ghost use Rattle.std.specs.Prelude.{◌≡◌, ◌<◌};
+ghost use Rattle.ps_codefile.specs.Dictionary.{entry_at, role_of};
+ghost use Rattle.ps_warnings.specs.EntryLooks.{empty_look as empty_look_spec, empty_slot as empty_slot_spec, half_entry as half_entry_spec, has_name_or_kind as has_name_or_kind_spec};
 
 use super::codes::{Run, SECTOR, first_dead};
 use super::names::oddity_of;
-use super::{Sight, Warnings, codes, in_file, in_segment, records};
-use crate::warnings::Look;
-use ps_checked::{Inputs, Source, in_slot, is_named, source_of};
+use super::numbers::{info_of, p_code_of};
+use super::{Looks, Sight, codes, in_file, in_segment, notes, records};
+use crate::warnings::{DictionaryLook, EntryLook, Look};
+use ps_checked::{Source, in_slot, source_of};
 use ps_codefile::code_layout::NUMBERS;
 use ps_codefile::dictionary_layout::{SLOTS, TAIL};
-use ps_codefile::kinds::{FIRST_INTRINSIC, HOSTSEG, LAST_INTRINSIC, UNITSEG};
+use ps_codefile::kinds::{FIRST_INTRINSIC, HOSTSEG, LAST_INTRINSIC, LINKED, UNITSEG};
 use ps_codefile::{Dict, Entry, ProcedureDictionary, Role, is_nameless};
 use ps_linkinfo::LinkInformation;
-use ps_words::{Order, WORD_LEN, get};
+use ps_pcode::FileCode;
 use std::alloc::{AllocError, Allocator};
 
-/// So many bytes of the second half of the dictionary are of the slots.
-const OF_SLOTS: usize = 40;
+/// From this byte of the second half of the dictionary on no release is known to have anything: what
+/// it has of the slots is before, and a comment from there on too.
+const FIRST_FREE: usize = 336 - TAIL;
 
-/// So many bytes after those are more than a comment of 80 characters.
-const FULL: usize = 96;
+/// The comment of a release begins here.
+const COMMENT: usize = 432 - TAIL;
+
+/// So many of these bytes are more than a comment of 80 characters has there that begins after what
+/// is of the slots.
+const FULL: usize = 41;
 
 /// So many bytes that no text has are no chance.
 const MANY_OTHERS: usize = 16;
 
 /// Looks at the entries of a dictionary.
 pub(super) fn look_at<'a, A: Allocator>(
-    warnings: &mut Warnings<'a, A>,
+    looks: &mut Looks<'a, A>,
     sight: &Sight<'_, 'a>,
     file: usize,
     dict: &Dict<'a>,
+    shown: &FileCode,
 ) -> Result<(), AllocError> {
     let place = in_file(sight.inputs.path(file));
-    warnings.add_each(
+    looks.add_each(
         place,
         &[no_names(dict), dead_tail(dict).or(full_tail(dict))],
     )?;
     for slot in 0..SLOTS {
-        warnings.add(place, name_look(sight, dict, slot))?;
+        looks.add(place, name_look(sight, dict, slot))?;
         if dict.filled(slot) {
-            look_at_entry(warnings, sight, dict, &source_of(dict, file, slot))?;
+            look_at_entry(looks, sight, dict, shown, &source_of(dict, file, slot))?;
         } else if file == 0 {
-            warnings.add(place, empty_look(sight, dict, slot))?;
+            let is_taken = in_slot(sight.list, slot).is_some();
+            looks.add(place, empty_look(dict, slot, is_taken).map(Look::Entry))?;
         }
     }
     Ok(())
@@ -48,18 +58,22 @@ pub(super) fn look_at<'a, A: Allocator>(
 
 /// Looks at an entry that is filled, and at its segment.
 fn look_at_entry<'a, A: Allocator>(
-    warnings: &mut Warnings<'a, A>,
+    looks: &mut Looks<'a, A>,
     sight: &Sight<'_, 'a>,
     dict: &Dict<'a>,
+    shown: &FileCode,
     source: &Source<'a>,
 ) -> Result<(), AllocError> {
-    let looks = [
+    let found = [
         nameless_look(dict, source),
         intrinsic_look(sight, source),
-        machine_look(sight, dict, source),
+        machine_look(dict, source),
     ];
-    warnings.add_each(in_file(sight.inputs.path(source.file)), &looks)?;
-    look_at_segment(warnings, sight, source)
+    looks.add_each(in_file(sight.inputs.path(source.file)), &found)?;
+    if is_intrinsic(source) {
+        return Ok(());
+    }
+    look_at_segment(looks, sight, dict, shown, source)
 }
 
 /// An odd name of an entry that is filled, or of a unit that may be wanted.
@@ -71,23 +85,26 @@ fn name_look(sight: &Sight<'_, '_>, dict: &Dict<'_>, slot: u8) -> Option<Look>
         return None;
     }
     let oddity = oddity_of(&name, sight.are_small)?;
-    Some(Look::OddName { name, oddity })
+    Some(Look::Entry(EntryLook::OddName { name, oddity }))
 }
 
 /// Looks at the code and at the link information of an entry.
 fn look_at_segment<'a, A: Allocator>(
-    warnings: &mut Warnings<'a, A>,
+    looks: &mut Looks<'a, A>,
     sight: &Sight<'_, 'a>,
+    dict: &Dict<'a>,
+    shown: &FileCode,
     source: &Source<'a>,
 ) -> Result<(), AllocError> {
     let place = in_segment(sight.inputs.path(source.file), source.entry.name);
-    warnings.add(place, refused_look(sight, source))?;
+    looks.add(place, refused_look(sight, source))?;
     let Ok(code) = source.code else {
         return Ok(());
     };
-    codes::look_at(warnings, sight, place, source, code)?;
+    codes::look_at(looks, sight, place, dict, source, code)?;
+    notes::of_code(looks, place, shown, source.index)?;
     if source.needs_linking() {
-        records::look_at(warnings, sight, place, source, code)?;
+        records::look_at(looks, sight, place, shown, source, code)?;
     }
     Ok(())
 }
@@ -95,22 +112,28 @@ fn look_at_segment<'a, A: Allocator>(
 /// Why a link that takes the segment is refused, where no fault tells of it.
 fn refused_look(sight: &Sight<'_, '_>, source: &Source<'_>) -> Option<Look> {
     if sight.is_refused(source) {
-        return None;
+        None
+    } else {
+        refusal_of(source).map(Look::Entry)
     }
+}
+
+/// Why a link that takes the segment is refused, by the segment alone.
+fn refusal_of(source: &Source<'_>) -> Option<EntryLook> {
     let code = match source.code {
         Ok(code) => code,
-        Err(reason) => return Some(Look::Refused { reason, rec: None }),
+        Err(reason) => return Some(EntryLook::Refused { reason, rec: None }),
     };
     if !source.needs_linking() || code.len() < NUMBERS {
         return None;
     }
     let is_host = source.entry.kind == HOSTSEG;
     if let Err(reason) = ProcedureDictionary::read(source.order, code, is_host) {
-        return Some(Look::Refused { reason, rec: None });
+        return Some(EntryLook::Refused { reason, rec: None });
     }
     match LinkInformation::read(source.order, source.after) {
         Ok(_) => None,
-        Err(fault) => Some(Look::Refused {
+        Err(fault) => Some(EntryLook::Refused {
             reason: fault.reason,
             rec: Some(fault.rec),
         }),
@@ -121,7 +144,7 @@ fn refused_look(sight: &Sight<'_, '_>, source: &Source<'_>) -> Option<Look> {
 fn nameless_look(dict: &Dict<'_>, source: &Source<'_>) -> Option<Look> {
     let slot = source.index;
     if is_nameless(&source.entry.name) && !are_nameless(dict) {
-        Some(Look::NoName { slot })
+        Some(Look::Dictionary(DictionaryLook::NoName { slot }))
     } else {
         None
     }
@@ -132,11 +155,16 @@ fn intrinsic_look(sight: &Sight<'_, '_>, source: &Source<'_>) -> Option<Look> {
     let (slot, kind) = (source.index, source.entry.kind);
     if sight.is_refused(source) {
         None
-    } else if source.file != 0 && FIRST_INTRINSIC <= kind && kind <= LAST_INTRINSIC {
-        Some(Look::IntrinsicKind { slot, kind })
+    } else if source.file != 0 && is_intrinsic(source) {
+        Some(Look::Dictionary(DictionaryLook::IntrinsicKind { slot, kind }))
     } else {
         None
     }
+}
+
+/// The entry is of Apple Pascal: an intrinsic unit, or its data.
+fn is_intrinsic(source: &Source<'_>) -> bool {
+    matches!(source.entry.kind, FIRST_INTRINSIC..=LAST_INTRINSIC)
 }
 
 /// No slot has a name.
@@ -152,7 +180,7 @@ fn are_nameless(dict: &Dict<'_>) -> bool {
 /// A dictionary without a name.
 fn no_names(dict: &Dict<'_>) -> Option<Look> {
     if are_nameless(dict) {
-        Some(Look::NoNames)
+        Some(Look::Dictionary(DictionaryLook::NoNames))
     } else {
         None
     }
@@ -165,7 +193,7 @@ fn dead_tail(dict: &Dict<'_>) -> Option<Look> {
         if let Some(Run { end, byte, .. }) = first_dead(sector) {
             if byte != 0 {
                 let end = start.saturating_add(end);
-                return Some(Look::DeadTail { start, end, byte });
+                return Some(Look::Dictionary(DictionaryLook::DeadTail { start, end, byte }));
             }
         }
         start = start.saturating_add(SECTOR);
@@ -173,91 +201,92 @@ fn dead_tail(dict: &Dict<'_>) -> Option<Look> {
     None
 }
 
-/// More bytes of the second half of the dictionary that are not zero than a comment has, or many
-/// that no text has. What other releases have of each slot is not counted.
+/// More bytes that are not zero than a comment has, or many that no text has, where no release is
+/// known to have any.
 fn full_tail(dict: &Dict<'_>) -> Option<Look> {
     let (mut bytes, mut others) = (0usize, 0usize);
-    for byte in dict.tail().iter().skip(OF_SLOTS) {
+    let free = dict.tail().get(FIRST_FREE..COMMENT).unwrap_or(&[]);
+    for byte in free {
         bytes = bytes.saturating_add(usize::from(*byte != 0));
-        let is_text = *byte == 0 || *byte == b' ' || byte.is_ascii_graphic();
-        others = others.saturating_add(usize::from(!is_text));
+        others = others.saturating_add(usize::from(is_control(*byte)));
     }
     if FULL <= bytes || MANY_OTHERS <= others {
-        Some(Look::FullTail { bytes })
+        Some(Look::Dictionary(DictionaryLook::FullTail { bytes }))
     } else {
         None
     }
 }
 
-/// The machine type, of four bits, and the version above it, of the slot in a dictionary of II.1.
-fn machine_of(dict: &Dict<'_>, slot: u8) -> u8 {
-    let place = WORD_LEN * usize::from(slot);
-    let tail = dict.tail();
-    match tail.get(place..) {
-        Some(rest) if WORD_LEN <= rest.len() => get(dict.order(), rest, 0).to_be_bytes()[0],
-        _ => 0,
-    }
+/// The byte is in no text.
+fn is_control(byte: u8) -> bool {
+    matches!(byte, 1..=8 | 0x0B..=0x1F | 0x7F)
 }
 
-/// That of the first slot of the host that is filled.
-pub(super) fn machine_of_host(inputs: &Inputs<'_>) -> u8 {
-    let Some(host) = inputs.dict(0) else {
-        return 0;
-    };
-    for slot in 0..SLOTS {
-        if host.filled(slot) {
-            return machine_of(&host, slot);
-        }
+/// A machine type that is not P-code's, of the host program or of a unit.
+fn machine_look(dict: &Dict<'_>, source: &Source<'_>) -> Option<Look> {
+    if !source.needs_linking() {
+        return None;
     }
-    0
+    let (slot, info) = (source.index, info_of(dict, source.index)?);
+    let (machine, version) = (info.machine, info.version);
+    if machine == 0 || machine == p_code_of(dict.order()) {
+        return None;
+    }
+    Some(Look::Dictionary(DictionaryLook::MachineType {
+        slot,
+        machine,
+        version,
+    }))
 }
 
-/// A machine type that is not P-code's, or another one than the host's.
-fn machine_look(sight: &Sight<'_, '_>, dict: &Dict<'_>, source: &Source<'_>) -> Option<Look> {
-    let slot = source.index;
-    let found = machine_of(dict, slot);
-    let (machine, version) = (found & 15, found >> 5);
-    let p_code = match dict.order() {
-        Order::Little => 2,
-        Order::Big => 1,
-    };
-    if machine != 0 && machine != p_code {
-        Some(Look::MachineType {
-            slot,
-            machine,
-            version,
-        })
-    } else if source.file != 0 && found != sight.machine {
-        Some(Look::OtherMachine {
-            slot,
-            machine,
-            version,
-        })
-    } else {
-        None
-    }
-}
-
-/// A slot of the host that wants a unit and has half an entry, or that has no segment and a name or
-/// a kind.
-fn empty_look(sight: &Sight<'_, '_>, dict: &Dict<'_>, slot: u8) -> Option<Look>
-    requires { slot < 16 }
+/// The entry has a name or a kind, whether it has code or not.
+pub(super) fn has_name_or_kind(entry: &Entry) -> bool
+    ensures { result ≡ has_name_or_kind_spec entry.now }
 {
-    let entry = dict.entry(slot);
+    entry.kind != LINKED || !is_nameless(&entry.name)
+}
+
+/// A slot that wants a unit and has an address or a length.
+fn half_entry(slot: u8, entry: &Entry) -> Option<EntryLook>
+    ensures { result ≡ half_entry_spec slot entry.now }
+{
     let (address, length) = (entry.address, entry.length);
-    match dict.role(slot) {
-        Ok(Role::Wanted) if address != 0 || length != 0 => Some(Look::HalfEntry {
+    if address == 0 && length == 0 {
+        None
+    } else {
+        Some(EntryLook::HalfEntry {
             slot,
             address,
             length,
-        }),
-        Ok(Role::Empty) if in_slot(sight.list, slot).is_none() && is_named(&entry) => {
-            Some(Look::EmptySlot {
-                slot,
-                name: entry.name,
-                kind: entry.kind,
-            })
-        }
-        _ => None,
+        })
+    }
+}
+
+/// An empty slot, which no unit takes, that has a name or a kind.
+fn empty_slot(slot: u8, is_taken: bool, entry: &Entry) -> Option<EntryLook>
+    ensures { result ≡ empty_slot_spec slot is_taken entry.now }
+{
+    if !is_taken && has_name_or_kind(entry) {
+        Some(EntryLook::EmptySlot {
+            slot,
+            name: entry.name,
+            kind: entry.kind,
+        })
+    } else {
+        None
+    }
+}
+
+/// What looks wrong in a slot of the host that is not filled, which a unit takes or not.
+fn empty_look(dict: &Dict<'_>, slot: u8, is_taken: bool) -> Option<EntryLook>
+    requires { slot < 16 }
+    ensures { result ≡ empty_look_spec slot is_taken (entry_at dict.now.order dict.now.file slot)
+        (role_of (entry_at dict.now.order dict.now.file slot)) }
+{
+    let entry = dict.entry(slot);
+    match dict.role(slot) {
+        Ok(Role::Wanted) => half_entry(slot, &entry),
+        Ok(Role::Empty) => empty_slot(slot, is_taken, &entry),
+        Ok(Role::Plain | Role::Host | Role::Unit) | Err(_) => None,
     }
 }

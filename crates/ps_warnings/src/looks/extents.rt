@@ -1,8 +1,9 @@
 //! Entries that overlap in their file.
-ghost use Rattle.std.specs.Prelude.{◌<◌};
+ghost use Rattle.std.specs.Prelude.{◌≡◌, ◌<◌};
+ghost use Rattle.ps_warnings.specs.EntryLooks.{overlap, shares as shares_spec};
 
-use super::Warnings;
-use crate::warnings::{Look, Place};
+use super::Looks;
+use crate::warnings::{EntryLook, Look, Place};
 use ps_checked::{length_of, source_of};
 use ps_codefile::Dict;
 use ps_codefile::dictionary_layout::SLOTS;
@@ -75,7 +76,7 @@ pub(super) fn extents_of(dict: &Dict<'_>, file: usize) -> [Extent; SLOTS as usiz
 
 /// Looks whether entries have bytes in common.
 pub(super) fn look_at<'a, A: Allocator>(
-    warnings: &mut Warnings<'a, A>,
+    looks: &mut Looks<'a, A>,
     place: Place<'a>,
     dict: &Dict<'_>,
     extents: &[Extent],
@@ -84,17 +85,26 @@ pub(super) fn look_at<'a, A: Allocator>(
         if extent.slot < SLOTS {
             let segment = Some(dict.entry(extent.slot).name);
             let look = first_shared_extent(extents, *extent);
-            warnings.add(Place { segment, ..place }, look)?;
+            looks.add(Place { segment, ..place }, look.map(Look::Entry))?;
         }
     }
     Ok(())
 }
 
+/// The bytes of an earlier slot are also some of this slot's.
+fn shares(extent: Extent, other: Extent) -> bool
+    ensures { result ≡ shares_spec extent other }
+{
+    other.slot < extent.slot && other.start < extent.end && extent.start < other.end
+}
+
 /// The first of these extents, of those of earlier slots, that has bytes in common with another one.
-fn first_shared_extent(extents: &[Extent], extent: Extent) -> Option<Look> {
+fn first_shared_extent(extents: &[Extent], extent: Extent) -> Option<EntryLook>
+    ensures { result ≡ overlap extents.now extent }
+{
     for other in extents {
-        if other.slot < extent.slot && other.start < extent.end && extent.start < other.end {
-            return Some(Look::Overlap { other: other.slot });
+        if shares(extent, *other) {
+            return Some(EntryLook::Overlap { other: other.slot });
         }
     }
     None

@@ -38,20 +38,6 @@ pub(super) fn are_small(inputs: &Inputs<'_>) -> bool {
     true
 }
 
-/// The name is no identifier of Pascal: it has a byte that is no letter, digit or underline, but for
-/// blanks after it.
-fn is_no_identifier(name: &Name) -> bool {
-    let mut is_after_blank = false;
-    for byte in name {
-        let is_blank = *byte == b' ';
-        if !is_blank && (is_after_blank || !byte.is_ascii_alphanumeric() && *byte != b'_') {
-            return true;
-        }
-        is_after_blank = is_blank;
-    }
-    false
-}
-
 /// How a name is odd; none where it is as a compiler writes it, or no name. Small letters are odd
 /// only where other names have capitals.
 pub(super) fn oddity_of(name: &Name, are_small: bool) -> Option<Oddity> {
@@ -65,8 +51,6 @@ pub(super) fn oddity_of(name: &Name, are_small: bool) -> Option<Oddity> {
         Some(Oddity::Zeros)
     } else if !are_small && has(name, b'a'..=b'z') {
         Some(Oddity::SmallLetters)
-    } else if is_no_identifier(name) {
-        Some(Oddity::NoIdentifier)
     } else {
         None
     }

@@ -1,94 +1,60 @@
-//! Link information that looks wrong.
+//! Link information that looks wrong, by what a link does with it.
+ghost use Rattle.std.specs.Prelude.{◌≡◌};
+ghost use Rattle.std.specs.Option.{option_map};
+ghost use Rattle.ps_linkinfo.specs.Numbered.{numbered_records};
+ghost use Rattle.ps_linkinfo.specs.RecordCounts.{next_of};
+ghost use Rattle.ps_resolve.specs.Searches.{first_of};
+ghost use Rattle.ps_warnings.specs.RecordLooks.{at_index as at_index_spec, definition_as as definition_as_spec, definition_in as definition_in_spec, definition_of as definition_of_spec, first_definition as first_definition_spec, first_high, first_past, high_as as high_as_spec, high_in as high_in_spec, high_value as high_value_spec, is_defined as is_defined_spec, is_requested as is_requested_spec, low_below as low_below_spec, low_mark as low_mark_spec, past_as as past_as_spec, past_in as past_in_spec, past_words as past_words_spec};
+
 use super::names::oddity_of;
-use super::{Sight, Warnings};
-use crate::warnings::{Look, Place};
-use ps_checked::{Segment, Source, host_of, length_of};
-use ps_codefile::kinds::{HOSTSEG, UNITSEG};
-use ps_filetype::only_byte;
-use ps_linkinfo::record_layout::{RECORD_LEN, TYPE_PLACE};
+use super::{Looks, Sight, notes};
+use crate::warnings::{EntryLook, Look, Place, RecordLook};
+use ps_checked::Source;
+use ps_codefile::kinds::HOSTSEG;
 use ps_linkinfo::{Body, LinkInformation, LinkRecord, Refs, Sort};
-use ps_pcode::{GLOBAL_OPCODES, SEGMENT_OPCODES, has_global_operand, procedures_of};
+use ps_pcode::{FileCode, procedures_of};
 use ps_words::{Name, Order, get_big};
 use std::alloc::{AllocError, Allocator};
 
-/// Where an end mark has no value, after its name, its type and the next free base offset.
-const UNUSED: usize = 12;
-
 /// Looks at the link information of a segment. Of each kind of look the first record is reported.
 pub(super) fn look_at<'a, A: Allocator>(
-    warnings: &mut Warnings<'a, A>,
+    looks: &mut Looks<'a, A>,
     sight: &Sight<'_, '_>,
     place: Place<'a>,
+    shown: &FileCode,
     source: &Source<'_>,
     code: &[u8],
 ) -> Result<(), AllocError> {
     let records = LinkInformation::up_to_fault(source.order, source.after);
-    warnings.add(place, mark_look(source, code))?;
-    warnings.add_of_record(place, first_odd_name(&records, sight.are_small))?;
-    warnings.add_of_record(place, first_odd_operand(&records, code))?;
-    if let Some(rules) = sight.rules {
-        warnings.add_of_record(place, first_odd_reference(&records, code))?;
-        if source.entry.kind == UNITSEG {
-            let operands = rules.operands_left_to_link(source.order, code);
-            warnings.add(place, lost_references(&records, operands))?;
-        }
-    }
+    add_odd_name(looks, place, first_odd_name(&records, sight.are_small))?;
+    looks.add_of_record(place, first_past_private(&records, code))?;
+    notes::of_records(looks, place, shown, source, &records, code)?;
     if source.entry.kind == HOSTSEG {
         let data = data_size(source, code);
-        return look_at_host(warnings, place, &records, data);
+        looks.add(place, low_mark(&records, data).map(Look::Record))?;
+        return looks.add_of_record(place, first_high_definition(&records));
     }
-    warnings.add_of_record(place, first_definition(&records, sight))
+    looks.add_of_record(place, first_definition(&records, sight.host))
 }
 
-/// Looks at the end mark and the definitions of a host program whose own data have this size.
-fn look_at_host<'a, A: Allocator>(
-    warnings: &mut Warnings<'a, A>,
+/// Adds an odd name of a record.
+fn add_odd_name<'a, A: Allocator>(
+    looks: &mut Looks<'a, A>,
     place: Place<'a>,
-    records: &LinkInformation<'_>,
-    data: Option<u16>,
+    found: Option<(usize, EntryLook)>,
 ) -> Result<(), AllocError> {
-    warnings.add(place, low_mark(records, data))?;
-    warnings.add_of_record(place, first_high_definition(records))
+    match found {
+        Some((rec, look)) => {
+            let rec = Some(rec);
+            looks.add(Place { rec, ..place }, Some(Look::Entry(look)))
+        }
+        None => Ok(()),
+    }
 }
 
 /// The data size of the outer block of a code, in bytes.
 fn data_size(source: &Source<'_>, code: &[u8]) -> Option<u16> {
     procedures_of(source.order, code)?.data_size()
-}
-
-/// Each of these bytes is a blank or zero.
-fn are_unused(bytes: &[u8]) -> bool {
-    for byte in bytes {
-        if *byte != 0 && *byte != b' ' {
-            return false;
-        }
-    }
-    true
-}
-
-/// What looks wrong in an end mark, or after it.
-fn mark_look(source: &Source<'_>, code: &[u8]) -> Option<Look> {
-    let records = LinkInformation::read(source.order, source.after).ok()?;
-    let end = length_of(&records);
-    let mark = source.after.get(end.checked_sub(RECORD_LEN)?..end)?;
-    if records.len() == 1 && only_byte(mark) == Some(0) && has_global_operand(code) {
-        return Some(Look::ZeroMark);
-    }
-    if is_odd_mark(mark) {
-        return Some(Look::OddMark);
-    }
-    match source.after.get(end..) {
-        Some(rest) if begins_with_record(source.order, rest) => Some(Look::RecordsAfterMark),
-        _ => None,
-    }
-}
-
-/// An end mark has bytes that are neither blanks nor zeros where no value is.
-fn is_odd_mark(mark: &[u8]) -> bool {
-    match (mark.get(..TYPE_PLACE), mark.get(UNUSED..)) {
-        (Some(name), Some(rest)) => !are_unused(name) || !are_unused(rest),
-        _ => false,
-    }
 }
 
 /// The bytes begin with a record that is no end mark and has a name that ASCII prints.
@@ -111,159 +77,233 @@ fn is_printed(name: &Name) -> bool {
 }
 
 /// The first record with an odd name.
-fn first_odd_name(records: &LinkInformation<'_>, are_small: bool) -> Option<(usize, Look)> {
+fn first_odd_name(records: &LinkInformation<'_>, are_small: bool) -> Option<(usize, EntryLook)> {
     for (rec, record) in records.records() {
         if !record.is_eof() {
             let name = record.name;
             if let Some(oddity) = oddity_of(&name, are_small) {
-                return Some((rec, Look::OddName { name, oddity }));
+                return Some((rec, EntryLook::OddName { name, oddity }));
             }
         }
     }
     None
 }
 
-/// The first record with a BIG operand that looks wrong.
-fn first_odd_operand(records: &LinkInformation<'_>, code: &[u8]) -> Option<(usize, Look)> {
-    for (rec, record) in records.records() {
-        if let Some(look) = operand_look(&record, code) {
-            return Some((rec, look));
+/// A look at a record, with the record's index.
+fn at_index(rec: usize, found: Option<RecordLook>) -> Option<(usize, RecordLook)>
+    ensures { result ≡ at_index_spec rec found }
+{
+    match found {
+        None => None,
+        Some(look) => Some((rec, look)),
+    }
+}
+
+/// The operand at a place of a code is past so many words of its variable, where the code has both
+/// of its bytes.
+fn past_words(code: &[u8], words: u16, place: u16) -> Option<RecordLook>
+    ensures { result ≡ past_words_spec code.now words place }
+{
+    let place = usize::from(place);
+    if place + 1 < code.len() {
+        let displacement = get_big(code, place);
+        if displacement < words {
+            return None;
         }
+        return Some(RecordLook::PastPrivate {
+            place,
+            displacement,
+            words,
+        });
     }
     None
 }
 
-/// What looks wrong in the BIG operands of a record.
-fn operand_look(record: &LinkRecord<'_>, code: &[u8]) -> Option<Look> {
-    match &record.body {
-        Body::PublRef(refs) => operands_look(refs, code, None),
-        Body::PrivRef { words, refs } => operands_look(refs, code, Some(*words)),
-        _ => None,
-    }
-}
-
-/// The first BIG operand whose bit 7 is clear, or that is past the words of its variable.
-fn operands_look(refs: &Refs<'_>, code: &[u8], words: Option<u16>) -> Option<Look> {
+/// The first operand that is past so many words of its variable.
+fn first_past_words(code: &[u8], words: u16, refs: &Refs<'_>) -> Option<RecordLook>
+    ensures { result ≡ first_of (past_words_spec code.now words) refs.now }
+{
     for reference in 0..refs.len() {
-        let place = usize::from(refs.get(reference));
-        match code.get(place..) {
-            Some(rest) if 2 <= rest.len() => {
-                if rest[0] < 0x80 {
-                    return Some(Look::ClearMark { place });
-                }
-                let displacement = get_big(rest, 0);
-                if let Some(words) = words {
-                    if words <= displacement {
-                        return Some(Look::PastPrivate {
-                            place,
-                            displacement,
-                            words,
-                        });
-                    }
-                }
-            }
-            _ => {}
+        if let Some(look) = past_words(code, words, refs.get(reference)) {
+            return Some(look);
         }
     }
     None
 }
 
-/// The first record with a reference before which no instruction is that has its operand.
-fn first_odd_reference(records: &LinkInformation<'_>, code: &[u8]) -> Option<(usize, Look)> {
+/// The first operand of a record that is past the words of its variable.
+fn past_as(code: &[u8], body: &Body<'_>) -> Option<RecordLook>
+    ensures { result ≡ past_as_spec code.now body.now }
+{
+    match body {
+        Body::PrivRef { words, refs } => first_past_words(code, *words, refs),
+        Body::UnitRef(_) | Body::PublRef(_) | Body::PublDef(_) | Body::ConstDef(_) | Body::Eof(_) =>
+            None,
+    }
+}
+
+/// The same, with the record's index.
+fn past_in(code: &[u8], rec: usize, entry: &LinkRecord<'_>) -> Option<(usize, RecordLook)>
+    ensures { result ≡ past_in_spec code.now (rec, entry.now) }
+{
+    at_index(rec, past_as(code, &entry.body))
+}
+
+/// The first record with an operand that is past the words of its variable.
+fn first_past_private(records: &LinkInformation<'_>, code: &[u8]) -> Option<(usize, RecordLook)>
+    ensures { result ≡ first_past code.now (numbered_records 0 records.now) }
+{
     for (rec, record) in records.records() {
-        let place = match &record.body {
-            Body::UnitRef(refs) => first_without(refs, code, &SEGMENT_OPCODES),
-            Body::PublRef(refs) | Body::PrivRef { refs, .. } => {
-                first_without(refs, code, &GLOBAL_OPCODES)
-            }
-            _ => None,
-        };
-        if let Some(place) = place {
-            return Some((rec, Look::NoOperand { place }));
+        if let Some(found) = past_in(code, rec, &record) {
+            return Some(found);
         }
     }
     None
 }
 
-/// The first reference that comes after none of these opcodes.
-fn first_without(refs: &Refs<'_>, code: &[u8], opcodes: &[u8]) -> Option<usize> {
-    for reference in 0..refs.len() {
-        let place = usize::from(refs.get(reference));
-        if !is_after(code, place, opcodes) {
-            return Some(place);
+/// A unit refers to a name.
+fn is_requested(records: &LinkInformation<'_>, name: &Name) -> bool
+    ensures { result ≡ is_requested_spec records.now name.now }
+{
+    records.find(name, Sort::Request).is_some()
+}
+
+/// The host program of a link, if it has one, defines the name.
+fn is_defined(host: Option<&LinkInformation<'_>>, name: &Name) -> bool
+    ensures { result ≡ is_defined_spec (option_map (λ h. h.now) host.entry) name.now }
+{
+    match host {
+        None => true,
+        Some(host) => host.find(name, Sort::Definition).is_some(),
+    }
+}
+
+/// What a unit's definition of a name is: nothing, or one of a name that the unit refers to and the
+/// host program does not define.
+fn definition_of(
+    records: &LinkInformation<'_>,
+    host: Option<&LinkInformation<'_>>,
+    name: Name,
+) -> RecordLook
+    ensures { result ≡ definition_of_spec records.now (option_map (λ h. h.now) host.entry) name }
+{
+    if is_requested(records, &name) && !is_defined(host, &name) {
+        RecordLook::OwnDefinition { name }
+    } else {
+        RecordLook::UnitDefinition { name }
+    }
+}
+
+/// What a unit's definition is, if the record is one.
+fn definition_as(
+    records: &LinkInformation<'_>,
+    host: Option<&LinkInformation<'_>>,
+    entry: &LinkRecord<'_>,
+) -> Option<RecordLook>
+    ensures { result ≡ definition_as_spec records.now (option_map (λ h. h.now) host.entry)
+        entry.now.name entry.now.body }
+{
+    match entry.body {
+        Body::PublDef(_) => Some(definition_of(records, host, entry.name)),
+        Body::UnitRef(_)
+        | Body::PublRef(_)
+        | Body::PrivRef { .. }
+        | Body::ConstDef(_)
+        | Body::Eof(_) => None,
+    }
+}
+
+/// The same, with the record's index.
+fn definition_in(
+    records: &LinkInformation<'_>,
+    host: Option<&LinkInformation<'_>>,
+    rec: usize,
+    entry: &LinkRecord<'_>,
+) -> Option<(usize, RecordLook)>
+    ensures { result ≡ definition_in_spec records.now (option_map (λ h. h.now) host.entry)
+        (rec, entry.now) }
+{
+    at_index(rec, definition_as(records, host, entry))
+}
+
+/// The first definition of a unit.
+fn first_definition(
+    records: &LinkInformation<'_>,
+    host: Option<&LinkInformation<'_>>,
+) -> Option<(usize, RecordLook)>
+    ensures { result ≡ first_definition_spec records.now (option_map (λ h. h.now) host.entry)
+        (numbered_records 0 records.now) }
+{
+    for (rec, record) in records.records() {
+        if let Some(found) = definition_in(records, host, rec, &record) {
+            return Some(found);
         }
     }
     None
 }
 
-/// One of these opcodes is right before a place of a code.
-fn is_after(code: &[u8], place: usize, opcodes: &[u8]) -> bool {
-    match code.get(..place) {
-        Some([.., opcode]) => opcodes.contains(opcode),
-        _ => false,
-    }
-}
-
-/// References to variables that are fewer than the operands that a compiler leaves for them.
-fn lost_references(records: &LinkInformation<'_>, operands: usize) -> Option<Look> {
-    let mut references = 0usize;
-    for (_, record) in records.records() {
-        if let Body::PublRef(refs) | Body::PrivRef { refs, .. } = &record.body {
-            references = references.saturating_add(refs.len());
-        }
-    }
-    if references < operands {
-        Some(Look::LostReferences {
-            operands,
-            references,
-        })
+/// An end mark is below half the size of a host program's own data, in bytes.
+fn low_below(next: u16, size: u16) -> Option<RecordLook>
+    ensures { result ≡ low_below_spec next size }
+{
+    if next < size / 2 {
+        Some(RecordLook::LowMark { next, data: size })
     } else {
         None
     }
 }
 
-/// The first definition of a unit.
-fn first_definition(records: &LinkInformation<'_>, sight: &Sight<'_, '_>) -> Option<(usize, Look)> {
-    for (rec, record) in records.records() {
-        if let Body::PublDef(_) = record.body {
-            let name = record.name;
-            let is_used = records.find(&name, Sort::Request).is_some();
-            let look = match is_used && !is_defined(sight.list, &name) {
-                true => Look::OwnDefinition { name },
-                false => Look::UnitDefinition { name },
-            };
-            return Some((rec, look));
-        }
-    }
-    None
-}
-
-/// The host program of a link, if it has one, defines the name.
-fn is_defined(list: &[Segment<'_>], name: &Name) -> bool {
-    match host_of(list) {
-        Some(host) => host.records().find(name, Sort::Definition).is_some(),
-        None => true,
-    }
-}
-
 /// The end mark of the host program, where it is below half its data size.
-fn low_mark(records: &LinkInformation<'_>, data: Option<u16>) -> Option<Look> {
-    let next = records.next();
-    match data {
-        Some(data) if !records.is_empty() && next < data / 2 => Some(Look::LowMark { next, data }),
-        _ => None,
+fn low_mark(records: &LinkInformation<'_>, size: Option<u16>) -> Option<RecordLook>
+    ensures { result ≡ low_mark_spec records.now size }
+{
+    match size {
+        None => None,
+        Some(_) if records.is_empty() => None,
+        Some(size) => low_below(records.next(), size),
     }
+}
+
+/// A variable that the host program defines at the next free base offset or above it.
+fn high_value(next: u16, name: Name, value: u16) -> Option<RecordLook>
+    ensures { result ≡ high_value_spec next name value }
+{
+    if value < next {
+        None
+    } else {
+        Some(RecordLook::HighDefinition { name, value, next })
+    }
+}
+
+/// The same of a record.
+fn high_as(next: u16, entry: &LinkRecord<'_>) -> Option<RecordLook>
+    ensures { result ≡ high_as_spec next entry.now.name entry.now.body }
+{
+    match entry.body {
+        Body::PublDef(value) => high_value(next, entry.name, value),
+        Body::UnitRef(_)
+        | Body::PublRef(_)
+        | Body::PrivRef { .. }
+        | Body::ConstDef(_)
+        | Body::Eof(_) => None,
+    }
+}
+
+/// The same, with the record's index.
+fn high_in(next: u16, rec: usize, entry: &LinkRecord<'_>) -> Option<(usize, RecordLook)>
+    ensures { result ≡ high_in_spec next (rec, entry.now) }
+{
+    at_index(rec, high_as(next, entry))
 }
 
 /// The first definition of the host program that is at its end mark or above it.
-fn first_high_definition(records: &LinkInformation<'_>) -> Option<(usize, Look)> {
+fn first_high_definition(records: &LinkInformation<'_>) -> Option<(usize, RecordLook)>
+    ensures { result ≡ first_high (next_of records.now) (numbered_records 0 records.now) }
+{
     let next = records.next();
     for (rec, record) in records.records() {
-        if let Body::PublDef(value) = record.body {
-            if next <= value {
-                let name = record.name;
-                return Some((rec, Look::HighDefinition { name, value, next }));
-            }
+        if let Some(found) = high_in(next, rec, &record) {
+            return Some(found);
         }
     }
     None

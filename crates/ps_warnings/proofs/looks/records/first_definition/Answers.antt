@@ -1,0 +1,28 @@
+use Rattle.std.proofs.Common.{arith, ◌≡◌, ◌∷◌, List, ℕ, Some, None, refl}
+use Rattle.std.specs.Prelude.{Option}
+use Rattle.ps_linkinfo.specs.declared.record.LinkRecord.{LinkRecord as Record}
+use Rattle.ps_warnings.specs.RecordLooks.{first_definition, definition_in}
+use Rattle.ps_warnings.specs.declared.warnings.RecordLook.{RecordLook}
+use Rattle.ps_warnings.proofs.looks.records.first_definition.Goals as goal
+
+here : (own : List Record) (host : Option (List Record)) (r : ℕ × Record)
+    (rs : List (ℕ × Record)) (found : ℕ × RecordLook) → definition_in own host r ≡ Some found
+    → first_definition own host (r ∷ rs) ≡ Some found
+here own host r rs found is = rw is refl
+
+later : (own : List Record) (host : Option (List Record)) (r : ℕ × Record)
+    (rs : List (ℕ × Record)) → definition_in own host r ≡ None
+    → first_definition own host (r ∷ rs) ≡ first_definition own host rs
+later own host r rs is = rw is refl
+
+pub loop-rec-init : goal.loop-rec-init
+loop-rec-init c = grind arith
+
+pub loop-rec-preserved : goal.loop-rec-preserved
+loop-rec-preserved c = grind arith
+
+pub returns-in-Some-definition_in : goal.returns-in-Some-definition_in
+returns-in-Some-definition_in c = grind arith
+
+pub returns : goal.returns
+returns c = grind arith

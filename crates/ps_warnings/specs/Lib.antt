@@ -1,0 +1,2 @@
+pub mod RecordLooks
+pub mod EntryLooks

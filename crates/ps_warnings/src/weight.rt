@@ -1,0 +1,28 @@
+//! How much a look weighs.
+use std::fmt::{self, Formatter};
+
+/// How much a look weighs: whether a link of the files goes wrong by it. Its text is one word.
+///
+/// Source: this project's profile.
+#[derive(Clone, Copy, Debug, PartialEq, Eq)]
+pub enum Weight {
+    /// A guess by what P-code means, which no source of this project says. It is no warning.
+    Note,
+    /// A link of the files does what it would do without it. It is no warning.
+    Harmless,
+    /// The files may be as a compiler wrote them, and the link may not be what is wanted.
+    Look,
+    /// No compiler writes it: something happened to the file.
+    Damaged,
+}
+
+impl fmt::Display for Weight {
+    fn fmt<W: fmt::Write>(&self, f: &mut Formatter<W>) -> fmt::Result {
+        f.write_str(match self {
+            Weight::Note => "note",
+            Weight::Harmless => "harmless",
+            Weight::Look => "look",
+            Weight::Damaged => "damaged",
+        })
+    }
+}
