@@ -1,9 +1,13 @@
--- The report of a check as JSON: what it begins with.
+-- The report of a check as JSON.
 -- Source: RFC 8259; which members there are is this project's profile.
-use Rattle.std.specs.Prelude.{◌≡◌, ℕ, List, ◌++◌, Option, Some, None, codes, decimal}
+use Rattle.std.specs.Prelude.{◌≡◌, ℕ, Bool, true, false, List, [], ◌∷◌, ◌++◌, Option}
+use Rattle.std.specs.Prelude.{Some, None, codes, decimal}
+use Rattle.ps_linkfile.specs.JsonText.{comma_unless}
+use Rattle.ps_warnings.specs.declared.warnings.Warning.{Warning}
 use Rattle.ps_words.specs.FaultText.{kind_of, name_of, number_of}
 use Rattle.ps_words.specs.declared.fault.Fault.{Fault}
 use Rattle.ps_words.specs.declared.fault.Reason.{Reason}
+use Rattle.ps_report.specs.JsonStrings.{json_text, name_or_null}
 use Rattle.ps_report.specs.declared.verdict.Verdict.{Verdict}
 use Rattle.ps_report.specs.declared.verdict.Verdict.TheVariants.{Links, Refused}
 
@@ -40,6 +44,33 @@ verdict_json (Links s) =
     ++ (decimal s.segments ++ (codes ",\"private_words\":" ++ (decimal s.private_words
     ++ (codes ",\"blocks\":" ++ (decimal s.blocks ++ codes ",\"fault\":null")))))
 verdict_json (Refused f) = codes "{\"links\":false,\"fault\":" ++ fault_json f
+
+-- `{"path":"UTIL.CODE","segment":{"name":"UTIL    ","name_hex":"5554494C20202020"},"record":1,
+-- "text":".."}` on a line of its own: the item of a warning, with these words
+abbrev pub warning_json : Warning → List ℕ → List ℕ
+warning_json w words =
+    codes "\n{\"path\":\"" ++ (json_text w.place.path.now
+    ++ (codes "\",\"segment\":" ++ (name_or_null w.place.segment
+    ++ (codes ",\"record\":" ++ (number_or_null w.place.rec
+    ++ (codes ",\"text\":\"" ++ (json_text words ++ codes "\"}")))))))
+
+-- the items of these warnings, in order, each with some words
+abbrev pub AreItems : Bool → List Warning → List ℕ → Type 0
+AreItems first [] items = items ≡ []
+AreItems first (w ∷ warnings) items =
+    (words : List ℕ) × (rest : List ℕ) × AreItems false warnings rest
+    × (items ≡ (comma_unless first ++ warning_json w words) ++ rest)
+
+-- the document of these items and this text
+unfoldable pub report_json : Verdict → List ℕ → List ℕ → List ℕ
+report_json verdict items report =
+    verdict_json verdict ++ (codes ",\"warnings\":[" ++ (items
+    ++ (codes "\n],\"report\":\"" ++ (json_text report ++ codes "\"}\n"))))
+
+-- the document of this verdict, these warnings and this text
+abbrev pub IsReportJson : Verdict → List Warning → List ℕ → List ℕ → Type 0
+IsReportJson verdict warnings report text = (items : List ℕ) × AreItems true warnings items
+    × (text ≡ report_json verdict items report)
 
 -- the document begins with the verdict
 abbrev pub BeginsWith : List ℕ → Verdict → Type 0
