@@ -1,23 +1,32 @@
 -- The parts of a report that have no line of a segment, and those that are put together.
 use Rattle.std.proofs.Common.{◌≡◌, ◌∙◌, ◌++◌, ◌∷◌, [], ℕ}
-use Rattle.std.proofs.Common.{List, Bor, None, true, false, codes, refl, sym, ap}
+use Rattle.std.proofs.Common.{List, Option, Some, None, true, false, codes, refl, sym, ap}
 use Rattle.std.specs.Prelude.{decimal}
 use Rattle.std.proofs.lemmas.List.{append_assoc}
+use Rattle.ps_words.specs.FaultText.{fault_text, kind_of, name_of, number_of, part_text}
+use Rattle.ps_words.specs.declared.fault.Fault.{Fault}
+use Rattle.ps_words.specs.declared.fault.Reason.{Reason}
+use Rattle.ps_words.specs.declared.fault.Reason.TheVariants as reason
 use Rattle.ps_linkfile.specs.declared.summary.Summary.{Summary}
 use Rattle.ps_resolve.specs.Standing.{NoneStands}
-use Rattle.ps_findings.specs.SlotLines.{AddsSlotLines, one_line, slot_lines}
+use Rattle.ps_findings.specs.SlotLines.{AddsSlotLines, one_line}
 use Rattle.ps_findings.proofs.OneLine.{one_append, one_digits}
-use Rattle.ps_findings.proofs.SlotLines.{adds_no_line, adds_then}
+use Rattle.ps_findings.proofs.SlotLines.{adds_no_line, adds_then_none}
 use Rattle.ps_report.specs.Lists.{lacks_host}
 use Rattle.ps_report.specs.Verdicts.{IsVerdict, fault_of, verdict_line}
+use Rattle.ps_report.specs.WarningLines.{AddsWarnings, other_lines}
 use Rattle.ps_report.specs.declared.verdict.Verdict.{Verdict}
 use Rattle.ps_report.specs.declared.verdict.Verdict.TheVariants.{Links, Refused}
-use Rattle.ps_report.proofs.Texts.{in_parts}
+use Rattle.ps_report.proofs.WarningLines.{added_then, adds_no_warning, other_lines_none}
 
 -- a part that is empty
-pub adds_empty : (old part new : List ℕ) → new ≡ old ++ part → part ≡ []
+pub adds_empty : (old part new : List ℕ) → new ≡ old ++ other_lines part → part ≡ []
     → AddsSlotLines old [] new
-adds_empty old part new is e = (part, is, λ rest. ap (λ (t : List ℕ). slot_lines (t ++ rest)) e)
+adds_empty old part new is e = (
+  [],
+  is ∙ ap (λ (t : List ℕ). old ++ t) (ap other_lines e ∙ other_lines_none),
+  λ rest. refl,
+)
 
 -- the line of a verdict that the files are linked
 abbrev links_words : Summary → List ℕ
@@ -44,31 +53,110 @@ links_end s =
     ∙ ap (λ (t : List ℕ). decimal s.segments ++ (codes " private words " ++ t))
     (append_assoc (decimal s.private_words) blocks (10 ∷ []))))
 
-pub adds_verdict : (old new : List ℕ) (verdict : Verdict) → fault_of verdict ≡ None
-    → new ≡ old ++ verdict_line verdict → AddsSlotLines old [] new
-adds_verdict old new (Links s) e is = adds_no_line old (links_words s) new (one_links s) refl
-    (is ∙ ap (λ (t : List ℕ). old ++ t) (links_end s))
-adds_verdict old new (Refused f) e is = cc
+-- the line of a verdict that they are refused
+one_reason : (why : Reason) → one_line (name_of why) ≡ true
+one_reason reason.ShortFile = refl
+one_reason reason.NoOrder = refl
+one_reason reason.OrderMismatch = refl
+one_reason reason.NoHost = refl
+one_reason reason.TwoHosts = refl
+one_reason reason.DoubledSegment = refl
+one_reason reason.SegmentProcedure = refl
+one_reason reason.NativeSegment = refl
+one_reason reason.Intrinsic = refl
+one_reason reason.UnknownKind = refl
+one_reason reason.BadLength = refl
+one_reason reason.BadAddress = refl
+one_reason reason.MissingUnit = refl
+one_reason (reason.NotAUnit kind) = refl
+one_reason reason.DoubledUnit = refl
+one_reason reason.Truncated = refl
+one_reason reason.BadProcDict = refl
+one_reason reason.NativeProcedure = refl
+one_reason reason.RecordsTruncated = refl
+one_reason reason.UnknownRecord = refl
+one_reason reason.NativeRecord = refl
+one_reason reason.SeparateRecord = refl
+one_reason reason.BadFormat = refl
+one_reason reason.DoubledDefinition = refl
+one_reason reason.DoubledPrivate = refl
+one_reason reason.NoRoom = refl
+one_reason reason.DataTooLarge = refl
+one_reason reason.MissingDefinition = refl
+one_reason reason.IllKind = refl
+one_reason reason.MissingUnitRef = refl
+one_reason reason.OutsideCode = refl
+one_reason reason.ReservedPlace = refl
+one_reason reason.Overlap = refl
+one_reason reason.OperandTooLarge = refl
+one_reason reason.NoSlot = refl
+
+one_part : (label : List ℕ) (part : Option ℕ) → one_line label ≡ true
+    → one_line (part_text label part) ≡ true
+one_part label None h = refl
+one_part label (Some n) h =
+    one_append (codes " ") (label ++ (codes " " ++ decimal n)) refl
+    (one_append label (codes " " ++ decimal n) h
+    (one_append (codes " ") (decimal n) refl (one_digits 10 n)))
+
+one_fault : (f : Fault) → one_line (fault_text f) ≡ true
+one_fault f =
+    let kind = part_text (codes "kind") (kind_of f.reason) in
+    let slot = part_text (codes "slot") f.slot in
+    let rec = part_text (codes "record") f.rec in
+    let reference = part_text (codes "reference") f.reference in
+    let file = codes " file " ++ (decimal f.file ++ (slot ++ (rec ++ reference))) in
+    let name = codes " " ++ (name_of f.reason ++ (kind ++ file)) in
+    one_append (codes "refused ") (decimal (number_of f.reason) ++ name) refl
+    (one_append (decimal (number_of f.reason)) name (one_digits 10 (number_of f.reason))
+    (one_append (codes " ") (name_of f.reason ++ (kind ++ file)) refl
+    (one_append (name_of f.reason) (kind ++ file) (one_reason f.reason)
+    (one_append kind file (one_part (codes "kind") (kind_of f.reason) refl)
+    (one_append (codes " file ") (decimal f.file ++ (slot ++ (rec ++ reference))) refl
+    (one_append (decimal f.file) (slot ++ (rec ++ reference)) (one_digits 10 f.file)
+    (one_append slot (rec ++ reference) (one_part (codes "slot") f.slot refl)
+    (one_append rec reference (one_part (codes "record") f.rec refl)
+    (one_part (codes "reference") f.reference refl)))))))))
+
+-- the line of a verdict begins neither as that of a segment nor as that of a warning
+pub adds_verdict : (old new : List ℕ) (verdict : Verdict) → new ≡ old ++ verdict_line verdict
+    → AddsSlotLines old [] new × AddsWarnings old 0 new
+adds_verdict old new (Links s) is =
+    let same = is ∙ ap (λ (t : List ℕ). old ++ t) (links_end s) in (
+      adds_no_line old (links_words s) new (one_links s) refl same,
+      adds_no_warning old (links_words s) new (one_links s) refl same,
+    )
+adds_verdict old new (Refused f) is =
+    let words = codes "pslink: " ++ fault_text f in
+    let one = one_append (codes "pslink: ") (fault_text f) refl (one_fault f) in (
+      adds_no_line old words new one refl is,
+      adds_no_warning old words new one refl is,
+    )
 
 -- the parts, one after another
 pub parts_are : (before : List ℕ) (verdict : Verdict)
-    (explanation lists after ended told explained listed whole : List ℕ)
+    (explanation lists ended told explained whole : List ℕ)
     → ended ≡ before ++ codes "\n" → told ≡ ended ++ verdict_line verdict
-    → explained ≡ told ++ explanation → listed ≡ explained ++ lists
-    → whole ≡ listed ++ after → whole ≡ in_parts before verdict explanation lists after
-parts_are before verdict explanation lists after ended told explained listed whole a b c d e =
+    → explained ≡ told ++ explanation → whole ≡ explained ++ lists
+    → whole ≡ before ++ (codes "\n" ++ verdict_line verdict) ++ explanation ++ lists
+parts_are before verdict explanation lists ended told explained whole a b c d =
     let line = b ∙ (ap (λ (t : List ℕ). t ++ verdict_line verdict) a
     ∙ append_assoc before (codes "\n") (verdict_line verdict)) in
-    e ∙ ap (λ (t : List ℕ). t ++ after)
-    (d ∙ ap (λ (t : List ℕ). t ++ lists)
-    (c ∙ ap (λ (t : List ℕ). t ++ explanation) line))
+    d ∙ ap (λ (t : List ℕ). t ++ lists) (c ∙ ap (λ (t : List ℕ). t ++ explanation) line)
 
--- four parts without a line of a segment
-pub adds_five : (a b c d e f : List ℕ) → AddsSlotLines a [] b → AddsSlotLines b [] c
-    → AddsSlotLines c [] d → AddsSlotLines d [] e → AddsSlotLines e [] f
-    → AddsSlotLines a [] f
-adds_five a b c d e f p q r s t = adds_then a e f [] []
-    (adds_then a d e [] [] (adds_then a c d [] [] (adds_then a b c [] [] p q) r) s) t
+-- lines of segments, and four parts without one
+pub adds_five : (a b c d e f : List ℕ) (lines : List (List ℕ)) → AddsSlotLines a lines b
+    → AddsSlotLines b [] c → AddsSlotLines c [] d → AddsSlotLines d [] e
+    → AddsSlotLines e [] f → AddsSlotLines a lines f
+adds_five a b c d e f lines p q r s t = adds_then_none a e f lines
+    (adds_then_none a d e lines (adds_then_none a c d lines
+    (adds_then_none a b c lines p q) r) s) t
+
+-- five parts without a warning
+pub none_in_five : (a b c d e f : List ℕ) → AddsWarnings a 0 b → AddsWarnings b 0 c
+    → AddsWarnings c 0 d → AddsWarnings d 0 e → AddsWarnings e 0 f → AddsWarnings a 0 f
+none_in_five a b c d e f p q r s t = added_then a e f 0 0
+    (added_then a d e 0 0 (added_then a c d 0 0 (added_then a b c 0 0 p q) r) s) t
 
 -- where no fault applies, the verdict is that the files are linked
 pub links_of : (host : List ℕ) (libs : List (List ℕ)) (verdict : Verdict)
@@ -77,7 +165,7 @@ links_of host libs (Links s) right none = refl
 links_of host libs (Refused f) right none = absurd (none right.0.step f right.0.stands)
 
 -- and no list of files is in the text
-pub no_lists : (verdict : Verdict) (libs : List (Bor (List ℕ))) → fault_of verdict ≡ None
+pub no_lists : (verdict : Verdict) (libs : List (List ℕ)) → fault_of verdict ≡ None
     → lacks_host verdict libs ≡ false
 no_lists (Links s) libs e = refl
 no_lists (Refused f) libs e = cc

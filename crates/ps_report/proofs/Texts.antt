@@ -3,12 +3,13 @@ use Rattle.std.proofs.Common.{◌≡◌, ◌∙◌, ◌++◌, ℕ, List, codes, 
 use Rattle.std.proofs.lemmas.List.{append_assoc}
 use Rattle.ps_report.specs.Lists.{AreLists, HasLists}
 use Rattle.ps_report.specs.Verdicts.{Tells, verdict_line}
+use Rattle.ps_report.specs.WarningLines.{other_lines}
 use Rattle.ps_report.specs.declared.verdict.Verdict.{Verdict}
 
 -- the text of a report, by its parts
 abbrev pub in_parts : List ℕ → Verdict → List ℕ → List ℕ → List ℕ → List ℕ
 in_parts overview verdict explanation lists warned =
-    overview ++ (codes "\n" ++ verdict_line verdict) ++ explanation ++ lists ++ warned
+    (overview ++ (codes "\n" ++ verdict_line verdict) ++ explanation ++ lists) ++ warned
 
 pub told_in : (overview : List ℕ) (verdict : Verdict) (explanation lists warned text : List ℕ)
     → text ≡ in_parts overview verdict explanation lists warned
@@ -27,8 +28,8 @@ told_in overview verdict explanation lists warned text is =
 
 pub lists_in : (paths files : List (List ℕ)) (overview : List ℕ) (verdict : Verdict)
     (explanation lists warned text : List ℕ)
-    → text ≡ in_parts overview verdict explanation lists warned → AreLists paths files lists
-    → HasLists paths files text
+    → text ≡ in_parts overview verdict explanation (other_lines lists) warned
+    → AreLists paths files lists → HasLists paths files text
 lists_in paths files overview verdict explanation lists warned text is are =
     let before = overview ++ (codes "\n" ++ verdict_line verdict) ++ explanation in
-    (before, lists, warned, are, is ∙ append_assoc before lists warned)
+    (before, lists, warned, are, is ∙ append_assoc before (other_lines lists) warned)

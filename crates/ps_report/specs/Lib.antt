@@ -1,3 +1,6 @@
 pub mod Verdicts
+pub mod JsonStrings
 pub mod ReportJson
 pub mod Lists
+pub mod WarningLines
+pub mod Reports

@@ -2,7 +2,6 @@
 -- Source: this project's profile.
 use Rattle.std.specs.Prelude.{◌≡◌, ◌&&◌, not, ℕ, Bool, true, false, List, [], ◌∷◌}
 use Rattle.std.specs.Prelude.{◌++◌, Option, Some, None, Result, Ok, Err}
-use Rattle.std.specs.Borrow.{Bor}
 use Rattle.std.specs.List.{list_any}
 use Rattle.ps_words.specs.declared.fault.Reason.{Reason}
 use Rattle.ps_words.specs.declared.fault.Reason.TheVariants as reason
@@ -11,6 +10,7 @@ use Rattle.ps_filetype.specs.CodeFiles.{code_file, opened}
 use Rattle.ps_filetype.specs.declared.code_file.CodeFile.{CodeFile}
 use Rattle.ps_filetype.specs.declared.code_file.CodeFile.TheVariants.{Host, Library, Linked, Mixed}
 use Rattle.ps_listing.specs.ListText.{list_of}
+use Rattle.ps_report.specs.WarningLines.{other_lines}
 use Rattle.ps_report.specs.declared.verdict.Verdict.{Verdict}
 use Rattle.ps_report.specs.declared.verdict.Verdict.TheVariants.{Links, Refused}
 
@@ -42,11 +42,11 @@ is_no_host (Links s) = false
 is_no_host (Refused f) = is_no_host_reason f.reason
 
 -- some library has a host program
-abbrev pub has_host_among : List (Bor (List ℕ)) → Bool
-has_host_among libs = list_any (λ lib. has_host lib.now) libs
+abbrev pub has_host_among : List (List ℕ) → Bool
+has_host_among libs = list_any has_host libs
 
 -- no file is a host: neither the first, for which the files are refused, nor a library
-abbrev pub lacks_host : Verdict → List (Bor (List ℕ)) → Bool
+abbrev pub lacks_host : Verdict → List (List ℕ) → Bool
 lacks_host verdict libs = is_no_host verdict && not (has_host_among libs)
 
 -- the lists of the files at these paths, one after another, each with some phrase for what it is
@@ -57,8 +57,9 @@ AreLists (path ∷ paths) (file ∷ files) text =
     (phrase : List ℕ) × (rest : List ℕ) × AreLists paths files rest
     × (text ≡ list_of path phrase file ++ rest)
 
--- the text has the lists of these files
+-- the text has the lists of these files, of which a line that begins as that of a warning is
+-- indented
 abbrev pub HasLists : List (List ℕ) → List (List ℕ) → List ℕ → Type 0
 HasLists paths files text =
     (before : List ℕ) × (lists : List ℕ) × (after : List ℕ) × AreLists paths files lists
-    × (text ≡ before ++ (lists ++ after))
+    × (text ≡ before ++ (other_lines lists ++ after))

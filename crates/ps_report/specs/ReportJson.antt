@@ -1,9 +1,15 @@
--- The report of a check as JSON: what it begins with.
+-- The report of a check as JSON.
 -- Source: RFC 8259; which members there are is this project's profile.
-use Rattle.std.specs.Prelude.{◌≡◌, ℕ, List, ◌++◌, Option, Some, None, codes, decimal}
+use Rattle.std.specs.Prelude.{◌≡◌, ℕ, Bool, true, false, List, [], ◌∷◌, ◌++◌, Option}
+use Rattle.std.specs.Prelude.{Some, None, codes, decimal}
+use Rattle.ps_linkfile.specs.JsonText.{comma_unless}
+use Rattle.ps_warnings.specs.Weights.{weight_word}
+use Rattle.ps_warnings.specs.declared.warnings.Warning.{Warning}
+use Rattle.ps_warnings.specs.declared.weight.Weight.{Weight}
 use Rattle.ps_words.specs.FaultText.{kind_of, name_of, number_of}
 use Rattle.ps_words.specs.declared.fault.Fault.{Fault}
 use Rattle.ps_words.specs.declared.fault.Reason.{Reason}
+use Rattle.ps_report.specs.JsonStrings.{json_text, name_or_null}
 use Rattle.ps_report.specs.declared.verdict.Verdict.{Verdict}
 use Rattle.ps_report.specs.declared.verdict.Verdict.TheVariants.{Links, Refused}
 
@@ -40,6 +46,45 @@ verdict_json (Links s) =
     ++ (decimal s.segments ++ (codes ",\"private_words\":" ++ (decimal s.private_words
     ++ (codes ",\"blocks\":" ++ (decimal s.blocks ++ codes ",\"fault\":null")))))
 verdict_json (Refused f) = codes "{\"links\":false,\"fault\":" ++ fault_json f
+
+-- `{"weight":"look","path":"UTIL.CODE","segment":{"name":"UTIL    ",
+-- "name_hex":"5554494C20202020"},"record":1,"text":".."}` on a line of its own: the item of what
+-- looks wrong, of this weight, with these words
+abbrev pub warning_json : Warning → Weight → List ℕ → List ℕ
+warning_json w weight words =
+    codes "\n{\"weight\":\"" ++ (weight_word weight
+    ++ (codes "\",\"path\":\"" ++ (json_text w.place.path.now
+    ++ (codes "\",\"segment\":" ++ (name_or_null w.place.segment
+    ++ (codes ",\"record\":" ++ (number_or_null w.place.rec
+    ++ (codes ",\"text\":\"" ++ (json_text words ++ codes "\"}")))))))))
+
+-- the items of what looks wrong, in order, each with some weight and some words
+abbrev pub AreItems : Bool → List Warning → List ℕ → Type 0
+AreItems first [] items = items ≡ []
+AreItems first (w ∷ warnings) items =
+    (weight : Weight) × (words : List ℕ) × (rest : List ℕ) × AreItems false warnings rest
+    × (items ≡ (comma_unless first ++ warning_json w weight words) ++ rest)
+
+-- the document of these items, of warnings, of what is harmless and of notes, and of this text
+unfoldable pub report_json : Verdict → List ℕ → List ℕ → List ℕ → List ℕ → List ℕ
+report_json verdict items harmless notes report =
+    verdict_json verdict ++ (codes ",\"warnings\":[" ++ (items
+    ++ (codes "\n],\"harmless\":[" ++ (harmless ++ (codes "\n],\"notes\":[" ++ (notes
+    ++ (codes "\n],\"report\":\"" ++ (json_text report ++ codes "\"}\n"))))))))
+
+-- the document of this verdict, of what looks wrong, by its weight, and of this text
+abbrev pub IsDocument : Verdict → List Warning → List Warning → List Warning → List ℕ
+    → List ℕ → Type 0
+IsDocument verdict warnings harmless notes report text =
+    (items : List ℕ) × (calm : List ℕ) × (guesses : List ℕ) × AreItems true warnings items
+    × AreItems true harmless calm × AreItems true notes guesses
+    × (text ≡ report_json verdict items calm guesses report)
+
+-- the document of this verdict, these warnings and this text, whatever is harmless or noted
+abbrev pub IsReportJson : Verdict → List Warning → List ℕ → List ℕ → Type 0
+IsReportJson verdict warnings report text =
+    (harmless : List Warning) × (notes : List Warning)
+    × IsDocument verdict warnings harmless notes report text
 
 -- the document begins with the verdict
 abbrev pub BeginsWith : List ℕ → Verdict → Type 0

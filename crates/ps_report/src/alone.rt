@@ -1,5 +1,6 @@
 //! Files without a host among them, each looked over by itself.
 ghost use Rattle.std.specs.Prelude.{◌≡◌, ◌∷◌, ◌++◌, [], ℕ, List, IfOk, OnOk, false, map, string_bytes, true};
+ghost use Rattle.std.specs.List.{list_any};
 ghost use Rattle.ps_resolve.specs.Sources.{contents};
 ghost use Rattle.ps_listing.specs.ListText.{list_of};
 ghost use Rattle.ps_report.specs.Lists.{AreLists, has_host as has_host_spec, has_host_among as has_host_among_spec, has_host_as as has_host_as_spec, is_for_host as is_for_host_spec, is_no_host as is_no_host_spec, is_no_host_reason as is_no_host_reason_spec, lacks_host as lacks_host_spec};
@@ -34,11 +35,18 @@ fn has_host(file: &[u8]) -> bool
     has_host_as(open(file))
 }
 
-/// Some library has a host program.
-fn has_host_among(libs: &[&[u8]]) -> bool
-    ensures { result ≡ has_host_among_spec libs.now }
+/// Some of these files has a host program.
+fn any_has_host(libs: &[&[u8]]) -> bool
+    ensures { result ≡ list_any (λ lib. has_host_spec lib.now) libs.now }
 {
     libs.iter().any(|lib| has_host(lib))
+}
+
+/// Some library has a host program.
+fn has_host_among(libs: &[&[u8]]) -> bool
+    ensures { result ≡ has_host_among_spec (contents libs.now) }
+{
+    any_has_host(libs)
 }
 
 /// This is why the first file is no host.
@@ -63,7 +71,7 @@ fn is_no_host(verdict: Verdict) -> bool
 
 /// Neither the first file nor a library has a host program.
 fn lacks_host(verdict: Verdict, libs: &[&[u8]]) -> bool
-    ensures { result ≡ lacks_host_spec verdict libs.now }
+    ensures { result ≡ lacks_host_spec verdict (contents libs.now) }
 {
     is_no_host(verdict) && !has_host_among(libs)
 }
@@ -115,10 +123,10 @@ pub(crate) fn lists_without_host<A: Allocator + Copy>(
     host: &[u8],
     libs: &[&[u8]],
 ) -> Result<String<A>, AllocError>
-    ensures lists { IfOk result (λ lists. lacks_host_spec verdict libs.now ≡ true
+    ensures lists { IfOk result (λ lists. lacks_host_spec verdict (contents libs.now) ≡ true
         → AreLists (host_path.now ∷ map (λ path. path.now) paths.now)
         (host.now ∷ contents libs.now) (string_bytes lists)) }
-    ensures none { IfOk result (λ lists. lacks_host_spec verdict libs.now ≡ false
+    ensures none { IfOk result (λ lists. lacks_host_spec verdict (contents libs.now) ≡ false
         → string_bytes lists ≡ []) }
 {
     if !lacks_host(verdict, libs) {

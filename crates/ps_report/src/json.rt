@@ -1,13 +1,15 @@
 //! The report of a check as JSON.
-ghost use Rattle.std.specs.Prelude.{◌≡◌, IfOk, Some, string_bytes};
+ghost use Rattle.std.specs.Prelude.{◌≡◌, ◌++◌, ℕ, IfOk, List, OnOk, Some, string_bytes, true};
+ghost use Rattle.ps_linkfile.specs.JsonText.{comma_unless};
 ghost use Rattle.ps_words.specs.FaultText.{kind_of as kind_of_spec};
-ghost use Rattle.ps_report.specs.ReportJson.{BeginsWith, fault_json, number_or_null, place_members, reason_members, verdict_json};
+ghost use Rattle.ps_report.specs.ReportJson.{AreItems, BeginsWith, IsDocument, IsReportJson, fault_json, number_or_null, place_members, reason_members, report_json, verdict_json, warning_json};
 
+use crate::json_strings::{JsonText, NameOrNull};
 use crate::report::Report;
 use crate::verdict::Verdict;
 use ps_linkfile::Summary;
-use ps_warnings::{Place, Warning};
-use ps_words::{Fault, Name, Reason};
+use ps_warnings::{Place, Warning, Weight};
+use ps_words::{Fault, Reason};
 use std::alloc::{AllocError, Allocator};
 use std::fmt::{self, Formatter, Write as _};
 
@@ -125,93 +127,67 @@ impl fmt::Display for JsonVerdict {
     }
 }
 
-/// A text inside a string.
-#[derive(Clone, Copy)]
-struct JsonText<'a>(&'a str);
-
-/// Writes a character inside a string.
-fn write_character<W: fmt::Write>(f: &mut Formatter<W>, character: char) -> fmt::Result {
-    match character {
-        '"' => f.write_str("\\\""),
-        '\\' => f.write_str("\\\\"),
-        '\n' => f.write_str("\\n"),
-        _ if character.is_control() => {
-            let code = character as u32;
-            write!(f, "\\u{code:04x}")
-        }
-        _ => f.write_char(character),
-    }
-}
-
-impl fmt::Display for JsonText<'_> {
-    fn fmt<W: fmt::Write>(&self, f: &mut Formatter<W>) -> fmt::Result {
-        for character in self.0.chars() {
-            write_character(f, character)?;
-        }
-        Ok(())
-    }
-}
-
-/// A name of a segment: as map and show print it, and all its bytes; or `null`.
-#[derive(Clone, Copy)]
-struct NameOrNull(Option<Name>);
-
-impl fmt::Display for NameOrNull {
-    fn fmt<W: fmt::Write>(&self, f: &mut Formatter<W>) -> fmt::Result {
-        match self.0 {
-            Some(name) => write_name(f, name),
-            None => f.write_str("null"),
-        }
-    }
-}
-
-/// Writes the two members of a name.
-fn write_name<W: fmt::Write>(f: &mut Formatter<W>, name: Name) -> fmt::Result {
-    f.write_str("{\"name\":\"")?;
-    for byte in name {
-        match byte {
-            b' '..=b'~' => write_character(f, char::from(byte))?,
-            _ => f.write_char('?')?,
-        }
-    }
-    f.write_str("\",\"name_hex\":\"")?;
-    for byte in name {
-        write!(f, "{byte:02X}")?;
-    }
-    f.write_str("\"}")
-}
-
 /// Adds the item of a warning: how much it weighs, where something looks wrong, and what.
-fn add_warning<A: Allocator + Copy>(
-    alloc: A,
+fn push_warning<A: Allocator>(
     text: &mut String<A>,
     warning: &Warning<'_>,
-) -> Result<(), AllocError> {
+    weight: Weight,
+    words: &str,
+) -> Result<(), AllocError>
+    ensures { OnOk result (string_bytes text.new
+        ≡ string_bytes text.old ++ warning_json warning.now weight words.now) }
+{
     let Place { path, segment, rec } = warning.place;
     let path = JsonText(path);
     let segment = NameOrNull(segment);
     let rec = NumberOrNull(rec);
-    let look = warning.look;
-    let weight = look.weight();
-    let words = format!(in alloc; "{look}")?;
-    let words = JsonText(words.as_str());
+    let words = JsonText(words);
     write!(
         text,
         "\n{{\"weight\":\"{weight}\",\"path\":\"{path}\",\"segment\":{segment},\"record\":{rec},\"text\":\"{words}\"}}"
     )
 }
 
+/// Adds what is before an item: nothing before the first.
+fn push_comma<A: Allocator>(text: &mut String<A>, first: bool) -> Result<(), AllocError>
+    ensures { OnOk result (string_bytes text.new
+        ≡ string_bytes text.old ++ comma_unless first) }
+{
+    if first {
+        return Ok(());
+    }
+    text.push_str(",")
+}
+
+/// Adds the item of a warning, and what is before it.
+fn add_warning<A: Allocator + Copy>(
+    alloc: A,
+    text: &mut String<A>,
+    first: bool,
+    warning: &Warning<'_>,
+) -> Result<(), AllocError>
+    ensures { OnOk result ((weight : Weight) × (words : List ℕ) × (string_bytes text.new
+        ≡ string_bytes text.old ++ (comma_unless first ++ warning_json warning.now weight words))) }
+{
+    let look = warning.look;
+    let weight = look.weight();
+    let words = format!(in alloc; "{look}")?;
+    push_comma(text, first)?;
+    push_warning(text, warning, weight, words.as_str())
+}
+
 /// The items of warnings.
 fn warning_items<A: Allocator + Copy>(
     alloc: A,
     warnings: &[Warning<'_>],
-) -> Result<String<A>, AllocError> {
+) -> Result<String<A>, AllocError>
+    ensures { IfOk result (λ items. AreItems true warnings.now (string_bytes items)) }
+{
     let mut text = String::new(alloc);
-    for (index, warning) in warnings.iter().enumerate() {
-        if index > 0 {
-            text.push(',')?;
-        }
-        add_warning(alloc, &mut text, warning)?;
+    let mut first = true;
+    for warning in warnings {
+        add_warning(alloc, &mut text, first, warning)?;
+        first = false;
     }
     Ok(text)
 }
@@ -224,15 +200,51 @@ impl<A: Allocator + Copy> Report<'_, A> {
     /// Source: RFC 8259; the document is this project's profile.
     pub fn json(&self, alloc: A) -> Result<String<A>, AllocError>
         ensures verdict { IfOk result (λ text. BeginsWith (string_bytes text) self.now.verdict) }
+        ensures document { IfOk result (λ text. IsReportJson self.now.verdict
+            self.now.warnings.items (string_bytes self.now.text) (string_bytes text)) }
+        ensures whole { IfOk result (λ text. IsDocument self.now.verdict
+            self.now.warnings.items self.now.harmless.items self.now.notes.items
+            (string_bytes self.now.text) (string_bytes text)) }
     {
-        let verdict = JsonVerdict(self.verdict);
         let items = warning_items(alloc, self.warnings.as_slice())?;
         let harmless = warning_items(alloc, self.harmless.as_slice())?;
         let notes = warning_items(alloc, self.notes.as_slice())?;
-        let report = JsonText(self.text.as_str());
-        let rest = format!(in alloc;
-            ",\"warnings\":[{items}\n],\"harmless\":[{harmless}\n],\"notes\":[{notes}\n],\"report\":\"{report}\"}}\n"
-        )?;
-        format!(in alloc; "{verdict}{rest}")
+        let items = Items {
+            warnings: items.as_str(),
+            harmless: harmless.as_str(),
+            notes: notes.as_str(),
+        };
+        document(alloc, self.verdict, items, self.text.as_str())
     }
+}
+
+/// The items of the lists of a document.
+#[derive(Clone, Copy)]
+struct Items<'t> {
+    warnings: &'t str,
+    harmless: &'t str,
+    notes: &'t str,
+}
+
+/// A document of these items and this text.
+#[tactic(auto, unfolding(crate::specs::ReportJson::report_json))]
+fn document<A: Allocator>(
+    alloc: A,
+    verdict: Verdict,
+    items: Items<'_>,
+    report: &str,
+) -> Result<String<A>, AllocError>
+    ensures { IfOk result (λ text. string_bytes text ≡ report_json verdict
+        items.warnings.now items.harmless.now items.notes.now report.now) }
+{
+    let Items {
+        warnings,
+        harmless,
+        notes,
+    } = items;
+    let verdict = JsonVerdict(verdict);
+    let report = JsonText(report);
+    format!(in alloc;
+        "{verdict},\"warnings\":[{warnings}\n],\"harmless\":[{harmless}\n],\"notes\":[{notes}\n],\"report\":\"{report}\"}}\n"
+    )
 }

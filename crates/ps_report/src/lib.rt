@@ -4,6 +4,8 @@
 
 mod alone;
 mod json;
+mod json_strings;
+mod lines;
 mod report;
 mod verdict;
 

@@ -1,15 +1,17 @@
 //! The report of a check.
-ghost use Rattle.std.specs.Prelude.{◌≡◌, ◌↔◌, ◌⊎◌, ◌<◌, ◌∷◌, ◌++◌, [], ℕ, IfOk, List, None, OnOk, codes, false, map, true, string_bytes, vec_len};
+ghost use Rattle.std.specs.Prelude.{◌≡◌, ◌↔◌, ◌⊎◌, ◌∷◌, ◌++◌, [], ℕ, IfOk, List, OnOk, codes, false, map, true, string_bytes, vec_len};
 ghost use Rattle.ps_resolve.specs.Sources.{contents};
 ghost use Rattle.ps_resolve.specs.Standing.{NoneStands};
 ghost use Rattle.ps_findings.specs.SegmentLines.{segment_lines};
 ghost use Rattle.ps_findings.specs.SlotLines.{AddsSlotLines, slot_lines};
 ghost use Rattle.ps_report.specs.Lists.{HasLists, lacks_host};
-ghost use Rattle.ps_report.specs.Verdicts.{IsRefused, IsVerdict, Tells, check_status, fault_of, verdict_line};
+ghost use Rattle.ps_report.specs.Verdicts.{IsRefused, IsVerdict, Tells, check_status, verdict_line};
+ghost use Rattle.ps_report.specs.WarningLines.{AddsWarnings, HasWarning, other_lines, warnings_in};
 
 use crate::alone::lists_without_host;
+use crate::lines::{add_looks, add_other_lines};
 use crate::verdict::{Verdict, verdict_of};
-use ps_findings::{Findings, add_other_lines, findings_of};
+use ps_findings::{Findings, findings_of};
 use ps_laws::first_of_all;
 use ps_warnings::{Looks, Warning};
 use std::alloc::{AllocError, Allocator};
@@ -71,13 +73,16 @@ pub fn check<'a, A: Allocator + Copy>(
     ensures refused { IfOk result (λ r. (check_status false (vec_len r.warnings) r.verdict ≡ 1)
         ↔ IsRefused host.now (contents libs.now)) }
     ensures warned { IfOk result (λ r. (check_status true (vec_len r.warnings) r.verdict ≡ 1)
-        ↔ ((0 < vec_len r.warnings) ⊎ IsRefused host.now (contents libs.now))) }
+        ↔ (HasWarning (string_bytes r.text) ⊎ IsRefused host.now (contents libs.now))) }
+
+    // Each warning has its line, and no other line begins with `warning: `.
+    ensures counted { IfOk result (λ r. warnings_in (string_bytes r.text) ≡ vec_len r.warnings) }
 
     // The line of the verdict begins a line of the text.
     ensures line { IfOk result (λ r. Tells (string_bytes r.text) r.verdict) }
 
     // Where no file is a host, the text has the list of each.
-    ensures lists { IfOk result (λ r. lacks_host r.verdict libs.now ≡ true
+    ensures lists { IfOk result (λ r. lacks_host r.verdict (contents libs.now) ≡ true
         → HasLists (host_path.now ∷ map (λ path. path.now) paths.now)
         (host.now ∷ contents libs.now) (string_bytes r.text)) }
 
@@ -101,18 +106,19 @@ pub fn check<'a, A: Allocator + Copy>(
         notes,
     } = looks;
     let lists = lists_without_host(alloc, verdict, host_path, paths, host, libs)?;
-    let warned = lines_of(
+    let parts = Parts {
+        overview: overview.as_str(),
+        explanation: explanation.as_str(),
+        lists: lists.as_str(),
+    };
+    let mut text = with_verdict(alloc, verdict, parts)?;
+    add_looks(
         alloc,
+        &mut text,
         warnings.as_slice(),
         harmless.as_slice(),
         notes.as_slice(),
     )?;
-    let parts = Parts {
-        explanation: explanation.as_str(),
-        lists: lists.as_str(),
-        warned: warned.as_str(),
-    };
-    let text = with_verdict(overview, verdict, parts)?;
     Ok(Report {
         verdict,
         warnings,
@@ -122,32 +128,12 @@ pub fn check<'a, A: Allocator + Copy>(
     })
 }
 
-/// What a report has after the line of its verdict, in lines.
+/// What a report has before and after the line of its verdict, in lines, but for its warnings.
 #[derive(Clone, Copy)]
 struct Parts<'t> {
+    overview: &'t str,
     explanation: &'t str,
     lists: &'t str,
-    warned: &'t str,
-}
-
-/// The line of each warning, of each harmless look, and of each note.
-fn lines_of<A: Allocator>(
-    alloc: A,
-    warnings: &[Warning<'_>],
-    harmless: &[Warning<'_>],
-    notes: &[Warning<'_>],
-) -> Result<String<A>, AllocError> {
-    let mut text = String::new(alloc);
-    for warning in warnings {
-        writeln!(text, "warning: {warning}")?;
-    }
-    for warning in harmless {
-        writeln!(text, "{warning}")?;
-    }
-    for note in notes {
-        writeln!(text, "{note}")?;
-    }
-    Ok(text)
 }
 
 /// Ends the last line of a text, where it has no end.
@@ -155,6 +141,8 @@ fn end_line<A: Allocator>(text: &mut String<A>) -> Result<(), AllocError>
     ensures ended { OnOk result ((before : List ℕ)
         × (string_bytes text.new ≡ before ++ codes "\n")) }
     ensures lines { OnOk result (AddsSlotLines (string_bytes text.old) []
+        (string_bytes text.new)) }
+    ensures warnings { OnOk result (AddsWarnings (string_bytes text.old) 0
         (string_bytes text.new)) }
 {
     if text.as_str().ends_with('\n') {
@@ -175,29 +163,34 @@ fn push_verdict<A: Allocator>(text: &mut String<A>, verdict: Verdict) -> Result<
 fn add_verdict<A: Allocator>(text: &mut String<A>, verdict: Verdict) -> Result<(), AllocError>
     ensures line { OnOk result (string_bytes text.new
         ≡ string_bytes text.old ++ verdict_line verdict) }
-    ensures lines { fault_of verdict ≡ None
-        → OnOk result (AddsSlotLines (string_bytes text.old) [] (string_bytes text.new)) }
+    ensures lines { OnOk result (AddsSlotLines (string_bytes text.old) []
+        (string_bytes text.new)) }
+    ensures warnings { OnOk result (AddsWarnings (string_bytes text.old) 0
+        (string_bytes text.new)) }
 {
     push_verdict(text, verdict)
 }
 
-/// The line of the verdict between what is before it and after it.
+/// The line of the verdict between what is before it and after it, in which no line begins as that of
+/// a warning.
 fn with_verdict<A: Allocator>(
-    mut text: String<A>,
+    alloc: A,
     verdict: Verdict,
     parts: Parts<'_>,
 ) -> Result<String<A>, AllocError>
-    ensures parts { IfOk result (λ whole. (before : List ℕ) × (after : List ℕ)
-        × (string_bytes whole ≡ before ++ (codes "\n" ++ verdict_line verdict)
-        ++ parts.entry.explanation.now ++ parts.entry.lists.now ++ after)) }
-    ensures lines { IfOk result (λ whole. fault_of verdict ≡ None
-        → parts.entry.explanation.now ≡ [] → parts.entry.lists.now ≡ []
-        → AddsSlotLines (string_bytes text) [] (string_bytes whole)) }
+    ensures parts { IfOk result (λ text. (before : List ℕ)
+        × (string_bytes text ≡ before ++ (codes "\n" ++ verdict_line verdict)
+        ++ other_lines parts.entry.explanation.now ++ other_lines parts.entry.lists.now)) }
+    ensures warnings { IfOk result (λ text. AddsWarnings [] 0 (string_bytes text)) }
+    ensures lines { IfOk result (λ text. parts.entry.explanation.now ≡ []
+        → parts.entry.lists.now ≡ []
+        → AddsSlotLines [] (slot_lines parts.entry.overview.now) (string_bytes text)) }
 {
+    let mut text = String::new(alloc);
+    add_other_lines(&mut text, parts.overview)?;
     end_line(&mut text)?;
     add_verdict(&mut text, verdict)?;
-    text.push_str(parts.explanation)?;
-    text.push_str(parts.lists)?;
-    add_other_lines(&mut text, parts.warned)?;
+    add_other_lines(&mut text, parts.explanation)?;
+    add_other_lines(&mut text, parts.lists)?;
     Ok(text)
 }

@@ -1,7 +1,8 @@
 //! The verdict: whether the files are linked.
-ghost use Rattle.std.specs.Prelude.{◌≡◌, IfOk, Some};
+ghost use Rattle.std.specs.Prelude.{◌≡◌, IfErr, IfOk, None, Some};
+ghost use Rattle.ps_resolve.specs.AllFaults.{reading_fault};
 ghost use Rattle.ps_resolve.specs.Sources.{contents};
-ghost use Rattle.ps_report.specs.Verdicts.{IsVerdict, fault_of, verdict_line};
+ghost use Rattle.ps_report.specs.Verdicts.{IsRefusal, IsVerdict, fault_of, verdict_line};
 
 use ps_linkfile::{LinkError, Summary, prepare};
 use ps_words::Fault;
@@ -54,17 +55,29 @@ impl fmt::Display for Verdict {
     }
 }
 
-/// The verdict on a host and its libraries, which are prepared and not written.
+/// What it is that nothing was prepared: the verdict that the files are refused; or that memory ran
+/// out, since nothing is written.
+fn refusal(error: LinkError) -> Result<Verdict, AllocError>
+    ensures { IsRefusal error result }
+{
+    match error {
+        LinkError::Refused(fault) => Ok(Verdict::Refused(fault)),
+        LinkError::Memory | LinkError::Write(_) => Err(AllocError),
+    }
+}
+
+/// The verdict on a host and its libraries, which are prepared and not written. Memory is requested
+/// only once the files were read and have no fault.
 pub(crate) fn verdict_of<A: Allocator + Copy>(
     alloc: A,
     host: &[u8],
     libs: &[&[u8]],
 ) -> Result<Verdict, AllocError>
-    ensures { IfOk result (IsVerdict host.now (contents libs.now)) }
+    ensures right { IfOk result (IsVerdict host.now (contents libs.now)) }
+    ensures memory { IfErr result (λ _. reading_fault host.now (contents libs.now) ≡ None) }
 {
     match prepare(alloc, host, libs) {
         Ok(linked) => Ok(Verdict::Links(linked.summary())),
-        Err(LinkError::Refused(fault)) => Ok(Verdict::Refused(fault)),
-        Err(_) => Err(AllocError),
+        Err(error) => refusal(error),
     }
 }

@@ -1,2 +1,3 @@
 pub mod RecordLooks
 pub mod EntryLooks
+pub mod Weights

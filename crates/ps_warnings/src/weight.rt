@@ -1,4 +1,7 @@
 //! How much a look weighs.
+ghost use Rattle.std.specs.Prelude.{Some};
+ghost use Rattle.ps_warnings.specs.Weights.{weight_word};
+
 use std::fmt::{self, Formatter};
 
 /// How much a look weighs: whether a link of the files goes wrong by it. Its text is one word.
@@ -17,6 +20,8 @@ pub enum Weight {
 }
 
 impl fmt::Display for Weight {
+    ghost output = { λ weight. Some (weight_word weight) };
+
     fn fmt<W: fmt::Write>(&self, f: &mut Formatter<W>) -> fmt::Result {
         f.write_str(match self {
             Weight::Note => "note",

@@ -1,6 +1,7 @@
 use Rattle.std.proofs.Common.{◌∙◌, ◌-◌, length, take, sym, string_bytes, lit<}
 use Rattle.std.proofs.lemmas.Str.Pattern.{ends_char}
 use Rattle.ps_findings.proofs.SlotLines.{adds_end, adds_none}
+use Rattle.ps_report.proofs.WarningLines.{adds_end_of_line, none_added}
 use Rattle.ps_report.proofs.report.end_line.Goals as goal
 
 pub returns-then-ends_with-clause-ended : goal.returns-then-ends_with-clause-ended
@@ -18,4 +19,11 @@ returns-clause-ended g c = (string_bytes c.args.text.now, c.in_ok-push_str.ensur
 
 pub returns-clause-lines : goal.returns-clause-lines
 returns-clause-lines g c = adds_end (string_bytes c.args.text.now)
+    (string_bytes c.push_str.new.self) c.in_ok-push_str.ensures.bytes
+
+pub returns-then-ends_with-clause-warnings : goal.returns-then-ends_with-clause-warnings
+returns-then-ends_with-clause-warnings g c = none_added (string_bytes c.args.text.now)
+
+pub returns-clause-warnings : goal.returns-clause-warnings
+returns-clause-warnings g c = adds_end_of_line (string_bytes c.args.text.now)
     (string_bytes c.push_str.new.self) c.in_ok-push_str.ensures.bytes

@@ -1,0 +1,12 @@
+use Rattle.std.proofs.Common.{[], length, string_bytes, take}
+use Rattle.ps_findings.specs.SlotLines.{AddsSlotLines}
+use Rattle.ps_report.specs.WarningLines.{AddsWarnings}
+use Rattle.ps_report.proofs.lines.add_warnings.Given as goal
+
+-- the warnings so far have their lines
+abbrev pub invariant-loop-warning : goal.invariant-loop-warning
+invariant-loop-warning g l = record {
+  warnings : AddsWarnings (string_bytes l.fn.text)
+      (length (take l.warning-index l.warnings)) (string_bytes l.text);
+  lines : AddsSlotLines (string_bytes l.fn.text) [] (string_bytes l.text);
+}

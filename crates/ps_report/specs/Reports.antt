@@ -1,0 +1,30 @@
+-- The report of a check of files at these paths, the host's first.
+-- Source: this project's profile.
+use Rattle.std.specs.Prelude.{◌≡◌, ℕ, Bool, true, false, List, ◌∷◌, length}
+use Rattle.ps_resolve.specs.Standing.{NoneStands}
+use Rattle.ps_findings.specs.SegmentLines.{segment_lines}
+use Rattle.ps_findings.specs.SlotLines.{slot_lines}
+use Rattle.ps_warnings.specs.declared.warnings.Warning.{Warning}
+use Rattle.ps_report.specs.Lists.{HasLists, lacks_host}
+use Rattle.ps_report.specs.ReportJson.{IsReportJson}
+use Rattle.ps_report.specs.Verdicts.{IsVerdict, Tells}
+use Rattle.ps_report.specs.WarningLines.{warnings_in}
+use Rattle.ps_report.specs.declared.verdict.Verdict.{Verdict}
+
+-- The verdict is right, and its line is in the text; so many lines begin with `warning: `; where the
+-- files are linked, those that begin with `slot ` are those of the segments; and where no file is a
+-- host, the text has the list of each.
+pub record IsReport (paths : List (List ℕ)) (host : List ℕ) (libs : List (List ℕ))
+    (verdict : Verdict) (warnings : ℕ) (text : List ℕ) : Type 0 where
+  pub right : IsVerdict host libs verdict
+  pub line : Tells text verdict
+  pub counted : warnings_in text ≡ warnings
+  pub segments : NoneStands host libs → slot_lines text ≡ segment_lines paths host libs
+  pub lists : lacks_host verdict libs ≡ true → HasLists paths (host ∷ libs) text
+
+-- A report as it is printed: its text, or the JSON document that has the verdict, so many warnings
+-- and the text.
+abbrev pub IsPrintedText : Bool → Verdict → ℕ → List ℕ → List ℕ → Type 0
+IsPrintedText false verdict warnings report text = text ≡ report
+IsPrintedText true verdict warnings report text = (items : List Warning)
+    × (length items ≡ warnings) × IsReportJson verdict items report text

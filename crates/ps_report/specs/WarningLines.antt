@@ -1,0 +1,58 @@
+-- The lines of a report that begin with `warning: `: those of its warnings, and no others.
+-- Source: this project's profile.
+use Rattle.std.specs.Prelude.{◌≡◌, ℕ, ◌+◌, ◌==◌, ◌<◌, if◌then◌else◌, Bool, true, false, List}
+use Rattle.std.specs.Prelude.{[], ◌∷◌, ◌++◌, codes, length}
+use Rattle.std.specs.List.{filter, flat_map, starts_with}
+use Rattle.ps_findings.specs.SlotLines.{lines_of}
+
+-- a line begins with `warning: `
+abbrev pub is_warning_line : List ℕ → Bool
+is_warning_line line = starts_with (λ a b. a == b) line (codes "warning: ")
+
+-- those of a text, in order
+unfoldable pub warning_lines : List ℕ → List (List ℕ)
+warning_lines text = filter is_warning_line (lines_of text)
+
+-- how many lines of a text begin with `warning: `
+abbrev pub warnings_in : List ℕ → ℕ
+warnings_in text = length (warning_lines text)
+
+-- a line of the text begins with `warning: `
+abbrev pub HasWarning : List ℕ → Type 0
+HasWarning text = 0 < warnings_in text
+
+-- the new text is the old one with more, of which so many lines begin with `warning: `, whatever
+-- follows it
+abbrev pub AddsWarnings : List ℕ → ℕ → List ℕ → Type 0
+AddsWarnings old n new =
+    (more : List ℕ) × (new ≡ old ++ more)
+    × ((rest : List ℕ) → warnings_in (more ++ rest) ≡ n + warnings_in rest)
+
+-- what goes before a line that is no warning's
+abbrev pub indent : Bool → List ℕ
+indent begins = if begins then codes "  " else []
+
+-- a line that is no warning's, and its end: one that begins as that of a warning is indented
+unfoldable pub other_line : List ℕ → List ℕ
+other_line line = indent (is_warning_line line) ++ (line ++ 10 ∷ [])
+
+-- a text of such lines
+unfoldable pub other_lines : List ℕ → List ℕ
+other_lines text = flat_map other_line (lines_of text)
+
+-- what goes before the line of a warning
+abbrev pub mark : Bool → List ℕ
+mark begins = if begins then [] else codes "warning: "
+
+-- what the line of a note begins with, and that of what is harmless
+abbrev pub head : Bool → List ℕ
+head true = codes "note: "
+head false = codes "harmless: "
+
+-- such a line, and its end
+unfoldable pub note_line : Bool → List ℕ → List ℕ
+note_line is_note line = head is_note ++ (line ++ 10 ∷ [])
+
+-- the line of a warning, and its end
+unfoldable pub warning_line : List ℕ → List ℕ
+warning_line line = mark (is_warning_line line) ++ (line ++ 10 ∷ [])
