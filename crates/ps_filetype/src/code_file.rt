@@ -193,7 +193,7 @@ fn is_readable(name: &Name) -> bool
 }
 
 /// ASCII prints each byte.
-fn are_printed(text: &[u8]) -> bool
+pub(crate) fn are_printed(text: &[u8]) -> bool
     ensures { result ≡ list_all is_printed text.now }
 {
     text.iter()

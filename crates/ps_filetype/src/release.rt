@@ -1,7 +1,11 @@
 //! Code files of later releases of the p-System.
+use crate::code_file::are_printed;
 use ps_codefile::dictionary_layout::SLOTS;
 use ps_words::{BLOCK_SIZE, Order, WORD_LEN, get};
 use std::fmt::{self, Formatter};
+
+/// Where the names of the segments begin, in all releases.
+const NAMES: usize = 64;
 
 /// Where the words begin that have the version of a segment: SEGINFO, in all releases.
 const SEGMENT_INFORMATION: usize = 256;
@@ -56,15 +60,22 @@ pub(crate) fn later_release(bytes: &[u8]) -> Option<Release> {
     None
 }
 
-/// Each segment has a version from `first` to `last`, each other slot has none, and there is a
-/// segment.
+/// The name of a slot is one that a person can read.
+fn has_name(block: &[u8], slot: u8) -> bool {
+    let name = block.get(NAMES + 8 * usize::from(slot)..).unwrap_or(&[]);
+    are_printed(name.get(..8).unwrap_or(&[0]))
+}
+
+/// Each segment has a name and a version from `first` to `last`, each other slot has no version, and
+/// there is a segment.
 fn has_versions(order: Order, block: &[u8], first: u16, last: u16) -> bool {
     let mut is_found = false;
     for slot in 0..SLOTS {
         let at = usize::from(slot);
         let is_used = word_at(order, block, 4 * at) != 0 && word_at(order, block, 4 * at + 2) != 0;
         let information = word_at(order, block, SEGMENT_INFORMATION + 2 * at);
-        if is_used && !(first..=last).contains(&(information >> 13)) {
+        let has_version = (first..=last).contains(&(information >> 13));
+        if is_used && !(has_version && has_name(block, slot)) {
             return false;
         }
         if !is_used && information != 0 {
