@@ -14,7 +14,7 @@ import linker
 import wrong_linkers
 
 SOURCE = (pathlib.Path(linker.__file__)).read_text()
-SECONDS = 5  # for one linker over one case
+SECONDS = 30  # for one linker over one case, on a machine that has other work
 LIKELY = 40  # questions that are asked first
 
 
@@ -79,8 +79,8 @@ def module_of(source):
 
 
 def rows():
-    tables = ("FILES", "ROLES", "CODES", "RECORDS", "SOURCES", "ADDED", "VALUES", "REFERENCES", "WRITTEN")
-    for table in tables:
+    """The wrong linkers that the cases that are kept tell."""
+    for table in ("FILES", "ROLES", "CODES", "RECORDS", "SOURCES", "ADDED", "VALUES", "REFERENCES", "WRITTEN"):
         yield from (Row(*row) for row in getattr(wrong_linkers, table))
     for looseness, form in wrong_linkers.LOOSE.items():
         for what, *items in wrong_linkers.COMPARED:
@@ -158,13 +158,18 @@ def questions_of(cases):
     return [case.is_linked_by for case in loaded] + [case.is_shown_by for case in loaded]
 
 
-def tell(cases):
+def large_rows():
+    """The wrong linkers that the cases of megabytes tell."""
+    return (Row(*row) for row in wrong_linkers.LARGE)
+
+
+def tell(cases, wrong_ones):
     """The wrong linkers, the cases that tell them, and what is wrong: a right linker that differs, a wrong one that does not."""
     signal.signal(signal.SIGALRM, stopped)
     questions, found, told = questions_of(cases), [], {}
     if question := differing(linker, questions):
         found.append(f"linker.py answers {question.__self__.name} otherwise")
-    for row in rows():
+    for row in wrong_ones:
         with row.linker() as wrong:
             question = differing(wrong, likely(row, questions) + questions)
         if question is None and row.what not in wrong_linkers.UNTOLD:

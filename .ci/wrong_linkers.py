@@ -661,6 +661,15 @@ WRITTEN = [
     ("show: a fault of a record is left out", "link_lines", "yield f\"{start}fault", "if fault.number < 19:\n            yield f\"{start}fault"),
 ]
 
+# Linkers that only files of megabytes tell
+LARGE = [
+    ("the index of a record has fifteen bits", "records_of", "index += 1", "index = (index + 1) % 32768"),
+    ("the index of a record has sixteen bits", "records_of", "index += 1", "index = (index + 1) % 65536"),
+    ("the index of a reference has fourteen bits", "Link.resolve", "places = range(", "index %= 16384\n                places = range("),
+    ("a list has at most 16384 references", "records_of", 'f"{sign}{record.count}H"', 'f"{sign}{min(record.count, 16384)}H"'),
+    ("the block of a code has nine bits", "Link.file", "1 + len(codes) // BLOCK", "(1 + len(codes) // BLOCK) % 512"),
+]
+
 # Names that are not compared as eight bytes, in each place where names are compared
 LOOSE = {
     "without regard to capitals": "{}.lower()", "in seven bits": "bytes(byte % 128 for byte in {})", "in seven characters": "{}[:7]",

@@ -200,7 +200,7 @@ def shown_faults():
     yield one_unit("map-of-a-name-of-a-slot", "The map has the name of the slot and of the unit, which are one, and a "
                    "variable of blanks.", ["AB", private("", 1)],
                    [priv_ref("", 2, [1])], privates=[(7, "", 8, 2)], next_free=10, data=14)
-    yield linked("show-entries-of-the-program", "The host has a UNITREF to a plain segment's name, which is a unit in the library.",
+    yield linked("added-of-the-name-of-a-plain-segment", "The host has a UNITREF to a plain segment's name, which is a unit in the library.",
                  {1: program(unit_ref("TOOLS", [1]), parts=["CD", unit("TOOLS"), "01", "D7"]), 9: TOOLS}, [{15: unit_of("TOOLS")}],
                  [DEMO, (7, 1, 15, True), (9, 0, 9)])
 

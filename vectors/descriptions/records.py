@@ -205,7 +205,7 @@ def privates():
     yield case("26-none-then-one", "The end mark is 32767; of private variables of 0 words and of one, the second does not fit.",
                [0, 1], 32767,
                Fault(26, 1, 7, 1))
-    yield one_unit("privates-of-the-host-alone", "Private variables of 0, 1 and 0 words.", [],
+    yield one_unit("privates-of-0-1-and-0-words", "Private variables of 0, 1 and 0 words.", [],
                    [priv_ref("A", 0, []), priv_ref("B", 1, []), priv_ref("C", 0, [])],
                    privates=[(7, "A", 8, 0), (7, "B", 8, 1), (7, "C", 9, 0)],
                    next_free=9, data=12)

@@ -220,7 +220,7 @@ def who_asks():
     yield refused("13-by-the-second-added-unit", "UTIL uses MORE, which uses LAST, which requests what no library has.",
                   wanting("UTIL"), chain,
                   Fault(13, 1, 9, 1))
-    yield refused("13-library-is-searched-not-the-host", "A unit of the host's name that only an empty slot of the host has "
+    yield refused("13-empty-slot-of-the-name", "A unit of the host's name that only an empty slot of the host has "
                   "is missing.",
                   {**wanting("UTIL"), 9: Segment("MORE", 5, address=1, length=0)}, [first], Fault(13, 1, 7, 0))
     yield refused("35-by-an-added-unit", "MORE, which is added in the last empty slot, requests LAST.",
