@@ -110,7 +110,7 @@ static void check_verdicts(void)
           "the fault of the host alone is another", 0);
 }
 
-/* Bit 7 of the operand of COUNT is clear in the unit's code: one warning, of which a strict check says 1. */
+/* The attribute table of the unit's procedure has another number: one warning, of which a strict check says 1. */
 static void check_strict(void)
 {
     static unsigned char room[ROOM], other[1 << 16];
@@ -119,7 +119,7 @@ static void check_strict(void)
     int strict;
 
     memcpy(other, library.bytes, library.length);
-    other[512 + 1] = 0;
+    other[512 + 18] = 3;
     warned.bytes = other;
     for (strict = 0; strict < 3; strict++) {
         uint32_t status = pslink_check_files(host, &warned, 1, strict, room, sizeof room, &answer);

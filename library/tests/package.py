@@ -85,12 +85,12 @@ def of_reports():
     check(report.text.startswith(f"file 0 {HOST}: ") and parts(report.fault) == MISSING, f"the report of a path is {report}")
     check((report.warnings, report.summary, report.ok) == (0, None, False), f"what goes with a refusal is {report[1:]}")
     check(parts(pickle.loads(pickle.dumps(report)).fault) == MISSING, "a report that was pickled is another")
-    # (bit 7 of the operand of COUNT is clear)
-    warned = library[:513] + b"\0" + library[514:]
+    # (the attribute table of its procedure has another number)
+    warned = library[:530] + b"\3" + library[531:]
     for strict in (False, True):
         report = pslink.check(host, [warned], ["\N{FLOPPY DISK}", "two"], strict)
         check((report.warnings, report.fault, report.ok) == (1, None, not strict), f"a warning is {report[1:]}")
-        check("file 0 \N{FLOPPY DISK}: " in report.text and "\nwarning: two, segment UTIL" in report.text, f"its text is {report.text}")
+        check("file 0 \N{FLOPPY DISK}: " in report.text and "\nwarning: damaged: two, segment UTIL" in report.text, f"its text is {report.text}")
     check(pslink.check(host, [library]) and not pslink.check(host), "a report is true otherwise than where it is ok")
     check(pslink.check(host) == pslink.check(host) != pslink.check(host, [library]), "two reports are equal otherwise than by what they hold")
     check(raised(ValueError, pslink.check, host, [library], ["one"]), "a name too few is no ValueError")

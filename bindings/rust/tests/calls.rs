@@ -81,12 +81,12 @@ fn a_report_names_the_files_and_has_the_verdict() {
         (report.warnings, report.verdict, report.ok),
         (0, Ok(summary), true)
     );
-    // Bit 7 of the operand of COUNT is clear.
-    library[513] = 0;
+    // The attribute table of its procedure has another number.
+    library[530] = 3;
     for strict in [false, true] {
         let report = pslink::check(("one", &host), &[("two", &library)], strict).unwrap();
         assert_eq!((report.warnings, report.ok), (1, !strict));
-        assert!(report.text.contains("\nwarning: two, segment UTIL"));
+        assert!(report.text.contains("\nwarning: damaged: two, segment UTIL"));
     }
     let none: &[(&str, &[u8])] = &[];
     let report = pslink::check(("HOST", &host), none, false).unwrap();
