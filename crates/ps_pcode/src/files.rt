@@ -1,7 +1,7 @@
 //! What the procedures of a file show of its P-code, and the one that breaks a rule which the others
 //! keep: damage hits one procedure, and a compiler's habit many.
 use crate::bodies::Body;
-use crate::rules::{Reading, Rule, Shown};
+use crate::rules::{Rule, Shown};
 use crate::tables::procedures_of;
 use ps_codefile::Dict;
 use ps_codefile::dictionary_layout::SLOTS;
@@ -77,10 +77,8 @@ impl Tally {
 /// Source: this project's profile.
 #[derive(Clone, Copy)]
 pub struct FileCode {
-    instructions: Tally,
-    cases: Tally,
-    table_jumps: Tally,
-    stack: Tally,
+    /// By rule, in their order.
+    tallies: [Tally; 4],
     /// How many operands a compiler has left to a link, by slot.
     left_to_link: [usize; 16],
     /// Its compiler writes other operands longer than need be too.
@@ -89,10 +87,7 @@ pub struct FileCode {
 
 impl FileCode {
     const NONE: FileCode = FileCode {
-        instructions: Tally::NONE,
-        cases: Tally::NONE,
-        table_jumps: Tally::NONE,
-        stack: Tally::NONE,
+        tallies: [Tally::NONE; 4],
         left_to_link: [0; 16],
         is_lengthened: false,
     };
@@ -136,11 +131,14 @@ impl FileCode {
     fn add(&mut self, slot: u8, procedure: usize, body: Body<'_>) {
         let reading = body.reading();
         let (place, is_long) = ((slot, procedure), LONG <= body.len());
-        self.instructions = self.instructions.with(place, is_long, reading.instructions);
-        if !reading.instructions.is_broken() {
-            self.cases = self.cases.with(place, is_long, reading.cases);
-            self.table_jumps = self.table_jumps.with(place, is_long, reading.table_jumps);
-            self.stack = self.stack.with(place, is_long, reading.stack);
+        let is_read = 0 < reading.rules_kept();
+        for (index, shown) in reading.shown.iter().enumerate() {
+            // (of instructions that are not read no other rule is known)
+            if let Some(tally) = self.tallies.get_mut(index) {
+                if index == 0 || is_read {
+                    *tally = tally.with(place, is_long, *shown);
+                }
+            }
         }
         self.is_lengthened = self.is_lengthened || reading.is_lengthened;
         if let Some(operands) = self.left_to_link.get_mut(usize::from(slot)) {
@@ -154,21 +152,13 @@ impl FileCode {
     ///
     /// Source: this project's profile.
     pub fn misfit(&self, slot: u8) -> Option<Misfit> {
-        for rule in Rule::ALL {
-            if let Some(procedure) = self.tally(rule).misfit(slot) {
+        for (rule, tally) in Rule::ALL.iter().zip(&self.tallies) {
+            if let Some(procedure) = tally.misfit(slot) {
+                let rule = *rule;
                 return Some(Misfit { procedure, rule });
             }
         }
         None
-    }
-
-    fn tally(&self, rule: Rule) -> Tally {
-        match rule {
-            Rule::Instructions => self.instructions,
-            Rule::Cases => self.cases,
-            Rule::TableJumps => self.table_jumps,
-            Rule::Stack => self.stack,
-        }
     }
 
     /// The codes are P-code, as far as the instructions of most procedures say, of which at least
@@ -176,7 +166,7 @@ impl FileCode {
     ///
     /// Source: this project's profile.
     pub fn is_shown(&self) -> bool {
-        let Tally { kept, broken, .. } = self.instructions;
+        let Tally { kept, broken, .. } = self.tallies[0];
         MANY <= kept && broken <= kept / FEW
     }
 

@@ -176,6 +176,14 @@ pub fn may_be_operand(code: &[u8], place: usize, filled: Filled) -> bool {
     }
 }
 
+/// A case begins at a place of a code, whole or not.
+pub(crate) fn is_case_at(code: &[u8], place: usize) -> bool {
+    match code.get(place) {
+        Some(opcode) => matches!(operands_of(*opcode, Release::Later), Operands::Case),
+        None => false,
+    }
+}
+
 fn operands_of(opcode: u8, release: Release) -> Operands {
     let Row(_, _, operands, _) = Row::of(opcode, release);
     operands

@@ -35,10 +35,6 @@ pub(crate) enum Shown {
 }
 
 impl Shown {
-    pub(crate) fn is_broken(self) -> bool {
-        matches!(self, Shown::Broken)
-    }
-
     /// What is shown by something that is there and keeps to a rule or not.
     pub(crate) fn by(is_there: bool, is_kept: bool) -> Shown {
         match (is_there, is_kept) {
@@ -49,13 +45,10 @@ impl Shown {
     }
 }
 
-/// What a procedure shows of each rule, and of operands that are longer than need be.
+/// What a procedure shows of each rule, in their order, and of operands that are longer than need be.
 #[derive(Clone, Copy)]
 pub(crate) struct Reading {
-    pub(crate) instructions: Shown,
-    pub(crate) cases: Shown,
-    pub(crate) table_jumps: Shown,
-    pub(crate) stack: Shown,
+    pub(crate) shown: [Shown; 4],
     /// How many operands a compiler has left to a link.
     pub(crate) left_to_link: usize,
     /// Other operands are longer than need be too.
@@ -63,20 +56,11 @@ pub(crate) struct Reading {
 }
 
 impl Reading {
-    pub(crate) fn of(self, rule: Rule) -> Shown {
-        match rule {
-            Rule::Instructions => self.instructions,
-            Rule::Cases => self.cases,
-            Rule::TableJumps => self.table_jumps,
-            Rule::Stack => self.stack,
-        }
-    }
-
     /// How many rules there are before the first that it breaks.
     pub(crate) fn rules_kept(self) -> usize {
         let mut kept = 0usize;
-        for rule in Rule::ALL {
-            if self.of(rule).is_broken() {
+        for shown in self.shown {
+            if matches!(shown, Shown::Broken) {
                 return kept;
             }
             kept = kept.saturating_add(1);

@@ -1,6 +1,6 @@
 //! A walk over the instructions of a procedure of P-code, from where it is entered to its return.
 use crate::bodies::{Body, Target};
-use crate::instructions::Instruction;
+use crate::instructions::{Instruction, is_case_at};
 use crate::places::Places;
 use crate::rules::{Reading, Shown};
 use crate::stacks::Stack;
@@ -55,21 +55,29 @@ impl Walk {
         let mut walk = Walk::NONE;
         for _ in 0..body.len() {
             let place = body.ends.enter.saturating_add(walk.place);
+            if walk.is_whole {
+                return walk.reading();
+            }
+            walk.arrive(body, place);
             match Instruction::at(body.order, release, body.code, place) {
-                Some(instruction) if !walk.is_whole => walk.pass(body, place, instruction),
-                _ => return walk.reading(),
+                Some(instruction) => walk.pass(body, place, instruction),
+                None => return walk.reading(),
             }
         }
         walk.reading()
     }
 
-    /// Goes over an instruction.
-    fn pass(&mut self, body: Body<'_>, place: usize, instruction: Instruction) {
+    /// Notes what is at a place where an instruction begins.
+    fn arrive(&mut self, body: Body<'_>, place: usize) {
         self.starts.add(self.place);
         self.is_left = self.is_left || place == body.ends.leave;
-        if instruction.is_case() && self.first_case.is_none() {
+        if self.first_case.is_none() && is_case_at(body.code, place) {
             self.first_case = Some(self.place);
         }
+    }
+
+    /// Goes over an instruction.
+    fn pass(&mut self, body: Body<'_>, place: usize, instruction: Instruction) {
         self.pass_stack(instruction);
         if self.is_left && instruction.is_return() {
             self.is_whole = true;
@@ -125,10 +133,12 @@ impl Walk {
         let is_table_kept = !self.leads_outside && !is_before(odd_by_table, limit);
         let last = if is_all_read { usize::MAX } else { limit };
         Reading {
-            instructions: Shown::by(true, is_read),
-            cases: Shown::by(is_read && has_case, is_all_read),
-            table_jumps: Shown::by(is_read && self.has_table_jump, is_table_kept),
-            stack: Shown::by(is_read, !is_before(self.first_odd_stack, last)),
+            shown: [
+                Shown::by(true, is_read),
+                Shown::by(is_read && has_case, is_all_read),
+                Shown::by(is_read && self.has_table_jump, is_table_kept),
+                Shown::by(is_read, !is_before(self.first_odd_stack, last)),
+            ],
             left_to_link: if is_all_read { self.left_to_link } else { 0 },
             is_lengthened: is_read && self.is_lengthened,
         }
