@@ -63,9 +63,13 @@ is_whole order file slot = is_filled (entry_at order file slot)
 unfoldable pub has_code : Order → List ℕ → Bool
 has_code order file = list_any (is_whole order file) slots
 
--- a person can read the name: ASCII prints each of its bytes, and it is not blank
+-- a byte of a name that a person can read: ASCII prints it, or it is a 0 in place of a blank
+abbrev pub is_letter : ℕ → Bool
+is_letter byte = is_printed byte || byte == 0
+
+-- a person can read the name: each of its bytes is such a one, and it is not blank
 abbrev pub is_readable : List ℕ → Bool
-is_readable name = list_all is_printed name && not (is_nameless name)
+is_readable name = list_all is_letter name && not (is_nameless name)
 
 -- the entry of a slot is that of a code: its kind is one of those that there are, and its name can
 -- be read

@@ -3,8 +3,7 @@ ghost use Rattle.std.specs.Prelude.{◌≡◌, ◌<◌, ◌≤◌};
 ghost use Rattle.std.specs.List.{list_all, list_any, range_with_len};
 ghost use Rattle.std.specs.Result.{is_ok};
 ghost use Rattle.ps_codefile.specs.Dictionary.{code_of, entry_at, role_of};
-ghost use Rattle.ps_shown.specs.Shown.{is_printed};
-ghost use Rattle.ps_filetype.specs.CodeFiles.{code_file, code_file_word, has_code as has_code_spec, has_code_beside, has_kind as has_kind_spec, has_kinds as has_kinds_spec, has_other as has_other_spec, has_other_kind as has_other_kind_spec, has_shown_code as has_shown_code_spec, is_code_file as is_code_file_spec, is_kind as is_kind_spec, is_other as is_other_spec, is_readable as is_readable_spec, is_whole as is_whole_spec, opened, order_by_codes as order_by_codes_spec, purpose_of as purpose_of_spec, shows_code as shows_code_spec, tells as tells_spec, wants_unit as wants_unit_spec};
+ghost use Rattle.ps_filetype.specs.CodeFiles.{code_file, code_file_word, has_code as has_code_spec, has_code_beside, has_kind as has_kind_spec, has_kinds as has_kinds_spec, has_other as has_other_spec, has_other_kind as has_other_kind_spec, has_shown_code as has_shown_code_spec, is_code_file as is_code_file_spec, is_kind as is_kind_spec, is_letter as is_letter_spec, is_other as is_other_spec, is_readable as is_readable_spec, is_whole as is_whole_spec, opened, order_by_codes as order_by_codes_spec, purpose_of as purpose_of_spec, shows_code as shows_code_spec, tells as tells_spec, wants_unit as wants_unit_spec};
 
 use ps_codefile::dictionary_layout::SLOTS;
 use ps_codefile::kinds::{HOSTSEG, LAST_INTRINSIC, LINKED, UNITSEG};
@@ -185,19 +184,26 @@ fn has_code(dict: &Dict<'_>) -> bool
     has_code_below(dict, SLOTS)
 }
 
-/// A person can read the name: ASCII prints each of its bytes, and it is not blank.
+/// A person can read the name: ASCII prints each of its bytes that is not 0, and it is not blank.
 fn is_readable(name: &Name) -> bool
     ensures { result ≡ is_readable_spec name.now }
 {
-    are_printed(name) && !is_nameless(name)
+    are_letters(name) && !is_nameless(name)
 }
 
-/// ASCII prints each byte.
-pub(crate) fn are_printed(text: &[u8]) -> bool
-    ensures { result ≡ list_all is_printed text.now }
+/// The byte may be one of a name that a person can read: ASCII prints it, or it is a 0, which some
+/// compilers have in place of a blank.
+fn is_letter(byte: u8) -> bool
+    ensures { result ≡ is_letter_spec byte }
 {
-    text.iter()
-        .all(|byte| *byte == b' ' || byte.is_ascii_graphic())
+    byte == b' ' || byte.is_ascii_graphic() || byte == 0
+}
+
+/// Each byte may be one of a name that a person can read.
+pub(crate) fn are_letters(text: &[u8]) -> bool
+    ensures { result ≡ list_all is_letter_spec text.now }
+{
+    text.iter().all(|byte| is_letter(*byte))
 }
 
 /// The entry is that of a code: its kind is one of those that there are, and its name can be read.

@@ -1,5 +1,5 @@
 //! Code files of later releases of the p-System.
-use crate::code_file::are_printed;
+use crate::code_file::are_letters;
 use ps_codefile::dictionary_layout::SLOTS;
 use ps_words::{BLOCK_SIZE, Order, WORD_LEN, get};
 use std::fmt::{self, Formatter};
@@ -63,18 +63,18 @@ pub(crate) fn later_release(bytes: &[u8]) -> Option<Release> {
 /// The name of a slot is one that a person can read.
 fn has_name(block: &[u8], slot: u8) -> bool {
     let name = block.get(NAMES + 8 * usize::from(slot)..).unwrap_or(&[]);
-    are_printed(name.get(..8).unwrap_or(&[0]))
+    are_letters(name.get(..8).unwrap_or(&[0]))
 }
 
-/// Each segment has a name and a version from `first` to `last`, each other slot has no version, and
-/// there is a segment.
+/// Each segment has a name, a number and a version from `first` to `last`, each other slot has
+/// neither, and there is a segment.
 fn has_versions(order: Order, block: &[u8], first: u16, last: u16) -> bool {
     let mut is_found = false;
     for slot in 0..SLOTS {
         let at = usize::from(slot);
         let is_used = word_at(order, block, 4 * at) != 0 && word_at(order, block, 4 * at + 2) != 0;
         let information = word_at(order, block, SEGMENT_INFORMATION + 2 * at);
-        let has_version = (first..=last).contains(&(information >> 13));
+        let has_version = (first..=last).contains(&(information >> 13)) && information & 0xFF != 0;
         if is_used && !(has_version && has_name(block, slot)) {
             return false;
         }
