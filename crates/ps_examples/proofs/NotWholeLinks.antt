@@ -1,17 +1,19 @@
 -- Lists of segments that are not those of the small links, computed.
 use Rattle.std.proofs.Common.{◌≡◌, ℕ, List, [], ◌∷◌, Result, Ok, false, true, refl}
-use Rattle.std.proofs.Common.{ap, subst, ◌∙◌, arith}
-use Rattle.std.specs.Prelude.{slice_get, All}
+use Rattle.std.proofs.Common.{ap, subst, ◌∙◌, arith, sym, Option}
+use Rattle.std.specs.Option.{option_map_or}
+use Rattle.std.specs.Prelude.{slice_get, All, is_some}
 use Rattle.std.proofs.lemmas.Bool.{false≢true}
 use Rattle.ps_codefile.specs.declared.entry.Role.{Role}
 use Rattle.ps_codefile.specs.declared.entry.Role.TheVariants as role
-use Rattle.ps_examples.specs.Files.{host, host_in, library_of_used, library_of_used_big}
+use Rattle.ps_examples.specs.Files.{host, library, host_in, library_of_used, library_of_used_big}
 use Rattle.ps_examples.specs.Files.{util_information, put_at, aux, util_code}
 use Rattle.ps_examples.specs.Segments.{demo_segment, util_segment, using_segment, aux_segment}
 use Rattle.ps_examples.specs.Segments.{past_segment}
 use Rattle.ps_examples.proofs.NotOrigins.{none_passes, no_name, count_aux, state_aux, blank_aux}
-use Rattle.ps_resolve.specs.Added.{empty_slots, rounds, added_segments}
+use Rattle.ps_resolve.specs.Added.{empty_slots, rounds, segments, added_segments}
 use Rattle.ps_resolve.specs.Origins.{HasOne, AsksFor, HaveOneEach, AreAdded, AreOfRounds}
+use Rattle.ps_resolve.specs.OfLink.{IsOfLink}
 use Rattle.ps_resolve.specs.Sources.{Segment, own_segments, tables_of}
 use Rattle.ps_resolve.specs.Standing.Phrases.{SomeItem}
 use Rattle.ps_words.specs.declared.fault.Reason.{Reason}
@@ -122,3 +124,24 @@ the_big_endian_one_is_missing h = let t = (subst Missing big_is h.1) 0 demo_segm
     Missing : List Segment → Type 0
     Missing more = All (λ s. SomeItem (demo_segment ∷ using_segment ∷ []) (λ k q. q ≡ s))
         more
+
+-- UTIL is not of entry 3 of the library
+pub another_entry : IsOfLink Little host (library ∷ []) (record util_segment { index = 3 }) → ⊥
+unfolding own_segments empty_slots rounds segments
+another_entry h =
+    let n : 2 ≡ 3 = ap (λ (o : Option Segment). option_map_or (λ s. s.index) o 0) h.there in
+    omega (arith, n)
+
+-- it is not in slot 8
+pub an_empty_slot : IsOfLink Little host (library ∷ []) (record util_segment { slot = 8 }) → ⊥
+unfolding own_segments empty_slots rounds segments
+an_empty_slot h =
+    let e : false ≡ true = ap (λ (o : Option Segment). is_some o) h.there in false≢true e
+
+-- AUX is marked as added
+pub not_marked : IsOfLink Little host used (record aux_segment { added = false }) → ⊥
+unfolding own_segments empty_slots rounds segments
+not_marked h =
+    let e : true ≡ false =
+    ap (λ (o : Option Segment). option_map_or (λ s. s.added) o false) h.there in
+    false≢true (sym e)

@@ -242,3 +242,17 @@ library_of_used_big =
 abbrev pub filled_host : ℕ → List ℕ
 filled_host n = put_at 32 (flat_map (λ k. 3 ∷ 0 ∷ 5 ∷ 0 ∷ []) (range_with_len 0 n)) host
     ++ (1 ∷ 2 ∷ 3 ∷ 4 ∷ 5 ∷ [])
+
+-- the library file, the code of whose UTIL has an odd length
+abbrev pub with_odd_util : List ℕ → List ℕ
+with_odd_util file = put_at 10 (23 ∷ []) file
+
+-- so that of AUX
+abbrev pub with_odd_aux : List ℕ → List ℕ
+with_odd_aux file = put_at 14 (23 ∷ []) file
+
+-- a library of AUX, whose UTIL names NOBODY and then AUX
+abbrev pub library_naming_two : List ℕ
+library_naming_two = with_aux aux_code (util_information Little)
+    (library_with Little (unit_ref Little nobody [] ++ unit_ref Little aux (2 ∷ [])
+    ++ eof_mark Little 0))

@@ -1,5 +1,6 @@
 //! The definitions of a link, computed on small files: what is refused there, which fault is
-//! reported if several apply, what is written, and what map and show print. Each function's
+//! reported if several apply, what is read after a fault, what a unit by itself is refused for, what
+//! is written, and what map and show print. Each function's
 //! contract states examples. Its body is empty, or calls the laws of which they are instances.
 #![tactic(auto)]
 
@@ -8,9 +9,11 @@ mod builders;
 mod byte_facts;
 mod libraries;
 mod linked_files;
+mod lone_units;
 mod orders;
 mod orders_within;
 mod origins;
+mod readings;
 mod refused_codes;
 mod refused_files;
 mod refused_operands;
@@ -31,9 +34,11 @@ pub use builders::{facts_of_builders, what_no_builder_does};
 pub use byte_facts::{bytes_that_are_not_linked, facts_of_bytes};
 pub use libraries::choice_of_libraries;
 pub use linked_files::{linked_bytes, more_linked_bytes};
+pub use lone_units::faults_of_lone_segments;
 pub use orders::one_order;
 pub use orders_within::order_within_a_step;
 pub use origins::{origins_of_segments, segments_of_no_link};
+pub use readings::{added_units_after_a_fault, slots_after_a_fault};
 pub use refused_codes::faults_of_codes;
 pub use refused_files::faults_of_files;
 pub use refused_operands::faults_of_operands;
@@ -46,5 +51,5 @@ pub use refused_symbols::faults_of_symbols;
 pub use refused_tables::faults_of_tables;
 pub use refused_types::faults_of_types;
 pub use roles::roles_of_slots;
-pub use texts::{map_texts, show_texts};
+pub use texts::{json_documents, map_texts, reference_texts, show_texts};
 pub use whole_links::{facts_of_all_segments, lists_of_no_link};

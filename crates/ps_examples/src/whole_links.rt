@@ -8,6 +8,7 @@ ghost use Rattle.ps_examples.specs.Segments.{tools_segment, pair, three, with_pl
 ghost use Rattle.ps_resolve.specs.Origins.{HaveOneEach, AreBySlot, AreOwn, AreAdded};
 ghost use Rattle.ps_resolve.specs.Origins.{AreOfRounds, AreInPlace, AreOfLibraries, AreRead};
 ghost use Rattle.ps_resolve.specs.LinkedBytes.{segments_of};
+ghost use Rattle.ps_resolve.specs.OfLink.{AreOfLink};
 ghost use Rattle.ps_words.specs.declared.order.Order.TheVariants.{Little, Big};
 
 use ps_laws::{first_of_all, segments_have_origins};
@@ -29,6 +30,11 @@ pub fn facts_of_all_segments()
         (segments_of (host_in Big) (library_in Big ∷ [])) }
     ensures read_from_two_files { AreRead host (library ∷ []) pair }
     ensures read_from_a_big_endian_library { AreRead (host_in Big) (library_in Big ∷ [])
+        (segments_of (host_in Big) (library_in Big ∷ [])) }
+    ensures all_that_is_known { AreOfLink host (library ∷ []) pair }
+    ensures all_that_is_known_of_an_added_one { AreOfLink host
+        (library_of_used (util_information Little) ∷ []) three }
+    ensures all_that_is_known_big_endian { AreOfLink (host_in Big) (library_in Big ∷ [])
         (segments_of (host_in Big) (library_in Big ∷ [])) }
 {
     first_of_all();
@@ -70,4 +76,11 @@ pub fn lists_of_no_link()
         (demo_segment ∷ using_segment ∷ (record aux_segment { index = 2 }) ∷ []) → ⊥ }
     ensures one_without_its_records { AreRead host (library ∷ [])
         (demo_segment ∷ (record util_segment { records = [] }) ∷ []) → ⊥ }
+    ensures one_of_another_entry { AreOfLink host (library ∷ [])
+        (demo_segment ∷ (record util_segment { index = 3 }) ∷ []) → ⊥ }
+    ensures one_in_an_empty_slot { AreOfLink host (library ∷ [])
+        (demo_segment ∷ (record util_segment { slot = 8 }) ∷ []) → ⊥ }
+    ensures an_added_one_that_is_not_marked { AreOfLink host
+        (library_of_used (util_information Little) ∷ [])
+        (demo_segment ∷ using_segment ∷ (record aux_segment { added = false }) ∷ []) → ⊥ }
 {}

@@ -5,6 +5,7 @@ use Rattle.ps_resolve.specs.Faults.{slots_fault, no_host_fault, libraries_fault,
 use Rattle.ps_resolve.specs.Faults.{linking_fault, definitions_fault, privates_fault, data_fault}
 use Rattle.ps_resolve.specs.Faults.{references_fault}
 use Rattle.ps_resolve.specs.AllFaults.{first_fault, reading_fault}
+use Rattle.ps_resolve.proofs.OfLink.{of_link}
 use Rattle.ps_words.specs.declared.order.Order.TheVariants.{Little, Big}
 use Rattle.ps_examples.specs.Files.{host, library, host_in, library_in, host_with_tools}
 use Rattle.ps_examples.specs.Files.{library_of_used, util_information}
@@ -36,4 +37,7 @@ returns c =
       read_from_two_files = origins.read host (library ∷ []) (fine host (library ∷ []) refl);
       read_from_a_big_endian_library = origins.read (host_in Big) (library_in Big ∷ [])
           (fine (host_in Big) (library_in Big ∷ []) refl);
+      all_that_is_known = of_link host (library ∷ []) refl;
+      all_that_is_known_of_an_added_one = of_link host used refl;
+      all_that_is_known_big_endian = of_link (host_in Big) (library_in Big ∷ []) refl;
     }

@@ -11,7 +11,7 @@ use Rattle.ps_examples.proofs.NotWholeLinks.{a_segment_is_there_twice}
 use Rattle.ps_examples.proofs.NotWholeLinks.{one_is_added_that_nothing_names}
 use Rattle.ps_examples.proofs.NotWholeLinks.{one_is_added_in_no_round, the_added_one_is_missing}
 use Rattle.ps_examples.proofs.NotWholeLinks.{the_big_endian_one_is_missing, filled, plain}
-use Rattle.ps_examples.proofs.NotWholeLinks.{other_role}
+use Rattle.ps_examples.proofs.NotWholeLinks.{other_role, another_entry, an_empty_slot, not_marked}
 use Rattle.ps_examples.proofs.whole_links.lists_of_no_link.Goals as goal
 
 pub returns : goal.returns
@@ -48,4 +48,7 @@ returns c = record {
       util_aux (subst (λ (f : List ℕ). (entry_at Little f 2).name ≡ aux)
       (sym (same (library_of_used (util_information Little)) u.library u.file)) u.entry.1);
   one_without_its_records = λ h. not_without_its_records (h 1 demo_segment (omega arith));
+  one_of_another_entry = λ h. another_entry (h 1 demo_segment (omega arith));
+  one_in_an_empty_slot = λ h. an_empty_slot (h 1 demo_segment (omega arith));
+  an_added_one_that_is_not_marked = λ h. not_marked (h 2 demo_segment (omega arith));
 }

@@ -1,0 +1,20 @@
+use Rattle.std.proofs.Common.{◌≡◌, ℕ, List, length, false, true, ap, refl}
+use Rattle.std.specs.Fmt.{digits}
+use Rattle.std.specs.Prelude.{◌==◌}
+use Rattle.std.proofs.lemmas.Bool.{false≢true}
+use Rattle.ps_examples.specs.Texts.{json_with_references}
+use Rattle.ps_resolve.specs.Added.{empty_slots, rounds, segments}
+use Rattle.ps_linkfile.specs.MapText.{members_of}
+use Rattle.ps_linkfile.specs.ReferencesText.{listings_of}
+use Rattle.ps_resolve.specs.Sources.{own_segments}
+use Rattle.ps_examples.proofs.texts.json_documents.Goals as goal
+
+pub returns : goal.returns
+unfolding members_of listings_of own_segments empty_slots rounds segments digits
+returns c = record {
+  a_host_and_its_library = refl;
+  with_its_references = refl;
+  an_item_less = λ h. let e : false ≡ true =
+      ap (λ (text : List ℕ). length text == length json_with_references) h in false≢true e;
+  a_name_that_ascii_does_not_print = refl;
+}
