@@ -77,7 +77,7 @@ unfolding references_of
 lines_are host libs = all_lines (order_of host) (origins host libs) (linked_segments host libs)
 
 -- 2. lists by their places
-ranged : {A : Type 0} (f : ℕ → A) (a n p : ℕ) → p < n
+pub ranged : {A : Type 0} (f : ℕ → A) (a n p : ℕ) → p < n
     → slice_get (map f (range_with_len a n)) p ≡ Some (f (a + p))
 ranged f a zero p h = absurd (omega (arith, h))
 ranged f a (suc n) zero h = ap (λ i. Some (f i)) (omega arith)
