@@ -4,3 +4,4 @@ pub mod NotOrigins
 pub mod NotWholeLinks
 pub mod NotAddedUnits
 pub mod NotBuilt
+pub mod ReliedFiles

@@ -6,7 +6,7 @@ use Rattle.std.proofs.Common.{sym, ap, subst, ◌∙◌, inl, inr, arith, ◌==�
 use Rattle.std.specs.Prelude.{slice_index}
 use Rattle.std.proofs.lemmas.List.{length-take, get_or-take, get_or-drop}
 use Rattle.std.proofs.lemmas.Bool.Decides.{nat_tests, Decides-eqb}
-use Rattle.ps_relied.proofs.Words.{if◌then◌else◌, slice_get, filter, flat_map, list_any}
+use Rattle.ps_relied.proofs.Words.{if◌then◌else◌, slice_get, filter, list_any}
 use Rattle.ps_relied.proofs.Words.{range_with_len, option_or, Edit, Order, Segment, Record, Body}
 use Rattle.ps_relied.proofs.Words.{is_host, needs_linking, refs_of, order_of, edited_segments}
 use Rattle.ps_relied.specs.StoredLines.{listings, IsLine, IsMadeByLines, AreMadeByLines}
@@ -38,46 +38,24 @@ use Rattle.ps_resolve.specs.Operands.{edit_of}
 use Rattle.ps_resolve.specs.Plans.{Origin}
 use Rattle.ps_resolve.specs.declared.references.Target.{Target}
 use Rattle.ps_resolve.specs.declared.references.Target.TheVariants.{Slot, Base}
-use Rattle.ps_linkfile.specs.LinkedFile.{LinkedFile, block_of, origins, linked_segments}
-use Rattle.ps_linkfile.specs.ReferencesText.{Listed, listed_in, listed_lines, references_of}
-use Rattle.ps_linkfile.specs.ReferencesText.{segment_references, cause_at, cause_in, cause_width}
+use Rattle.ps_linkfile.specs.LinkedFile.{LinkedFile, block_of, origins}
+use Rattle.ps_linkfile.specs.ReferencesText.{Listed, listed_in}
+use Rattle.ps_linkfile.specs.ReferencesText.{cause_at, cause_in, cause_width}
 use Rattle.ps_linkfile.specs.ReferencesText.{number_at, size_at, is_word_at, record_at, records_at}
 use Rattle.ps_linkfile.specs.declared.cause.Cause.{Cause}
 use Rattle.ps_linkfile.specs.declared.cause.Cause.TheVariants.{Number, DataSize}
 use Rattle.ps_words.specs.Edits.{covers, patched_byte}
 use Rattle.ps_words.specs.declared.edit.Edit.TheVariants.{Big, Byte, Word}
 
--- 1. the lines are those of the listings
+-- 1. what is listed of a segment
 abbrev list_of : Order → List Origin → Segment × List Edit → Listed
 list_of order os e = listed_in order (block_of os e.0.slot) e.0 e.1
 
 abbrev is_listed : Segment × List Edit → Bool
 is_listed e = needs_linking e.0.role
 
-all_lines : (order : Order) (os : List Origin) (es : List (Segment × List Edit))
-    → flat_map (segment_references order os) es
-    ≡ flat_map listed_lines (map (list_of order os) (filter is_listed es))
-all_lines order os [] = refl
-all_lines order os ((s, edits) ∷ es) = go (needs_linking s.role) (all_lines order os es)
-  where
-    mine : List ℕ
-    mine = listed_lines (list_of order os (s, edits))
-
-    go : (b : Bool) → flat_map (segment_references order os) es
-        ≡ flat_map listed_lines (map (list_of order os) (filter is_listed es))
-        → (if b then mine else []) ++ flat_map (segment_references order os) es
-        ≡ flat_map listed_lines (map (list_of order os)
-        (if b then (s, edits) ∷ filter is_listed es else filter is_listed es))
-    go true later = ap (λ rest. mine ++ rest) later
-    go false later = later
-
-pub lines_are : (host : List ℕ) (libs : List (List ℕ))
-    → references_of host libs ≡ flat_map listed_lines (listings host libs)
-unfolding references_of
-lines_are host libs = all_lines (order_of host) (origins host libs) (linked_segments host libs)
-
 -- 2. lists by their places
-ranged : {A : Type 0} (f : ℕ → A) (a n p : ℕ) → p < n
+pub ranged : {A : Type 0} (f : ℕ → A) (a n p : ℕ) → p < n
     → slice_get (map f (range_with_len a n)) p ≡ Some (f (a + p))
 ranged f a zero p h = absurd (omega (arith, h))
 ranged f a (suc n) zero h = ap (λ i. Some (f i)) (omega arith)

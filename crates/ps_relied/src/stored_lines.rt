@@ -1,8 +1,6 @@
-ghost use Rattle.std.specs.Prelude.{◌≡◌, List, ℕ};
-ghost use Rattle.std.specs.List.{flat_map};
+ghost use Rattle.std.specs.Prelude.{List, ℕ};
 ghost use Rattle.ps_linkfile.specs.LinkedFile.{LinkedFile};
-ghost use Rattle.ps_linkfile.specs.ReferencesText.{listed_lines, references_of};
-ghost use Rattle.ps_relied.specs.StoredLines.{listings, AreMadeByLines};
+ghost use Rattle.ps_relied.specs.StoredLines.{AreMadeByLines};
 
 use ps_laws::{bytes_are_linked, first_of_all, offsets_are_sums};
 
@@ -12,8 +10,6 @@ use ps_laws::{bytes_are_linked, first_of_all, offsets_are_sums};
 /// linked file. What a line says was there is of the input's code.
 /// Source: this project's profile.
 pub fn references_make_the_file()
-    ensures lines { (host : List ℕ) (libs : List (List ℕ))
-        → references_of host libs ≡ flat_map listed_lines (listings host libs) }
     ensures made { (host file : List ℕ) (libs : List (List ℕ)) → LinkedFile host libs file
         → AreMadeByLines host libs file }
 {

@@ -1,11 +1,10 @@
-use Rattle.ps_relied.proofs.StoredLines.{lines_are, made_by_lines}
+use Rattle.ps_relied.proofs.StoredLines.{made_by_lines}
 use Rattle.ps_relied.proofs.stored_lines.references_make_the_file.Goals as goal
 
 pub returns : goal.returns
 returns c =
     let bytes = c.bytes_are_linked.ensures in
     record {
-      lines = λ host libs. lines_are host libs;
       made = λ host file libs is. made_by_lines host libs file is (bytes.made host libs is.accepted)
           (bytes.one host libs is.accepted) (bytes.apart host libs is.accepted)
           (c.offsets_are_sums.ensures host libs)

@@ -1,0 +1,90 @@
+-- Files that are read like the samples, and libraries that have no name in common.
+use Rattle.std.proofs.Common.{◌≡◌, ℕ, ◌+◌, ◌<◌, List, [], ◌∷◌, map, drop, Bool, true}
+use Rattle.std.proofs.Common.{false, refl, sym, ap, subst, ◌∙◌, inr, arith, ◌==◌}
+use Rattle.std.specs.Prelude.{◌&&◌, not, slice_get}
+use Rattle.std.specs.List.{range_with_len}
+use Rattle.std.proofs.lemmas.Bool.Decides.{Decides-eqb}
+use Rattle.std.proofs.lemmas.List.Elements.{All-cons, All-nil}
+use Rattle.std.specs.Prelude.{All, ◌≢◌}
+use Rattle.ps_codefile.specs.Dictionary.{entry_at, is_filled, code_of, information_of}
+use Rattle.ps_examples.specs.Files.{library, put_at, aux, util_information}
+use Rattle.ps_examples.specs.Segments.{count_reference, state_reference, end_mark}
+use Rattle.ps_examples.specs.Segments.{demo_segment, util_segment}
+use Rattle.ps_examples.proofs.NotLinked.{util_aux}
+use Rattle.ps_examples.proofs.SegmentOrigins.{any_below, fails}
+use Rattle.ps_relied.proofs.Information.{OneSpelling}
+use Rattle.ps_relied.proofs.StoredLines.{ranged}
+use Rattle.ps_relied.specs.Alike.{IsReadAlike, HaveSameRecords}
+use Rattle.ps_relied.specs.Numbered.{HaveNoNameInCommon}
+use Rattle.ps_resolve.specs.Sources.{Segment, library_file}
+use Rattle.ps_resolve.specs.Standing.Sources.{HasEntry}
+use Rattle.ps_words.specs.declared.order.Order.TheVariants.{Little}
+
+-- functions that give the same list give the same at each place
+same_at : {A : Type 0} (f g : ℕ → A) → map f (range_with_len 0 16) ≡ map g (range_with_len 0 16)
+    → (i : ℕ) → i < 16 → f i ≡ g i
+same_at f g e i h =
+    let x = sym (ranged f 0 16 i h) ∙ (ap (λ xs. slice_get xs i) e ∙ ranged g 0 16 i h) in
+    let z : 0 + i ≡ i = omega arith in
+    cc
+
+lone : (a b : Bool) → (a && not b) ≡ false → a ≡ true → b ≡ true
+lone a b h e = grind arith
+
+-- the only filled entry
+only_filled : (file : List ℕ) → any_below 16
+    (λ k. is_filled (entry_at Little file k) && not (k == 2)) ≡ false → (i : ℕ) → i < 16
+    → is_filled (entry_at Little file i) ≡ true → i ≡ 2
+only_filled file all i h filled = (Decides-eqb i 2).0 (lone (is_filled (entry_at Little file i))
+    (i == 2) (fails 16 (λ k. is_filled (entry_at Little file k) && not (k == 2)) all i h) filled)
+
+abbrev pub marked : List ℕ
+marked = put_at 1500 (9 ∷ []) library
+
+-- the library with another byte after its end mark
+pub library_alike : OneSpelling → IsReadAlike Little library marked
+library_alike law = record {
+  size = refl;
+  kinds = refl;
+  entries = same_at (entry_at Little library) (entry_at Little marked) refl;
+  codes = λ i h f. same_at (λ k. code_of library (entry_at Little library k))
+      (λ k. code_of marked (entry_at Little library k)) refl i h;
+  information = λ i h f k. subst (λ n. HaveSameRecords Little
+      (information_of library (entry_at Little library n))
+      (information_of marked (entry_at Little library n)))
+      (sym (only_filled library refl i h f)) of_util;
+}
+  where
+    of_util : HaveSameRecords Little (information_of library (entry_at Little library 2))
+        (information_of marked (entry_at Little library 2))
+    of_util = inr (
+      util_information Little,
+      count_reference ∷ state_reference ∷ end_mark ∷ [],
+      (law Little (util_information Little)
+          (count_reference ∷ state_reference ∷ end_mark ∷ [])).1 refl,
+      (drop 80 (information_of library (entry_at Little library 2)), refl),
+      (drop 80 (information_of marked (entry_at Little library 2)), refl),
+    )
+
+abbrev pub of_aux : List ℕ
+of_aux = put_at 80 aux library
+
+-- the one filled entry of a file has the name
+one_name : (file : List ℕ) → any_below 16
+    (λ k. is_filled (entry_at Little file k) && not (k == 2)) ≡ false → (name : List ℕ)
+    → HasEntry Little name file → (entry_at Little file 2).name ≡ name
+one_name file all name t =
+    ap (λ k. (entry_at Little file k).name) (sym (only_filled file all t.0 t.1 t.2.0)) ∙ t.2.1
+
+-- the library and one of AUX have no name in common
+pub util_or_aux : HaveNoNameInCommon Little library of_aux
+util_or_aux name p q = util_aux (one_name library refl name p ∙ sym (one_name of_aux refl name q))
+
+-- no segment of these is of file 1
+pub not_of_file_1 : All (λ (s : Segment). s.file ≢ library_file 0)
+    (demo_segment ∷ (record util_segment { file = 2 }) ∷ [])
+not_of_file_1 = All-cons (λ (s : Segment). s.file ≢ library_file 0) demo_segment
+    ((record util_segment { file = 2 }) ∷ []) (λ e. let h : 0 ≡ 1 = e in omega (arith, h))
+    (All-cons (λ (s : Segment). s.file ≢ library_file 0) (record util_segment { file = 2 }) []
+    (λ e. let h : 2 ≡ 1 = e in omega (arith, h))
+    (All-nil (λ (s : Segment). s.file ≢ library_file 0)))

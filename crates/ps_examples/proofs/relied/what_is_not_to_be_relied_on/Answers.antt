@@ -1,0 +1,27 @@
+use Rattle.std.proofs.Common.{◌≡◌, ℕ, List, refl, ap, arith}
+use Rattle.std.specs.Prelude.{slice_index}
+use Rattle.ps_examples.specs.Files.{util}
+use Rattle.ps_examples.proofs.relied.what_is_not_to_be_relied_on.Goals as goal
+use Rattle.ps_linkfile.specs.LinkedFile.{dictionary, all_pairs}
+use Rattle.ps_resolve.specs.Added.{empty_slots, rounds, segments, slot_names}
+use Rattle.ps_resolve.specs.AllFaults.{first_fault, reading_fault}
+use Rattle.ps_resolve.specs.Faults.{slots_fault, no_host_fault, libraries_fault, sources_fault}
+use Rattle.ps_resolve.specs.Faults.{linking_fault, definitions_fault, privates_fault, data_fault}
+use Rattle.ps_resolve.specs.Faults.{references_fault}
+use Rattle.ps_resolve.specs.Sources.{own_segments}
+
+pub returns : goal.returns
+unfolding own_segments empty_slots rounds segments slot_names dictionary all_pairs first_fault
+    reading_fault slots_fault no_host_fault libraries_fault sources_fault linking_fault
+    definitions_fault privates_fault data_fault references_fault
+returns c = record {
+  a_line_of_a_byte_that_stays = (0, _, refl, (refl, (_, refl, refl)));
+  another_tail = λ t. let h : 42 ≡ 43 = ap (λ (xs : List ℕ). slice_index xs 44) t.tail in
+      omega (arith, h);
+  a_library_that_is_refused = refl;
+  the_first_of_two = refl;
+  the_other_of_two = refl;
+  a_name_in_common = λ h. h util (2, omega arith, (refl, refl)) (2, omega arith, (refl, refl));
+  another_head = λ t. let h : 42 ≡ 43 = ap (λ (xs : List ℕ). slice_index xs 44) t.tail in
+      omega (arith, h);
+}
