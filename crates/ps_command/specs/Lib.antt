@@ -4,3 +4,4 @@ pub mod Statuses
 pub mod SummaryLine
 pub mod Printed
 pub mod Reading
+pub mod Causes

@@ -21,8 +21,9 @@ use Rattle.ps_listing.specs.ListJson.{list_json_of, unread_json_of}
 use Rattle.ps_listing.specs.ListText.{is_refused, list_of}
 use Rattle.ps_listing.specs.LoneText.{has_no_sound, lone_text, lone_units}
 use Rattle.ps_listing.specs.declared.lone.LoneUnit.{LoneUnit}
-use Rattle.ps_report.specs.ReportJson.{BeginsWith}
-use Rattle.ps_report.specs.Verdicts.{IsVerdict, Tells, check_status}
+use Rattle.ps_report.specs.Reports.{IsPrintedText, IsReport}
+use Rattle.ps_report.specs.Verdicts.{check_status}
+use Rattle.ps_report.specs.WarningLines.{warnings_in}
 use Rattle.ps_report.specs.declared.verdict.Verdict.{Verdict}
 use Rattle.ps_command.specs.declared.lists.Form.{Form}
 use Rattle.ps_command.specs.declared.lists.Form.TheVariants as form
@@ -72,24 +73,23 @@ abbrev pub PrintsShow : (Text → List ℕ → Type 0) → Text → Bool → Opt
 PrintsShow Reads path json old new = (file : List ℕ) × Reads path file
     × Appends old new (printed_show json file)
 
--- the text has the line of the verdict; as JSON it begins with the verdict
-abbrev pub HasVerdict : Bool → List ℕ → Verdict → Type 0
-HasVerdict false text verdict = Tells text verdict
-HasVerdict true text verdict = BeginsWith text verdict
-
--- a text and a status that a check of these files may give
-abbrev pub IsPrintedReport : List ℕ → List (List ℕ) → Bool → Bool → ℕ → List ℕ
-    → Type 0
-IsPrintedReport host libs strict json status text =
-    (verdict : Verdict) × (warnings : ℕ) × IsVerdict host libs verdict
-    × (status ≡ check_status strict warnings verdict) × HasVerdict json text verdict
+-- What a check of the files at these paths may print, the host's first, and its status: a report,
+-- whose status is 1 where the files are refused, and, if it is strict, where a line of the report
+-- begins with `warning: `.
+abbrev pub IsPrintedReport : List Text → List ℕ → List (List ℕ) → Bool → Bool → ℕ
+    → List ℕ → Type 0
+IsPrintedReport paths host libs strict json status text =
+    (verdict : Verdict) × (warnings : ℕ) × (report : List ℕ)
+    × IsReport paths host libs verdict warnings report
+    × (status ≡ check_status strict (warnings_in report) verdict)
+    × IsPrintedText json verdict warnings report text
 
 -- by the text of a check of the files at these paths, which ends with this status
 abbrev pub PrintsReport : (Text → List ℕ → Type 0) → Text → List Text → Bool → Bool
     → ℕ → Option (List ℕ) → Option (List ℕ) → Type 0
 PrintsReport Reads path paths strict json status old new =
     (host : List ℕ) × (libs : List (List ℕ)) × (text : List ℕ) × Reads path host
-    × AllZip Reads paths libs × IsPrintedReport host libs strict json status text
+    × AllZip Reads paths libs × IsPrintedReport (path ∷ paths) host libs strict json status text
     × Appends old new text
 
 -- the units of a file by themselves, where they are listed

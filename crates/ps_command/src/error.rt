@@ -5,6 +5,7 @@ ghost use Rattle.clap.specs.declared.error.ErrorKind.TheVariants.{OutOfMemory};
 ghost use Rattle.ps_command.specs.declared.error.CommandError.TheVariants.{Memory, StandardOutput, Usage};
 ghost use Rattle.ps_linkfile.specs.declared.error.LinkError.TheVariants.{Write};
 ghost use Rattle.ps_linkfile.specs.declared.error.WriteFault.{WriteFault};
+ghost use Rattle.ps_command.specs.Causes.{cause_of, caused, unread_error};
 ghost use Rattle.ps_command.specs.Statuses.{command_error_of, status_of};
 
 use clap::error::ErrorKind;
@@ -29,9 +30,11 @@ pub(crate) enum Cause {
 }
 
 impl Cause {
-    /// The cause that is of this kind of the system's errors.
+    /// The cause that is of this kind of the system's errors: a path below a file names no file.
     /// Source: this project's profile.
-    pub(crate) fn of(kind: io::ErrorKind) -> Cause {
+    pub(crate) fn of(kind: io::ErrorKind) -> Cause
+        ensures { result ≡ cause_of kind }
+    {
         match kind {
             io::ErrorKind::NotFound | io::ErrorKind::NotADirectory => Cause::Missing,
             io::ErrorKind::IsADirectory => Cause::Folder,
@@ -156,7 +159,8 @@ impl<'a> CommandError<'a> {
     /// The same with the cause for which a file cannot be read, where that is why.
     /// Source: this project's profile.
     pub(crate) fn with_cause(self) -> CommandError<'a>
-        ensures { status_of result ≡ status_of self.entry }
+        ensures error { result ≡ caused self.entry }
+        ensures status { status_of result ≡ status_of self.entry }
     {
         match self {
             CommandError::Read { path, cause } => CommandError::Unreadable { path, cause },
@@ -168,7 +172,8 @@ impl<'a> CommandError<'a> {
     /// system's or its length is want of memory.
     /// Source: this project's profile.
     pub(crate) fn of_file(self, path: &'a str) -> CommandError<'a>
-        ensures { status_of result ≡ 3 }
+        ensures error { result ≡ unread_error path.entry self.entry }
+        ensures status { status_of result ≡ 3 }
     {
         match self {
             CommandError::Read { path, cause } => CommandError::Unreadable { path, cause },

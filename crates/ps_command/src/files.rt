@@ -185,6 +185,7 @@ pub(crate) fn read_inputs<'a, R: CodeFiles, A: Allocator + Copy>(
         (map (λ path. path.now) inputs.now.libraries.items)
         (map (λ library. library.items) contents.libraries.items)) }
     ensures err { IfErr result (λ e. status_of e ≢ 2) }
+    ensures unrefused { IfErr result (λ e. status_of e ≢ 1) }
 {
     let host = read(rt, alloc, inputs.host)?;
     let mut libraries = Vec::new(alloc);
@@ -205,6 +206,7 @@ pub(crate) fn read<'a, R: CodeFiles, A: Allocator + Copy>(
     ensures whole { IfOk result (λ bytes. Reads (R.opened rt.now) R.Opened.remaining path.entry.now
         bytes.items) }
     ensures err { IfErr result (λ e. status_of e ≢ 2) }
+    ensures unrefused { IfErr result (λ e. status_of e ≢ 1) }
 
     // It cannot be read; or it was opened, and it is too long or memory ran out.
     ensures why { IfErr result

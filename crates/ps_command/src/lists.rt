@@ -2,7 +2,7 @@
 ghost use Rattle.std.specs.Prelude.{◌≡◌, ◌≢◌, ◌≤◌, IfErr, IfOk, OnOk, if◌then◌else◌, map, max};
 ghost use Rattle.std.specs.Io.KnownBytes.{Appends};
 ghost use Rattle.ps_command.specs.Printed.{IsListed, PrintsFiles, PrintsLists, PrintsUnread, is_refused_in, listed_text, listed_units};
-ghost use Rattle.ps_command.specs.Reading.{Reads};
+ghost use Rattle.ps_command.specs.Reading.{IsReadError, Reads};
 
 use crate::error::CommandError;
 use crate::files::{self, CodeFiles};
@@ -57,6 +57,7 @@ fn read<'a, R: CodeFiles, A: Allocator + Copy>(
         path.entry.now contents.file.items) }
     ensures units { IfOk result (λ contents. contents.units.items
         ≡ listed_units form contents.file.items) }
+    ensures why { IfErr result (IsReadError (R.opened rt.now) R.Opened.remaining path.entry) }
 {
     let file = files::read(rt, alloc, path)?;
     let phrase = ps_listing::phrase(alloc, file.as_slice())?;

@@ -1,15 +1,15 @@
 //! One command, from its arguments to its status.
-ghost use Rattle.std.specs.Prelude.{◌≡◌, ◌≢◌, ◌≤◌, ◌⊎◌, ◌∷◌, [], List, Option, ℕ, Any, IfErr, IfOk, IsErrAnd, OnOk, false, map, string_bytes, true};
+ghost use Rattle.std.specs.Prelude.{◌≡◌, ◌≢◌, ◌≤◌, ◌⊎◌, ◌∷◌, [], List, Option, ℕ, Any, IfErr, IfOk, IsErrAnd, OnOk, false, map, string_bytes, true, vec_len};
 ghost use Rattle.std.specs.Io.KnownBytes.{Appends};
 ghost use Rattle.clap.specs.Words.{Row, Text};
 ghost use Rattle.ps_linkfile.specs.LinkedFile.{LinkedFile, summary_of};
 ghost use Rattle.ps_linkfile.specs.Writing.{file_in, summary_in};
 ghost use Rattle.ps_command.specs.CommandLine.{AreAccepted, AskForText, faults_in, named_in, texts};
-ghost use Rattle.ps_command.specs.Printed.{Prints, PrintsLine, PrintsLines, PrintsLists, PrintsMap, PrintsReport, PrintsShow, PrintsText, HasVerdict, IsPrintedMap, list_form as list_form_spec, printed_show, version_line};
+ghost use Rattle.ps_command.specs.Printed.{Prints, PrintsLine, PrintsLines, PrintsLists, PrintsMap, PrintsReport, PrintsShow, PrintsText, IsPrintedMap, list_form as list_form_spec, printed_show, version_line};
 ghost use Rattle.ps_command.specs.Reading.{Reads, Writes};
+ghost use Rattle.ps_report.specs.Reports.{IsPrintedText};
 ghost use Rattle.ps_command.specs.Requests.{IsNamedCommand, NamesCheck, NamesList, OverwritesLibrary, WritesLibrary};
 ghost use Rattle.ps_command.specs.Statuses.{status_of};
-ghost use Rattle.ps_report.specs.Verdicts.{Tells};
 
 use crate::error::CommandError;
 use crate::files::{self, CodeFiles};
@@ -77,6 +77,13 @@ pub fn run<R: CodeFiles + AllocGlobal, A: Allocator + Copy, O: Write, E: Write>(
         (Writes (R.created rt.now) (R.closed rt.now) R.Created.contents)
         (named_in (texts args.now)) 1 (O.contents out.old) (O.contents out.new) }
 
+    // The status of a check is 1 only where its report was printed, and as that says: where the files
+    // are refused, or, if it is strict, where a line begins with `warning: `.
+    ensures checked { AreAccepted (texts args.now) → NamesCheck (named_in (texts args.now))
+        → result ≡ 1 → Prints (Reads (R.opened rt.now) R.Opened.remaining)
+        (Writes (R.created rt.now) (R.closed rt.now) R.Created.contents)
+        (named_in (texts args.now)) 1 (O.contents out.old) (O.contents out.new) }
+
     // Of arguments that clap accepts, those that name OUT as a library too are wrong usage, unless
     // memory runs out, and no others but those whose OUT was found to be a library's file.
     ensures misused { AreAccepted (texts args.now) → WritesLibrary (named_in (texts args.now))
@@ -124,6 +131,8 @@ fn carry_out<'a, R: CodeFiles + AllocGlobal, A: Allocator + Copy, O: Write, E: W
         → IsErrAnd result (λ e. status_of e ≢ 4 → status_of e ≡ 2) }
     ensures usage { AreAccepted (texts args.now) → IfErr result (λ e. status_of e ≡ 2
         → OverwritesLibrary (R.one_file rt.now) (named_in (texts args.now))) }
+    ensures unrefused { AreAccepted (texts args.now) → NamesCheck (named_in (texts args.now))
+        → IfErr result (λ e. status_of e ≢ 1) }
 {
     match request::parse(rt.alloc(), alloc, args)? {
         Request::Help(text) => {
@@ -157,6 +166,8 @@ fn perform<'a, R: CodeFiles + AllocGlobal, A: Allocator + Copy, O: Write, E: Wri
     ensures usage { (named : Option (Text × List Row)) → IsNamedCommand task.entry named
         → IfErr result (λ e. status_of e ≡ 2
         → OverwritesLibrary (R.one_file rt.now) named) }
+    ensures unrefused { (named : Option (Text × List Row)) → IsNamedCommand task.entry named
+        → NamesCheck named → IfErr result (λ e. status_of e ≢ 1) }
 {
     match task {
         Task::Link { inputs, out: path } => {
@@ -395,6 +406,7 @@ fn check<'a, R: CodeFiles, A: Allocator + Copy, O: Write>(
     ensures few { IfOk result (λ status. status ≤ 1) }
     ensures err { IfErr result (λ e. status_of e ≢ 3 → out.new ≡ out.old) }
     ensures usage { IfErr result (λ e. status_of e ≢ 2) }
+    ensures unrefused { IfErr result (λ e. status_of e ≢ 1) }
 {
     let bytes = match files::read_inputs(rt, alloc, &inputs) {
         Ok(bytes) => bytes,
@@ -431,6 +443,7 @@ fn check_units<'a, R: CodeFiles, A: Allocator + Copy, O: Write, E: Write>(
     ensures silent { IfOk result (λ status. status ≡ 0 → err.new ≡ err.old) }
     ensures err { IfErr result (λ e. status_of e ≢ 3 → out.new ≡ out.old) }
     ensures usage { IfErr result (λ e. status_of e ≢ 2) }
+    ensures unrefused { IfErr result (λ e. status_of e ≢ 1) }
 {
     let Inputs {
         host,
@@ -447,11 +460,12 @@ fn print_report<A: Allocator + Copy, O: Write>(
     json: bool,
     out: &mut O,
 ) -> Result<(), CommandError<'static>>
-    ensures ok { Tells (string_bytes report.now.text) report.now.verdict
-        → OnOk result ((text : List ℕ) × HasVerdict json text report.now.verdict
+    ensures ok { OnOk result ((text : List ℕ) × IsPrintedText json report.now.verdict
+        (vec_len report.now.warnings) (string_bytes report.now.text) text
         × Appends (O.contents out.old) (O.contents out.new) text) }
     ensures err { IfErr result (λ e. status_of e ≢ 3 → out.new ≡ out.old) }
     ensures usage { IfErr result (λ e. status_of e ≢ 2) }
+    ensures unrefused { IfErr result (λ e. status_of e ≢ 1) }
 {
     if json {
         let text = report.json(alloc)?;

@@ -24,3 +24,7 @@ returns-in-Task-clause-misused g c taken writes = absurd
 pub returns-in-Task-clause-usage : goal.returns-in-Task-clause-usage
 returns-in-Task-clause-usage g c taken =
     c.perform.ensures.usage _ (rw c.in-Task.is at (c.in_ok-text.ensures.named taken))
+
+pub returns-in-Task-clause-unrefused : goal.returns-in-Task-clause-unrefused
+returns-in-Task-clause-unrefused g c taken =
+    c.perform.ensures.unrefused _ (rw c.in-Task.is at (c.in_ok-text.ensures.named taken))

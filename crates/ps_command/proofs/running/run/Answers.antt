@@ -1,4 +1,4 @@
-use Rattle.std.proofs.Common.{arith, inr}
+use Rattle.std.proofs.Common.{arith, ◌∙◌, inr, sym}
 use Rattle.ps_command.proofs.running.run.Goals as goal
 
 pub returns-in-Ok-clause-printed : goal.returns-in-Ok-clause-printed
@@ -13,3 +13,10 @@ returns-in-Ok-clause-unprinted g c nonzero other =
       omega (arith, c.in-Ok.ensures.few, c.in-Ok.ensures.used, nonzero, other),
       c.in-Ok.ensures.checked nonzero,
     )
+
+pub returns-in-Ok-clause-checked : goal.returns-in-Ok-clause-checked
+returns-in-Ok-clause-checked g c taken names one = rw one at (c.in-Ok.ensures.ok taken)
+
+pub returns-in-Err-clause-checked : goal.returns-in-Err-clause-checked
+returns-in-Err-clause-checked g c taken names one = absurd
+    (c.in-Err.ensures.unrefused taken names (sym c.report.ensures ∙ one))
