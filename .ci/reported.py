@@ -277,7 +277,7 @@ def faults():
         (14, HOST, unit((196, b"\4")), [UTIL, "  entry 02 has the name, of kind 4: a separate segment"], "  Give the unit's library before LIB1, or remove that segment from LIB1."),
         (14, HOST, unit((196, b"\6")), [UTIL, "  entry 02 has the name, of kind 6: an intrinsic unit of Apple Pascal, or its data"], "  Compile it as a regular unit of II.0, or give the library of such a unit before LIB1."),
         *((14, HOST, unit((196, bytes([kind]))), [UTIL, f"  entry 02 has the name, of kind {kind}: {word}", *rest], "  Give the unit's library before LIB1, or remove that segment from LIB1.")
-          for kind, word, *rest in ((1, "a host program"), (2, "a segment procedure"), (8, "no kind of II.0"))),
+          for kind, word, *rest in ((1, "a host program"), (2, "a segment procedure"), (8, "no kind of II.0", "look: LIB1: it is no code file of a known form"))),
         (14, HOST, [LINKED], [UTIL, "  entry 07 has the name, of kind 0: a linked segment"], "  LIB1 is linked already: leave it out."),
         (15, HOST, unit(*entry(5, "UTIL", 3, 1, 24)), [UTIL, "  entry 02 has the name, of kind 3: a unit", "  entry 05 has the name, of kind 3: a unit", "look: LIB1, segment UTIL: its bytes in the file overlap those of slot 02"]),
         (16, HOST, [LIBRARY[:535]], [UTIL, f"  entry 02 has 24 {extent} 512 to 536; the file has 535"]),
