@@ -15,6 +15,7 @@ cause_of kind.NotFound = cause.Missing
 cause_of kind.NotADirectory = cause.Missing
 cause_of kind.IsADirectory = cause.Folder
 cause_of kind.PermissionDenied = cause.Forbidden
+cause_of kind.InvalidInput = cause.NotText
 cause_of _ = cause.Other
 
 -- an error of a command, with the cause for which a file cannot be read

@@ -24,6 +24,8 @@ pub(crate) enum Cause {
     Missing,
     Folder,
     Forbidden,
+    /// Its name is not UTF-8, and stands with a zero byte at its end, which no path has.
+    NotText,
     /// Memory for its bytes, or for what is said of it, was refused.
     Memory,
     Other,
@@ -39,6 +41,7 @@ impl Cause {
             io::ErrorKind::NotFound | io::ErrorKind::NotADirectory => Cause::Missing,
             io::ErrorKind::IsADirectory => Cause::Folder,
             io::ErrorKind::PermissionDenied => Cause::Forbidden,
+            io::ErrorKind::InvalidInput => Cause::NotText,
             _ => Cause::Other,
         }
     }
@@ -50,6 +53,7 @@ impl fmt::Display for Cause {
             Cause::Missing => "no such file",
             Cause::Folder => "a folder",
             Cause::Forbidden => "no permission",
+            Cause::NotText => "its name is not UTF-8",
             Cause::Memory => "out of memory",
             Cause::Other => "the system gives another reason",
         })

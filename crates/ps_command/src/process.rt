@@ -9,7 +9,7 @@ ghost use Rattle.ps_command.specs.Requests.{NamesCheck, NamesList, OverwritesLib
 use crate::error::{CommandError, WrongArgument};
 use crate::files::CodeFiles;
 use crate::running::run;
-use std::alloc::Global;
+use std::alloc::{AllocError, Global};
 use std::env;
 use std::io::{ErrorKind, Write};
 use std::process::ExitCode;
@@ -19,8 +19,9 @@ use std::rt::Env;
 /// returns its status as the exit code of the process.
 ///
 /// The arguments are those of the process, the program's name first. If one of them is not UTF-8, the
-/// status is 2, and if there is no memory for them 4; then nothing is written to `out`, and one line
-/// to `err`. Source: this project's profile.
+/// status is 2, but for `list`: it lists a file with such a name as one that cannot be read, and the
+/// others. If there is no memory for the arguments, the status is 4. With status 2 or 4 nothing is
+/// written to `out`, and one line to `err`. Source: this project's profile.
 pub fn run_process<R: CodeFiles + Env + AllocGlobal, O: Write, E: Write>(
     rt: &R,
     out: &mut O,
@@ -45,9 +46,58 @@ fn given_args<R: Env + AllocGlobal>(rt: &R) -> Result<Vec<String>, CommandError<
 {
     match env::args(rt) {
         Ok(args) => Ok(args.collect(rt.alloc())?),
+        Err(error) if error.kind() != ErrorKind::OutOfMemory && is_list(rt) => listed_args(rt),
         Err(error) => Err(args_fault(error.kind(), wrong_argument(rt))),
     }
 }
+
+/// The command is `list`.
+fn is_list<R: Env>(rt: &R) -> bool {
+    let mut room = [0u8; LIST.len()];
+    match rt.arg(1, &mut room) {
+        Ok(length) => room.get(..length) == Some(LIST),
+        Err(_) => false,
+    }
+}
+
+/// The arguments of `list`, of which some are not UTF-8.
+fn listed_args<R: Env + AllocGlobal>(rt: &R) -> Result<Vec<String>, CommandError<'static>>
+    ensures { IfErr result (λ e. e ≡ CommandError.Memory) }
+{
+    let mut room = [0u8; LONGEST_ARGUMENT];
+    let mut args = Vec::new(rt.alloc());
+    for number in 0..usize::MAX {
+        let Ok(length) = rt.arg(number, &mut room) else {
+            return Ok(args);
+        };
+        let text = argument_text(rt.alloc(), room.get(..length).unwrap_or(&[]))?;
+        args.push(text)?;
+    }
+    Ok(args)
+}
+
+/// An argument as text. One that is not UTF-8 has U+FFFD for each byte that ASCII does not have, and
+/// a zero byte at its end: so no file has that path.
+fn argument_text(alloc: Global, argument: &[u8]) -> Result<String, AllocError> {
+    let mut text = String::new(alloc);
+    if let Ok(argument) = str::from_utf8(argument) {
+        text.push_str(argument)?;
+        return Ok(text);
+    }
+    for byte in argument {
+        let shown = if byte.is_ascii() {
+            char::from(*byte)
+        } else {
+            '\u{FFFD}'
+        };
+        text.push(shown)?;
+    }
+    text.push('\0')?;
+    Ok(text)
+}
+
+/// The command that lists files.
+const LIST: &[u8] = b"list";
 
 /// The longest argument that is read to find one that is not UTF-8, in bytes: as long as Linux takes
 /// any.
