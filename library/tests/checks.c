@@ -194,6 +194,43 @@ static void check_lengths(void)
     check(pslink_version() == PSLINK_VERSION, "the version is another", pslink_version());
 }
 
+/* NULL with a length above 0, as of a malloc that failed: the length is taken for 0. */
+static void check_null(void)
+{
+    const size_t lengths[1] = {1536};
+    pslink_file none = {NULL, 1536}, one = {library.bytes, library.length};
+    pslink_answer answer;
+
+    check(pslink_link(host.bytes, host.length, library.bytes, library.length, &library.length, 1, NULL, 4096, &answer) ==
+                  PSLINK_TOO_SMALL && answer.needed == 1536 && answer.written == 0,
+          "no room is enough for a linked file", 0);
+    check(pslink_map(host.bytes, host.length, library.bytes, library.length, &library.length, 1, NULL, 4096, &answer) ==
+                  PSLINK_TOO_SMALL && answer.needed > 0,
+          "no room is enough for a map", 0);
+    check(pslink_show(host.bytes, host.length, NULL, 4096, &answer) == PSLINK_TOO_SMALL && answer.needed > 0,
+          "no room is enough for a show", 0);
+    check(pslink_link(NULL, 1536, library.bytes, library.length, &library.length, 1, NULL, 0, &answer) == PSLINK_REFUSED &&
+              answer.fault == PSLINK_FAULT_SHORT_FILE && answer.file == 0,
+          "a host that is not there is no short file", 0);
+    check(pslink_show(NULL, 1536, NULL, 0, &answer) == PSLINK_REFUSED && answer.fault == PSLINK_FAULT_SHORT_FILE,
+          "a file that is not there is no short file", 0);
+    check(pslink_link(host.bytes, host.length, NULL, 1536, lengths, 1, NULL, 0, &answer) == PSLINK_WRONG_LENGTHS,
+          "lengths of libraries that are not there add up", 0);
+    check(pslink_link(host.bytes, host.length, library.bytes, library.length, NULL, 1, NULL, 0, &answer) == PSLINK_WRONG_LENGTHS,
+          "lengths that are not there add up", 0);
+    check(pslink_link_files(none, &one, 1, NULL, 0, &answer) == PSLINK_REFUSED && answer.fault == PSLINK_FAULT_SHORT_FILE &&
+              answer.file == 0,
+          "a host that is not there is no short file, of libraries that are anywhere", 0);
+    check(pslink_link_files(host, &none, 1, NULL, 0, &answer) == PSLINK_REFUSED && answer.fault == PSLINK_FAULT_SHORT_FILE &&
+              answer.file == 1,
+          "a library that is not there is no short file", 1);
+    check(pslink_link_files(host, &one, 1, NULL, 4096, &answer) == PSLINK_TOO_SMALL && answer.needed == 1536,
+          "no room is enough for a linked file, of libraries that are anywhere", 0);
+    check(pslink_fault_name(PSLINK_FAULT_MISSING_UNIT, NULL, 100) == sizeof "MissingUnit", "a name is put where no room is", 0);
+    check(pslink_status_text(PSLINK_DONE, NULL, 100) == sizeof "done", "a text is put where no room is", 0);
+    check(pslink_release(NULL, 100) == sizeof PSLINK_RELEASE, "a release is put where no room is", 0);
+}
+
 /* The text of each fault with the largest numbers, and the names of faults and statuses, in rooms that are just enough. */
 static void check_texts(void)
 {
@@ -311,6 +348,7 @@ int main(int argc, char **argv)
     check_refusals();
     check_file_of_a_fault();
     check_lengths();
+    check_null();
     check_texts();
     check_too_long();
     check_threads();
