@@ -235,7 +235,8 @@ fn document<A: Allocator>(
     report: &str,
 ) -> Result<String<A>, AllocError>
     ensures { IfOk result (λ text. string_bytes text ≡ report_json verdict
-        items.warnings.now items.harmless.now items.notes.now report.now) }
+        items.entry.warnings.now items.entry.harmless.now items.entry.notes.now
+        report.now) }
 {
     let Items {
         warnings,

@@ -8,9 +8,9 @@ use Rattle.ps_report.proofs.json.add_warning.Goals as goal
 pub returns : goal.returns
 returns g c =
     let words = c.as_str.result.now in
-    let item = warning_json c.args.warning.now c.weight.result words in
+    let item = warning_json c.args.warning.now c.weight-weight.result words in
     on_ok_weaker c.push_warning.result (λ is. (
-      c.weight.result,
+      c.weight-weight.result,
       words,
       is ∙ (ap (λ (t : List ℕ). t ++ item) c.in_ok-push_comma.ensures
           ∙ append_assoc (string_bytes c.args.text.now) (comma_unless c.args.first) item),

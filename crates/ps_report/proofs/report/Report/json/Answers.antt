@@ -1,7 +1,7 @@
-use Rattle.std.proofs.Common.{◌≡◌, ◌∙◌, ℕ, List, ap, string_bytes, subst, true}
+use Rattle.std.proofs.Common.{List, string_bytes, subst, true}
 use Rattle.std.proofs.lemmas.Result.{IfOk-weaker}
 use Rattle.ps_warnings.specs.declared.warnings.Warning.{Warning}
-use Rattle.ps_report.specs.ReportJson.{AreItems, report_json}
+use Rattle.ps_report.specs.ReportJson.{AreItems}
 use Rattle.ps_report.proofs.ReportItems.{begins, whole_document}
 use Rattle.ps_report.proofs.report.Report.json.Goals as goal
 
