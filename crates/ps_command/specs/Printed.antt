@@ -2,7 +2,7 @@
 -- named, and what a link has written. `Reads` says of a path and of bytes that they were read
 -- there, and `Writes` that a file which was created there took them.
 -- Source: this project's profile.
-use Rattle.std.specs.Prelude.{◌≡◌, ◌⊎◌, ◌||◌, ◌+◌, ◌++◌, ◌∷◌, []}
+use Rattle.std.specs.Prelude.{◌≡◌, ◌⊎◌, ◌+◌, ◌++◌, ◌∷◌, []}
 use Rattle.std.specs.Prelude.{if◌then◌else◌, ℕ, Bool, true, false, List, Option, Some}
 use Rattle.std.specs.Prelude.{codes, max}
 use Rattle.std.specs.List.{AllZip}

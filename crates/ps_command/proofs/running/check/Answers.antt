@@ -1,7 +1,25 @@
-use Rattle.std.proofs.Common.{◌∙◌, ◌∷◌, ℕ, List, Bor, ap, map, string_bytes, subst, sym, vec_len}
+use Rattle.std.proofs.Common.{◌≤◌, ◌∙◌, ◌∷◌, ◌==◌, ◌&&◌, ℕ, Bool, List, Bor, true, false}
+use Rattle.std.proofs.Common.{ap, arith, map, not, string_bytes, subst, sym, vec_len}
+use Rattle.std.specs.Prelude.{if◌then◌else◌}
 use Rattle.ps_report.specs.Reports.{IsReport}
 use Rattle.ps_report.specs.Verdicts.{check_status}
+use Rattle.ps_report.specs.declared.verdict.Verdict.{Verdict}
+use Rattle.ps_report.specs.declared.verdict.Verdict.TheVariants.{Links, Refused}
 use Rattle.ps_command.proofs.running.check.Goals as goal
+
+-- a status is 0 or 1
+one_or_none : (test : Bool) → (if test then 1 else 0) ≤ 1
+one_or_none true = omega arith
+one_or_none false = omega arith
+
+few : (strict : Bool) (n : ℕ) (verdict : Verdict) → check_status strict n verdict ≤ 1
+few strict n (Links s) = one_or_none (strict && not (n == 0))
+few strict n (Refused f) = omega arith
+
+pub returns-clause-few : goal.returns-clause-few
+returns-clause-few g c =
+    let r = c.in_ok-report.report in
+    subst (λ (n : ℕ). n ≤ 1) (sym c.status.ensures) (few c.args.strict (vec_len r.warnings) r.verdict)
 
 pub returns-clause-ok : goal.returns-clause-ok
 returns-clause-ok g c =

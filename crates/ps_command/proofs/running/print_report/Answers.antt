@@ -1,4 +1,4 @@
-use Rattle.std.proofs.Common.{◌≡◌, refl, string_bytes, rules}
+use Rattle.std.proofs.Common.{◌≡◌, string_bytes, rules}
 use Rattle.std.proofs.lemmas.Result.{on_ok_weaker}
 use Rattle.ps_command.proofs.running.print_report.Goals as goal
 
