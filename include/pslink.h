@@ -32,10 +32,11 @@
  *
  * Any bytes may be given as a file: one that is no code file is refused. That the result is right
  * is proved: what is in `out` after PSLINK_DONE, and which fault a refusal names; of a report, its
- * verdict and the line of it, and not its other lines. It is proved of the functions that the
- * library exports, whose names end in `_nonnull`, and of pslink_version. The others are inline
- * functions of this header over them, which are tested. What the proof asks of the caller is on
- * this page:
+ * verdict and the line of it, how many of its lines begin as a warning, the lines of the segments
+ * where the files are linked, and the list of each file where none is a host, both with the names
+ * that are given; and not its other lines. It is proved of the functions that the library exports,
+ * whose names end in `_nonnull`, and of pslink_version. The others are inline functions of this
+ * header over them, which are tested. What the proof asks of the caller is on this page:
  *
  * - A pointer with its length names memory of the caller that is there for the whole call: it may
  *   be read, and for `out` and `answer` also written. A length is at most PTRDIFF_MAX bytes.

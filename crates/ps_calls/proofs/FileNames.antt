@@ -1,9 +1,9 @@
 -- What is known of names by what is known of their parts.
-use Rattle.std.proofs.Common.{◌≡◌, ◌<◌, ◌≤◌, ℕ, List, [], ◌∷◌, Bor, Result}
+use Rattle.std.proofs.Common.{◌≡◌, ◌<◌, ◌≤◌, ◌+◌, ◌++◌, ℕ, List, [], ◌∷◌, Bor, Result}
 use Rattle.std.proofs.Common.{Ok, Err, ◌∙◌, ap, arith, get_or, length, refl, subst, sym, suc}
 use Rattle.std.proofs.Common.{take, drop}
-use Rattle.std.specs.Prelude.{All, IsUtf8, IfErr, IfOk}
-use Rattle.std.proofs.lemmas.List.{get_or-map, length-map, take_all}
+use Rattle.std.specs.Prelude.{All, IsUtf8, IfErr}
+use Rattle.std.proofs.lemmas.List.{get_or-map, length-map, map-append, take_all, take_more}
 use Rattle.std.proofs.lemmas.List.Elements.{All-get_or, All-map}
 use Rattle.ps_resolve.specs.Sources.{contents}
 use Rattle.ps_calls.specs.Checks.{IsMisnamed, IsUnreadable}
@@ -17,10 +17,22 @@ length-split : (bytes ns : List ℕ) → length (split bytes ns) ≡ length ns
 length-split bytes [] = refl
 length-split bytes (n ∷ ns) = ap (λ (k : ℕ). suc k) (length-split (drop n bytes) ns)
 
-as_many : (names lengths : List ℕ) (parts : List (Bor (List ℕ)))
+-- there is a name for each length
+pub as_many : (names lengths : List ℕ) (parts : List (Bor (List ℕ)))
     → contents parts ≡ split names lengths → length parts ≡ length lengths
 as_many names lengths parts e = sym (length-map parts (λ (part : Bor (List ℕ)). part.now))
     ∙ (ap (λ (texts : List (List ℕ)). length texts) e ∙ length-split names lengths)
+
+-- the texts of one name more
+pub one_more : (names texts more : List (Bor (List ℕ))) (i : ℕ) (d text : Bor (List ℕ))
+    → i < length names → contents texts ≡ contents (take i names)
+    → text.now ≡ (get_or names i d).now → more ≡ texts ++ text ∷ []
+    → contents more ≡ contents (take (i + 1) names)
+one_more names texts more i d text lt so_far same pushed =
+    let one : List (Bor (List ℕ)) = get_or names i d ∷ [] in
+    ap contents pushed ∙ (map-append (λ name. name.now) texts (text ∷ [])
+    ∙ (rw (so_far, same) (sym (ap contents (take_more names i d lt)
+    ∙ map-append (λ name. name.now) (take i names) one))))
 
 -- a part that is no text
 pub no_text : (names : List (Bor (List ℕ))) (i : ℕ) (d : Bor (List ℕ)) → i < length names
@@ -38,19 +50,6 @@ pub all_texts : (names : List (Bor (List ℕ))) (i : ℕ) → length names ≤ i
 all_texts names i end all = All-map IsUtf8 (λ (name : Bor (List ℕ)). name.now) names
     (subst (λ (ns : List (Bor (List ℕ))). All (λ name. IsUtf8 name.now) ns)
     (take_all i names end) all)
-
-pub counted : {X : Type 0} (names lengths : List ℕ) (parts : List (Bor (List ℕ)))
-    (r : Result X Stop) (size : X → ℕ) → contents parts ≡ split names lengths
-    → IfOk r (λ x. size x ≡ length parts) → IfOk r (λ x. size x ≡ length lengths)
-counted names lengths parts (Ok x) size e h = h ∙ as_many names lengths parts e
-counted names lengths parts (Err stop) size e h = tt
-
-pub texts_of : {X : Type 0} (names lengths : List ℕ) (parts : List (Bor (List ℕ)))
-    (r : Result X Stop) → contents parts ≡ split names lengths
-    → IfOk r (λ x. All IsUtf8 (contents parts))
-    → IfOk r (λ x. All IsUtf8 (split names lengths))
-texts_of names lengths parts (Ok x) e h = subst (λ (texts : List (List ℕ)). All IsUtf8 texts) e h
-texts_of names lengths parts (Err stop) e h = tt
 
 pub misnamed : {X : Type 0} (names lengths : List ℕ) (parts : List (Bor (List ℕ)))
     (r : Result X Stop) → contents parts ≡ split names lengths

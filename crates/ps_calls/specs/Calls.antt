@@ -71,16 +71,17 @@ pub record ShowNeeds (file room : List ℕ) (answer : Answer) : Type 0 where
   pub less : length room < length (show_of file)
   pub told : answer ≡ small_answer (length (show_of file))
 
--- the room begins with the text of a report, and the answer has what was found
-pub record Reports (host : List ℕ) (libs : List (List ℕ)) (strict : Bool) (old new : List ℕ)
-    (answer : CheckAnswer) : Type 0 where
+-- the room begins with the text of a report, which has the names of the files, and the answer has
+-- what was found
+pub record Reports (names : List (List ℕ)) (host : List ℕ) (libs : List (List ℕ)) (strict : Bool)
+    (old new : List ℕ) (answer : CheckAnswer) : Type 0 where
   pub found : Found
-  pub is : IsFound host libs strict old new found
+  pub is : IsFound names host libs strict old new found
   pub told : answer ≡ found_answer found
 
 -- the text of a report is longer than the room, and the answer has its length
-pub record ReportNeeds (host : List ℕ) (libs : List (List ℕ)) (room : List ℕ)
-    (answer : CheckAnswer) : Type 0 where
+pub record ReportNeeds (names : List (List ℕ)) (host : List ℕ) (libs : List (List ℕ))
+    (room : List ℕ) (answer : CheckAnswer) : Type 0 where
   pub size : ℕ
-  pub long : IsLongReport room host libs size
+  pub long : IsLongReport room names host libs size
   pub told : answer ≡ small_check_answer size

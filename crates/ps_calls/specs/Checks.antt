@@ -2,7 +2,9 @@
 -- Source: this project's profile.
 use Rattle.std.specs.Prelude.{◌≡◌, ℕ, ◌+◌, ◌<◌, ⊤, All, Bool, IsUtf8, List}
 use Rattle.std.specs.Prelude.{length, sum}
-use Rattle.ps_report.specs.Verdicts.{IsVerdict, IsReported, Tells, check_status}
+use Rattle.ps_report.specs.Reports.{IsReport}
+use Rattle.ps_report.specs.Verdicts.{check_status}
+use Rattle.ps_report.specs.declared.verdict.Verdict.{Verdict}
 use Rattle.ps_calls.specs.Libraries.{split}
 use Rattle.ps_calls.specs.Rooms.{RoomBeginsWith}
 use Rattle.ps_calls.specs.declared.checking.Found.{Found}
@@ -20,28 +22,32 @@ IsCheckable libs lengths names name_lengths =
     (sum lengths ≡ length libs) × (length name_lengths ≡ 1 + length lengths)
     × AreNames names name_lengths
 
--- the verdict is right and the room begins with a text that has its line, and what is found has the
--- length of that text, and the status that goes with its warnings
-abbrev pub IsFound : List ℕ → List (List ℕ) → Bool → List ℕ → List ℕ → Found
-    → Type 0
-IsFound host libs strict old new found =
-    (text : List ℕ) × IsVerdict host libs found.verdict × Tells text found.verdict
+-- the room begins with the text of a report of these files, which has their names, and what is found
+-- has the verdict of that report, how many lines of it begin with `warning: `, its length, and the
+-- status that goes with them
+abbrev pub IsFound : List (List ℕ) → List ℕ → List (List ℕ) → Bool → List ℕ
+    → List ℕ → Found → Type 0
+IsFound names host libs strict old new found =
+    (text : List ℕ) × IsReport names host libs found.verdict found.warnings text
     × RoomBeginsWith text old new
     × (found.size ≡ length text)
     × (found.ends_with ≡ check_status strict found.warnings found.verdict)
 
--- the room is shorter than a text that has the line of the right verdict
-abbrev pub IsLongReport : List ℕ → List ℕ → List (List ℕ) → ℕ → Type 0
-IsLongReport room host libs size =
-    (text : List ℕ) × (strict : Bool) × (status : ℕ)
-    × IsReported host libs strict status text × (size ≡ length text) × (length room < size)
+-- the room is shorter than the text of a report of these files, which has their names
+abbrev pub IsLongReport : List ℕ → List (List ℕ) → List ℕ → List (List ℕ) → ℕ
+    → Type 0
+IsLongReport room names host libs size =
+    (verdict : Verdict) × (warnings : ℕ) × (text : List ℕ)
+    × IsReport names host libs verdict warnings text
+    × (size ≡ length text) × (length room < size)
 
 -- no report of these files is put into this room
-abbrev pub StopsReport : List ℕ → List ℕ → List (List ℕ) → Stop → Type 0
-StopsReport room host libs (Refused fault) = ⊥
-StopsReport room host libs WrongLengths = ⊥
-StopsReport room host libs NoMemory = ⊤
-StopsReport room host libs (TooSmall size) = IsLongReport room host libs size
+abbrev pub StopsReport : List ℕ → List (List ℕ) → List ℕ → List (List ℕ) → Stop
+    → Type 0
+StopsReport room names host libs (Refused fault) = ⊥
+StopsReport room names host libs WrongLengths = ⊥
+StopsReport room names host libs NoMemory = ⊤
+StopsReport room names host libs (TooSmall size) = IsLongReport room names host libs size
 
 -- the same of a call whose names and libraries are one after another
 abbrev pub StopsCheck : List ℕ → List ℕ → List ℕ → List ℕ → List ℕ → List ℕ
@@ -51,7 +57,8 @@ StopsCheck room host libs lengths names name_lengths WrongLengths =
     (IsCheckable libs lengths names name_lengths → ⊥)
 StopsCheck room host libs lengths names name_lengths NoMemory = ⊤
 StopsCheck room host libs lengths names name_lengths (TooSmall size) =
-    IsCheckable libs lengths names name_lengths × IsLongReport room host (split libs lengths) size
+    IsCheckable libs lengths names name_lengths
+    × IsLongReport room (split names name_lengths) host (split libs lengths) size
 
 -- why names are no texts
 abbrev pub IsUnreadable : List (List ℕ) → Stop → Type 0

@@ -18,7 +18,7 @@ use std::alloc::Global;
 pub struct Found {
     /// Whether the files are linked: what they come to, or the first fault of all.
     pub verdict: Verdict,
-    /// How many warnings the report has.
+    /// How many warnings the report has: so many of its lines begin with `warning: `.
     pub warnings: usize,
     /// What a process that prints the report ends with, 0 or 1.
     pub ends_with: u8,
@@ -49,7 +49,7 @@ fn found_in(report: &Report<'_, Global>, strict: bool) -> Found
     }
 }
 
-/// Puts the report of a host and these libraries in the room, which names them by their names, the
+/// Puts the report of a host and these libraries in the room, which calls them by these names, the
 /// host first.
 fn check_all(
     alloc: Global,
@@ -60,8 +60,10 @@ fn check_all(
     room: &mut [u8],
 ) -> Result<Found, Stop>
     requires { 0 < length names.now }
-    ensures found { IfOk result (IsFound host.now (contents libs.now) strict room.old room.new) }
-    ensures stopped { IfErr result (StopsReport room.old host.now (contents libs.now)) }
+    ensures found { IfOk result (IsFound (contents names.now) host.now (contents libs.now) strict
+        room.old room.new) }
+    ensures stopped { IfErr result (StopsReport room.old (contents names.now) host.now
+        (contents libs.now)) }
     ensures untouched { OnErr result (room.new ≡ room.old) }
 {
     let Ok(report) = ps_report::check(alloc, names[0], &names[1..], host, libs) else {
@@ -93,8 +95,8 @@ pub fn check(
     room: &mut [u8],
 ) -> Result<Found, Stop>
     ensures right { IfOk result (λ _. IsCheckable libs.now lengths.now names.now name_lengths.now) }
-    ensures found { IfOk result (IsFound host.now (split_spec libs.now lengths.now) strict
-        room.old room.new) }
+    ensures found { IfOk result (IsFound (split_spec names.now name_lengths.now) host.now
+        (split_spec libs.now lengths.now) strict room.old room.new) }
     ensures stopped { IfErr result (StopsCheck room.old host.now libs.now lengths.now
         names.now name_lengths.now) }
     ensures untouched { OnErr result (room.new ≡ room.old) }

@@ -11,7 +11,7 @@ use std::alloc::Global;
 
 /// These names as text, one for one; refuses `WrongLengths` where one of them is no UTF-8.
 fn texts<'a>(alloc: Global, names: &[&'a [u8]]) -> Result<Vec<&'a str>, Stop>
-    ensures count { IfOk result (λ texts. length texts.items ≡ length names.now) }
+    ensures same { IfOk result (λ texts. contents texts.items ≡ contents names.now) }
     ensures utf8 { IfOk result (λ _. All IsUtf8 (contents names.now)) }
     ensures err { IfErr result (IsUnreadable (contents names.now)) }
 {
@@ -33,7 +33,8 @@ pub(crate) fn file_names<'a>(
     names: &'a [u8],
     lengths: &[usize],
 ) -> Result<Vec<&'a str>, Stop>
-    ensures count { IfOk result (λ texts. length texts.items ≡ length lengths.now) }
+    ensures cut { IfOk result (λ texts. contents texts.items
+        ≡ split_spec names.now lengths.now) }
     ensures right { IfOk result (λ _. sum lengths.now ≡ length names.now) }
     ensures utf8 { IfOk result (λ _. All IsUtf8 (split_spec names.now lengths.now)) }
     ensures err { IfErr result (IsMisnamed names.now lengths.now) }

@@ -157,8 +157,8 @@ pub extern "C" fn pslink_check_nonnull(
 ) -> u32
     ensures status { answer.new.status ≡ result }
     ensures known { IsCheckStatus result }
-    ensures reported { result ≡ DONE → Reports host.now (split libs.now lengths.now)
-        (not (strict == 0)) out.old out.new answer.new }
+    ensures reported { result ≡ DONE → Reports (split names.now name_lengths.now) host.now
+        (split libs.now lengths.now) (not (strict == 0)) out.old out.new answer.new }
 
     // Why else nothing is done.
     ensures wrong { result ≡ WRONG_LENGTHS
@@ -166,7 +166,8 @@ pub extern "C" fn pslink_check_nonnull(
     ensures right { (result ≡ DONE) ⊎ (result ≡ TOO_SMALL)
         → IsCheckable libs.now lengths.now names.now name_lengths.now }
     ensures small { result ≡ TOO_SMALL
-        → ReportNeeds host.now (split libs.now lengths.now) out.old answer.new }
+        → ReportNeeds (split names.now name_lengths.now) host.now (split libs.now lengths.now)
+        out.old answer.new }
 
     // What stays as it was, and what is not said.
     ensures untouched { result ≢ DONE → out.new ≡ out.old }

@@ -1,7 +1,7 @@
 use Rattle.std.proofs.Common.{ℕ, List, [], Bor, rules}
 use Rattle.std.specs.Prelude.{IsUtf8}
 use Rattle.std.proofs.lemmas.List.Elements.{All-more}
-use Rattle.ps_calls.proofs.FileNames.{all_texts, no_text}
+use Rattle.ps_calls.proofs.FileNames.{all_texts, no_text, one_more}
 use Rattle.ps_calls.proofs.file_names.texts.Goals as goal
 
 -- what a read past the end would give
@@ -16,7 +16,9 @@ returns-in_default-clause-err c = no_text c.args.names.now c.loop-name.name-inde
 pub loop-name-preserved : goal.loop-name-preserved
 unfolding no_name
 loop-name-preserved c = (
-  search rules,
+  one_more c.args.names.now c.loop-name.texts.items c.push.new.self.items c.loop-name.name-index
+      no_name c.in-Ok.text c.loop-name-test.true c.loop-name.invariant.0 c.in-Ok.ensures.cases.0
+      (search rules),
   All-more (λ (name : Bor (List ℕ)). IsUtf8 name.now) c.args.names.now
       c.loop-name.name-index no_name c.loop-name-test.true c.loop-name.invariant.1
       c.in-Ok.ensures.cases.1,
