@@ -7,7 +7,7 @@ ghost use Rattle.ps_resolve.specs.Stops.{IsStop, duplicate_fault};
 ghost use Rattle.ps_resolve.specs.Builders.{HaveNoNamesakes, StopsDefinitions};
 
 use crate::linkage::{Linkage, SegmentPlace, Stop};
-use crate::name_hasher::NameHasher;
+use crate::name_hasher::{NameHasher, NameKey};
 use indexmap::IndexMap;
 use ps_linkinfo::{Body, LinkInformation, LinkRecord};
 use ps_words::{Name, Reason};
@@ -42,7 +42,7 @@ pub struct Def {
 /// Source: the published II.0 Linker source.
 #[derive(Drop)]
 pub struct Definitions<A: Allocator + Copy = Global> {
-    by_name: IndexMap<Name, Def, NameHasher, A>,
+    by_name: IndexMap<NameKey, Def, NameHasher, A>,
 }
 
 impl<A: Allocator + Copy> Model for Definitions<A> {
@@ -77,7 +77,7 @@ fn table_of<A: Allocator + Copy>(
     alloc: A,
     place: SegmentPlace,
     records: &LinkInformation,
-) -> Result<IndexMap<Name, Def, NameHasher, A>, Stop>
+) -> Result<IndexMap<NameKey, Def, NameHasher, A>, Stop>
     ensures entries { IfOk result (λ m. m.entries ≡ definitions records.now) }
     ensures once { IfOk result (λ _. first_duplicate records.now ≡ None) }
     ensures keyed { IfOk result (λ m. hasher_of m ≡ digest_of records.now) }
@@ -91,7 +91,7 @@ fn table_of<A: Allocator + Copy>(
     }
     for (rec, record) in records.records() {
         if let Some(def) = def_of(&record) {
-            if by_name.insert(record.name, def)?.is_some() {
+            if by_name.insert(NameKey(record.name), def)?.is_some() {
                 return Err(place.record(rec).stop_for(Reason::DoubledDefinition));
             }
         }
@@ -148,7 +148,7 @@ impl<A: Allocator + Copy> Definitions<A> {
     pub fn look(&self, name: &Name) -> Option<Def>
         ensures { result ≡ definition_of name.now self.now }
     {
-        self.by_name.get(name).copied()
+        self.by_name.get(&NameKey(*name)).copied()
     }
 
     /// How many definitions there are.
@@ -176,7 +176,7 @@ impl<A: Allocator + Copy> Definitions<A> {
     {
         match self.by_name.get_index(i) {
             None => unreachable!(),
-            Some((name, def)) => (*name, *def),
+            Some((name, def)) => (name.0, *def),
         }
     }
 }

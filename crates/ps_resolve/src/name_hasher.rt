@@ -1,9 +1,53 @@
-ghost use Rattle.std.specs.Prelude.{◌≡◌};
+ghost use Rattle.std.specs.Prelude.{◌≡◌, ◌∷◌, []};
+ghost use Rattle.std.specs.Str.{bytes_eq};
+ghost use Rattle.std.specs.Cmp.Rules.{comparing, hashing};
+ghost use Rattle.std.proofs.Common.{rules};
 ghost use Rattle.ps_linkinfo.specs.RecordCounts.{digest_of};
 
+use crate::reading::unit_slots::is_same_name;
 use ps_linkinfo::LinkInformation;
-use std::hash::{BuildHasher, DefaultHasher};
+use ps_words::Name;
+use std::hash::{BuildHasher, DefaultHasher, Hash, Hasher};
 use std::marker::Model;
+
+/// A name in a table by hashes. It is hashed in one write of its eight bytes, where an array would
+/// be in nine, of its length and of each byte, and it is compared as one word.
+#[derive(Clone, Copy)]
+pub(crate) struct NameKey(pub(crate) Name);
+
+impl Model for NameKey {
+    ghost use Rattle.std.specs.Prelude.{List, ℕ};
+
+    ghost Value = { List ℕ };
+
+    ghost view = { λ k. k.0 };
+
+    ghost inverse = { λ name. record { 0 = name } };
+}
+
+impl PartialEq for NameKey {
+    ghost eq = { bytes_eq };
+
+    ghost laws = { Prim.search (comparing, rules) };
+
+    fn eq(&self, other: &NameKey) -> bool {
+        is_same_name(self.0, other.0)
+    }
+}
+
+impl Eq for NameKey {
+    ghost laws = { Prim.search (comparing, rules) };
+}
+
+impl Hash for NameKey {
+    ghost hash_input = { λ name. name ∷ [] };
+
+    ghost respects_eq = { Prim.search (hashing, rules) };
+
+    fn hash<H: Hasher>(&self, state: &mut H) {
+        state.write(&self.0);
+    }
+}
 
 /// Hashes each name from a state that has hashed the names of the definitions and the privates of
 /// a segment.

@@ -7,10 +7,9 @@ ghost use Rattle.ps_resolve.specs.Builders.{HaveNoNamesakes, FindsNamesake, priv
 ghost use Rattle.ps_resolve.specs.declared.linkage.Stop.TheVariants.{Memory};
 
 use crate::linkage::Stop;
-use crate::name_hasher::NameHasher;
+use crate::name_hasher::{NameHasher, NameKey};
 use indexmap::IndexSet;
 use ps_linkinfo::{Body, LinkInformation};
-use ps_words::Name;
 use std::alloc::Allocator;
 
 /// The record requests a private.
@@ -63,7 +62,7 @@ fn have_distinct_names<A: Allocator + Copy>(
 fn empty_names<A: Allocator + Copy>(
     alloc: A,
     records: &LinkInformation,
-) -> Result<IndexSet<Name, NameHasher, A>, Stop>
+) -> Result<IndexSet<NameKey, NameHasher, A>, Stop>
     ensures empty { IfOk result (λ names. names.keys ≡ []) }
     ensures keyed { IfOk result (λ names. hasher_of names ≡ digest_of records.now) }
     ensures stop { IfErr result (λ stop. (stop ≡ Memory) × (0 < privates_in records.now)) }
@@ -84,7 +83,7 @@ fn first_namesake<A: Allocator + Copy>(
 {
     let mut names = empty_names(alloc, records)?;
     for (rec, record) in records.records() {
-        if is_private(&record.body) && !names.insert(record.name)? {
+        if is_private(&record.body) && !names.insert(NameKey(record.name))? {
             return Ok(Some(rec));
         }
     }

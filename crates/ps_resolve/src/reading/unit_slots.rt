@@ -11,7 +11,7 @@ use std::marker::Model;
 
 /// The names are the same. Each is compared as one word, which takes less than byte by byte.
 #[inline(always)]
-fn is_same_name(name: Name, other: Name) -> bool
+pub(crate) fn is_same_name(name: Name, other: Name) -> bool
     ensures { result ≡ bytes_eq name other }
 {
     u64::from_le_bytes(name) == u64::from_le_bytes(other)
