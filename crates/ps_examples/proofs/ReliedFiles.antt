@@ -14,7 +14,7 @@ use Rattle.ps_examples.proofs.NotLinked.{util_aux}
 use Rattle.ps_examples.proofs.SegmentOrigins.{any_below, fails}
 use Rattle.ps_relied.proofs.Information.{OneSpelling}
 use Rattle.ps_relied.proofs.StoredLines.{ranged}
-use Rattle.ps_relied.specs.Alike.{IsReadAlike, HaveSameRecords}
+use Rattle.ps_relied.specs.Alike.{IsReadAlike, HaveSameRecords, without_text}
 use Rattle.ps_relied.specs.Numbered.{HaveNoNameInCommon}
 use Rattle.ps_resolve.specs.Sources.{Segment, library_file}
 use Rattle.ps_resolve.specs.Standing.Sources.{HasEntry}
@@ -38,15 +38,17 @@ only_filled : (file : List ℕ) → any_below 16
 only_filled file all i h filled = (Decides-eqb i 2).0 (lone (is_filled (entry_at Little file i))
     (i == 2) (fails 16 (λ k. is_filled (entry_at Little file k) && not (k == 2)) all i h) filled)
 
+-- the library with another byte after its end mark, and with a text address
 abbrev pub marked : List ℕ
-marked = put_at 1500 (9 ∷ []) library
+marked = put_at 228 (9 ∷ []) (put_at 1500 (9 ∷ []) library)
 
--- the library with another byte after its end mark
+-- which is read like it
 pub library_alike : OneSpelling → IsReadAlike Little library marked
 library_alike law = record {
   size = refl;
   kinds = refl;
-  entries = same_at (entry_at Little library) (entry_at Little marked) refl;
+  entries = same_at (λ k. without_text (entry_at Little library k))
+      (λ k. without_text (entry_at Little marked k)) refl;
   codes = λ i h f. same_at (λ k. code_of library (entry_at Little library k))
       (λ k. code_of marked (entry_at Little library k)) refl i h;
   information = λ i h f k. subst (λ n. HaveSameRecords Little

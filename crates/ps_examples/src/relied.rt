@@ -21,13 +21,13 @@ use ps_relied::{
 };
 
 /// What a build may rely on, of the host and its library: the lines of the references and the bytes
-/// that they make; a byte after an end mark; a library that gives nothing, or stands elsewhere; and
+/// that they make; a byte after an end mark and a text address; a library that gives nothing, or stands elsewhere; and
 /// a unit in another slot of its library.
 pub fn what_may_be_relied_on()
     ensures made_by_its_lines { AreMadeByLines host (library ∷ []) (linked_pair Little) }
     ensures a_line { IsLine (listings host (library ∷ [])) 7 1 (128 ∷ 3 ∷ []) }
-    ensures alike { AreFilesAlike host host (library ∷ []) (put_at 1500 (9 ∷ []) library ∷ []) }
-    ensures linked_alike { LinkedFile host (put_at 1500 (9 ∷ []) library ∷ [])
+    ensures alike { AreFilesAlike host host (library ∷ []) (put_at 228 (9 ∷ []) (put_at 1500 (9 ∷ []) library) ∷ []) }
+    ensures linked_alike { LinkedFile host (put_at 228 (9 ∷ []) (put_at 1500 (9 ∷ []) library) ∷ [])
         (linked_pair Little) }
     ensures without_one { LinkedFile host (library ∷ []) (linked_pair Little) }
     ensures its_number { segments_of host (library ∷ []) ≡ map (renumbered (without 1))

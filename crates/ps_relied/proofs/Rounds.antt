@@ -25,7 +25,7 @@ use Rattle.ps_relied.proofs.Entries.{in_slots, filled_role, linked_kind}
 use Rattle.ps_relied.proofs.Faults.{refiled}
 use Rattle.ps_relied.proofs.Requests.{request_moved, code_moved, made_moved, IsFound, IsSource}
 use Rattle.ps_relied.proofs.Requests.{IsMovedChoice}
-use Rattle.ps_relied.specs.Alike.{IsReadAlike}
+use Rattle.ps_relied.specs.Alike.{IsReadAlike, without_text}
 use Rattle.ps_relied.specs.Numbered.{renumbered}
 use Rattle.ps_laws.proofs.Items.{of_range, in_range}
 use Rattle.ps_laws.proofs.Looking.{is_there}
@@ -57,7 +57,7 @@ module _ (order : Order) (number : ℕ → ℕ) (same_host : number 0 ≡ 0) (la
     abbrev mine_at : Entry
     mine_at = entry_at order host slot
 
-    same_entry_at : entry_at order other slot ≡ mine_at
+    same_entry_at : without_text (entry_at order other slot) ≡ without_text mine_at
     same_entry_at = sym (hosts.entries slot inside)
 
     abbrev own_by : List ℕ → List (List ℕ) → List ℕ → Role → Option Segment

@@ -6,6 +6,7 @@ use Rattle.std.specs.Prelude.{length, true, nat_lt, ⊤}
 use Rattle.ps_words.specs.declared.order.Order.{Order}
 use Rattle.ps_codefile.specs.Dictionary.{block_len, file_order, entry_at, is_filled, code_of}
 use Rattle.ps_codefile.specs.Dictionary.{kind_needs_linking, information_of, tail_of}
+use Rattle.ps_codefile.specs.declared.entry.Entry.{Entry}
 use Rattle.ps_linkinfo.specs.Records.{Spells}
 use Rattle.ps_linkinfo.specs.declared.record.LinkRecord.{LinkRecord as Record}
 use Rattle.ps_resolve.specs.Sources.{order_of}
@@ -18,13 +19,18 @@ HaveSameRecords order bytes others =
     × ((rest : List ℕ) × (bytes ≡ read ++ rest))
     × ((rest : List ℕ) × (others ≡ read ++ rest)))
 
+-- an entry, but for its text address, which is not read
+abbrev pub without_text : Entry → Entry
+without_text e = record e { text = 0 }
+
 -- Of two files, both have a whole dictionary or neither, and their kinds say one byte order; they
--- have the same entries, the same code of each filled one, and the same link information, up to its
--- end mark, of each filled one that is a host's or a unit's.
+-- have the same entries but for their text addresses, the same code of each filled one, and the
+-- same link information, up to its end mark, of each filled one that is a host's or a unit's.
 pub record IsReadAlike (order : Order) (file other : List ℕ) : Type 0 where
   pub size : nat_lt (length file) block_len ≡ nat_lt (length other) block_len
   pub kinds : file_order file ≡ file_order other
-  pub entries : (i : ℕ) → i < 16 → entry_at order file i ≡ entry_at order other i
+  pub entries : (i : ℕ) → i < 16
+      → without_text (entry_at order file i) ≡ without_text (entry_at order other i)
   pub codes : (i : ℕ) → i < 16 → is_filled (entry_at order file i) ≡ true
       → code_of file (entry_at order file i) ≡ code_of other (entry_at order file i)
   pub information : (i : ℕ) → i < 16 → is_filled (entry_at order file i) ≡ true

@@ -11,8 +11,8 @@ use ps_linkinfo::one_reading;
 /// What is not read does not matter. Two hosts, and their libraries one by one, that have the same
 /// entries, the same codes of filled ones and the same link information up to its end marks, link
 /// to the same bytes, or have the same first fault. The tail of the host's dictionary is to be the
-/// same too, since it is copied. The text of an interface, blocks that no entry has, and what
-/// follows an end mark may differ.
+/// same too, since it is copied. Text addresses, the text of an interface, blocks that no entry
+/// has, and what follows an end mark may differ.
 /// Source: this project's profile.
 pub fn what_is_not_read()
     ensures linked { (host other : List ℕ) (libs others : List (List ℕ)) (file : List ℕ)
