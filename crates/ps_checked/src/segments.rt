@@ -1,6 +1,6 @@
 //! The segments of a link as the files have them, also where they are refused.
-ghost use Rattle.std.specs.Prelude.{◌<◌, Some};
-ghost use Rattle.ps_checked.specs.Parts.{part_words};
+ghost use Rattle.std.specs.Prelude.{◌≡◌, ◌<◌, Some};
+ghost use Rattle.ps_checked.specs.Parts.{is_added as is_added_spec, is_unit as is_unit_spec, part_words};
 
 use crate::inputs::Inputs;
 use ps_codefile::dictionary_layout::SLOTS;
@@ -38,8 +38,24 @@ impl Part {
 
     /// It is a unit.
     /// Source: this project's profile.
-    pub fn is_unit(self) -> bool {
-        !matches!(self, Part::Plain | Part::Host)
+    pub fn is_unit(self) -> bool
+        ensures { result ≡ is_unit_spec self }
+    {
+        match self {
+            Part::Unit | Part::Wanted | Part::Added { .. } => true,
+            Part::Plain | Part::Host => false,
+        }
+    }
+
+    /// It is a unit that a record requests.
+    /// Source: this project's profile.
+    pub fn is_added(self) -> bool
+        ensures { result ≡ is_added_spec self }
+    {
+        match self {
+            Part::Added { .. } => true,
+            Part::Plain | Part::Host | Part::Unit | Part::Wanted => false,
+        }
     }
 }
 

@@ -11,4 +11,4 @@ mod verdict;
 
 pub use ps_warnings::{Look, Oddity, Place, Warning};
 pub use report::{Report, check};
-pub use verdict::Verdict;
+pub use verdict::{Verdict, verdict_of};

@@ -66,9 +66,14 @@ fn refusal(error: LinkError) -> Result<Verdict, AllocError>
     }
 }
 
-/// The verdict on a host and its libraries, which are prepared and not written. Memory is requested
-/// only once the files were read and have no fault.
-pub(crate) fn verdict_of<A: Allocator + Copy>(
+/// The verdict on a host and its libraries, which are prepared and not written: that of
+/// `ps_linkfile::link`.
+///
+/// `host` and each of `libs` are whole code files, the libraries in the order in which units are
+/// looked up in them. Returns an error only where memory was refused, which is requested only once
+/// the files were read and have no fault: of files that have one the verdict is never an error.
+/// Source: this project's profile.
+pub fn verdict_of<A: Allocator + Copy>(
     alloc: A,
     host: &[u8],
     libs: &[&[u8]],

@@ -1,3 +1,4 @@
 pub mod RecordLooks
 pub mod EntryLooks
 pub mod Weights
+pub mod LinkLooks

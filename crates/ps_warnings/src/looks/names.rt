@@ -1,9 +1,12 @@
 //! Names that look wrong.
+ghost use Rattle.std.specs.Prelude.{◌≡◌};
+ghost use Rattle.ps_warnings.specs.LinkLooks.{is_near as is_near_spec, plain as plain_spec, plain_byte as plain_byte_spec};
+
 use crate::warnings::Oddity;
 use ps_checked::Inputs;
 use ps_codefile::dictionary_layout::SLOTS;
 use ps_codefile::{Dict, is_nameless};
-use ps_words::Name;
+use ps_words::{NAME_LEN, Name};
 use std::ops::RangeInclusive;
 
 /// One of these bytes is in the name.
@@ -56,17 +59,26 @@ pub(super) fn oddity_of(name: &Name, are_small: bool) -> Option<Oddity> {
     }
 }
 
+/// A byte of a name as it ought to be written: without bit 7, a capital letter, and a blank for a 0.
+fn plain_byte(byte: u8) -> u8
+    ensures { result ≡ plain_byte_spec byte }
+{
+    match byte % 128 {
+        0 => b' ',
+        low => low.to_ascii_uppercase(),
+    }
+}
+
 /// A name as it ought to be written where a careless hand wrote it in small letters, with high bits
 /// set, or with zeros for blanks.
 ///
 /// Source: this project's profile.
-pub fn plain(name: &Name) -> Name {
-    let mut plain = *name;
-    for byte in plain.iter_mut() {
-        *byte = match *byte & 0x7F {
-            0 => b' ',
-            low => low.to_ascii_uppercase(),
-        };
+pub fn plain(name: &Name) -> Name
+    ensures { result ≡ plain_spec name.now }
+{
+    let mut plain = [0; NAME_LEN];
+    for i in 0..NAME_LEN {
+        plain[i] = plain_byte(name[i]);
     }
     plain
 }
@@ -74,6 +86,8 @@ pub fn plain(name: &Name) -> Name {
 /// The names differ, and only in small letters, high bits, or zeros where blanks are expected.
 ///
 /// Source: this project's profile.
-pub fn is_near(a: &Name, b: &Name) -> bool {
+pub fn is_near(a: &Name, b: &Name) -> bool
+    ensures { result ≡ is_near_spec a.now b.now }
+{
     a != b && plain(a) == plain(b)
 }

@@ -1,0 +1,49 @@
+-- What looks wrong in a link as a whole, by its segments as they were read, in their order.
+-- Source: this project's profile.
+use Rattle.std.specs.Prelude.{ℕ, ◌==◌, ◌%◌, ◌&&◌, not, if◌then◌else◌, List, map}
+use Rattle.std.specs.Prelude.{nat_lt, Bool, Option, Some, None}
+use Rattle.std.specs.Char.{to_ascii_uppercase}
+use Rattle.std.specs.List.{find}
+use Rattle.std.specs.Option.{option_map}
+use Rattle.std.specs.Str.{bytes_eq}
+use Rattle.ps_words.specs.declared.order.Order.{Order}
+use Rattle.ps_codefile.specs.Dictionary.{entry_at}
+use Rattle.ps_codefile.specs.declared.entry.Entry.{Entry}
+use Rattle.ps_checked.specs.Parts.{is_added, is_unit}
+use Rattle.ps_checked.specs.declared.segments.Part.{Part}
+use Rattle.ps_checked.specs.declared.segments.Segment.{Segment}
+use Rattle.ps_warnings.specs.EntryLooks.{has_name_or_kind}
+use Rattle.ps_warnings.specs.declared.warnings.LinkLook.{LinkLook}
+use Rattle.ps_warnings.specs.declared.warnings.LinkLook.TheVariants as look
+
+-- a byte of a name as it ought to be written: without bit 7, a capital letter, and a blank for a 0
+abbrev pub plain_byte : ℕ → ℕ
+plain_byte byte = if byte % 128 == 0 then 32 else to_ascii_uppercase (byte % 128)
+
+-- a name as it ought to be written
+abbrev pub plain : List ℕ → List ℕ
+plain name = map plain_byte name
+
+-- the names differ, and only in what a careless hand changes
+abbrev pub is_near : List ℕ → List ℕ → Bool
+is_near a b = not (bytes_eq a b) && bytes_eq (plain a) (plain b)
+
+-- a unit that a record requests takes a slot whose entry in the host has a name or a kind
+abbrev pub taken_slot : ℕ → Part → Entry → Option LinkLook
+taken_slot slot what e = if is_added what && has_name_or_kind e
+    then Some (look.TakenSlot slot e.name) else None
+
+-- so does the one that has this slot of the host, if it has one
+abbrev pub taken_by : Order → List ℕ → Option ℕ → Part → Option LinkLook
+taken_by order host None what = None
+taken_by order host (Some slot) what = if nat_lt slot 16
+    then taken_slot slot what (entry_at order host slot) else None
+
+-- the segment is a unit of nearly this name
+abbrev pub is_near_unit : List ℕ → Segment → Bool
+is_near_unit name s = is_unit s.part && is_near s.name name
+
+-- the first of the segments before a unit that is a unit of nearly its name
+abbrev pub other_spelling : List Segment → Segment → Option LinkLook
+other_spelling earlier s = if is_unit s.part
+    then option_map (λ o. look.OtherSpelling o.name) (find (is_near_unit s.name) earlier) else None
