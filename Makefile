@@ -33,7 +33,8 @@ CALLS = pslink_link pslink_map pslink_check pslink_show pslink_link_files pslink
 # what the documents link to, beside them
 BESIDE = README.md LICENSE $(wildcard docs/*.md docs/*.json samples/* man/pslink.*) include/pslink.h \
 	$(addprefix bindings/python/,pyproject.toml build_backend.py LICENSE pslink/__init__.py pslink/py.typed) \
-	$(addprefix bindings/rust/,Cargo.toml build.rs LICENSE src/lib.rs src/raw.rs src/reason.rs tests/calls.rs)
+	$(addprefix bindings/rust/,Cargo.toml build.rs LICENSE src/lib.rs src/raw.rs src/reason.rs tests/calls.rs) \
+	$(wildcard bindings/rust/tests/samples/*)
 
 .PHONY: demo build lib test bench vectors install install-program install-built install-built-program install-texts uninstall dist
 
@@ -81,9 +82,9 @@ install-texts:
 	install -m 644 completions/_pslink "$(DESTDIR)$(ZSH_FOLDER)/_pslink"
 	install -m 644 completions/pslink.fish "$(DESTDIR)$(FISH_FOLDER)/pslink.fish"
 	install -m 644 rules/pslink.mk "$(DESTDIR)$(INCLUDE)/pslink.mk"
-	install -m 644 rules/pslink-config.cmake "$(DESTDIR)$(CONFIG)/pslink-config.cmake"
+	sed -e 's|@BIN@|$(AT)/bin|' rules/pslink-config.cmake.in >"$(DESTDIR)$(CONFIG)/pslink-config.cmake"
 	sed -e 's|@VERSION@|$(VERSION)|' rules/pslink-config-version.cmake.in >"$(DESTDIR)$(CONFIG)/pslink-config-version.cmake"
-	chmod 644 "$(DESTDIR)$(CONFIG)/pslink-config-version.cmake"
+	chmod 644 "$(DESTDIR)$(CONFIG)"/pslink-config*.cmake
 
 # that and the library
 install-built: install-built-program
@@ -110,13 +111,14 @@ uninstall:
 # the program, the library and all that is read beside them, in one file, and what they need; the files have the time of the
 # commit that they are of, so that cargo, make and ninja see a newer archive
 dist: build lib
-	rm -rf $(PACKED)
-	$(MAKE) --no-print-directory install-built PREFIX=/usr/local LIBDIR=/usr/local/lib DESTDIR=$(PACKED)/root
-	mv $(PACKED)/root/usr/local/* $(PACKED)
-	rm -r $(PACKED)/root $(PACKED)/share/doc/pslink/include
-	mv $(PACKED)/share/doc/pslink/* $(PACKED)
-	rm -r $(PACKED)/share/doc
-	sed -i -e 's|^prefix=.*|prefix=$${pcfiledir}/../..|' -e 's|^libdir=.*|libdir=$${prefix}/lib|' $(PACKED)/lib/pkgconfig/pslink.pc
-	sed -i 's|"/usr/local/include"|"../include"|' $(PACKED)/lib/cmake/pslink/pslinkConfig.cmake
-	library/needs $(PACKED)/bin/pslink $(PACKED)/lib/libpslink.so.1 | tee $(PACKED)/NEEDS
-	tar --sort=name --owner=0 --group=0 --numeric-owner --mtime=@$${SOURCE_DATE_EPOCH:-$$(git log -1 --format=%ct)} -C $(PACKED) -czf $(TARBALL) --transform='s|^[.]|$(DIST)|' .
+	rm -rf "$(PACKED)"
+	$(MAKE) --no-print-directory install-built PREFIX=/usr/local LIBDIR=/usr/local/lib DESTDIR="$(PACKED)/root"
+	mv "$(PACKED)"/root/usr/local/* "$(PACKED)"
+	rm -r "$(PACKED)/root" "$(PACKED)/share/doc/pslink/include"
+	mv "$(PACKED)"/share/doc/pslink/* "$(PACKED)"
+	rm -r "$(PACKED)/share/doc"
+	sed -i -e 's|^prefix=.*|prefix=$${pcfiledir}/../..|' -e 's|^libdir=.*|libdir=$${prefix}/lib|' "$(PACKED)/lib/pkgconfig/pslink.pc"
+	sed -i 's|"/usr/local/include"|"../include"|' "$(PACKED)/lib/cmake/pslink/pslinkConfig.cmake"
+	sed -i 's|"/usr/local/bin" ||' "$(PACKED)/lib/cmake/pslink/pslink-config.cmake"
+	library/needs "$(PACKED)/bin/pslink" "$(PACKED)/lib/libpslink.so.1" | tee "$(PACKED)/NEEDS"
+	tar --sort=name --owner=0 --group=0 --numeric-owner --mtime=@$${SOURCE_DATE_EPOCH:-$$(git log -1 --format=%ct 2>/dev/null || date +%s)} -C "$(PACKED)" -czf "$(TARBALL)" --transform='s|^[.]|$(DIST)|' .

@@ -6,6 +6,8 @@ int main(int argc, char **argv)
     size_t lengths[2];
     int k;
 
+    if (argc < 2)
+        return 2;
     for (k = 0; k < 2; k++) {
         FILE *stream = fopen(argv[k + 1 < argc ? k + 1 : 1], "rb");
 

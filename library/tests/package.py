@@ -1,12 +1,18 @@
 #!/usr/bin/env python3
 """The Python package as a caller meets it: what it takes as a file, what it raises, that a refusal comes back from a pool of
-processes, that threads may call at once, that it is installed without a network, and how it finds the shared object.
+processes, that threads may call at once, what its hints are, that it is installed without a network, and how it finds the shared
+object.
 Prints what is otherwise. Usage: package.py LIBRARY OTHER FOLDER: the folder of libpslink.so.1, one of another version, and a
 new folder"""
 import array
+import ast
+import builtins
 import concurrent.futures
 import copy
+import ctypes
 import importlib.util
+import inspect
+import mmap
 import multiprocessing
 import os
 import pathlib
@@ -15,6 +21,7 @@ import shutil
 import subprocess
 import sys
 import tracemalloc
+import typing
 import zipfile
 
 ROOT = pathlib.Path(__file__).resolve().parents[2]
@@ -59,6 +66,8 @@ def of_files():
     }  # fmt: skip
     for what, (one, all_) in same.items():
         check(pslink.link(one, all_) == linked, f"{what} are linked to another file")
+    with open(HOST, "rb") as stream, mmap.mmap(stream.fileno(), 0, access=mmap.ACCESS_READ) as mapped:
+        check(pslink.link(mapped, [BytesPath()]) == linked, "a mapped file is linked to another file")
     check(pslink.link(Longer(host), [library]) == linked, "a length is trusted that is not that of the bytes")
     check(pslink.link_with_summary(host, [library]) == (linked, (2, 4, 3)), "the summary is another")
     check(pslink.map(HOST, [LIBRARY]).encode() == (ROOT / "samples/host.map").read_bytes(), "the map is another")
@@ -140,6 +149,29 @@ def of_names():
     check("map" not in names and names["link"] is pslink.link, "import * takes Python's own map away, or gives no link")
 
 
+def of_hints():
+    """The hints can be asked for, and the syntax and the hints are those of Python 3.8."""
+    for name in pslink.__all__:
+        it = getattr(pslink, name)
+        if inspect.isfunction(it) or inspect.isclass(it):
+            check(typing.get_type_hints(it.__init__ if name == "Refused" else it), f"{name} has no hints")
+    types = {bytes, bytearray, memoryview, array.array, mmap.mmap, ctypes.Array, str, os.PathLike}
+    check(set(typing.get_args(pslink.File)) == types, f"a file is {pslink.File}")
+    for source in sorted(PACKAGE.rglob("*.py")):
+        tree = ast.parse(source.read_text(), feature_version=(3, 8))
+        hints = [getattr(node, field, None) for node in ast.walk(tree) for field in ("annotation", "returns")]
+        for node in (node for hint in hints if hint for node in ast.walk(hint)):
+            newer = isinstance(node, ast.BinOp) or (isinstance(node, ast.Subscript) and getattr(node.value, "id", "") in dir(builtins))
+            check(not newer, f"{source.name}, line {getattr(node, 'lineno', 0)}: Python 3.8 has no such hint")
+
+
+class BytesPath:
+    """A path of bytes."""
+
+    def __fspath__(self):
+        return os.fsencode(LIBRARY)
+
+
 class Longer(bytes):
     """Bytes that say another length than they have."""
 
@@ -147,30 +179,49 @@ class Longer(bytes):
         return super().__len__() + 64
 
 
-def imported(**env):
-    """What an import of the installed package says, with these variables alone."""
+def imported(code="import pslink; print(pslink.link(*eval(input())) != b'', pslink.__file__)", **env):
+    """What a program says at last that imports the installed package, with these variables alone."""
     env = {"PATH": os.environ["PATH"], "HOME": str(FOLDER), "PYTHONPATH": str(FOLDER / "site"), **env}
     done = subprocess.run(
-        [sys.executable, "-B", "-c", "import pslink; print(pslink.link(*eval(input())) != b'', pslink.__file__)"],
+        [sys.executable, "-B", "-c", code],
         input=repr((str(HOST), [str(LIBRARY)])), capture_output=True, text=True, env=env, cwd=FOLDER,
     )  # fmt: skip
     return (done.stdout + done.stderr).strip().splitlines()[-1]
 
 
+# An import in an interpreter of its own, which may start no other program.
+ISOLATED = """
+try:
+    import _interpreters
+    one, run = _interpreters.create("isolated"), _interpreters.exec
+except ImportError:
+    import _xxsubinterpreters
+    one, run = _xxsubinterpreters.create(isolated=True), _xxsubinterpreters.run_string
+run(one, "try: import pslink\\nexcept ImportError: print('ImportError')")
+"""
+
+
+def of_editable(build_backend, source):
+    """What `pip install -e` installs is the folder of the sources."""
+    zipfile.ZipFile(FOLDER / build_backend.build_editable(FOLDER)).extractall(FOLDER / "editable")
+    code = f"import site; site.addsitedir({str(FOLDER / 'editable')!r}); import pslink; print(pslink.__file__)"
+    said = imported(code, PYTHONPATH="", PSLINK_LIBRARY=str(BUILT / "libpslink.so.1"))
+    check(said == f"{source}/pslink/__init__.py", f"installed as editable: {said}")
+
+
 def of_installing():
     source = FOLDER / "source"
     shutil.copytree(PACKAGE, source, ignore=shutil.ignore_patterns("__pycache__"))
+    sys.path.insert(0, str(source))
+    import build_backend
+
     if importlib.util.find_spec("pip"):
         pip = [sys.executable, "-m", "pip", "--disable-pip-version-check", "--quiet", "install", "--no-index", "--root-user-action=ignore"]
         done = subprocess.run([*pip, "--target", FOLDER / "site", source], capture_output=True, text=True)
         check(done.returncode == 0, f"pip: {done.stderr[-300:]}")
     else:
-        sys.path.insert(0, str(source))
-        import build_backend
-
         zipfile.ZipFile(FOLDER / build_backend.build_wheel(FOLDER)).extractall(FOLDER / "site")
-        zipfile.ZipFile(FOLDER / build_backend.build_editable(FOLDER)).extractall(FOLDER / "editable")
-        check((FOLDER / "editable/pslink.pth").read_text() == f"{source}\n", "an editable installation is of another folder")
+    of_editable(build_backend, source)
     there = f"True {FOLDER}/site/pslink/__init__.py"
     config = FOLDER / "pkgconfig"
     config.mkdir()
@@ -182,6 +233,7 @@ def of_installing():
     }
     for what, env in ways.items():
         check(imported(**env) == there, f"{what}: {imported(**env)}")
+    check(imported(ISOLATED) == "ImportError", f"an isolated interpreter without a library: {imported(ISOLATED)}")
     wrong = {
         "of another version": str(OTHER / "libpslink.so.1"), "of something else": "libc.so.6",
         "that is not there": str(FOLDER / "not there"), "that is none": str(HOST),
@@ -192,7 +244,7 @@ def of_installing():
 
 
 def main():
-    for part in (of_files, of_reports, of_refusals, of_names, of_threads, of_room, of_installing):
+    for part in (of_files, of_reports, of_refusals, of_names, of_hints, of_threads, of_room, of_installing):
         part()
     for line in found:
         print(line)

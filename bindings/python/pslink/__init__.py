@@ -10,22 +10,27 @@ The shared object is the file that PSLINK_LIBRARY names, or else libpslink.so.1 
 where pkg-config has it. If there is none, or one of another version, the import of this package is an ImportError.
 """
 
+import array
 import ctypes
+import mmap
 import os
 import subprocess
-from typing import TYPE_CHECKING, Any, Iterable, NamedTuple, Optional, Tuple, Union
+from typing import TYPE_CHECKING, Iterable, NamedTuple, Optional, Tuple, Union
 
 if TYPE_CHECKING:
-    from array import array
-    from mmap import mmap
+    # (what has bytes, for those who check types: Python 3.8 has no name for it)
+    from _typeshed import ReadableBuffer
 
 # (`map` is not among them, so that `import *` keeps Python's own)
 __all__ = ["File", "Refused", "Report", "Summary", "check", "fault_name", "link", "link_with_summary", "release", "show"]
 __version__ = "0.1.0"
 
-# What has a whole code file, or names one. (An `array`, `mmap.mmap` and whatever else has bytes will do too: Python 3.8
-# has no name for these.)
-File = Union[bytes, bytearray, memoryview, "array[Any]", "mmap", str, "os.PathLike[str]", "os.PathLike[bytes]"]
+# What has a whole code file, or names one.
+if TYPE_CHECKING:
+    File = Union[ReadableBuffer, str, "os.PathLike[str]", "os.PathLike[bytes]"]
+else:
+    # (where a program asks for the hints; Python 3.8 says no more of `array` and `PathLike`)
+    File = Union[bytes, bytearray, memoryview, array.array, mmap.mmap, ctypes.Array, str, os.PathLike]
 
 _DONE, _REFUSED, _NO_MEMORY, _TOO_SMALL = 0, 1, 4, 5
 _VERSION = 1

@@ -1,11 +1,10 @@
-//! The calls over the samples, which lie two folders above this crate in the sources, in the packed
-//! archive and where `make install` puts them.
+//! The calls over samples, which lie beside this file: the crate can be copied by itself.
 
 use pslink::{Error, Fault, Reason, Summary, NO_LIBRARIES};
 use std::collections::HashSet;
 
 fn sample(name: &str) -> Vec<u8> {
-    let path = format!("{}/../../samples/{name}", env!("CARGO_MANIFEST_DIR"));
+    let path = format!("{}/tests/samples/{name}", env!("CARGO_MANIFEST_DIR"));
     std::fs::read(&path).unwrap_or_else(|error| panic!("{path}: {error}"))
 }
 
