@@ -109,7 +109,7 @@ uninstall:
 	rm -rf "$(DESTDIR)$(DOC)" "$(DESTDIR)$(CONFIG)"
 
 # the program, the library and all that is read beside them, in one file, and what they need; the files have the time of the
-# commit that they are of, so that cargo, make and ninja see a newer archive
+# commit that they are of, so that cargo, make and ninja see a newer archive. (Of pcfiledir, pkg-config itself marks a blank.)
 dist: build lib
 	rm -rf "$(PACKED)"
 	$(MAKE) --no-print-directory install-built PREFIX=/usr/local LIBDIR=/usr/local/lib DESTDIR="$(PACKED)/root"
@@ -117,7 +117,7 @@ dist: build lib
 	rm -r "$(PACKED)/root" "$(PACKED)/share/doc/pslink/include"
 	mv "$(PACKED)"/share/doc/pslink/* "$(PACKED)"
 	rm -r "$(PACKED)/share/doc"
-	sed -i -e 's|^prefix=.*|prefix=$${pcfiledir}/../..|' -e 's|^libdir=.*|libdir=$${prefix}/lib|' "$(PACKED)/lib/pkgconfig/pslink.pc"
+	sed -i -e 's|^prefix=.*|prefix=$${pcfiledir}/../..|' -e 's|^libdir=.*|libdir=$${prefix}/lib|' -e 's|"||g' "$(PACKED)/lib/pkgconfig/pslink.pc"
 	sed -i 's|"/usr/local/include"|"../include"|' "$(PACKED)/lib/cmake/pslink/pslinkConfig.cmake"
 	sed -i 's|"/usr/local/bin" ||' "$(PACKED)/lib/cmake/pslink/pslink-config.cmake"
 	library/needs "$(PACKED)/bin/pslink" "$(PACKED)/lib/libpslink.so.1" | tee "$(PACKED)/NEEDS"

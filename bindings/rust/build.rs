@@ -15,7 +15,8 @@ const USUAL: [&str; 5] = [
     "/usr/lib",
 ];
 
-/// What pkg-config has for a variable of the library, where it has it.
+/// The folder that pkg-config has for a variable of the library, where it has one. (A blank of its
+/// path may have a backslash there, by where pslink.pc is.)
 fn of_pkg_config(variable: &str) -> Option<PathBuf> {
     let program = env::var_os("PKG_CONFIG").unwrap_or_else(|| "pkg-config".into());
     let found = Command::new(program)
@@ -23,7 +24,10 @@ fn of_pkg_config(variable: &str) -> Option<PathBuf> {
         .output()
         .ok()?;
     let value = String::from_utf8(found.stdout).ok()?;
-    (found.status.success() && !value.trim().is_empty()).then(|| value.trim().into())
+    [value.trim(), &value.trim().replace("\\ ", " ")]
+        .iter()
+        .map(PathBuf::from)
+        .find(|folder| found.status.success() && folder.is_dir())
 }
 
 /// Has this script run again when the environment has another value.

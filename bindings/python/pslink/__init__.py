@@ -104,7 +104,10 @@ def _candidates():
     except (OSError, RuntimeError, subprocess.CalledProcessError):
         # (an isolated subinterpreter starts no program)
         return
-    yield os.path.join(os.fsdecode(found.stdout).strip(), _NAME)
+    folder = os.fsdecode(found.stdout).strip()
+    yield os.path.join(folder, _NAME)
+    # (a blank may have a backslash, by where pslink.pc is)
+    yield os.path.join(folder.replace("\\ ", " "), _NAME)
 
 
 def _open():
