@@ -1,27 +1,27 @@
 -- Files that are read like the samples, and libraries that have no name in common.
-use Rattle.std.proofs.Common.{◌≡◌, ℕ, ◌+◌, ◌<◌, List, [], ◌∷◌, map, drop, Bool, true}
-use Rattle.std.proofs.Common.{false, refl, sym, ap, subst, ◌∙◌, inr, arith, ◌==◌}
+use Rattle.std.proofs.Common.{◌≡◌, ℕ, ◌+◌, ◌<◌, List, [], ◌∷◌, map, Bool, true}
+use Rattle.std.proofs.Common.{false, refl, sym, ap, subst, ◌∙◌, arith, ◌==◌}
 use Rattle.std.specs.Prelude.{◌&&◌, not, slice_get}
 use Rattle.std.specs.List.{range_with_len}
 use Rattle.std.proofs.lemmas.Bool.Decides.{Decides-eqb}
 use Rattle.std.proofs.lemmas.List.Elements.{All-cons, All-nil}
 use Rattle.std.specs.Prelude.{All, ◌≢◌}
-use Rattle.ps_codefile.specs.Dictionary.{entry_at, is_filled, code_of, information_of}
-use Rattle.ps_examples.specs.Files.{library, put_at, aux, util_information}
-use Rattle.ps_examples.specs.Segments.{count_reference, state_reference, end_mark}
+use Rattle.ps_codefile.specs.Dictionary.{entry_at, is_filled}
+use Rattle.ps_examples.specs.Files.{host, library, put_at, aux}
+use Rattle.ps_examples.specs.ReadAlike.{library_elsewhere}
 use Rattle.ps_examples.specs.Segments.{demo_segment, util_segment}
 use Rattle.ps_examples.proofs.NotLinked.{util_aux}
 use Rattle.ps_examples.proofs.SegmentOrigins.{any_below, fails}
-use Rattle.ps_relied.proofs.Information.{OneSpelling}
 use Rattle.ps_relied.proofs.StoredLines.{ranged}
-use Rattle.ps_relied.specs.Alike.{IsReadAlike, HaveSameRecords, without_text}
+use Rattle.ps_relied.specs.Alike.{IsReadAlike, AreReadAlike, AreFilesAlike, HasSameCode, HasSameRecords}
 use Rattle.ps_relied.specs.Numbered.{HaveNoNameInCommon}
 use Rattle.ps_resolve.specs.Sources.{Segment, library_file}
 use Rattle.ps_resolve.specs.Standing.Sources.{HasEntry}
 use Rattle.ps_words.specs.declared.order.Order.TheVariants.{Little}
 
 -- functions that give the same list give the same at each place
-same_at : {A : Type 0} (f g : ℕ → A) → map f (range_with_len 0 16) ≡ map g (range_with_len 0 16)
+same_at : {A : Type 0} (f g : ℕ → A) → map f (range_with_len 0 16)
+    ≡ map g (range_with_len 0 16)
     → (i : ℕ) → i < 16 → f i ≡ g i
 same_at f g e i h =
     let x = sym (ranged f 0 16 i h) ∙ (ap (λ xs. slice_get xs i) e ∙ ranged g 0 16 i h) in
@@ -38,35 +38,32 @@ only_filled : (file : List ℕ) → any_below 16
 only_filled file all i h filled = (Decides-eqb i 2).0 (lone (is_filled (entry_at Little file i))
     (i == 2) (fails 16 (λ k. is_filled (entry_at Little file k) && not (k == 2)) all i h) filled)
 
--- the library with another byte after its end mark, and with a text address
-abbrev pub marked : List ℕ
-marked = put_at 228 (9 ∷ []) (put_at 1500 (9 ∷ []) library)
-
--- which is read like it
-pub library_alike : OneSpelling → IsReadAlike Little library marked
-library_alike law = record {
-  size = refl;
-  kinds = refl;
-  entries = same_at (λ k. without_text (entry_at Little library k))
-      (λ k. without_text (entry_at Little marked k)) refl;
-  codes = λ i h f. same_at (λ k. code_of library (entry_at Little library k))
-      (λ k. code_of marked (entry_at Little library k)) refl i h;
-  information = λ i h f k. subst (λ n. HaveSameRecords Little
-      (information_of library (entry_at Little library n))
-      (information_of marked (entry_at Little library n)))
-      (sym (only_filled library refl i h f)) of_util;
+-- the library is read like the one whose unit is elsewhere
+pub library_alike : IsReadAlike Little library library_elsewhere
+library_alike = record {
+  opened = refl;
+  filled = same_at (λ k. is_filled (entry_at Little library k))
+      (λ k. is_filled (entry_at Little library_elsewhere k)) refl;
+  names = λ i h f. same_at (λ k. (entry_at Little library k).name)
+      (λ k. (entry_at Little library_elsewhere k).name) refl i h;
+  kinds = λ i h f. same_at (λ k. (entry_at Little library k).kind)
+      (λ k. (entry_at Little library_elsewhere k).kind) refl i h;
+  units = λ i h f k. subst (λ n. HasSameCode Little library library_elsewhere n
+      × HasSameRecords Little library library_elsewhere n)
+      (sym (only_filled library refl i h f)) (refl, refl);
 }
-  where
-    of_util : HaveSameRecords Little (information_of library (entry_at Little library 2))
-        (information_of marked (entry_at Little library 2))
-    of_util = inr (
-      util_information Little,
-      count_reference ∷ state_reference ∷ end_mark ∷ [],
-      (law Little (util_information Little)
-          (count_reference ∷ state_reference ∷ end_mark ∷ [])).1 refl,
-      (drop 80 (information_of library (entry_at Little library 2)), refl),
-      (drop 80 (information_of marked (entry_at Little library 2)), refl),
-    )
+
+-- a host is read like itself, where the libraries are read alike
+pub host_alike : (libs others : List (List ℕ)) → AreReadAlike Little libs others
+    → AreFilesAlike host host libs others
+host_alike libs others like = record {
+  heads = record { order = refl; names = λ slot h. refl; tail = refl };
+  opened = refl;
+  roles = λ slot h. refl;
+  codes = λ slot h r e o. refl;
+  records = λ slot h r e o n. refl;
+  libraries = like;
+}
 
 abbrev pub of_aux : List ℕ
 of_aux = put_at 80 aux library

@@ -1,5 +1,6 @@
-ghost use Rattle.std.specs.Prelude.{◌≡◌, [], ◌∷◌, map, replicate, Some};
+ghost use Rattle.std.specs.Prelude.{◌≡◌, [], ◌∷◌, map, replicate, slice_index, Some};
 ghost use Rattle.ps_examples.specs.Expected.{linked_pair, linked_other_library};
+ghost use Rattle.ps_examples.specs.ReadAlike.{library_elsewhere};
 ghost use Rattle.ps_examples.specs.Files.{host, library, library_of_the_last, put_at, aux};
 ghost use Rattle.ps_linkfile.specs.LinkedFile.{LinkedFile, linked_file};
 ghost use Rattle.ps_relied.specs.Alike.{AreFilesAlike};
@@ -8,26 +9,25 @@ ghost use Rattle.ps_relied.specs.SameSegments.{AreSameSegments, HaveSameHeads};
 ghost use Rattle.ps_relied.specs.StoredLines.{listings, AreMadeByLines, IsLine};
 ghost use Rattle.ps_resolve.specs.AllFaults.{first_fault};
 ghost use Rattle.ps_resolve.specs.LinkedBytes.{segments_of};
-ghost use Rattle.ps_words.specs.FaultPlaces.{in_file};
+ghost use Rattle.ps_words.specs.FaultPlaces.{in_file, in_slot};
 ghost use Rattle.ps_words.specs.declared.fault.Reason.TheVariants as reason;
 ghost use Rattle.ps_words.specs.declared.order.Order.TheVariants.{Little};
 
 use ps_laws::first_of_all;
 use ps_linkfile::linked_file_is_one;
-use ps_linkinfo::one_reading;
 use ps_relied::{
     library_is_left_out, link_is_its_segments, neighbours_are_exchanged, references_make_the_file,
     what_is_not_read,
 };
 
 /// What a build may rely on, of the host and its library: the lines of the references and the bytes
-/// that they make; a byte after an end mark and a text address; a library that gives nothing, or stands elsewhere; and
-/// a unit in another slot of its library.
+/// that they make; a unit in other blocks of its library, a text address and a byte after an end
+/// mark; a library that gives nothing, or stands elsewhere; and a unit in another slot.
 pub fn what_may_be_relied_on()
     ensures made_by_its_lines { AreMadeByLines host (library ∷ []) (linked_pair Little) }
     ensures a_line { IsLine (listings host (library ∷ [])) 7 1 (128 ∷ 3 ∷ []) }
-    ensures alike { AreFilesAlike host host (library ∷ []) (put_at 228 (9 ∷ []) (put_at 1500 (9 ∷ []) library) ∷ []) }
-    ensures linked_alike { LinkedFile host (put_at 228 (9 ∷ []) (put_at 1500 (9 ∷ []) library) ∷ [])
+    ensures alike { AreFilesAlike host host (library ∷ []) (library_elsewhere ∷ []) }
+    ensures linked_alike { LinkedFile host (library_elsewhere ∷ [])
         (linked_pair Little) }
     ensures without_one { LinkedFile host (library ∷ []) (linked_pair Little) }
     ensures its_number { segments_of host (library ∷ []) ≡ map (renumbered (without 1))
@@ -41,7 +41,6 @@ pub fn what_may_be_relied_on()
 {
     first_of_all();
     linked_file_is_one();
-    one_reading();
     library_is_left_out();
     link_is_its_segments();
     neighbours_are_exchanged();
@@ -50,11 +49,15 @@ pub fn what_may_be_relied_on()
 }
 
 /// What the laws do not say: that a line names only bytes that change; that a host's tail is not
-/// read; that a library that cannot be opened may be left out; that libraries may be exchanged that
-/// have a unit in common; and that the same segments make one file for hosts of other tails.
+/// read; that a library may be left out that gives a segment, or that cannot be opened; that
+/// libraries may be exchanged that have a unit in common; and that the same segments make one file
+/// for hosts of other tails.
 pub fn what_is_not_to_be_relied_on()
     ensures a_line_of_a_byte_that_stays { IsLine (listings host (library ∷ [])) 1 16 (1 ∷ []) }
     ensures another_tail { AreFilesAlike host (put_at 300 (43 ∷ []) host) [] [] → ⊥ }
+    ensures its_file { slice_index (linked_file (put_at 300 (43 ∷ []) host) (library ∷ [])) 300
+        ≡ 43 }
+    ensures a_library_that_gives { first_fault host [] ≡ Some (in_slot 0 7 reason.MissingUnit) }
     ensures a_library_that_is_refused { first_fault host (library ∷ replicate 511 0 ∷ [])
         ≡ Some (in_file 2 reason.ShortFile) }
     ensures the_first_of_two { linked_file host (library ∷ put_at 518 (0 ∷ 0 ∷ []) library ∷ [])

@@ -1,49 +1,57 @@
 -- Links whose libraries stand elsewhere, or one of which is left out.
-use Rattle.std.proofs.Common.{◌≡◌, ℕ, ◌+◌, ◌<◌, ◌≤◌, List, ◌∷◌}
-use Rattle.std.proofs.Common.{◌++◌, length, map, Option, Some}
-use Rattle.std.proofs.Common.{None, Bool, true, false, refl, sym, ap, ◌∙◌, inl, inr, arith}
+use Rattle.std.proofs.Common.{◌≡◌, ℕ, ◌+◌, ◌<◌, ◌≤◌, List, [], ◌∷◌, ◌++◌, length, map, Option, Some, None, Result, Ok, Bool, true, false, refl, sym, ap, subst, ◌∙◌, inl, inr, arith}
 use Rattle.std.specs.Prelude.{⊤}
 use Rattle.std.proofs.lemmas.Bool.Decides.{nat_tests}
-use Rattle.ps_relied.proofs.Words.{◌≢◌, All, if◌then◌else◌, slots, find, option_map}
-use Rattle.ps_relied.proofs.Words.{option_and_then, option_or, Order, Segment, Role, order_of}
-use Rattle.ps_relied.proofs.Words.{entry_at, is_named, chosen_library, unit_source}
-use Rattle.ps_relied.proofs.Words.{library_file, source_of, result_ok, Reason}
-use Rattle.std.proofs.Common.{Result}
-use Rattle.ps_laws.proofs.Words.{same_Some}
-use Rattle.ps_relied.proofs.Choices.{read_alike, found_of, shifted, behind}
-use Rattle.ps_relied.proofs.Faults.{refiled}
-use Rattle.ps_relied.proofs.Hosts.{AreOpened, others_opened}
-use Rattle.ps_relied.proofs.Information.{OneSpelling}
-use Rattle.ps_relied.proofs.Requests.{IsFound, IsMovedChoice}
-use Rattle.ps_relied.proofs.Rounds.{AreFound, Fits}
+use Rattle.ps_relied.proofs.Words.{◌≢◌, All, if◌then◌else◌, slots, find, first_of, enumerate_from, option_map, option_and_then, option_or, result_ok, Order, Segment, Role, Reason, order_of, is_named, role_of, entry_at, chosen_library, unit_source, library_file, source_of, in_file}
+use Rattle.ps_relied.proofs.Moved.{refiled_by, renewed_by, Found, IsMovedChoice, AreMoved, Fits, linking_moved, rest_moved, segments_moved}
 use Rattle.ps_relied.proofs.SameFile.{file_of, file_moved}
-use Rattle.ps_relied.proofs.SameLink.{late_moved, segments_same, first_by}
 use Rattle.ps_relied.specs.Numbered.{renumbered, without, exchanged, HaveNoNameInCommon}
+use Rattle.ps_laws.proofs.Words.{same_Some}
 use Rattle.ps_laws.proofs.Items.{In, of_all}
 use Rattle.ps_laws.proofs.Asked.{empty_slot, found_added, in_segments}
 use Rattle.ps_laws.proofs.AddedUnits.{has_own}
 use Rattle.ps_laws.proofs.Sources.{has}
-use Rattle.ps_resolve.specs.Standing.Sources.{HasEntry}
+use Rattle.ps_codefile.specs.Dictionary.{name_at}
 use Rattle.ps_codefile.specs.declared.entry.Role.TheVariants as role
 use Rattle.ps_resolve.specs.Added.{segments, rounds, added_at}
 use Rattle.ps_resolve.specs.AllFaults.{first_fault, reading_fault}
-use Rattle.ps_resolve.specs.Faults.{host_fault, slots_fault, no_host_fault, libraries_fault}
-use Rattle.ps_resolve.specs.Faults.{linking_fault}
+use Rattle.ps_resolve.specs.Faults.{host_fault, slots_fault, no_host_fault, libraries_fault, library_fault, library_reason, sources_fault, linking_fault}
 use Rattle.ps_resolve.specs.LinkedBytes.{segments_of}
 use Rattle.ps_resolve.specs.OfLink.{IsOfRound}
 use Rattle.ps_resolve.specs.Sources.{has_entry}
+use Rattle.ps_resolve.specs.Standing.Sources.{HasEntry}
 use Rattle.ps_resolve.specs.declared.reading.added.UnitReference.{UnitReference}
 use Rattle.ps_resolve.proofs.EachSegment.{own_made}
-use Rattle.ps_resolve.proofs.FirstSlots.{or_none}
+use Rattle.ps_resolve.proofs.FirstSlots.{or_none, none_mapped}
 use Rattle.ps_resolve.proofs.OfLink.{sources_fine, rounds_fine}
 use Rattle.ps_resolve.proofs.OfRounds.{each_added}
 use Rattle.ps_linkfile.specs.LinkedFile.{linked_file}
 
-pub read_of : (host : List ℕ) (libs : List (List ℕ)) → first_fault host libs ≡ None
-    → reading_fault host libs ≡ None
-unfolding first_fault
-read_of host libs none = (or_none (reading_fault host libs)
-    (linking_fault (order_of host) (segments (order_of host) host libs)) none).0
+-- no library is refused by itself
+abbrev pub AreOpened : Order → List (List ℕ) → Type 0
+AreOpened order [] = ⊤
+AreOpened order (lib ∷ libs) = (library_reason order lib ≡ None) × AreOpened order libs
+
+opened : (order : Order) (n : ℕ) (libs : List (List ℕ))
+    → first_of (library_fault order) (enumerate_from n libs) ≡ None → AreOpened order libs
+opened order n [] e = tt
+opened order n (lib ∷ libs) e =
+    let parts = or_none (library_fault order (n, lib)) _ e in (
+      none_mapped (in_file n) (library_reason order lib) parts.0,
+      opened order (n + 1) libs parts.1,
+    )
+
+none_refused : (order : Order) (n : ℕ) (libs : List (List ℕ)) → AreOpened order libs
+    → first_of (library_fault order) (enumerate_from n libs) ≡ None
+none_refused order n [] t = refl
+none_refused order n (lib ∷ libs) t = λ i. option_or (option_map (in_file n) (t.0 i))
+    (none_refused order (n + 1) libs t.1 i)
+
+joined : (order : Order) (before rest more : List (List ℕ))
+    → (AreOpened order rest → AreOpened order more)
+    → AreOpened order (before ++ rest) → AreOpened order (before ++ more)
+joined order [] rest more h t = h t
+joined order (lib ∷ before) rest more h t = (t.0, joined order before rest more h t.1)
 
 -- what is kept: no fault, the file, and the segments but for the numbers of their files
 pub record IsKept (number : ℕ → ℕ) (host : List ℕ)
@@ -52,127 +60,186 @@ pub record IsKept (number : ℕ → ℕ) (host : List ℕ)
   pub file : linked_file host libs ≡ linked_file host others
   pub segments : segments_of host others ≡ map (renumbered number) (segments_of host libs)
 
+-- the libraries that are numbered from n on, of which the first with an entry of the name is chosen
+abbrev chosen_from : Order → List ℕ → ℕ → List (List ℕ) → Option (ℕ × List ℕ)
+chosen_from order name n libs = find (λ (lib : ℕ × List ℕ). has_entry order name lib.1)
+    (enumerate_from n libs)
+
+-- a block that stays
+abbrev own_block : Role → ℕ → ℕ → ℕ → ℕ
+own_block r k i b = b
+
 -- 1. the libraries `rest` after `before` become others
-module _ (law : OneSpelling) (host : List ℕ) (before rest more : List (List ℕ))
-    (number : ℕ → ℕ)
+module _ (host : List ℕ) (before rest more : List (List ℕ)) (number : ℕ → ℕ)
     (same_host : number 0 ≡ 0) where
-  abbrev AllFound : Type 0
-  AllFound = AreFound (order_of host) number same_host law host host (before ++ rest)
-      (before ++ more) (read_alike (order_of host) host)
+  abbrev order : Order
+  order = order_of host
 
-  abbrev AllFit : Type 0
-  AllFit = Fits (order_of host) number same_host law host host (before ++ rest) (before ++ more)
-      (read_alike (order_of host) host) (rounds (order_of host) host (before ++ rest))
+  abbrev IsMoved : Option (ℕ × List ℕ) → Option (ℕ × List ℕ) → Type 0
+  IsMoved o p = IsMovedChoice number same_host own_block order host host (before ++ rest)
+      (before ++ more) o p
 
-  kept : first_fault host (before ++ rest) ≡ None → AllFound → AllFit
-      → (AreOpened (order_of host) rest → AreOpened (order_of host) more)
+  abbrev IsFound : List ℕ → Type 0
+  IsFound name = Found number same_host own_block order host host (before ++ rest)
+      (before ++ more) name
+
+  -- a library that is chosen both times
+  chosen : (n m : ℕ) (lib : List ℕ) → library_file m ≡ number (library_file n)
+      → IsMoved (Some (n, lib)) (Some (m, lib))
+  chosen n m lib e = record {
+    file = e;
+    like = record {
+      opened = refl;
+      filled = λ i h. refl;
+      names = λ i h f. refl;
+      kinds = λ i h f. refl;
+      units = λ i h f k. (refl, refl);
+    };
+    behind = λ i. refl;
+  }
+
+  -- the same libraries, from two numbers on
+  shifted : (name : List ℕ) (n m : ℕ) (libs : List (List ℕ)) → ((i j : ℕ) → n ≤ i
+      → j + n ≡ i + m → library_file j ≡ number (library_file i))
+      → IsMoved (chosen_from order name n libs) (chosen_from order name m libs)
+  shifted name n m [] h = tt
+  shifted name n m (x ∷ xs) h = go (has_entry order name x) (shifted name (n + 1) (m + 1) xs
+      (λ i j low e. h i j (omega (arith, low)) (omega (arith, e))))
+    where
+      go : (b : Bool)
+          → IsMoved (chosen_from order name (n + 1) xs) (chosen_from order name (m + 1) xs)
+          → IsMoved (if b then Some (n, x) else chosen_from order name (n + 1) xs)
+          (if b then Some (m, x) else chosen_from order name (m + 1) xs)
+      go true later = chosen n m x (h n m (omega arith) (omega arith))
+      go false later = later
+
+  -- those that stand before others keep their numbers
+  behind : (name : List ℕ) (P : Option (ℕ × List ℕ) → Type 0) (m : ℕ)
+      → ((i : ℕ) → i < m → library_file i ≡ number (library_file i))
+      → (P (chosen_from order name m rest)
+      → IsMoved (chosen_from order name m rest) (chosen_from order name m more))
+      → (n : ℕ) (first : List (List ℕ)) → n + length first ≡ m
+      → P (chosen_from order name n (first ++ rest))
+      → IsMoved (chosen_from order name n (first ++ rest))
+      (chosen_from order name n (first ++ more))
+  behind name P m low h n [] e p =
+      let same : m ≡ n = omega (arith, e) in
+      subst (λ k. P (chosen_from order name k rest) → IsMoved (chosen_from order name k rest)
+      (chosen_from order name k more)) same h p
+  behind name P m low h n (x ∷ first) e p =
+      go (has_entry order name x) (behind name P m low h (n + 1) first (omega (arith, e))) p
+    where
+      go : (b : Bool) → (P (chosen_from order name (n + 1) (first ++ rest))
+          → IsMoved (chosen_from order name (n + 1) (first ++ rest))
+          (chosen_from order name (n + 1) (first ++ more)))
+          → P (if b then Some (n, x) else chosen_from order name (n + 1) (first ++ rest))
+          → IsMoved (if b then Some (n, x) else chosen_from order name (n + 1) (first ++ rest))
+          (if b then Some (n, x) else chosen_from order name (n + 1) (first ++ more))
+      go true later p = chosen n n x (low n (omega (arith, e)))
+      go false later p = later p
+
+  kept : first_fault host (before ++ rest) ≡ None
+      → ((slot : ℕ) → slot < 16 → role_of (entry_at order host slot) ≡ Ok role.Wanted
+      → IsFound (name_at host slot))
+      → Fits number same_host own_block order host host (before ++ rest) (before ++ more)
+      (rounds order host (before ++ rest))
+      → (AreOpened order rest → AreOpened order more)
       → IsKept number host (before ++ rest) (before ++ more)
-  kept none found fits opened =
-      let order = order_of host in
-      let parts = sym (first_by host (before ++ rest)) ∙ none in
-      let a = or_none (host_fault host) _ parts in
+  unfolding first_fault reading_fault libraries_fault
+  kept none found fits more_opened =
+      let moved : AreMoved number same_host own_block order host host (before ++ rest)
+      (before ++ more) = record {
+        roles = λ slot h. refl;
+        names = λ slot h. refl;
+        own = λ slot h r e o. record { code = refl; records = λ n. refl; behind = refl };
+        found = found;
+        fits = fits;
+      } in
+      let linking = or_none (option_or (host_fault host) _) _ none in
+      let a = or_none (host_fault host) _ linking.0 in
       let b = or_none (slots_fault order host) _ a.1 in
       let c = or_none (no_host_fault order host) _ b.1 in
       let d = or_none (libraries_fault order (before ++ rest)) _ c.1 in
-      let late = late_moved order number same_host law host host (before ++ rest)
-      (before ++ more) (read_alike order host) found fits
-      ∙ ap (λ o. option_map (refiled number same_host) o) d.1 in
-      let libs = others_opened order before rest more opened d.0 in
-      let segs = segments_same order number same_host law host host (before ++ rest)
-      (before ++ more) (read_alike order host) found fits (read_of host (before ++ rest) none)
-      refl in
+      let e = or_none (sources_fault order host (before ++ rest)) _ d.1 in
+      let libs = none_refused order 1 (before ++ more) (joined order before rest more more_opened
+      (opened order 1 (before ++ rest) d.0)) in
+      let segs = segments_moved number same_host own_block order host host (before ++ rest)
+      (before ++ more) moved e.0 in
       record {
-        fine = first_by host (before ++ more) ∙ none_of_five a.0 b.0 c.0 libs late;
-        file = sym (ap (λ ss. file_of order host ss) segs
-            ∙ file_moved (renumbered number) order host (segments order host (before ++ rest)));
+        fine = λ i. option_or (option_or (a.0 i) (option_or (b.0 i) (option_or (c.0 i)
+            (option_or (libs i) ((rest_moved number same_host own_block order host host
+            (before ++ rest) (before ++ more) moved
+            ∙ ap (λ o. option_map (refiled_by number) o) d.1) i)))))
+            (((λ j. linking_fault order (segs j)) ∙ (linking_moved number same_host own_block
+            order (segments order host (before ++ rest))
+            ∙ ap (λ o. option_map (refiled_by number) o) linking.1)) i);
+        file = sym ((λ i. file_of order host (segs i)) ∙ file_moved
+            (renewed_by number own_block) order host
+            (segments order host (before ++ rest)));
         segments = segs;
       }
-    where
-      none_of_five : {A : Type 0} {a b c d e : Option A} → a ≡ None → b ≡ None → c
-          ≡ None
-          → d ≡ None → e ≡ None
-          → option_or a (option_or b (option_or c (option_or d e))) ≡ None
-      none_of_five p q r s t = rw (p, q, r, s, t) refl
 
 -- 2. neighbours are exchanged
-module _ (k : ℕ) where
-  exchanged_host : exchanged (library_file k) 0 ≡ 0
-  exchanged_host = grind (arith, nat_tests)
-
-  exchanged_low : (i : ℕ) → i < k → library_file i ≡ exchanged (library_file k)
-      (library_file i)
-  exchanged_low i h = grind (arith, nat_tests)
-
-  exchanged_high : (i j : ℕ) → k + 1 + 1 ≤ i → j + (k + 1 + 1) ≡ i + (k + 1 + 1)
-      → library_file j ≡ exchanged (library_file k) (library_file i)
-  exchanged_high i j h e = grind (arith, nat_tests)
-
-  exchanged_first : library_file (k + 1) ≡ exchanged (library_file k) (library_file k)
-  exchanged_first = grind (arith, nat_tests)
-
-  exchanged_second : library_file k ≡ exchanged (library_file k) (library_file (k + 1))
-  exchanged_second = grind (arith, nat_tests)
-
-module _ (law : OneSpelling) (host : List ℕ) (before after : List (List ℕ)) (a b : List ℕ)
+module _ (host : List ℕ) (before after : List (List ℕ)) (a b : List ℕ)
     (apart : HaveNoNameInCommon (order_of host) a b) where
   abbrev spot : ℕ
   spot = length before
 
-  abbrev Found : List ℕ → Type 0
-  Found name = IsFound (order_of host) (exchanged (library_file spot)) (exchanged_host spot) law
-      host host (before ++ (a ∷ b ∷ after)) (before ++ (b ∷ a ∷ after)) name
+  abbrev swapped : ℕ → ℕ
+  swapped = exchanged (library_file spot)
 
-  found_there : (name : List ℕ) → Found name
-  found_there name = behind order number (exchanged_host spot) law host host
-      (before ++ (a ∷ b ∷ after)) (before ++ (b ∷ a ∷ after)) name (λ o. ⊤)
-      (a ∷ b ∷ after) (b ∷ a ∷ after) spot (exchanged_low spot)
-      (λ t. go (has_entry order name a) (has_entry order name b) (has order name a).0
-      (has order name b).0) 0 before (omega arith) tt
+  swapped_host : swapped 0 ≡ 0
+  swapped_host = grind (arith, nat_tests)
+
+  swapped_first : (k : ℕ) → library_file (k + 1) ≡ exchanged (library_file k) (library_file k)
+  swapped_first k = grind (arith, nat_tests)
+
+  swapped_second : (k : ℕ) → library_file k
+      ≡ exchanged (library_file k) (library_file (k + 1))
+  swapped_second k = grind (arith, nat_tests)
+
+  swapped_low : (k i : ℕ) → i < k → library_file i
+      ≡ exchanged (library_file k) (library_file i)
+  swapped_low k i h = grind (arith, nat_tests)
+
+  swapped_high : (k i j : ℕ) → k + 1 + 1 ≤ i → j + (k + 1 + 1) ≡ i + (k + 1 + 1)
+      → library_file j ≡ exchanged (library_file k) (library_file i)
+  swapped_high k i j h e = grind (arith, nat_tests)
+
+  found : (name : List ℕ) → IsFound host before (a ∷ b ∷ after) (b ∷ a ∷ after) swapped
+      swapped_host name
+  found name = behind host before (a ∷ b ∷ after) (b ∷ a ∷ after) swapped swapped_host name
+      (λ o. ⊤) spot (swapped_low spot) (λ t. go (has_entry order name a)
+      (has_entry order name b) (has order name a).0 (has order name b).0) 0 before
+      (omega arith) tt
     where
       order : Order
       order = order_of host
 
-      number : ℕ → ℕ
-      number = exchanged (library_file spot)
-
       later : Option (ℕ × List ℕ)
-      later = found_of order number (exchanged_host spot) law host host
-          (before ++ (a ∷ b ∷ after)) (before ++ (b ∷ a ∷ after)) name (spot + 1 + 1) after
+      later = chosen_from order name (spot + 1 + 1) after
 
       go : (x y : Bool) → (x ≡ true → HasEntry order name a)
           → (y ≡ true → HasEntry order name b)
-          → IsMovedChoice order number (exchanged_host spot) law host host
-          (before ++ (a ∷ b ∷ after)) (before ++ (b ∷ a ∷ after))
+          → IsMoved host before (a ∷ b ∷ after) (b ∷ a ∷ after) swapped swapped_host
           (if x then Some (spot, a) else (if y then Some (spot + 1, b) else later))
           (if y then Some (spot, b) else (if x then Some (spot + 1, a) else later))
       go true true p q = absurd (apart name (p refl) (q refl))
-      go true false p q = (exchanged_first spot, read_alike order a)
-      go false true p q = (exchanged_second spot, read_alike order b)
-      go false false p q = shifted order number (exchanged_host spot) law host host
-          (before ++ (a ∷ b ∷ after)) (before ++ (b ∷ a ∷ after)) name (spot + 1 + 1)
-          (spot + 1 + 1) after (exchanged_high spot)
+      go true false p q = chosen host before (a ∷ b ∷ after) (b ∷ a ∷ after) swapped
+          swapped_host spot (spot + 1) a (swapped_first spot)
+      go false true p q = chosen host before (a ∷ b ∷ after) (b ∷ a ∷ after) swapped
+          swapped_host (spot + 1) spot b (swapped_second spot)
+      go false false p q = shifted host before (a ∷ b ∷ after) (b ∷ a ∷ after) swapped
+          swapped_host name (spot + 1 + 1) (spot + 1 + 1) after (swapped_high spot)
 
   pub exchanged_kept : first_fault host (before ++ (a ∷ b ∷ after)) ≡ None
-      → IsKept (exchanged (library_file spot)) host (before ++ (a ∷ b ∷ after))
-      (before ++ (b ∷ a ∷ after))
-  exchanged_kept none = kept law host before (a ∷ b ∷ after) (b ∷ a ∷ after)
-      (exchanged (library_file spot)) (exchanged_host spot) none (λ slot h w.
-      found_there (entry_at (order_of host) host slot).name)
-      (inl found_there) (λ t. (t.1.0, (t.0, t.1.1)))
+      → IsKept swapped host (before ++ (a ∷ b ∷ after)) (before ++ (b ∷ a ∷ after))
+  exchanged_kept none = kept host before (a ∷ b ∷ after) (b ∷ a
+      ∷ after) swapped swapped_host
+      none (λ slot h w. found (name_at host slot)) (inl found) (λ t. (t.1.0, (t.0, t.1.1)))
 
 -- 3. a library is left out
-module _ (k : ℕ) where
-  without_host : without (library_file k) 0 ≡ 0
-  without_host = grind (arith, nat_tests)
-
-  without_low : (i : ℕ) → i < k → library_file i ≡ without (library_file k) (library_file i)
-  without_low i h = grind (arith, nat_tests)
-
-  without_high : (i j : ℕ) → k + 1 ≤ i → j + (k + 1) ≡ i + k
-      → library_file j ≡ without (library_file k) (library_file i)
-  without_high i j h e = grind (arith, nat_tests)
-
-module _ (law : OneSpelling) (host : List ℕ) (before after : List (List ℕ)) (lib : List ℕ)
+module _ (host : List ℕ) (before after : List (List ℕ)) (lib : List ℕ)
     (none : first_fault host (before ++ (lib ∷ after)) ≡ None)
     (gives : All (λ (s : Segment). s.file ≢ library_file (length before))
     (segments_of host (before ++ (lib ∷ after)))) where
@@ -182,38 +249,42 @@ module _ (law : OneSpelling) (host : List ℕ) (before after : List (List ℕ)) 
   abbrev all : List (List ℕ)
   all = before ++ (lib ∷ after)
 
+  abbrev fewer : ℕ → ℕ
+  fewer = without (library_file place)
+
+  fewer_host : fewer 0 ≡ 0
+  fewer_host = grind (arith, nat_tests)
+
+  fewer_low : (k i : ℕ) → i < k → library_file i ≡ without (library_file k) (library_file i)
+  fewer_low k i h = grind (arith, nat_tests)
+
+  fewer_high : (k i j : ℕ) → k + 1 ≤ i → j + (k + 1) ≡ i + k
+      → library_file j ≡ without (library_file k) (library_file i)
+  fewer_high k i j h e = grind (arith, nat_tests)
+
   abbrev IsThere : List ℕ → Type 0
-  IsThere name = IsFound (order_of host) (without (library_file place)) (without_host place) law
-      host host all (before ++ after) name
+  IsThere name = IsFound host before (lib ∷ after) after fewer fewer_host name
 
   there : (name : List ℕ)
       → (chosen_library (order_of host) name all ≡ Some (place, lib) → ⊥) → IsThere name
-  there name other = behind order number (without_host place) law host host all (before ++ after)
-      name (λ o. o ≡ Some (place, lib) → ⊥) (lib ∷ after) after place (without_low place)
-      (go (has_entry order name lib)) 0 before (omega arith) other
+  there name other = behind host before (lib ∷ after) after fewer fewer_host name
+      (λ o. o ≡ Some (place, lib) → ⊥) place (fewer_low place)
+      (go (has_entry (order_of host) name lib)) 0 before (omega arith) other
     where
-      order : Order
-      order = order_of host
-
-      number : ℕ → ℕ
-      number = without (library_file place)
-
       later : ℕ → Option (ℕ × List ℕ)
-      later n = found_of order number (without_host place) law host host all (before ++ after)
-          name n after
+      later n = chosen_from (order_of host) name n after
 
       go : (b : Bool)
           → ((if b then Some (place, lib) else later (place + 1)) ≡ Some (place, lib) → ⊥)
-          → IsMovedChoice order number (without_host place) law host host all (before ++ after)
+          → IsMoved host before (lib ∷ after) after fewer fewer_host
           (if b then Some (place, lib) else later (place + 1)) (later place)
       go true other = absurd (other refl)
-      go false other = shifted order number (without_host place) law host host all
-          (before ++ after) name (place + 1) place after (without_high place)
+      go false other = shifted host before (lib ∷ after) after fewer fewer_host name (place + 1)
+          place after (fewer_high place)
 
   -- a unit of another file is not chosen there
   from_other : (name : List ℕ) (at : ℕ × ℕ) → unit_source (order_of host) name all
-      ≡ Some at
-      → at.0 ≢ library_file place → IsThere name
+      ≡ Some at → at.0 ≢ library_file place → IsThere name
   from_other name at e n = there name (λ c. n (go (find (is_named (order_of host) name lib) slots)
       (sym (ap (λ o. option_and_then (λ (l : ℕ × List ℕ). option_map
       (λ i. (library_file l.0, i)) (find (is_named (order_of host) name l.1) slots)) o) c) ∙ e)))
@@ -224,14 +295,15 @@ module _ (law : OneSpelling) (host : List ℕ) (before after : List (List ℕ)) 
       go (Some i) e = cc
 
   read : reading_fault host all ≡ None
-  read = read_of host all none
+  unfolding first_fault
+  read = (or_none (reading_fault host all) _ none).0
 
   given : (s : Segment) → In s (segments_of host all) → s.file ≢ library_file place
   given s t = of_all (λ (q : Segment). q.file ≢ library_file place) (segments_of host all) gives
       t.0 s t.1
 
-  of_slots : AreFound (order_of host) (without (library_file place)) (without_host place) law
-      host host all (before ++ after) (read_alike (order_of host) host)
+  of_slots : (slot : ℕ) → slot < 16 → role_of (entry_at (order_of host) host slot)
+      ≡ Ok role.Wanted → IsThere (name_at host slot)
   of_slots slot inside wants =
       let order = order_of host in
       let own = has_own order host all (sources_fine host all read) slot inside role.Wanted wants
@@ -241,28 +313,19 @@ module _ (law : OneSpelling) (host : List ℕ) (before after : List (List ℕ)) 
       let t = own_made order host all slot own.0 own.1 in
       let is : role.Wanted ≡ t.0 = same_Some role.Wanted t.0
       (sym (ap (λ (o : Result Role Reason). result_ok o) wants) ∙ t.1) in
-      let file = ap (λ (q : Segment). q.file) t.3.is in
-      from_other (entry_at order host slot).name t.2
+      from_other (name_at host slot) t.2
       (ap (λ r. source_of order host all slot r) is ∙ t.4)
-      (λ e. given own.0 listed (file ∙ e))
+      (λ e. given own.0 listed (ap (λ (q : Segment). q.file) t.3.is ∙ e))
 
-  of_rounds : Fits (order_of host) (without (library_file place)) (without_host place) law
-      host host all (before ++ after) (read_alike (order_of host) host)
-      (rounds (order_of host) host all)
-  of_rounds = inr (
+  of_round : (j : ℕ) (g : UnitReference) (s : Segment)
+      → IsOfRound (order_of host) host all j g s → IsThere s.name
+  of_round j g s known =
+      let b = (empty_slot (order_of host) host j s.slot known.slot).1 in
+      from_other s.name (s.file, s.index) known.source (given s (in_segments (order_of host) host
+      all s.slot s (omega (arith, b)) (found_added (order_of host) host all j s known.there)))
+
+  pub left_out : IsKept fewer host all (before ++ after)
+  left_out = kept host before (lib ∷ after) after fewer fewer_host none of_slots (inr (
     rounds_fine host all read,
-    each_added (order_of host) host all
-        (λ (s : Segment). IsThere s.name) of_round,
-  )
-    where
-      of_round : (j : ℕ) (g : UnitReference) (s : Segment)
-          → IsOfRound (order_of host) host all j g s → IsThere s.name
-      of_round j g s known =
-          let b = (empty_slot (order_of host) host j s.slot known.slot).1 in
-          let listed = in_segments (order_of host) host all s.slot s (omega (arith, b))
-          (found_added (order_of host) host all j s known.there) in
-          from_other s.name (s.file, s.index) known.source (given s listed)
-
-  pub left_out : IsKept (without (library_file place)) host all (before ++ after)
-  left_out = kept law host before (lib ∷ after) after (without (library_file place))
-      (without_host place) none of_slots of_rounds (λ t. t.1)
+    each_added (order_of host) host all (λ (s : Segment). IsThere s.name) of_round,
+  )) (λ t. t.1)

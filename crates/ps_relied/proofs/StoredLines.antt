@@ -1,18 +1,13 @@
 -- The lines of the references of a link name each byte that it stores, and no other.
-use Rattle.std.proofs.Common.{◌≡◌, ℕ, zero, suc, ◌+◌, ◌*◌, ◌-◌, ◌<◌}
-use Rattle.std.proofs.Common.{◌≤◌, List, [], ◌∷◌, ◌++◌}
-use Rattle.std.proofs.Common.{length, map, take, drop, Option, Some, None, Bool, true, false, refl}
-use Rattle.std.proofs.Common.{sym, ap, subst, ◌∙◌, inl, inr, arith, ◌==◌, length-drop}
+use Rattle.std.proofs.Common.{◌≡◌, ℕ, zero, suc, ◌+◌, ◌*◌, ◌-◌, ◌<◌, ◌≤◌, List, [], ◌∷◌, length, map, take, drop, Option, Some, None, Bool, true, false, refl, sym, ap, subst, ◌∙◌, inl, inr, arith, ◌==◌, length-drop}
 use Rattle.std.specs.Prelude.{slice_index}
 use Rattle.std.proofs.lemmas.List.{length-take, get_or-take, get_or-drop}
 use Rattle.std.proofs.lemmas.Bool.Decides.{nat_tests, Decides-eqb}
-use Rattle.ps_relied.proofs.Words.{if◌then◌else◌, slice_get, filter, list_any}
-use Rattle.ps_relied.proofs.Words.{range_with_len, option_or, Edit, Order, Segment, Record, Body}
-use Rattle.ps_relied.proofs.Words.{is_host, needs_linking, refs_of, order_of, edited_segments}
+use Rattle.ps_relied.proofs.Words.{if◌then◌else◌, slice_get, filter, list_any, range_with_len, option_or, Edit, Order, Segment, Record, Body, is_host, needs_linking, refs_of, order_of, edited_segments}
 use Rattle.ps_relied.specs.StoredLines.{listings, IsLine, IsMadeByLines, AreMadeByLines}
-use Rattle.ps_laws.proofs.AddedUnits.{map_at}
+use Rattle.ps_laws.proofs.AddedUnits.{map_at, mapped}
 use Rattle.ps_laws.proofs.EditsAt.{what_covers, size_covers}
-use Rattle.ps_laws.proofs.Items.{In, of_all, all_items, not_apart}
+use Rattle.ps_laws.proofs.Items.{In, of_all, all_items, not_apart, in_filter}
 use Rattle.ps_laws.proofs.Looking.{any_of_items}
 use Rattle.ps_laws.proofs.OfLink.{of_link}
 use Rattle.ps_laws.proofs.OneName.{of_segments}
@@ -22,26 +17,20 @@ use Rattle.ps_laws.proofs.SegmentOrigins.{by_slot}
 use Rattle.ps_laws.proofs.SoundCodes.{HasOuter, long, outer}
 use Rattle.ps_linkinfo.specs.Numbered.{numbered_records}
 use Rattle.ps_linkinfo.specs.Operands.{operand_width}
-use Rattle.ps_linkinfo.specs.declared.record.Body.TheVariants.{UnitRef, PublRef, PrivRef, PublDef}
-use Rattle.ps_linkinfo.specs.declared.record.Body.TheVariants.{ConstDef, Eof}
+use Rattle.ps_linkinfo.specs.declared.record.Body.TheVariants.{UnitRef, PublRef, PrivRef, PublDef, ConstDef, Eof}
 use Rattle.ps_codefile.specs.Dictionary.{block_len}
 use Rattle.ps_codefile.specs.Procedures.{table_of}
 use Rattle.ps_resolve.specs.AllFaults.{reading_fault}
 use Rattle.ps_resolve.specs.OfLink.{IsOfFile}
 use Rattle.ps_resolve.proofs.FirstSlots.{or_none}
-use Rattle.ps_resolve.specs.LinkedBytes.{segments_of, summed_edits, summed_segment}
-use Rattle.ps_resolve.specs.LinkedBytes.{HaveLinkedBytes, HaveOneLinkedByte, HaveApartPlaces}
-use Rattle.ps_resolve.specs.LinkedBytes.{HaveSummedOffsets, IsLinkedByte, IsOnePlace, IsNumberPlace}
-use Rattle.ps_resolve.specs.LinkedBytes.{IsSizePlace, IsReference, Reaches}
+use Rattle.ps_resolve.specs.LinkedBytes.{segments_of, summed_edits, summed_segment, HaveLinkedBytes, HaveOneLinkedByte, HaveApartPlaces, HaveSummedOffsets, IsLinkedByte, IsOnePlace, IsNumberPlace, IsSizePlace, IsReference, Reaches}
 use Rattle.ps_resolve.specs.Linking.{linked_byte}
 use Rattle.ps_resolve.specs.Operands.{edit_of}
 use Rattle.ps_resolve.specs.Plans.{Origin}
 use Rattle.ps_resolve.specs.declared.references.Target.{Target}
 use Rattle.ps_resolve.specs.declared.references.Target.TheVariants.{Slot, Base}
 use Rattle.ps_linkfile.specs.LinkedFile.{LinkedFile, block_of, origins}
-use Rattle.ps_linkfile.specs.ReferencesText.{Listed, listed_in}
-use Rattle.ps_linkfile.specs.ReferencesText.{cause_at, cause_in, cause_width}
-use Rattle.ps_linkfile.specs.ReferencesText.{number_at, size_at, is_word_at, record_at, records_at}
+use Rattle.ps_linkfile.specs.ReferencesText.{Listed, listed_in, cause_at, cause_in, cause_width, number_at, size_at, is_word_at, record_at, records_at}
 use Rattle.ps_linkfile.specs.declared.cause.Cause.{Cause}
 use Rattle.ps_linkfile.specs.declared.cause.Cause.TheVariants.{Number, DataSize}
 use Rattle.ps_words.specs.Edits.{covers, patched_byte}
@@ -61,14 +50,6 @@ ranged f a zero p h = absurd (omega (arith, h))
 ranged f a (suc n) zero h = ap (λ i. Some (f i)) (omega arith)
 ranged f a (suc n) (suc p) h = ranged f (a + 1) n p (omega (arith, h))
     ∙ ap (λ i. Some (f i)) (omega arith)
-
--- a place that has an item is in the range
-within : {A : Type 0} (f : ℕ → A) (a n p : ℕ) (x : A)
-    → slice_get (map f (range_with_len a n)) p ≡ Some x → p < n
-within f a zero p x e = absurd (cc)
-within f a (suc n) zero x e = omega arith
-within f a (suc n) (suc p) x e =
-    let h = within f (a + 1) n p x e in omega (arith, h)
 
 ranged_index : (f : ℕ → ℕ) (a n p : ℕ) → p < n
     → slice_index (map f (range_with_len a n)) p ≡ f (a + p)
@@ -105,6 +86,19 @@ any_found : {A : Type 0} (test : A → Bool) (xs : List A) → list_any test xs 
 any_found test xs e =
     let t = (any_of_items test (λ a. test a ≡ true) (λ a. (λ h. h, λ h. h)) xs).0 e in
     (t.1, (t.0, t.2), t.3)
+
+-- and what passes is an item
+filtered : {A : Type 0} (test : A → Bool) (xs : List A) (x : A) → In x (filter test xs)
+    → In x xs
+filtered test [] x t = t
+filtered {A} test (y ∷ xs) x t = go (test y) (filtered test xs x) t.0 t.1
+  where
+    go : (b : Bool) → (In x (filter test xs) → In x xs) → (k : ℕ)
+        → slice_get (if b then y ∷ filter test xs else filter test xs) k ≡ Some x → In x (y
+        ∷ xs)
+    go true later zero at = (0, at)
+    go true later (suc k) at = let u = later (k, at) in (suc u.0, u.1)
+    go false later k at = let u = later (k, at) in (suc u.0, u.1)
 
 -- 3. what a record stores at a place
 of_body : (m : ℕ) (name : List ℕ) (body : Body) (x : ℕ) (c : Cause)
@@ -194,44 +188,29 @@ module _ (host : List ℕ) (libs : List (List ℕ)) (file : List ℕ)
   abbrev mine : Segment → Listed
   mine s = list_of (order_of host) os (with_edits s)
 
-  abbrev lists_by : List Segment → List Listed
-  lists_by ss = map (list_of (order_of host) os) (filter is_listed (map with_edits ss))
-
-  lists_are : listings host libs ≡ lists_by segs
+  lists_are : listings host libs ≡ map (list_of (order_of host) os)
+      (filter is_listed (map with_edits segs))
   lists_are = ap (λ es. map (list_of (order_of host) os) (filter is_listed es)) summed
 
-  of_lists : (ss : List Segment) (l : Listed) → In l (lists_by ss)
-      → (s : Segment) × In s ss × (l ≡ mine s)
-  of_lists [] l t = absurd (let e = t.1 in cc)
-  of_lists (s ∷ ss) l t = go (needs_linking s.role) t.0 t.1 (of_lists ss l)
-    where
-      go : (b : Bool) (k : ℕ) → slice_get (map (list_of (order_of host) os)
-          (if b then with_edits s ∷ filter is_listed (map with_edits ss)
-          else filter is_listed (map with_edits ss))) k ≡ Some l
-          → (In l (lists_by ss) → (q : Segment) × In q ss × (l ≡ mine q))
-          → (q : Segment) × In q (s ∷ ss) × (l ≡ mine q)
-      go true zero e later = (s, (0, refl), let same : mine s ≡ l = cc in sym same)
-      go true (suc k) e later =
-          let t = later (k, e) in (t.0, (suc t.1.0, t.1.1), t.2)
-      go false k e later = let t = later (k, e) in (t.0, (suc t.1.0, t.1.1), t.2)
+  -- what is listed is of a segment, and each segment that is to be linked is listed
+  of_lists : (l : Listed) → In l (listings host libs) → (s : Segment) × In s segs × (l
+      ≡ mine s)
+  of_lists l t =
+      let e = mapped (list_of (order_of host) os) (filter is_listed (map with_edits segs)) t.0 l
+      (sym (ap (λ ls. slice_get ls t.0) lists_are) ∙ t.1) in
+      let u = filtered is_listed (map with_edits segs) e.0 (t.0, e.1) in
+      let q = mapped with_edits segs u.0 e.0 u.1 in
+      (q.0, (u.0, q.1), sym e.2 ∙ ap (list_of (order_of host) os) (sym q.2))
 
-  in_lists : (ss : List Segment) (s : Segment) → In s ss → needs_linking s.role ≡ true
-      → In (mine s) (lists_by ss)
-  in_lists [] s t linked = absurd (let e = t.1 in cc)
-  in_lists (q ∷ ss) s (zero, e) linked =
-      let same : q ≡ s = cc in
-      subst (λ z. In (mine s) (lists_by (z ∷ ss))) (sym same)
-      (subst (λ b. In (mine s) (map (list_of (order_of host) os)
-      (if b then with_edits s ∷ filter is_listed (map with_edits ss)
-      else filter is_listed (map with_edits ss)))) (sym linked) (0, refl))
-  in_lists (q ∷ ss) s (suc k, e) linked = go (needs_linking q.role) (in_lists ss s (k, e) linked)
-    where
-      go : (b : Bool) → In (mine s) (lists_by ss) → In (mine s)
-          (map (list_of (order_of host) os)
-          (if b then with_edits q ∷ filter is_listed (map with_edits ss)
-          else filter is_listed (map with_edits ss)))
-      go true t = (suc t.0, t.1)
-      go false t = t
+  in_lists : (s : Segment) → In s segs → needs_linking s.role ≡ true
+      → In (mine s) (listings host libs)
+  in_lists s t linked =
+      let u = in_filter is_listed (map with_edits segs) (with_edits s)
+      (t.0, map_at with_edits segs t.0 s t.1) linked in (
+        u.0,
+        ap (λ ls. slice_get ls u.0) lists_are ∙ map_at (list_of (order_of host) os)
+            (filter is_listed (map with_edits segs)) u.0 (with_edits s) u.1,
+      )
 
   -- a segment is the only one of its slot
   one_slot : (s q : Segment) → In s segs → In q segs → s.slot ≡ q.slot → s ≡ q
@@ -272,7 +251,7 @@ module _ (host : List ℕ) (libs : List (List ℕ)) (file : List ℕ)
 
     listed_is : (l : Listed) → In l (listings host libs) → l.slot ≡ s.slot → l ≡ mine s
     listed_is l t e =
-        let q = of_lists segs l (t.0, sym (ap (λ ls. slice_get ls t.0) lists_are) ∙ t.1) in
+        let q = of_lists l t in
         let slots = sym (ap (λ (x : Listed). x.slot) q.2) ∙ e in
         q.2 ∙ ap mine (one_slot q.0 s q.1 there slots)
 
@@ -328,13 +307,13 @@ module _ (host : List ℕ) (libs : List (List ℕ)) (file : List ℕ)
       no_cause : needs_linking s.role ≡ true → (at : ℕ) (c : Cause) → cause at ≡ Some c
           → at ≤ p → p < at + cause_width c → ⊥
       no_cause linked_one at c e low high =
-          let t = in_lists segs s there linked_one in
+          let t = in_lists s there linked_one in
           let same : 0 + at ≡ at = omega arith in
           let len = ranged_length (patched_byte (order_of host) s.code edits) 0 (length s.code) in
           free at (take (cause_width c) (drop at linked)) (
             t.0,
             mine s,
-            ap (λ ls. slice_get ls t.0) lists_are ∙ t.1,
+            t.1,
             (
               refl,
               (

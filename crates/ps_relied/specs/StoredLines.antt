@@ -1,8 +1,6 @@
 -- What the lines of the references of a link say of its codes.
 -- Source: this project's profile.
-use Rattle.std.specs.Prelude.{◌≡◌, ℕ, ◌+◌, ◌*◌, ◌<◌, ◌≤◌, List, length}
-use Rattle.std.specs.Prelude.{map, take, drop, All}
-use Rattle.std.specs.Prelude.{slice_get, slice_index, Some}
+use Rattle.std.specs.Prelude.{◌≡◌, ℕ, ◌+◌, ◌*◌, ◌<◌, ◌≤◌, List, length, map, take, drop, All, slice_get, slice_index, Some}
 use Rattle.std.specs.List.{filter}
 use Rattle.ps_words.specs.declared.edit.Edit.{Edit}
 use Rattle.ps_codefile.specs.Dictionary.{block_len}

@@ -1,6 +1,9 @@
-ghost use Rattle.std.specs.Prelude.{List, ℕ};
+ghost use Rattle.std.specs.Prelude.{◌≡◌, ◌++◌, List, ℕ};
 ghost use Rattle.ps_resolve.specs.Standing.{IsFirst};
 ghost use Rattle.ps_words.specs.declared.fault.Fault.{Fault};
+ghost use Rattle.ps_words.specs.declared.order.Order.{Order};
+ghost use Rattle.ps_linkinfo.specs.Records.{reading, Spells};
+ghost use Rattle.ps_linkinfo.specs.declared.record.LinkRecord.{LinkRecord};
 ghost use Rattle.ps_linkfile.specs.LinkedFile.{LinkedFile};
 ghost use Rattle.ps_relied.specs.Alike.{AreFilesAlike};
 
@@ -8,11 +11,13 @@ use ps_laws::first_of_all;
 use ps_linkfile::linked_file_is_one;
 use ps_linkinfo::one_reading;
 
-/// What is not read does not matter. Two hosts, and their libraries one by one, that have the same
-/// entries, the same codes of filled ones and the same link information up to its end marks, link
-/// to the same bytes, or have the same first fault. The tail of the host's dictionary is to be the
-/// same too, since it is copied. Text addresses, the text of an interface, blocks that no entry
-/// has, and what follows an end mark may differ.
+/// What is not read does not matter. Two hosts, and their libraries one by one, that are read alike
+/// link to the same bytes, or have the same first fault. Hosts are read alike if the names and the
+/// roles of their slots, the codes and records of the segments in place, and the bytes after the
+/// text addresses are the same. Libraries are read alike if the names and kinds of their filled
+/// slots, and the codes and records of their units are. Addresses, the text of an interface, and
+/// blocks that no entry has may differ. So may what follows an end mark: the records are the same
+/// with anything behind it.
 /// Source: this project's profile.
 pub fn what_is_not_read()
     ensures linked { (host other : List ℕ) (libs others : List (List ℕ)) (file : List ℕ)
@@ -21,6 +26,8 @@ pub fn what_is_not_read()
     ensures refused { (host other : List ℕ) (libs others : List (List ℕ)) (f : Fault)
         → AreFilesAlike host other libs others
         → IsFirst host libs f → IsFirst other others f }
+    ensures after_end_mark { (order : Order) (read rest more : List ℕ) (rs : List LinkRecord)
+        → Spells order read rs → reading order (read ++ rest) ≡ reading order (read ++ more) }
 {
     first_of_all();
     linked_file_is_one();

@@ -6,7 +6,6 @@ ghost use Rattle.ps_relied.specs.Numbered.{exchanged, renumbered, without, HaveN
 
 use ps_laws::first_of_all;
 use ps_linkfile::linked_file_is_one;
-use ps_linkinfo::one_reading;
 
 /// A library that gives nothing may be left out. Where no segment of the link is of it, and the
 /// files link, they link to the same bytes without it; the segments are the same, and the number of
@@ -27,7 +26,6 @@ pub fn library_is_left_out()
 {
     first_of_all();
     linked_file_is_one();
-    one_reading();
 }
 
 /// Neighbours may be exchanged. Two libraries that follow one another and have no filled entry of
@@ -52,5 +50,4 @@ pub fn neighbours_are_exchanged()
 {
     first_of_all();
     linked_file_is_one();
-    one_reading();
 }

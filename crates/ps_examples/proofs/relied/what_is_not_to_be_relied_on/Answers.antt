@@ -16,8 +16,10 @@ unfolding own_segments empty_slots rounds segments slot_names dictionary all_pai
     definitions_fault privates_fault data_fault references_fault
 returns c = record {
   a_line_of_a_byte_that_stays = (0, _, refl, (refl, (_, refl, refl)));
-  another_tail = λ t. let h : 42 ≡ 43 = ap (λ (xs : List ℕ). slice_index xs 44) t.tail in
+  another_tail = λ t. let h : 42 ≡ 43 = ap (λ (xs : List ℕ). slice_index xs 44) t.heads.tail in
       omega (arith, h);
+  its_file = refl;
+  a_library_that_gives = refl;
   a_library_that_is_refused = refl;
   the_first_of_two = refl;
   the_other_of_two = refl;

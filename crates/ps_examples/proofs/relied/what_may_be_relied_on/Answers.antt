@@ -1,10 +1,10 @@
 use Rattle.std.proofs.Common.{ℕ, List, [], ◌∷◌, refl}
 use Rattle.ps_examples.specs.Expected.{linked_pair}
 use Rattle.ps_examples.specs.Files.{host, library, library_of_the_last}
-use Rattle.ps_examples.proofs.ReliedFiles.{marked, of_aux, library_alike, util_or_aux, not_of_file_1}
+use Rattle.ps_examples.specs.ReadAlike.{library_elsewhere}
+use Rattle.ps_examples.proofs.ReliedFiles.{of_aux, library_alike, host_alike, util_or_aux, not_of_file_1}
 use Rattle.ps_examples.proofs.relied.what_may_be_relied_on.Goals as goal
 use Rattle.ps_linkfile.specs.LinkedFile.{LinkedFile, dictionary, all_pairs}
-use Rattle.ps_relied.proofs.Choices.{read_alike}
 use Rattle.ps_relied.specs.Alike.{AreFilesAlike}
 use Rattle.ps_relied.specs.SameSegments.{HaveSameHeads}
 use Rattle.ps_resolve.specs.Added.{empty_slots, rounds, segments, slot_names}
@@ -29,18 +29,15 @@ returns c =
     there host (of_aux ∷ library ∷ []) refl in
     let before : LinkedFile host (library ∷ of_aux ∷ []) (linked_pair Little) =
     there host (library ∷ of_aux ∷ []) refl in
-    let like : AreFilesAlike host host (library ∷ []) (marked ∷ []) = record {
-      hosts = read_alike Little host;
-      tail = refl;
-      libraries = (library_alike c.one_reading.ensures.spells, tt);
-    } in
+    let like : AreFilesAlike host host (library ∷ []) (library_elsewhere ∷ []) =
+    host_alike (library ∷ []) (library_elsewhere ∷ []) (library_alike, tt) in
     let heads : HaveSameHeads host host =
     record { order = refl; names = λ slot h. refl; tail = refl } in
     record {
       made_by_its_lines = c.references_make_the_file.ensures.made host file (library ∷ []) of_pair;
       a_line = (1, _, refl, (refl, (_, refl, refl)));
       alike = like;
-      linked_alike = c.what_is_not_read.ensures.linked host host (library ∷ []) (marked ∷ []) file
+      linked_alike = c.what_is_not_read.ensures.linked host host (library ∷ []) (library_elsewhere ∷ []) file
           like of_pair;
       without_one = c.library_is_left_out.ensures.linked host of_aux file [] (library ∷ [])
           not_of_file_1 behind;

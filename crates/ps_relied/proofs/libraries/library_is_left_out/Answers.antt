@@ -5,15 +5,14 @@ use Rattle.ps_relied.proofs.libraries.library_is_left_out.Goals as goal
 
 pub returns : goal.returns
 returns c =
-    let spells = c.one_reading.ensures.spells in
     let some = c.first_of_all.ensures.some in
     let file_law = c.linked_file_is_one.ensures in
     record {
       linked = λ host lib file before after gives is.
-          let kept = left_out spells host before after lib
+          let kept = left_out host before after lib
           (none_first some host (before ++ (lib ∷ after)) is.accepted) gives in
           moved_file file_law.one file_law.there host host (before ++ (lib ∷ after))
           (before ++ after) file is kept.fine kept.file;
-      numbers = λ host lib file before after gives is. (left_out spells host before after lib
+      numbers = λ host lib file before after gives is. (left_out host before after lib
           (none_first some host (before ++ (lib ∷ after)) is.accepted) gives).segments;
     }
