@@ -1,12 +1,18 @@
 -- The units of a file, slot by slot.
 use Rattle.std.proofs.Common.{◌≡◌, ℕ, suc, ◌+◌, ◌-◌, ◌<◌, List, [], ◌∷◌}
 use Rattle.std.proofs.Common.{◌++◌, drop, Bool, true, false, Option, Some, None, append_assoc}
-use Rattle.std.proofs.Common.{append-nil, sym, ◌∙◌, ap, arith}
-use Rattle.std.specs.Prelude.{◌||◌}
+use Rattle.std.proofs.Common.{append-nil, length, length-append, sym, ◌∙◌, ap, arith}
+use Rattle.std.proofs.Common.{is_some, true≢false}
+use Rattle.std.specs.Prelude.{◌||◌, Result, Ok, Err, IfErr}
 use Rattle.std.specs.List.{cons_option, filter_map, list_any, range_with_len}
 use Rattle.std.specs.Option.{option_to_list}
 use Rattle.ps_listing.specs.LoneText.{is_refused_unit}
 use Rattle.ps_listing.specs.declared.lone.LoneUnit.{LoneUnit}
+
+-- what holds by itself holds of an error
+pub of_error : {T E : Type 0} (r : Result T E) {P : Type 0} → P → IfErr r (λ _. P)
+of_error (Ok x) p = tt
+of_error (Err y) p = p
 
 module _ (f : ℕ → Option LoneUnit) (all old : List LoneUnit) (i : ℕ) where
   -- what is found in one slot more
@@ -31,6 +37,19 @@ module _ (f : ℕ → Option LoneUnit) (all old : List LoneUnit) (i : ℕ) where
   none_more lt is h = one_more None lt is h
       ∙ ap (λ (xs : List LoneUnit). xs ++ filter_map f (range_with_len (i + 1) (16 - (i + 1))))
       (append-nil old)
+
+  -- where one is found, there is one
+  pub some_found : (o : Option LoneUnit) → i < 16 → f i ≡ o → is_some o ≡ true
+      → all ≡ old ++ filter_map f (range_with_len i (16 - i)) → 0 < length all
+  some_found None lt is some h = absurd (true≢false (sym some))
+  some_found (Some u) lt is some h =
+      let rest = filter_map f (range_with_len (i + 1) (16 - (i + 1))) in
+      omega (
+        arith,
+        ap length (one_more (Some u) lt is h),
+        length-append (old ++ u ∷ []) rest,
+        length-append old (u ∷ []),
+      )
 
   -- after the last slot
   pub no_more : 16 - i ≡ 0 → all ≡ old ++ filter_map f (range_with_len i (16 - i))

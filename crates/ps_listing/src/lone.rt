@@ -1,9 +1,11 @@
 //! The units of a file, each by itself.
-ghost use Rattle.std.specs.Prelude.{◌≡◌, ◌<◌, IfOk, OnOk, OnErr};
+ghost use Rattle.std.specs.Prelude.{◌≡◌, ◌<◌, IfErr, IfOk, OnOk, OnErr, is_some, length, true};
 ghost use Rattle.std.specs.List.{list_any};
 ghost use Rattle.std.specs.Io.KnownBytes.{Appends};
 ghost use Rattle.ps_linkfile.specs.Adding.{Adds};
 ghost use Rattle.ps_linkfile.specs.Outcomes.{AppendsPrefix};
+ghost use Rattle.ps_resolve.specs.LoneUnits.{IsSoundUnit};
+ghost use Rattle.ps_resolve.specs.Sources.{opened_files};
 ghost use Rattle.ps_listing.specs.LoneText.{has_no_sound as has_no_sound_spec, is_refused_unit, lone_line, lone_text, lone_unit as lone_unit_spec, lone_units as lone_units_spec, lone_words, units_of as units_of_spec};
 
 use crate::words::{add_path, add_reference, add_refusal};
@@ -27,14 +29,18 @@ pub struct LoneUnit {
     pub fault: Option<Fault>,
 }
 
-/// The unit in a slot, where there is one whose code the file has.
+/// The unit in a slot, where there is one whose code the file has. Memory is requested only where it
+/// was read without a fault.
 fn lone_unit<A: Allocator + Copy>(
     alloc: A,
     file: &HostReading,
     slot: u8,
 ) -> Result<Option<LoneUnit>, AllocError>
     requires { slot < 16 }
-    ensures { IfOk result (λ unit. unit ≡ lone_unit_spec file.now slot) }
+    ensures unit { IfOk result (λ unit. unit ≡ lone_unit_spec file.now slot) }
+    ensures there { IfErr result (λ _. is_some (lone_unit_spec file.now slot) ≡ true) }
+    ensures memory { IfErr result (λ _. IsSoundUnit file.now.order file.now.file
+        (opened_files file.now.order file.now.libs) slot) }
 {
     match file.role(slot) {
         Ok(Role::Unit) => {
@@ -46,12 +52,13 @@ fn lone_unit<A: Allocator + Copy>(
     }
 }
 
-/// The units of a file that was opened.
+/// The units of a file that was opened. Memory is requested only where there is one.
 fn units_of<A: Allocator + Copy>(
     alloc: A,
     file: &HostReading,
 ) -> Result<Vec<LoneUnit, A>, AllocError>
-    ensures { IfOk result (λ units. units.items ≡ units_of_spec file.now) }
+    ensures units { IfOk result (λ units. units.items ≡ units_of_spec file.now) }
+    ensures memory { IfErr result (λ _. 0 < length (units_of_spec file.now)) }
 {
     let mut units = Vec::new(alloc);
     for slot in 0..SLOTS {
@@ -69,12 +76,15 @@ fn units_of<A: Allocator + Copy>(
 /// `file` is a whole file, of any contents; one that cannot be opened has no units. What such a host
 /// is, and which faults are found, `ps_resolve::lone_fault` says.
 ///
-/// Refused where memory was. Source: this project's profile.
+/// Returns an error only where memory was refused, which is requested only where the file has a
+/// unit: a file that cannot be opened, or that has none, is never refused. Source: this project's
+/// profile.
 pub fn lone_units<A: Allocator + Copy>(
     alloc: A,
     file: &[u8],
 ) -> Result<Vec<LoneUnit, A>, AllocError>
-    ensures { IfOk result (λ units. units.items ≡ lone_units_spec file.now) }
+    ensures units { IfOk result (λ units. units.items ≡ lone_units_spec file.now) }
+    ensures memory { IfErr result (λ _. 0 < length (lone_units_spec file.now)) }
 {
     let reading = read(file, &[]);
     match reading.host() {
