@@ -83,11 +83,11 @@ impl ToldWriter for Room<'_> {
 
     fn told_write(&mut self, bytes: &[u8]) -> io::Result<usize> {
         let count = self.take(bytes);
-        self.writes += 1;
+        self.writes = self.writes.saturating_add(1);
         if count < bytes.len() {
-            self.shorts += 1;
+            self.shorts = self.shorts.saturating_add(1);
             if count == 0 {
-                self.stalls += 1;
+                self.stalls = self.stalls.saturating_add(1);
             }
         }
         Ok(count)

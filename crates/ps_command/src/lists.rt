@@ -7,7 +7,7 @@ ghost use Rattle.ps_command.specs.Reading.{IsReadError, Reads};
 use crate::error::CommandError;
 use crate::files::{self, CodeFiles};
 use crate::output;
-use ps_linkfile::separator;
+use ps_linkfile::{Counts, separator};
 use ps_listing::LoneUnit;
 use std::alloc::{AllocError, Allocator};
 use std::io::Write;
@@ -93,14 +93,14 @@ fn print_text<O: Write>(
     ensures err { IfErr result (λ e. e ≡ CommandError.StandardOutput) }
 {
     match form {
-        Form::Lines => Ok(ps_listing::write_list(path, phrase, file, out)?),
+        Form::Lines => Ok(ps_listing::write_list(path, phrase, file, out, &mut Counts::new())?),
         Form::Json => {
             output::print(out, separator(index == 0))?;
-            Ok(ps_listing::write_list_json(path, phrase, file, out)?)
+            Ok(ps_listing::write_list_json(path, phrase, file, out, &mut Counts::new())?)
         }
         Form::Units => {
-            ps_listing::write_list(path, phrase, file, out)?;
-            Ok(ps_listing::write_lone_units(path, units, out)?)
+            ps_listing::write_list(path, phrase, file, out, &mut Counts::new())?;
+            Ok(ps_listing::write_lone_units(path, units, out, &mut Counts::new())?)
         }
     }
 }
@@ -155,7 +155,7 @@ fn print_unread<O: Write>(
         Form::Lines | Form::Units => Ok(()),
         Form::Json => {
             output::print(out, separator(index == 0))?;
-            Ok(ps_listing::write_unread_json(path, out)?)
+            Ok(ps_listing::write_unread_json(path, out, &mut Counts::new())?)
         }
     }
 }

@@ -16,7 +16,7 @@ use crate::files::{self, CodeFiles};
 use crate::lists::{Form, print_lists};
 use crate::output;
 use crate::request::{self, Inputs, Request, Task};
-use ps_linkfile::{Counting, Linked, Summary};
+use ps_linkfile::{Counting, Counts, Linked, Summary};
 use ps_report::Report;
 use std::alloc::{AllocError, Allocator, Global};
 use std::io::Write;
@@ -331,9 +331,9 @@ fn map_bytes<A: Allocator + Copy, O: Write>(
 {
     let linked = ps_linkfile::prepare(alloc, host, libraries)?;
     if json {
-        return Ok(linked.write_map_json(out)?);
+        return Ok(linked.write_map_json(out, &mut Counts::new())?);
     }
-    Ok(linked.write_map(out)?)
+    Ok(linked.write_map(out, &mut Counts::new())?)
 }
 
 /// Prints the map of a link of a host with libraries and what the link stores, with `json` as JSON,
@@ -354,9 +354,9 @@ fn references_bytes<A: Allocator + Copy, O: Write>(
 {
     let map = ps_linkfile::prepare_references(alloc, host, libraries)?;
     if json {
-        return Ok(map.write_json(out)?);
+        return Ok(map.write_json(out, &mut Counts::new())?);
     }
-    Ok(map.write(out)?)
+    Ok(map.write(out, &mut Counts::new())?)
 }
 
 /// Prints what the file at `path` has, with `json` as JSON. Its text is written in pieces, and takes
@@ -385,9 +385,9 @@ fn show_bytes<O: Write>(file: &[u8], json: bool, out: &mut O) -> Result<(), Comm
     ensures usage { IfErr result (λ e. status_of e ≢ 2) }
 {
     if json {
-        return Ok(ps_linkfile::write_show_json(file, out)?);
+        return Ok(ps_linkfile::write_show_json(file, out, &mut Counts::new())?);
     }
-    Ok(ps_linkfile::write_show(file, out)?)
+    Ok(ps_linkfile::write_show(file, out, &mut Counts::new())?)
 }
 
 /// Prints the report of a check, with `json` as JSON, and returns its status. The report is whole

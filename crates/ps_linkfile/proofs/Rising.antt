@@ -1,23 +1,25 @@
 -- How the counts of a writer rise while a file is written.
 use Rattle.std.proofs.Common.{rules, ◌≡◌, ◌≢◌, ◌∙◌, ℕ, ◌+◌, ◌*◌}
 use Rattle.std.proofs.Common.{◌-◌, ◌≤◌, ◌<◌, List, [], ◌∷◌, length, drop}
-use Rattle.std.proofs.Common.{Ok, ap, refl, arith}
+use Rattle.std.proofs.Common.{Ok, ap, refl, arith, ◌^◌}
 use Rattle.ps_linkfile.proofs.Words.{All, min, blocks, MAX_CODE_LEN, Origin, Counts, WriteFault}
-use Rattle.ps_linkfile.proofs.Words.{all_blocks, Ascend}
+use Rattle.ps_linkfile.proofs.Words.{NoneFailed, OneFailed, Rises, all_blocks, Ascend}
 use Rattle.std.specs.declared.io.Error.{Error}
 use Rattle.ps_linkfile.specs.declared.block_layout.TheConstants.{MAX_FILE_BLOCKS}
-use Rattle.ps_linkfile.specs.Counts.{AreAtMost, CanCount, counts_after, Rises, NoneFailed, OneError}
-use Rattle.ps_linkfile.specs.Counts.{OneStall, OneFailed, IfDevice, IfStalled}
+use Rattle.ps_linkfile.specs.declared.error.WriteFault.TheVariants.{Device, Stalled}
+use Rattle.ps_linkfile.specs.Counts.{AreAtMost, Failures, IfDevice, IfStalled, OneError, OneStall}
+use Rattle.ps_linkfile.specs.Counts.{RisesByPieces, counts_after}
 use Rattle.ps_linkfile.proofs.Blocks.{all_blocks-cons, few_codes, few_blocks}
 
 -- the counts after the first i of so many bytes went out; while some are left, each write was short
 pub record Progress (old new : Counts) (size i : ℕ) : Type 0 where
   pub by_bytes : new.writes ≤ old.writes + i
-  pub by_pieces : new.writes + old.shorts ≤ old.writes + min 1 i + new.shorts
-  pub unfinished : i < size → new.writes + old.shorts ≤ old.writes + new.shorts
+  pub by_pieces : old.shorts + size < 2 ^ 64
+      → new.writes + old.shorts ≤ old.writes + min 1 i + new.shorts
+  pub unfinished : i < size → old.shorts + size < 2 ^ 64
+      → new.writes + old.shorts ≤ old.writes + new.shorts
   pub shorts : new.shorts ≤ old.shorts + i
-  pub errors : new.errors ≡ old.errors
-  pub stalls : new.stalls ≡ old.stalls
+  pub none : NoneFailed old new
 
 -- a write took some of those that were left
 pub progress : (old mid : Counts) (size i taken left : ℕ) → Progress old mid size i → i < size
@@ -26,37 +28,47 @@ pub progress : (old mid : Counts) (size i taken left : ℕ) → Progress old mid
 progress old mid size i taken left h lt is le ne = grind arith
 
 pub rises_none : (c : Counts) → Rises c c 0 0
-rises_none c = record { by_bytes = omega arith; by_pieces = omega arith; shorts = omega arith }
+rises_none c = record {
+  by_bytes = omega arith;
+  by_pieces = λ room. omega arith;
+  shorts = omega arith;
+}
 
-module _ (a b c : Counts) where
-  -- some pieces, and then more, of a file that has still more
-  pub rises_then : (m x n y size pieces : ℕ) → Rises a b m x
-      → Rises b c n y → m + n ≤ size → x + y ≤ pieces → Rises a c size pieces
-  rises_then m x n y size pieces h k le few = grind arith
+-- some pieces, and then more, of a file that has still more
+pub rises_then : (a b c : Counts) (m x n y size pieces : ℕ) → Rises a b m x
+    → Rises b c n y → m + n ≤ size → x + y ≤ pieces → Rises a c size pieces
+rises_then a b c m x n y size pieces h k le few = record {
+  by_bytes = omega (arith, h.by_bytes, k.by_bytes);
+  by_pieces =
+      λ room. omega (
+        arith,
+        h.by_pieces (omega arith),
+        k.by_pieces (omega (arith, h.shorts)),
+      );
+  shorts = omega (arith, h.shorts, k.shorts);
+}
 
-  pub none_after : NoneFailed a b → NoneFailed b c → NoneFailed a c
-  none_after h k = record { errors = k.errors ∙ h.errors; stalls = k.stalls ∙ h.stalls }
+-- a writer with small counts can count what is written of a file
+module _ (old new : Counts) (small : AreAtMost old 4294967296) where
+  pub by_pieces : (size pieces : ℕ) → size ≤ 4294967296 → Rises old new size pieces
+      → RisesByPieces old new pieces
+  by_pieces size pieces le h = h.by_pieces (omega (arith, small.shorts))
 
-  pub one_after : (fault : WriteFault)
-      → NoneFailed a b → OneFailed fault b c → OneFailed fault a c
-  one_after fault h k = grind arith
+  pub if_device : (fault : WriteFault) → OneFailed fault old new
+      → IfDevice fault (OneError old new)
+  if_device (Device error) h = record {
+    errors = omega (arith, small.errors, ap (λ (f : Failures). f.errors) h);
+    stalls = ap (λ (f : Failures). f.stalls) h;
+  }
+  if_device Stalled h = tt
 
-module _ (old new : Counts) (fault : WriteFault) where
-  pub if_device : OneFailed fault old new → IfDevice fault (OneError old new)
-  if_device h = grind arith
-
-  pub if_stalled : OneFailed fault old new → IfStalled fault (OneStall old new)
-  if_stalled h = grind arith
-
--- small counts have room for a file
-pub room_for : (c : Counts) (n : ℕ) → AreAtMost c 4294967296 → n ≤ 4294967296
-    → CanCount c n
-room_for c n h le = grind arith
-
--- room that is left after some pieces
-pub room_left : (a b : Counts) (size m x n : ℕ) → CanCount a size → Rises a b m x
-    → NoneFailed a b → m + n ≤ size → CanCount b n
-room_left a b size m x n room h none le = grind arith
+  pub if_stalled : (fault : WriteFault) → OneFailed fault old new
+      → IfStalled fault (OneStall old new)
+  if_stalled (Device error) h = tt
+  if_stalled Stalled h = record {
+    errors = ap (λ (f : Failures). f.errors) h;
+    stalls = omega (arith, small.stalls, ap (λ (f : Failures). f.stalls) h);
+  }
 
 -- a file has few blocks
 pub few_of_all : (os : List Origin) → Ascend 0 os
@@ -91,8 +103,7 @@ pub blocks_none : (os : List Origin) (c : Counts) → BlocksSoFar os 0 0 c c
 blocks_none os c = record {
   sum = omega arith;
   rises = rises_none c;
-  none =
-      record { errors = refl; stalls = refl };
+  none = refl;
 }
 
 module _ (os : List Origin) (count n : ℕ) (o : Origin) (a b : Counts) where
@@ -100,7 +111,7 @@ module _ (os : List Origin) (count n : ℕ) (o : Origin) (a b : Counts) where
   pub blocks_more : (c : Counts) → drop count os ≡ o ∷ drop (count + 1) os → BlocksSoFar
       os count n a b → Rises b c (512 * blocks (length o.code)) (blocks (length o.code))
       → NoneFailed b c → BlocksSoFar os (count + 1) (n + blocks (length o.code)) a c
-  blocks_more c at h k none = search (rules, next_blocks, rises_then, none_after)
+  blocks_more c at h k none = search (rules, next_blocks, rises_then)
 
   -- some blocks of one source more, at which the file stops
   pub blocks_stop : (c : Counts) → drop count os ≡ o ∷ drop (count + 1) os
@@ -112,15 +123,6 @@ module _ (os : List Origin) (count n : ℕ) (o : Origin) (a b : Counts) where
       (next_blocks os count n o at h.sum) in
       rises_then a b c (512 * n) n (512 * one) one (512 * all_blocks os) (all_blocks os) h.rises k
       bytes few
-
-  -- there is room for the blocks of one source more
-  pub blocks_room : drop count os ≡ o ∷ drop (count + 1) os → BlocksSoFar os count n a b
-      → CanCount a (512 * all_blocks os) → CanCount b (512 * blocks (length o.code))
-  blocks_room at h room =
-      let one = blocks (length o.code) in
-      room_left a b (512 * all_blocks os) (512 * n) n (512 * one) room h.rises h.none
-      (within n one (all_blocks (drop (count + 1) os)) (all_blocks os)
-      (next_blocks os count n o at h.sum)).0
 
 -- all are written
 pub blocks_done : (os : List Origin) (count n : ℕ) (a b : Counts) → drop count os ≡ []

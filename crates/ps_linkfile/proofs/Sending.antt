@@ -1,10 +1,10 @@
 -- Text that is gathered in front of a writer, and sent to it.
 use Rattle.std.proofs.Common.{arith, ◌≡◌, ℕ, List, [], ◌++◌, true, false, Option, Some}
 use Rattle.std.proofs.Common.{None, append_assoc, append-nil, sym, ◌∙◌, ap}
-use Rattle.ps_linkfile.proofs.Words.{is_some, Appends, failures_with, AppendsPrefix, WriteFault}
-use Rattle.ps_linkfile.proofs.Words.{Failures}
+use Rattle.ps_linkfile.proofs.Words.{is_some, Appends, AppendsPrefix, WriteFault}
+use Rattle.ps_linkfile.specs.Counts.{Failures, failures_with}
 use Rattle.std.proofs.lemmas.Bool.{false≢true}
-use Rattle.ps_linkfile.specs.Adding.{IsNoted, IsSent, IsKept}
+use Rattle.ps_linkfile.specs.Adding.{IsCounted, IsSent, IsKept}
 use Rattle.ps_linkfile.proofs.Prefixes.{appends_twice, prefix_last, prefix_then}
 
 -- of what was gathered and of these bytes, some was sent, and the rest is gathered
@@ -56,16 +56,16 @@ sent_no_more first now text gathered bytes (Some fault) e h = prefix_then first 
 
 module _ (first old new : Failures) where
   -- where no write had failed, and none did or one does
-  pub noted_more : (fault : Option WriteFault) → is_some fault ≡ false
-      → IsNoted first old fault → new ≡ old → IsNoted first new fault
-  noted_more None e h k = k ∙ h
-  noted_more (Some fault) e h k = absurd (false≢true (sym e))
+  pub counted_more : (fault : Option WriteFault) → is_some fault ≡ false
+      → IsCounted first old fault → new ≡ old → IsCounted first new fault
+  counted_more None e h k = k ∙ h
+  counted_more (Some fault) e h k = absurd (false≢true (sym e))
 
-  pub noted_fault : (before : Option WriteFault) (fault : WriteFault)
-      → is_some before ≡ false → IsNoted first old before
+  pub counted_fault : (before : Option WriteFault) (fault : WriteFault)
+      → is_some before ≡ false → IsCounted first old before
       → new ≡ failures_with fault old → new ≡ failures_with fault first
-  noted_fault None fault e h k = k ∙ ap (λ failures. failures_with fault failures) h
-  noted_fault (Some before) fault e h k = absurd (false≢true (sym e))
+  counted_fault None fault e h k = k ∙ ap (λ failures. failures_with fault failures) h
+  counted_fault (Some before) fault e h k = absurd (false≢true (sym e))
 
 -- where memory was refused, what is added is not kept
 pub kept_no_more : {E : Type 0} (first text now bytes : List ℕ) (error : Option E) → is_some

@@ -3,8 +3,7 @@ pub use Rattle.ps_codefile.specs.Dictionary.{FileOrder, OpenedFile, Ordered, cod
 pub use Rattle.ps_codefile.specs.Dictionary.{file_order, information_of, opened_as, slots}
 pub use Rattle.ps_codefile.specs.declared.code_layout.TheConstants.{MAX_CODE_LEN}
 pub use Rattle.ps_codefile.specs.declared.entry.Entry.{Entry}
-pub use Rattle.ps_linkfile.specs.Counts.{NoneFailed, Rises}
-pub use Rattle.ps_linkfile.specs.Failures.{failures_with}
+pub use Rattle.ps_linkfile.specs.Counts.{NoneFailed, OneFailed, Rises}
 pub use Rattle.ps_linkfile.specs.JsonText.{json_byte, reference_item}
 pub use Rattle.ps_linkfile.specs.Lines.{field, hex_byte, line, reference, references, shown_name}
 pub use Rattle.ps_linkfile.specs.Lines.{two_digits}
@@ -20,7 +19,6 @@ pub use Rattle.ps_linkfile.specs.Writing.{starts_of}
 pub use Rattle.ps_linkfile.specs.declared.cause.Cause.{Cause}
 pub use Rattle.ps_linkfile.specs.declared.counts.Counts.{Counts}
 pub use Rattle.ps_linkfile.specs.declared.error.WriteFault.{WriteFault}
-pub use Rattle.ps_linkfile.specs.declared.failures.Failures.{Failures}
 pub use Rattle.ps_linkfile.specs.declared.pieces.TheConstants.{PIECE_REFERENCES}
 pub use Rattle.ps_linkinfo.specs.Left.{items_of}
 pub use Rattle.ps_linkinfo.specs.RecordCounts.{next_of}

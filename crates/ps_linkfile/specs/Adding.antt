@@ -4,8 +4,7 @@ use Rattle.std.specs.Prelude.{◌≡◌, ℕ, List, ◌++◌, Option, Some, None
 use Rattle.std.specs.Io.KnownBytes.{Appends}
 use Rattle.ps_linkfile.specs.Outcomes.{AppendsPrefix}
 use Rattle.ps_linkfile.specs.declared.error.WriteFault.{WriteFault}
-use Rattle.ps_linkfile.specs.declared.failures.Failures.{Failures}
-use Rattle.ps_linkfile.specs.Failures.{failures_with}
+use Rattle.ps_linkfile.specs.Counts.{Failures, failures_with}
 
 -- The text was added between old and new. `added` says of a writer as it was at first, of a text
 -- and
@@ -24,9 +23,9 @@ IsSent first text now gathered None = (sent : List ℕ) × Appends first now sen
 IsSent first text now gathered (Some fault) = AppendsPrefix first now text
 
 -- What failed at the writer at first and now: nothing more, or the one write that failed.
-abbrev pub IsNoted : Failures → Failures → Option WriteFault → Type 0
-IsNoted first now None = now ≡ first
-IsNoted first now (Some fault) = now ≡ failures_with fault first
+abbrev pub IsCounted : Failures → Failures → Option WriteFault → Type 0
+IsCounted first now None = now ≡ first
+IsCounted first now (Some fault) = now ≡ failures_with fault first
 
 -- The text was added to what was kept at first, unless memory was refused.
 abbrev pub IsKept : {E : Type 0} → List ℕ → List ℕ → List ℕ → Option E → Type 0

@@ -1,6 +1,6 @@
 -- How often a writer was called, and how its counts rise.
 -- Source: this project's profile.
-use Rattle.std.specs.Prelude.{◌≡◌, ℕ, ◌+◌, ◌^◌, ◌<◌, ◌≤◌, ◌==◌}
+use Rattle.std.specs.Prelude.{◌≡◌, ℕ, ◌+◌, ◌^◌, ◌<◌, ◌≤◌, ◌==◌, min}
 use Rattle.std.specs.Prelude.{◌&&◌, nat_lt, if◌then◌else◌, Result, Ok, Err, ⊤}
 use Rattle.ps_linkfile.specs.declared.counts.Counts.{Counts}
 use Rattle.ps_linkfile.specs.declared.error.WriteFault.{WriteFault}
@@ -10,30 +10,31 @@ use Rattle.ps_linkfile.specs.declared.error.WriteFault.TheVariants.{Device, Stal
 abbrev pub no_counts : Counts
 no_counts = record { writes = 0; errors = 0; stalls = 0; shorts = 0 }
 
+-- one more, unless 64 bits hold no more
+abbrev pub one_more : ℕ → ℕ
+one_more n = min (n + 1) 18446744073709551615
+
+-- the counts after a write of so many bytes that gave this result
+abbrev pub counts_after : {E : Type 0} → Counts → ℕ → Result ℕ E → Counts
+counts_after old size (Ok taken) = record {
+  writes = one_more old.writes;
+  errors = old.errors;
+  stalls = if nat_lt taken size && taken == 0 then one_more old.stalls else old.stalls;
+  shorts = if nat_lt taken size then one_more old.shorts else old.shorts;
+}
+counts_after old size (Err error) = record {
+  writes = one_more old.writes;
+  errors = one_more old.errors;
+  stalls = old.stalls;
+  shorts = old.shorts;
+}
+
 -- none of the counts is above n
 pub record AreAtMost (counts : Counts) (n : ℕ) : Type 0 where
   pub writes : counts.writes ≤ n
   pub errors : counts.errors ≤ n
   pub stalls : counts.stalls ≤ n
   pub shorts : counts.shorts ≤ n
-
--- each count may rise by n, and is then still a u64
-pub record CanCount (counts : Counts) (n : ℕ) : Type 0 where
-  pub writes : counts.writes + n < 2 ^ 64
-  pub errors : counts.errors + n < 2 ^ 64
-  pub stalls : counts.stalls + n < 2 ^ 64
-  pub shorts : counts.shorts + n < 2 ^ 64
-
--- the counts after a write of so many bytes that gave this result
-abbrev pub counts_after : {E : Type 0} → Counts → ℕ → Result ℕ E → Counts
-counts_after old size (Ok taken) = record {
-  writes = old.writes + 1;
-  errors = old.errors;
-  stalls = if nat_lt taken size && taken == 0 then old.stalls + 1 else old.stalls;
-  shorts = if nat_lt taken size then old.shorts + 1 else old.shorts;
-}
-counts_after old size (Err error) = record
-    { writes = old.writes + 1; errors = old.errors + 1; stalls = old.stalls; shorts = old.shorts }
 
 -- there were at most as many writes as bytes
 abbrev pub RisesByBytes : Counts → Counts → ℕ → Type 0
@@ -43,16 +44,33 @@ RisesByBytes old new size = new.writes ≤ old.writes + size
 abbrev pub RisesByPieces : Counts → Counts → ℕ → Type 0
 RisesByPieces old new pieces = new.writes + old.shorts ≤ old.writes + pieces + new.shorts
 
--- how often a writer is called while so many bytes are written, in so many pieces
+-- how often a writer is called while so many bytes are written, in so many pieces; all short writes
+-- are counted where 64 bits hold as many as there can be
 pub record Rises (old new : Counts) (size pieces : ℕ) : Type 0 where
   pub by_bytes : RisesByBytes old new size
-  pub by_pieces : RisesByPieces old new pieces
+  pub by_pieces : old.shorts + size < 2 ^ 64 → RisesByPieces old new pieces
   pub shorts : new.shorts ≤ old.shorts + size
 
--- no write returned an error, and none stalled
-pub record NoneFailed (old new : Counts) : Type 0 where
-  pub errors : new.errors ≡ old.errors
-  pub stalls : new.stalls ≡ old.stalls
+-- how many writes failed: those that returned an error, and those that stalled
+pub record Failures : Type 0 where
+  pub errors : ℕ
+  pub stalls : ℕ
+
+abbrev pub failures_in : Counts → Failures
+failures_in counts = record { errors = counts.errors; stalls = counts.stalls }
+
+-- the failures after one write that failed in the way that the fault says
+abbrev pub failures_with : WriteFault → Failures → Failures
+failures_with (Device error) old = record { errors = one_more old.errors; stalls = old.stalls }
+failures_with Stalled old = record { errors = old.errors; stalls = one_more old.stalls }
+
+-- no write failed
+abbrev pub NoneFailed : Counts → Counts → Type 0
+NoneFailed old new = failures_in new ≡ failures_in old
+
+-- one write failed, in the way that the fault says
+abbrev pub OneFailed : WriteFault → Counts → Counts → Type 0
+OneFailed fault old new = failures_in new ≡ failures_with fault (failures_in old)
 
 -- one write returned an error, and none stalled
 pub record OneError (old new : Counts) : Type 0 where
@@ -63,11 +81,6 @@ pub record OneError (old new : Counts) : Type 0 where
 pub record OneStall (old new : Counts) : Type 0 where
   pub errors : new.errors ≡ old.errors
   pub stalls : new.stalls ≡ old.stalls + 1
-
--- one write failed, in the way that the fault says
-abbrev pub OneFailed : WriteFault → Counts → Counts → Type 0
-OneFailed (Device error) old new = OneError old new
-OneFailed Stalled old new = OneStall old new
 
 -- it holds where a write returned an error
 abbrev pub IfDevice : WriteFault → Type 0 → Type 0

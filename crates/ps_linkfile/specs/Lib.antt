@@ -3,8 +3,6 @@ pub mod Writing
 pub mod Outcomes
 pub mod Counts
 pub mod Told
-pub mod Failures
-pub mod Noted
 pub mod Lines
 pub mod JsonText
 pub mod MapJson

@@ -10,8 +10,8 @@ use Rattle.ps_resolve.specs.Standing.{NoneStandsInReading, IsFirst, NoneStands}
 use Rattle.ps_resolve.specs.declared.linkage.Stop.{Stop}
 use Rattle.ps_resolve.specs.declared.linkage.Stop.TheVariants as stop
 use Rattle.ps_linkfile.specs.LinkedFile.{LinkedFile}
-use Rattle.ps_linkfile.specs.Failures.{failures_with}
-use Rattle.ps_linkfile.specs.declared.failures.Failures.{Failures}
+use Rattle.ps_linkfile.specs.Counts.{NoneFailed, OneFailed}
+use Rattle.ps_linkfile.specs.declared.counts.Counts.{Counts}
 use Rattle.ps_linkfile.specs.declared.error.LinkError.{LinkError}
 use Rattle.ps_linkfile.specs.declared.error.LinkError.TheVariants.{Refused, Memory, Write}
 
@@ -80,7 +80,7 @@ LeavesTextPrefix text Memory old new = ⊤
 LeavesTextPrefix text (Write fault) old new = AppendsPrefix old new text
 
 -- one write failed, in the way that the fault says, or none where none was made
-abbrev pub LeavesFailure : LinkError → Failures → Failures → Type 0
-LeavesFailure (Refused fault) old new = new ≡ old
-LeavesFailure Memory old new = new ≡ old
-LeavesFailure (Write fault) old new = new ≡ failures_with fault old
+abbrev pub LeavesFailure : LinkError → Counts → Counts → Type 0
+LeavesFailure (Refused fault) old new = NoneFailed old new
+LeavesFailure Memory old new = NoneFailed old new
+LeavesFailure (Write fault) old new = OneFailed fault old new

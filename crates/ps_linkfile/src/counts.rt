@@ -1,6 +1,6 @@
 use std::io;
 
-/// How often a writer was called, and with what results.
+/// How often a writer was called, and with what results. A count that has reached `u64::MAX` stays.
 ///
 /// Source: this project's profile.
 #[derive(Clone, Copy, Debug, PartialEq, Eq)]
@@ -11,16 +11,18 @@ pub struct Counts {
     pub errors: u64,
     /// How many of them stalled: they took none of at least one byte.
     pub stalls: u64,
-    /// How many of them took fewer bytes than they were handed, those that stalled among them.
+    /// How many of them took fewer bytes than they were handed, those that stalled among them. A
+    /// write that returned an error is none of these.
     pub shorts: u64,
 }
 
 impl Counts {
     ghost use Rattle.std.specs.Prelude.{◌≡◌};
-    ghost use Rattle.ps_linkfile.specs.Counts.{no_counts, counts_after, CanCount};
+    ghost use Rattle.ps_linkfile.specs.Counts.{no_counts, counts_after};
 
-    /// The counts before the first write.
-    pub(crate) fn new() -> Counts
+    /// The counts before the first write, which are 0.
+    /// Source: this project's profile.
+    pub fn new() -> Counts
         ensures { result ≡ no_counts }
     {
         Counts {
@@ -33,17 +35,16 @@ impl Counts {
 
     /// Counts a write of so many bytes, by its result.
     pub(crate) fn count(&mut self, size: usize, answer: &io::Result<usize>)
-        requires { CanCount self.old 1 }
         ensures { self.new ≡ counts_after self.old size answer.now }
     {
-        self.writes += 1;
+        self.writes = self.writes.saturating_add(1);
         match answer {
-            Err(_) => self.errors += 1,
+            Err(_) => self.errors = self.errors.saturating_add(1),
             Ok(taken) => {
                 if *taken < size {
-                    self.shorts += 1;
+                    self.shorts = self.shorts.saturating_add(1);
                     if *taken == 0 {
-                        self.stalls += 1;
+                        self.stalls = self.stalls.saturating_add(1);
                     }
                 }
             }

@@ -8,20 +8,18 @@ ghost use Rattle.ps_linkfile.specs.LinkedFile.{summary_of};
 ghost use Rattle.ps_linkfile.specs.MapText.{map_in, map_json_in, map_json_of, map_of, plan_rows};
 ghost use Rattle.ps_linkfile.specs.Writing.{file_in, summary_in, IsReady, StandsFor};
 ghost use Rattle.ps_linkfile.specs.Outcomes.{AppendsPrefix, AppendsLinkedFile, HasUsedNumber, NamesFirst, IsUnprepared, IsUnlinked, LeavesUntouched, LeavesPrefix};
-ghost use Rattle.ps_linkfile.specs.Failures.{failures_with};
-ghost use Rattle.ps_linkfile.specs.Counts.{AreAtMost, IfDevice, IfStalled, NoneFailed, OneError, OneStall, RisesByBytes, RisesByPieces};
+ghost use Rattle.ps_linkfile.specs.Counts.{AreAtMost, IfDevice, IfStalled, NoneFailed, OneError, OneFailed, OneStall, RisesByBytes, RisesByPieces};
 
 use crate::block_layout::{MAX_FILE_BLOCKS, lay_out};
 use crate::counts::Counts;
 use crate::error::{LinkError, WriteFault};
 use crate::map::{LinkMap, add_map};
-use crate::noted::NotedWriter;
 use crate::rows::Form;
-use crate::stream::{write_text, write_text_noted};
+use crate::stream::write_text;
 use crate::summary::Summary;
 use crate::text_writer::TextWriter;
 use crate::told::ToldWriter;
-use crate::write_counter::ByWriter;
+use crate::write_counter::{ByWriter, WriteCounter};
 use crate::writing::write_file;
 use ps_laws::{bytes_are_linked, first_of_all};
 use ps_resolve::{Plan, resolve, slot_names_are_whole};
@@ -125,51 +123,52 @@ impl<'a, A: Allocator + Copy> Linked<'a, A> {
         add_map(text, form, &self.plan);
     }
 
-    /// Writes the map of the link, the text that `map_text` returns, in pieces. It takes no memory.
+    /// Writes the map of the link, the text that `map_text` returns, in pieces, by writes that
+    /// `counter` makes and counts. It takes no memory.
     ///
-    /// Refuses `Device` where a write returned an error, which is not repeated, and `Stalled` where
-    /// a write of at least one byte took none. The writer then has a prefix of the map.
+    /// After Ok no write failed. Refuses `Device` where a write returned an error, which is not
+    /// repeated: that was one write, and none stalled. Refuses `Stalled` where a write of at least
+    /// one byte took none: that was one write, and none returned an error. The writer then has a
+    /// prefix of the map.
     /// Source: this project's profile.
-    pub fn write_map<W: Write>(&self, out: &mut W) -> Result<(), WriteFault>
+    pub fn write_map<W: Write, C: WriteCounter<W>>(
+        &self,
+        out: &mut W,
+        counter: &mut C,
+    ) -> Result<(), WriteFault>
         ensures map { OnOk result (Appends (W.contents out.old) (W.contents out.new)
             (map_in self.now)) }
         ensures prefix { OnErr result (AppendsPrefix (W.contents out.old) (W.contents out.new)
             (map_in self.now)) }
+        ensures ok { OnOk result (NoneFailed (C.counts counter.old out.old)
+            (C.counts counter.new out.new)) }
+        ensures failed { IfErr result (λ fault. OneFailed fault (C.counts counter.old out.old)
+            (C.counts counter.new out.new)) }
     {
-        write_text(&LinkMap(Form::Lines, self), out)
+        write_text(&LinkMap(Form::Lines, self), out, counter)
     }
 
-    /// Writes the map of the link as `write_map` does, by calls of `noted_write` alone.
+    /// Writes the map of the link as one JSON document: the values of its lines, of each name the
+    /// eight characters and all its bytes in hexadecimal digits. It is written in pieces, and takes
+    /// no memory.
     ///
-    /// After Ok none of them failed. Refuses `Device` where a write returned an error: that was one
-    /// write, and none stalled. Refuses `Stalled` where a write of at least one byte took none: that
-    /// was one write, and none returned an error. The writer then has a prefix of the map.
-    /// Source: this project's profile.
-    pub fn write_map_noted<W: NotedWriter>(&self, out: &mut W) -> Result<(), WriteFault>
-        ensures map { OnOk result (Appends (W.contents out.old) (W.contents out.new)
-            (map_in self.now)) }
-        ensures prefix { OnErr result (AppendsPrefix (W.contents out.old) (W.contents out.new)
-            (map_in self.now)) }
-        ensures ok { OnOk result (W.failures out.new ≡ W.failures out.old) }
-        ensures failed { IfErr result (λ fault. W.failures out.new
-            ≡ failures_with fault (W.failures out.old)) }
-    {
-        write_text_noted(&LinkMap(Form::Lines, self), out)
-    }
-
-    /// Writes the map of the link as one JSON document, in pieces: the values of its lines, of each
-    /// name the eight characters and all its bytes in hexadecimal digits. It takes no memory.
-    ///
-    /// Refuses `Device` where a write returned an error, which is not repeated, and `Stalled` where
-    /// a write of at least one byte took none. The writer then has a prefix of the document.
+    /// Refuses what `write_map` refuses. The writer then has a prefix of the document.
     /// Source: RFC 8259; the document is this project's profile.
-    pub fn write_map_json<W: Write>(&self, out: &mut W) -> Result<(), WriteFault>
+    pub fn write_map_json<W: Write, C: WriteCounter<W>>(
+        &self,
+        out: &mut W,
+        counter: &mut C,
+    ) -> Result<(), WriteFault>
         ensures json { OnOk result (Appends (W.contents out.old) (W.contents out.new)
             (map_json_in self.now)) }
         ensures prefix { OnErr result (AppendsPrefix (W.contents out.old) (W.contents out.new)
             (map_json_in self.now)) }
+        ensures ok { OnOk result (NoneFailed (C.counts counter.old out.old)
+            (C.counts counter.new out.new)) }
+        ensures failed { IfErr result (λ fault. OneFailed fault (C.counts counter.old out.old)
+            (C.counts counter.new out.new)) }
     {
-        write_text(&LinkMap(Form::Json, self), out)
+        write_text(&LinkMap(Form::Json, self), out, counter)
     }
 }
 

@@ -3,6 +3,7 @@ ghost use Rattle.std.specs.Prelude.{◌≡◌, ◌<◌, ◌+◌, ◌*◌, ◌++�
 ghost use Rattle.std.specs.List.{enumerate_from, flat_map};
 ghost use Rattle.std.specs.Io.KnownBytes.{Appends};
 ghost use Rattle.ps_linkfile.specs.Adding.{Adds};
+ghost use Rattle.ps_linkfile.specs.Counts.{NoneFailed, OneFailed};
 ghost use Rattle.ps_resolve.specs.Sources.{contents};
 ghost use Rattle.ps_resolve.specs.Standing.{NoneStands};
 ghost use Rattle.ps_linkfile.specs.Lines.{hex_byte, hex_digit as hex_digit_spec};
@@ -21,6 +22,7 @@ use crate::listing::{Listing, list_segments};
 use crate::rows::{Form, Part, add_by_form, add_parts, by_form};
 use crate::stream::write_text;
 use crate::text_writer::{Text, TextWriter};
+use crate::write_counter::WriteCounter;
 use ps_laws::first_of_all;
 use ps_resolve::read;
 use ps_words::{BLOCK_SIZE, Name};
@@ -226,34 +228,51 @@ impl<A: Allocator + Copy> Text for Referenced<'_, '_, A> {
 }
 
 impl<'a, A: Allocator + Copy> ReferenceMap<'a, A> {
-    /// Writes the text in pieces. It takes no memory.
+    /// Writes the text in pieces, by writes that `counter` makes and counts. It takes no memory.
     ///
-    /// Refuses `Device` where a write returned an error, which is not repeated, and `Stalled` where
-    /// a write of at least one byte took none. The writer then has a prefix of the text.
+    /// After Ok no write failed. Refuses `Device` where a write returned an error, which is not
+    /// repeated: that was one write, and none stalled. Refuses `Stalled` where a write of at least
+    /// one byte took none: that was one write, and none returned an error. The writer then has a
+    /// prefix of the text.
     /// Source: this project's profile.
-    pub fn write<W: Write>(&self, out: &mut W) -> Result<(), WriteFault>
+    pub fn write<W: Write, C: WriteCounter<W>>(
+        &self,
+        out: &mut W,
+        counter: &mut C,
+    ) -> Result<(), WriteFault>
         ensures text { OnOk result (Appends (W.contents out.old) (W.contents out.new)
             (references_text self.now)) }
         ensures prefix { OnErr result (AppendsPrefix (W.contents out.old) (W.contents out.new)
             (references_text self.now)) }
+        ensures ok { OnOk result (NoneFailed (C.counts counter.old out.old)
+            (C.counts counter.new out.new)) }
+        ensures failed { IfErr result (λ fault. OneFailed fault (C.counts counter.old out.old)
+            (C.counts counter.new out.new)) }
     {
-        write_text(&Referenced(Form::Lines, self), out)
+        write_text(&Referenced(Form::Lines, self), out, counter)
     }
 
-    /// Writes the map and the references as one JSON document, in pieces: the values of the lines,
-    /// of each name the eight characters and all its bytes in hexadecimal digits. It takes no
-    /// memory.
+    /// Writes the map and the references as one JSON document: the values of the lines, of each
+    /// name the eight characters and all its bytes in hexadecimal digits. It is written in pieces,
+    /// and takes no memory.
     ///
-    /// Refuses `Device` where a write returned an error, which is not repeated, and `Stalled` where
-    /// a write of at least one byte took none. The writer then has a prefix of the document.
+    /// Refuses what `write` refuses. The writer then has a prefix of the document.
     /// Source: RFC 8259; the document is this project's profile.
-    pub fn write_json<W: Write>(&self, out: &mut W) -> Result<(), WriteFault>
+    pub fn write_json<W: Write, C: WriteCounter<W>>(
+        &self,
+        out: &mut W,
+        counter: &mut C,
+    ) -> Result<(), WriteFault>
         ensures json { OnOk result (Appends (W.contents out.old) (W.contents out.new)
             (referenced_json self.now)) }
         ensures prefix { OnErr result (AppendsPrefix (W.contents out.old) (W.contents out.new)
             (referenced_json self.now)) }
+        ensures ok { OnOk result (NoneFailed (C.counts counter.old out.old)
+            (C.counts counter.new out.new)) }
+        ensures failed { IfErr result (λ fault. OneFailed fault (C.counts counter.old out.old)
+            (C.counts counter.new out.new)) }
     {
-        write_text(&Referenced(Form::Json, self), out)
+        write_text(&Referenced(Form::Json, self), out, counter)
     }
 }
 

@@ -10,6 +10,7 @@ ghost use Rattle.ps_resolve.specs.Faults.{is_role};
 ghost use Rattle.ps_codefile.specs.Roles.{is_unit as is_unit_role};
 ghost use Rattle.ps_resolve.specs.Sources.{known_order};
 ghost use Rattle.ps_linkfile.specs.Adding.{Adds};
+ghost use Rattle.ps_linkfile.specs.Counts.{NoneFailed};
 ghost use Rattle.ps_linkfile.specs.declared.rows.Form.TheVariants.{Lines};
 ghost use Rattle.ps_linkfile.specs.Lines.{line};
 ghost use Rattle.ps_linkfile.specs.Rows.{Kind, Named, Number, Record, row_in};
@@ -20,10 +21,10 @@ use crate::error::LinkError;
 use crate::in_memory::in_memory;
 use crate::json::separator;
 use crate::lines::two_digits;
-use crate::noted::NotedWriter;
 use crate::rows::{Form, Part, add_by_form, add_parts, add_reason, add_row};
-use crate::stream::{write_text, write_text_noted};
+use crate::stream::write_text;
 use crate::text_writer::{Text, TextWriter};
+use crate::write_counter::WriteCounter;
 use arrayvec::ArrayVec;
 use ps_codefile::dictionary_layout::{SLOT_COUNT, SLOTS};
 use ps_codefile::{Dict, Entry, Role};
@@ -368,13 +369,19 @@ pub fn show_text<A: Allocator + Copy>(alloc: A, file: &[u8]) -> Result<Vec<u8, A
     Ok(in_memory(alloc, &read(file)?)?)
 }
 
-/// Writes the text that `show_text` returns, in pieces. It takes no memory.
+/// Writes the text that `show_text` returns, in pieces, by writes that `counter` makes and counts.
+/// It takes no memory.
 ///
-/// Refuses `Refused` as `show_text` does, of the same files; nothing was written then. Refuses
-/// `Write` where the writer failed, which is not called again, and then has a prefix of the text.
-/// Never returns `Memory`.
+/// After Ok no write failed. Refuses `Refused` as `show_text` does, of the same files; nothing was
+/// written then. Refuses `Write` where a write failed, which is not repeated: that was one write,
+/// which returned the error of `Device`, or which took none of at least one byte where it is
+/// `Stalled`. The writer then has a prefix of the text. Never returns `Memory`.
 /// Source: UCSD Pascal II.0 manual, code file format; the text is this project's profile.
-pub fn write_show<W: Write>(file: &[u8], out: &mut W) -> Result<(), LinkError>
+pub fn write_show<W: Write, C: WriteCounter<W>>(
+    file: &[u8],
+    out: &mut W,
+    counter: &mut C,
+) -> Result<(), LinkError>
     ensures written { OnOk result (Appends (W.contents out.old) (W.contents out.new)
         (show_of file.now)) }
     ensures sound { OnOk result (show_fault file.now ≡ None) }
@@ -382,27 +389,10 @@ pub fn write_show<W: Write>(file: &[u8], out: &mut W) -> Result<(), LinkError>
     ensures untouched { IfErr result (λ e. LeavesUntouched e out.old out.new) }
     ensures prefix { IfErr result (λ e. LeavesTextPrefix (show_of file.now) e
         (W.contents out.old) (W.contents out.new)) }
+    ensures ok { OnOk result (NoneFailed (C.counts counter.old out.old)
+        (C.counts counter.new out.new)) }
+    ensures failed { IfErr result (λ e. LeavesFailure e (C.counts counter.old out.old)
+        (C.counts counter.new out.new)) }
 {
-    Ok(write_text(&read(file)?, out)?)
-}
-
-/// Writes the text as `write_show` does, by calls of `noted_write` alone.
-///
-/// After Ok none of them failed, and after a refusal of the file none was made. Refuses `Device`
-/// where a write returned an error: that was one write, and none stalled. Refuses `Stalled` where a
-/// write of at least one byte took none: that was one write, and none returned an error.
-/// Source: UCSD Pascal II.0 manual, code file format; the text is this project's profile.
-pub fn write_show_noted<W: NotedWriter>(file: &[u8], out: &mut W) -> Result<(), LinkError>
-    ensures written { OnOk result (Appends (W.contents out.old) (W.contents out.new)
-        (show_of file.now)) }
-    ensures sound { OnOk result (show_fault file.now ≡ None) }
-    ensures error { IfErr result (IsUnwritten file.now) }
-    ensures untouched { IfErr result (λ e. LeavesUntouched e out.old out.new) }
-    ensures prefix { IfErr result (λ e. LeavesTextPrefix (show_of file.now) e
-        (W.contents out.old) (W.contents out.new)) }
-    ensures ok { OnOk result (W.failures out.new ≡ W.failures out.old) }
-    ensures failed { IfErr result (λ e. LeavesFailure e (W.failures out.old)
-        (W.failures out.new)) }
-{
-    Ok(write_text_noted(&read(file)?, out)?)
+    Ok(write_text(&read(file)?, out, counter)?)
 }

@@ -4,7 +4,8 @@ ghost use Rattle.std.specs.Io.KnownBytes.{Appends};
 ghost use Rattle.std.specs.List.{flat_map};
 ghost use Rattle.ps_codefile.specs.Dictionary.{slots};
 ghost use Rattle.ps_linkfile.specs.Adding.{Adds};
-ghost use Rattle.ps_linkfile.specs.Outcomes.{LeavesTextPrefix, LeavesUntouched};
+ghost use Rattle.ps_linkfile.specs.Counts.{NoneFailed};
+ghost use Rattle.ps_linkfile.specs.Outcomes.{LeavesFailure, LeavesTextPrefix, LeavesUntouched};
 ghost use Rattle.ps_linkfile.specs.ShowJson.{order_member, show_json_of, slot_item};
 ghost use Rattle.ps_linkfile.specs.ShowText.{order_shown, show_fault, unit_names as unit_names_spec, IsUnwritten};
 
@@ -13,6 +14,7 @@ use crate::rows::Form;
 use crate::show::{ShownFile, add_entry, add_links, read, unit_names};
 use crate::stream::write_text;
 use crate::text_writer::{Text, TextWriter};
+use crate::write_counter::WriteCounter;
 use ps_codefile::Dict;
 use ps_codefile::dictionary_layout::SLOTS;
 use ps_words::{Name, Order};
@@ -72,15 +74,18 @@ fn add_slot<S: TextWriter>(text: &mut S, dict: &Dict, units: &[Name], slot: u8)
     text.add(b"}");
 }
 
-/// Writes what `write_show` writes as one JSON document, in pieces: the values of its lines, of
-/// each name the eight characters and all its bytes in hexadecimal digits. It takes no memory.
+/// Writes what `write_show` writes as one JSON document: the values of its lines, of each name the
+/// eight characters and all its bytes in hexadecimal digits. It is written in pieces, and takes no
+/// memory.
 ///
-/// Refuses `Refused` as `show_text` does, of the same files; nothing was written then. Refuses
-/// `Write` where the writer failed, which is not called again, and then has a prefix of the
-/// document. Never returns `Memory`.
+/// Refuses what `write_show` refuses. After `Write` the writer has a prefix of the document.
 /// Source: UCSD Pascal II.0 manual, code file format; RFC 8259; the document is this project's
 /// profile.
-pub fn write_show_json<W: Write>(file: &[u8], out: &mut W) -> Result<(), LinkError>
+pub fn write_show_json<W: Write, C: WriteCounter<W>>(
+    file: &[u8],
+    out: &mut W,
+    counter: &mut C,
+) -> Result<(), LinkError>
     ensures written { OnOk result (Appends (W.contents out.old) (W.contents out.new)
         (show_json_of file.now)) }
     ensures sound { OnOk result (show_fault file.now ≡ None) }
@@ -88,7 +93,10 @@ pub fn write_show_json<W: Write>(file: &[u8], out: &mut W) -> Result<(), LinkErr
     ensures untouched { IfErr result (λ e. LeavesUntouched e out.old out.new) }
     ensures prefix { IfErr result (λ e. LeavesTextPrefix (show_json_of file.now) e
         (W.contents out.old) (W.contents out.new)) }
+    ensures ok { OnOk result (NoneFailed (C.counts counter.old out.old)
+        (C.counts counter.new out.new)) }
+    ensures failed { IfErr result (λ e. LeavesFailure e (C.counts counter.old out.old)
+        (C.counts counter.new out.new)) }
 {
-    let shown = read(file)?;
-    Ok(write_text(&JsonFile { shown }, out)?)
+    Ok(write_text(&JsonFile { shown: read(file)? }, out, counter)?)
 }

@@ -1,14 +1,13 @@
 //! Text that is written to a writer in pieces.
 ghost use Rattle.std.specs.Prelude.{◌≡◌, ◌++◌, [], List, ℕ, IfErr, OnOk, OnErr};
 ghost use Rattle.std.specs.Io.KnownBytes.{Appends};
-ghost use Rattle.ps_linkfile.specs.Failures.{failures_with};
+ghost use Rattle.ps_linkfile.specs.Counts.{NoneFailed, OneFailed};
 ghost use Rattle.ps_linkfile.specs.Outcomes.{AppendsPrefix};
 
 use crate::error::WriteFault;
-use crate::failure_counter::{ByNotes, FailureCounter};
-use crate::failures::Failures;
-use crate::noted::NotedWriter;
 use crate::text_writer::{Text, TextWriter};
+use crate::write_counter::WriteCounter;
+use crate::writing::write_all_of;
 use arrayvec::ArrayVec;
 use std::io::Write;
 
@@ -18,32 +17,8 @@ const BUFFER_LEN: usize = 16384;
 /// The text that was gathered and not yet written.
 type Gathered = ArrayVec<u8, BUFFER_LEN>;
 
-/// Writes all bytes, by one write a turn. No write is made again after an error.
-fn send<W: Write, C: FailureCounter<W>>(
-    out: &mut W,
-    counter: &mut C,
-    bytes: &[u8],
-) -> Result<(), WriteFault>
-    ensures all { OnOk result (Appends (W.contents out.old) (W.contents out.new) bytes.now) }
-    ensures prefix { OnErr result (AppendsPrefix (W.contents out.old) (W.contents out.new)
-        bytes.now) }
-    ensures ok { OnOk result (C.failures counter.new out.new ≡ C.failures counter.old out.old) }
-    ensures failed { IfErr result (λ fault. C.failures counter.new out.new
-        ≡ failures_with fault (C.failures counter.old out.old)) }
-{
-    let mut at = 0;
-    while at < bytes.len() {
-        match counter.write(out, &bytes[at..]) {
-            Err(error) => return Err(WriteFault::Device(error)),
-            Ok(0) => return Err(WriteFault::Stalled),
-            Ok(taken) => at += taken,
-        }
-    }
-    Ok(())
-}
-
 /// Writes what was gathered.
-fn flush<W: Write, C: FailureCounter<W>>(
+fn flush<W: Write, C: WriteCounter<W>>(
     out: &mut W,
     counter: &mut C,
     gathered: &mut Gathered,
@@ -53,17 +28,18 @@ fn flush<W: Write, C: FailureCounter<W>>(
     ensures empty { OnOk result (gathered.new.items ≡ []) }
     ensures prefix { OnErr result (AppendsPrefix (W.contents out.old) (W.contents out.new)
         gathered.old.items) }
-    ensures ok { OnOk result (C.failures counter.new out.new ≡ C.failures counter.old out.old) }
-    ensures failed { IfErr result (λ fault. C.failures counter.new out.new
-        ≡ failures_with fault (C.failures counter.old out.old)) }
+    ensures ok { OnOk result (NoneFailed (C.counts counter.old out.old)
+        (C.counts counter.new out.new)) }
+    ensures failed { IfErr result (λ fault. OneFailed fault (C.counts counter.old out.old)
+        (C.counts counter.new out.new)) }
 {
-    send(out, counter, gathered.as_slice())?;
+    write_all_of(out, counter, gathered.as_slice())?;
     gathered.clear();
     Ok(())
 }
 
 /// Gathers these bytes, and writes what was gathered before where there is no room for them.
-fn gather<W: Write, C: FailureCounter<W>>(
+fn gather<W: Write, C: WriteCounter<W>>(
     out: &mut W,
     counter: &mut C,
     gathered: &mut Gathered,
@@ -74,9 +50,10 @@ fn gather<W: Write, C: FailureCounter<W>>(
         × (sent ++ gathered.new.items ≡ gathered.old.items ++ bytes.now)) }
     ensures prefix { OnErr result (AppendsPrefix (W.contents out.old) (W.contents out.new)
         (gathered.old.items ++ bytes.now)) }
-    ensures ok { OnOk result (C.failures counter.new out.new ≡ C.failures counter.old out.old) }
-    ensures failed { IfErr result (λ fault. C.failures counter.new out.new
-        ≡ failures_with fault (C.failures counter.old out.old)) }
+    ensures ok { OnOk result (NoneFailed (C.counts counter.old out.old)
+        (C.counts counter.new out.new)) }
+    ensures failed { IfErr result (λ fault. OneFailed fault (C.counts counter.old out.old)
+        (C.counts counter.new out.new)) }
 {
     if gathered.try_extend_from_slice(bytes).is_ok() {
         return Ok(());
@@ -85,22 +62,23 @@ fn gather<W: Write, C: FailureCounter<W>>(
     if gathered.try_extend_from_slice(bytes).is_ok() {
         return Ok(());
     }
-    send(out, counter, bytes)
+    write_all_of(out, counter, bytes)
 }
 
 /// A writer of text in front of a writer of bytes, which is not called again once it failed.
-struct Stream<'w, W: Write, C: FailureCounter<W>> {
+struct Stream<'w, W: Write, C: WriteCounter<W>> {
     out: &'w mut W,
     counter: &'w mut C,
     gathered: Gathered,
     fault: Option<WriteFault>,
 }
 
-impl<W: Write, C: FailureCounter<W>> TextWriter for Stream<'_, W, C> {
+impl<W: Write, C: WriteCounter<W>> TextWriter for Stream<'_, W, C> {
     ghost use Rattle.std.specs.Prelude.{◌≡◌};
-    ghost use Rattle.ps_linkfile.specs.Adding.{IsNoted, IsSent};
+    ghost use Rattle.ps_linkfile.specs.Adding.{IsCounted, IsSent};
+    ghost use Rattle.ps_linkfile.specs.Counts.{failures_in};
 
-    ghost added = { λ first text now. (now.out.ghost_name ≡ first.out.ghost_name) × (now.counter.ghost_name ≡ first.counter.ghost_name) × IsSent (W.contents first.out.now) text (W.contents now.out.now) now.gathered.items now.fault × IsNoted (C.failures first.counter.now first.out.now) (C.failures now.counter.now now.out.now) now.fault };
+    ghost added = { λ first text now. (now.out.ghost_name ≡ first.out.ghost_name) × (now.counter.ghost_name ≡ first.counter.ghost_name) × IsSent (W.contents first.out.now) text (W.contents now.out.now) now.gathered.items now.fault × IsCounted (failures_in (C.counts first.counter.now first.out.now)) (failures_in (C.counts now.counter.now now.out.now)) now.fault };
 
     fn add(&mut self, bytes: &[u8]) {
         if self.fault.is_some() {
@@ -117,8 +95,15 @@ impl<W: Write, C: FailureCounter<W>> TextWriter for Stream<'_, W, C> {
     }
 }
 
-/// Writes the text in pieces, and counts the write that fails.
-fn write_counted<W: Write, C: FailureCounter<W>, T: Text>(
+/// Writes the text, in pieces of at most 16384 bytes, by writes that `counter` makes and counts. It
+/// takes no memory.
+///
+/// After Ok no write failed. Refuses `Device` where a write returned an error, which is not
+/// repeated: that was one write, and none stalled. Refuses `Stalled` where a write of at least one
+/// byte took none: that was one write, and none returned an error. The writer then has a prefix of
+/// the text.
+/// Source: this project's profile.
+pub fn write_text<W: Write, C: WriteCounter<W>, T: Text>(
     text: &T,
     out: &mut W,
     counter: &mut C,
@@ -127,9 +112,10 @@ fn write_counted<W: Write, C: FailureCounter<W>, T: Text>(
         (T.bytes text.now)) }
     ensures prefix { OnErr result (AppendsPrefix (W.contents out.old) (W.contents out.new)
         (T.bytes text.now)) }
-    ensures ok { OnOk result (C.failures counter.new out.new ≡ C.failures counter.old out.old) }
-    ensures failed { IfErr result (λ fault. C.failures counter.new out.new
-        ≡ failures_with fault (C.failures counter.old out.old)) }
+    ensures ok { OnOk result (NoneFailed (C.counts counter.old out.old)
+        (C.counts counter.new out.new)) }
+    ensures failed { IfErr result (λ fault. OneFailed fault (C.counts counter.old out.old)
+        (C.counts counter.new out.new)) }
 {
     let mut stream = Stream {
         out,
@@ -148,35 +134,4 @@ fn write_counted<W: Write, C: FailureCounter<W>, T: Text>(
         Some(fault) => Err(fault),
         None => flush(out, counter, &mut gathered),
     }
-}
-
-/// Writes the text, in pieces of at most 16384 bytes. It takes no memory.
-///
-/// Refused where the writer failed, which is not called again, and then has a prefix of the text.
-/// Source: this project's profile.
-pub fn write_text<W: Write, T: Text>(text: &T, out: &mut W) -> Result<(), WriteFault>
-    ensures all { OnOk result (Appends (W.contents out.old) (W.contents out.new)
-        (T.bytes text.now)) }
-    ensures prefix { OnErr result (AppendsPrefix (W.contents out.old) (W.contents out.new)
-        (T.bytes text.now)) }
-{
-    write_counted(text, out, &mut Failures::new())
-}
-
-/// Writes the text as `write_text` does, by calls of `noted_write` alone.
-///
-/// After Ok none of them failed. Refuses `Device` where a write returned an error: that was one
-/// write, and none stalled. Refuses `Stalled` where a write of at least one byte took none: that
-/// was one write, and none returned an error. The writer then has a prefix of the text.
-/// Source: this project's profile.
-pub fn write_text_noted<W: NotedWriter, T: Text>(text: &T, out: &mut W) -> Result<(), WriteFault>
-    ensures all { OnOk result (Appends (W.contents out.old) (W.contents out.new)
-        (T.bytes text.now)) }
-    ensures prefix { OnErr result (AppendsPrefix (W.contents out.old) (W.contents out.new)
-        (T.bytes text.now)) }
-    ensures ok { OnOk result (W.failures out.new ≡ W.failures out.old) }
-    ensures failed { IfErr result (λ fault. W.failures out.new
-        ≡ failures_with fault (W.failures out.old)) }
-{
-    write_counted(text, out, &mut ByNotes)
 }

@@ -2,14 +2,15 @@ ghost use Rattle.std.specs.Prelude.{◌≡◌, length};
 ghost use Rattle.std.specs.Io.{WritesAtMost};
 ghost use Rattle.std.specs.Io.KnownBytes.{WriteAppends, Keeps};
 ghost use Rattle.ps_linkfile.specs.declared.counts.Counts.{Counts};
-ghost use Rattle.ps_linkfile.specs.Counts.{counts_after, no_counts, CanCount};
+ghost use Rattle.ps_linkfile.specs.Counts.{counts_after, no_counts};
 
 use crate::counts::Counts;
 use crate::write_counter::WriteCounter;
 use std::io;
 use std::io::Write;
 
-/// A writer that counts the writes made by `told_write`, and reports the counts.
+/// A writer that counts the writes made by `told_write`, and reports the counts. A count that has
+/// reached `u64::MAX` stays.
 ///
 /// Source: this project's profile.
 pub trait ToldWriter: Write {
@@ -35,10 +36,8 @@ pub trait ToldWriter: Write {
 
     /// Writes `bytes` as `write` does, and counts the write by what it returns.
     ///
-    /// Each count is below `u64::MAX` before. Returns how many of the bytes, from the first on,
-    /// were taken, or the error of the write.
+    /// Returns how many of the bytes, from the first on, were taken, or the error of the write.
     fn told_write(&mut self, bytes: &[u8]) -> io::Result<usize>
-        requires { CanCount (counts self.old) 1 }
         ensures bound { WritesAtMost result bytes.now }
         ensures bytes { WriteAppends (Self.contents self.old) (Self.contents self.new) result
             bytes.now }

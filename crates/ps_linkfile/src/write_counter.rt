@@ -2,7 +2,7 @@ ghost use Rattle.std.specs.Prelude.{◌≡◌, length};
 ghost use Rattle.std.specs.Io.{WritesAtMost};
 ghost use Rattle.std.specs.Io.KnownBytes.{WriteAppends};
 ghost use Rattle.ps_linkfile.specs.declared.counts.Counts.{Counts};
-ghost use Rattle.ps_linkfile.specs.Counts.{counts_after, CanCount};
+ghost use Rattle.ps_linkfile.specs.Counts.{counts_after};
 
 use crate::counts::Counts;
 use crate::told::ToldWriter;
@@ -11,13 +11,16 @@ use std::io::Write;
 
 /// Writes to a writer and keeps its counts: `Counts`, beside any writer, or `ByWriter`, where
 /// the writer counts by itself.
-pub(crate) trait WriteCounter<W: Write> {
+///
+/// Source: this project's profile.
+pub trait WriteCounter<W: Write> {
     /// The counts of the writer.
     ghost counts: { Self → W → Counts };
 
-    /// Makes one write of these bytes, and counts it.
+    /// Makes one write of these bytes, and counts it by what it returns.
+    ///
+    /// Returns how many of the bytes, from the first on, were taken, or the error of the write.
     fn write(&mut self, out: &mut W, bytes: &[u8]) -> io::Result<usize>
-        requires { CanCount (counts self.old out.old) 1 }
         ensures bound { WritesAtMost result bytes.now }
         ensures bytes { WriteAppends (W.contents out.old) (W.contents out.new) result bytes.now }
         ensures counts { counts self.new out.new
@@ -35,8 +38,10 @@ impl<W: Write> WriteCounter<W> for Counts {
 }
 
 /// The counter of a writer that counts by itself.
+///
+/// Source: this project's profile.
 #[derive(Clone, Copy)]
-pub(crate) struct ByWriter;
+pub struct ByWriter;
 
 impl<W: ToldWriter> WriteCounter<W> for ByWriter {
     ghost counts = { λ counter out. W.counts out };

@@ -1,4 +1,4 @@
-ghost use Rattle.std.specs.Prelude.{◌*◌, length, min, IfErr, OnOk, OnErr};
+ghost use Rattle.std.specs.Prelude.{◌*◌, ◌≤◌, length, min, IfErr, OnOk, OnErr};
 ghost use Rattle.std.specs.Io.KnownBytes.{Appends};
 ghost use Rattle.ps_words.specs.Edits.{AreEdits};
 ghost use Rattle.ps_words.specs.Words.{blocks};
@@ -6,8 +6,9 @@ ghost use Rattle.ps_codefile.specs.Dictionary.{block_len};
 ghost use Rattle.ps_linkfile.specs.LinkedFile.{all_blocks, padded_code};
 ghost use Rattle.ps_linkfile.specs.Writing.{file_in, padded_codes, summary_in, HaveEdits, IsReady};
 ghost use Rattle.ps_linkfile.specs.Outcomes.{AppendsPrefix};
-ghost use Rattle.ps_linkfile.specs.Counts.{AreAtMost, CanCount, NoneFailed, OneFailed, Rises};
+ghost use Rattle.ps_linkfile.specs.Counts.{NoneFailed, OneFailed, Rises};
 
+use crate::block_layout::MAX_FILE_BLOCKS;
 use crate::dictionary::dictionary_of;
 use crate::error::WriteFault;
 use crate::write_counter::WriteCounter;
@@ -23,7 +24,6 @@ pub(crate) fn write_all_of<W: Write, T: WriteCounter<W>>(
     counter: &mut T,
     bytes: &[u8],
 ) -> Result<(), WriteFault>
-    requires { CanCount (T.counts counter.old out.old) (length bytes.now) }
     ensures all { OnOk result (Appends (W.contents out.old) (W.contents out.new) bytes.now) }
     ensures prefix { OnErr result (AppendsPrefix (W.contents out.old) (W.contents out.new)
         bytes.now) }
@@ -53,8 +53,7 @@ fn write_code<W: Write, T: WriteCounter<W>>(
     out: &mut W,
     counter: &mut T,
 ) -> Result<(), WriteFault>
-    requires edits { AreEdits (length code.now) edits.now }
-    requires room { CanCount (T.counts counter.old out.old) (block_len * blocks (length code.now)) }
+    requires { AreEdits (length code.now) edits.now }
     ensures all { OnOk result (Appends (W.contents out.old) (W.contents out.new)
         (padded_code order code.now edits.now)) }
     ensures prefix { OnErr result (AppendsPrefix (W.contents out.old) (W.contents out.new)
@@ -80,9 +79,7 @@ fn write_codes<A: Allocator + Copy, W: Write, T: WriteCounter<W>>(
     out: &mut W,
     counter: &mut T,
 ) -> Result<(), WriteFault>
-    requires edits { HaveEdits plan.now.origins plan.now.edits }
-    requires room { CanCount (T.counts counter.old out.old)
-        (block_len * all_blocks plan.now.origins) }
+    requires { HaveEdits plan.now.origins plan.now.edits }
     ensures all { OnOk result (Appends (W.contents out.old) (W.contents out.new)
         (padded_codes plan.now.order plan.now.origins plan.now.edits)) }
     ensures prefix { OnErr result (AppendsPrefix (W.contents out.old) (W.contents out.new)
@@ -106,14 +103,14 @@ pub(crate) fn write_file<A: Allocator + Copy, W: Write, T: WriteCounter<W>>(
     out: &mut W,
     counter: &mut T,
 ) -> Result<(), WriteFault>
-    requires ready { IsReady plan.now }
-    requires counts { AreAtMost (T.counts counter.old out.old) 4294967296 }
+    requires { IsReady plan.now }
     ensures all { OnOk result (Appends (W.contents out.old) (W.contents out.new)
         (file_in plan.now)) }
     ensures prefix { OnErr result (AppendsPrefix (W.contents out.old) (W.contents out.new)
         (file_in plan.now)) }
     ensures writes { Rises (T.counts counter.old out.old) (T.counts counter.new out.new)
         (length (file_in plan.now)) (summary_in plan.now).blocks }
+    ensures few { length (file_in plan.now) ≤ block_len * MAX_FILE_BLOCKS }
     ensures ok { OnOk result (NoneFailed (T.counts counter.old out.old)
         (T.counts counter.new out.new)) }
     ensures failed { IfErr result (λ fault. OneFailed fault (T.counts counter.old out.old)

@@ -1,7 +1,8 @@
 //! What a file has, as JSON.
-ghost use Rattle.std.specs.Prelude.{◌≡◌, OnOk, OnErr};
+ghost use Rattle.std.specs.Prelude.{◌≡◌, IfErr, OnOk, OnErr};
 ghost use Rattle.std.specs.Io.KnownBytes.{Appends};
 ghost use Rattle.ps_linkfile.specs.Adding.{Adds};
+ghost use Rattle.ps_linkfile.specs.Counts.{NoneFailed, OneFailed};
 ghost use Rattle.ps_linkfile.specs.Outcomes.{AppendsPrefix};
 ghost use Rattle.ps_listing.specs.ListJson.{file_members, item_of, list_json_of, opened_members, order_member, path_member, phrase_member, purpose_member, segment_items, unopened_members, unread_json_of};
 
@@ -9,15 +10,15 @@ use crate::json::{add_fault, add_text};
 use crate::slots_json::{add_length, add_slots};
 use ps_codefile::Dict;
 use ps_filetype::{CodeFile, open};
-use ps_linkfile::{Text, TextWriter, WriteFault, write_text};
+use ps_linkfile::{Text, TextWriter, WriteCounter, WriteFault, write_text};
 use ps_words::{Order, Reason};
 use std::io::Write;
 
 /// A file, its path and the phrase for what it is.
 #[derive(Drop)]
 struct JsonFile<'a> {
-    path: &'a [u8],
-    phrase: &'a [u8],
+    path: &'a str,
+    phrase: &'a str,
     file: &'a [u8],
 }
 
@@ -40,7 +41,7 @@ impl Text for JsonFile<'_> {
 /// The path of a file that could not be read.
 #[derive(Drop)]
 struct UnreadFile<'a> {
-    path: &'a [u8],
+    path: &'a str,
 }
 
 impl Text for UnreadFile<'_> {
@@ -54,7 +55,7 @@ impl Text for UnreadFile<'_> {
 }
 
 /// Adds the item of a file that could not be read.
-fn add_unread<S: TextWriter>(text: &mut S, path: &[u8])
+fn add_unread<S: TextWriter>(text: &mut S, path: &str)
     ensures { Adds S.added text.old (unread_json_of path.now) text.new }
 {
     add_path(text, path);
@@ -64,29 +65,29 @@ fn add_unread<S: TextWriter>(text: &mut S, path: &[u8])
 }
 
 /// Adds what an item begins with: the path.
-fn add_path<S: TextWriter>(text: &mut S, path: &[u8])
+fn add_path<S: TextWriter>(text: &mut S, path: &str)
     ensures { Adds S.added text.old (path_member path.now) text.new }
 {
     text.add(b"{\"path\":\"");
-    add_text(text, path);
+    add_text(text, path.as_bytes());
     text.add(b"\"");
 }
 
 /// Adds what a file is, or `null` where that is not said.
-fn add_phrase<S: TextWriter>(text: &mut S, phrase: &[u8])
+fn add_phrase<S: TextWriter>(text: &mut S, phrase: &str)
     ensures { Adds S.added text.old (phrase_member phrase.now) text.new }
 {
     if phrase.is_empty() {
         text.add(b",\"type\":null");
     } else {
         text.add(b",\"type\":\"");
-        add_text(text, phrase);
+        add_text(text, phrase.as_bytes());
         text.add(b"\"");
     }
 }
 
 /// Adds what the item of a file of so many bytes begins with.
-fn add_head<S: TextWriter>(text: &mut S, path: &[u8], phrase: &[u8], size: usize)
+fn add_head<S: TextWriter>(text: &mut S, path: &str, phrase: &str, size: usize)
     ensures { Adds S.added text.old (file_members path.now phrase.now size) text.new }
 {
     add_path(text, path);
@@ -138,7 +139,7 @@ fn add_unopened<S: TextWriter>(text: &mut S, reason: Reason)
 
 /// Adds the items of the segments, of a file of which the phrase does not say that it is something
 /// else.
-fn add_segments<S: TextWriter>(text: &mut S, phrase: &[u8], dict: &Dict)
+fn add_segments<S: TextWriter>(text: &mut S, phrase: &str, dict: &Dict)
     ensures { Adds S.added text.old (segment_items phrase.now dict.now.order dict.now.file)
         text.new }
 {
@@ -152,8 +153,8 @@ fn add_segments<S: TextWriter>(text: &mut S, phrase: &[u8], dict: &Dict)
 /// Adds the item of a file of so many bytes that was opened, or was not.
 fn add_item<S: TextWriter>(
     text: &mut S,
-    path: &[u8],
-    phrase: &[u8],
+    path: &str,
+    phrase: &str,
     size: usize,
     opened: Result<Dict, Reason>,
 )
@@ -170,69 +171,57 @@ fn add_item<S: TextWriter>(
     }
 }
 
-/// Writes what `write_list` writes of a file as one JSON object, in pieces: the values of its
-/// lines, of each name the eight characters and all its bytes in hexadecimal digits, and the path
-/// with each of its bytes. It begins and ends without a line end, and is an item of the list of a
-/// document. It takes no memory.
+/// Writes what `write_list` writes of a file as one JSON object: the values of its lines, of each
+/// name the eight characters and all its bytes in hexadecimal digits, and the path with each of its
+/// bytes. It begins and ends without a line end, and is an item of the list of a document. It is
+/// written in pieces, and takes no memory.
 ///
 /// `file` is a whole file, of any contents, and `phrase` says what it is, as [`phrase`] does.
-/// Refused where the writer failed, which is not called again, and then has a prefix of the text.
+/// Refused where `write_list` is. The writer then has a prefix of the text.
 /// Source: UCSD Pascal II.0 manual, code file format; RFC 8259; the object is this project's
 /// profile.
 ///
 /// [`phrase`]: crate::phrase
-pub fn write_list_json<W: Write>(
+pub fn write_list_json<W: Write, C: WriteCounter<W>>(
     path: &str,
     phrase: &str,
     file: &[u8],
     out: &mut W,
+    counter: &mut C,
 ) -> Result<(), WriteFault>
     ensures written { OnOk result (Appends (W.contents out.old) (W.contents out.new)
         (list_json_of path.now phrase.now file.now)) }
     ensures prefix { OnErr result (AppendsPrefix (W.contents out.old) (W.contents out.new)
         (list_json_of path.now phrase.now file.now)) }
-{
-    write_item(path.as_bytes(), phrase.as_bytes(), file, out)
-}
-
-/// Writes the object of a file at this path, with this phrase.
-fn write_item<W: Write>(
-    path: &[u8],
-    phrase: &[u8],
-    file: &[u8],
-    out: &mut W,
-) -> Result<(), WriteFault>
-    ensures written { OnOk result (Appends (W.contents out.old) (W.contents out.new)
-        (list_json_of path.now phrase.now file.now)) }
-    ensures prefix { OnErr result (AppendsPrefix (W.contents out.old) (W.contents out.new)
-        (list_json_of path.now phrase.now file.now)) }
+    ensures ok { OnOk result (NoneFailed (C.counts counter.old out.old)
+        (C.counts counter.new out.new)) }
+    ensures failed { IfErr result (λ fault. OneFailed fault (C.counts counter.old out.old)
+        (C.counts counter.new out.new)) }
 {
     let item = JsonFile { path, phrase, file };
-    write_text(&item, out)
+    write_text(&item, out, counter)
 }
 
 /// Writes the object of the file at a path at which nothing could be read, as `write_list_json`
 /// does of one that was: all its members but the path are `null`, and it has no segments. It takes
 /// no memory.
 ///
-/// Refused where the writer failed, which is not called again, and then has a prefix of the text.
+/// Refused where `write_list` is. The writer then has a prefix of the text.
 /// Source: RFC 8259; the object is this project's profile.
-pub fn write_unread_json<W: Write>(path: &str, out: &mut W) -> Result<(), WriteFault>
+pub fn write_unread_json<W: Write, C: WriteCounter<W>>(
+    path: &str,
+    out: &mut W,
+    counter: &mut C,
+) -> Result<(), WriteFault>
     ensures written { OnOk result (Appends (W.contents out.old) (W.contents out.new)
         (unread_json_of path.now)) }
     ensures prefix { OnErr result (AppendsPrefix (W.contents out.old) (W.contents out.new)
         (unread_json_of path.now)) }
-{
-    write_unread(path.as_bytes(), out)
-}
-
-/// Writes the object of a file at this path, which could not be read.
-fn write_unread<W: Write>(path: &[u8], out: &mut W) -> Result<(), WriteFault>
-    ensures written { OnOk result (Appends (W.contents out.old) (W.contents out.new)
-        (unread_json_of path.now)) }
-    ensures prefix { OnErr result (AppendsPrefix (W.contents out.old) (W.contents out.new)
-        (unread_json_of path.now)) }
+    ensures ok { OnOk result (NoneFailed (C.counts counter.old out.old)
+        (C.counts counter.new out.new)) }
+    ensures failed { IfErr result (λ fault. OneFailed fault (C.counts counter.old out.old)
+        (C.counts counter.new out.new)) }
 {
     let item = UnreadFile { path };
-    write_text(&item, out)
+    write_text(&item, out, counter)
 }

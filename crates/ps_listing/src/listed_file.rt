@@ -1,7 +1,8 @@
 //! The list of a file.
-ghost use Rattle.std.specs.Prelude.{◌≡◌, OnOk, OnErr};
+ghost use Rattle.std.specs.Prelude.{◌≡◌, IfErr, OnOk, OnErr};
 ghost use Rattle.std.specs.Io.KnownBytes.{Appends};
 ghost use Rattle.ps_linkfile.specs.Adding.{Adds};
+ghost use Rattle.ps_linkfile.specs.Counts.{NoneFailed, OneFailed};
 ghost use Rattle.ps_linkfile.specs.Outcomes.{AppendsPrefix};
 ghost use Rattle.ps_listing.specs.ListText.{file_line, is_refused as is_refused_spec, is_refused_as as is_refused_as_spec, lines_of, list_of, slot_lines};
 
@@ -9,7 +10,7 @@ use crate::slots::{add_slots, has_refused};
 use crate::words::{add_order, add_path, add_phrase, add_purpose, add_refusal, add_size};
 use ps_codefile::Dict;
 use ps_filetype::{CodeFile, open};
-use ps_linkfile::{Text, TextWriter, WriteFault, add_number, write_text};
+use ps_linkfile::{Text, TextWriter, WriteCounter, WriteFault, add_number, write_text};
 use ps_words::Reason;
 use std::io::Write;
 
@@ -100,24 +101,30 @@ fn add_file<S: TextWriter>(text: &mut S, path: &str, phrase: &str, size: usize, 
 /// refused ends with the number and the name of its first fault, and with the index of the record.
 /// A file that is no code file has one line.
 ///
-/// Refused where the writer failed, which is not called again, and then has a prefix of the text.
-/// It takes no memory. Source: UCSD Pascal II.0 manual, code file format; the text is this project's
-/// profile.
+/// It is written in pieces, by writes that `counter` makes and counts, and takes no memory. After
+/// Ok no write failed. Refused where a write failed, in the way that the fault says: that was one
+/// write, which is not repeated. The writer then has a prefix of the text. Source: UCSD Pascal II.0
+/// manual, code file format; the text is this project's profile.
 ///
 /// [`phrase`]: crate::phrase
-pub fn write_list<W: Write>(
+pub fn write_list<W: Write, C: WriteCounter<W>>(
     path: &str,
     phrase: &str,
     file: &[u8],
     out: &mut W,
+    counter: &mut C,
 ) -> Result<(), WriteFault>
     ensures written { OnOk result (Appends (W.contents out.old) (W.contents out.new)
         (list_of path.now phrase.now file.now)) }
     ensures prefix { OnErr result (AppendsPrefix (W.contents out.old) (W.contents out.new)
         (list_of path.now phrase.now file.now)) }
+    ensures ok { OnOk result (NoneFailed (C.counts counter.old out.old)
+        (C.counts counter.new out.new)) }
+    ensures failed { IfErr result (λ fault. OneFailed fault (C.counts counter.old out.old)
+        (C.counts counter.new out.new)) }
 {
     let listed = ListedFile { path, phrase, file };
-    write_text(&listed, out)
+    write_text(&listed, out, counter)
 }
 
 /// A file that was opened, or was not, is refused.

@@ -8,6 +8,7 @@ ghost use Rattle.ps_report.specs.Lists.{AreLists, has_host as has_host_spec, has
 use crate::verdict::Verdict;
 use ps_codefile::Dict;
 use ps_filetype::{CodeFile, open};
+use ps_linkfile::Counts;
 use ps_words::Reason;
 use std::alloc::{AllocError, Allocator};
 
@@ -87,7 +88,7 @@ fn add_list<A: Allocator + Copy>(
         × (text.new.items ≡ text.old.items ++ list_of path.now phrase file.now)) }
 {
     let phrase = ps_listing::phrase(alloc, file)?;
-    match ps_listing::write_list(path, phrase.as_str(), file, text) {
+    match ps_listing::write_list(path, phrase.as_str(), file, text, &mut Counts::new()) {
         Ok(()) => Ok(()),
         Err(_) => Err(AllocError),
     }

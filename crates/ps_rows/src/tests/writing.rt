@@ -8,8 +8,8 @@ use super::writers::Full::{Fails, Stalls};
 use super::writers::{Counts, Full, Room, Writer};
 use crate::code_file::CodeFile;
 use ps_linkfile::{
-    Counting, LinkError, Linked, NotedWriter, Noting, Summary, ToldWriter, WriteFault, link,
-    prepare, write_show, write_show_noted,
+    ByWriter, Counting, LinkError, Linked, Summary, ToldWriter, WriteFault, link, prepare,
+    write_show,
 };
 use refusing::Refusing;
 use std::alloc::{AllocError, Global};
@@ -37,7 +37,7 @@ impl<'a> Writing for Linked<'a> {
 
 impl<'a> Writing for Show<'a> {
     fn write<W: Write>(&self, _alloc: Global, out: &mut W) -> Result<Option<Summary>, LinkError> {
-        write_show(self.file, out)?;
+        write_show(self.file, out, &mut ps_linkfile::Counts::new())?;
         Ok(None)
     }
 }
@@ -52,7 +52,7 @@ impl<'a> Writing for Map<'a> {
 }
 
 fn writes_map<W: Write>(linked: &Linked<'_>, out: &mut W) -> Result<Option<Summary>, LinkError> {
-    linked.write_map(out)?;
+    linked.write_map(out, &mut ps_linkfile::Counts::new())?;
     Ok(None)
 }
 
@@ -356,27 +356,27 @@ static FAILURES: [(usize, Full, (u64, u64)); 4] = [
 
 /// Checks what was counted where a text was written, or was not. A flush is handed on, and is not
 /// counted.
-fn has_counted(rt: &impl Abort, is_written: bool, out: Noting<Room>, wanted: (u64, u64)) {
+fn has_counted(rt: &impl Abort, is_written: bool, out: Counting<Room>, wanted: (u64, u64)) {
     let mut out = out;
     assert!(rt; out.flush().is_err());
-    let failures = out.failures();
+    let failures = (out.errors(), out.stalls());
     let inner = out.into_inner();
     let [_, errors, stalls, _] = inner.counts();
     assert!(rt; inner.flushes == 1);
     assert!(rt; is_written == (wanted == (0, 0)), "{wanted:?}");
-    assert!(rt; (failures.errors, failures.stalls) == wanted, "{wanted:?}");
+    assert!(rt; failures == wanted, "{wanted:?}");
     assert!(rt; (errors, stalls) == wanted, "{wanted:?}");
 }
 
-/// Writes a map to a writer that counts its failures.
+/// Writes a map to a writer that counts.
 fn counts_of_a_map(
     rt: &(impl Abort + AllocGlobal),
     linked: &Linked<'_>,
     writer: Writer,
     wanted: (u64, u64),
 ) {
-    let mut out = Noting::new(Room::new(rt.alloc(), writer).expect(rt, "no memory"));
-    let is_written = linked.write_map_noted(&mut out).is_ok();
+    let mut out = Counting::new(Room::new(rt.alloc(), writer).expect(rt, "no memory"));
+    let is_written = linked.write_map(&mut out, &mut ByWriter).is_ok();
     has_counted(rt, is_written, out, wanted)
 }
 
@@ -387,8 +387,8 @@ fn counts_of_a_show(
     writer: Writer,
     wanted: (u64, u64),
 ) {
-    let mut out = Noting::new(Room::new(rt.alloc(), writer).expect(rt, "no memory"));
-    let is_written = write_show_noted(file, &mut out).is_ok();
+    let mut out = Counting::new(Room::new(rt.alloc(), writer).expect(rt, "no memory"));
+    let is_written = write_show(file, &mut out, &mut ByWriter).is_ok();
     has_counted(rt, is_written, out, wanted)
 }
 

@@ -12,13 +12,13 @@ returns-clause-sent g c =
     let same : c.try_extend_from_slice.new.self.items ≡ c.args.gathered.now.items =
     search rules in
     let none : c.try_extend_from_slice-2.new.self.items ≡ [] = search rules in
-    on_ok_weaker c.send.result (sends_both
+    on_ok_weaker c.write_all_of.result (sends_both
     _ _ _ c.args.gathered.now.items c.args.bytes.now c.try_extend_from_slice-2.new.self.items
-    (rw same at c.in_ok-flush.ensures.bytes) none) c.send.ensures.all
+    (rw same at c.in_ok-flush.ensures.bytes) none) c.write_all_of.ensures.all
 
 pub returns-clause-prefix : goal.returns-clause-prefix
 returns-clause-prefix g c =
     let same : c.try_extend_from_slice.new.self.items ≡ c.args.gathered.now.items =
     search rules in
-    on_err_weaker c.send.result (prefix_last _ _ _ c.args.gathered.now.items c.args.bytes.now
-    (rw same at c.in_ok-flush.ensures.bytes)) c.send.ensures.prefix
+    on_err_weaker c.write_all_of.result (prefix_last _ _ _ c.args.gathered.now.items
+    c.args.bytes.now (rw same at c.in_ok-flush.ensures.bytes)) c.write_all_of.ensures.prefix

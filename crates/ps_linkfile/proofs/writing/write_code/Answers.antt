@@ -3,7 +3,7 @@ use Rattle.std.proofs.Common.{length, map, ap, refl, sym, arith}
 use Rattle.ps_linkfile.proofs.Words.{min, range_with_len, blocks, patched_or_zero}
 use Rattle.ps_linkfile.proofs.Prefixes.{appends_twice, image_is, image_split, prefix_more}
 use Rattle.ps_linkfile.proofs.Prefixes.{on_err_always}
-use Rattle.ps_linkfile.proofs.Rising.{none_after, rises_then}
+use Rattle.ps_linkfile.proofs.Rising.{rises_then}
 use Rattle.ps_linkfile.proofs.writing.write_code.Goals as goal
 
 pub loop-patcher-preserved : goal.loop-patcher-preserved
@@ -29,7 +29,7 @@ loop-patcher-preserved g c =
         rises = rises_then _ _ _ (512 * at) at (length c.fill.new.block)
             (min 1 (length c.fill.new.block)) (512 * (at + 1))
             (at + 1) inv.rises c.write_all_of.ensures.writes (omega arith) (omega arith);
-        none = none_after _ _ _ inv.none c.in_ok-write_all_of.ensures.ok;
+        none = c.in_ok-write_all_of.ensures.ok ∙ inv.none;
       },
     )
 

@@ -1,17 +1,16 @@
 use Rattle.std.proofs.Common.{arith}
-use Rattle.ps_linkfile.proofs.Words.{drop_all, length-map, err_from_is_err_and}
+use Rattle.ps_linkfile.proofs.Words.{drop_all, length-map}
 use Rattle.ps_linkfile.proofs.Prefixes.{appends_none, on_err_always}
 use Rattle.ps_linkfile.proofs.Codes.{edits_here, codes_more, codes_prefix}
 use Rattle.ps_linkfile.proofs.Views.{no_source, is_at}
-use Rattle.ps_linkfile.proofs.Rising.{blocks_done, blocks_more, blocks_none, blocks_room}
-use Rattle.ps_linkfile.proofs.Rising.{blocks_stop, one_after}
+use Rattle.ps_linkfile.proofs.Rising.{blocks_done, blocks_more, blocks_none, blocks_stop}
 use Rattle.ps_linkfile.proofs.writing.write_codes.Goals as goal
 
 pub loop-k-init : goal.loop-k-init
 loop-k-init g c = grind (arith, appends_none, blocks_none)
 
-pub write_code-requires-clause-edits : goal.write_code-requires-clause-edits
-write_code-requires-clause-edits g c = grind (arith, no_source, is_at, edits_here)
+pub write_code-requires : goal.write_code-requires
+write_code-requires g c = grind (arith, no_source, is_at, edits_here)
 
 pub returns-in_err-write_code-clause-prefix : goal.returns-in_err-write_code-clause-prefix
 returns-in_err-write_code-clause-prefix g c =
@@ -20,23 +19,11 @@ returns-in_err-write_code-clause-prefix g c =
     on_err_always c.from_residual.result (codes_prefix _ _ _ _ _ _ _ _ _ _ at
     c.loop-k.invariant.codes.1 (rw c.order.ensures at c.in_err-write_code.ensures.prefix))
 
-pub write_code-requires-clause-room : goal.write_code-requires-clause-room
-write_code-requires-clause-room g c =
-    let at =
-    is_at _ _ _ _ _ c.sources-source-items.ensures.origins c.loop-k-test.true c.edits.ensures in
-    blocks_room _ _ _ _ _ _ at.origin c.loop-k.invariant.counts.1 c.requires.room
-
 pub returns-in_err-write_code-clause-writes : goal.returns-in_err-write_code-clause-writes
 returns-in_err-write_code-clause-writes g c =
     let at =
     is_at _ _ _ _ _ c.sources-source-items.ensures.origins c.loop-k-test.true c.edits.ensures in
     blocks_stop _ _ _ _ _ _ _ at.origin c.loop-k.invariant.counts.1 c.write_code.ensures.writes
-
-pub returns-in_err-write_code-clause-failed : goal.returns-in_err-write_code-clause-failed
-returns-in_err-write_code-clause-failed g c =
-    let p = err_from_is_err_and c.from_residual.result c.from_residual.ensures.1 in
-    rw (p.1, p.2) (one_after _ _ _ _ c.loop-k.invariant.counts.1.none
-    c.in_err-write_code.ensures.failed)
 
 pub returns-clause-writes : goal.returns-clause-writes
 returns-clause-writes g c = grind (arith, length-map, blocks_done, drop_all)

@@ -1,6 +1,6 @@
 use Rattle.std.proofs.Common.{arith, ◌≡◌, false, rules}
 use Rattle.std.specs.Prelude.{is_some}
-use Rattle.ps_linkfile.proofs.Sending.{noted_fault, noted_more, sent_more, sent_no_more}
+use Rattle.ps_linkfile.proofs.Sending.{counted_fault, counted_more, sent_more, sent_no_more}
 use Rattle.ps_linkfile.proofs.Sending.{sent_prefix}
 use Rattle.ps_linkfile.proofs.stream.StreamTextWriter.add.Goals as goal
 
@@ -16,9 +16,9 @@ returns-in-Err g c =
         h.1,
         sent_prefix _ _ _ before c.args.self.now.gathered.items c.args.bytes.now
             c.args.self.now.fault none h.2 c.in-Err.ensures.prefix,
-        noted_fault _ _ _ c.args.self.now.fault _ none h.3 c.in-Err.ensures.failed,
+        counted_fault _ _ _ c.args.self.now.fault _ none h.3 c.in-Err.ensures.failed,
       );
     }
 
 pub returns-in-Ok : goal.returns-in-Ok
-returns-in-Ok g c = grind (arith, sent_more, noted_more)
+returns-in-Ok g c = grind (arith, sent_more, counted_more)

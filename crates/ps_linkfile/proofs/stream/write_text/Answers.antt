@@ -3,7 +3,7 @@ use Rattle.ps_linkfile.proofs.Words.{on_err_weaker, on_ok_weaker}
 use Rattle.ps_linkfile.proofs.Prefixes.{appends_none}
 use Rattle.ps_linkfile.proofs.Sending.{sent_all, sent_front}
 use Rattle.ps_linkfile.proofs.Written.{adds_first}
-use Rattle.ps_linkfile.proofs.stream.write_counted.Goals as goal
+use Rattle.ps_linkfile.proofs.stream.write_text.Goals as goal
 
 pub returns-in-Some-clause-prefix : goal.returns-in-Some-clause-prefix
 returns-in-Some-clause-prefix g c = grind (arith, adds_first, appends_none)
