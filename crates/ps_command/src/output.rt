@@ -5,7 +5,7 @@ ghost use Rattle.ps_command.specs.SummaryLine.{summary_line};
 ghost use Rattle.ps_command.specs.declared.error.CommandError.TheVariants.{StandardOutput};
 
 use crate::error::CommandError;
-use ps_linkfile::Summary;
+use ps_linkfile::{Counts, Summary, write_all_of};
 use std::alloc::{AllocError, Allocator};
 use std::fmt::Write as _;
 use std::io::Write;
@@ -16,14 +16,7 @@ pub(crate) fn print<O: Write>(out: &mut O, text: &[u8]) -> Result<(), CommandErr
     ensures ok { OnOk result (Appends (O.contents out.old) (O.contents out.new) text.now) }
     ensures err { IfErr result (λ e. e ≡ StandardOutput) }
 {
-    let mut rest = text;
-    'write: while !rest.is_empty() {
-        match out.write(rest) {
-            Ok(0) | Err(_) => return Err(CommandError::StandardOutput),
-            Ok(n) => rest = &rest[n..],
-        }
-    }
-    Ok(())
+    Ok(write_all_of(out, &mut Counts::new(), text)?)
 }
 
 /// Adds the line of a link to `line`.

@@ -43,3 +43,4 @@ pub use summary::Summary;
 pub use text_writer::{Text, TextWriter};
 pub use told::{Counting, ToldWriter};
 pub use write_counter::{ByWriter, WriteCounter};
+pub use writing::write_all_of;

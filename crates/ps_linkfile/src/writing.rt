@@ -18,8 +18,15 @@ use ps_words::{BLOCK_SIZE, Edit, Order};
 use std::alloc::Allocator;
 use std::io::Write;
 
-/// Writes all bytes, by one write a turn. No write is made again after an error.
-pub(crate) fn write_all_of<W: Write, T: WriteCounter<W>>(
+/// Writes all bytes, by writes that `counter` makes and counts, each of all that are left. It takes
+/// no memory.
+///
+/// After Ok no write failed. Refuses `Device` where a write returned an error, which is not
+/// repeated: that was one write, and none stalled. Refuses `Stalled` where a write of at least one
+/// byte took none: that was one write, and none returned an error. The writer then has a prefix of
+/// the bytes.
+/// Source: this project's profile.
+pub fn write_all_of<W: Write, T: WriteCounter<W>>(
     out: &mut W,
     counter: &mut T,
     bytes: &[u8],

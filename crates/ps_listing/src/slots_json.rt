@@ -188,8 +188,9 @@ fn add_slot<S: TextWriter>(text: &mut S, dict: &Dict, slot: u8, first: bool) -> 
         text.new }
     ensures first { result ≡ is_first_after_slot first dict.now.order dict.now.file slot }
 {
-    add_role_item(text, dict, slot, first, dict.role(slot));
-    is_first_after_slot_of(dict.role(slot), first)
+    let role = dict.role(slot);
+    add_role_item(text, dict, slot, first, role);
+    is_first_after_slot_of(role, first)
 }
 
 /// Adds the item of each slot that has one.

@@ -12,9 +12,9 @@ unfolding slot_item
 returns-clause-item g c =
     let dict = c.args.dict.now in
     adds_is (ap (λ (r : Result Role Reason). role_item
-    c.args.first dict.order dict.file c.args.slot r) c.role.ensures) c.add_role_item.ensures
+    c.args.first dict.order dict.file c.args.slot r) c.role-role.ensures) c.add_role_item.ensures
 
 pub returns-clause-first : goal.returns-clause-first
 unfolding is_first_after_slot
 returns-clause-first g c = c.is_first_after_slot_of.ensures
-    ∙ ap (λ (r : Result Role Reason). is_first_after_role c.args.first r) c.role-2.ensures
+    ∙ ap (λ (r : Result Role Reason). is_first_after_role c.args.first r) c.role-role.ensures
