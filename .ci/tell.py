@@ -69,7 +69,9 @@ def source_of(function):
     if not function:
         return SOURCE
     owner, name = owner_of(function)
-    return inspect.getsource(inspect.getattr_static(owner, name)).removeprefix("    @staticmethod\n")
+    found = inspect.getattr_static(owner, name)
+    # (before Python 3.10 a static method itself has no source)
+    return inspect.getsource(getattr(found, "__func__", found)).removeprefix("    @staticmethod\n")
 
 
 def module_of(source):
