@@ -35,8 +35,9 @@
  * verdict and the line of it, how many of its lines begin as a warning, the lines of the segments
  * where the files are linked, and the list of each file where none is a host, both with the names
  * that are given; and not its other lines. It is proved of the functions that the library exports,
- * whose names end in `_nonnull`, and of pslink_version. The others are inline functions of this
- * header over them, which are tested. What the proof asks of the caller is on this page:
+ * whose names end in `_nonnull`, and of pslink_version and pslink_release_number. The others are
+ * inline functions of this header over them, which are tested. What the proof asks of the caller is
+ * on this page:
  *
  * - A pointer with its length names memory of the caller that is there for the whole call: it may
  *   be read, and for `out` and `answer` also written. A length is at most PTRDIFF_MAX bytes.
@@ -57,7 +58,11 @@
  * Stack: leave a call 64 KB; a link of up to 16 libraries takes about 31, one of more about 50, and a
  * check about 56.
  * Signals: no function is to be called from a signal handler, nor, where the process has threads,
- * in a child between fork and exec. pslink_version is not concerned.
+ * in a child between fork and exec. pslink_version and pslink_release_number are not concerned.
+ *
+ * Versions: each function says since which release it is there. The library's symbols have the node
+ * of that release, so a program does not start with a library that is too old for it. The soname,
+ * libpslink.so.2, has the version of this interface.
  */
 #ifndef PSLINK_H
 #define PSLINK_H
@@ -71,12 +76,14 @@
 extern "C" {
 #endif
 
-/* The version of this interface. What breaks a caller raises it; a function that is added does
-   not. */
-#define PSLINK_VERSION 1
+/* The version of this interface, and of the soname. What breaks a caller raises it; a function that
+   is added does not, nor a field in place of reserved words. */
+#define PSLINK_VERSION 2
 
-/* The release of pslink that this header is of. */
-#define PSLINK_RELEASE "0.1.0"
+/* The release of pslink that this header is of, and the same as a number to compare: 10000 times
+   its first part, 100 times its second, and its third. */
+#define PSLINK_RELEASE "0.2.0"
+#define PSLINK_RELEASE_NUMBER 200u
 
 /*
  * What a function returns, and the field `status`: the statuses of the program pslink. Its status
@@ -84,12 +91,32 @@ extern "C" {
  */
 #define PSLINK_DONE 0u          /* done: `out` begins with the result */
 #define PSLINK_REFUSED 1u       /* the files are refused, for the fault in `answer` */
-#define PSLINK_WRONG_LENGTHS 2u /* `lengths` do not add up to `libs_length`; or the names of a
-                                   check are wrong */
+#define PSLINK_WRONG_LENGTHS 2u /* `lengths` do not add up to `libs_length`, or `name_lengths` to
+                                   `names_length`; or there is not one name for each file */
 #define PSLINK_NO_MEMORY 4u     /* malloc or realloc returned NULL, or the libraries of a function
                                    whose name ends in `_files` have more than PTRDIFF_MAX bytes
                                    together with a size_t for each: no block of memory is as long */
 #define PSLINK_TOO_SMALL 5u     /* `out` is shorter than the result, which has `needed` bytes */
+#define PSLINK_WRONG_NAMES 6u   /* a name of a file is no UTF-8 (since 0.2.0) */
+#define PSLINK_WRONG_TEXT 7u    /* there is no such text, or it has no such form (since 0.2.0) */
+
+/* What pslink_text makes, and in which form. Since 0.2.0. */
+#define PSLINK_TEXT_MAP 0u        /* the map of the link, as pslink_map */
+#define PSLINK_TEXT_REFERENCES 1u /* that map, and then each place at which the link stores bytes,
+                                     as the program's `map --references` */
+#define PSLINK_TEXT_SHOW 2u       /* what the file `host` has, as pslink_show */
+#define PSLINK_TEXT_CHECK 3u      /* the report on the files, as pslink_check; its JSON document has
+                                     the warnings and notes one by one */
+#define PSLINK_TEXT_LIST 4u       /* what each file has, as the program's `list` */
+#define PSLINK_TEXT_UNITS 5u      /* the list of each file, and after it what is wrong with its
+                                     units by themselves, as `check --unit`: PSLINK_LINES alone */
+#define PSLINK_LINES 0u           /* lines of text, each ended by a byte 10 */
+#define PSLINK_JSON 1u            /* one JSON document, as the program's `--json` */
+
+/* Of which units pslink_units has the names. Since 0.2.0. */
+#define PSLINK_UNITS_WANTED 0u /* those that the slots of the host want, and then those that only
+                                  records request */
+#define PSLINK_UNITS_HAD 1u    /* those whose code the file `host` has */
 
 /* How many bytes a linked file has at most: with so much room, no link is PSLINK_TOO_SMALL. */
 #define PSLINK_LINKED_MAX 524800u
@@ -144,8 +171,12 @@ extern "C" {
  * number. Of a link `segments`, `private_words` and `blocks` are set too.
  * Where it is PSLINK_REFUSED: `fault` is the number of the fault, 1 to 35, and `file` the file at
  * fault: 0 is the host (or the file of pslink_show), k the k-th library, from 1. `kind`, `slot`,
- * `record` and `reference` are set where `has_kind`, `has_slot`, `has_record` and `has_reference`
- * are 1. The fault is the first of all that apply; pslink(1) lists them.
+ * `record`, `reference` and `name` are set where `has_kind`, `has_slot`, `has_record`,
+ * `has_reference` and `has_name` are 1. The fault is the first of all that apply; pslink(1) lists
+ * them. `name` is what the fault is about, eight bytes as the files have them: of a fault of a
+ * record that could be read, its name, which is the unit that is requested (13, 35) or the symbol
+ * (24 to 34); of any other fault of a slot, the name of the unit that is wanted or requested there
+ * (14, 15, and 13 without a record), or of the segment. So after 13 `name` is the unit to look for.
  * Where it is PSLINK_TOO_SMALL: `needed` is how many bytes the result has.
  * All other fields are 0.
  */
@@ -166,6 +197,9 @@ typedef struct pslink_answer {
     size_t blocks;          /* how many blocks of 512 bytes it has, at most 1025 */
     size_t written;         /* how many bytes of `out` are the result */
     size_t needed;          /* how many bytes the result has */
+    uint8_t name[8];        /* what the fault is about, without a closing 0 (since 0.2.0) */
+    uint32_t has_name;      /* 1 or 0 (since 0.2.0) */
+    uint32_t reserved[7];   /* 0: room for what a later release adds */
 } pslink_answer;
 
 /*
@@ -187,6 +221,7 @@ typedef struct pslink_check_answer {
     size_t written;        /* how many bytes of `out` are the report */
     size_t needed;         /* how many bytes the report has */
     pslink_answer verdict; /* whether the files are linked, and why not */
+    size_t reserved[4];    /* 0: room for what a later release adds */
 } pslink_check_answer;
 
 /* A file in memory, for the functions whose names end in `_files`. */
@@ -219,13 +254,24 @@ uint32_t pslink_check_nonnull(const void *host, size_t host_length, const void *
                               pslink_check_answer *answer);
 uint32_t pslink_show_nonnull(const void *file, size_t file_length, void *out, size_t out_length,
                              pslink_answer *answer);
+uint32_t pslink_text_nonnull(uint32_t what, uint32_t form, const void *host, size_t host_length,
+                             const void *libs, size_t libs_length, const size_t *lengths,
+                             size_t count, const void *names, size_t names_length,
+                             const size_t *name_lengths, size_t name_count, void *out,
+                             size_t out_length, pslink_answer *answer);
+uint32_t pslink_units_nonnull(uint32_t which, const void *host, size_t host_length,
+                              const void *libs, size_t libs_length, const size_t *lengths,
+                              size_t count, void *out, size_t out_length, pslink_answer *answer);
 size_t pslink_fault_text_nonnull(const pslink_answer *answer, void *out, size_t out_length);
 size_t pslink_fault_name_nonnull(uint8_t fault, void *out, size_t out_length);
 size_t pslink_status_text_nonnull(uint32_t status, void *out, size_t out_length);
 size_t pslink_release_nonnull(void *out, size_t out_length);
 
-/* The version of the library: PSLINK_VERSION of the header that it was built with. */
+/* The version of the library: PSLINK_VERSION of the header that it was built with. Since 0.1.0. */
 uint32_t pslink_version(void);
+
+/* The release of the library: PSLINK_RELEASE_NUMBER of its own header. Since 0.2.0. */
+uint32_t pslink_release_number(void);
 
 /*
  * Links a host file with the units that it uses, taken from libraries, and puts the linked file at
@@ -236,6 +282,8 @@ uint32_t pslink_version(void);
  * `lengths`: the length of each, `count` in number; they add up to `libs_length`. Of the libraries
  * that have a unit, the first is used. A program that uses no unit has `count` 0.
  * `out`: room for the result, of any length.
+ *
+ * Since 0.1.0.
  */
 static inline uint32_t pslink_link(const void *host, size_t host_length, const void *libs,
                                    size_t libs_length, const size_t *lengths, size_t count,
@@ -244,7 +292,7 @@ static inline uint32_t pslink_link(const void *host, size_t host_length, const v
 /*
  * The map of the link of the same files, as ASCII text without a closing 0: what a link puts where.
  * pslink(1) has its lines. Its length is not bounded by a constant: call with `out` NULL and
- * `out_length` 0, and then with `answer.needed` bytes of room.
+ * `out_length` 0, and then with `answer.needed` bytes of room. Since 0.1.0.
  */
 static inline uint32_t pslink_map(const void *host, size_t host_length, const void *libs,
                                   size_t libs_length, const size_t *lengths, size_t count,
@@ -259,8 +307,11 @@ static inline uint32_t pslink_map(const void *host, size_t host_length, const vo
  *
  * `names`: what the report calls the files, UTF-8, one name after another with nothing between, and
  * `name_lengths`: the length of each, that of the host first, `count + 1` in number; they add up to
- * `names_length`. Where they do not, or a name is no UTF-8, the answer is PSLINK_WRONG_LENGTHS.
+ * `names_length`. Where they do not, the answer is PSLINK_WRONG_LENGTHS; where a name is no UTF-8,
+ * PSLINK_WRONG_NAMES (before 0.2.0 that too was PSLINK_WRONG_LENGTHS).
  * `strict`: where it is not 0, a warning too makes `ends_with` 1.
+ *
+ * Since 0.1.0.
  */
 static inline uint32_t pslink_check(const void *host, size_t host_length, const void *libs,
                                     size_t libs_length, const size_t *lengths, size_t count,
@@ -270,33 +321,76 @@ static inline uint32_t pslink_check(const void *host, size_t host_length, const 
 
 /*
  * What a code file has, of any contents, as ASCII text without a closing 0: its slots and the
- * records of its link information. It is refused as 1 ShortFile or 2 NoOrder only.
+ * records of its link information. It is refused as 1 ShortFile or 2 NoOrder only. Since 0.1.0.
  */
 static inline uint32_t pslink_show(const void *file, size_t file_length, void *out,
                                    size_t out_length, pslink_answer *answer);
 
 /*
+ * What the program prints of the same files: the text `what` in this `form`, PSLINK_TEXT_MAP to
+ * PSLINK_TEXT_UNITS, and PSLINK_LINES or PSLINK_JSON. pslink(1) has the lines, docs/JSON.md the
+ * documents. It is text without a closing 0, UTF-8 where names of files are in it. Where there is
+ * no such text, or it has no such form, the answer is PSLINK_WRONG_TEXT. Its length is found as
+ * that of a map.
+ *
+ * A map and its references are refused as a link is, and a show as that of pslink_show. A report, a
+ * list and its units are never PSLINK_REFUSED: what is wrong with the files is in the text.
+ * `names` and `name_lengths`: as those of pslink_check, for a report, a list and its units; of the
+ * others they are not looked at, and may be NULL. A show, a list and its units are of files by
+ * themselves: `host` is the first of them, or the one of a show, in which `libs` have no part.
+ *
+ * Since 0.2.0.
+ */
+static inline uint32_t pslink_text(uint32_t what, uint32_t form, const void *host,
+                                   size_t host_length, const void *libs, size_t libs_length,
+                                   const size_t *lengths, size_t count, const char *names,
+                                   size_t names_length, const size_t *name_lengths, void *out,
+                                   size_t out_length, pslink_answer *answer);
+
+/*
+ * Names of units, eight bytes each, one after another with nothing between: `needed / 8` of them.
+ *
+ * PSLINK_UNITS_WANTED: of the units that a link of these files takes from libraries, or would take
+ * if they had them. First of those that the slots of the host want, by slot; then of those that a
+ * record requests, of the host or of a unit that was found, and that no slot of the host has, each
+ * once, in the order of their requests, ten of them at most. So a program that has libraries
+ * elsewhere calls it again with those of the units that it named, until none is new.
+ * PSLINK_UNITS_HAD: of the units whose code the file `host` has, by slot; `libs` have no part in
+ * it.
+ *
+ * A file that cannot be opened is refused, as 1 ShortFile, 2 NoOrder or, where it has no segment at
+ * all, 4 NoHost; no other fault is looked for. Any other `which` is PSLINK_WRONG_TEXT. Since 0.2.0.
+ */
+static inline uint32_t pslink_units(uint32_t which, const void *host, size_t host_length,
+                                    const void *libs, size_t libs_length, const size_t *lengths,
+                                    size_t count, void *out, size_t out_length,
+                                    pslink_answer *answer);
+
+/*
  * The text of the fault in `answer`, as "refused 13 MissingUnit file 0 slot 7", with a closing 0.
  * Returns how many bytes it takes, the closing 0 counted, at most PSLINK_FAULT_TEXT_MAX. Where
  * `out_length` is less, nothing is written. Returns 0, and writes nothing, where `answer` is of no
- * refusal.
+ * refusal. Since 0.1.0.
  */
 static inline size_t pslink_fault_text(const pslink_answer *answer, char *out, size_t out_length);
 
-/* In the same way the name of the fault of this number, as "MissingUnit"; 0 where there is none. */
+/* In the same way the name of the fault of this number, as "MissingUnit"; 0 where there is none.
+   Since 0.1.0. */
 static inline size_t pslink_fault_name(uint8_t fault, char *out, size_t out_length);
 
-/* In the same way what a status says, as "out of memory"; 0 where no function returns it. */
+/* In the same way what a status says, as "out of memory"; 0 where no function returns it. Since
+   0.1.0. */
 static inline size_t pslink_status_text(uint32_t status, char *out, size_t out_length);
 
-/* In the same way the release of the library, as "0.1.0": PSLINK_RELEASE of its own header. */
+/* In the same way the release of the library, as "0.2.0": PSLINK_RELEASE of its own header. Since
+   0.1.0. */
 static inline size_t pslink_release(char *out, size_t out_length);
 
 /*
- * The same links, maps and reports, of libraries that are anywhere in memory: `libs` has a pointer
- * and a length for each. It copies them one after another into memory of malloc, and frees that
- * again: where it cannot have that memory, the answer is PSLINK_NO_MEMORY, also where the files
- * have a fault.
+ * The same links, maps, reports and texts, of libraries that are anywhere in memory: `libs` has a
+ * pointer and a length for each. It copies them one after another into memory of malloc, and frees
+ * that again: where it cannot have that memory, the answer is PSLINK_NO_MEMORY, also where the
+ * files have a fault. Since 0.1.0, and pslink_text_files since 0.2.0.
  */
 static inline uint32_t pslink_link_files(pslink_file host, const pslink_file *libs, size_t count,
                                          void *out, size_t out_length, pslink_answer *answer);
@@ -305,6 +399,9 @@ static inline uint32_t pslink_map_files(pslink_file host, const pslink_file *lib
 static inline uint32_t pslink_check_files(pslink_named_file host, const pslink_named_file *libs,
                                           size_t count, int strict, void *out, size_t out_length,
                                           pslink_check_answer *answer);
+static inline uint32_t pslink_text_files(uint32_t what, uint32_t form, pslink_named_file host,
+                                         const pslink_named_file *libs, size_t count, void *out,
+                                         size_t out_length, pslink_answer *answer);
 
 /* What follows is of no interest to a caller. */
 
@@ -380,6 +477,33 @@ static inline uint32_t pslink_show(const void *file, size_t file_length, void *o
 {
     return pslink_show_nonnull(pslink_read_at(file), pslink_length_at(file, file_length),
                                pslink_write_at(out), pslink_length_at(out, out_length), answer);
+}
+
+static inline uint32_t pslink_text(uint32_t what, uint32_t form, const void *host,
+                                   size_t host_length, const void *libs, size_t libs_length,
+                                   const size_t *lengths, size_t count, const char *names,
+                                   size_t names_length, const size_t *name_lengths, void *out,
+                                   size_t out_length, pslink_answer *answer)
+{
+    return pslink_text_nonnull(what, form, pslink_read_at(host),
+                               pslink_length_at(host, host_length), pslink_read_at(libs),
+                               pslink_length_at(libs, libs_length), pslink_lengths_at(lengths),
+                               pslink_length_at(lengths, count), pslink_read_at(names),
+                               pslink_length_at(names, names_length),
+                               pslink_lengths_at(name_lengths),
+                               pslink_length_at(name_lengths, count + 1), pslink_write_at(out),
+                               pslink_length_at(out, out_length), answer);
+}
+
+static inline uint32_t pslink_units(uint32_t which, const void *host, size_t host_length,
+                                    const void *libs, size_t libs_length, const size_t *lengths,
+                                    size_t count, void *out, size_t out_length,
+                                    pslink_answer *answer)
+{
+    return pslink_units_nonnull(which, pslink_read_at(host), pslink_length_at(host, host_length),
+                                pslink_read_at(libs), pslink_length_at(libs, libs_length),
+                                pslink_lengths_at(lengths), pslink_length_at(lengths, count),
+                                pslink_write_at(out), pslink_length_at(out, out_length), answer);
 }
 
 static inline size_t pslink_fault_text(const pslink_answer *answer, char *out, size_t out_length)
@@ -506,10 +630,28 @@ static inline void pslink_put_file(const pslink_named_file *file, char **bytes, 
     *bytes += *length;
 }
 
+/* What pslink_check_files and pslink_text_files call, once the files are one after another: one of
+   the two, by whose answer is not NULL. */
+typedef struct pslink_named_call {
+    uint32_t what;
+    uint32_t form;
+    int strict;
+    void *out;
+    size_t out_length;
+    pslink_answer *answer;
+    pslink_check_answer *check_answer;
+} pslink_named_call;
+
+/* A status, with every other field 0, as the answer of the call. */
+static inline uint32_t pslink_bare_named(uint32_t status, const pslink_named_call *call)
+{
+    return call->answer == NULL ? pslink_bare_check(status, call->check_answer)
+                                : pslink_bare(status, call->answer);
+}
+
 /* In one block: the lengths of libraries and names, and then the bytes of both. */
-static inline uint32_t pslink_check_files(pslink_named_file host, const pslink_named_file *libs,
-                                          size_t count, int strict, void *out, size_t out_length,
-                                          pslink_check_answer *answer)
+static inline uint32_t pslink_call_named(const pslink_named_call *call, pslink_named_file host,
+                                         const pslink_named_file *libs, size_t count)
 {
     const size_t most = PTRDIFF_MAX, each = 2 * sizeof(size_t);
     size_t libs_length = 0, names_length = 0, total, k;
@@ -521,7 +663,7 @@ static inline uint32_t pslink_check_files(pslink_named_file host, const pslink_n
 
     count = pslink_length_at(libs, count);
     if (count >= most / each)
-        return pslink_bare_check(PSLINK_NO_MEMORY, answer);
+        return pslink_bare_named(PSLINK_NO_MEMORY, call);
     total = (count + 1) * each;
     fits = pslink_add_length(strlen(host.name), &names_length);
     for (k = 0; k < count && fits; k++)
@@ -531,7 +673,7 @@ static inline uint32_t pslink_check_files(pslink_named_file host, const pslink_n
            pslink_add_length(names_length, &total);
     block = fits ? malloc(total) : NULL;
     if (block == NULL)
-        return pslink_bare_check(PSLINK_NO_MEMORY, answer);
+        return pslink_bare_named(PSLINK_NO_MEMORY, call);
     lengths = PSLINK_POINTER(size_t, block);
     name_lengths = lengths + count;
     behind = name_lengths + count + 1;
@@ -540,11 +682,34 @@ static inline uint32_t pslink_check_files(pslink_named_file host, const pslink_n
     pslink_put_file(&host, NULL, NULL, &name, name_lengths);
     for (k = 0; k < count; k++)
         pslink_put_file(&libs[k], &bytes, &lengths[k], &name, &name_lengths[k + 1]);
-    status = pslink_check(host.bytes, host.length, bytes - libs_length, libs_length, lengths, count,
-                          name - names_length, names_length, name_lengths, strict, out, out_length,
-                          answer);
+    if (call->answer == NULL)
+        status = pslink_check(host.bytes, host.length, bytes - libs_length, libs_length, lengths,
+                              count, name - names_length, names_length, name_lengths, call->strict,
+                              call->out, call->out_length, call->check_answer);
+    else
+        status = pslink_text(call->what, call->form, host.bytes, host.length, bytes - libs_length,
+                             libs_length, lengths, count, name - names_length, names_length,
+                             name_lengths, call->out, call->out_length, call->answer);
     free(block);
     return status;
+}
+
+static inline uint32_t pslink_check_files(pslink_named_file host, const pslink_named_file *libs,
+                                          size_t count, int strict, void *out, size_t out_length,
+                                          pslink_check_answer *answer)
+{
+    const pslink_named_call call = {0, 0, strict, out, out_length, NULL, answer};
+
+    return pslink_call_named(&call, host, libs, count);
+}
+
+static inline uint32_t pslink_text_files(uint32_t what, uint32_t form, pslink_named_file host,
+                                         const pslink_named_file *libs, size_t count, void *out,
+                                         size_t out_length, pslink_answer *answer)
+{
+    const pslink_named_call call = {what, form, 0, out, out_length, answer, NULL};
+
+    return pslink_call_named(&call, host, libs, count);
 }
 
 #undef PSLINK_POINTER

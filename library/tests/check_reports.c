@@ -156,24 +156,33 @@ static void check_memory(size_t count)
     check(0, "there is no end of memory that is asked for", count);
 }
 
-/* Names that do not add up, are not one for each file, or are no UTF-8; and some that are. */
+/* Names that do not add up, are not one for each file, or are no UTF-8; and some that are right. */
 static void check_names(void)
 {
     static const struct {
         const char *names;
         size_t names_length, lengths[3], count;
-        int is_right;
+        uint32_t status;
     } cases[] = {
-        {"HOSTLIB", 7, {4, 3}, 2, 1},           {"", 0, {0, 0}, 2, 1},
-        {"H\xC3\xA9LIB", 6, {3, 3}, 2, 1},      {"\xF0\x9F\x92\xBE", 4, {4, 0}, 2, 1},
-        {"HOSTLIB", 7, {4, 2}, 2, 0},           {"HOSTLIB", 7, {4, 4}, 2, 0},
-        {"HOSTLIB", 7, {SIZE_MAX, 8}, 2, 0},    {"HOSTLIB", 7, {7}, 1, 0},
-        {"HOSTLIB", 7, {4, 3, 0}, 3, 0},        {"HOSTLIB", 7, {0}, 0, 0},
-        {"H\xC3\xA9LIB", 6, {2, 4}, 2, 0},      {"\xFFLIB", 4, {1, 3}, 2, 0},
-        {"HOST\xC0\x80", 6, {4, 2}, 2, 0},      {"HOST\xED\xA0\x80", 7, {4, 3}, 2, 0},
+        {"HOSTLIB", 7, {4, 3}, 2, PSLINK_DONE},
+        {"", 0, {0, 0}, 2, PSLINK_DONE},
+        {"H\xC3\xA9LIB", 6, {3, 3}, 2, PSLINK_DONE},
+        {"\xF0\x9F\x92\xBE", 4, {4, 0}, 2, PSLINK_DONE},
+        {"HOSTLIB", 7, {4, 2}, 2, PSLINK_WRONG_LENGTHS},
+        {"HOSTLIB", 7, {4, 4}, 2, PSLINK_WRONG_LENGTHS},
+        {"HOSTLIB", 7, {SIZE_MAX, 8}, 2, PSLINK_WRONG_LENGTHS},
+        {"HOSTLIB", 7, {7}, 1, PSLINK_WRONG_LENGTHS},
+        {"HOSTLIB", 7, {4, 3, 0}, 3, PSLINK_WRONG_LENGTHS},
+        {"HOSTLIB", 7, {0}, 0, PSLINK_WRONG_LENGTHS},
+        {"\xFFLIB", 4, {1, 2}, 2, PSLINK_WRONG_LENGTHS},
+        {"H\xC3\xA9LIB", 6, {2, 4}, 2, PSLINK_WRONG_NAMES},
+        {"\xFFLIB", 4, {1, 3}, 2, PSLINK_WRONG_NAMES},
+        {"HOST\xC0\x80", 6, {4, 2}, 2, PSLINK_WRONG_NAMES},
+        {"HOST\xED\xA0\x80", 7, {4, 3}, 2, PSLINK_WRONG_NAMES},
     };
     static unsigned char room[ROOM];
     pslink_check_answer answer;
+    pslink_answer text;
     size_t k;
 
     for (k = 0; k < sizeof cases / sizeof *cases; k++) {
@@ -181,9 +190,17 @@ static void check_names(void)
 
         memset(room, FILLER, sizeof room);
         status = check_pair(cases[k].names, cases[k].names_length, cases[k].lengths, cases[k].count, 0, room, sizeof room, &answer);
-        check(status == (cases[k].is_right ? PSLINK_DONE : PSLINK_WRONG_LENGTHS), "names are taken otherwise", k);
-        check(cases[k].is_right || (is_bare(&answer, status) && is_untouched(room, 0, sizeof room)),
+        check(status == cases[k].status, "names are taken otherwise", k);
+        check(status == PSLINK_DONE || (is_bare(&answer, status) && is_untouched(room, 0, sizeof room)),
               "names that are not taken leave something", k);
+        status = pslink_text_nonnull(PSLINK_TEXT_LIST, PSLINK_JSON, host.bytes, host.length, library.bytes, library.length,
+                                     &library.length, 1, cases[k].names, cases[k].names_length, cases[k].lengths, cases[k].count,
+                                     room, sizeof room, &text);
+        check(status == cases[k].status && text.status == status, "names are taken otherwise for a list", k);
+        status = pslink_text_nonnull(PSLINK_TEXT_MAP, PSLINK_JSON, host.bytes, host.length, library.bytes, library.length,
+                                     &library.length, 1, cases[k].names, cases[k].names_length, cases[k].lengths, cases[k].count,
+                                     room, sizeof room, &text);
+        check(status == PSLINK_DONE, "names are looked at for a map", k);
     }
     check(pslink_check(host.bytes, host.length, library.bytes, library.length - 1, &library.length, 1, "", 0, cases[1].lengths, 0, NULL,
                        0, &answer) == PSLINK_WRONG_LENGTHS && is_bare(&answer, PSLINK_WRONG_LENGTHS),
@@ -191,6 +208,100 @@ static void check_names(void)
     check(pslink_check(NULL, 0, NULL, 0, NULL, 0, NULL, 0, cases[1].lengths, 0, room, sizeof room, &answer) == PSLINK_DONE &&
               answer.verdict.fault == PSLINK_FAULT_SHORT_FILE,
           "nothing has no report", 0);
+}
+
+/* A text of the pair, in room that is just enough: it is what is given as its length. */
+static size_t text_of(uint32_t what, uint32_t form, size_t count, unsigned char *room, size_t size)
+{
+    pslink_answer answer, again;
+
+    memset(room, FILLER, size);
+    check(pslink_text_files(what, form, host, &library, count, NULL, 4096, &answer) == PSLINK_TOO_SMALL && answer.needed > 0 &&
+              answer.written == 0 && answer.needed < size,
+          "no room is enough for a text", what);
+    check(pslink_text_files(what, form, host, &library, count, room, answer.needed - 1, &again) == PSLINK_TOO_SMALL &&
+              is_untouched(room, 0, size),
+          "a text is put where it does not fit", what);
+    check(pslink_text_files(what, form, host, &library, count, room, answer.needed, &again) == PSLINK_DONE &&
+              again.written == answer.needed && again.needed == answer.needed && is_untouched(room, answer.needed, size),
+          "a text is put otherwise", what);
+    return answer.needed;
+}
+
+/* Each text beside the call that there is for it, or by what it begins and ends with. */
+static void check_texts(void)
+{
+    static const char list[] = "HOST: little-endian, 1536 bytes, host program\n";
+    static unsigned char room[ROOM], other[ROOM];
+    pslink_check_answer report;
+    pslink_answer answer;
+    size_t size, names[2] = {4, 4};
+    uint32_t what, form;
+
+    size = text_of(PSLINK_TEXT_MAP, PSLINK_LINES, 1, room, sizeof room);
+    check(pslink_map(host.bytes, host.length, library.bytes, library.length, &library.length, 1, other, sizeof other, &answer) ==
+                  PSLINK_DONE && answer.written == size && memcmp(room, other, size) == 0,
+          "the map is another", size);
+    check(text_of(PSLINK_TEXT_REFERENCES, PSLINK_LINES, 1, room, sizeof room) > size && memcmp(room, other, size) == 0,
+          "the map with its references does not begin with the map", size);
+    size = text_of(PSLINK_TEXT_SHOW, PSLINK_LINES, 1, room, sizeof room);
+    check(pslink_show(host.bytes, host.length, other, sizeof other, &answer) == PSLINK_DONE && answer.written == size &&
+              memcmp(room, other, size) == 0,
+          "the show is another", size);
+    size = text_of(PSLINK_TEXT_CHECK, PSLINK_LINES, 0, room, sizeof room);
+    check(make(0, other, sizeof other, &report) == PSLINK_DONE && report.written == size && memcmp(room, other, size) == 0,
+          "the report is another", size);
+    text_of(PSLINK_TEXT_LIST, PSLINK_LINES, 1, room, sizeof room);
+    check(strstr((const char *)room, "HOST: little-endian, 1536 bytes, ") == (const char *)room, "the list is another", sizeof list);
+    text_of(PSLINK_TEXT_UNITS, PSLINK_LINES, 1, room, sizeof room);
+    check(strstr((const char *)room, "LIB1: slot 02 UTIL     by itself, no fault\n") != NULL, "units by themselves are others", 0);
+    for (what = PSLINK_TEXT_MAP; what <= PSLINK_TEXT_LIST; what++) {
+        size = text_of(what, PSLINK_JSON, 1, room, sizeof room);
+        check(room[0] == '{' && memcmp(room + size - 2, "}\n", 2) == 0, "a document is none", what);
+    }
+    for (what = 0; what < 9; what++)
+        for (form = 0; form < 4; form++) {
+            int is_there = what <= PSLINK_TEXT_LIST ? form <= PSLINK_JSON : what == PSLINK_TEXT_UNITS && form == PSLINK_LINES;
+
+            memset(room, FILLER, sizeof room);
+            check((pslink_text(what, form, host.bytes, host.length, library.bytes, library.length, &library.length, 1, "HOSTLIB1", 8,
+                               names, room, sizeof room, &answer) == PSLINK_WRONG_TEXT) == !is_there,
+                  "a text that there is not is made", 10 * what + form);
+            check(is_there || is_untouched(room, 0, sizeof room), "a text that there is not is put", 10 * what + form);
+        }
+    check(pslink_text(PSLINK_TEXT_MAP, PSLINK_JSON, host.bytes, host.length, NULL, 0, NULL, 0, NULL, 0, NULL, room, sizeof room,
+                      &answer) == PSLINK_REFUSED && answer.fault == PSLINK_FAULT_MISSING_UNIT && answer.has_name == 1 &&
+              memcmp(answer.name, "UTIL    ", 8) == 0,
+          "a map that is refused has another name", answer.fault);
+    check(pslink_text(PSLINK_TEXT_SHOW, PSLINK_JSON, host.bytes, 511, NULL, 0, NULL, 0, NULL, 0, NULL, room, sizeof room, &answer) ==
+                  PSLINK_REFUSED && answer.fault == PSLINK_FAULT_SHORT_FILE && answer.has_name == 0,
+          "a short file is shown", answer.fault);
+}
+
+/* The names of units that are wanted and had. */
+static void check_units(void)
+{
+    static unsigned char room[ROOM];
+    pslink_answer answer;
+
+    memset(room, FILLER, sizeof room);
+    check(pslink_units(PSLINK_UNITS_WANTED, host.bytes, host.length, NULL, 0, NULL, 0, NULL, 99, &answer) == PSLINK_TOO_SMALL &&
+              answer.needed == 8,
+          "the host wants another number of units", answer.needed);
+    check(pslink_units(PSLINK_UNITS_WANTED, host.bytes, host.length, NULL, 0, NULL, 0, room, sizeof room, &answer) == PSLINK_DONE &&
+              answer.written == 8 && memcmp(room, "UTIL    ", 8) == 0 && is_untouched(room, 8, sizeof room),
+          "the host wants another unit", answer.written);
+    check(pslink_units(PSLINK_UNITS_HAD, host.bytes, host.length, NULL, 0, NULL, 0, room, sizeof room, &answer) == PSLINK_DONE &&
+              answer.written == 0,
+          "the host has a unit", answer.written);
+    check(pslink_units(PSLINK_UNITS_HAD, library.bytes, library.length, NULL, 0, NULL, 0, room, sizeof room, &answer) ==
+                  PSLINK_DONE && answer.written == 8 && memcmp(room, "UTIL    ", 8) == 0,
+          "the library has other units", answer.written);
+    check(pslink_units(PSLINK_UNITS_WANTED, NULL, 0, NULL, 0, NULL, 0, room, sizeof room, &answer) == PSLINK_REFUSED &&
+              answer.fault == PSLINK_FAULT_SHORT_FILE && answer.file == 0,
+          "nothing wants units", answer.fault);
+    check(pslink_units(2, host.bytes, host.length, NULL, 0, NULL, 0, room, sizeof room, &answer) == PSLINK_WRONG_TEXT,
+          "there are other units", 2);
 }
 
 /* Lengths that no block of memory can have. */
@@ -228,6 +339,8 @@ int main(int argc, char **argv)
     check_verdicts();
     check_strict();
     check_names();
+    check_texts();
+    check_units();
     check_too_long();
     return failures != 0;
 }

@@ -134,6 +134,7 @@ static void check_refusals(void)
     check(pslink_link(host.bytes, host.length, libs, 512 * 300, lengths, 300, NULL, 0, &answer) == PSLINK_REFUSED,
           "three hundred libraries are not read", 300);
     check(answer.fault == 13 && answer.file == 0 && answer.has_slot == 1 && answer.slot == 7, "the fault is another", 300);
+    check(answer.has_name == 1 && memcmp(answer.name, "UTIL    ", 8) == 0, "the missing unit is another", 300);
     size = pslink_fault_text(&answer, NULL, 0);
     check(size == sizeof "refused 13 MissingUnit file 0 slot 7", "the text has another length", size);
     memset(text, FILLER, sizeof text);
@@ -192,6 +193,7 @@ static void check_lengths(void)
     answer.status = PSLINK_REFUSED;
     check(pslink_fault_text(&answer, text, sizeof text) == 0, "a fault of no number has a text", 255);
     check(pslink_version() == PSLINK_VERSION, "the version is another", pslink_version());
+    check(pslink_release_number() == PSLINK_RELEASE_NUMBER, "the release is another", pslink_release_number());
 }
 
 /* NULL with a length above 0, as of a malloc that failed: the length is taken for 0. */
@@ -234,8 +236,10 @@ static void check_null(void)
 /* The text of each fault with the largest numbers, and the names of faults and statuses, in rooms that are just enough. */
 static void check_texts(void)
 {
-    static const char *const statuses[] = {"done", "the files are refused", "the lengths do not add up, or the names are wrong", NULL,
-                                           "out of memory", "the room is shorter than the result", NULL};
+    static const char *const statuses[] = {"done", "the files are refused",
+                                           "the lengths do not add up, or there is not one name for each file", NULL, "out of memory",
+                                           "the room is shorter than the result", "a name is no UTF-8",
+                                           "there is no such text, or it has no such form", NULL};
     char text[PSLINK_FAULT_TEXT_MAX], wanted[2 * PSLINK_FAULT_TEXT_MAX], name[PSLINK_FAULT_TEXT_MAX];
     pslink_answer answer;
     size_t longest = 0, size;

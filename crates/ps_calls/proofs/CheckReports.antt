@@ -11,7 +11,7 @@ use Rattle.ps_calls.specs.Checks.{StopsReport}
 use Rattle.ps_calls.specs.Stops.{IsOnlyAbove}
 use Rattle.ps_calls.specs.declared.outcome.Stop.{Stop}
 use Rattle.ps_calls.specs.declared.outcome.Stop.TheVariants.{Refused, WrongLengths, NoMemory}
-use Rattle.ps_calls.specs.declared.outcome.Stop.TheVariants.{TooSmall}
+use Rattle.ps_calls.specs.declared.outcome.Stop.TheVariants.{TooSmall, WrongNames, NoSuchText}
 
 -- the name of the host, and those of the libraries, are all the names
 pub host_first : (names : List (Bor (List ℕ))) (d : Bor (List ℕ)) → 0 < length names
@@ -34,8 +34,10 @@ pub long_report : {X : Type 0} (room : List ℕ) (names : List (List ℕ)) (host
     (r : Result X Stop) → IsReport names host libs verdict warnings text
     → IfErr r (IsOnlyAbove text room) → IfErr r (StopsReport room names host libs)
 long_report room names host libs verdict warnings text (Ok x) is h = tt
-long_report room names host libs verdict warnings text (Err (Refused fault)) is h = h
+long_report room names host libs verdict warnings text (Err (Refused r)) is h = h
 long_report room names host libs verdict warnings text (Err WrongLengths) is h = h
+long_report room names host libs verdict warnings text (Err WrongNames) is h = h
+long_report room names host libs verdict warnings text (Err NoSuchText) is h = h
 long_report room names host libs verdict warnings text (Err NoMemory) is h = tt
 long_report room names host libs verdict warnings text (Err (TooSmall size)) is h =
     (verdict, warnings, text, is, h.0, h.1)

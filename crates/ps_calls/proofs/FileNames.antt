@@ -2,7 +2,8 @@
 use Rattle.std.proofs.Common.{◌≡◌, ◌<◌, ◌≤◌, ◌+◌, ◌++◌, ℕ, List, [], ◌∷◌, Bor, Result}
 use Rattle.std.proofs.Common.{Ok, Err, ◌∙◌, ap, arith, get_or, length, refl, subst, sym, suc}
 use Rattle.std.proofs.Common.{take, drop}
-use Rattle.std.specs.Prelude.{All, IsUtf8, IfErr}
+use Rattle.std.specs.Prelude.{All, IsUtf8, IfErr, IfOk, Vec, sum}
+use Rattle.std.specs.declared.alloc.Global.{Global}
 use Rattle.std.proofs.lemmas.List.{get_or-map, length-map, map-append, take_all, take_more}
 use Rattle.std.proofs.lemmas.List.Elements.{All-get_or, All-map}
 use Rattle.ps_resolve.specs.Sources.{contents}
@@ -10,7 +11,7 @@ use Rattle.ps_calls.specs.Checks.{IsMisnamed, IsUnreadable}
 use Rattle.ps_calls.specs.Libraries.{split}
 use Rattle.ps_calls.specs.declared.outcome.Stop.{Stop}
 use Rattle.ps_calls.specs.declared.outcome.Stop.TheVariants.{Refused, WrongLengths, NoMemory}
-use Rattle.ps_calls.specs.declared.outcome.Stop.TheVariants.{TooSmall}
+use Rattle.ps_calls.specs.declared.outcome.Stop.TheVariants.{TooSmall, WrongNames, NoSuchText}
 
 -- there is a part for each length
 length-split : (bytes ns : List ℕ) → length (split bytes ns) ≡ length ns
@@ -52,11 +53,22 @@ all_texts names i end all = All-map IsUtf8 (λ (name : Bor (List ℕ)). name.now
     (take_all i names end) all)
 
 pub misnamed : {X : Type 0} (names lengths : List ℕ) (parts : List (Bor (List ℕ)))
-    (r : Result X Stop) → contents parts ≡ split names lengths
+    (r : Result X Stop) → sum lengths ≡ length names → contents parts ≡ split names lengths
     → IfErr r (IsUnreadable (contents parts)) → IfErr r (IsMisnamed names lengths)
-misnamed names lengths parts (Ok x) e h = tt
-misnamed names lengths parts (Err (Refused fault)) e h = h
-misnamed names lengths parts (Err WrongLengths) e h =
-    λ named. h (subst (λ (texts : List (List ℕ)). All IsUtf8 texts) (sym e) named.1)
-misnamed names lengths parts (Err NoMemory) e h = tt
-misnamed names lengths parts (Err (TooSmall size)) e h = h
+misnamed names lengths parts (Ok x) whole e h = tt
+misnamed names lengths parts (Err (Refused r)) whole e h = h
+misnamed names lengths parts (Err WrongLengths) whole e h = absurd h
+misnamed names lengths parts (Err WrongNames) whole e h =
+    (whole, λ named. h (subst (λ (texts : List (List ℕ)). All IsUtf8 texts) (sym e) named))
+misnamed names lengths parts (Err NoSuchText) whole e h = h
+misnamed names lengths parts (Err NoMemory) whole e h = tt
+misnamed names lengths parts (Err (TooSmall size)) whole e h = h
+
+-- there is a text where there are names for a host and so many libraries
+pub many_texts : {E : Type 0} (names lengths : List ℕ) (count : ℕ)
+    (r : Result (Vec (Bor (List ℕ)) Global) E) → length lengths ≡ 1 + count
+    → IfOk r (λ texts. contents texts.items ≡ split names lengths)
+    → IfOk r (λ texts. 0 < length texts.items)
+many_texts names lengths count (Ok texts) one_each cut =
+    omega (arith, as_many names lengths texts.items cut, one_each)
+many_texts names lengths count (Err error) one_each cut = tt

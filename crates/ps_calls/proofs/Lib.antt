@@ -1,3 +1,5 @@
 pub mod Refusals
-pub mod FileNames
 pub mod CheckReports
+pub mod FileNames
+pub mod Listed
+pub mod PutTexts

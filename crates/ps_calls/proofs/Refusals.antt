@@ -1,5 +1,5 @@
 -- The answer of a fault reports that fault.
-use Rattle.std.proofs.Common.{◌≡◌, ℕ, Option, Some, None, ◌∙◌, ap, refl}
+use Rattle.std.proofs.Common.{◌≡◌, ℕ, List, Option, Some, None, ◌∙◌, ap, refl}
 use Rattle.std.specs.Prelude.{option_map, unwrap_or}
 use Rattle.ps_words.specs.FaultText.{number_of, kind_of}
 use Rattle.ps_words.specs.declared.fault.Reason.{Reason}
@@ -50,9 +50,9 @@ part_back : (o : Option ℕ) → part (flag o) (unwrap_or o 0) ≡ o
 part_back None = refl
 part_back (Some n) = refl
 
-pub told_back : (f : Fault) → refusal_fault (refusal f) ≡ Some f
-told_back f =
-    let a = refusal f in
+pub told_back : (f : Fault) (name : Option (List ℕ)) → refusal_fault (refusal f name) ≡ Some f
+told_back f name =
+    let a = refusal f name in
     let with_parts : Option ℕ → Option ℕ → Option ℕ → Fault =
     λ slot rec reference. record {
       reason = f.reason;

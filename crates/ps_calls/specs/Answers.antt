@@ -11,7 +11,11 @@ use Rattle.ps_words.specs.declared.fault.Fault.{Fault}
 use Rattle.ps_linkfile.specs.declared.summary.Summary.{Summary}
 use Rattle.ps_calls.specs.declared.answer.Answer.{Answer}
 use Rattle.ps_calls.specs.declared.answer.TheConstants.{DONE, REFUSED, WRONG_LENGTHS, NO_MEMORY}
-use Rattle.ps_calls.specs.declared.answer.TheConstants.{TOO_SMALL}
+use Rattle.ps_calls.specs.declared.answer.TheConstants.{TOO_SMALL, WRONG_NAMES, WRONG_TEXT}
+
+-- what stands for a name where there is none
+abbrev pub no_name : List ℕ
+no_name = 0 ∷ 0 ∷ 0 ∷ 0 ∷ 0 ∷ 0 ∷ 0 ∷ 0 ∷ []
 
 -- a status, and nothing else
 abbrev pub bare : ℕ → Answer
@@ -32,6 +36,9 @@ bare status = record {
   blocks = 0;
   written = 0;
   needed = 0;
+  name = no_name;
+  has_name = 0;
+  reserved = 0 ∷ 0 ∷ 0 ∷ 0 ∷ 0 ∷ 0 ∷ 0 ∷ [];
 }
 
 -- a linked file of so many bytes, which has this summary, was written
@@ -53,12 +60,12 @@ abbrev pub small_answer : ℕ → Answer
 small_answer size = record (bare TOO_SMALL) { needed = size }
 
 -- 1 where a part is there
-abbrev pub flag : Option ℕ → ℕ
+abbrev pub flag : {A : Type 0} → Option A → ℕ
 flag part = if is_some part then 1 else 0
 
--- the files are refused for this fault
-abbrev pub refusal : Fault → Answer
-refusal f = record (bare REFUSED) {
+-- the files are refused for this fault, which is about what has this name
+abbrev pub refusal : Fault → Option (List ℕ) → Answer
+refusal f name = record (bare REFUSED) {
   kind = unwrap_or (kind_of f.reason) 0;
   fault = number_of f.reason;
   slot = unwrap_or f.slot 0;
@@ -69,6 +76,8 @@ refusal f = record (bare REFUSED) {
   file = f.file;
   rec = unwrap_or f.rec 0;
   reference = unwrap_or f.reference 0;
+  name = unwrap_or name no_name;
+  has_name = flag name;
 }
 
 -- each reason, in the order of their numbers; an entry that is no unit has this kind word
@@ -110,10 +119,15 @@ abbrev pub refusal_fault : Answer → Option Fault
 refusal_fault a = if a.status == REFUSED then option_map (fault_with a) (reason_of a.fault a.kind)
     else None
 
--- the statuses
+-- the statuses of a link, a map and a show
 abbrev pub IsStatus : ℕ → Type 0
 IsStatus n = (n ≡ DONE) ⊎ (n ≡ REFUSED) ⊎ (n ≡ WRONG_LENGTHS) ⊎ (n ≡ NO_MEMORY)
     ⊎ (n ≡ TOO_SMALL)
+
+-- the statuses of a text
+abbrev pub IsTextStatus : ℕ → Type 0
+IsTextStatus n = (n ≡ DONE) ⊎ (n ≡ REFUSED) ⊎ (n ≡ WRONG_LENGTHS) ⊎ (n ≡ NO_MEMORY)
+    ⊎ (n ≡ TOO_SMALL) ⊎ (n ≡ WRONG_NAMES) ⊎ (n ≡ WRONG_TEXT)
 
 -- the text of a fault, with a closing 0
 abbrev pub closed_text : Fault → List ℕ

@@ -1,6 +1,8 @@
 -- What the exports leave in the caller's memory.
 -- Source: this project's profile.
-use Rattle.std.specs.Prelude.{◌≡◌, ℕ, ◌<◌, Bool, List, length, Some, None}
+use Rattle.std.specs.Prelude.{◌≡◌, ℕ, ◌<◌, Bool, List, [], length, Option, Some, None, Result}
+use Rattle.std.specs.Prelude.{IfErr, IfOk}
+use Rattle.ps_named.specs.FaultNames.{fault_name}
 use Rattle.ps_resolve.specs.Parts.{HasItsParts}
 use Rattle.ps_resolve.specs.Sources.{order_of}
 use Rattle.ps_words.specs.declared.fault.Fault.{Fault}
@@ -12,9 +14,14 @@ use Rattle.ps_calls.specs.Rooms.{RoomBeginsWith}
 use Rattle.ps_calls.specs.Answers.{linked_answer, text_answer, small_answer, refusal}
 use Rattle.ps_calls.specs.CheckAnswers.{found_answer, small_check_answer}
 use Rattle.ps_calls.specs.Checks.{IsFound, IsLongReport}
+use Rattle.ps_calls.specs.Outcomes.{answer_of}
+use Rattle.ps_calls.specs.Printed.{IsPrinted, StopsText}
 use Rattle.ps_calls.specs.declared.answer.Answer.{Answer}
 use Rattle.ps_calls.specs.declared.check_answer.CheckAnswer.{CheckAnswer}
 use Rattle.ps_calls.specs.declared.checking.Found.{Found}
+use Rattle.ps_calls.specs.declared.kinds.TextKind.{TextKind}
+use Rattle.ps_calls.specs.declared.outcome.Done.{Done}
+use Rattle.ps_calls.specs.declared.outcome.Stop.{Stop}
 
 -- the room begins with the linked file, and the answer has its summary and its length
 pub record Links (host : List ℕ) (libs : List (List ℕ)) (old new : List ℕ)
@@ -24,12 +31,13 @@ pub record Links (host : List ℕ) (libs : List (List ℕ)) (old new : List ℕ)
   pub begins : RoomBeginsWith file old new
   pub told : answer ≡ linked_answer (summary_of host libs) (length file)
 
--- the answer reports the first fault of all, with just the parts of its number
+-- the answer reports the first fault of all, with just the parts of its number and the name of what
+-- it is about
 pub record Refuses (host : List ℕ) (libs : List (List ℕ)) (answer : Answer) : Type 0 where
   pub fault : Fault
   pub first : IsFirst host libs fault
   pub parts : HasItsParts (order_of host) host libs fault
-  pub told : answer ≡ refusal fault
+  pub told : answer ≡ refusal fault (fault_name host libs fault)
 
 -- the linked file is longer than the room, and the answer has its length
 pub record LinkNeeds (host : List ℕ) (libs : List (List ℕ)) (room : List ℕ)
@@ -63,7 +71,7 @@ pub record Shows (file old new : List ℕ) (answer : Answer) : Type 0 where
 pub record RefusesToShow (file : List ℕ) (answer : Answer) : Type 0 where
   pub fault : Fault
   pub first : show_fault file ≡ Some fault
-  pub told : answer ≡ refusal fault
+  pub told : answer ≡ refusal fault (fault_name file [] fault)
 
 -- the text is longer than the room, and the answer has its length
 pub record ShowNeeds (file room : List ℕ) (answer : Answer) : Type 0 where
@@ -85,3 +93,12 @@ pub record ReportNeeds (names : List (List ℕ)) (host : List ℕ) (libs : List 
   pub size : ℕ
   pub long : IsLongReport room names host libs size
   pub told : answer ≡ small_check_answer size
+
+-- What was answered of a call for a text, or for names of units: an outcome of it, by which the
+-- room begins with the text, or which says why it does not.
+pub record IsAnswered (k : Option TextKind) (host libs lengths names name_lengths old new : List ℕ)
+    (answer : Answer) : Type 0 where
+  pub outcome : Result Done Stop
+  pub told : answer ≡ answer_of outcome
+  pub printed : IfOk outcome (IsPrinted k host libs lengths names name_lengths old new)
+  pub stopped : IfErr outcome (StopsText k old host libs lengths names name_lengths)

@@ -1,16 +1,17 @@
 -- The answer of a check, by what becomes of it.
 -- Source: this project's profile.
-use Rattle.std.specs.Prelude.{◌≡◌, ℕ, ◌⊎◌, Result, Ok, Err}
+use Rattle.std.specs.Prelude.{◌≡◌, ℕ, ◌⊎◌, List, [], ◌∷◌, Option, Result, Ok, Err}
 use Rattle.ps_report.specs.declared.verdict.Verdict.{Verdict}
 use Rattle.ps_report.specs.declared.verdict.Verdict.TheVariants as verdict
 use Rattle.ps_calls.specs.Answers.{bare, linked_answer, refusal}
 use Rattle.ps_calls.specs.declared.answer.Answer.{Answer}
 use Rattle.ps_calls.specs.declared.answer.TheConstants.{DONE, WRONG_LENGTHS, NO_MEMORY, TOO_SMALL}
+use Rattle.ps_calls.specs.declared.answer.TheConstants.{WRONG_NAMES}
 use Rattle.ps_calls.specs.declared.checking.Found.{Found}
 use Rattle.ps_calls.specs.declared.check_answer.CheckAnswer.{CheckAnswer}
 use Rattle.ps_calls.specs.declared.outcome.Stop.{Stop}
 use Rattle.ps_calls.specs.declared.outcome.Stop.TheVariants.{Refused, WrongLengths, NoMemory}
-use Rattle.ps_calls.specs.declared.outcome.Stop.TheVariants.{TooSmall}
+use Rattle.ps_calls.specs.declared.outcome.Stop.TheVariants.{TooSmall, WrongNames, NoSuchText}
 
 -- a status, and nothing else
 abbrev pub bare_check : ℕ → CheckAnswer
@@ -21,12 +22,14 @@ bare_check status = record {
   written = 0;
   needed = 0;
   verdict = bare status;
+  reserved = 0 ∷ 0 ∷ 0 ∷ 0 ∷ [];
 }
 
--- what a link of files with this verdict answers, of which nothing is written
-abbrev pub verdict_answer : Verdict → Answer
-verdict_answer (verdict.Links summary) = linked_answer summary 0
-verdict_answer (verdict.Refused fault) = refusal fault
+-- what a link of files with this verdict answers, of which nothing is written; a fault is about
+-- what has this name
+abbrev pub verdict_answer : Verdict → Option (List ℕ) → Answer
+verdict_answer (verdict.Links summary) name = linked_answer summary 0
+verdict_answer (verdict.Refused fault) name = refusal fault name
 
 -- a report was written, of what was found
 abbrev pub found_answer : Found → CheckAnswer
@@ -34,9 +37,8 @@ found_answer found = record (bare_check DONE) {
   ends_with = found.ends_with;
   warnings = found.warnings;
   written = found.size;
-  needed =
-      found.size;
-  verdict = verdict_answer found.verdict;
+  needed = found.size;
+  verdict = verdict_answer found.verdict found.name;
 }
 
 -- the report has so many bytes, and there was less room
@@ -45,8 +47,10 @@ small_check_answer size = record (bare_check TOO_SMALL) { needed = size }
 
 -- why none was written
 abbrev pub check_stop_answer : Stop → CheckAnswer
-check_stop_answer (Refused fault) = bare_check WRONG_LENGTHS
+check_stop_answer (Refused r) = bare_check WRONG_LENGTHS
 check_stop_answer WrongLengths = bare_check WRONG_LENGTHS
+check_stop_answer WrongNames = bare_check WRONG_NAMES
+check_stop_answer NoSuchText = bare_check WRONG_LENGTHS
 check_stop_answer NoMemory = bare_check NO_MEMORY
 check_stop_answer (TooSmall size) = small_check_answer size
 
@@ -58,3 +62,4 @@ check_answer_of (Err stop) = check_stop_answer stop
 -- the statuses of a check
 abbrev pub IsCheckStatus : ℕ → Type 0
 IsCheckStatus n = (n ≡ DONE) ⊎ (n ≡ WRONG_LENGTHS) ⊎ (n ≡ NO_MEMORY) ⊎ (n ≡ TOO_SMALL)
+    ⊎ (n ≡ WRONG_NAMES)

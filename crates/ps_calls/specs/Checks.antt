@@ -1,30 +1,45 @@
 -- What a check finds and leaves in the caller's room, and why it leaves nothing.
 -- Source: this project's profile.
 use Rattle.std.specs.Prelude.{◌≡◌, ℕ, ◌+◌, ◌<◌, ⊤, All, Bool, IsUtf8, List}
-use Rattle.std.specs.Prelude.{length, sum}
+use Rattle.std.specs.Prelude.{length, sum, Option, None}
+use Rattle.ps_named.specs.FaultNames.{fault_name}
 use Rattle.ps_report.specs.Reports.{IsReport}
 use Rattle.ps_report.specs.Verdicts.{check_status}
 use Rattle.ps_report.specs.declared.verdict.Verdict.{Verdict}
+use Rattle.ps_report.specs.declared.verdict.Verdict.TheVariants as verdict
+use Rattle.ps_report.specs.declared.verdict.Verdict.TheVariants.{Links}
 use Rattle.ps_calls.specs.Libraries.{split}
 use Rattle.ps_calls.specs.Rooms.{RoomBeginsWith}
 use Rattle.ps_calls.specs.declared.checking.Found.{Found}
 use Rattle.ps_calls.specs.declared.outcome.Stop.{Stop}
 use Rattle.ps_calls.specs.declared.outcome.Stop.TheVariants.{Refused, WrongLengths, NoMemory}
-use Rattle.ps_calls.specs.declared.outcome.Stop.TheVariants.{TooSmall}
+use Rattle.ps_calls.specs.declared.outcome.Stop.TheVariants.{TooSmall, WrongNames, NoSuchText}
 
 -- names of these lengths add up to what is given, and each is UTF-8
 abbrev pub AreNames : List ℕ → List ℕ → Type 0
 AreNames names lengths = (sum lengths ≡ length names) × All IsUtf8 (split names lengths)
 
--- libraries add up to what is given, and there is one name for the host and one for each of them
+-- libraries and names add up to what is given, and there is one name for the host and one for each
+-- library
+abbrev pub HasItsLengths : List ℕ → List ℕ → List ℕ → List ℕ → Type 0
+HasItsLengths libs lengths names name_lengths =
+    (sum lengths ≡ length libs) × (length name_lengths ≡ 1 + length lengths)
+    × (sum name_lengths ≡ length names)
+
+-- and each name is UTF-8
 abbrev pub IsCheckable : List ℕ → List ℕ → List ℕ → List ℕ → Type 0
 IsCheckable libs lengths names name_lengths =
     (sum lengths ≡ length libs) × (length name_lengths ≡ 1 + length lengths)
     × AreNames names name_lengths
 
+-- the name of what the fault of a verdict on these files is about
+abbrev pub verdict_name : List ℕ → List (List ℕ) → Verdict → Option (List ℕ)
+verdict_name host libs (Links summary) = None
+verdict_name host libs (verdict.Refused fault) = fault_name host libs fault
+
 -- the room begins with the text of a report of these files, which has their names, and what is found
--- has the verdict of that report, how many lines of it begin with `warning: `, its length, and the
--- status that goes with them
+-- has the verdict of that report, how many lines of it begin with `warning: `, its length, the
+-- status that goes with them, and the name of what the fault is about
 abbrev pub IsFound : List (List ℕ) → List ℕ → List (List ℕ) → Bool → List ℕ
     → List ℕ → Found → Type 0
 IsFound names host libs strict old new found =
@@ -32,6 +47,7 @@ IsFound names host libs strict old new found =
     × RoomBeginsWith text old new
     × (found.size ≡ length text)
     × (found.ends_with ≡ check_status strict found.warnings found.verdict)
+    × (found.name ≡ verdict_name host libs found.verdict)
 
 -- the room is shorter than the text of a report of these files, which has their names
 abbrev pub IsLongReport : List ℕ → List (List ℕ) → List ℕ → List (List ℕ) → ℕ
@@ -44,17 +60,23 @@ IsLongReport room names host libs size =
 -- no report of these files is put into this room
 abbrev pub StopsReport : List ℕ → List (List ℕ) → List ℕ → List (List ℕ) → Stop
     → Type 0
-StopsReport room names host libs (Refused fault) = ⊥
+StopsReport room names host libs (Refused r) = ⊥
 StopsReport room names host libs WrongLengths = ⊥
+StopsReport room names host libs WrongNames = ⊥
+StopsReport room names host libs NoSuchText = ⊥
 StopsReport room names host libs NoMemory = ⊤
 StopsReport room names host libs (TooSmall size) = IsLongReport room names host libs size
 
 -- the same of a call whose names and libraries are one after another
 abbrev pub StopsCheck : List ℕ → List ℕ → List ℕ → List ℕ → List ℕ → List ℕ
     → Stop → Type 0
-StopsCheck room host libs lengths names name_lengths (Refused fault) = ⊥
+StopsCheck room host libs lengths names name_lengths (Refused r) = ⊥
 StopsCheck room host libs lengths names name_lengths WrongLengths =
-    (IsCheckable libs lengths names name_lengths → ⊥)
+    (HasItsLengths libs lengths names name_lengths → ⊥)
+StopsCheck room host libs lengths names name_lengths WrongNames =
+    HasItsLengths libs lengths names name_lengths
+    × (All IsUtf8 (split names name_lengths) → ⊥)
+StopsCheck room host libs lengths names name_lengths NoSuchText = ⊥
 StopsCheck room host libs lengths names name_lengths NoMemory = ⊤
 StopsCheck room host libs lengths names name_lengths (TooSmall size) =
     IsCheckable libs lengths names name_lengths
@@ -62,14 +84,19 @@ StopsCheck room host libs lengths names name_lengths (TooSmall size) =
 
 -- why names are no texts
 abbrev pub IsUnreadable : List (List ℕ) → Stop → Type 0
-IsUnreadable names (Refused fault) = ⊥
-IsUnreadable names WrongLengths = (All IsUtf8 names → ⊥)
+IsUnreadable names (Refused r) = ⊥
+IsUnreadable names WrongLengths = ⊥
+IsUnreadable names WrongNames = (All IsUtf8 names → ⊥)
+IsUnreadable names NoSuchText = ⊥
 IsUnreadable names NoMemory = ⊤
 IsUnreadable names (TooSmall size) = ⊥
 
 -- why names that are one after another are not taken apart
 abbrev pub IsMisnamed : List ℕ → List ℕ → Stop → Type 0
-IsMisnamed names lengths (Refused fault) = ⊥
-IsMisnamed names lengths WrongLengths = (AreNames names lengths → ⊥)
+IsMisnamed names lengths (Refused r) = ⊥
+IsMisnamed names lengths WrongLengths = (sum lengths ≡ length names → ⊥)
+IsMisnamed names lengths WrongNames =
+    (sum lengths ≡ length names) × (All IsUtf8 (split names lengths) → ⊥)
+IsMisnamed names lengths NoSuchText = ⊥
 IsMisnamed names lengths NoMemory = ⊤
 IsMisnamed names lengths (TooSmall size) = ⊥

@@ -6,5 +6,7 @@ pub mod Stops
 pub mod Dones
 pub mod Outcomes
 pub mod Checks
+pub mod Kinds
+pub mod Printed
 pub mod CheckAnswers
 pub mod Calls

@@ -6,7 +6,8 @@ use Rattle.ps_words.specs.FaultText.{name_of}
 use Rattle.ps_words.specs.declared.fault.Reason.{Reason}
 use Rattle.ps_calls.specs.Answers.{reason_of}
 use Rattle.ps_calls.specs.declared.answer.TheConstants.{DONE, REFUSED, WRONG_LENGTHS, NO_MEMORY}
-use Rattle.ps_calls.specs.declared.answer.TheConstants.{TOO_SMALL}
+use Rattle.ps_calls.specs.declared.answer.TheConstants.{TOO_SMALL, WRONG_NAMES}
+use Rattle.ps_calls.specs.declared.answer.TheConstants.{WRONG_TEXT}
 
 -- a text with a closing 0; nothing of one that is empty
 abbrev pub closed : List ℕ → List ℕ
@@ -27,11 +28,14 @@ abbrev pub status_text : ℕ → List ℕ
 status_text status =
     if status == DONE then codes "done"
     else if status == REFUSED then codes "the files are refused"
-    else if status == WRONG_LENGTHS then codes "the lengths do not add up, or the names are wrong"
+    else if status == WRONG_LENGTHS
+    then codes "the lengths do not add up, or there is not one name for each file"
     else if status == NO_MEMORY then codes "out of memory"
     else if status == TOO_SMALL then codes "the room is shorter than the result"
+    else if status == WRONG_NAMES then codes "a name is no UTF-8"
+    else if status == WRONG_TEXT then codes "there is no such text, or it has no such form"
     else []
 
 -- the release of pslink
 abbrev pub release : List ℕ
-release = codes "0.1.0"
+release = codes "0.2.0"

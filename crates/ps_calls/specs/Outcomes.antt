@@ -2,13 +2,14 @@
 -- Source: this project's profile.
 use Rattle.std.specs.Prelude.{Result, Ok, Err}
 use Rattle.ps_calls.specs.Answers.{bare, linked_answer, text_answer, refusal, small_answer}
-use Rattle.ps_calls.specs.declared.answer.TheConstants.{WRONG_LENGTHS, NO_MEMORY}
+use Rattle.ps_calls.specs.declared.answer.TheConstants.{WRONG_LENGTHS, NO_MEMORY, WRONG_NAMES}
+use Rattle.ps_calls.specs.declared.answer.TheConstants.{WRONG_TEXT}
 use Rattle.ps_calls.specs.declared.answer.Answer.{Answer}
 use Rattle.ps_calls.specs.declared.outcome.Done.{Done}
 use Rattle.ps_calls.specs.declared.outcome.Done.TheVariants.{Linked, Text}
 use Rattle.ps_calls.specs.declared.outcome.Stop.{Stop}
 use Rattle.ps_calls.specs.declared.outcome.Stop.TheVariants.{Refused, WrongLengths, NoMemory}
-use Rattle.ps_calls.specs.declared.outcome.Stop.TheVariants.{TooSmall}
+use Rattle.ps_calls.specs.declared.outcome.Stop.TheVariants.{TooSmall, WrongNames, NoSuchText}
 
 -- the answer of a call that was done
 abbrev pub done_answer : Done → Answer
@@ -17,8 +18,10 @@ done_answer (Text size) = text_answer size
 
 -- the answer of a call that was not done
 abbrev pub stop_answer : Stop → Answer
-stop_answer (Refused fault) = refusal fault
+stop_answer (Refused r) = refusal r.fault r.name
 stop_answer WrongLengths = bare WRONG_LENGTHS
+stop_answer WrongNames = bare WRONG_NAMES
+stop_answer NoSuchText = bare WRONG_TEXT
 stop_answer NoMemory = bare NO_MEMORY
 stop_answer (TooSmall size) = small_answer size
 

@@ -3,7 +3,7 @@ ghost use Rattle.std.specs.Prelude.{◌≡◌};
 
 use crate::outcome::{Done, Stop};
 use crate::reasons::{kind_of, reason_of};
-use ps_words::Fault;
+use ps_words::{Fault, Name};
 
 /// The status of a call that was done.
 /// Source: this project's profile.
@@ -13,7 +13,8 @@ pub const DONE: u32 = 0;
 /// Source: this project's profile.
 pub const REFUSED: u32 = 1;
 
-/// The status of a call whose lengths do not add up to what is given, or whose names are wrong.
+/// The status of a call whose lengths do not add up to what is given, or that has not one name for
+/// each file.
 /// Source: this project's profile.
 pub const WRONG_LENGTHS: u32 = 2;
 
@@ -25,6 +26,14 @@ pub const NO_MEMORY: u32 = 4;
 /// Source: this project's profile.
 pub const TOO_SMALL: u32 = 5;
 
+/// The status of a call of which a name is no UTF-8.
+/// Source: this project's profile.
+pub const WRONG_NAMES: u32 = 6;
+
+/// The status of a call for a text that there is not, or that has no such form.
+/// Source: this project's profile.
+pub const WRONG_TEXT: u32 = 7;
+
 /// What a call answers: its status, and what goes with that status. All else is 0.
 ///
 /// `include/pslink.h` has the same fields.
@@ -32,7 +41,7 @@ pub const TOO_SMALL: u32 = 5;
 #[repr(C)]
 #[derive(Clone, Copy, Debug, PartialEq, Eq)]
 pub struct Answer {
-    /// `DONE`, `REFUSED`, `WRONG_LENGTHS`, `NO_MEMORY` or `TOO_SMALL`.
+    /// `DONE`, `REFUSED`, `WRONG_LENGTHS`, `NO_MEMORY`, `TOO_SMALL`, `WRONG_NAMES` or `WRONG_TEXT`.
     pub status: u32,
     /// The kind word of the library's entry, of a fault with number 14.
     pub kind: u16,
@@ -65,6 +74,12 @@ pub struct Answer {
     pub written: usize,
     /// How many bytes the result has, of a call that was done or that was given too little room.
     pub needed: usize,
+    /// What the fault is about, of a refusal that has such a name.
+    pub name: Name,
+    /// 1 where the fault has such a name, and 0 where it has none.
+    pub has_name: u32,
+    /// 0: room for what is added.
+    pub reserved: [u32; 7],
 }
 
 impl Answer {
@@ -92,6 +107,9 @@ impl Answer {
             blocks: 0,
             written: 0,
             needed: 0,
+            name: [0; 8],
+            has_name: 0,
+            reserved: [0; 7],
         }
     }
 
@@ -114,8 +132,10 @@ impl Answer {
                 needed: size,
                 ..Answer::bare(DONE)
             },
-            Err(Stop::Refused(fault)) => Answer::refusal(fault),
+            Err(Stop::Refused(refusal)) => Answer::refusal(refusal.fault, refusal.name),
             Err(Stop::WrongLengths) => Answer::bare(WRONG_LENGTHS),
+            Err(Stop::WrongNames) => Answer::bare(WRONG_NAMES),
+            Err(Stop::NoSuchText) => Answer::bare(WRONG_TEXT),
             Err(Stop::NoMemory) => Answer::bare(NO_MEMORY),
             Err(Stop::TooSmall(size)) => Answer {
                 needed: size,
@@ -124,9 +144,9 @@ impl Answer {
         }
     }
 
-    /// The files are refused for this fault.
-    pub(crate) fn refusal(fault: Fault) -> Answer
-        ensures { result ≡ refusal_spec fault }
+    /// The files are refused for this fault, which is about what has this name.
+    pub(crate) fn refusal(fault: Fault, name: Option<Name>) -> Answer
+        ensures { result ≡ refusal_spec fault name }
     {
         let kind = kind_of(fault.reason);
         Answer {
@@ -140,6 +160,8 @@ impl Answer {
             file: fault.file,
             rec: fault.rec.unwrap_or(0),
             reference: fault.reference.unwrap_or(0),
+            name: name.unwrap_or([0; 8]),
+            has_name: name.is_some().into(),
             ..Answer::bare(REFUSED)
         }
     }

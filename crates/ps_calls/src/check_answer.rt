@@ -2,10 +2,11 @@
 ghost use Rattle.std.specs.Prelude.{◌≡◌};
 ghost use Rattle.ps_calls.specs.CheckAnswers.{verdict_answer as verdict_answer_spec};
 
-use crate::answer::{Answer, DONE, NO_MEMORY, TOO_SMALL, WRONG_LENGTHS};
+use crate::answer::{Answer, DONE, NO_MEMORY, TOO_SMALL, WRONG_LENGTHS, WRONG_NAMES};
 use crate::checking::Found;
 use crate::outcome::Stop;
 use ps_report::Verdict;
+use ps_words::Name;
 
 /// What a check answers: its status, and what goes with that status. All else is 0.
 ///
@@ -14,7 +15,7 @@ use ps_report::Verdict;
 #[repr(C)]
 #[derive(Clone, Copy, Debug, PartialEq, Eq)]
 pub struct CheckAnswer {
-    /// `DONE`, `WRONG_LENGTHS`, `NO_MEMORY` or `TOO_SMALL`.
+    /// `DONE`, `WRONG_LENGTHS`, `NO_MEMORY`, `TOO_SMALL` or `WRONG_NAMES`.
     pub status: u32,
     /// What a process that prints the report ends with, of a check that was done: 0 or 1.
     pub ends_with: u32,
@@ -28,6 +29,8 @@ pub struct CheckAnswer {
     /// none needed: `DONE` with what the linked file has, or `REFUSED` with the first fault of all.
     /// Else it has the status of the check.
     pub verdict: Answer,
+    /// 0: room for what is added.
+    pub reserved: [usize; 4],
 }
 
 impl CheckAnswer {
@@ -44,6 +47,7 @@ impl CheckAnswer {
             written: 0,
             needed: 0,
             verdict: Answer::bare(status),
+            reserved: [0; 4],
         }
     }
 
@@ -58,7 +62,7 @@ impl CheckAnswer {
                 warnings: found.warnings,
                 written: found.size,
                 needed: found.size,
-                verdict: verdict_answer(found.verdict),
+                verdict: verdict_answer(found.verdict, found.name),
                 ..CheckAnswer::bare(DONE)
             },
             Err(Stop::TooSmall(size)) => CheckAnswer {
@@ -66,15 +70,19 @@ impl CheckAnswer {
                 ..CheckAnswer::bare(TOO_SMALL)
             },
             Err(Stop::NoMemory) => CheckAnswer::bare(NO_MEMORY),
-            // A check refuses no files: what it finds has the fault.
-            Err(Stop::WrongLengths | Stop::Refused(_)) => CheckAnswer::bare(WRONG_LENGTHS),
+            Err(Stop::WrongNames) => CheckAnswer::bare(WRONG_NAMES),
+            // A check refuses no files: what it finds has the fault. And it is a text that there is.
+            Err(Stop::WrongLengths | Stop::NoSuchText | Stop::Refused(_)) => {
+                CheckAnswer::bare(WRONG_LENGTHS)
+            }
         }
     }
 }
 
-/// What a link of files with this verdict answers, with no bytes written and none needed.
-fn verdict_answer(verdict: Verdict) -> Answer
-    ensures { result ≡ verdict_answer_spec verdict }
+/// What a link of files with this verdict answers, with no bytes written and none needed. A fault is
+/// about what has this name.
+fn verdict_answer(verdict: Verdict, name: Option<Name>) -> Answer
+    ensures { result ≡ verdict_answer_spec verdict name }
 {
     match verdict {
         Verdict::Links(summary) => Answer {
@@ -83,6 +91,6 @@ fn verdict_answer(verdict: Verdict) -> Answer
             blocks: summary.blocks,
             ..Answer::bare(DONE)
         },
-        Verdict::Refused(fault) => Answer::refusal(fault),
+        Verdict::Refused(fault) => Answer::refusal(fault, name),
     }
 }

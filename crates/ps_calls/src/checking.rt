@@ -3,13 +3,15 @@ ghost use Rattle.std.specs.Prelude.{◌≡◌, ◌<◌, ◌+◌, ◌↔◌, IfOk
 ghost use Rattle.ps_resolve.specs.Sources.{contents};
 ghost use Rattle.ps_report.specs.Verdicts.{check_status};
 ghost use Rattle.ps_calls.specs.Libraries.{split as split_spec};
-ghost use Rattle.ps_calls.specs.Checks.{IsFound, IsCheckable, StopsCheck, StopsReport};
+ghost use Rattle.ps_calls.specs.Checks.{IsFound, IsCheckable, StopsCheck, StopsReport, verdict_name as verdict_name_spec};
 
 use crate::file_names::file_names;
 use crate::libraries::{LIBRARIES_IN_PLACE, split};
 use crate::outcome::Stop;
 use crate::texts::put;
+use ps_named::fault_name;
 use ps_report::{Report, Verdict};
+use ps_words::Name;
 use std::alloc::Global;
 
 /// What a check found, whose report was put in the caller's room.
@@ -24,28 +26,43 @@ pub struct Found {
     pub ends_with: u8,
     /// How many bytes the report has.
     pub size: usize,
+    /// The name of what the fault is about, where the files are refused and it has one.
+    pub name: Option<Name>,
 }
 
 /// Whether so many names are one for the host and one for each of so many libraries.
-fn is_one_each(names: usize, libs: usize) -> bool
+pub(crate) fn is_one_each(names: usize, libs: usize) -> bool
     ensures { IsTrue result ↔ (names ≡ 1 + libs) }
 {
     libs < names && names - libs == 1
 }
 
-/// What a report says of its files.
-fn found_in(report: &Report<'_, Global>, strict: bool) -> Found
+/// The name of what the fault of a verdict on these files is about.
+#[inline(never)]
+fn verdict_name(host: &[u8], libs: &[&[u8]], verdict: Verdict) -> Option<Name>
+    ensures { result ≡ verdict_name_spec host.now (contents libs.now) verdict }
+{
+    match verdict {
+        Verdict::Links(_) => None,
+        Verdict::Refused(fault) => fault_name(host, libs, fault),
+    }
+}
+
+/// What a report says of its files, with this name of what its fault is about.
+fn found_in(report: &Report<'_, Global>, strict: bool, name: Option<Name>) -> Found
     ensures verdict { result.verdict ≡ report.now.verdict }
     ensures warnings { result.warnings ≡ vec_len report.now.warnings }
     ensures ends_with { result.ends_with
         ≡ check_status strict (vec_len report.now.warnings) report.now.verdict }
     ensures size { result.size ≡ length (string_bytes report.now.text) }
+    ensures name { result.name ≡ name }
 {
     Found {
         verdict: report.verdict,
         warnings: report.warnings.len(),
         ends_with: report.status(strict),
         size: report.text.len(),
+        name,
     }
 }
 
@@ -70,7 +87,8 @@ fn check_all(
         return Err(Stop::NoMemory);
     };
     put(report.text.as_bytes(), room)?;
-    Ok(found_in(&report, strict))
+    let name = verdict_name(host, libs, report.verdict);
+    Ok(found_in(&report, strict, name))
 }
 
 /// Checks a host and the libraries that are one after another in `libs`, and puts the report in the
@@ -80,9 +98,10 @@ fn check_all(
 /// length of each, that of the host first; the other inputs are those of `link`. The room then
 /// begins with the report, also where the files are refused: what is found says so, with `strict`
 /// as the program's command says it. Else the room is as it was: refuses `WrongLengths` where the
-/// lengths do not add up to the length of `libs` or of `names`, where there is not one name for
-/// each file, and where a name is no UTF-8; `NoMemory` where memory was refused; and `TooSmall`
-/// where the report is longer than the room. Never refuses `Refused`.
+/// lengths do not add up to the length of `libs` or of `names`, and where there is not one name for
+/// each file; `WrongNames` where they do, and a name is no UTF-8; `NoMemory` where memory was
+/// refused; and `TooSmall` where the report is longer than the room. Never refuses `Refused` or
+/// `NoSuchText`.
 /// Source: this project's profile.
 pub fn check(
     alloc: Global,

@@ -9,7 +9,7 @@ use crate::libraries::{LIBRARIES_IN_PLACE, split};
 use crate::outcome::Stop;
 use std::alloc::Global;
 
-/// These names as text, one for one; refuses `WrongLengths` where one of them is no UTF-8.
+/// These names as text, one for one; refuses `WrongNames` where one of them is no UTF-8.
 fn texts<'a>(alloc: Global, names: &[&'a [u8]]) -> Result<Vec<&'a str>, Stop>
     ensures same { IfOk result (λ texts. contents texts.items ≡ contents names.now) }
     ensures utf8 { IfOk result (λ _. All IsUtf8 (contents names.now)) }
@@ -18,7 +18,7 @@ fn texts<'a>(alloc: Global, names: &[&'a [u8]]) -> Result<Vec<&'a str>, Stop>
     let mut texts = Vec::new(alloc);
     for name in names {
         let Ok(text) = str::from_utf8(name) else {
-            return Err(Stop::WrongLengths);
+            return Err(Stop::WrongNames);
         };
         if texts.push(text).is_err() {
             return Err(Stop::NoMemory);

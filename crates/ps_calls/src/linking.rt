@@ -6,7 +6,7 @@ ghost use Rattle.ps_calls.specs.Dones.{IsLinked};
 ghost use Rattle.ps_calls.specs.Stops.{StopsCall, StopsLink};
 
 use crate::libraries::{FEW_LIBRARIES, LIBRARIES_IN_PLACE, split};
-use crate::outcome::{Done, Stop};
+use crate::outcome::{Done, Stop, stop_for};
 use crate::room::fill;
 use ps_linkfile::{MAX_FILE_BLOCKS, prepare};
 use ps_words::BLOCK_SIZE;
@@ -22,7 +22,10 @@ fn link_all(alloc: Global, host: &[u8], libs: &[&[u8]], room: &mut [u8]) -> Resu
     ensures stopped { IfErr result (StopsLink room.old host.now (contents libs.now)) }
     ensures untouched { OnErr result (room.new ≡ room.old) }
 {
-    let linked = prepare(alloc, host, libs)?;
+    let linked = match prepare(alloc, host, libs) {
+        Ok(linked) => linked,
+        Err(error) => return Err(stop_for(host, libs, error)),
+    };
     let summary = linked.summary();
     let size = BLOCK_SIZE * summary.blocks;
     if room.len() < size {

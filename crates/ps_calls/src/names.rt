@@ -3,13 +3,18 @@ ghost use Rattle.std.specs.Prelude.{◌≡◌, ◌≤◌, ◌<◌, length};
 ghost use Rattle.ps_calls.specs.Names.{closed, fault_name, release, status_text as status_text_spec};
 ghost use Rattle.ps_calls.specs.Rooms.{RoomBeginsWith};
 
-use crate::answer::{DONE, NO_MEMORY, REFUSED, TOO_SMALL, WRONG_LENGTHS};
+use crate::answer::{DONE, NO_MEMORY, REFUSED, TOO_SMALL, WRONG_LENGTHS, WRONG_NAMES, WRONG_TEXT};
 use crate::fault_text::{FAULT_TEXT_MAX, Text};
 use crate::reasons::reason_of;
 use crate::texts::put;
 
 /// The release of pslink.
-const RELEASE: &str = "0.1.0";
+const RELEASE: &str = "0.2.0";
+
+/// The release of pslink as a number: 10000 times its first part, 100 times its second, and its
+/// third.
+/// Source: this project's profile.
+pub const RELEASE_NUMBER: u32 = 200;
 
 /// The name of the fault of this number; nothing where there is none.
 fn name_of_fault(number: u8) -> &'static str
@@ -25,14 +30,16 @@ fn name_of_fault(number: u8) -> &'static str
 /// What a status says; nothing where no call answers it.
 fn status_text(status: u32) -> &'static str
     ensures text { result.now ≡ status_text_spec status }
-    ensures short { length result.now ≤ 49 }
+    ensures short { length result.now ≤ 65 }
 {
     match status {
         DONE => "done",
         REFUSED => "the files are refused",
-        WRONG_LENGTHS => "the lengths do not add up, or the names are wrong",
+        WRONG_LENGTHS => "the lengths do not add up, or there is not one name for each file",
         NO_MEMORY => "out of memory",
         TOO_SMALL => "the room is shorter than the result",
+        WRONG_NAMES => "a name is no UTF-8",
+        WRONG_TEXT => "there is no such text, or it has no such form",
         _ => "",
     }
 }

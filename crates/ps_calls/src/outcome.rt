@@ -1,9 +1,11 @@
 //! What becomes of a call.
 ghost use Rattle.std.specs.Prelude.{◌≡◌};
-ghost use Rattle.ps_calls.specs.Stops.{stop_of};
+ghost use Rattle.ps_resolve.specs.Sources.{contents};
+ghost use Rattle.ps_calls.specs.Stops.{refusal_of, stop_of};
 
 use ps_linkfile::{LinkError, Summary};
-use ps_words::Fault;
+use ps_named::fault_name;
+use ps_words::{Fault, Name};
 
 /// What was put in the caller's room.
 /// Source: this project's profile.
@@ -15,28 +17,53 @@ pub enum Done {
     Text(usize),
 }
 
+/// Why files are refused.
+/// Source: this project's profile.
+#[derive(Clone, Copy)]
+pub struct Refusal {
+    /// The fault.
+    pub fault: Fault,
+    /// The name of what it is about, where it has one.
+    pub name: Option<Name>,
+}
+
 /// Why nothing was put there.
 /// Source: this project's profile.
 #[derive(Clone, Copy)]
 pub enum Stop {
-    /// The files are refused for this fault.
-    Refused(Fault),
-    /// The lengths do not add up to what is given, or the names of a check are wrong.
+    /// The files are refused for this.
+    Refused(Refusal),
+    /// The lengths do not add up to what is given, or there is not one name for each file.
     WrongLengths,
+    /// A name is no UTF-8.
+    WrongNames,
+    /// There is no such text, or it has no such form.
+    NoSuchText,
     /// Memory was refused.
     NoMemory,
     /// The result has so many bytes, and there is less room.
     TooSmall(usize),
 }
 
-impl From<LinkError> for Stop {
-    ghost from_gives = { λ error stop. stop ≡ stop_of error };
+/// The refusal of these files for this fault.
+pub(crate) fn refusal_for(host: &[u8], libs: &[&[u8]], fault: Fault) -> Refusal
+    ensures { result ≡ refusal_of host.now (contents libs.now) fault }
+{
+    Refusal {
+        fault,
+        name: fault_name(host, libs, fault),
+    }
+}
 
-    fn from(error: LinkError) -> Stop {
-        match error {
-            LinkError::Refused(fault) => Stop::Refused(fault),
-            // Where nothing is written, no write fails.
-            LinkError::Memory | LinkError::Write(_) => Stop::NoMemory,
-        }
+/// Why a step with these files, which writes nothing, was not done. A function by itself, so that
+/// only a call that is refused has what it needs of the stack.
+#[inline(never)]
+pub(crate) fn stop_for(host: &[u8], libs: &[&[u8]], error: LinkError) -> Stop
+    ensures { result ≡ stop_of host.now (contents libs.now) error }
+{
+    match error {
+        LinkError::Refused(fault) => Stop::Refused(refusal_for(host, libs, fault)),
+        // Where nothing is written, no write fails.
+        LinkError::Memory | LinkError::Write(_) => Stop::NoMemory,
     }
 }

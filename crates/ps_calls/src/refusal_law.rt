@@ -1,9 +1,9 @@
-ghost use Rattle.std.specs.Prelude.{◌≡◌, Some};
+ghost use Rattle.std.specs.Prelude.{◌≡◌, List, Option, Some, ℕ};
 ghost use Rattle.ps_words.specs.declared.fault.Fault.{Fault};
 ghost use Rattle.ps_calls.specs.Answers.{refusal, refusal_fault};
 
 /// The answer of a refusal reports its fault, whole.
 /// Source: this project's profile.
 pub fn refusals_tell_their_faults()
-    ensures { (f : Fault) → refusal_fault (refusal f) ≡ Some f }
+    ensures { (f : Fault) (name : Option (List ℕ)) → refusal_fault (refusal f name) ≡ Some f }
 {}

@@ -9,7 +9,7 @@ ghost use Rattle.ps_calls.specs.Dones.{IsText};
 ghost use Rattle.ps_calls.specs.Stops.{IsOnlyAbove, StopsCall, StopsMap, StopsShow};
 
 use crate::libraries::{FEW_LIBRARIES, LIBRARIES_IN_PLACE, split};
-use crate::outcome::{Done, Stop};
+use crate::outcome::{Done, Stop, stop_for};
 use ps_linkfile::{map_text, show_text};
 use std::alloc::Global;
 
@@ -34,8 +34,10 @@ fn map_all(alloc: Global, host: &[u8], libs: &[&[u8]], room: &mut [u8]) -> Resul
     ensures stopped { IfErr result (StopsMap room.old host.now (contents libs.now)) }
     ensures untouched { OnErr result (room.new ≡ room.old) }
 {
-    let text = map_text(alloc, host, libs)?;
-    put(text.as_slice(), room)
+    match map_text(alloc, host, libs) {
+        Ok(text) => put(text.as_slice(), room),
+        Err(error) => Err(stop_for(host, libs, error)),
+    }
 }
 
 /// Puts the map of a link in the room as `map` does, with few libraries. A function by itself, so
@@ -120,6 +122,8 @@ pub fn show(alloc: Global, file: &[u8], room: &mut [u8]) -> Result<Done, Stop>
     ensures stopped { IfErr result (StopsShow room.old file.now) }
     ensures untouched { OnErr result (room.new ≡ room.old) }
 {
-    let text = show_text(alloc, file)?;
-    put(text.as_slice(), room)
+    match show_text(alloc, file) {
+        Ok(text) => put(text.as_slice(), room),
+        Err(error) => Err(stop_for(file, &[], error)),
+    }
 }

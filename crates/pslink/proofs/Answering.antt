@@ -13,7 +13,7 @@ use Rattle.ps_calls.specs.declared.outcome.Done.{Done}
 use Rattle.ps_calls.specs.declared.outcome.Done.TheVariants.{Linked, Text}
 use Rattle.ps_calls.specs.declared.outcome.Stop.{Stop}
 use Rattle.ps_calls.specs.declared.outcome.Stop.TheVariants.{Refused, WrongLengths, NoMemory}
-use Rattle.ps_calls.specs.declared.outcome.Stop.TheVariants.{TooSmall}
+use Rattle.ps_calls.specs.declared.outcome.Stop.TheVariants.{TooSmall, WrongNames, NoSuchText}
 
 -- it was done
 pub links : (host : List ℕ) (libs : List (List ℕ)) (old new : List ℕ) (a : Answer)
@@ -25,7 +25,11 @@ links host libs old new a (Ok done) e h is = record {
   begins = h.1.1.0;
   told = e ∙ ap done_answer h.1.1.1;
 }
-links host libs old new a (Err (Refused fault)) e h is =
+links host libs old new a (Err (Refused r)) e h is =
+    absurd (omega (arith, ap (λ (b : Answer). b.status) e, is))
+links host libs old new a (Err WrongNames) e h is =
+    absurd (omega (arith, ap (λ (b : Answer). b.status) e, is))
+links host libs old new a (Err NoSuchText) e h is =
     absurd (omega (arith, ap (λ (b : Answer). b.status) e, is))
 links host libs old new a (Err WrongLengths) e h is =
     absurd (omega (arith, ap (λ (b : Answer). b.status) e, is))
@@ -42,7 +46,11 @@ link_needs host libs lengths room a (Ok (Linked summary size)) e h is =
     absurd (omega (arith, ap (λ (b : Answer). b.status) e, is))
 link_needs host libs lengths room a (Ok (Text size)) e h is =
     absurd (omega (arith, ap (λ (b : Answer). b.status) e, is))
-link_needs host libs lengths room a (Err (Refused fault)) e h is =
+link_needs host libs lengths room a (Err (Refused r)) e h is =
+    absurd (omega (arith, ap (λ (b : Answer). b.status) e, is))
+link_needs host libs lengths room a (Err WrongNames) e h is =
+    absurd (omega (arith, ap (λ (b : Answer). b.status) e, is))
+link_needs host libs lengths room a (Err NoSuchText) e h is =
     absurd (omega (arith, ap (λ (b : Answer). b.status) e, is))
 link_needs host libs lengths room a (Err WrongLengths) e h is =
     absurd (omega (arith, ap (λ (b : Answer). b.status) e, is))

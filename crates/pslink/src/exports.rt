@@ -1,20 +1,21 @@
 //! What the library exports. C hands a slice over as a pointer and then a length, and a `Global` as
 //! nothing.
-ghost use Rattle.std.specs.Prelude.{◌≡◌, ◌≢◌, ◌==◌, ◌≤◌, ◌<◌, ◌⊎◌, length, not, sum, None, IfNone, IfSome};
+ghost use Rattle.std.specs.Prelude.{◌≡◌, ◌≢◌, ◌==◌, ◌≤◌, ◌<◌, ◌⊎◌, [], All, IsUtf8, length, not, sum, None, IfNone, IfSome};
 ghost use Rattle.ps_resolve.specs.Standing.{NoneStandsInReading};
 ghost use Rattle.ps_linkfile.specs.ShowText.{show_fault};
 ghost use Rattle.ps_calls.specs.Libraries.{split};
-ghost use Rattle.ps_calls.specs.Answers.{bare, closed_text, refusal_fault, IsStatus};
-ghost use Rattle.ps_calls.specs.Checks.{IsCheckable};
+ghost use Rattle.ps_calls.specs.Answers.{bare, closed_text, refusal_fault, IsStatus, IsTextStatus};
+ghost use Rattle.ps_calls.specs.Checks.{HasItsLengths, IsCheckable};
 ghost use Rattle.ps_calls.specs.CheckAnswers.{bare_check, IsCheckStatus};
 ghost use Rattle.ps_calls.specs.Names.{closed, fault_name, release, status_text};
 ghost use Rattle.ps_calls.specs.Rooms.{RoomBeginsWith};
-ghost use Rattle.ps_calls.specs.Calls.{Links, LinkNeeds, Maps, MapNeeds, Refuses, RefusesToShow, Reports, ReportNeeds, Shows, ShowNeeds};
+ghost use Rattle.ps_calls.specs.Kinds.{text_kind as text_kind_spec, units_kind as units_kind_spec};
+ghost use Rattle.ps_calls.specs.Calls.{IsAnswered, Links, LinkNeeds, Maps, MapNeeds, Refuses, RefusesToShow, Reports, ReportNeeds, Shows, ShowNeeds};
 
 use ps_calls::{
     Answer, CheckAnswer, DONE, FAULT_TEXT_MAX, LIBRARIES_IN_PLACE, LINKED_MAX, NO_MEMORY, REFUSED,
-    TOO_SMALL, WRONG_LENGTHS, check, link, map, put_fault, put_fault_name, put_release,
-    put_status_text, show,
+    RELEASE_NUMBER, TOO_SMALL, WRONG_LENGTHS, WRONG_NAMES, check, link, map, put_fault,
+    put_fault_name, put_release, put_status_text, show, text, text_kind, units_kind,
 };
 use std::alloc::Global;
 
@@ -139,9 +140,9 @@ pub extern "C" fn pslink_show_nonnull(
 /// the host first. Answers `DONE`, and `out` then begins with the report, also where the files are
 /// refused: `verdict` in the answer says so, and `ends_with` is 1 where they are, and where `strict`
 /// is not 0 on a warning too; `WRONG_LENGTHS` where `lengths` do not add up to the length of `libs`,
-/// or `name_lengths` to that of `names`, where there is not one name for each file, and where a name
-/// is no UTF-8; `NO_MEMORY` where memory was refused; and `TOO_SMALL` where `out` is shorter than the
-/// report. Never answers `REFUSED`.
+/// or `name_lengths` to that of `names`, and where there is not one name for each file;
+/// `WRONG_NAMES` where they do, and a name is no UTF-8; `NO_MEMORY` where memory was refused; and
+/// `TOO_SMALL` where `out` is shorter than the report. Never answers `REFUSED`.
 /// Source: this project's profile.
 #[unsafe(no_mangle)]
 pub extern "C" fn pslink_check_nonnull(
@@ -162,7 +163,10 @@ pub extern "C" fn pslink_check_nonnull(
 
     // Why else nothing is done.
     ensures wrong { result ≡ WRONG_LENGTHS
-        → IsCheckable libs.now lengths.now names.now name_lengths.now → ⊥ }
+        → HasItsLengths libs.now lengths.now names.now name_lengths.now → ⊥ }
+    ensures unreadable { result ≡ WRONG_NAMES
+        → HasItsLengths libs.now lengths.now names.now name_lengths.now
+        × (All IsUtf8 (split names.now name_lengths.now) → ⊥) }
     ensures right { (result ≡ DONE) ⊎ (result ≡ TOO_SMALL)
         → IsCheckable libs.now lengths.now names.now name_lengths.now }
     ensures small { result ≡ TOO_SMALL
@@ -172,6 +176,7 @@ pub extern "C" fn pslink_check_nonnull(
     // What stays as it was, and what is not said.
     ensures untouched { result ≢ DONE → out.new ≡ out.old }
     ensures bare_wrong { result ≡ WRONG_LENGTHS → answer.new ≡ bare_check WRONG_LENGTHS }
+    ensures bare_names { result ≡ WRONG_NAMES → answer.new ≡ bare_check WRONG_NAMES }
     ensures bare_memory { result ≡ NO_MEMORY → answer.new ≡ bare_check NO_MEMORY }
 {
     let outcome = check(
@@ -185,6 +190,68 @@ pub extern "C" fn pslink_check_nonnull(
         out,
     );
     *answer = CheckAnswer::of(outcome);
+    answer.status
+}
+
+/// Puts a text of a host and its libraries in `out`, as the program prints it, and answers how it
+/// went.
+///
+/// `what` is the number of the text, `TEXT_MAP` to `TEXT_UNITS`, and `form` that of its form, `LINES`
+/// or `JSON`. The other inputs are those of `pslink_check_nonnull`; of a text in which the files have
+/// no names, `names` and `name_lengths` are not looked at. Answers `DONE`, and `out` then begins with
+/// the text; `WRONG_TEXT` where there is no such text, or it has no such form; `WRONG_LENGTHS` and
+/// `WRONG_NAMES` as `pslink_check_nonnull`, of the inputs that are looked at; `REFUSED` as
+/// `pslink_map_nonnull`, a map with its references too, and as `pslink_show_nonnull`; `NO_MEMORY`
+/// where memory was refused; and `TOO_SMALL` where `out` is shorter than the text.
+/// Source: UCSD Pascal II.0 manual, code file format; the texts are this project's profile.
+#[unsafe(no_mangle)]
+pub extern "C" fn pslink_text_nonnull(
+    alloc: Global,
+    what: u32,
+    form: u32,
+    host: &[u8],
+    libs: &[u8],
+    lengths: &[usize],
+    names: &[u8],
+    name_lengths: &[usize],
+    out: &mut [u8],
+    answer: &mut Answer,
+) -> u32
+    ensures status { answer.new.status ≡ result }
+    ensures known { IsTextStatus result }
+    ensures answered { IsAnswered (text_kind_spec what form) host.now libs.now lengths.now
+        names.now name_lengths.now out.old out.new answer.new }
+    ensures untouched { result ≢ DONE → out.new ≡ out.old }
+{
+    let kind = text_kind(what, form);
+    *answer = Answer::of(text(alloc, kind, host, libs, lengths, names, name_lengths, out));
+    answer.status
+}
+
+/// Puts names of units in `out`, eight bytes each, one after another, and answers how it went.
+///
+/// `which` is `UNITS_WANTED`, for the units that a link of these files takes from libraries, or would
+/// take if they had them, or `UNITS_HAD`, for those whose code the file `host` has. Answers as
+/// `pslink_text_nonnull` does; `REFUSED` only where `host` cannot be opened.
+/// Source: UCSD Pascal II.0 manual, code file format; which units are wanted, this project's profile.
+#[unsafe(no_mangle)]
+pub extern "C" fn pslink_units_nonnull(
+    alloc: Global,
+    which: u32,
+    host: &[u8],
+    libs: &[u8],
+    lengths: &[usize],
+    out: &mut [u8],
+    answer: &mut Answer,
+) -> u32
+    ensures status { answer.new.status ≡ result }
+    ensures known { IsTextStatus result }
+    ensures answered { IsAnswered (units_kind_spec which) host.now libs.now lengths.now
+        [] [] out.old out.new answer.new }
+    ensures untouched { result ≢ DONE → out.new ≡ out.old }
+{
+    let kind = units_kind(which);
+    *answer = Answer::of(text(alloc, kind, host, libs, lengths, &[], &[], out));
     answer.status
 }
 
@@ -257,7 +324,17 @@ pub extern "C" fn pslink_release_nonnull(out: &mut [u8]) -> usize
 /// Source: this project's profile.
 #[unsafe(no_mangle)]
 pub extern "C" fn pslink_version() -> u32
-    ensures { result ≡ 1 }
+    ensures { result ≡ 2 }
 {
-    1
+    2
+}
+
+/// The release of pslink as a number: 10000 times its first part, 100 times its second, and its
+/// third.
+/// Source: this project's profile.
+#[unsafe(no_mangle)]
+pub extern "C" fn pslink_release_number() -> u32
+    ensures { result ≡ RELEASE_NUMBER }
+{
+    RELEASE_NUMBER
 }

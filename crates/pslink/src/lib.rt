@@ -1,5 +1,5 @@
-//! The library for C: a link, its map, the report of a check and what a code file has, from memory
-//! to memory.
+//! The library for C: a link, its map, the report of a check, what a code file has and what else the
+//! program prints of files, from memory to memory.
 //!
 //! Each export says by its contract what it leaves in the caller's memory, in the words of
 //! `ps_calls`, which does the call. `include/pslink.h` has them as C sees them: a slice is a pointer
@@ -10,10 +10,13 @@ mod exports;
 
 pub use exports::{
     pslink_check_nonnull, pslink_fault_name_nonnull, pslink_fault_text_nonnull,
-    pslink_link_nonnull, pslink_map_nonnull, pslink_release_nonnull, pslink_show_nonnull,
-    pslink_status_text_nonnull, pslink_version,
+    pslink_link_nonnull, pslink_map_nonnull, pslink_release_nonnull, pslink_release_number,
+    pslink_show_nonnull, pslink_status_text_nonnull, pslink_text_nonnull, pslink_units_nonnull,
+    pslink_version,
 };
 pub use ps_calls::{
-    Answer, CheckAnswer, DONE, FAULT_TEXT_MAX, LIBRARIES_IN_PLACE, LINKED_MAX, NO_MEMORY, REFUSED,
-    TOO_SMALL, WRONG_LENGTHS, refusals_tell_their_faults,
+    Answer, CheckAnswer, DONE, FAULT_TEXT_MAX, JSON, LIBRARIES_IN_PLACE, LINES, LINKED_MAX,
+    NO_MEMORY, REFUSED, RELEASE_NUMBER, TEXT_CHECK, TEXT_LIST, TEXT_MAP, TEXT_REFERENCES,
+    TEXT_SHOW, TEXT_UNITS, TOO_SMALL, UNITS_HAD, UNITS_WANTED, WRONG_LENGTHS, WRONG_NAMES,
+    WRONG_TEXT, refusals_tell_their_faults,
 };

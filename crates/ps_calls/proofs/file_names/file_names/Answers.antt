@@ -14,5 +14,6 @@ returns-clause-utf8 c =
 pub returns-clause-err : goal.returns-clause-err
 returns-clause-err c =
     misnamed c.args.names.now c.args.lengths.now c.as_slice.result.now c.texts.result
+    c.in_ok-parts.ensures.right
     (ap (λ (parts : List (Bor (List ℕ))). contents parts) c.as_slice.ensures
     ∙ c.in_ok-parts.ensures.ok) c.texts.ensures.err

@@ -1,0 +1,7 @@
+use Rattle.ps_calls.proofs.making.make_wanted.Goals as goal
+
+pub returns-clause-made : goal.returns-clause-made
+returns-clause-made c = rw c.read-reading.ensures at c.wanted_in.ensures.made
+
+pub returns-clause-stopped : goal.returns-clause-stopped
+returns-clause-stopped c = rw c.read-reading.ensures at c.wanted_in.ensures.stopped

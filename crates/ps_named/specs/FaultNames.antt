@@ -1,0 +1,92 @@
+-- The name of what a fault is about: that of the record that is at fault, or that of the slot.
+-- Source: this project's profile.
+use Rattle.std.specs.Prelude.{ℕ, if◌then◌else◌, List, Bool, true, false, Option, Some, None}
+use Rattle.std.specs.Prelude.{Result, Ok, Err, nat_le, option_and_then, slice_get}
+use Rattle.std.specs.List.{find}
+use Rattle.std.specs.Option.{option_map, option_map_or, option_or}
+use Rattle.ps_words.specs.declared.fault.Fault.{Fault}
+use Rattle.ps_words.specs.declared.fault.Reason.{Reason}
+use Rattle.ps_words.specs.declared.fault.Reason.TheVariants as reason
+use Rattle.ps_codefile.specs.Dictionary.{OpenedFile, entry_at, opened_alone, role_of}
+use Rattle.ps_codefile.specs.declared.entry.Role.{Role}
+use Rattle.ps_codefile.specs.declared.entry.Role.TheVariants as role
+use Rattle.ps_resolve.specs.KnownSegments.{is_in_slot}
+use Rattle.ps_resolve.specs.Readings.{HostFiles, all_read, opened_host, slot_request}
+use Rattle.ps_resolve.specs.Sources.{Segment, opened_files}
+
+-- the record cannot be read, so it has no name
+abbrev pub is_unread : Reason → Bool
+is_unread reason.RecordsTruncated = true
+is_unread reason.UnknownRecord = true
+is_unread reason.NativeRecord = true
+is_unread reason.SeparateRecord = true
+is_unread reason.BadFormat = true
+is_unread why = false
+
+-- the record of a fault, where it was read
+abbrev pub read_record : Fault → Option ℕ
+read_record f = if is_unread f.reason then None else f.rec
+
+-- the name in the record of this index of a segment, where it has so many
+abbrev pub name_of_record : ℕ → Segment → Option (List ℕ)
+name_of_record rec s = option_map (λ r. r.name) (slice_get s.records rec)
+
+-- so of the segment that is in a slot of a link
+abbrev pub name_in_record : HostFiles → ℕ → ℕ → Option (List ℕ)
+name_in_record h slot rec = option_and_then (name_of_record rec)
+    (find (is_in_slot slot) (all_read h.order h.file (opened_files h.order h.libs)))
+
+-- the name of the unit that is requested in an empty slot, or that of the slot's entry
+abbrev pub name_in_slot : HostFiles → ℕ → List ℕ
+name_in_slot h slot = option_map_or (λ r. r.name)
+    (slot_request h.order h.file (opened_files h.order h.libs) slot)
+    (entry_at h.order h.file slot).name
+
+-- the name of a slot of the host or, where the index of a record is given, that in the record of
+-- its segment
+abbrev pub name_at : HostFiles → ℕ → Option ℕ → Option (List ℕ)
+name_at h slot None = Some (name_in_slot h slot)
+name_at h slot (Some rec) = name_in_record h slot rec
+
+-- so of a host that was opened, or was not
+abbrev pub name_as : Result HostFiles Reason → ℕ → Option ℕ → Option (List ℕ)
+name_as (Err why) slot rec = None
+name_as (Ok h) slot rec = name_at h slot rec
+
+abbrev pub read_name : List ℕ → List (List ℕ) → ℕ → Option ℕ → Option (List ℕ)
+read_name host libs slot rec = name_as (opened_host host libs) slot rec
+
+-- the name that a slot of this role has by its own entry: of one that is not empty
+abbrev pub name_by_role : List ℕ → Result Role Reason → Option (List ℕ)
+name_by_role name (Ok role.Empty) = None
+name_by_role name (Ok role.Wanted) = Some name
+name_by_role name (Ok role.Plain) = Some name
+name_by_role name (Ok role.Host) = Some name
+name_by_role name (Ok role.Unit) = Some name
+name_by_role name (Err why) = Some name
+
+-- so of a file that was opened, or was not
+abbrev pub entry_name : Result OpenedFile Reason → ℕ → Option (List ℕ)
+entry_name (Err why) slot = None
+entry_name (Ok f) slot = let e = entry_at f.order f.file slot in name_by_role e.name (role_of e)
+
+-- the name that goes with a slot and no record: by the entry, or else of the unit that is requested
+abbrev pub slot_name : List ℕ → List (List ℕ) → ℕ → Option (List ℕ)
+slot_name host libs slot = option_or (entry_name (opened_alone host) slot)
+    (read_name host libs slot None)
+
+-- the name that goes with a slot and perhaps a record
+abbrev pub place_name : List ℕ → List (List ℕ) → ℕ → Option ℕ → Option (List ℕ)
+place_name host libs slot None = slot_name host libs slot
+place_name host libs slot (Some rec) = read_name host libs slot (Some rec)
+
+abbrev pub name_in_host : List ℕ → List (List ℕ) → Option ℕ → ℕ → Option (List ℕ)
+name_in_host host libs rec slot = if nat_le 16 slot then None
+    else place_name host libs slot rec
+
+-- The name of what a fault of these files is about, eight bytes. Of a fault with a record that
+-- could be read, the name in that record of the segment in its slot: of the unit that is requested,
+-- or of the symbol. Of any other with a slot, the name of that slot in the host's dictionary or,
+-- where it is empty, of the unit that is requested there. None of a fault of a file as a whole.
+unfoldable pub fault_name : List ℕ → List (List ℕ) → Fault → Option (List ℕ)
+fault_name host libs f = option_and_then (name_in_host host libs (read_record f)) f.slot

@@ -1,0 +1,178 @@
+//! The name of what a fault is about.
+ghost use Rattle.std.specs.Prelude.{◌≡◌, ◌<◌, slice_get};
+ghost use Rattle.std.specs.List.{find};
+ghost use Rattle.std.specs.Option.{option_map};
+ghost use Rattle.ps_codefile.specs.Dictionary.{opened_alone};
+ghost use Rattle.ps_resolve.specs.KnownSegments.{is_in_slot};
+ghost use Rattle.ps_resolve.specs.Sources.{contents};
+ghost use Rattle.ps_named.specs.FaultNames.{entry_name as entry_name_spec, fault_name as fault_name_spec, name_at as name_at_spec, name_in_host as name_in_host_spec, name_in_record as name_in_record_spec, name_in_slot as name_in_slot_spec, name_by_role as name_by_role_spec, name_of_record as name_of_record_spec, place_name as place_name_spec, read_name as read_name_spec, slot_name as slot_name_spec, read_record as read_record_spec};
+
+use ps_codefile::dictionary_layout::SLOTS;
+use ps_codefile::{Dict, Role};
+use ps_resolve::{HostReading, Reading, Segment, read};
+use ps_words::{Fault, Name, Reason};
+
+/// The segment that is in a slot.
+fn segment_in<'s, 'a>(segments: &'s [Segment<'a>], slot: u8) -> Option<&'s Segment<'a>>
+    ensures { option_map (λ s. s.now) result ≡ find (is_in_slot slot) segments.now }
+{
+    for segment in segments {
+        if segment.slot() == slot {
+            return Some(segment);
+        }
+    }
+    None
+}
+
+/// The name in the record of this index of a segment, where it has so many.
+fn name_of_record(segment: &Segment, rec: usize) -> Option<Name>
+    ensures { result ≡ name_of_record_spec rec segment.now }
+{
+    match segment.records()?.record(rec) {
+        None => None,
+        Some(record) => Some(record.name),
+    }
+}
+
+/// The name in the record of this index of the segment in a slot.
+fn name_in_record(host: &HostReading, slot: u8, rec: usize) -> Option<Name>
+    ensures { result ≡ name_in_record_spec host.now slot rec }
+{
+    match segment_in(host.segments(), slot) {
+        None => None,
+        Some(segment) => name_of_record(segment, rec),
+    }
+}
+
+/// The name of the unit that is requested in an empty slot, or that of the slot.
+fn name_in_slot(host: &HostReading, slot: u8) -> Name
+    requires { slot < 16 }
+    ensures { result ≡ name_in_slot_spec host.now slot }
+{
+    match host.request(slot) {
+        Some(request) => request.name,
+        None => host.entry(slot).name,
+    }
+}
+
+/// The name of a slot of the host or, where the index of a record is given, that in the record of
+/// its segment.
+fn name_at(host: &HostReading, slot: u8, rec: Option<usize>) -> Option<Name>
+    requires { slot < 16 }
+    ensures { result ≡ name_at_spec host.now slot rec }
+{
+    match rec {
+        None => Some(name_in_slot(host, slot)),
+        Some(rec) => name_in_record(host, slot, rec),
+    }
+}
+
+/// That of files that were read.
+fn name_read(reading: &Reading, slot: u8, rec: Option<usize>) -> Option<Name>
+    requires { slot < 16 }
+    ensures { result ≡ read_name_spec reading.now.host reading.now.libs slot rec }
+{
+    match reading.host() {
+        Err(_) => None,
+        Ok(host) => name_at(host, slot, rec),
+    }
+}
+
+/// That of these files.
+#[inline(never)]
+fn read_name(host: &[u8], libs: &[&[u8]], slot: u8, rec: Option<usize>) -> Option<Name>
+    requires { slot < 16 }
+    ensures { result ≡ read_name_spec host.now (contents libs.now) slot rec }
+{
+    let reading = read(host, libs);
+    name_read(&reading, slot, rec)
+}
+
+/// The record of a fault, where it was read.
+fn read_record(fault: Fault) -> Option<usize>
+    ensures { result ≡ read_record_spec fault }
+{
+    match fault.reason {
+        Reason::RecordsTruncated
+        | Reason::UnknownRecord
+        | Reason::NativeRecord
+        | Reason::SeparateRecord
+        | Reason::BadFormat => None,
+        _ => fault.rec,
+    }
+}
+
+/// The name that a slot of this role has by its own entry: of one that is not empty.
+fn name_by_role(name: Name, role: Result<Role, Reason>) -> Option<Name>
+    ensures { result ≡ name_by_role_spec name role }
+{
+    match role {
+        Ok(Role::Empty) => None,
+        Ok(Role::Wanted | Role::Plain | Role::Host | Role::Unit) | Err(_) => Some(name),
+    }
+}
+
+/// The name that a slot of a file has by its own entry.
+fn entry_name(host: &[u8], slot: u8) -> Option<Name>
+    requires { slot < 16 }
+    ensures { result ≡ entry_name_spec (opened_alone host.now) slot }
+{
+    match Dict::read(host) {
+        Err(_) => None,
+        Ok(dict) => name_by_role(dict.entry(slot).name, dict.role(slot)),
+    }
+}
+
+/// The name that goes with a slot and no record.
+fn slot_name(host: &[u8], libs: &[&[u8]], slot: u8) -> Option<Name>
+    requires { slot < 16 }
+    ensures { result ≡ slot_name_spec host.now (contents libs.now) slot }
+{
+    match entry_name(host, slot) {
+        Some(name) => Some(name),
+        None => read_name(host, libs, slot, None),
+    }
+}
+
+/// The name that goes with a slot and perhaps a record.
+fn place_name(host: &[u8], libs: &[&[u8]], slot: u8, rec: Option<usize>) -> Option<Name>
+    requires { slot < 16 }
+    ensures { result ≡ place_name_spec host.now (contents libs.now) slot rec }
+{
+    match rec {
+        None => slot_name(host, libs, slot),
+        Some(rec) => read_name(host, libs, slot, Some(rec)),
+    }
+}
+
+/// The same; none where the host has no such slot.
+fn name_in_host(host: &[u8], libs: &[&[u8]], rec: Option<usize>, slot: u8) -> Option<Name>
+    ensures { result ≡ name_in_host_spec host.now (contents libs.now) rec slot }
+{
+    if SLOTS <= slot {
+        None
+    } else {
+        place_name(host, libs, slot, rec)
+    }
+}
+
+/// The name of what a fault of these files is about, eight bytes.
+///
+/// `host` and each of `libs` are whole code files, and `fault` is the one for which they are
+/// refused. Of a fault with a record that could be read it is the name in that record: of the unit
+/// that is requested, by 13 and 35, or of the symbol. Of any other fault with a slot it is the name
+/// that the slot has in the host's dictionary, of a unit that is wanted or of a segment; and where
+/// the slot is empty, that of the unit that is requested there. `None` of a fault of a file as a
+/// whole. It takes no memory.
+///
+/// Source: UCSD Pascal II.0 manual, code file format; which name it is, this project's profile.
+#[tactic(auto, unfolding(crate::specs::FaultNames::fault_name))]
+pub fn fault_name(host: &[u8], libs: &[&[u8]], fault: Fault) -> Option<Name>
+    ensures { result ≡ fault_name_spec host.now (contents libs.now) fault }
+{
+    let rec = read_record(fault);
+    match fault.slot {
+        None => None,
+        Some(slot) => name_in_host(host, libs, rec, slot),
+    }
+}
