@@ -1,5 +1,5 @@
-/* Prints how many bytes of stack the calls of these files take, at most, and then how many a check takes: they are made on a thread
- * whose stack was filled before. Usage: stack HOST [LIB]... */
+/* Prints how many bytes of stack the calls of these files take, at most, and then how many a check and the texts take: they are made
+ * on a thread whose stack was filled before. Usage: stack HOST [LIB]... */
 #define _GNU_SOURCE
 #include <pslink.h>
 #include <pthread.h>
@@ -49,6 +49,8 @@ static void *a_check(void *room)
     static pslink_named_file named[FILES];
     const pslink_named_file of_host = {"HOST", host.bytes, host.length};
     pslink_check_answer answer;
+    pslink_answer one;
+    uint32_t what, form;
     size_t k;
 
     for (k = 0; k < count; k++) {
@@ -57,6 +59,9 @@ static void *a_check(void *room)
         named[k].length = libs[k].length;
     }
     pslink_check_files(of_host, named, count, 1, room, PSLINK_LINKED_MAX, &answer);
+    for (what = PSLINK_TEXT_MAP; what <= PSLINK_TEXT_UNITS; what++)
+        for (form = PSLINK_LINES; form <= PSLINK_JSON; form++)
+            pslink_text_files(what, form, of_host, named, count, room, PSLINK_LINKED_MAX, &one);
     return room;
 }
 

@@ -129,6 +129,7 @@ fn document(alloc: Global, items: &[u8]) -> Result<Vec<u8>, AllocError>
 }
 
 /// The list of a host and of libraries, of which each has a name, in this form.
+#[inline(never)]
 pub(crate) fn list_files(
     alloc: Global,
     how: ListForm,

@@ -92,6 +92,7 @@ fn map_lines(alloc: Global, host: &[u8], libs: &[&[u8]]) -> Result<Vec<u8>, Stop
 }
 
 /// The map of a link.
+#[inline(never)]
 fn make_map(alloc: Global, form: TextForm, host: &[u8], libs: &[&[u8]]) -> Result<Vec<u8>, Stop>
     ensures made { IfOk result (λ text. IsTextOf (Map form) [] host.now (contents libs.now)
         text.items) }
@@ -121,6 +122,7 @@ fn reference_text(
 }
 
 /// The map of a link with its references.
+#[inline(never)]
 fn make_references(
     alloc: Global,
     form: TextForm,
@@ -162,6 +164,7 @@ fn show_lines(alloc: Global, file: &[u8]) -> Result<Vec<u8>, Stop>
 }
 
 /// What a file has.
+#[inline(never)]
 fn make_show(alloc: Global, form: TextForm, file: &[u8]) -> Result<Vec<u8>, Stop>
     ensures made { IfOk result (λ text. IsTextOf (Show form) [] file.now [] text.items) }
     ensures stopped { IfErr result (StopsMaking (Show form) file.now []) }
@@ -206,6 +209,7 @@ fn printed(
 }
 
 /// The report on a host and libraries, of which each has a name.
+#[inline(never)]
 fn make_report(
     alloc: Global,
     form: TextForm,
@@ -244,6 +248,7 @@ fn wanted_in(alloc: Global, reading: &Reading<'_>) -> Result<Vec<u8>, Stop>
 }
 
 /// The names of the units that a link wants from libraries.
+#[inline(never)]
 fn make_wanted(alloc: Global, host: &[u8], libs: &[&[u8]]) -> Result<Vec<u8>, Stop>
     ensures made { IfOk result (λ text. IsTextOf Wanted [] host.now (contents libs.now)
         text.items) }
@@ -265,7 +270,8 @@ fn make_had(alloc: Global, file: &[u8]) -> Result<Vec<u8>, Stop>
 }
 
 /// Makes this of a host and libraries. Of a text that has their names, `host_name` and `names` are
-/// these.
+/// these. Each kind is made by a function by itself, so that it takes no more of the stack than it
+/// needs.
 pub(crate) fn make(
     alloc: Global,
     kind: TextKind,

@@ -1,0 +1,82 @@
+#!/usr/bin/env python3
+"""The name of what a fault is about, as the library answers it, beside the words of the report on the same files, of each set of files
+of .ci/report: where a record was read, its name, and else that of the segment. Prints what is otherwise. Usage: fault_names.py LIBRARY"""
+import ctypes
+import pathlib
+import re
+import runpy
+import sys
+
+ROOT = pathlib.Path(__file__).resolve().parents[2]
+sys.dont_write_bytecode = True
+sys.path[:0] = [str(ROOT / name) for name in ("bench", "samples", ".ci")]
+RECORD = re.compile(r"^  record \d+: [A-Z]+ (.*)$", re.M)
+SEGMENT = re.compile(r"^  segment (.*), of slot \d\d of the host$", re.M)
+ROOM = 1 << 20
+
+
+class Answer(ctypes.Structure):
+    """pslink_answer"""
+    _fields_ = [("status", ctypes.c_uint32), ("kind", ctypes.c_uint16), ("fault", ctypes.c_uint8), ("slot", ctypes.c_uint8),
+                *((f"has_{part}", ctypes.c_uint8) for part in ("kind", "slot", "record", "reference")),
+                ("private_words", ctypes.c_uint32),
+                *((part, ctypes.c_size_t) for part in ("file", "record", "reference", "segments", "blocks", "written", "needed")),
+                ("name", ctypes.c_uint8 * 8), ("has_name", ctypes.c_uint32), ("reserved", ctypes.c_uint32 * 7)]
+
+
+class CheckAnswer(ctypes.Structure):
+    """pslink_check_answer"""
+    _fields_ = [("status", ctypes.c_uint32), ("ends_with", ctypes.c_uint32),
+                *((part, ctypes.c_size_t) for part in ("warnings", "written", "needed")),
+                ("verdict", Answer), ("reserved", ctypes.c_size_t * 4)]
+
+
+def sizes(items):
+    return (ctypes.c_size_t * max(1, len(items)))(*map(len, items))
+
+
+def shown(name):
+    """A name as a report shows it."""
+    return bytes(byte if 32 < byte < 127 or byte == 32 else 63 for byte in name).decode().rstrip()
+
+
+def told(report):
+    """The name that a report tells of its fault: that of the record, or of the segment, or none."""
+    found = RECORD.search(report) or SEGMENT.search(report)
+    return found and found[1]
+
+
+def differences(library, room, host, libraries):
+    names = [b"HOST", *(b"LIB%d" % number for number in range(1, 1 + len(libraries)))]
+    answer, one = CheckAnswer(), Answer()
+    joined, lengths = b"".join(libraries), sizes(libraries)
+    size = lambda number: ctypes.c_size_t(number)
+    files = (host, size(len(host)), joined, size(len(joined)), lengths, size(len(libraries)))
+    status = library.pslink_check_nonnull(*files, b"".join(names), size(sum(map(len, names))), sizes(names), size(len(names)), 0, room,
+                                          size(ROOM), ctypes.byref(answer))
+    report = room.raw[: answer.written].decode()
+    verdict = answer.verdict
+    library.pslink_link_nonnull(*files, room, size(ROOM), ctypes.byref(one))
+    if status != 0 or (one.status == 1) != (verdict.status == 1):
+        yield f"status {status}, {one.status} of a link, {verdict.status} of its verdict"
+    elif (one.has_name, bytes(one.name)) != (verdict.has_name, bytes(verdict.name)):
+        yield f"a link has the name {bytes(one.name)}, and its verdict {bytes(verdict.name)}"
+    elif verdict.has_name not in (0, 1) or not verdict.has_name and any(verdict.name):
+        yield f"has_name {verdict.has_name} and the name {bytes(verdict.name)}"
+    elif verdict.status == 1 and told(report) != (shown(bytes(verdict.name)) if verdict.has_name else None):
+        yield f"fault {verdict.fault} has the name {bytes(verdict.name)}, and the report says {told(report)}"
+
+
+def main():
+    library = ctypes.CDLL(str(pathlib.Path(sys.argv[1]).resolve()))
+    room = ctypes.create_string_buffer(ROOM)
+    sets = {(bytes(host), tuple(map(bytes, libraries))): None for host, libraries in runpy.run_path(str(ROOT / ".ci/report"))["sets"]()}
+    found, named = [], 0
+    for number, (host, libraries) in enumerate(sets):
+        found += [f"set {number}: {line}" for line in differences(library, room, host, libraries)]
+    for line in found[:20]:
+        print(line)
+    return 1 if found else 0
+
+
+sys.exit(main())
