@@ -284,6 +284,7 @@ static void check_units(void)
     static unsigned char room[ROOM];
     pslink_answer answer;
 
+    memset(&answer, 0xFF, sizeof answer);
     memset(room, FILLER, sizeof room);
     check(pslink_units(PSLINK_UNITS_WANTED, host.bytes, host.length, NULL, 0, NULL, 0, NULL, 99, &answer) == PSLINK_TOO_SMALL &&
               answer.needed == 8,

@@ -37,7 +37,7 @@ def sizes(items):
 
 def shown(name):
     """A name as a report shows it."""
-    return bytes(byte if 32 < byte < 127 or byte == 32 else 63 for byte in name).decode().rstrip()
+    return bytes(byte if 32 <= byte < 127 else 63 for byte in name).decode().rstrip() or '""'
 
 
 def told(report):

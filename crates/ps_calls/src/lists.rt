@@ -8,37 +8,40 @@ ghost use Rattle.ps_resolve.specs.Sources.{contents};
 ghost use Rattle.ps_calls.specs.Printed.{AreListed, IsList, listed};
 
 use crate::kinds::ListForm;
-use ps_linkfile::separator;
+use ps_linkfile::{Counts, separator};
 use ps_listing::{LoneUnit, lone_units, write_list, write_list_json, write_lone_units};
 use std::alloc::{AllocError, Global};
 
-/// Adds the lines of a file.
+/// Adds the lines of a file. A function by itself, so that the room of its writer is taken once.
+#[inline(never)]
 fn add_lines(text: &mut Vec<u8>, name: &str, phrase: &str, file: &[u8]) -> Result<(), AllocError>
     ensures { OnOk result (text.new.items
         ≡ text.old.items ++ list_of name.now phrase.now file.now) }
 {
-    match write_list(name, phrase, file, text) {
+    match write_list(name, phrase, file, text, &mut Counts::new()) {
         Ok(()) => Ok(()),
         Err(_) => Err(AllocError),
     }
 }
 
 /// Adds the object of a file.
+#[inline(never)]
 fn add_object(text: &mut Vec<u8>, name: &str, phrase: &str, file: &[u8]) -> Result<(), AllocError>
     ensures { OnOk result (text.new.items
         ≡ text.old.items ++ list_json_of name.now phrase.now file.now) }
 {
-    match write_list_json(name, phrase, file, text) {
+    match write_list_json(name, phrase, file, text, &mut Counts::new()) {
         Ok(()) => Ok(()),
         Err(_) => Err(AllocError),
     }
 }
 
 /// Adds the line of each of these units.
+#[inline(never)]
 fn add_unit_lines(text: &mut Vec<u8>, name: &str, units: &[LoneUnit]) -> Result<(), AllocError>
     ensures { OnOk result (text.new.items ≡ text.old.items ++ lone_text name.now units.now) }
 {
-    match write_lone_units(name, units, text) {
+    match write_lone_units(name, units, text, &mut Counts::new()) {
         Ok(()) => Ok(()),
         Err(_) => Err(AllocError),
     }

@@ -13,7 +13,7 @@ use crate::lists::list_files;
 use crate::outcome::{Refusal, Stop, stop_for};
 use ps_codefile::Dict;
 use ps_linkfile::{
-    Linked, ReferenceMap, map_text, prepare, prepare_references, show_text, write_show_json,
+    Counts, Linked, ReferenceMap, map_text, prepare, prepare_references, show_text, write_show_json,
 };
 use ps_named::{units_had, units_wanted};
 use ps_report::Report;
@@ -22,33 +22,36 @@ use ps_words::{Fault, Reason};
 use std::alloc::{AllocError, Global};
 
 /// The document of a map.
+#[inline(never)]
 fn map_document(alloc: Global, linked: &Linked<'_>) -> Result<Vec<u8>, AllocError>
     ensures { IfOk result (λ text. text.items ≡ map_json_in linked.now) }
 {
     let mut text = Vec::new(alloc);
-    match linked.write_map_json(&mut text) {
+    match linked.write_map_json(&mut text, &mut Counts::new()) {
         Ok(()) => Ok(text),
         Err(_) => Err(AllocError),
     }
 }
 
 /// The lines of a map with its references.
+#[inline(never)]
 fn reference_lines(alloc: Global, map: &ReferenceMap<'_>) -> Result<Vec<u8>, AllocError>
     ensures { IfOk result (λ text. text.items ≡ references_text map.now) }
 {
     let mut text = Vec::new(alloc);
-    match map.write(&mut text) {
+    match map.write(&mut text, &mut Counts::new()) {
         Ok(()) => Ok(text),
         Err(_) => Err(AllocError),
     }
 }
 
 /// The document of a map with its references.
+#[inline(never)]
 fn reference_document(alloc: Global, map: &ReferenceMap<'_>) -> Result<Vec<u8>, AllocError>
     ensures { IfOk result (λ text. text.items ≡ referenced_json map.now) }
 {
     let mut text = Vec::new(alloc);
-    match map.write_json(&mut text) {
+    match map.write_json(&mut text, &mut Counts::new()) {
         Ok(()) => Ok(text),
         Err(_) => Err(AllocError),
     }
@@ -141,12 +144,13 @@ fn make_references(
 }
 
 /// What a file has, as a document.
+#[inline(never)]
 fn show_json(alloc: Global, file: &[u8]) -> Result<Vec<u8>, Stop>
     ensures made { IfOk result (λ text. IsTextOf (Show TextForm.Json) [] file.now [] text.items) }
     ensures stopped { IfErr result (StopsMaking (Show TextForm.Json) file.now []) }
 {
     let mut text = Vec::new(alloc);
-    match write_show_json(file, &mut text) {
+    match write_show_json(file, &mut text, &mut Counts::new()) {
         Ok(()) => Ok(text),
         Err(error) => Err(stop_for(file, &[], error)),
     }
