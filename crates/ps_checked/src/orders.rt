@@ -17,16 +17,25 @@ pub struct OrderOf<'a>(
 
 impl fmt::Display for OrderOf<'_> {
     fn fmt<W: fmt::Write>(&self, f: &mut Formatter<W>) -> fmt::Result {
-        let file_type = FileType::of(self.0);
         match Dict::read(self.0) {
             Ok(dict) => match dict.order() {
                 Order::Little => f.write_str("little-endian"),
                 Order::Big => f.write_str("big-endian"),
             },
-            Err(Reason::NoHost) if file_type.is_code() => f.write_str(
-                "no byte order, since no segment has a kind",
-            ),
-            Err(_) => write!(f, "{file_type}"),
+            Err(reason) => write_unordered(f, reason, FileType::of(self.0)),
         }
+    }
+}
+
+/// What a file is said to be that shows no byte order for this reason.
+fn write_unordered<W: fmt::Write>(
+    f: &mut Formatter<W>,
+    reason: Reason,
+    file_type: FileType,
+) -> fmt::Result {
+    if reason == Reason::NoHost && file_type.is_code() {
+        f.write_str("no byte order, since no segment has a kind")
+    } else {
+        write!(f, "{file_type}")
     }
 }

@@ -154,27 +154,16 @@ pub fn source_of<'a>(dict: &Dict<'a>, file: usize, index: u8) -> Source<'a>
     }
 }
 
-/// Where the segment of a slot comes from, also where it is refused; none where no library has the
-/// unit, or where it was not read.
+/// Where the segment of a slot that was read comes from, also where it is refused; none where no
+/// library has the unit.
 fn source_in<'a>(inputs: &Inputs<'a>, host: &HostReading<'a>, slot: u8) -> Option<Source<'a>>
     requires { slot < 16 }
 {
-    let _ = host.segment(slot)?;
     let EntryPlace { file, index } = host.source(slot)?;
     if SLOTS <= index {
         return None;
     }
     Some(source_of(&inputs.dict(file)?, file, index))
-}
-
-/// No library has the unit of a slot.
-fn is_missing(host: &HostReading<'_>, slot: u8) -> bool
-    requires { slot < 16 }
-{
-    match host.segment(slot) {
-        Some(Err(fault)) => fault.reason == Reason::MissingUnit,
-        _ => false,
-    }
 }
 
 /// The name of the segment of a slot.
@@ -241,12 +230,21 @@ fn is_added(host: &HostReading<'_>, slot: u8) -> bool
 fn segment_in<'a>(inputs: &Inputs<'a>, host: &HostReading<'a>, slot: u8) -> Option<Segment<'a>>
     requires { slot < 16 }
 {
+    let part = part_in(host, slot)?;
+    let (source, is_missing) = match host.segment(slot) {
+        None => (None, false),
+        Some(Ok(_)) => (source_in(inputs, host, slot), false),
+        Some(Err(fault)) => (
+            source_in(inputs, host, slot),
+            fault.reason == Reason::MissingUnit,
+        ),
+    };
     Some(Segment {
         slot: Some(slot),
         name: name_in(host, slot),
-        part: part_in(host, slot)?,
-        source: source_in(inputs, host, slot),
-        is_missing: is_missing(host, slot),
+        part,
+        source,
+        is_missing,
     })
 }
 

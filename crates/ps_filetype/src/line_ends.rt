@@ -23,20 +23,42 @@ pub enum LineEnds {
     Feeds,
 }
 
+/// So many bytes are counted at once: few enough that their number is a byte.
+const COUNTED: usize = 128;
+
+/// How many of at most 255 bytes are this one.
+fn count_in(bytes: &[u8], wanted: u8) -> u8 {
+    let mut count = 0u8;
+    for byte in bytes {
+        count = count.wrapping_add(u8::from(*byte == wanted));
+    }
+    count
+}
+
+/// How many bytes are this one.
+fn count_of(bytes: &[u8], wanted: u8) -> usize {
+    let mut count = 0usize;
+    for part in bytes.chunks(COUNTED) {
+        count = count.saturating_add(usize::from(count_in(part, wanted)));
+    }
+    count
+}
+
+/// How many 0A come after a 0D.
+fn pairs_of(bytes: &[u8]) -> usize {
+    let (mut pairs, mut last) = (0usize, 0u8);
+    for byte in bytes {
+        pairs = pairs.saturating_add(usize::from(last == b'\r' && *byte == b'\n'));
+        last = *byte;
+    }
+    pairs
+}
+
 impl LineEnds {
     /// How the line ends of a file were converted, if its bytes look so.
     pub fn of(bytes: &[u8]) -> Option<LineEnds> {
-        let (mut feeds, mut returns, mut pairs, mut last) = (0usize, 0usize, 0usize, 0u8);
-        for byte in bytes {
-            if *byte == b'\n' {
-                feeds = feeds.saturating_add(1);
-                pairs = pairs.saturating_add(usize::from(last == b'\r'));
-            } else if *byte == b'\r' {
-                returns = returns.saturating_add(1);
-            }
-            last = *byte;
-        }
-        if MANY <= feeds && pairs == feeds {
+        let (feeds, returns) = (count_of(bytes, b'\n'), count_of(bytes, b'\r'));
+        if MANY <= feeds && feeds <= returns && feeds == pairs_of(bytes) {
             Some(LineEnds::Pairs)
         } else if feeds == 0 && MANY_RETURNS <= returns {
             Some(LineEnds::Returns)

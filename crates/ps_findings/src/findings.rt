@@ -54,7 +54,7 @@ pub fn findings_of<'a, A: Allocator + Copy>(
         host,
         libs,
     };
-    let reading = read(host, libs);
+    let reading = read_files(host, libs);
     let list = segments_of(alloc, &inputs, &reading)?;
     let overview = overview_of(alloc, &inputs, &reading, list.as_slice())?;
     let explanation = explanation_of(alloc, &inputs, &reading, list.as_slice(), fault)?;
@@ -64,6 +64,15 @@ pub fn findings_of<'a, A: Allocator + Copy>(
         explanation,
         looks,
     })
+}
+
+/// Reads the files. A function by itself, so that what it moves takes room of the stack only until it
+/// returns.
+#[inline(never)]
+fn read_files<'a>(host: &'a [u8], libs: &'a [&'a [u8]]) -> Reading<'a>
+    ensures { result ≡ record { host = host.now; libs = contents libs.now } }
+{
+    read(host, libs)
 }
 
 /// The files, and the segments with where each comes from, in lines.

@@ -47,12 +47,12 @@ impl<'c> Body<'c> {
 
     /// What it shows of the rules by the table of instructions of the release by which it keeps to
     /// more of them.
-    pub(crate) fn reading(self) -> Reading {
-        let later = Walk::of(self, Release::Later);
+    pub(crate) fn reading(self, walk: &mut Walk) -> Reading {
+        let later = walk.over(self, Release::Later);
         if later.rules_kept() == Rule::ALL.len() {
             return later;
         }
-        let earlier = Walk::of(self, Release::Earlier);
+        let earlier = walk.over(self, Release::Earlier);
         if later.rules_kept() < earlier.rules_kept() {
             earlier
         } else {

@@ -1,8 +1,9 @@
 //! What the procedures of a file show of its P-code, and the one that breaks a rule which the others
 //! keep: damage hits one procedure, and a compiler's habit many.
 use crate::bodies::Body;
-use crate::rules::{Rule, Shown};
+use crate::rules::{Reading, Rule, Shown};
 use crate::tables::procedures_of;
+use crate::walks::Walk;
 use ps_codefile::Dict;
 use ps_codefile::dictionary_layout::SLOTS;
 use ps_words::Order;
@@ -93,15 +94,18 @@ impl FileCode {
     };
 
     /// That of a whole code file; `order` is that of its words where its kinds show none. A code of
-    /// which the procedure dictionary is not whole, or a procedure is native, shows nothing.
+    /// which the procedure dictionary is not whole, or a procedure is native, shows nothing. Sets of
+    /// places take room of the stack only until it returns.
     ///
     /// Source: this project's profile.
+    #[inline(never)]
     pub fn of(order: Order, file: &[u8]) -> FileCode {
         let mut found = FileCode::NONE;
+        let mut walk = Walk::NONE;
         if let Ok(dict) = Dict::read_beside(file, order) {
             for slot in 0..SLOTS {
                 if let Ok(code) = dict.code(slot) {
-                    found.add_code(dict.order(), slot, code);
+                    found.add_code(&mut walk, dict.order(), slot, code);
                 }
             }
         }
@@ -109,7 +113,7 @@ impl FileCode {
     }
 
     /// Adds the procedures of a code, as far as their bytes together are not more than it has.
-    fn add_code(&mut self, order: Order, slot: u8, code: &[u8]) {
+    fn add_code(&mut self, walk: &mut Walk, order: Order, slot: u8, code: &[u8]) {
         let Some(procedures) = procedures_of(order, code) else {
             return;
         };
@@ -121,16 +125,15 @@ impl FileCode {
                         return;
                     }
                     left = left.saturating_sub(body.len());
-                    self.add(slot, procedure, body);
+                    self.add(slot, procedure, body.len(), body.reading(walk));
                 }
             }
         }
     }
 
-    /// Adds a procedure.
-    fn add(&mut self, slot: u8, procedure: usize, body: Body<'_>) {
-        let reading = body.reading();
-        let (place, is_long) = ((slot, procedure), LONG <= body.len());
+    /// Adds a procedure of so many bytes, and what it shows.
+    fn add(&mut self, slot: u8, procedure: usize, length: usize, reading: Reading) {
+        let (place, is_long) = ((slot, procedure), LONG <= length);
         let is_read = 0 < reading.rules_kept();
         for (index, shown) in reading.shown.iter().enumerate() {
             // (of instructions that are not read no other rule is known)

@@ -12,15 +12,30 @@ pub(crate) const MOST: usize = BITS * WORDS;
 #[derive(Clone, Copy)]
 pub(crate) struct Places {
     words: [u64; WORDS],
+    /// No word from this one on has a bit.
+    used: usize,
 }
 
 impl Places {
-    pub(crate) const NONE: Places = Places { words: [0; WORDS] };
+    pub(crate) const NONE: Places = Places {
+        words: [0; WORDS],
+        used: 0,
+    };
+
+    /// Takes all places out.
+    pub(crate) fn clear(&mut self) {
+        for word in self.words.iter_mut().take(self.used) {
+            *word = 0;
+        }
+        self.used = 0;
+    }
 
     /// With this place, if it is one of the first.
     pub(crate) fn add(&mut self, place: usize) {
-        if let Some(word) = self.words.get_mut(place / BITS) {
-            *word |= 1 << (place % BITS);
+        let index = place / BITS;
+        if index < WORDS {
+            self.words[index] |= 1 << (place % BITS);
+            self.used = self.used.max(index + 1);
         }
     }
 
@@ -33,7 +48,7 @@ impl Places {
 
     /// The first of these that is none of those.
     pub(crate) fn first_beside(&self, those: &Places) -> Option<usize> {
-        for (index, word) in self.words.iter().enumerate() {
+        for (index, word) in self.words.iter().enumerate().take(self.used) {
             let rest = *word & !those.words.get(index).copied().unwrap_or(0);
             if rest != 0 {
                 return Some(

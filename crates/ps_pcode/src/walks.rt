@@ -34,7 +34,7 @@ pub(crate) struct Walk {
 }
 
 impl Walk {
-    const NONE: Walk = Walk {
+    pub(crate) const NONE: Walk = Walk {
         place: 0,
         starts: Places::NONE,
         short: Places::NONE,
@@ -50,21 +50,39 @@ impl Walk {
         is_lengthened: false,
     };
 
-    /// What the instructions of a procedure show, by the table of a release.
-    pub(crate) fn of(body: Body<'_>, release: Release) -> Reading {
-        let mut walk = Walk::NONE;
+    /// Begins anew. Sets of places are large: those of the walk before are cleared as far as it used
+    /// them.
+    fn restart(&mut self) {
+        self.starts.clear();
+        self.short.clear();
+        self.by_table.clear();
+        self.place = 0;
+        self.has_table_jump = false;
+        self.leads_outside = false;
+        self.first_case = None;
+        self.is_left = false;
+        self.is_whole = false;
+        self.stack = Stack::EMPTY;
+        self.first_odd_stack = None;
+        self.left_to_link = 0;
+        self.is_lengthened = false;
+    }
+
+    /// Goes over a procedure: what its instructions show, by the table of a release.
+    pub(crate) fn over(&mut self, body: Body<'_>, release: Release) -> Reading {
+        self.restart();
         for _ in 0..body.len() {
-            let place = body.ends.enter.saturating_add(walk.place);
-            if walk.is_whole {
-                return walk.reading();
+            let place = body.ends.enter.saturating_add(self.place);
+            if self.is_whole {
+                return self.reading();
             }
-            walk.arrive(body, place);
+            self.arrive(body, place);
             match Instruction::at(body.order, release, body.code, place) {
-                Some(instruction) => walk.pass(body, place, instruction),
-                None => return walk.reading(),
+                Some(instruction) => self.pass(body, place, instruction),
+                None => return self.reading(),
             }
         }
-        walk.reading()
+        self.reading()
     }
 
     /// Notes what is at a place where an instruction begins.

@@ -13,7 +13,7 @@ use ps_words::{Order, Reason, WORD_LEN, get};
 use std::alloc::{AllocError, Allocator};
 
 /// What a code may have many of, one after another: blanks of a text, and NOP.
-const REPEATED: [u8; 2] = [0x20, 0xD7];
+pub(super) const REPEATED: [u8; 2] = [0x20, 0xD7];
 
 /// So many of these bytes are the shortest sector of a disk.
 pub(super) const SECTOR: usize = 128;
@@ -126,14 +126,14 @@ fn records_look(source: &Source<'_>) -> Option<Look> {
 
 /// Bytes that are all the same, from the first to the last.
 #[derive(Clone, Copy)]
-pub(super) struct Run {
-    pub(super) start: usize,
-    pub(super) end: usize,
-    pub(super) byte: u8,
+struct Run {
+    start: usize,
+    end: usize,
+    byte: u8,
 }
 
 /// The first bytes that are as many as a sector and as if nothing was read.
-pub(super) fn first_dead(bytes: &[u8]) -> Option<Run> {
+fn first_dead(bytes: &[u8]) -> Option<Run> {
     let (mut start, mut last) = (0usize, 0u8);
     for (place, byte) in bytes.iter().enumerate() {
         if *byte != last {

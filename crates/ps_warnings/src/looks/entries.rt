@@ -3,7 +3,7 @@ ghost use Rattle.std.specs.Prelude.{◌≡◌, ◌<◌};
 ghost use Rattle.ps_codefile.specs.Dictionary.{entry_at, role_of};
 ghost use Rattle.ps_warnings.specs.EntryLooks.{empty_look as empty_look_spec, empty_slot as empty_slot_spec, half_entry as half_entry_spec, has_name_or_kind as has_name_or_kind_spec};
 
-use super::codes::{Run, SECTOR, first_dead};
+use super::codes::{REPEATED, SECTOR};
 use super::names::oddity_of;
 use super::numbers::{info_of, p_code_of};
 use super::{Looks, Sight, codes, in_file, in_segment, notes, records};
@@ -13,6 +13,7 @@ use ps_codefile::code_layout::NUMBERS;
 use ps_codefile::dictionary_layout::{SLOTS, TAIL};
 use ps_codefile::kinds::{FIRST_INTRINSIC, HOSTSEG, LAST_INTRINSIC, LINKED, UNITSEG};
 use ps_codefile::{Dict, Entry, ProcedureDictionary, Role, is_nameless};
+use ps_filetype::only_byte;
 use ps_linkinfo::LinkInformation;
 use ps_pcode::FileCode;
 use std::alloc::{AllocError, Allocator};
@@ -186,17 +187,27 @@ fn no_names(dict: &Dict<'_>) -> Option<Look> {
     }
 }
 
+/// The byte that a sector is throughout, as if it was not read, but for zeros.
+fn unread_byte(sector: &[u8]) -> Option<u8> {
+    match sector {
+        [0, ..] => None,
+        _ => match only_byte(sector) {
+            Some(byte) if !REPEATED.contains(&byte) => Some(byte),
+            _ => None,
+        },
+    }
+}
+
 /// Sectors of the second half of the dictionary that were not read. Most files have zeros there.
 fn dead_tail(dict: &Dict<'_>) -> Option<Look> {
     let mut start = TAIL;
     for sector in dict.tail().chunks(SECTOR) {
-        if let Some(Run { end, byte, .. }) = first_dead(sector) {
-            if byte != 0 {
-                let end = start.saturating_add(end);
-                return Some(Look::Dictionary(DictionaryLook::DeadTail { start, end, byte }));
-            }
+        let next = start.saturating_add(SECTOR);
+        if let Some(byte) = unread_byte(sector) {
+            let end = next.saturating_sub(1);
+            return Some(Look::Dictionary(DictionaryLook::DeadTail { start, end, byte }));
         }
-        start = start.saturating_add(SECTOR);
+        start = next;
     }
     None
 }

@@ -85,15 +85,21 @@ fn converted_in(bytes: &[u8], dict: &Dict<'_>, extents: &[Extent]) -> Option<Fil
     None
 }
 
+/// How many bytes 1A a file ends with.
+fn padding_in(bytes: &[u8]) -> usize {
+    let mut padding = 0usize;
+    for byte in bytes.iter().rev() {
+        if *byte != PAD {
+            return padding;
+        }
+        padding = padding.saturating_add(1);
+    }
+    padding
+}
+
 /// The bytes 1A that a file ends with, if there is more than one.
 fn padding_of(bytes: &[u8]) -> Option<FileLook> {
-    let mut padding = 0usize;
-    for byte in bytes {
-        padding = match *byte {
-            PAD => padding.saturating_add(1),
-            _ => 0,
-        };
-    }
+    let padding = padding_in(bytes);
     if 2 <= padding {
         Some(FileLook::Padded { bytes: padding })
     } else {

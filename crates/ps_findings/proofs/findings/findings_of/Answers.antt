@@ -11,5 +11,5 @@ returns-clause-segments g c =
     let paths : List (List ℕ) = c.args.host_path.now ∷ contents c.args.paths.now in
     let overview = string_bytes c.in_ok-overview.overview in
     subst (λ (f : ReadFiles). reading_fault f.host f.libs ≡ None
-    → AddsSlotLines [] (segment_lines paths f.host f.libs) overview) c.read-reading.ensures
+    → AddsSlotLines [] (segment_lines paths f.host f.libs) overview) c.read_files-reading.ensures
     c.in_ok-overview.ensures
