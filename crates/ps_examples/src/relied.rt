@@ -48,12 +48,14 @@ pub fn what_may_be_relied_on()
     what_is_not_read();
 }
 
-/// What the laws do not say: that a line names only bytes that change; that a host's tail is not
-/// read; that a library may be left out that gives a segment, or that cannot be opened; that
-/// libraries may be exchanged that have a unit in common; and that the same segments make one file
-/// for hosts of other tails.
+/// What the laws do not say: that a line names only bytes that change, or bytes of the input; that
+/// a host's tail is not read; that a library may be left out that gives a segment, or that cannot be
+/// opened; that libraries may be exchanged that have a unit in common; and that the same segments
+/// make one file for hosts of other tails.
 pub fn what_is_not_to_be_relied_on()
     ensures a_line_of_a_byte_that_stays { IsLine (listings host (library ∷ [])) 1 16 (1 ∷ []) }
+    ensures a_byte_of_the_input { slice_index library 514 ≡ 0 }
+    ensures a_byte_of_a_line { slice_index (linked_pair Little) 1026 ≡ 3 }
     ensures another_tail { AreFilesAlike host (put_at 300 (43 ∷ []) host) [] [] → ⊥ }
     ensures its_file { slice_index (linked_file (put_at 300 (43 ∷ []) host) (library ∷ [])) 300
         ≡ 43 }

@@ -1,6 +1,6 @@
 -- Lists whose items are changed one by one, and searches by tests that agree.
-use Rattle.std.proofs.Common.{◌≡◌, ℕ, zero, suc, List, [], ◌∷◌, map, Option, Some, None, Bool, refl, sym, ◌∙◌, arith}
-use Rattle.ps_relied.proofs.Words.{if◌then◌else◌, slice_get, find, list_any, filter_map, cons_option, option_map, option_or, first_of}
+use Rattle.std.proofs.Common.{◌≡◌, zero, suc, List, [], ◌∷◌, map, Option, Some, None, Bool, refl, sym, ◌∙◌, arith}
+use Rattle.ps_relied.proofs.Words.{if◌then◌else◌, find, list_any, filter_map, cons_option, option_map, option_or, first_of}
 use Rattle.ps_laws.proofs.Items.{In}
 use Rattle.ps_resolve.proofs.FirstSlots.{or_none}
 
@@ -14,12 +14,6 @@ pub any_mapped : {A C : Type 0} (test : C → Bool) (f : A → C) (xs : List A)
     → list_any test (map f xs) ≡ list_any (λ x. test (f x)) xs
 any_mapped test f [] = refl
 any_mapped test f (x ∷ xs) = grind (arith, any_mapped test f xs)
-
-pub at_mapped : {A C : Type 0} (f : A → C) (xs : List A) (k : ℕ)
-    → slice_get (map f xs) k ≡ option_map f (slice_get xs k)
-at_mapped f [] k = refl
-at_mapped f (x ∷ xs) zero = refl
-at_mapped f (x ∷ xs) (suc k) = at_mapped f xs k
 
 -- The first of two, each of which is another's, changed; so of the second, where there is no first.
 pub or_moved : {A : Type 0} (m : A → A) (a b x y : Option A) → b ≡ option_map m a
@@ -57,14 +51,9 @@ pub all_mapped : {A C : Type 0} (m : C → C) (f g : A → Option C) (xs : List 
     → ((x : A) → In x xs → g x ≡ option_map m (f x))
     → filter_map g xs ≡ map m (filter_map f xs)
 all_mapped m f g [] h = refl
-all_mapped {A} {C} m f g (x ∷ xs) h =
+all_mapped m f g (x ∷ xs) h =
     (λ i. cons_option (h x (0, refl) i)
-    (all_mapped m f g xs (λ y t. h y (suc t.0, t.1)) i)) ∙ more (f x)
-  where
-    more : (o : Option C) → cons_option (option_map m o) (map m (filter_map f xs))
-        ≡ map m (cons_option o (filter_map f xs))
-    more None = refl
-    more (Some y) = refl
+    (all_mapped m f g xs (λ y t. h y (suc t.0, t.1)) i)) ∙ grind arith
 
 -- where no item gives a fault, none is given by each
 pub none_of : {A C : Type 0} (f : A → Option C) (xs : List A) → first_of f xs ≡ None

@@ -1,13 +1,13 @@
 -- Links of two hosts and their libraries in which each search finds what is read the same, where
 -- the number of each file may be another, and the block in which link information begins.
-use Rattle.std.proofs.Common.{◌≡◌, ℕ, ◌+◌, ◌<◌, List, [], ◌∷◌, ◌++◌, length, map, Option, Some, None, Result, Ok, Err, Bool, true, false, refl, sym, ap, subst, subst₂, ◌∙◌, inl, inr, arith, is_none, is_some}
+use Rattle.std.proofs.Common.{◌≡◌, ℕ, ◌+◌, ◌<◌, List, [], ◌∷◌, ◌++◌, length, map, Option, Some, None, Result, Ok, Err, Bool, true, false, refl, sym, subst, subst₂, ◌∙◌, inl, inr, arith, is_none, is_some}
 use Rattle.std.specs.Prelude.{⊤}
 use Rattle.std.specs.Map.{lookup}
-use Rattle.std.proofs.lemmas.Bool.Decides.{nat_tests}
 use Rattle.std.proofs.lemmas.List.{map-append}
+use Rattle.std.proofs.lemmas.Option.{slice_get-map}
 use Rattle.std.proofs.lemmas.List.Elements.{All-head, All-tail}
-use Rattle.ps_relied.proofs.Words.{◌⊎◌, ◌||◌, ◌&&◌, not, ◌==◌, All, if◌then◌else◌, slots, find, slice_get, list_any, range_with_len, filter, option_and_then, option_map, option_or, result_ok, option_map_or, bytes_eq, fault_if, nat_lt, in_record, in_slot, Fault, Reason, Order, Role, Record, Segment, Request, UnitReference, code_of, entry_at, information_of, role_of, needs_linking, is_host, is_empty, reading, code_fault, request_fault, role_fault, file_at, is_named, is_role, chosen_library, library_file, own_segment, source_of, unit_source, units_of, RoundsOutcome, after, request_of, unit_references, all_unit_references, requested_from, is_unit_reference, host_of, host_records, known_of, Known, next_of, owner_of, private_words, total_words, added_segments, as_added}
-use Rattle.ps_relied.proofs.Lists.{at_mapped, any_mapped, or_moved, find_mapped, first_mapped, all_mapped, none_of}
+use Rattle.ps_relied.proofs.Words.{◌⊎◌, ◌||◌, ◌==◌, All, if◌then◌else◌, slots, find, slice_get, range_with_len, filter, option_and_then, option_map, option_or, result_ok, option_map_or, bytes_eq, fault_if, nat_lt, in_record, in_slot, Fault, Reason, Order, Role, Record, Segment, Request, UnitReference, code_of, entry_at, information_of, role_of, needs_linking, is_host, is_empty, reading, code_fault, request_fault, role_fault, file_at, is_named, is_role, chosen_library, library_file, own_segment, source_of, unit_source, units_of, RoundsOutcome, after, request_of, unit_references, all_unit_references, requested_from, is_unit_reference, host_of, host_records, known_of, Known, next_of, owner_of, private_words, total_words, added_segments, as_added}
+use Rattle.ps_relied.proofs.Lists.{any_mapped, or_moved, find_mapped, first_mapped, all_mapped, none_of}
 use Rattle.ps_relied.proofs.Elsewhere.{host_moved, records_moved, units_moved, known_moved, words_moved}
 use Rattle.ps_relied.proofs.Slots.{in_slots, clipped, same_clipped}
 use Rattle.ps_relied.proofs.Entries.{and_left, same_index, same_reasons}
@@ -33,6 +33,7 @@ use Rattle.ps_resolve.proofs.EachRound.{request_parts, source_made, unit_there}
 use Rattle.ps_resolve.proofs.EachSegment.{added_made}
 use Rattle.ps_resolve.proofs.FirstSlots.{none_mapped}
 use Rattle.ps_resolve.proofs.ReadingLibraries.{chosen_file}
+use Rattle.ps_resolve.proofs.ReadingUnits.{kind_is}
 use Rattle.ps_words.specs.declared.fault.Reason.TheVariants as reason
 
 -- a fault, whose file has another number
@@ -102,14 +103,7 @@ module _ (number : ℕ → ℕ) (same_host : number 0 ≡ 0) (block : Role → �
       ≡ option_map refiled (option_and_then (λ t. fault_if
       (nat_lt MAX_DATA_SIZE (grown_data_size order s.code words t))
       (in_slot 0 s.slot reason.DataTooLarge)) o)
-  size_moved order words s None = refl
-  size_moved order words s (Some t) =
-      go (nat_lt MAX_DATA_SIZE (grown_data_size order s.code words t))
-    where
-      go : (b : Bool) → fault_if b (in_slot 0 s.slot reason.DataTooLarge)
-          ≡ option_map refiled (fault_if b (in_slot 0 s.slot reason.DataTooLarge))
-      go false = refl
-      go true = λ i. Some (in_slot (sym same_host i) s.slot reason.DataTooLarge)
+  size_moved order words s o = grind (arith, same_host)
 
   data_moved : (order : Order) (segs : List Segment)
       → data_fault order (map renewed segs) ≡ option_map refiled (data_fault order segs)
@@ -123,9 +117,7 @@ module _ (number : ℕ → ℕ) (same_host : number 0 ≡ 0) (block : Role → �
   segment_moved : (file slot : ℕ) (o : Option (ℕ × (Option ℕ × Reason)))
       → option_map (in_segment (number file) slot) o
       ≡ option_map refiled (option_map (in_segment file slot) o)
-  segment_moved file slot None = refl
-  segment_moved file slot (Some (rec, (None, why))) = refl
-  segment_moved file slot (Some (rec, (Some reference, why))) = refl
+  segment_moved file slot o = grind arith
 
   all_moved : (order : Order) (known : Known) (free : ℕ) (segs : List Segment)
       → references_fault_from order known free (map renewed segs)
@@ -310,11 +302,6 @@ module _ (number : ℕ → ℕ) (same_host : number 0 ≡ 0) (block : Role → �
     missing_moved slot Slot = λ i. in_slot (sym same_host i) slot reason.MissingUnit
     missing_moved slot (OfRecord place) = refl
 
-    -- a lone entry of a name whose entries have no fault is a unit's
-    lone_unit : (b : Bool) (k : ℕ) → (if b then Some reason.DoubledUnit
-        else fault_if (not (k == 3)) (reason.NotAUnit k)) ≡ None → k ≡ 3
-    lone_unit b k h = grind (arith, nat_tests)
-
     -- the fault is the same, and where there is none, so is the segment
     abbrev Moves : Option Fault → Option Fault → Option Segment → Option Segment → Type 0
     Moves f p o u = (p ≡ option_map refiled f) × (f ≡ None → u ≡ option_map renewed o)
@@ -333,22 +320,6 @@ module _ (number : ℕ → ℕ) (same_host : number 0 ≡ 0) (block : Role → �
       segment_in h l k i = option_and_then (segment_from order h l q.slot q.name role.Wanted)
           (option_map (λ j. (k, j)) i)
 
-      -- so by the library that is chosen
-      abbrev fault_of : List ℕ → List (List ℕ) → Requester → Option (ℕ × List ℕ)
-          → Option Fault
-      fault_of h l by o = if is_nameless q.name || is_none o then Some (missing_at q.slot by)
-          else option_or (option_and_then (λ (lib : ℕ × List ℕ). option_map
-          (in_slot (library_file lib.0) q.slot) (entries_reason order q.name lib.1)) o)
-          (option_and_then (code_fault order h l q.slot role.Wanted)
-          (option_and_then (λ (lib : ℕ × List ℕ). option_map (λ i. (library_file lib.0, i))
-          (find (is_named order q.name lib.1) slots)) o))
-
-      abbrev segment_of : List ℕ → List (List ℕ) → Option (ℕ × List ℕ)
-          → Option Segment
-      segment_of h l o = option_and_then (segment_from order h l q.slot q.name role.Wanted)
-          (option_and_then (λ (lib : ℕ × List ℕ). option_map (λ i. (library_file lib.0, i))
-          (find (is_named order q.name lib.1) slots)) o)
-
       module _ (a b : ℕ × List ℕ) (t : AreChosenAlike a b)
           (mine_is : file_at host libs (library_file a.0) ≡ a.1)
           (theirs_is : file_at other others (library_file b.0) ≡ b.1) where
@@ -360,13 +331,7 @@ module _ (number : ℕ → ℕ) (same_host : number 0 ≡ 0) (block : Role → �
         source_is i e fine =
             let inside = in_slots i (find_in (is_named order q.name a.1) slots i e) in
             let filled = and_left _ _ (find_passes (is_named order q.name a.1) slots i e) in
-            let unit = lone_unit (list_any (λ j. is_named order q.name a.1 j
-            && list_any (is_named order q.name a.1) (range_with_len 0 j)) slots)
-            (entry_at order a.1 i).kind (ap (λ o. if list_any (λ j. is_named order q.name a.1 j
-            && list_any (is_named order q.name a.1) (range_with_len 0 j)) slots
-            then Some reason.DoubledUnit else option_and_then (λ j. fault_if
-            (not ((entry_at order a.1 j).kind == 3)) (reason.NotAUnit (entry_at order a.1 j).kind))
-            o) (sym e) ∙ fine) in
+            let unit = kind_is order q.name a.1 i fine e in
             let same = t.like.units i inside filled unit in
             subst₂ (λ f g. IsSource f g role.Wanted (library_file a.0) i) (sym mine_is)
             (sym ((λ j. file_at other others (sym t.file j)) ∙ theirs_is))
@@ -393,47 +358,42 @@ module _ (number : ℕ → ℕ) (same_host : number 0 ≡ 0) (block : Role → �
                   (library_file a.0) i is q.slot q.name,
             )
 
-        both_chosen : Moves (fault_of host libs q.requester (Some a))
-            (fault_of other others (asked_from q.requester) (Some b))
-            (segment_of host libs (Some a)) (segment_of other others (Some b))
-        both_chosen =
-            let m = by_entry (is_nameless q.name) (entries_reason order q.name a.1)
-            (find (is_named order q.name a.1) slots) refl refl in (
-              (λ j. fault_in other others (asked_from q.requester) (t.file j)
-                  (is_nameless q.name || false) (same_reasons order a.1 b.1 t.like q.name j)
-                  (same_index order a.1 b.1 t.like q.name j)) ∙ m.0,
-              λ n. (λ j. segment_in other others (t.file j)
-                  (same_index order a.1 b.1 t.like q.name j)) ∙ m.1 n,
-            )
+      none_chosen : (b : Bool) (x y : Option Fault)
+          → (if b || true then Some (missing_at q.slot (asked_from q.requester)) else x)
+          ≡ option_map refiled (if b || true then Some (missing_at q.slot q.requester) else y)
+      none_chosen true x y = λ j. Some (missing_moved q.slot q.requester j)
+      none_chosen false x y = λ j. Some (missing_moved q.slot q.requester j)
 
-      none_chosen : fault_of other others (asked_from q.requester) None
-          ≡ option_map refiled (fault_of host libs q.requester None)
-      none_chosen = go (is_nameless q.name)
-        where
-          go : (b : Bool) → (if b || true then Some (missing_at q.slot (asked_from q.requester))
-              else None) ≡ option_map refiled
-              (if b || true then Some (missing_at q.slot q.requester) else None)
-          go true = λ j. Some (missing_moved q.slot q.requester j)
-          go false = λ j. Some (missing_moved q.slot q.requester j)
+      abbrev brought_in : List ℕ → List (List ℕ) → Option Segment
+      brought_in h l = option_and_then (segment_from order h l q.slot q.name role.Wanted)
+          (unit_source order q.name l)
 
       request_moved : Found q.name → Moves (request_fault order host libs q)
           (request_fault order other others (record q { requester = asked_from q.requester }))
-          (segment_of host libs (chosen_library order q.name libs))
-          (segment_of other others (chosen_library order q.name others))
+          (brought_in host libs) (brought_in other others)
       request_moved t = go (chosen_library order q.name libs) refl
           (chosen_library order q.name others) refl t
         where
           go : (o : Option (ℕ × List ℕ)) → chosen_library order q.name libs ≡ o
               → (p : Option (ℕ × List ℕ)) → chosen_library order q.name others ≡ p
-              → IsMovedChoice o p → Moves (fault_of host libs q.requester o)
-              (fault_of other others (asked_from q.requester) p) (segment_of host libs o)
-              (segment_of other others p)
-          go None e None f t = (none_chosen, λ n. refl)
+              → IsMovedChoice o p → Moves (request_fault order host libs q)
+              (request_fault order other others (record q { requester = asked_from q.requester }))
+              (brought_in host libs) (brought_in other others)
+          go None e None f t = rw (e, f) (none_chosen (is_nameless q.name) _ _, λ n. refl)
           go None e (Some b) f t = absurd t
           go (Some a) e None f t = absurd t
-          go (Some a) e (Some b) f t = both_chosen a b t
-              (chosen_file order q.name libs a.0 a.1 host e)
-              (chosen_file order q.name others b.0 b.1 other f)
+          go (Some a) e (Some b) f t =
+              let m = by_entry a b t (chosen_file order q.name libs a.0 a.1 host e)
+              (chosen_file order q.name others b.0 b.1 other f) (is_nameless q.name)
+              (entries_reason order q.name a.1) (find (is_named order q.name a.1) slots)
+              refl refl in
+              rw (e, f) (
+                (λ j. fault_in other others (asked_from q.requester) (t.file j)
+                    (is_nameless q.name || false) (same_reasons order a.1 b.1 t.like q.name j)
+                    (same_index order a.1 b.1 t.like q.name j)) ∙ m.0,
+                λ n. (λ j. segment_in other others (t.file j)
+                    (same_index order a.1 b.1 t.like q.name j)) ∙ m.1 n,
+              )
 
     -- 5. the rounds
     abbrev moved_rounds : RoundsOutcome → RoundsOutcome
@@ -453,10 +413,7 @@ module _ (number : ℕ → ℕ) (same_host : number 0 ≡ 0) (block : Role → �
 
     same_missing : (name : List ℕ) (o p : Option (ℕ × List ℕ)) → IsMovedChoice o p
         → (is_nameless name || is_none p) ≡ (is_nameless name || is_none o)
-    same_missing name None None t = refl
-    same_missing name None (Some b) t = absurd t
-    same_missing name (Some a) None t = absurd t
-    same_missing name (Some a) (Some b) t = refl
+    same_missing name o p t = grind arith
 
     unplaced : (o : Option UnitReference)
         → Fits (ended (option_map (unplaced_fault order libs) o))
@@ -495,8 +452,7 @@ module _ (number : ℕ → ℕ) (same_host : number 0 ≡ 0) (block : Role → �
     marked : (o : Option Segment)
         → option_map as_added (option_map renewed o)
         ≡ option_map renewed (option_map as_added o)
-    marked None = refl
-    marked (Some s) = refl
+    marked o = grind arith
 
     -- a round, by its fault and its segment, and the rounds after it
     abbrev round_of : Option Fault → Option Segment → (Segment → RoundsOutcome)
@@ -537,10 +493,11 @@ module _ (number : ℕ → ℕ) (same_host : number 0 ≡ 0) (block : Role → �
         → rounds_from order other others units left k (map given_from queue)
         ≡ moved_rounds (rounds_from order host libs units left k queue)
     rounds_from_moved units [] k queue fits =
-        (λ i. ended (option_map (unplaced_fault order others) (at_mapped given_from queue k i)))
+        (λ i. ended (option_map (unplaced_fault order others)
+        (slice_get-map given_from queue k i)))
         ∙ (λ i. ended (unplaced (slice_get queue k) fits i))
     rounds_from_moved units (slot ∷ left) k queue fits =
-        (λ i. by other others (map given_from queue) (at_mapped given_from queue k i))
+        (λ i. by other others (map given_from queue) (slice_get-map given_from queue k i))
         ∙ go (slice_get queue k) fits (rounds_from_moved units left (k + 1))
       where
         rest : List ℕ → List (List ℕ) → List UnitReference → Segment → RoundsOutcome

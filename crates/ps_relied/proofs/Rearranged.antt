@@ -198,18 +198,10 @@ module _ (host : List ℕ) (before after : List (List ℕ)) (a b : List ℕ)
       ≡ exchanged (library_file k) (library_file (k + 1))
   swapped_second k = grind (arith, nat_tests)
 
-  swapped_low : (k i : ℕ) → i < k → library_file i
-      ≡ exchanged (library_file k) (library_file i)
-  swapped_low k i h = grind (arith, nat_tests)
-
-  swapped_high : (k i j : ℕ) → k + 1 + 1 ≤ i → j + (k + 1 + 1) ≡ i + (k + 1 + 1)
-      → library_file j ≡ exchanged (library_file k) (library_file i)
-  swapped_high k i j h e = grind (arith, nat_tests)
-
   found : (name : List ℕ) → IsFound host before (a ∷ b ∷ after) (b ∷ a ∷ after) swapped
       swapped_host name
   found name = behind host before (a ∷ b ∷ after) (b ∷ a ∷ after) swapped swapped_host name
-      (λ o. ⊤) spot (swapped_low spot) (λ t. go (has_entry order name a)
+      (λ o. ⊤) spot (λ i h. grind (arith, nat_tests)) (λ t. go (has_entry order name a)
       (has_entry order name b) (has order name a).0 (has order name b).0) 0 before
       (omega arith) tt
     where
@@ -230,7 +222,8 @@ module _ (host : List ℕ) (before after : List (List ℕ)) (a b : List ℕ)
       go false true p q = chosen host before (a ∷ b ∷ after) (b ∷ a ∷ after) swapped
           swapped_host (spot + 1) spot b (swapped_second spot)
       go false false p q = shifted host before (a ∷ b ∷ after) (b ∷ a ∷ after) swapped
-          swapped_host name (spot + 1 + 1) (spot + 1 + 1) after (swapped_high spot)
+          swapped_host name (spot + 1 + 1) (spot + 1 + 1) after
+          (λ i j h e. grind (arith, nat_tests))
 
   pub exchanged_kept : first_fault host (before ++ (a ∷ b ∷ after)) ≡ None
       → IsKept swapped host (before ++ (a ∷ b ∷ after)) (before ++ (b ∷ a ∷ after))
@@ -255,20 +248,13 @@ module _ (host : List ℕ) (before after : List (List ℕ)) (lib : List ℕ)
   fewer_host : fewer 0 ≡ 0
   fewer_host = grind (arith, nat_tests)
 
-  fewer_low : (k i : ℕ) → i < k → library_file i ≡ without (library_file k) (library_file i)
-  fewer_low k i h = grind (arith, nat_tests)
-
-  fewer_high : (k i j : ℕ) → k + 1 ≤ i → j + (k + 1) ≡ i + k
-      → library_file j ≡ without (library_file k) (library_file i)
-  fewer_high k i j h e = grind (arith, nat_tests)
-
   abbrev IsThere : List ℕ → Type 0
   IsThere name = IsFound host before (lib ∷ after) after fewer fewer_host name
 
   there : (name : List ℕ)
       → (chosen_library (order_of host) name all ≡ Some (place, lib) → ⊥) → IsThere name
   there name other = behind host before (lib ∷ after) after fewer fewer_host name
-      (λ o. o ≡ Some (place, lib) → ⊥) place (fewer_low place)
+      (λ o. o ≡ Some (place, lib) → ⊥) place (λ i h. grind (arith, nat_tests))
       (go (has_entry (order_of host) name lib)) 0 before (omega arith) other
     where
       later : ℕ → Option (ℕ × List ℕ)
@@ -280,7 +266,7 @@ module _ (host : List ℕ) (before after : List (List ℕ)) (lib : List ℕ)
           (if b then Some (place, lib) else later (place + 1)) (later place)
       go true other = absurd (other refl)
       go false other = shifted host before (lib ∷ after) after fewer fewer_host name (place + 1)
-          place after (fewer_high place)
+          place after (λ i j h e. grind (arith, nat_tests))
 
   -- a unit of another file is not chosen there
   from_other : (name : List ℕ) (at : ℕ × ℕ) → unit_source (order_of host) name all

@@ -1,5 +1,5 @@
 -- The linked file is that of its segments, from whichever files they come.
-use Rattle.std.proofs.Common.{◌≡◌, ℕ, ◌+◌, List, [], ◌∷◌, ◌++◌, length, map, Option, Some, Bool, true, false, refl, sym, ◌∙◌}
+use Rattle.std.proofs.Common.{◌≡◌, ℕ, ◌+◌, List, [], ◌∷◌, ◌++◌, length, map, Bool, true, false, refl, sym, ◌∙◌, arith}
 use Rattle.std.specs.Prelude.{nat_lt, slice_range, replicate}
 use Rattle.std.proofs.lemmas.List.Sums.{sum_by-cons}
 use Rattle.ps_relied.proofs.Words.{if◌then◌else◌, ◌==◌, slots, find, filter, flat_map, option_map_or, Edit, Order, Segment, edited_segments}
@@ -51,16 +51,7 @@ module _ (new : Segment → Segment) (order : Order) where
       ≡ option_map_or (λ (o : Origin). f o.code)
       (find (λ (o : Origin). o.slot == slot) (map origin_of segs)) d
   found_moved f d slot [] = refl
-  found_moved f d slot (s ∷ segs) = go _ _ (s.slot == slot) (found_moved f d slot segs)
-    where
-      go : (o p : Option Origin) (b : Bool)
-          → option_map_or (λ (o : Origin). f o.code) o d
-          ≡ option_map_or (λ (o : Origin). f o.code) p d
-          → option_map_or (λ (o : Origin). f o.code) (if b then Some (origin_of (moved new s))
-          else o) d
-          ≡ option_map_or (λ (o : Origin). f o.code) (if b then Some (origin_of s) else p) d
-      go o p true e = refl
-      go o p false e = e
+  found_moved f d slot (s ∷ segs) = grind (arith, found_moved f d slot segs)
 
   pair_moved : (slot : ℕ) (segs : List Segment)
       → pair_of order (map origin_of (map (moved new) segs)) slot

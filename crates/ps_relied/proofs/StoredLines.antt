@@ -17,7 +17,6 @@ use Rattle.ps_laws.proofs.SegmentOrigins.{by_slot}
 use Rattle.ps_laws.proofs.SoundCodes.{HasOuter, long, outer}
 use Rattle.ps_linkinfo.specs.Numbered.{numbered_records}
 use Rattle.ps_linkinfo.specs.Operands.{operand_width}
-use Rattle.ps_linkinfo.specs.declared.record.Body.TheVariants.{UnitRef, PublRef, PrivRef, PublDef, ConstDef, Eof}
 use Rattle.ps_codefile.specs.Dictionary.{block_len}
 use Rattle.ps_codefile.specs.Procedures.{table_of}
 use Rattle.ps_resolve.specs.AllFaults.{reading_fault}
@@ -106,22 +105,19 @@ of_body : (m : ℕ) (name : List ℕ) (body : Body) (x : ℕ) (c : Cause)
     → (list_any (λ y. y == x) (refs_of body) ≡ true) × (cause_width c ≡ operand_width body)
 of_body m name body x c e = grind arith
 
+has_cause : (m : ℕ) (name : List ℕ) (body : Body) (i x : ℕ) → slice_get (refs_of body) i
+    ≡ Some x
+    → cause_in m name body ≡ None → ⊥
+has_cause m name body i x at e = grind arith
+
 in_body : (m : ℕ) (name : List ℕ) (body : Body) (i x : ℕ) → slice_get (refs_of body) i
     ≡ Some x
     → (if list_any (λ y. y == x) (refs_of body) then cause_in m name body else None) ≡ None
     → ⊥
 in_body m name body i x at e =
     let any = any_in (λ y. y == x) (refs_of body) x (i, at) ((Decides-eqb x x).1 refl) in
-    go body at (sym (ap (λ b. if b then cause_in m name body else None) any) ∙ e)
-  where
-    go : (body : Body) → slice_get (refs_of body) i ≡ Some x → cause_in m name body ≡ None
-        → ⊥
-    go (UnitRef refs) at e = cc
-    go (PublRef refs) at e = cc
-    go (PrivRef words refs) at e = cc
-    go (PublDef value) at e = cc
-    go (ConstDef value) at e = cc
-    go (Eof next) at e = cc
+    has_cause m name body i x at
+    (sym (ap (λ b. if b then cause_in m name body else None) any) ∙ e)
 
 some_record : (n : ℕ) (rs : List Record) (x : ℕ) (c : Cause)
     → records_at (numbered_records n rs) x ≡ Some c

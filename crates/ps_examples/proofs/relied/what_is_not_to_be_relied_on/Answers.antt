@@ -16,6 +16,8 @@ unfolding own_segments empty_slots rounds segments slot_names dictionary all_pai
     definitions_fault privates_fault data_fault references_fault
 returns c = record {
   a_line_of_a_byte_that_stays = (0, _, refl, (refl, (_, refl, refl)));
+  a_byte_of_the_input = refl;
+  a_byte_of_a_line = refl;
   another_tail = λ t. let h : 42 ≡ 43 = ap (λ (xs : List ℕ). slice_index xs 44) t.heads.tail in
       omega (arith, h);
   its_file = refl;
