@@ -1,6 +1,6 @@
 #!/usr/bin/env python3
-"""Answers of the library beside those of the program, through C and through Python: the samples; each set of files of .ci/report,
-with its report; and the longest linked file, 500 libraries, a fault in library 300, and a map and a show of more than 64 KiB, whose
+"""Answers of the library beside those of the program, through C and through Python: the samples, in each text and form; each set of
+files of .ci/report, with its report, and some of them in each text; and the longest linked file, 500 libraries, a fault in library 300, and a map and a show of more than 64 KiB, whose
 answers are worked out here too. Leaves these files in FOLDER, for .ci/library to measure. Prints what is otherwise.
 Usage: beside.py PSLINK PROGRAM LINKED FOLDER: the program, program.c as it was built, and to what the sample pair is linked"""
 import pathlib
@@ -18,6 +18,8 @@ from commands import Commands  # noqa: E402
 
 HOST, LIBRARY = make_samples.SAMPLES["host.code"], make_samples.SAMPLES["library.code"]
 LONGEST_CODE = 64 * large.BLOCK - 2
+# what a text has beside map, show and check, with the program's words for it
+TEXTS = ["map --json", "map --references", "map --references --json", "show --json", "check --json", "list", "list --json", "check --unit"]
 SAMPLE_SETS = ["host library", "big_host big_library", "host using used", "two_units", "procedures library", "host", "library host"]
 
 
@@ -56,16 +58,18 @@ def differences(pslink, others, what, command, files, wanted=None):
         yield f"{what}: {command}: the program answers {str(answer)[:300]}"
     names = ["HOST", *(f"LIB{k}" for k in range(1, 1 + len(libraries)))]
     found = {language: run(word, host, libraries, *flags) for language, run in others.items()}
-    found["Python"] = program.answer(word, host, libraries, names, "--strict" in flags)
+    found["Python"] = program.answer(word, host, libraries, names, flags)
+    # (such a text is all that the library answers of them, whatever the program ends with)
+    is_text_alone = command in ("check --json", "list", "list --json", "check --unit")
     for language, one in found.items():
-        if one != answer:
+        if (one[1:] if is_text_alone else one) != (answer[1:] if is_text_alone else answer):
             yield f"{what}: {command}: {language} answers {str(one)[:300]}, and the program {str(answer)[:300]}"
 
 
 def of_samples(*linkers):
     for names in SAMPLE_SETS:
         files = [make_samples.SAMPLES[f"{name}.code"] for name in names.split()]
-        for command in ("link", "map", "check", "check --strict"):
+        for command in ("link", "map", "check", "check --strict", *TEXTS):
             yield from differences(*linkers, names, command, files)
     for path in [*(ROOT / "samples").glob("*.code"), *(ROOT / "samples").glob("*.map")]:
         yield from differences(*linkers, path.name, "show", [path.read_bytes()])
@@ -78,6 +82,8 @@ def of_report(*linkers):
         yield f".ci/report has {len(sets)} sets of files"
     for number, (host, libraries) in enumerate(sets):
         for command in ("link", "map", "check --strict"):
+            yield from differences(*linkers, f"files {number} of .ci/report", command, [host, *libraries])
+        for command in TEXTS if number % 50 == 0 else ():
             yield from differences(*linkers, f"files {number} of .ci/report", command, [host, *libraries])
     for file in {file for host, libraries in sets for file in [host, *libraries]}:
         yield from differences(*linkers, "a file of .ci/report", "show", [file])

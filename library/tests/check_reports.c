@@ -286,6 +286,7 @@ static void check_units(void)
 
     memset(&answer, 0xFF, sizeof answer);
     memset(room, FILLER, sizeof room);
+    memset(&answer, 0xFF, sizeof answer);
     check(pslink_units(PSLINK_UNITS_WANTED, host.bytes, host.length, NULL, 0, NULL, 0, NULL, 99, &answer) == PSLINK_TOO_SMALL &&
               answer.needed == 8,
           "the host wants another number of units", answer.needed);

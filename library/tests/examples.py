@@ -1,17 +1,20 @@
 #!/usr/bin/env python3
 """Writes the examples of programs to a folder, for .ci/library to compile and run: header.c of include/pslink.h, whose function
-gets a main; embedding.c, embedding.py and embedding.rs of docs/EMBEDDING.md, its CMakeLists.txt, and report.c, whose function gets a
-main too; manual.c of man/pslink.3; and declarations.c, the declarations of that page. Prints where the page's types are not those of the header.
-Usage: examples.py FOLDER"""
+gets a main; embedding.c, embedding.py and embedding.rs of docs/EMBEDDING.md, its CMakeLists.txt, and report.c, found.c and found.py,
+whose functions get a main too; manual.c of man/pslink.3; and declarations.c, the declarations of that page. Prints where the page's
+types are not those of the header. Usage: examples.py FOLDER"""
 import pathlib
 import re
 import shlex
 import sys
 
 ROOT = pathlib.Path(__file__).resolve().parents[2]
-HEADER = (ROOT / "include/pslink.h").read_text()
+# (what callers have no interest in is left out)
+HEADER = (ROOT / "include/pslink.h").read_text().split("/* What follows is of no interest", 1)[0]
 PAGE = (ROOT / "man/pslink.3").read_text()
-LANGUAGES = {"c": "embedding.c", "python": "embedding.py", "rust": "embedding.rs", "cmake": "CMakeLists.txt"}
+ENDINGS = {"c": ".c", "python": ".py", "rust": ".rs"}
+# functions of examples, which get the main of this name beside, and the example's name
+FUNCTIONS = {"show_report": "report", "link_found": "found"}
 
 
 def of_header():
@@ -49,14 +52,19 @@ def main():
     (folder / "declarations.c").write_text("\n".join(declarations()) + "\nint main(void) { return 0; }\n")
     embedding = (ROOT / "docs/EMBEDDING.md").read_text()
     for language, text in re.findall(r"^```(\w+)\n(.*?)^```$", embedding, re.M | re.S):
-        if "show_report(" in text:
-            (folder / "report.c").write_text(text + (ROOT / "library/tests/show_report_main.c").read_text())
-        else:
-            (folder / LANGUAGES[language]).write_text(text)
+        if language == "cmake":
+            (folder / "CMakeLists.txt").write_text(text)
+            continue
+        ending, name = ENDINGS[language], "embedding"
+        for function in FUNCTIONS:
+            if f"{function}(" in text:
+                text += (ROOT / f"library/tests/{function}_main{ending}").read_text()
+                name = FUNCTIONS[function]
+        (folder / f"{name}{ending}").write_text(text)
     if not types(HEADER) or types(HEADER) != types(PAGE):
         print(f"the types of pslink(3) are {types(PAGE)}, and those of the header {types(HEADER)}")
         return 1
-    functions = set(re.findall(r"^static inline \w+ (pslink_\w+)\(", HEADER.split("of no interest", 1)[0], re.M)) | {"pslink_version"}
+    functions = set(re.findall(r"^static inline \w+ (pslink_\w+)\(", HEADER, re.M)) | {"pslink_version", "pslink_release_number"}
     named = set(re.findall(r"pslink_\w+", PAGE.split("\n.SH NAME\n", 1)[1].split("\n", 1)[0]))
     installed = set(re.search(r"^CALLS = (.*?[^\\])\n", (ROOT / "Makefile").read_text(), re.M | re.S)[1].split()) - {"\\"}
     if functions != named or functions != installed:

@@ -1,10 +1,38 @@
-/* A library of another version, which a binding has to refuse. */
+/* A library of another version, which a binding has to refuse; or, with EARLIER, of this version and of the release before this one,
+ * which has not what that added. */
 #include <pslink.h>
 
+#ifdef EARLIER
+uint32_t pslink_version(void)
+{
+    return PSLINK_VERSION;
+}
+#else
 uint32_t pslink_version(void)
 {
     return PSLINK_VERSION + 1;
 }
+
+uint32_t pslink_release_number(void)
+{
+    return PSLINK_RELEASE_NUMBER;
+}
+
+uint32_t pslink_text_nonnull(uint32_t what, uint32_t form, const void *host, size_t host_length, const void *libs, size_t libs_length,
+                             const size_t *lengths, size_t count, const void *names, size_t names_length, const size_t *name_lengths,
+                             size_t name_count, void *out, size_t out_length, pslink_answer *answer)
+{
+    (void)what, (void)form, (void)names, (void)names_length, (void)name_lengths, (void)name_count;
+    return pslink_link_nonnull(host, host_length, libs, libs_length, lengths, count, out, out_length, answer);
+}
+
+uint32_t pslink_units_nonnull(uint32_t which, const void *host, size_t host_length, const void *libs, size_t libs_length,
+                              const size_t *lengths, size_t count, void *out, size_t out_length, pslink_answer *answer)
+{
+    (void)which;
+    return pslink_link_nonnull(host, host_length, libs, libs_length, lengths, count, out, out_length, answer);
+}
+#endif
 
 uint32_t pslink_link_nonnull(const void *host, size_t host_length, const void *libs, size_t libs_length,
                              const size_t *lengths, size_t count, void *out, size_t out_length, pslink_answer *answer)

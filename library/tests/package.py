@@ -2,8 +2,8 @@
 """The Python package as a caller meets it: what it takes as a file, what it raises, that a refusal comes back from a pool of
 processes, that threads may call at once, what its hints are, that it is installed without a network, and how it finds the shared
 object.
-Prints what is otherwise. Usage: package.py LIBRARY OTHER FOLDER: the folder of libpslink.so.1, one of another version, and a
-new folder"""
+Prints what is otherwise. Usage: package.py LIBRARY OTHER EARLIER FOLDER: the folders of libpslink.so.2, of one of another version
+and of one of an earlier release, and a new folder"""
 import array
 import ast
 import builtins
@@ -12,6 +12,7 @@ import copy
 import ctypes
 import importlib.util
 import inspect
+import json
 import mmap
 import multiprocessing
 import os
@@ -28,12 +29,13 @@ ROOT = pathlib.Path(__file__).resolve().parents[2]
 PACKAGE = ROOT / "bindings/python"
 sys.dont_write_bytecode = True
 sys.path.insert(0, str(PACKAGE))
-BUILT, OTHER, FOLDER = (pathlib.Path(path).resolve() for path in sys.argv[1:4])
-os.environ["PSLINK_LIBRARY"] = str(BUILT / "libpslink.so.1")
+BUILT, OTHER, EARLIER, FOLDER = (pathlib.Path(path).resolve() for path in sys.argv[1:5])
+os.environ["PSLINK_LIBRARY"] = str(BUILT / "libpslink.so.2")
 import pslink  # noqa: E402
 
-HOST, LIBRARY = (ROOT / f"samples/{name}.code" for name in ("host", "library"))
-MISSING = ("refused 13 MissingUnit file 0 slot 7", 13, "MissingUnit", 0, None, 7, None, None)
+HOST, LIBRARY, USING, USED, BOTH = (ROOT / f"samples/{name}.code" for name in ("host", "library", "using", "used", "two_units"))
+UTIL, AUX = b"UTIL    ", b"AUX     "
+MISSING = ("refused 13 MissingUnit file 0 slot 7", 13, "MissingUnit", 0, None, 7, None, None, UTIL)
 found = []
 
 
@@ -52,7 +54,7 @@ def raised(error, call, *arguments):
 
 
 def parts(fault):
-    return str(fault), fault.number, fault.name, fault.file, fault.kind, fault.slot, fault.record, fault.reference
+    return str(fault), fault.number, fault.name, fault.file, fault.kind, fault.slot, fault.record, fault.reference, fault.about
 
 
 def of_files():
@@ -123,6 +125,59 @@ def of_refusals():
         check(fault and parts(fault) == MISSING, "a refusal of a pool is another")
     check(pslink.fault_name(13) == "MissingUnit" and [pslink.fault_name(n) for n in (-1, 0, 36, 255, 256, 1 << 40)] == [""] * 6, "the name of a fault is another")
     check(pslink.release() == pslink.__version__, f"the release is {pslink.release()}, and that of the package {pslink.__version__}")
+
+
+def changed(file, **changes):
+    """The bytes of a file, with others at these places."""
+    new = bytearray(file.read_bytes())
+    for place, data in changes.items():
+        new[int(place[2:]) : int(place[2:]) + len(data)] = data
+    return bytes(new)
+
+
+def of_what_is_at_fault():
+    """The name of what a fault is about: nothing, a segment, a wanted unit, a requested one, and a symbol. (The entry of UTIL is slot
+    2 of the library, its kind at 196, and the name of its first record at 1024; the host has the same places.)"""
+    host, library = HOST.read_bytes(), LIBRARY.read_bytes()
+    cases = [
+        (1, None, b"", []), (2, None, changed(HOST, at192=b"\1\1"), []), (10, b"ODD     ", changed(HOST, at8=host[4:8], at80=b"ODD     ", at196=b"\x08"), [library]),
+        (11, b"DEMO    ", changed(HOST, at6=b"\x03"), [library]), (13, UTIL, host, []), (13, AUX, host, [USING]),
+        (14, UTIL, host, [changed(LIBRARY, at196=b"\x04")]), (15, UTIL, host, [changed(LIBRARY, at4=library[8:12], at72=UTIL, at194=b"\x03")]),
+        (28, b"XOUNT   ", host, [changed(LIBRARY, at1024=b"X")]),
+    ]  # fmt: skip
+    for number, about, one, libs in cases:
+        fault = raised(pslink.Refused, pslink.link, one, libs)
+        said = (fault.number, fault.about) if fault else None
+        check(said == (number, about), f"fault {number} is {fault} about {fault and fault.about}")
+        report = pslink.check(one, libs)
+        check(report.fault == fault, f"the verdict of fault {number} is {report.fault} about {report.fault and report.fault.about}")
+    names = [(HOST, [], [UTIL]), (HOST, [LIBRARY], [UTIL]), (HOST, [USING], [UTIL, AUX]), (HOST, [USING, USED], [UTIL, AUX]), (BOTH, [], [])]
+    for one, libs, wanted in names:
+        check(pslink.units_wanted(one, libs) == wanted, f"{one.name} wants {pslink.units_wanted(one, libs)} beside {libs}")
+    for file, had in ((HOST, []), (LIBRARY, [UTIL]), (USING, [UTIL]), (USED, [AUX])):
+        check(pslink.units_had(file) == had, f"{file.name} has {pslink.units_had(file)}")
+    check(sorted(pslink.units_had(BOTH)) == [AUX, UTIL], f"{BOTH.name} has {pslink.units_had(BOTH)}")
+    check(raised(pslink.Refused, pslink.units_had, b"").number == 1, "a file of nothing has units")
+
+
+def of_texts():
+    """What each text is, and which are none."""
+    files = HOST, [LIBRARY]
+    text = pslink.text
+    check(text("map", *files) == pslink.map(*files) and text("show", HOST) == pslink.show(HOST), "the text of a map or a show is another")
+    check(text("check", *files, ["one", "two"]) == pslink.check(*files, ["one", "two"]).text, "the text of a report is another")
+    check(text("references", *files).startswith(pslink.map(*files)), "a map with references has no map")
+    check(text("list", *files, ["one", "two"]).startswith("one: little-endian, 1536 bytes, host\n"), "a list names its files otherwise")
+    check(text("list", HOST).startswith(f"{HOST}: "), "a list of a path names it otherwise")
+    for what in ("map", "references", "show", "check", "list"):
+        json.loads(text(what, *files, json=True))
+    document = json.loads(text("check", HOST, [changed(LIBRARY, at530=b"\3")], json=True))
+    check([warning["weight"] for warning in document["warnings"]] == ["damaged"], f"the warnings are {document['warnings']}")
+    check(parts(raised(pslink.Refused, text, "map", HOST)) == MISSING, "the text of a map is of files that are refused")
+    check(raised(ValueError, lambda: text("units", HOST, json=True)), "there is a document of units")
+    check(raised(ValueError, text, "plan", HOST), "there is a text of another name")
+    parts_of_release = [int(part) for part in pslink.__version__.split(".")]
+    check(pslink.release_number() == sum(part * 100**power for part, power in zip(parts_of_release, (2, 1, 0))), "the number of the release is another")
 
 
 def of_threads():
@@ -205,7 +260,7 @@ def of_editable(build_backend, source):
     """What `pip install -e` installs is the folder of the sources."""
     zipfile.ZipFile(FOLDER / build_backend.build_editable(FOLDER)).extractall(FOLDER / "editable")
     code = f"import site; site.addsitedir({str(FOLDER / 'editable')!r}); import pslink; print(pslink.__file__)"
-    said = imported(code, PYTHONPATH="", PSLINK_LIBRARY=str(BUILT / "libpslink.so.1"))
+    said = imported(code, PYTHONPATH="", PSLINK_LIBRARY=str(BUILT / "libpslink.so.2"))
     check(said == f"{source}/pslink/__init__.py", f"installed as editable: {said}")
 
 
@@ -227,7 +282,7 @@ def of_installing():
     config.mkdir()
     (config / "pslink.pc").write_text(f"libdir={BUILT}\nName: pslink\nDescription: pslink\nVersion: 0\nLibs:\n")
     ways = {
-        "by PSLINK_LIBRARY": {"PSLINK_LIBRARY": str(BUILT / "libpslink.so.1")},
+        "by PSLINK_LIBRARY": {"PSLINK_LIBRARY": str(BUILT / "libpslink.so.2")},
         "by the loader": {"LD_LIBRARY_PATH": str(BUILT)},
         **({"by pkg-config": {"PKG_CONFIG_PATH": str(config)}} if shutil.which("pkg-config") else {}),
     }
@@ -235,16 +290,18 @@ def of_installing():
         check(imported(**env) == there, f"{what}: {imported(**env)}")
     check(imported(ISOLATED) == "ImportError", f"an isolated interpreter without a library: {imported(ISOLATED)}")
     wrong = {
-        "of another version": str(OTHER / "libpslink.so.1"), "of something else": "libc.so.6",
+        "of another version": str(OTHER / "libpslink.so.2"), "of something else": "libc.so.6",
         "that is not there": str(FOLDER / "not there"), "that is none": str(HOST),
     }  # fmt: skip
     for what, path in wrong.items():
         said = imported(PSLINK_LIBRARY=path)
         check(said.startswith("ImportError: "), f"a library {what}: {said}")
+    said = imported(PSLINK_LIBRARY=str(EARLIER / "libpslink.so.2"))
+    check(said.startswith(f"ImportError: {EARLIER}/libpslink.so.2 is of an earlier release than {pslink.__version__}: "), f"an earlier library: {said}")
 
 
 def main():
-    for part in (of_files, of_reports, of_refusals, of_names, of_hints, of_threads, of_room, of_installing):
+    for part in (of_files, of_reports, of_refusals, of_what_is_at_fault, of_texts, of_names, of_hints, of_threads, of_room, of_installing):
         part()
     for line in found:
         print(line)

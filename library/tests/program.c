@@ -1,6 +1,7 @@
 /* The program pslink over the library: what it prints, writes and answers is that of the program that is proved, so that
  * .ci/samples and .ci/damage take either.
- * Usage: program link HOST OUT [LIB]... | map HOST [LIB]... | check [--strict] HOST [LIB]... | show FILE | serve STDOUT STDERR */
+ * Usage: program link HOST OUT [LIB]... | map [--references] [--json] HOST [LIB]... | check [--strict] [--json] HOST [LIB]... |
+ * check --unit FILE... | show [--json] FILE | list [--json] FILE... | serve STDOUT STDERR */
 #define _POSIX_C_SOURCE 200809L
 #include <pslink.h>
 #include <stdio.h>
@@ -156,23 +157,93 @@ static int check_files(const struct files *files, const char *host, char **libs,
     return status;
 }
 
+/* Prints a text of files that are anywhere. Its status says whether they were refused; of a report, a list and its units it is 0. */
+static int print_text_files(uint32_t what, uint32_t form, const struct files *files, const char *host, char **libs)
+{
+    static pslink_named_file named[LIBRARIES];
+    const pslink_named_file first = {host, files->host.bytes, files->host.length};
+    char *out = NULL;
+    size_t size = 0, at = 0, k;
+    pslink_answer answer;
+    int status;
+
+    for (k = 0; k < files->count; at += files->lengths[k++]) {
+        named[k].name = libs[k];
+        named[k].bytes = files->bytes + at;
+        named[k].length = files->lengths[k];
+    }
+    while (pslink_text_files(what, form, first, named, files->count, out, size, &answer) == PSLINK_TOO_SMALL && answer.needed > size) {
+        size = answer.needed;
+        out = grown(out, size);
+    }
+    if (answer.status != PSLINK_DONE)
+        status = refused(&answer);
+    else
+        status = fwrite(out, 1, answer.written, stdout) == answer.written ? 0 : 3;
+    free(out);
+    return status;
+}
+
+/* A command and its flags, each once and in this order. */
+struct request {
+    int is_link, is_map, is_show, is_check, is_list, strict, unit, references, json;
+};
+
+/* Whether the next word is this one, which is then behind. */
+static int takes(char ***words, int *count, const char *word)
+{
+    if (*count == 0 || strcmp(**words, word) != 0)
+        return 0;
+    (*words)++;
+    (*count)--;
+    return 1;
+}
+
+static struct request requested(char ***words, int *count)
+{
+    struct request it = {0, 0, 0, 0, 0, 0, 0, 0, 0};
+
+    it.is_link = takes(words, count, "link");
+    it.is_map = !it.is_link && takes(words, count, "map");
+    it.is_show = !it.is_map && takes(words, count, "show");
+    it.is_check = !it.is_show && takes(words, count, "check");
+    it.is_list = !it.is_check && takes(words, count, "list");
+    it.strict = it.is_check && takes(words, count, "--strict");
+    it.unit = it.is_check && takes(words, count, "--unit");
+    it.references = it.is_map && takes(words, count, "--references");
+    it.json = takes(words, count, "--json");
+    return it;
+}
+
+static uint32_t text_of(const struct request *it)
+{
+    if (it->is_map)
+        return it->references ? PSLINK_TEXT_REFERENCES : PSLINK_TEXT_MAP;
+    if (it->is_show)
+        return PSLINK_TEXT_SHOW;
+    if (it->is_list)
+        return PSLINK_TEXT_LIST;
+    return it->unit ? PSLINK_TEXT_UNITS : PSLINK_TEXT_CHECK;
+}
+
 /* The status of a command, of so many words. A file that cannot be read ends the program. */
 static int command(char **words, int count)
 {
     static struct files files;
-    int is_link = strcmp(words[0], "link") == 0, is_map = strcmp(words[0], "map") == 0, is_show = strcmp(words[0], "show") == 0;
-    int is_check = strcmp(words[0], "check") == 0, strict = is_check && count >= 3 && strcmp(words[1], "--strict") == 0;
-    int first = 2 + is_link + strict, status;
+    const struct request it = requested(&words, &count);
+    int first = 1 + it.is_link, status;
 
-    if (!(is_link || is_map || is_show || is_check) || count < first || (is_show && count > 2))
+    if (!(it.is_link || it.is_map || it.is_show || it.is_check || it.is_list) || count < first || (it.is_show && count > 1))
         return 2;
-    read_files(&files, words[1 + strict], words + first, count - first);
-    if (is_link)
-        status = link_files(&files, words[2]);
-    else if (is_check)
-        status = check_files(&files, words[1 + strict], words + first, strict);
+    read_files(&files, words[0], words + first, count - first);
+    if (it.is_link)
+        status = link_files(&files, words[1]);
+    else if (it.json || it.references || it.unit || it.is_list)
+        status = print_text_files(text_of(&it), it.json ? PSLINK_JSON : PSLINK_LINES, &files, words[0], words + first);
+    else if (it.is_check)
+        status = check_files(&files, words[0], words + first, it.strict);
     else
-        status = print_text(&files, is_map);
+        status = print_text(&files, it.is_map);
     free((void *)(uintptr_t)files.host.bytes);
     free(files.bytes);
     return status;

@@ -31,9 +31,14 @@ def checked(host, libs, names, strict):
     return 0 if report.ok else 1, report.text, wrong, None
 
 
-def answer(command, host, libs, names=None, strict=False):
-    """What the program answers: its status, its output and its error output, and of a link the file."""
+def answer(command, host, libs, names=None, flags=()):
+    """What the program answers: its status, its output and its error output, and of a link the file. (Of a report, a list and its
+    units as texts the status is 0.)"""
+    strict, texts = "--strict" in flags, [flag for flag in flags if flag != "--strict"]
     try:
+        if texts or command == "list":
+            what = {"--references": "references", "--unit": "units"}.get(texts[0] if texts else "", command)
+            return 0, pslink.text(what, host, libs, names, "--json" in texts), "", None
         if command == "check":
             return checked(host, libs, names, strict)
         if command == "map":
@@ -51,10 +56,10 @@ def answered(words):
     """What the command of these words answers, as above, and the file to write. (Paths are read by the package, and are the
     names in a report.)"""
     command, *paths = words
-    strict = "--strict" in paths
-    paths = [path for path in paths if path != "--strict"]
+    flags = [path for path in paths if path.startswith("--")]
+    paths = [path for path in paths if path not in flags]
     out = paths.pop(1) if command == "link" else None
-    status, printed, error, linked = answer(command, paths[0], paths[1:], None, strict)
+    status, printed, error, linked = answer(command, paths[0], paths[1:], None, flags)
     if linked is not None:
         pathlib.Path(out).write_bytes(linked)
     return status, printed, error

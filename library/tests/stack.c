@@ -32,6 +32,22 @@ static void *nothing(void *unused)
     return unused;
 }
 
+/* The names of units, of the host beside all libraries. */
+static void a_units_call(void *room)
+{
+    static unsigned char bytes[FILES << 10];
+    static size_t lengths[FILES];
+    size_t length = 0, k;
+    pslink_answer answer;
+
+    for (k = 0; k < count && length + libs[k].length <= sizeof bytes; k++) {
+        memcpy(bytes + length, libs[k].bytes, libs[k].length);
+        length += lengths[k] = libs[k].length;
+    }
+    pslink_units(PSLINK_UNITS_WANTED, host.bytes, host.length, bytes, length, lengths, k, room, PSLINK_LINKED_MAX, &answer);
+    pslink_units(PSLINK_UNITS_HAD, host.bytes, host.length, NULL, 0, NULL, 0, room, PSLINK_LINKED_MAX, &answer);
+}
+
 static void *all_calls(void *room)
 {
     pslink_answer answer;
@@ -41,6 +57,7 @@ static void *all_calls(void *room)
     pslink_fault_text(&answer, text, sizeof text);
     pslink_map_files(host, libs, count, room, PSLINK_LINKED_MAX, &answer);
     pslink_show(host.bytes, host.length, room, PSLINK_LINKED_MAX, &answer);
+    a_units_call(room);
     return room;
 }
 

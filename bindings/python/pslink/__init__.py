@@ -6,8 +6,9 @@
 A file is bytes, or whatever else has bytes, with a whole code file; or it is the path of one, which is read. The files'
 fault, if they have one, is raised as `Refused`.
 
-The shared object is the file that PSLINK_LIBRARY names, or else libpslink.so.1 where the system's loader finds it, or else
-where pkg-config has it. If there is none, or one of another version, the import of this package is an ImportError.
+The shared object is the file that PSLINK_LIBRARY names, or else libpslink.so.2 where the system's loader finds it, or else
+where pkg-config has it. If there is none, or one of another version or of an earlier release than this package calls, the import of
+this package is an ImportError.
 """
 
 import array
@@ -15,15 +16,18 @@ import ctypes
 import mmap
 import os
 import subprocess
-from typing import TYPE_CHECKING, Iterable, NamedTuple, Optional, Tuple, Union
+from typing import TYPE_CHECKING, Iterable, List, Literal, NamedTuple, Optional, Tuple, Union
 
 if TYPE_CHECKING:
     # (what has bytes, for those who check types: Python 3.8 has no name for it)
     from _typeshed import ReadableBuffer
 
 # (`map` is not among them, so that `import *` keeps Python's own)
-__all__ = ["File", "Refused", "Report", "Summary", "check", "fault_name", "link", "link_with_summary", "release", "show"]
-__version__ = "0.1.0"
+__all__ = [
+    "File", "Refused", "Report", "Summary", "Text", "check", "fault_name", "link", "link_with_summary", "release", "release_number",
+    "show", "text", "units_had", "units_wanted",
+]  # fmt: skip
+__version__ = "0.2.0"
 
 # What has a whole code file, or names one.
 if TYPE_CHECKING:
@@ -32,9 +36,16 @@ else:
     # (where a program asks for the hints; Python 3.8 says no more of `array` and `PathLike`)
     File = Union[bytes, bytearray, memoryview, array.array, mmap.mmap, ctypes.Array, str, os.PathLike]
 
-_DONE, _REFUSED, _NO_MEMORY, _TOO_SMALL = 0, 1, 4, 5
-_VERSION = 1
-_NAME = "libpslink.so.1"
+# What `text` makes, as the commands of the program call it: `references` is the map with them, `units` is `check --unit`.
+Text = Literal["map", "references", "show", "check", "list", "units"]
+_TEXTS = {"map": 0, "references": 1, "show": 2, "check": 3, "list": 4, "units": 5}
+_LINES, _JSON = 0, 1
+_UNITS_WANTED, _UNITS_HAD = 0, 1
+_NAME_LENGTH = 8
+
+_DONE, _REFUSED, _NO_MEMORY, _TOO_SMALL, _WRONG_TEXT = 0, 1, 4, 5, 7
+_VERSION = 2
+_NAME = "libpslink.so.2"
 
 # A linked file has at most so many bytes. A text that is longer than this guess is made again.
 _LINKED_MAX = 524800
@@ -60,6 +71,9 @@ class _Answer(ctypes.Structure):
         ("blocks", ctypes.c_size_t),
         ("written", ctypes.c_size_t),
         ("needed", ctypes.c_size_t),
+        ("name", ctypes.c_uint8 * _NAME_LENGTH),
+        ("has_name", ctypes.c_uint32),
+        ("reserved", ctypes.c_uint32 * 7),
     ]
 
 
@@ -71,12 +85,14 @@ class _CheckAnswer(ctypes.Structure):
         ("written", ctypes.c_size_t),
         ("needed", ctypes.c_size_t),
         ("verdict", _Answer),
+        ("reserved", ctypes.c_size_t * 4),
     ]
 
 
 _BYTES = [ctypes.c_char_p, ctypes.c_size_t]
 _ROOM = [ctypes.c_void_p, ctypes.c_size_t]
 _LENGTHS = [ctypes.POINTER(ctypes.c_size_t), ctypes.c_size_t]
+_NUMBER = [ctypes.c_uint32]
 _ANSWER = [ctypes.POINTER(_Answer)]
 _FUNCTIONS = {
     "pslink_link_nonnull": ([*_BYTES, *_BYTES, *_LENGTHS, *_ROOM, *_ANSWER], ctypes.c_uint32),
@@ -86,9 +102,15 @@ _FUNCTIONS = {
         ctypes.c_uint32,
     ),
     "pslink_show_nonnull": ([*_BYTES, *_ROOM, *_ANSWER], ctypes.c_uint32),
+    "pslink_text_nonnull": (
+        [*_NUMBER, *_NUMBER, *_BYTES, *_BYTES, *_LENGTHS, *_BYTES, *_LENGTHS, *_ROOM, *_ANSWER],
+        ctypes.c_uint32,
+    ),
+    "pslink_units_nonnull": ([*_NUMBER, *_BYTES, *_BYTES, *_LENGTHS, *_ROOM, *_ANSWER], ctypes.c_uint32),
     "pslink_fault_text_nonnull": ([*_ANSWER, *_ROOM], ctypes.c_size_t),
     "pslink_fault_name_nonnull": ([ctypes.c_uint8, *_ROOM], ctypes.c_size_t),
     "pslink_release_nonnull": (_ROOM, ctypes.c_size_t),
+    "pslink_release_number": ([], ctypes.c_uint32),
 }
 
 
@@ -154,15 +176,22 @@ def fault_name(number: int) -> str:
 
 
 def release() -> str:
-    """The release of the library, as '0.1.0'."""
+    """The release of the library, as '0.2.0'."""
     return _text(_library.pslink_release_nonnull)
+
+
+def release_number() -> int:
+    """The same as a number to compare, as 200: 10000 times its first part, 100 times its second, and its third. Since 0.2.0."""
+    return int(_library.pslink_release_number())
 
 
 class Refused(Exception):
     """The files are refused. Its text is that of the fault, as 'refused 13 MissingUnit file 0 slot 7'.
 
     number: the number of the fault, 1 to 35. name: its name. file: the file at fault, 0 for the host, k for the k-th
-    library. kind, slot, record, reference: numbers, each None where the fault has none.
+    library. kind, slot, record, reference: numbers, each None where the fault has none. about: the eight bytes of the name of that
+    unit, segment, symbol or variable which is at fault, as b'UTIL    ', after MissingUnit those of the unit to look for; None where
+    the fault is of none. (Since 0.2.0.)
     """
 
     def __init__(
@@ -175,9 +204,10 @@ class Refused(Exception):
         slot: Optional[int] = None,
         record: Optional[int] = None,
         reference: Optional[int] = None,
+        about: Optional[bytes] = None,
     ) -> None:
         # (these are what is pickled)
-        super().__init__(text, number, name, file, kind, slot, record, reference)
+        super().__init__(text, number, name, file, kind, slot, record, reference, about)
         self.text = text
         self.number = number
         self.name = name
@@ -186,6 +216,7 @@ class Refused(Exception):
         self.slot = slot
         self.record = record
         self.reference = reference
+        self.about = about
 
     def __str__(self) -> str:
         return self.text
@@ -207,6 +238,7 @@ def _refusal(answer):
         answer.slot if answer.has_slot else None,
         answer.record if answer.has_record else None,
         answer.reference if answer.has_reference else None,
+        bytes(answer.name) if answer.has_name else None,
     )
 
 
@@ -261,6 +293,8 @@ def _result(call, size, answer):
             raise _refusal(answer)
         if status == _NO_MEMORY:
             raise MemoryError("pslink: out of memory")
+        if status == _WRONG_TEXT:
+            raise ValueError("pslink: there is no such text, or it has no such form")
         if status != _TOO_SMALL or answer.needed <= size:
             raise RuntimeError(f"pslink: the library answered {status}")
         size = answer.needed
@@ -345,7 +379,16 @@ def _names(files, names):
     for name in names:
         if not isinstance(name, str):
             raise TypeError(f"a name is str, and not {type(name).__name__}")
-    return [name.encode("utf-8", "backslashreplace") for name in names]
+    return [str.encode(name, "utf-8", "backslashreplace") for name in names]
+
+
+def _named(host, libs, names):
+    """The bytes of each file, the host's first, and their names as `_names` has them."""
+    if _is_one_file(libs):
+        raise TypeError(f"the libraries are a list of files, and not one {type(libs).__name__}")
+    files = [host, *libs]
+    names = _names(files, names)
+    return [_contents(file) for file in files], names
 
 
 def check(host: File, libs: Iterable[File] = (), names: Optional[Iterable[str]] = None, strict: bool = False) -> Report:
@@ -355,11 +398,8 @@ def check(host: File, libs: Iterable[File] = (), names: Optional[Iterable[str]] 
     another HOST or LIB1 and so on. Raises what `link` raises but Refused, and ValueError where there is not one name for each
     file.
     """
-    if _is_one_file(libs):
-        raise TypeError(f"the libraries are a list of files, and not one {type(libs).__name__}")
-    files = [host, *libs]
-    names = _names(files, names)
-    host, *libs = [_contents(file) for file in files]
+    files, names = _named(host, libs, names)
+    host, *libs = files
     joined = *_joined(libs), *_joined(names), bool(strict)
     text, answer = _result(
         lambda room, size, answer: _library.pslink_check_nonnull(host, len(host), *joined, room, size, answer),
@@ -369,6 +409,55 @@ def check(host: File, libs: Iterable[File] = (), names: Optional[Iterable[str]] 
     verdict = answer.verdict
     fault = _refusal(verdict) if verdict.status == _REFUSED else None
     return Report(text.decode("utf-8"), answer.warnings, fault, None if fault else _summary(verdict), not answer.ends_with)
+
+
+def text(
+    what: Text, host: File, libs: Iterable[File] = (), names: Optional[Iterable[str]] = None, json: bool = False
+) -> str:
+    """What the program prints of these files by its command of this name, as lines, or as one JSON document. Since 0.2.0.
+
+    `references` is a map with what the link stores at each place; `units` is a list and what is wrong with each unit by itself, as
+    lines alone. Of a `list` and of `units` all files are equal; of a `show` there is one. names: as of `check`. Raises what `link`
+    raises, Refused for a map, its references and a show alone, and ValueError for what is no such text.
+    """
+    if what not in _TEXTS:
+        raise ValueError(f"a text is one of {', '.join(_TEXTS)}, and not {what!r}")
+    files, names = _named(host, libs, names)
+    host, *libs = files
+    joined = *_joined(libs), *_joined(names)
+    form = _JSON if json else _LINES
+    made, _ = _result(
+        lambda room, size, answer: _library.pslink_text_nonnull(
+            _TEXTS[what], form, host, len(host), *joined, room, size, answer
+        ),
+        _TEXT_GUESS,
+        _Answer(),
+    )
+    return made.decode("utf-8")
+
+
+def units_wanted(host: File, libs: Iterable[File] = ()) -> List[bytes]:
+    """The names of the units that a link takes from libraries, or would take if they had them, eight bytes each. Since 0.2.0.
+
+    First those that the host's slots want, by slot, then those that only records request. Those that a unit uses are told where the
+    libraries have that unit. Raises Refused only where the host cannot be opened, and else what `link` raises.
+    """
+    return _units(_UNITS_WANTED, _contents(host), _all_contents(libs))
+
+
+def units_had(file: File) -> List[bytes]:
+    """The names of the units whose code a file has, eight bytes each, by slot. Raises what `show` raises. Since 0.2.0."""
+    return _units(_UNITS_HAD, _contents(file), [])
+
+
+def _units(which, host, libs):
+    joined = _joined(libs)
+    names, _ = _result(
+        lambda room, size, answer: _library.pslink_units_nonnull(which, host, len(host), *joined, room, size, answer),
+        16 * _NAME_LENGTH,
+        _Answer(),
+    )
+    return [names[at : at + _NAME_LENGTH] for at in range(0, len(names), _NAME_LENGTH)]
 
 
 def show(file: File) -> str:

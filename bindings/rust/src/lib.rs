@@ -16,11 +16,11 @@ mod reason;
 
 pub use reason::Reason;
 
-use raw::{Answer, CheckAnswer, Joined};
+use raw::{Answer, CheckAnswer, Joined, Kind};
 use std::fmt;
 
 /// The version of the library's interface that this crate calls.
-pub const VERSION: u32 = 1;
+pub const VERSION: u32 = 2;
 
 /// How many bytes a linked file has at most.
 pub const LINKED_MAX: usize = 524_800;
@@ -35,6 +35,10 @@ const DONE: u32 = 0;
 const REFUSED: u32 = 1;
 const NO_MEMORY: u32 = 4;
 const TOO_SMALL: u32 = 5;
+const WRONG_TEXT: u32 = 7;
+
+const UNITS_WANTED: u32 = 0;
+const UNITS_HAD: u32 = 1;
 
 /// The libraries of a program that uses no unit.
 pub const NO_LIBRARIES: &[&[u8]] = &[];
@@ -43,6 +47,7 @@ pub const NO_LIBRARIES: &[&[u8]] = &[];
 ///
 /// Its text is that which `pslink` prints, as `refused 13 MissingUnit file 0 slot 7`.
 #[derive(Clone, Debug, PartialEq, Eq)]
+#[non_exhaustive]
 pub struct Fault {
     /// Why the files are refused.
     pub reason: Reason,
@@ -56,8 +61,14 @@ pub struct Fault {
     pub record: Option<usize>,
     /// The index of the reference in its record, from 0.
     pub reference: Option<usize>,
+    /// The name of the unit, the segment, the symbol or the variable that is at fault, eight bytes as
+    /// the files have them; after [`Reason::MissingUnit`] that of the unit to look for. Since 0.2.0.
+    pub about: Option<Name>,
     text: String,
 }
+
+/// A name of a code file: eight bytes, which blanks fill.
+pub type Name = [u8; 8];
 
 impl fmt::Display for Fault {
     fn fmt(&self, f: &mut fmt::Formatter<'_>) -> fmt::Result {
@@ -79,6 +90,8 @@ pub enum Error {
     Version(u32),
     /// The archive answered what that version does not.
     Unknown(u32),
+    /// There is no such text, or it has no such form. Since 0.2.0.
+    NoText,
 }
 
 impl fmt::Display for Error {
@@ -92,6 +105,7 @@ impl fmt::Display for Error {
             Error::Unknown(status) => {
                 write!(f, "libpslink.a answered {status}, which is no status")
             }
+            Error::NoText => f.write_str("there is no such text, or it has no such form"),
         }
     }
 }
@@ -106,6 +120,7 @@ impl From<Fault> for Error {
 
 /// What a linked file has.
 #[derive(Clone, Copy, Debug, PartialEq, Eq)]
+#[non_exhaustive]
 pub struct Summary {
     /// How many segments it has, at most 16.
     pub segments: usize,
@@ -134,7 +149,7 @@ fn text_of(call: impl FnOnce(&mut [u8]) -> usize) -> String {
 }
 
 impl Fault {
-    /// The fault of a refusal; `None` where its number is none of version 1.
+    /// The fault of a refusal; `None` where its number is none of this version.
     fn of(answer: &Answer) -> Option<Fault> {
         Some(Fault {
             reason: Reason::of_number(answer.fault)?,
@@ -143,6 +158,7 @@ impl Fault {
             slot: (answer.has_slot != 0).then_some(answer.slot),
             record: (answer.has_record != 0).then_some(answer.record),
             reference: (answer.has_reference != 0).then_some(answer.reference),
+            about: (answer.has_name != 0).then_some(answer.name),
             text: text_of(|room| raw::fault_text(answer, room)),
         })
     }
@@ -216,6 +232,7 @@ fn result<T: Told>(
             }
             TOO_SMALL if answer.needed() > size => size = answer.needed(),
             NO_MEMORY => return Err(Error::Memory),
+            WRONG_TEXT => return Err(Error::NoText),
             status => return Err(Error::Unknown(status)),
         }
     }
@@ -279,6 +296,7 @@ pub fn map<H: AsRef<[u8]>, L: AsRef<[u8]>>(host: H, libs: &[L]) -> Result<String
 
 /// What a check says of files.
 #[derive(Clone, Debug, PartialEq, Eq)]
+#[non_exhaustive]
 pub struct Report {
     /// The report, for a person.
     pub text: String,
@@ -288,6 +306,15 @@ pub struct Report {
     pub verdict: Result<Summary, Fault>,
     /// Whether the files are linked, and, of a strict check, without a warning.
     pub ok: bool,
+}
+
+/// The name of each file, the host's first, and the libraries.
+fn joined<L: AsRef<[u8]>>(host: &str, libs: &[(&str, L)]) -> Result<(Joined, Joined), Error> {
+    let names: Vec<&str> = std::iter::once(host)
+        .chain(libs.iter().map(|lib| lib.0))
+        .collect();
+    let files: Vec<&[u8]> = libs.iter().map(|lib| lib.1.as_ref()).collect();
+    Ok((Joined::new(&names)?, Joined::new(&files)?))
 }
 
 /// The report on a host and its libraries: whether they are linked, and what is wrong with them.
@@ -300,11 +327,7 @@ pub fn check<H: AsRef<[u8]>, L: AsRef<[u8]>>(
     libs: &[(&str, L)],
     strict: bool,
 ) -> Result<Report, Error> {
-    let names: Vec<&str> = std::iter::once(host.0)
-        .chain(libs.iter().map(|lib| lib.0))
-        .collect();
-    let files: Vec<&[u8]> = libs.iter().map(|lib| lib.1.as_ref()).collect();
-    let (names, files) = (Joined::new(&names)?, Joined::new(&files)?);
+    let (names, files) = joined(host.0, libs)?;
     let host = host.1.as_ref();
     let (text, answer) = result(TEXT_GUESS, |room, answer: &mut CheckAnswer| {
         raw::check(host, &files, &names, strict, room, answer)
@@ -321,6 +344,91 @@ pub fn check<H: AsRef<[u8]>, L: AsRef<[u8]>>(
     })
 }
 
+/// What [`text`] makes: what the program prints by its command of this name. Since 0.2.0.
+#[derive(Clone, Copy, Debug, PartialEq, Eq, Hash)]
+#[non_exhaustive]
+#[repr(u32)]
+pub enum Text {
+    /// The map of the link, as [`map`].
+    Map = 0,
+    /// That map, and what the link stores at each place.
+    References = 1,
+    /// What the one file has, as [`show`].
+    Show = 2,
+    /// The report on the files, as [`check`]; its document has the warnings and notes one by one.
+    Check = 3,
+    /// What each file has, in a line for each segment.
+    List = 4,
+    /// That list, and what is wrong with the units of each file by themselves: lines alone.
+    Units = 5,
+}
+
+/// In which form [`text`] has it. Since 0.2.0.
+#[derive(Clone, Copy, Debug, PartialEq, Eq, Hash)]
+#[non_exhaustive]
+#[repr(u32)]
+pub enum Form {
+    /// Lines, for a person.
+    Lines = 0,
+    /// One JSON document, which `docs/JSON.md` describes.
+    Json = 1,
+}
+
+/// What the program prints of these files. Each goes with the name that a report or a list has for
+/// it. Of a list and of its units all files are equal; of a show there is one, `host`. Since 0.2.0.
+///
+/// # Errors
+/// Those of [`link`], where [`Error::Refused`] is of a map, its references and a show alone;
+/// [`Error::NoText`] where the text has no such form.
+pub fn text<H: AsRef<[u8]>, L: AsRef<[u8]>>(
+    what: Text,
+    form: Form,
+    host: (&str, H),
+    libs: &[(&str, L)],
+) -> Result<String, Error> {
+    let (names, files) = joined(host.0, libs)?;
+    let host = host.1.as_ref();
+    let kind = Kind {
+        what: what as u32,
+        form: form as u32,
+    };
+    let (text, _) = result(TEXT_GUESS, |room, answer: &mut Answer| {
+        raw::text(kind, host, &files, &names, room, answer)
+    })?;
+    Ok(String::from_utf8_lossy(&text).into_owned())
+}
+
+/// The names in `which` of the two lists.
+fn units(which: u32, host: &[u8], libs: &Joined) -> Result<Vec<Name>, Error> {
+    const LENGTH: usize = std::mem::size_of::<Name>();
+    let (names, _) = result(16 * LENGTH, |room, answer: &mut Answer| {
+        raw::units(which, host, libs, room, answer)
+    })?;
+    let names = names.chunks_exact(LENGTH);
+    Ok(names.filter_map(|name| name.try_into().ok()).collect())
+}
+
+/// The names of the units that a link takes from libraries, or would take if they had them: first
+/// those that the host's slots want, by slot, then those that only records request. Those that a
+/// unit uses are told where the libraries have that unit. Since 0.2.0.
+///
+/// # Errors
+/// [`Error::Refused`] where the host cannot be opened; else as of [`link`].
+pub fn units_wanted<H: AsRef<[u8]>, L: AsRef<[u8]>>(
+    host: H,
+    libs: &[L],
+) -> Result<Vec<Name>, Error> {
+    units(UNITS_WANTED, host.as_ref(), &Joined::new(libs)?)
+}
+
+/// The names of the units whose code a file has, by slot. Since 0.2.0.
+///
+/// # Errors
+/// Those of [`units_wanted`].
+pub fn units_had<F: AsRef<[u8]>>(file: F) -> Result<Vec<Name>, Error> {
+    units(UNITS_HAD, file.as_ref(), &Joined::new(NO_LIBRARIES)?)
+}
+
 /// What a code file has, of any contents, as text.
 ///
 /// # Errors
@@ -333,10 +441,17 @@ pub fn show<F: AsRef<[u8]>>(file: F) -> Result<String, Error> {
     Ok(String::from_utf8_lossy(&text).into_owned())
 }
 
-/// The release of the archive, as `0.1.0`.
+/// The release of the archive, as `0.2.0`.
 #[must_use]
 pub fn release() -> String {
     text_of(raw::release)
+}
+
+/// The same as a number to compare, as 200: 10000 times its first part, 100 times its second, and
+/// its third. Since 0.2.0.
+#[must_use]
+pub fn release_number() -> u32 {
+    raw::release_number()
 }
 
 /// What the library calls the fault of this number, as `MissingUnit`; empty where there is none.

@@ -21,6 +21,9 @@ pub struct Answer {
     pub blocks: usize,
     pub written: usize,
     pub needed: usize,
+    pub name: [u8; 8],
+    pub has_name: u32,
+    pub reserved: [u32; 7],
 }
 
 /// What a check answers: `pslink_check_answer`.
@@ -33,6 +36,7 @@ pub struct CheckAnswer {
     pub written: usize,
     pub needed: usize,
     pub verdict: Answer,
+    pub reserved: [usize; 4],
 }
 
 /// A link or a map.
@@ -94,9 +98,39 @@ extern "C" {
         out_length: usize,
         answer: *mut Answer,
     ) -> u32;
+    fn pslink_text_nonnull(
+        what: u32,
+        form: u32,
+        host: *const u8,
+        host_length: usize,
+        libs: *const u8,
+        libs_length: usize,
+        lengths: *const usize,
+        count: usize,
+        names: *const u8,
+        names_length: usize,
+        name_lengths: *const usize,
+        name_count: usize,
+        out: *mut u8,
+        out_length: usize,
+        answer: *mut Answer,
+    ) -> u32;
+    fn pslink_units_nonnull(
+        which: u32,
+        host: *const u8,
+        host_length: usize,
+        libs: *const u8,
+        libs_length: usize,
+        lengths: *const usize,
+        count: usize,
+        out: *mut u8,
+        out_length: usize,
+        answer: *mut Answer,
+    ) -> u32;
     fn pslink_fault_text_nonnull(answer: *const Answer, out: *mut u8, out_length: usize) -> usize;
     fn pslink_fault_name_nonnull(fault: u8, out: *mut u8, out_length: usize) -> usize;
     fn pslink_release_nonnull(out: *mut u8, out_length: usize) -> usize;
+    fn pslink_release_number() -> u32;
     fn pslink_version() -> u32;
 }
 
@@ -193,6 +227,61 @@ pub fn show(file: &[u8], out: &mut [u8], answer: &mut Answer) -> u32 {
     }
 }
 
+/// Which text is made, and in which form.
+#[derive(Clone, Copy)]
+pub struct Kind {
+    pub what: u32,
+    pub form: u32,
+}
+
+pub fn text(
+    kind: Kind,
+    host: &[u8],
+    libs: &Joined,
+    names: &Joined,
+    out: &mut [u8],
+    answer: &mut Answer,
+) -> u32 {
+    // SAFETY: as in `of_libraries`.
+    unsafe {
+        pslink_text_nonnull(
+            kind.what,
+            kind.form,
+            host.as_ptr(),
+            host.len(),
+            libs.bytes.as_ptr(),
+            libs.bytes.len(),
+            libs.lengths.as_ptr(),
+            libs.lengths.len(),
+            names.bytes.as_ptr(),
+            names.bytes.len(),
+            names.lengths.as_ptr(),
+            names.lengths.len(),
+            out.as_mut_ptr(),
+            out.len(),
+            answer,
+        )
+    }
+}
+
+pub fn units(which: u32, host: &[u8], libs: &Joined, out: &mut [u8], answer: &mut Answer) -> u32 {
+    // SAFETY: as in `of_libraries`.
+    unsafe {
+        pslink_units_nonnull(
+            which,
+            host.as_ptr(),
+            host.len(),
+            libs.bytes.as_ptr(),
+            libs.bytes.len(),
+            libs.lengths.as_ptr(),
+            libs.lengths.len(),
+            out.as_mut_ptr(),
+            out.len(),
+            answer,
+        )
+    }
+}
+
 pub fn fault_text(answer: &Answer, out: &mut [u8]) -> usize {
     // SAFETY: as in `of_libraries`.
     unsafe { pslink_fault_text_nonnull(answer, out.as_mut_ptr(), out.len()) }
@@ -206,6 +295,11 @@ pub fn fault_name(number: u8, out: &mut [u8]) -> usize {
 pub fn release(out: &mut [u8]) -> usize {
     // SAFETY: as in `of_libraries`.
     unsafe { pslink_release_nonnull(out.as_mut_ptr(), out.len()) }
+}
+
+pub fn release_number() -> u32 {
+    // SAFETY: it reads nothing.
+    unsafe { pslink_release_number() }
 }
 
 pub fn version() -> u32 {

@@ -10,6 +10,7 @@ macro_rules! reasons {
         ///
         /// Its text is its name. `docs/LINKING.md` says of each what to do about it.
         #[derive(Clone, Copy, Debug, PartialEq, Eq, Hash)]
+        #[non_exhaustive]
         #[repr(u8)]
         pub enum Reason {
             $($(#[$words])* $name = $number,)*

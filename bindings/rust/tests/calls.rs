@@ -1,6 +1,6 @@
 //! The calls over samples, which lie beside this file: the crate can be copied by itself.
 
-use pslink::{Error, Fault, Reason, Summary, NO_LIBRARIES};
+use pslink::{Error, Fault, Form, Reason, Summary, Text, NO_LIBRARIES};
 use std::collections::HashSet;
 
 fn sample(name: &str) -> Vec<u8> {
@@ -15,18 +15,15 @@ fn refused<T: std::fmt::Debug>(result: Result<T, Error>) -> Fault {
     }
 }
 
+fn numbers(summary: Summary) -> (usize, u32, usize) {
+    (summary.segments, summary.private_words, summary.blocks)
+}
+
 #[test]
 fn a_link_is_as_long_as_its_result() {
     let (linked, summary) =
         pslink::link_with_summary(sample("host.code"), &[sample("library.code")]).unwrap();
-    assert_eq!(
-        summary,
-        Summary {
-            segments: 2,
-            private_words: 4,
-            blocks: 3
-        }
-    );
+    assert_eq!(numbers(summary), (2, 4, 3));
     assert_eq!(linked.len(), 3 * 512);
     assert_eq!(linked.capacity(), linked.len());
     assert_eq!(
@@ -71,21 +68,18 @@ fn a_report_names_the_files_and_has_the_verdict() {
     assert!(report
         .text
         .ends_with("\nlinks: segments 2 private words 4 blocks 3\n"));
-    let summary = Summary {
-        segments: 2,
-        private_words: 4,
-        blocks: 3,
-    };
     assert_eq!(
-        (report.warnings, report.verdict, report.ok),
-        (0, Ok(summary), true)
+        (report.warnings, report.verdict.map(numbers), report.ok),
+        (0, Ok((2, 4, 3)), true)
     );
     // The attribute table of its procedure has another number.
     library[530] = 3;
     for strict in [false, true] {
         let report = pslink::check(("one", &host), &[("two", &library)], strict).unwrap();
         assert_eq!((report.warnings, report.ok), (1, !strict));
-        assert!(report.text.contains("\nwarning: damaged: two, segment UTIL"));
+        assert!(report
+            .text
+            .contains("\nwarning: damaged: two, segment UTIL"));
     }
     let none: &[(&str, &[u8])] = &[];
     let report = pslink::check(("HOST", &host), none, false).unwrap();
@@ -122,11 +116,15 @@ fn a_refusal_has_the_parts_of_its_fault() {
         (fault.kind, fault.slot, fault.record, fault.reference),
         (None, Some(7), None, None)
     );
+    assert_eq!(fault.about, Some(*b"UTIL    "));
     assert_eq!(fault.to_string(), "refused 13 MissingUnit file 0 slot 7");
     let error: Box<dyn std::error::Error> = Error::from(fault).into();
     assert_eq!(error.to_string(), "refused 13 MissingUnit file 0 slot 7");
     let short = refused(pslink::show(b""));
-    assert_eq!((short.reason, short.slot), (Reason::ShortFile, None));
+    assert_eq!(
+        (short.reason, short.slot, short.about),
+        (Reason::ShortFile, None, None)
+    );
     let mut library = sample("library.code");
     library[196] = 4;
     let no_unit = refused(pslink::link(sample("host.code"), &[library]));
@@ -134,6 +132,59 @@ fn a_refusal_has_the_parts_of_its_fault() {
         (no_unit.reason, no_unit.kind, no_unit.file),
         (Reason::NotAUnit, Some(4), 1)
     );
+}
+
+#[test]
+fn a_text_is_what_the_program_prints() {
+    let (host, library) = (sample("host.code"), sample("library.code"));
+    let files = [("LIB1", &library)];
+    let text = |what, form| pslink::text(what, form, ("HOST", &host), &files).unwrap();
+    let map = text(Text::Map, Form::Lines);
+    assert_eq!(map.as_bytes(), sample("host.map"));
+    let references = text(Text::References, Form::Lines);
+    assert!(references.len() > map.len() && references.starts_with(&map));
+    assert_eq!(text(Text::Show, Form::Lines), pslink::show(&host).unwrap());
+    let report = pslink::check(("HOST", &host), &files, false).unwrap();
+    assert_eq!(text(Text::Check, Form::Lines), report.text);
+    assert!(text(Text::List, Form::Lines).starts_with("HOST: little-endian, 1536 bytes, host\n"));
+    assert!(text(Text::Units, Form::Lines).contains("\nLIB1: little-endian, 1536 bytes, library\n"));
+    let documents = [
+        Text::Map,
+        Text::References,
+        Text::Show,
+        Text::Check,
+        Text::List,
+    ];
+    for what in documents {
+        let document = text(what, Form::Json);
+        assert!(
+            document.starts_with('{') && document.ends_with("}\n"),
+            "{document}"
+        );
+    }
+    assert_eq!(
+        pslink::text(Text::Units, Form::Json, ("HOST", &host), &files),
+        Err(Error::NoText)
+    );
+    let alone = pslink::text(Text::Map, Form::Lines, ("HOST", &host), &files[..0]);
+    assert_eq!(refused(alone).number(), 13);
+}
+
+#[test]
+fn the_units_of_a_host_and_of_a_library_are_named() {
+    let host = sample("host.code");
+    assert_eq!(
+        pslink::units_wanted(&host, NO_LIBRARIES).unwrap(),
+        [*b"UTIL    "]
+    );
+    assert_eq!(
+        pslink::units_had(sample("library.code")).unwrap(),
+        [*b"UTIL    "]
+    );
+    let both = pslink::units_had(sample("two_units.code")).unwrap();
+    assert_eq!(both.iter().collect::<HashSet<_>>().len(), 2);
+    let none = refused(pslink::units_had(&host[..511]));
+    assert_eq!(none.reason, Reason::ShortFile);
 }
 
 #[test]
@@ -150,6 +201,11 @@ fn the_reasons_are_those_of_the_library() {
 #[test]
 fn the_release_is_that_of_this_crate() {
     assert_eq!(pslink::release(), env!("CARGO_PKG_VERSION"));
+    let parts = pslink::release();
+    let number = parts.split('.').fold(0, |number, part| {
+        100 * number + part.parse::<u32>().unwrap()
+    });
+    assert_eq!(pslink::release_number(), number);
 }
 
 #[test]

@@ -446,7 +446,7 @@ fn command<'a>(heap: Global) -> Result<Command<'a>, AllocError>
     ensures { IfOk result (λ c. app_of c ≡ pslink_app) }
 {
     let app = Command::new(heap, "pslink")
-        .version("0.1.0")
+        .version("0.2.0")
         .about("The Linker of UCSD Pascal II.0 for Pascal hosts and units")
         .after_help(ENDING)
         .subcommand_required(true);

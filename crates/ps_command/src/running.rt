@@ -226,7 +226,7 @@ fn print_version<O: Write>(out: &mut O) -> Result<(), CommandError<'static>>
     ensures ok { OnOk result (Appends (O.contents out.old) (O.contents out.new) version_line) }
     ensures err { IfErr result (λ e. status_of e ≡ 3) }
 {
-    output::print(out, b"pslink 0.1.0\n")
+    output::print(out, b"pslink 0.2.0\n")
 }
 
 /// Refuses to write a file that is a library too, to which another path leads.

@@ -1,7 +1,7 @@
 //! The arguments of the command line: help, version and wrong usage.
 use super::outcome::done;
 
-pub const VERSION: &str = "pslink 0.1.0\n";
+pub const VERSION: &str = "pslink 0.2.0\n";
 
 pub const HELP: &str = "The Linker of UCSD Pascal II.0 for Pascal hosts and units
 
