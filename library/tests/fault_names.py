@@ -1,7 +1,9 @@
 #!/usr/bin/env python3
-"""The name of what a fault is about, as the library answers it, beside the words of the report on the same files, of each set of files
-of .ci/report: where a record was read, its name, and else that of the segment. Prints what is otherwise. Usage: fault_names.py LIBRARY"""
+"""Names that the library answers, of each set of files of .ci/report: that of what a fault is about beside the words of the report, where
+a record was read its name, and else that of the segment; and those of units beside the document of the list. Prints what is otherwise.
+Usage: fault_names.py LIBRARY"""
 import ctypes
+import json
 import pathlib
 import re
 import runpy
@@ -13,6 +15,7 @@ sys.path[:0] = [str(ROOT / name) for name in ("bench", "samples", ".ci")]
 RECORD = re.compile(r"^  record \d+: [A-Z]+ (.*)$", re.M)
 SEGMENT = re.compile(r"^  segment (.*), of slot \d\d of the host$", re.M)
 ROOM = 1 << 20
+TEXT_LIST, JSON, UNITS_WANTED, UNITS_HAD = 4, 1, 0, 1
 
 
 class Answer(ctypes.Structure):
@@ -67,13 +70,32 @@ def differences(library, room, host, libraries):
         yield f"fault {verdict.fault} has the name {bytes(verdict.name)}, and the report says {told(report)}"
 
 
+def unit_differences(library, room, host, libraries):
+    answer, size = Answer(), ctypes.c_size_t
+    joined, lengths = b"".join(libraries), sizes(libraries)
+    files = (host, size(len(host)), joined, size(len(joined)), lengths, size(len(libraries)))
+    def units(which):
+        library.pslink_units_nonnull(which, *files, room, size(ROOM), ctypes.byref(answer))
+        return [room.raw[at : at + 8] for at in range(0, answer.written, 8)]
+    names = [b"N"] * (1 + len(libraries))
+    library.pslink_text_nonnull(TEXT_LIST, JSON, *files, b"".join(names), size(len(names)), sizes(names), size(len(names)), room,
+                                size(ROOM), ctypes.byref(answer))
+    listed = json.loads(room.raw[: answer.written])["files"][0]
+    if listed["fault"] is None and listed["type"] is None:
+        of_role = lambda role: [bytes.fromhex(one["name_hex"]) for one in listed["segments"] if one["role"] == role]
+        wanted, had = units(UNITS_WANTED), units(UNITS_HAD)
+        if had != of_role("unit") or wanted[: len(of_role("wanted"))] != of_role("wanted"):
+            yield f"the units {wanted} are wanted and {had} had"
+
+
 def main():
     library = ctypes.CDLL(str(pathlib.Path(sys.argv[1]).resolve()))
     room = ctypes.create_string_buffer(ROOM)
     sets = {(bytes(host), tuple(map(bytes, libraries))): None for host, libraries in runpy.run_path(str(ROOT / ".ci/report"))["sets"]()}
-    found, named = [], 0
+    found = [] if len(sets) >= 2000 else [f"there are {len(sets)} sets of files"]
     for number, (host, libraries) in enumerate(sets):
-        found += [f"set {number}: {line}" for line in differences(library, room, host, libraries)]
+        for differ in (differences, unit_differences):
+            found += [f"set {number}: {line}" for line in differ(library, room, host, libraries)]
     for line in found[:20]:
         print(line)
     return 1 if found else 0
