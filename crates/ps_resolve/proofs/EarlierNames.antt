@@ -12,11 +12,14 @@ use Rattle.std.specs.List.Sorted.{IsPermutation, IsSorted, IsStrictlyIncreasing}
 use Rattle.std.specs.Str.{bytes_eq}
 use Rattle.std.proofs.lemmas.Bool.{false≢true}
 use Rattle.std.proofs.lemmas.List.Kept.{AllPairs-from_increasing}
-use Rattle.std.proofs.lemmas.List.Sorted.{IsNonDecreasingBy-from_sort, IsPermutation-sym}
+use Rattle.std.proofs.lemmas.List.{length-map}
+use Rattle.std.proofs.lemmas.List.Sorted.{IsNonDecreasingBy-from_sort, IsPermutation-refl}
+use Rattle.std.proofs.lemmas.List.Sorted.{IsPermutation-sym}
+use Rattle.std.proofs.lemmas.List.Sums.{length-filter}
 use Rattle.std.proofs.lemmas.Map.Keys.{IsDistinct-head, IsDistinct-tail, IsDistinct-from_apart}
 use Rattle.std.proofs.lemmas.Map.Keys.{IsDistinct-IsPermutation, IsStrictlyIncreasing-from_distinct}
 use Rattle.std.proofs.lemmas.Option.{slice_get_within}
-use Rattle.ps_linkinfo.specs.RecordCounts.{is_private_reference}
+use Rattle.ps_linkinfo.specs.RecordCounts.{is_private_reference, privates_in}
 use Rattle.ps_linkinfo.specs.declared.record.Body.{Body}
 use Rattle.ps_linkinfo.specs.declared.record.LinkRecord.{LinkRecord as Record}
 use Rattle.ps_resolve.specs.Builders.{HaveNoNamesakes, IsFirstNamesake, private_numbers}
@@ -116,6 +119,23 @@ shared rs ys moved sorted falls distinct =
     falls (IsStrictlyIncreasing-from_distinct ys
     (IsNonDecreasingBy-from_sort (λ (x : ℕ). x) ys sorted)
     (IsDistinct-IsPermutation is_same flips (private_numbers rs) ys moved distinct))
+
+-- fewer than two numbers ascend
+few_ascend : (xs : List ℕ) → length xs < 2 → IsStrictlyIncreasing xs
+few_ascend xs few k before = absurd (omega (arith, few, before))
+
+-- there are as many numbers as privates
+counted : (rs : List Record) → length (private_numbers rs) ≡ privates_in rs
+counted rs =
+    let own : Record → Bool = λ r. is_private_reference r.body in
+    length-map (filter own rs) number ∙ length-filter own rs
+
+-- of fewer than two privates none has the name of an earlier one
+pub few_privates : (rs : List Record) → privates_in rs < 2
+    → HaveNoNamesakes is_private_reference rs
+few_privates rs few =
+    distinct_names rs (private_numbers rs) (IsPermutation-refl (private_numbers rs))
+    (few_ascend (private_numbers rs) (subst (λ n. n < 2) (sym (counted rs)) few))
 
 -- 2. what was seen of the records
 -- a record after a prefix

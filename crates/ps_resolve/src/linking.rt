@@ -51,7 +51,9 @@ fn all_edits<A: Allocator + Copy>(
     Ok(edits)
 }
 
-/// Where the code of each segment comes from.
+/// Where the code of each segment comes from. It stands in the body of its caller, so that the
+/// table is handed up once less.
+#[inline(always)]
 fn sources_of<'a>(segments: &[Segment<'a>]) -> ArrayVec<Source<'a>, 16>
     requires { length segments.now ≤ 16 }
     ensures { map origin_of_source result.items ≡ map origin_of segments.now }

@@ -92,8 +92,9 @@ fn first_namesake<A: Allocator + Copy>(
 
 /// The index, from 0, of the first PRIVREF record that has the name of an earlier one.
 ///
-/// Sorted numbers report whether any two names are equal far sooner than a table of the names, most
-/// of whose places are in no cache. Only where two are, a table finds which of them comes first.
+/// Fewer than two take no memory. Of more, sorted numbers report whether any two names are equal far
+/// sooner than a table of the names, most of whose places are in no cache. Only where two are, a
+/// table finds which of them comes first.
 pub(crate) fn first_duplicate_private<A: Allocator + Copy>(
     alloc: A,
     records: &LinkInformation,
@@ -101,6 +102,9 @@ pub(crate) fn first_duplicate_private<A: Allocator + Copy>(
     ensures found { IfOk result (FindsNamesake is_private_reference records.now) }
     ensures stop { IfErr result (λ stop. stop ≡ Memory) }
 {
+    if records.privates() < 2 {
+        return Ok(None);
+    }
     if have_distinct_names(alloc, records)? {
         return Ok(None);
     }

@@ -11,13 +11,13 @@ use std::alloc::{Allocator, Global};
 use std::marker::Model;
 
 /// Where the code of a segment comes from.
+///
+/// A plan has a table of sixteen, so its small fields are together.
 /// Source: this project's profile.
 #[derive(Clone, Copy)]
 pub struct Source<'a> {
     /// Its slot in the host and in the linked file, 0 to 15.
     pub slot: u8,
-    /// The file that has the code: 0 for the host, k for the k-th library.
-    pub file: usize,
     /// The slot of its entry in that file, 0 to 15.
     pub index: u8,
     /// Its references are resolved; the code of a segment that is linked already is copied as it
@@ -25,6 +25,8 @@ pub struct Source<'a> {
     pub linked: bool,
     /// It was added in an empty slot of the host, for a unit that only a UNITREF record names.
     pub added: bool,
+    /// The file that has the code: 0 for the host, k for the k-th library.
+    pub file: usize,
     /// The code, as the input has it.
     pub code: &'a [u8],
 }
@@ -33,10 +35,10 @@ impl<'a> Default for Source<'a> {
     fn default() -> Self {
         Source {
             slot: 0,
-            file: 0,
             index: 0,
             linked: false,
             added: false,
+            file: 0,
             code: &[],
         }
     }

@@ -198,13 +198,13 @@ impl<'a> Check for Planned<'a> {
 /// least: of 8 bytes for a hash and its place, 8 for a name and 4 for a definition, and a group of
 /// 64. The list of lists of edits takes 64. For each segment to be linked a table takes 4 bytes for
 /// each of its code's 18, 24 or 530, and a list 16 for each edit that there is room for: one for
-/// each reference and two more. A private variable takes 24 bytes, and its name 8 while names are
-/// compared.
+/// each reference and two more. A private variable takes 24 bytes. Names are compared only where a
+/// segment has two private variables or more.
 static PLANS: [(Base<'static>, Planned<'static>); 3] = [
     (
         PAIR,
         Planned {
-            asked: (11, 604),
+            asked: (10, 596),
             plan: "slot 1 file 0 entry 1 length 18: word at 4: 18 byte at 16: 1; \
 slot 7 file 1 entry 2 length 24: big at 1: 3 big at 4: 10 byte at 22: 7; \
 definitions 1 privates 1 words 4 next 12 data 18",
