@@ -195,10 +195,14 @@ pub fn prepare<'a, A: Allocator + Copy>(
     ensures used { IfErr result HasUsedNumber }
 {
     first_of_all();
-    let plan = resolve(alloc, host, libs)?;
-    bytes_are_linked();
-    slot_names_are_whole();
-    Ok(Linked { plan })
+    match resolve(alloc, host, libs) {
+        Err(stop) => Err(LinkError::from(stop)),
+        Ok(plan) => {
+            bytes_are_linked();
+            slot_names_are_whole();
+            Ok(Linked { plan })
+        }
+    }
 }
 
 /// Links a host with the units that it uses, and writes the linked file.
