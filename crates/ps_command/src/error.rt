@@ -9,8 +9,8 @@ ghost use Rattle.ps_command.specs.Causes.{cause_of, caused, unread_error};
 ghost use Rattle.ps_command.specs.Statuses.{command_error_of, status_of};
 
 use clap::error::ErrorKind;
+use ps_filetype::ShownPath;
 use ps_linkfile::{LinkError, WriteFault};
-use ps_shown::ShownPath;
 use ps_words::Fault;
 use std::alloc::{AllocError, AllocFailed};
 use std::fmt::{self, Formatter};

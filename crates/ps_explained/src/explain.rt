@@ -8,9 +8,9 @@ mod privates;
 mod records;
 mod references;
 
-use ps_checked::Case;
+use crate::cases::Case;
+use ps_filetype::ShownName;
 use ps_linkinfo::Body;
-use ps_shown::ShownName;
 use ps_words::Reason;
 use std::fmt::{self, Formatter, Write};
 

@@ -15,7 +15,7 @@ use Rattle.ps_codefile.specs.Dictionary.{is_nameless, opened_alone, opened_besid
 use Rattle.ps_codefile.specs.Roles.{is_wanted}
 use Rattle.ps_codefile.specs.declared.entry.Entry.{Entry}
 use Rattle.ps_codefile.specs.declared.entry.Role.{Role}
-use Rattle.ps_shown.specs.Shown.{is_printed}
+use Rattle.ps_filetype.specs.Shown.{is_printed}
 use Rattle.ps_filetype.specs.declared.code_file.CodeFile.{CodeFile}
 use Rattle.ps_filetype.specs.declared.code_file.CodeFile.TheVariants.{Host, Library, Linked, Mixed}
 

@@ -1,1 +1,2 @@
 pub mod CodeFiles
+pub mod Shown

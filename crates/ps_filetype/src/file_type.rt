@@ -3,10 +3,10 @@ use crate::bytes::only_byte;
 use crate::code_file::{CodeFile, code_file_of, is_swapped_file};
 use crate::images::{Image, image_of};
 use crate::line_ends::LineEnds;
+use crate::name::ShownName;
 use crate::release::{Release, later_release};
 use crate::signatures::{behind_header, by_first_bytes};
 use crate::texts::{is_system_text, text_type};
-use ps_shown::ShownName;
 use ps_words::Name;
 use std::fmt::{self, Formatter};
 

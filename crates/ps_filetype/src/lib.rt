@@ -1,5 +1,7 @@
 //! What a file is, by its first bytes and a few more: a code file, and which, or something else
-//! that was given in place of one, with the way from there to the code file.
+//! that was given in place of one, with the way from there to the code file. How the paths of files
+//! and the names of segments and records are shown: as they are, or quoted where a byte of them could
+//! be taken for the end of a line or move the cursor of a terminal.
 #![tactic(auto)]
 
 mod bytes;
@@ -7,6 +9,8 @@ mod code_file;
 mod file_type;
 mod images;
 mod line_ends;
+mod name;
+mod path;
 mod release;
 mod remedy;
 mod signatures;
@@ -17,5 +21,7 @@ pub use code_file::{CodeFile, is_swapped, open};
 pub use file_type::FileType;
 pub use images::Image;
 pub use line_ends::LineEnds;
+pub use name::ShownName;
+pub use path::{ShownPath, is_hidden};
 pub use release::Release;
 pub use remedy::Remedy;

@@ -1,7 +1,7 @@
 //! The way from a file to the code file.
 use crate::code_file::CodeFile;
 use crate::file_type::FileType;
-use ps_shown::ShownPath;
+use crate::path::ShownPath;
 use std::fmt::{self, Formatter};
 
 /// What to do with a file of this type so that a code file is given. Its text is one sentence, or

@@ -5,10 +5,9 @@ ghost use Rattle.ps_linkfile.specs.Adding.{Adds};
 ghost use Rattle.ps_listing.specs.ListText.{order_words, phrase_words, purpose_words, refused_words, shown_char, shown_path, size_words, trimmed as trimmed_spec, used_words};
 ghost use Rattle.ps_words.specs.FaultText.{part_text};
 
-use ps_filetype::CodeFile;
+use ps_filetype::{CodeFile, is_hidden};
 use ps_linkfile::{TextWriter, add_number, shown_codes};
 use ps_linkinfo::{Body, LinkInformation, LinkRecord};
-use ps_shown::is_hidden;
 use ps_words::{Order, Reason};
 
 /// Adds a character of a path: a question mark for a hidden one, as one that could end the line.

@@ -1,3 +1,7 @@
+pub mod OneLine
+pub mod SlotLines
+pub mod LineOfSegment
+pub mod LinesOfSegments
 pub mod Verdicts
 pub mod Listing
 pub mod Texts

@@ -1,3 +1,5 @@
+pub mod SlotLines
+pub mod SegmentLines
 pub mod Verdicts
 pub mod JsonStrings
 pub mod ReportJson

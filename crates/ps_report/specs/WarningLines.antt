@@ -3,7 +3,7 @@
 use Rattle.std.specs.Prelude.{◌≡◌, ℕ, ◌+◌, ◌==◌, ◌<◌, if◌then◌else◌, Bool, true, false, List}
 use Rattle.std.specs.Prelude.{[], ◌∷◌, ◌++◌, codes, length}
 use Rattle.std.specs.List.{filter, flat_map, starts_with}
-use Rattle.ps_findings.specs.SlotLines.{lines_of}
+use Rattle.ps_report.specs.SlotLines.{lines_of}
 
 -- a line begins with `warning: `
 abbrev pub is_warning_line : List ℕ → Bool

@@ -1,12 +1,15 @@
 //! The report of a check: whether a host and its libraries are linked, and what is said of them in
-//! words.
+//! words: the files, the segments with where each comes from, and the explanation of a fault.
 #![tactic(auto)]
 
 mod alone;
+mod findings;
 mod json;
 mod json_strings;
 mod lines;
+mod overview;
 mod report;
+mod slot_lines;
 mod verdict;
 
 pub use ps_warnings::{Look, Oddity, Place, Warning};

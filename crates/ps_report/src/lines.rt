@@ -1,6 +1,6 @@
 //! Lines of a report that are a warning's, and lines that are no warning's.
 ghost use Rattle.std.specs.Prelude.{◌≡◌, ◌++◌, [], OnOk, length, string_bytes, true};
-ghost use Rattle.ps_findings.specs.SlotLines.{AddsSlotLines, one_line};
+ghost use Rattle.ps_report.specs.SlotLines.{AddsSlotLines, one_line};
 ghost use Rattle.ps_report.specs.WarningLines.{AddsWarnings, head as head_spec, indent as indent_spec, is_warning_line as is_warning_line_spec, mark as mark_spec, note_line, other_line, other_lines, warning_line};
 
 use ps_warnings::Warning;

@@ -2,16 +2,16 @@
 ghost use Rattle.std.specs.Prelude.{◌≡◌, ◌↔◌, ◌⊎◌, ◌∷◌, ◌++◌, [], ℕ, IfOk, List, OnOk, codes, false, map, true, string_bytes, vec_len};
 ghost use Rattle.ps_resolve.specs.Sources.{contents};
 ghost use Rattle.ps_resolve.specs.Standing.{NoneStands};
-ghost use Rattle.ps_findings.specs.SegmentLines.{segment_lines};
-ghost use Rattle.ps_findings.specs.SlotLines.{AddsSlotLines, slot_lines};
+ghost use Rattle.ps_report.specs.SegmentLines.{segment_lines};
+ghost use Rattle.ps_report.specs.SlotLines.{AddsSlotLines, slot_lines};
 ghost use Rattle.ps_report.specs.Lists.{HasLists, lacks_host};
 ghost use Rattle.ps_report.specs.Verdicts.{IsRefused, IsVerdict, Tells, check_status, verdict_line};
 ghost use Rattle.ps_report.specs.WarningLines.{AddsWarnings, HasWarning, other_lines, warnings_in};
 
 use crate::alone::lists_without_host;
+use crate::findings::{Findings, findings_of};
 use crate::lines::{add_looks, add_other_lines};
 use crate::verdict::{Verdict, verdict_of};
-use ps_findings::{Findings, findings_of};
 use ps_laws::first_of_all;
 use ps_warnings::{Looks, Warning};
 use std::alloc::{AllocError, Allocator};

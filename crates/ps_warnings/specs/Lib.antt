@@ -1,3 +1,5 @@
+pub mod Paths
+pub mod Parts
 pub mod RecordLooks
 pub mod EntryLooks
 pub mod Weights

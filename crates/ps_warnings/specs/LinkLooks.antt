@@ -9,9 +9,9 @@ use Rattle.std.specs.Str.{bytes_eq}
 use Rattle.ps_words.specs.declared.order.Order.{Order}
 use Rattle.ps_codefile.specs.Dictionary.{entry_at}
 use Rattle.ps_codefile.specs.declared.entry.Entry.{Entry}
-use Rattle.ps_checked.specs.Parts.{is_added, is_unit}
-use Rattle.ps_checked.specs.declared.segments.Part.{Part}
-use Rattle.ps_checked.specs.declared.segments.Segment.{Segment}
+use Rattle.ps_warnings.specs.Parts.{is_added, is_unit}
+use Rattle.ps_warnings.specs.declared.segments.Part.{Part}
+use Rattle.ps_warnings.specs.declared.segments.Segment.{Segment}
 use Rattle.ps_warnings.specs.EntryLooks.{has_name_or_kind}
 use Rattle.ps_warnings.specs.declared.warnings.LinkLook.{LinkLook}
 use Rattle.ps_warnings.specs.declared.warnings.LinkLook.TheVariants as look

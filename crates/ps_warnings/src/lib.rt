@@ -1,13 +1,18 @@
-//! What looks wrong in a host and its libraries and is no fault, as values with their texts.
+//! What a check looks at: the files, with their paths, and the segments of a link as they were read,
+//! also where they are refused. What looks wrong there and is no fault, as values with their texts.
 #![tactic(auto)]
 
+mod inputs;
 mod looks;
+mod segments;
 mod warnings;
 mod weight;
 
+pub use inputs::Inputs;
 pub use looks::codes::dead_look;
 pub use looks::names::{is_near, plain};
 pub use looks::{Looks, looks_of};
+pub use segments::{Part, Segment, Source, host_of, in_slot, length_of, segments_of, source_of};
 pub use warnings::{
     CodeLook, DictionaryLook, EntryLook, FileLook, Guess, LinkLook, Look, Oddity, Place,
     ProcedureLook, RecordLook, Warning,

@@ -10,9 +10,10 @@ mod notes;
 mod numbers;
 mod records;
 
+use crate::inputs::Inputs;
+use crate::segments::{Segment, Source, host_of, in_slot};
 use crate::warnings::{Guess, Look, Place, RecordLook, Warning};
 use crate::weight::Weight;
-use ps_checked::{Inputs, Segment, Source, host_of, in_slot};
 use ps_linkinfo::LinkInformation;
 use ps_words::{Fault, Name, Reason};
 use std::alloc::{AllocError, Allocator};

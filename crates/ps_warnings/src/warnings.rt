@@ -2,8 +2,7 @@
 //! `man/make_fault_table.py` makes the tables of warnings and of notes in USING.md from the enums
 //! here: what each means and what to do about it is above it, and its weight is in `weight`.
 use crate::weight::Weight;
-use ps_filetype::{FileType, LineEnds};
-use ps_shown::{ShownName, ShownPath};
+use ps_filetype::{FileType, LineEnds, ShownName, ShownPath};
 use ps_words::{Name, Reason};
 use std::fmt::{self, Formatter};
 

@@ -1,11 +1,10 @@
 //! What a fault is in these files, and what to do about it: the sentences of the fault, or others
 //! where the files say more.
+use crate::cases::Case;
 use crate::sentences::{remedy_of, wrong_of};
-use ps_checked::{Case, Inputs};
 use ps_codefile::kinds::{FIRST_INTRINSIC, LAST_INTRINSIC, LINKED};
-use ps_filetype::{FileType, Remedy, is_swapped};
-use ps_shown::ShownPath;
-use ps_warnings::dead_look;
+use ps_filetype::{FileType, Remedy, ShownPath, is_swapped};
+use ps_warnings::{Inputs, dead_look};
 use ps_words::Reason;
 use std::fmt::{self, Formatter};
 

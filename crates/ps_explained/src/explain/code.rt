@@ -1,5 +1,5 @@
 //! What faults of a code say.
-use ps_checked::Case;
+use crate::cases::Case;
 use ps_warnings::dead_look;
 use ps_words::BLOCK_SIZE;
 use std::fmt::{self, Formatter, Write};

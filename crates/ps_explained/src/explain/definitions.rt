@@ -1,9 +1,9 @@
 //! What is said of a name that the host program does not define as it is requested.
 use super::word_of;
-use ps_checked::{Case, host_of};
+use crate::cases::Case;
+use ps_filetype::ShownName;
 use ps_linkinfo::{LinkInformation, Sort};
-use ps_shown::ShownName;
-use ps_warnings::plain;
+use ps_warnings::{host_of, plain};
 use ps_words::Name;
 use std::fmt::{self, Formatter, Write};
 

@@ -1,12 +1,12 @@
 //! What faults of dictionaries say.
-use ps_checked::{Case, OrderOf};
+use crate::cases::Case;
+use crate::orders::OrderOf;
 use ps_codefile::Dict;
 use ps_codefile::dictionary_layout::SLOTS;
 use ps_codefile::kinds::{
     FIRST_INTRINSIC, HOSTSEG, LAST_INTRINSIC, LINKED, SEGPROC, SEPRTSEG, UNITSEG,
 };
-use ps_filetype::{CodeFile, FileType};
-use ps_shown::ShownName;
+use ps_filetype::{CodeFile, FileType, ShownName};
 use ps_warnings::is_near;
 use ps_words::Name;
 use std::fmt::{self, Formatter, Write};

@@ -1,8 +1,8 @@
 //! What faults of link information say.
 use super::word_of;
-use ps_checked::Case;
+use crate::cases::Case;
+use ps_filetype::ShownName;
 use ps_linkinfo::record_layout::{FORMAT_PLACE, RECORD_LEN, TYPE_PLACE};
-use ps_shown::ShownName;
 use ps_words::get;
 use std::fmt::{self, Formatter, Write};
 

@@ -1,7 +1,7 @@
 //! What is said of a reference, and of an operand that may not be where it is.
-use ps_checked::Case;
+use crate::cases::Case;
+use ps_filetype::ShownName;
 use ps_resolve::ReferencePlace;
-use ps_shown::ShownName;
 use std::fmt::{self, Formatter, Write};
 
 /// Bytes as they are, in two hexadecimal digits each.

@@ -2,8 +2,8 @@
 use super::numbers::number_look;
 use super::records::begins_with_record;
 use super::{Looks, Sight};
+use crate::segments::Source;
 use crate::warnings::{CodeLook, Look, Place, ProcedureLook};
-use ps_checked::Source;
 use ps_codefile::code_layout::NUMBERS;
 use ps_codefile::kinds::{LINKED, SEPRTSEG};
 use ps_codefile::{Dict, ProcedureDictionary, ProcedureFault};

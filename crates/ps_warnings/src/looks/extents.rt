@@ -3,8 +3,8 @@ ghost use Rattle.std.specs.Prelude.{◌≡◌, ◌<◌};
 ghost use Rattle.ps_warnings.specs.EntryLooks.{overlap, shares as shares_spec};
 
 use super::Looks;
+use crate::segments::{length_of, source_of};
 use crate::warnings::{EntryLook, Look, Place};
-use ps_checked::{length_of, source_of};
 use ps_codefile::Dict;
 use ps_codefile::dictionary_layout::SLOTS;
 use ps_codefile::kinds::{HOSTSEG, LINKED, UNITSEG};

@@ -6,8 +6,8 @@ ghost use Rattle.ps_warnings.specs.LinkLooks.{is_near_unit as is_near_unit_spec,
 use super::entries::has_name_or_kind;
 use super::names::is_near;
 use super::{Looks, Sight, in_segment};
+use crate::segments::{Part, Segment};
 use crate::warnings::{LinkLook, Look};
-use ps_checked::{Part, Segment};
 use ps_codefile::Dict;
 use ps_codefile::dictionary_layout::SLOTS;
 use ps_words::Name;

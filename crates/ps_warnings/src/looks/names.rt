@@ -2,8 +2,8 @@
 ghost use Rattle.std.specs.Prelude.{◌≡◌};
 ghost use Rattle.ps_warnings.specs.LinkLooks.{is_near as is_near_spec, plain as plain_spec, plain_byte as plain_byte_spec};
 
+use crate::inputs::Inputs;
 use crate::warnings::Oddity;
-use ps_checked::Inputs;
 use ps_codefile::dictionary_layout::SLOTS;
 use ps_codefile::{Dict, is_nameless};
 use ps_words::{NAME_LEN, Name};

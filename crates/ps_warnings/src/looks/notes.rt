@@ -1,7 +1,7 @@
 //! What the P-code of a segment makes one guess.
 use super::Looks;
+use crate::segments::Source;
 use crate::warnings::{Guess, Place};
-use ps_checked::Source;
 use ps_codefile::kinds::UNITSEG;
 use ps_linkinfo::{Body, LinkInformation, LinkRecord, Refs};
 use ps_pcode::{FileCode, Filled, may_be_operand};

@@ -1,7 +1,7 @@
 //! The segment numbers at the ends of codes, beside those that the dictionary has.
 use super::codes::is_without_procedures;
+use crate::segments::Source;
 use crate::warnings::{CodeLook, Look};
-use ps_checked::Source;
 use ps_codefile::Dict;
 use ps_codefile::dictionary_layout::SLOTS;
 use ps_codefile::kinds::{HOSTSEG, UNITSEG};

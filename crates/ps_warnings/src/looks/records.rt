@@ -8,8 +8,8 @@ ghost use Rattle.ps_warnings.specs.RecordLooks.{at_index as at_index_spec, defin
 
 use super::names::oddity_of;
 use super::{Looks, Sight, notes};
+use crate::segments::Source;
 use crate::warnings::{EntryLook, Look, Place, RecordLook};
-use ps_checked::Source;
 use ps_codefile::kinds::HOSTSEG;
 use ps_linkinfo::{Body, LinkInformation, LinkRecord, Refs, Sort};
 use ps_pcode::{FileCode, procedures_of};

@@ -1,5 +1,5 @@
 use Rattle.std.proofs.Common.{[], string_bytes}
-use Rattle.ps_findings.proofs.SlotLines.{adds_none, adds_then_none}
+use Rattle.ps_report.proofs.SlotLines.{adds_none, adds_then_none}
 use Rattle.ps_report.proofs.WarningLines.{added_none, none_added}
 use Rattle.ps_report.proofs.lines.add_notes.Goals as goal
 

@@ -1,6 +1,6 @@
 use Rattle.std.proofs.Common.{[], List, length, string_bytes, subst}
 use Rattle.std.proofs.lemmas.List.{take_all}
-use Rattle.ps_findings.proofs.SlotLines.{adds_none, adds_then_none}
+use Rattle.ps_report.proofs.SlotLines.{adds_none, adds_then_none}
 use Rattle.ps_warnings.specs.declared.warnings.Warning.{Warning}
 use Rattle.ps_report.specs.WarningLines.{AddsWarnings}
 use Rattle.ps_report.proofs.WarningLines.{added_next, none_added}

@@ -1,5 +1,5 @@
 use Rattle.std.proofs.Common.{[], length, string_bytes, take}
-use Rattle.ps_findings.specs.SlotLines.{AddsSlotLines}
+use Rattle.ps_report.specs.SlotLines.{AddsSlotLines}
 use Rattle.ps_report.specs.WarningLines.{AddsWarnings}
 use Rattle.ps_report.proofs.lines.add_warnings.Given as goal
 

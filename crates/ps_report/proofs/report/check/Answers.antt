@@ -2,9 +2,9 @@ use Rattle.std.proofs.Common.{◌≡◌, ◌∙◌, ◌∷◌, ◌++◌, [], ℕ
 use Rattle.std.proofs.Common.{subst, sym, vec_len, ap, arith}
 use Rattle.std.proofs.lemmas.Grind.{common_steps}
 use Rattle.ps_resolve.specs.Sources.{contents}
-use Rattle.ps_findings.specs.SegmentLines.{segment_lines}
-use Rattle.ps_findings.specs.SlotLines.{AddsSlotLines, slot_lines}
-use Rattle.ps_findings.proofs.SlotLines.{adds_then_none, lines_in}
+use Rattle.ps_report.specs.SegmentLines.{segment_lines}
+use Rattle.ps_report.specs.SlotLines.{AddsSlotLines, slot_lines}
+use Rattle.ps_report.proofs.SlotLines.{adds_then_none, lines_in}
 use Rattle.ps_report.specs.Lists.{AreLists}
 use Rattle.ps_report.specs.WarningLines.{AddsWarnings, other_lines}
 use Rattle.ps_report.proofs.SegmentTexts.{links_of, no_lists}

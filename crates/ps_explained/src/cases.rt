@@ -1,0 +1,159 @@
+//! A fault, and what the files say of it.
+use crate::privates::words_of;
+use ps_codefile::code_layout::NUMBERS;
+use ps_codefile::dictionary_layout::SLOTS;
+use ps_codefile::{Dict, Entry, ProcedureDictionary, ProcedureFault, Role};
+use ps_filetype::{CodeFile, FileType, ShownName};
+use ps_linkinfo::{LinkRecord, Operand};
+use ps_resolve::Reading;
+use ps_warnings::{Inputs, Part, Segment, Source, in_slot};
+use ps_words::{Fault, Name, Reason};
+
+/// A fault, and what of the files it is about.
+///
+/// Source: this project's profile.
+#[derive(Clone, Copy)]
+pub struct Case<'c, 'a> {
+    /// The files.
+    pub inputs: &'c Inputs<'a>,
+    /// The segments of the link.
+    pub list: &'c [Segment<'a>],
+    /// The fault.
+    pub fault: Fault,
+    /// The segment of its slot.
+    pub segment: Option<Segment<'a>>,
+    /// The words of the private variables before the record of the fault; of all if it has none.
+    pub(crate) words: u64,
+}
+
+impl<'c, 'a> Case<'c, 'a> {
+    /// The case of this fault, of the segments of a reading.
+    /// Source: this project's profile.
+    pub fn new(
+        inputs: &'c Inputs<'a>,
+        reading: &'c Reading<'a>,
+        list: &'c [Segment<'a>],
+        fault: Fault,
+    ) -> Self {
+        let segment = match fault.slot {
+            Some(slot) => in_slot(list, slot),
+            None => None,
+        };
+        Case {
+            inputs,
+            list,
+            fault,
+            segment,
+            words: words_of(reading.segments(), fault),
+        }
+    }
+
+    /// What the dictionary of the host says of its slot.
+    /// Source: UCSD Pascal II.0 manual, code file format.
+    pub fn entry(&self) -> Option<Entry> {
+        let slot = self.fault.slot?;
+        match Dict::read(self.inputs.host) {
+            Ok(dict) if slot < SLOTS => Some(dict.entry(slot)),
+            _ => None,
+        }
+    }
+
+    /// The name of the segment of its slot.
+    /// Source: this project's profile.
+    pub fn name(&self) -> Option<Name> {
+        match self.segment {
+            Some(segment) => Some(segment.name),
+            None => Some(self.entry()?.name),
+        }
+    }
+
+    /// The record that the fault is reported with, where it can be read.
+    /// Source: the published II.0 Linker source.
+    pub fn record(&self) -> Option<LinkRecord<'a>> {
+        self.segment?.records().record(self.fault.rec?)
+    }
+
+    /// The operand that the fault is reported with.
+    /// Source: the published II.0 Linker source.
+    pub fn operand(&self) -> Option<Operand> {
+        self.record()?.operand(self.fault.reference?)
+    }
+
+    /// The first library that has a host program.
+    /// Source: this project's profile.
+    pub fn host_among_libraries(&self) -> Option<usize> {
+        for file in 1..=self.inputs.libs.len() {
+            if self.inputs.file_type(file) == FileType::Code(CodeFile::Host) {
+                return Some(file);
+            }
+        }
+        None
+    }
+
+    /// Where its segment comes from.
+    /// Source: this project's profile.
+    pub fn source(&self) -> Option<Source<'a>> {
+        self.segment?.source
+    }
+
+    /// The code of its segment, as far as it can be read.
+    /// Source: UCSD Pascal II.0 manual, code file format.
+    pub fn code(&self) -> &'a [u8] {
+        match self.source() {
+            Some(source) => source.code.unwrap_or(&[]),
+            None => &[],
+        }
+    }
+
+    /// The name of the unit that is missing.
+    /// Source: this project's profile.
+    pub fn missing_unit(&self) -> Option<Name> {
+        match self.fault.rec {
+            Some(_) => Some(self.record()?.name),
+            None => Some(self.segment?.name),
+        }
+    }
+
+    /// The earlier slot that has a host program, or a unit of the name, and the name of its segment.
+    /// Source: this project's profile.
+    pub fn earlier_entry(&self) -> Option<(u8, ShownName)> {
+        let dict = Dict::read(self.inputs.host).ok()?;
+        let (slot, entry) = (self.fault.slot?, self.entry()?);
+        earlier_in(&dict, self.fault.reason, slot, &entry.name)
+    }
+
+    /// The first thing that is wrong with the procedures of the code.
+    /// Source: UCSD Pascal II.0 manual, code file format.
+    pub fn procedure_fault(&self) -> Option<ProcedureFault> {
+        let segment = self.segment?;
+        let source = segment.source?;
+        let code = source.code.ok()?;
+        if code.len() < NUMBERS {
+            return None;
+        }
+        let is_host = matches!(segment.part, Part::Host);
+        ProcedureDictionary::read_or_fault(source.order, code, is_host).err()
+    }
+}
+
+/// The first slot before this one that has a host program, or a unit of the name, as the second one
+/// is refused for this reason.
+fn earlier_in(dict: &Dict<'_>, reason: Reason, slot: u8, name: &Name) -> Option<(u8, ShownName)> {
+    for earlier in 0..SLOTS {
+        let found = dict.entry(earlier).name;
+        let is_like = is_doubled(reason, dict.role(earlier), found == *name);
+        if earlier < slot && is_like {
+            return Some((earlier, ShownName(found)));
+        }
+    }
+    None
+}
+
+/// A second segment is refused for this reason beside one of this role, which has its name or not.
+fn is_doubled(reason: Reason, role: Result<Role, Reason>, has_name: bool) -> bool {
+    match (reason, role) {
+        (Reason::TwoHosts, Ok(Role::Host)) => true,
+        (Reason::DoubledSegment, Ok(Role::Unit | Role::Wanted)) => has_name,
+        _ => false,
+    }
+}

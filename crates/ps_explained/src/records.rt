@@ -1,0 +1,38 @@
+//! What the link information says of a fault.
+use crate::cases::Case;
+use ps_linkinfo::{LinkRecord, Sort};
+use ps_warnings::length_of;
+use ps_words::{Name, Order, Reason};
+
+impl<'a> Case<'_, 'a> {
+    /// The bytes of the file from the first record on that cannot be read, and their order.
+    /// Source: the published II.0 Linker source.
+    pub fn unread(&self) -> Option<(Order, &'a [u8])> {
+        let segment = self.segment?;
+        let source = segment.source?;
+        let used = length_of(&segment.records());
+        Some((source.order, source.after.get(used..).unwrap_or(&[])))
+    }
+
+    /// The earlier record of the name, with its index.
+    /// Source: this project's profile.
+    pub fn earlier_record(&self) -> Option<(usize, LinkRecord<'a>)> {
+        let sort = match self.fault.reason {
+            Reason::DoubledPrivate => Sort::Private,
+            _ => Sort::Definition,
+        };
+        let duplicate = self.record()?;
+        self.segment?.records().find(&duplicate.name, sort)
+    }
+
+    /// The record by which a unit itself defines the name.
+    /// Source: this project's profile.
+    pub fn own_definition(&self, name: &Name) -> Option<usize> {
+        let unit = self.segment?;
+        if !unit.part.is_unit() {
+            return None;
+        }
+        let (rec, _) = unit.records().find(name, Sort::Variable)?;
+        Some(rec)
+    }
+}

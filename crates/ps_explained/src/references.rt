@@ -1,0 +1,65 @@
+//! What the files say of the reference that a fault is reported with.
+use crate::cases::Case;
+use ps_linkinfo::{Body, LinkRecord, Operand, Sort};
+use ps_pcode::procedures_of;
+use ps_resolve::{ReferencePlace, covering_reference};
+use ps_warnings::host_of;
+use ps_words::{Name, get_big};
+
+impl<'a> Case<'_, 'a> {
+    /// The bytes of an operand, as far as the code has them.
+    /// Source: the published II.0 Linker source.
+    pub fn bytes_of(&self, operand: Operand) -> &'a [u8] {
+        let rest = self.code().get(usize::from(operand.place)..).unwrap_or(&[]);
+        rest.get(..usize::from(operand.width)).unwrap_or(rest)
+    }
+
+    /// The displacement in an operand, in words; 0 where the code does not have it.
+    /// Source: UCSD Pascal II.0 manual, code file format.
+    pub fn displacement_of(&self, operand: Operand) -> u16 {
+        let bytes = self.bytes_of(operand);
+        if 2 <= bytes.len() {
+            get_big(bytes, 0)
+        } else {
+            0
+        }
+    }
+
+    /// The first procedure, from 1, whose table has the first or the last byte of an operand.
+    /// Source: UCSD Pascal II.0 manual, code file format.
+    pub fn table_with(&self, operand: Operand) -> Option<usize> {
+        let procedures = procedures_of(self.source()?.order, self.code())?;
+        let first = usize::from(operand.place);
+        let last = (first + usize::from(operand.width)).saturating_sub(1);
+        procedures.table_with(first).or(procedures.table_with(last))
+    }
+
+    /// The earlier reference that covers a byte of this one, and its record.
+    /// Source: this project's profile.
+    pub fn earlier_reference(&self) -> Option<(ReferencePlace, LinkRecord<'a>)> {
+        let (rec, reference) = (self.fault.rec?, self.fault.reference?);
+        let records = self.segment?.records();
+        let place = ReferencePlace { rec, reference };
+        let earlier = covering_reference(&records, place, self.operand()?)?;
+        Some((earlier, records.record(earlier.rec)?))
+    }
+
+    /// The value of the references of a record: the base offset of its private variable, or the
+    /// value of the host's definition of its name; 0 where there is none.
+    /// Source: the published II.0 Linker source.
+    pub fn value_of(&self, record: &LinkRecord<'_>) -> u64 {
+        match record.body {
+            Body::PrivRef { .. } => self.base_offset(),
+            _ => u64::from(self.defined_value(&record.name).unwrap_or(0)),
+        }
+    }
+
+    /// The value of the host's definition of the name.
+    fn defined_value(&self, name: &Name) -> Option<u16> {
+        let (_, record) = host_of(self.list)?.records().find(name, Sort::Variable)?;
+        match record.body {
+            Body::PublDef(value) => Some(value),
+            _ => None,
+        }
+    }
+}

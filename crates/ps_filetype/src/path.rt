@@ -1,0 +1,138 @@
+//! Paths as they are shown.
+ghost use Rattle.std.specs.Prelude.{◌≡◌, Some, chars};
+ghost use Rattle.std.specs.Fmt.{WritesOnOk};
+ghost use Rattle.std.specs.List.{flat_map, list_any};
+ghost use Rattle.ps_filetype.specs.Shown.{control_escape, escape_letter as escape_letter_spec, is_hidden as is_hidden_spec, is_unseen as is_unseen_spec, other_char, quoted_char, shown_path};
+
+use std::fmt::{self, Formatter};
+
+/// A path in a line for a person: as it is, or, where it has a hidden character, in quotes with
+/// each of these escaped. So it never ends the line, and no part of it looks like another text.
+///
+/// Source: this project's profile.
+#[derive(Clone, Copy)]
+pub struct ShownPath<'a>(pub &'a str);
+
+/// The character takes no room on a line, or turns the direction of what follows.
+fn is_unseen(c: char) -> bool
+    ensures { result ≡ is_unseen_spec c }
+{
+    matches!(
+        c,
+        '\u{AD}'
+            | '\u{61C}'
+            | '\u{180E}'
+            | '\u{200B}'..='\u{200F}'
+            | '\u{202A}'..='\u{202E}'
+            | '\u{2060}'..='\u{206F}'
+            | '\u{FEFF}'
+    )
+}
+
+/// The character is not shown as it is: it is a control character, as the end of a line, or takes
+/// no room on a line, or turns the direction of what follows, as U+202E does.
+///
+/// Source: this project's profile, over the characters of Unicode.
+pub fn is_hidden(c: char) -> bool
+    ensures { result ≡ is_hidden_spec c }
+{
+    c.is_control() || is_unseen(c)
+}
+
+/// A character of the path is hidden.
+fn has_hidden(path: &str) -> bool
+    ensures { result ≡ list_any is_hidden_spec (chars path.now) }
+{
+    path.chars().any(is_hidden)
+}
+
+/// A hidden character by its number.
+#[derive(Clone, Copy)]
+struct Escape(char);
+
+impl fmt::Display for Escape {
+    ghost output = { λ c. Some (control_escape c.0) };
+
+    fn fmt<W: fmt::Write>(&self, f: &mut Formatter<W>) -> fmt::Result {
+        let code = self.0 as u32;
+        write!(f, "\\u{{{code:x}}}")
+    }
+}
+
+/// The letter that stands for a character after a backslash.
+fn escape_letter(c: char) -> Option<char>
+    ensures { result ≡ escape_letter_spec c }
+{
+    match c {
+        '\0' => Some('0'),
+        '\t' => Some('t'),
+        '\n' => Some('n'),
+        '\r' => Some('r'),
+        '"' => Some('"'),
+        '\\' => Some('\\'),
+        _ => None,
+    }
+}
+
+/// A character of a path in quotes that has no letter of its own.
+#[derive(Clone, Copy)]
+struct OtherChar(char);
+
+impl fmt::Display for OtherChar {
+    ghost output = { λ c. Some (other_char c.0) };
+
+    fn fmt<W: fmt::Write>(&self, f: &mut Formatter<W>) -> fmt::Result {
+        if is_hidden(self.0) {
+            let escape = Escape(self.0);
+            write!(f, "{escape}")
+        } else {
+            f.write_char(self.0)
+        }
+    }
+}
+
+/// A character of a path in quotes.
+#[derive(Clone, Copy)]
+struct QuotedChar(char);
+
+impl fmt::Display for QuotedChar {
+    ghost output = { λ c. Some (quoted_char c.0) };
+
+    #[tactic(auto, unfolding(crate::specs::Shown::quoted_char))]
+    fn fmt<W: fmt::Write>(&self, f: &mut Formatter<W>) -> fmt::Result {
+        match escape_letter(self.0) {
+            Some(letter) => write!(f, "\\{letter}"),
+            None => {
+                let other = OtherChar(self.0);
+                write!(f, "{other}")
+            }
+        }
+    }
+}
+
+/// Writes the characters of a path in quotes, one after another.
+fn write_quoted<W: fmt::Write>(f: &mut Formatter<W>, path: &str) -> fmt::Result
+    ensures { WritesOnOk W.write_str_gives f.old result (flat_map quoted_char (chars path.now))
+        f.new }
+{
+    for c in path.chars() {
+        let c = QuotedChar(c);
+        write!(f, "{c}")?;
+    }
+    Ok(())
+}
+
+impl fmt::Display for ShownPath<'_> {
+    ghost output = { λ path. Some (shown_path path.0.now) };
+
+    #[tactic(auto, unfolding(crate::specs::Shown::shown_path))]
+    fn fmt<W: fmt::Write>(&self, f: &mut Formatter<W>) -> fmt::Result {
+        let path = self.0;
+        if !has_hidden(path) {
+            return f.write_str(path);
+        }
+        f.write_str("\"")?;
+        write_quoted(f, path)?;
+        f.write_str("\"")
+    }
+}

@@ -1,4 +1,0 @@
-pub mod OneLine
-pub mod SlotLines
-pub mod LineOfSegment
-pub mod LinesOfSegments

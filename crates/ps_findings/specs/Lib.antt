@@ -1,2 +1,0 @@
-pub mod SlotLines
-pub mod SegmentLines

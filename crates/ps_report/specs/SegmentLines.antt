@@ -1,0 +1,82 @@
+-- What a report says of each segment of a link: its slot and its name, what it is, and where its
+-- code comes from.
+-- Source: this project's profile.
+use Rattle.std.specs.Prelude.{ℕ, ◌+◌, ◌/◌, ◌%◌, ◌==◌, if◌then◌else◌, List}
+use Rattle.std.specs.Prelude.{[], ◌∷◌, ◌++◌, Option, Some, None, length, map, codes}
+use Rattle.std.specs.Prelude.{decimal}
+use Rattle.std.specs.List.{find}
+use Rattle.std.specs.Option.{option_map_or}
+use Rattle.std.specs.Str.{bytes_eq}
+use Rattle.ps_codefile.specs.declared.entry.Role.{Role}
+use Rattle.ps_codefile.specs.declared.entry.Role.TheVariants as role
+use Rattle.ps_resolve.specs.Sources.{Segment, opened_files, order_of}
+use Rattle.ps_resolve.specs.Added.{segments}
+use Rattle.ps_resolve.specs.Readings.{read_requests}
+use Rattle.ps_resolve.specs.declared.reading.added.UnitReference.{UnitReference}
+use Rattle.ps_filetype.specs.Shown.{shown_name, shown_path}
+use Rattle.ps_warnings.specs.Parts.{part_words}
+use Rattle.ps_warnings.specs.Paths.{path_of}
+use Rattle.ps_warnings.specs.declared.segments.Part.{Part}
+use Rattle.ps_warnings.specs.declared.segments.Part.TheVariants as part
+
+-- the number of a slot or an entry, of two digits
+abbrev pub two_digits : ℕ → List ℕ
+two_digits n = (48 + n / 10) ∷ (48 + n % 10) ∷ []
+
+-- the first segment in this slot has this name; a blank one, where there is none
+abbrev pub name_in : List Segment → ℕ → List ℕ
+name_in segs slot = option_map_or (λ s. s.name) (find (λ s. s.slot == slot) segs)
+    (codes "        ")
+
+-- a unit that is added for this record, the first that requests its name
+abbrev pub part_added : List Segment → Option UnitReference → Part
+part_added segs None = part.Wanted
+part_added segs (Some asker) = part.Added (name_in segs asker.slot) asker.rec
+
+-- the first record that requests a unit of this name, among those of all names that are requested
+abbrev pub asker_of : List UnitReference → List ℕ → Option UnitReference
+asker_of requests name = find (λ g. bytes_eq g.name name) requests
+
+-- what a segment of this role is, among all segments; one that was added is a unit that the first
+-- record requests which has its name
+abbrev pub part_as : List Segment → List UnitReference → Segment → Role → Part
+part_as segs requests s role.Plain = part.Plain
+part_as segs requests s role.Host = part.Host
+part_as segs requests s role.Unit = part.Unit
+part_as segs requests s role.Empty = part.Wanted
+part_as segs requests s role.Wanted = if s.added then part_added segs (asker_of requests s.name)
+    else part.Wanted
+
+-- `slot 08 UTIL: a unit that record 0 of MAIN requests`, or `no slot UTIL: ..`
+abbrev pub slot_words : Option ℕ → List ℕ
+slot_words None = codes "no slot"
+slot_words (Some slot) = codes "slot " ++ two_digits slot
+
+abbrev pub head_words : Option ℕ → List ℕ → Part → List ℕ
+head_words slot name what = slot_words slot
+    ++ (32 ∷ (shown_name name ++ (codes ": " ++ part_words what)))
+
+-- `, from LIB entry 03, 24 bytes`
+abbrev pub from_words : List ℕ → ℕ → ℕ → List ℕ
+from_words path index size = codes ", from "
+    ++ (shown_path path ++ (codes " entry "
+    ++ (two_digits index ++ (codes ", " ++ (decimal size ++ codes " bytes")))))
+
+-- `slot 08 UTIL: a unit that record 0 of MAIN requests, from LIB entry 03, 24 bytes`
+unfoldable pub segment_line : List (List ℕ) → List Segment → List UnitReference → Segment
+    → List ℕ
+segment_line paths segs requests s =
+    head_words (Some s.slot) s.name (part_as segs requests s s.role)
+    ++ from_words (path_of paths s.file) s.index (length s.code)
+
+-- the lines of these segments, by slot
+abbrev pub lines_of_segments : List (List ℕ) → List Segment → List UnitReference
+    → List (List ℕ)
+lines_of_segments paths segs requests = map (segment_line paths segs requests) segs
+
+-- the line of each segment of a link, by slot; the first path is the host's
+abbrev pub segment_lines : List (List ℕ) → List ℕ → List (List ℕ) → List (List ℕ)
+segment_lines paths host libs =
+    let order = order_of host in
+    lines_of_segments paths (segments order host libs)
+    (read_requests order host (opened_files order libs))

@@ -1,0 +1,108 @@
+//! What is found in a host and its libraries.
+ghost use Rattle.std.specs.Prelude.{◌≡◌, ◌∷◌, [], IfOk, None, string_bytes};
+ghost use Rattle.ps_resolve.specs.AllFaults.{reading_fault};
+ghost use Rattle.ps_resolve.specs.Sources.{contents};
+ghost use Rattle.ps_report.specs.SegmentLines.{segment_lines};
+ghost use Rattle.ps_report.specs.SlotLines.{AddsSlotLines};
+
+use crate::overview::{add_files, add_segments};
+use ps_explained::{Case, Explanation};
+use ps_resolve::{Reading, read};
+use ps_warnings::{Inputs, Looks, Segment, looks_of, segments_of};
+use ps_words::Fault;
+use std::alloc::{AllocError, Allocator};
+use std::fmt::Write as _;
+
+/// What is found in a host and its libraries.
+#[derive(Drop)]
+pub(crate) struct Findings<'a, A: Allocator> {
+    /// The files, and the segments with where each comes from, in lines.
+    pub overview: String<A>,
+    /// What the fault is in these files, and what to do about it, in lines; empty where there is
+    /// none.
+    pub explanation: String<A>,
+    /// What looks wrong and is no fault.
+    pub looks: Looks<'a, A>,
+}
+
+/// What is found in a host and its libraries, which are refused for this fault, if for any.
+///
+/// `host_path` and `paths` name the files; `host` and each of `libs` are whole code files, the
+/// libraries in the order in which units are looked up in them. Returns an error where memory was
+/// refused.
+pub(crate) fn findings_of<'a, A: Allocator + Copy>(
+    alloc: A,
+    host_path: &'a str,
+    paths: &'a [&'a str],
+    host: &'a [u8],
+    libs: &'a [&'a [u8]],
+    fault: Option<Fault>,
+) -> Result<Findings<'a, A>, AllocError>
+    ensures segments { IfOk result (λ findings. reading_fault host.now (contents libs.now) ≡ None
+        → AddsSlotLines [] (segment_lines (host_path.now ∷ contents paths.now) host.now
+        (contents libs.now)) (string_bytes findings.overview)) }
+    ensures explanation { IfOk result (λ findings. fault ≡ None
+        → string_bytes findings.explanation ≡ []) }
+{
+    let inputs = Inputs {
+        host_path,
+        paths,
+        host,
+        libs,
+    };
+    let reading = read_files(host, libs);
+    let list = segments_of(alloc, &inputs, &reading)?;
+    let overview = overview_of(alloc, &inputs, &reading, list.as_slice())?;
+    let explanation = explanation_of(alloc, &inputs, &reading, list.as_slice(), fault)?;
+    let looks = looks_of(alloc, &inputs, list.as_slice(), fault)?;
+    Ok(Findings {
+        overview,
+        explanation,
+        looks,
+    })
+}
+
+/// Reads the files. A function by itself, so that what it moves takes room of the stack only until it
+/// returns.
+#[inline(never)]
+fn read_files<'a>(host: &'a [u8], libs: &'a [&'a [u8]]) -> Reading<'a>
+    ensures { result ≡ record { host = host.now; libs = contents libs.now } }
+{
+    read(host, libs)
+}
+
+/// The files, and the segments with where each comes from, in lines.
+fn overview_of<A: Allocator + Copy>(
+    alloc: A,
+    inputs: &Inputs<'_>,
+    reading: &Reading<'_>,
+    list: &[Segment<'_>],
+) -> Result<String<A>, AllocError>
+    ensures { IfOk result (λ text. reading_fault reading.now.host reading.now.libs ≡ None
+        → AddsSlotLines [] (segment_lines
+        (inputs.now.host_path.now ∷ contents inputs.now.paths.now)
+        reading.now.host reading.now.libs) (string_bytes text)) }
+{
+    let mut text = String::new(alloc);
+    add_files(alloc, &mut text, inputs)?;
+    add_segments(alloc, &mut text, inputs, reading, list)?;
+    Ok(text)
+}
+
+/// What the fault is in these files, and what to do about it, in lines; empty where there is none.
+fn explanation_of<'a, A: Allocator>(
+    alloc: A,
+    inputs: &Inputs<'a>,
+    reading: &Reading<'a>,
+    list: &[Segment<'a>],
+    fault: Option<Fault>,
+) -> Result<String<A>, AllocError>
+    ensures { IfOk result (λ text. fault ≡ None → string_bytes text ≡ []) }
+{
+    let mut text = String::new(alloc);
+    if let Some(fault) = fault {
+        let explanation = Explanation(Case::new(inputs, reading, list, fault));
+        write!(text, "{explanation}")?;
+    }
+    Ok(text)
+}

@@ -1,8 +1,0 @@
-use Rattle.std.proofs.Common.{◌≡◌, ◌≤◌, take}
-use Rattle.ps_shown.specs.Shown.{trimmed}
-use Rattle.ps_shown.proofs.name.trimmed.Given as goal
-
--- so many of the bytes so far are left without the blanks at their end
-abbrev pub invariant-loop-place : goal.invariant-loop-place
-invariant-loop-place l = (l.used ≤ l.place)
-    × (take l.used l.name ≡ trimmed (take l.place l.name))
