@@ -1,7 +1,6 @@
 -- Of the report that is put, or why none is, by what is known of its text, of the names and of the
 -- lengths.
-use Rattle.std.proofs.Common.{◌≡◌, ◌<◌, ◌-◌, ℕ, List, [], ◌∷◌, Bor, Result, Ok, Err, arith}
-use Rattle.std.proofs.Common.{drop, get_or, length, refl, sym, take}
+use Rattle.std.proofs.Common.{◌≡◌, ◌<◌, ◌-◌, ℕ, List, [], ◌∷◌, Bor, Result, Ok, Err, arith, drop, get_or, length, refl, sym, take}
 use Rattle.std.specs.Prelude.{IfErr}
 use Rattle.std.proofs.lemmas.List.{take_rest}
 use Rattle.ps_resolve.specs.Sources.{contents}
@@ -10,8 +9,7 @@ use Rattle.ps_report.specs.declared.verdict.Verdict.{Verdict}
 use Rattle.ps_calls.specs.Checks.{StopsReport}
 use Rattle.ps_calls.specs.Stops.{IsOnlyAbove}
 use Rattle.ps_calls.specs.declared.outcome.Stop.{Stop}
-use Rattle.ps_calls.specs.declared.outcome.Stop.TheVariants.{Refused, WrongLengths, NoMemory}
-use Rattle.ps_calls.specs.declared.outcome.Stop.TheVariants.{TooSmall, WrongNames, NoSuchText}
+use Rattle.ps_calls.specs.declared.outcome.Stop.TheVariants.{Refused, WrongLengths, NoMemory, TooSmall, WrongNames, NoSuchText}
 
 -- the name of the host, and those of the libraries, are all the names
 pub host_first : (names : List (Bor (List ℕ))) (d : Bor (List ℕ)) → 0 < length names

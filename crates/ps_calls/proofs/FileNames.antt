@@ -1,7 +1,5 @@
 -- What is known of names by what is known of their parts.
-use Rattle.std.proofs.Common.{◌≡◌, ◌<◌, ◌≤◌, ◌+◌, ◌++◌, ℕ, List, [], ◌∷◌, Bor, Result}
-use Rattle.std.proofs.Common.{Ok, Err, ◌∙◌, ap, arith, get_or, length, refl, subst, sym, suc}
-use Rattle.std.proofs.Common.{take, drop}
+use Rattle.std.proofs.Common.{◌≡◌, ◌<◌, ◌≤◌, ◌+◌, ◌++◌, ℕ, List, [], ◌∷◌, Bor, Result, Ok, Err, ◌∙◌, ap, arith, get_or, length, refl, subst, sym, suc, take, drop}
 use Rattle.std.specs.Prelude.{All, IsUtf8, IfErr, IfOk, Vec, sum}
 use Rattle.std.specs.declared.alloc.Global.{Global}
 use Rattle.std.proofs.lemmas.List.{get_or-map, length-map, map-append, take_all, take_more}
@@ -10,8 +8,7 @@ use Rattle.ps_resolve.specs.Sources.{contents}
 use Rattle.ps_calls.specs.Checks.{IsMisnamed, IsUnreadable}
 use Rattle.ps_calls.specs.Libraries.{split}
 use Rattle.ps_calls.specs.declared.outcome.Stop.{Stop}
-use Rattle.ps_calls.specs.declared.outcome.Stop.TheVariants.{Refused, WrongLengths, NoMemory}
-use Rattle.ps_calls.specs.declared.outcome.Stop.TheVariants.{TooSmall, WrongNames, NoSuchText}
+use Rattle.ps_calls.specs.declared.outcome.Stop.TheVariants.{Refused, WrongLengths, NoMemory, TooSmall, WrongNames, NoSuchText}
 
 -- there is a part for each length
 length-split : (bytes ns : List ℕ) → length (split bytes ns) ≡ length ns

@@ -1,8 +1,6 @@
 -- What is put of a text, or why nothing is, by what is known of its parts.
-use Rattle.std.proofs.Common.{◌≡◌, ◌≢◌, ℕ, List, [], ◌∷◌, Bor, Bool, true, false, Result, Ok, Err}
-use Rattle.std.proofs.Common.{length, refl, subst}
-use Rattle.std.proofs.Common.{sym}
-use Rattle.std.specs.Prelude.{IfErr, IfOk, Vec}
+use Rattle.std.proofs.Common.{◌≡◌, ◌≢◌, ℕ, List, [], ◌∷◌, Bor, Bool, true, false, Result, Ok, Err, length, refl, subst, sym}
+use Rattle.std.specs.Prelude.{IfErr, IfOk, Vec, Some, sum}
 use Rattle.std.specs.declared.alloc.Global.{Global}
 use Rattle.ps_warnings.specs.declared.warnings.Warning.{Warning}
 use Rattle.ps_report.specs.ReportJson.{IsReportJson}
@@ -11,18 +9,14 @@ use Rattle.ps_report.specs.declared.verdict.Verdict.{Verdict}
 use Rattle.ps_calls.specs.Dones.{IsText}
 use Rattle.ps_calls.specs.Kinds.{needs_names}
 use Rattle.ps_calls.specs.Libraries.{split}
-use Rattle.ps_calls.specs.Printed.{HasInputs, IsPrinted, IsPrintedReport, is_json}
-use Rattle.ps_calls.specs.Printed.{IsPut, IsTextOf, LacksNames, StopsKind, StopsMaking}
-use Rattle.ps_calls.specs.Printed.{StopsPutting}
+use Rattle.ps_calls.specs.Printed.{HasInputs, IsPrinted, IsPrintedReport, is_json, IsPut, IsTextOf, LacksNames, StopsKind, StopsMaking, StopsPutting}
 use Rattle.ps_calls.specs.Stops.{IsOnlyAbove, IsUnsplit}
 use Rattle.ps_calls.specs.declared.kinds.TextForm.{TextForm}
 use Rattle.ps_calls.specs.declared.kinds.TextKind.{TextKind}
 use Rattle.ps_calls.specs.declared.kinds.TextKind.TheVariants as kind
 use Rattle.ps_calls.specs.declared.outcome.Done.{Done}
 use Rattle.ps_calls.specs.declared.outcome.Stop.{Stop}
-use Rattle.ps_calls.specs.declared.outcome.Stop.TheVariants.{Refused, WrongLengths, NoMemory}
-use Rattle.ps_calls.specs.declared.outcome.Stop.TheVariants.{TooSmall, WrongNames, NoSuchText}
-use Rattle.std.specs.Prelude.{Some, sum}
+use Rattle.ps_calls.specs.declared.outcome.Stop.TheVariants.{Refused, WrongLengths, NoMemory, TooSmall, WrongNames, NoSuchText}
 
 -- a text with other names, where it looks at none
 pub renamed : (k : TextKind) (ns ms : List (List ℕ)) (host : List ℕ) (libs : List (List ℕ))

@@ -1,8 +1,6 @@
 -- What an answer says of a call, and which fault a refusal reports.
 -- Source: this project's profile.
-use Rattle.std.specs.Prelude.{◌≡◌, ℕ, ◌==◌, ◌⊎◌, if◌then◌else◌, List, []}
-use Rattle.std.specs.Prelude.{◌∷◌, ◌++◌, Option, Some, None, option_map, unwrap_or}
-use Rattle.std.specs.Prelude.{is_some}
+use Rattle.std.specs.Prelude.{◌≡◌, ℕ, ◌==◌, ◌⊎◌, if◌then◌else◌, List, [], ◌∷◌, ◌++◌, Option, Some, None, option_map, unwrap_or, is_some}
 use Rattle.std.specs.List.{find}
 use Rattle.ps_words.specs.FaultText.{number_of, kind_of, fault_text}
 use Rattle.ps_words.specs.declared.fault.Reason.{Reason}
@@ -10,8 +8,7 @@ use Rattle.ps_words.specs.declared.fault.Reason.TheVariants as reason
 use Rattle.ps_words.specs.declared.fault.Fault.{Fault}
 use Rattle.ps_linkfile.specs.declared.summary.Summary.{Summary}
 use Rattle.ps_calls.specs.declared.answer.Answer.{Answer}
-use Rattle.ps_calls.specs.declared.answer.TheConstants.{DONE, REFUSED, WRONG_LENGTHS, NO_MEMORY}
-use Rattle.ps_calls.specs.declared.answer.TheConstants.{TOO_SMALL, WRONG_NAMES, WRONG_TEXT}
+use Rattle.ps_calls.specs.declared.answer.TheConstants.{DONE, REFUSED, WRONG_LENGTHS, NO_MEMORY, TOO_SMALL, WRONG_NAMES, WRONG_TEXT}
 
 -- what stands for a name where there is none
 abbrev pub no_name : List ℕ

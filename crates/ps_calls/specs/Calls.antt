@@ -1,7 +1,6 @@
 -- What the exports leave in the caller's memory.
 -- Source: this project's profile.
-use Rattle.std.specs.Prelude.{◌≡◌, ℕ, ◌<◌, Bool, List, [], length, Option, Some, None, Result}
-use Rattle.std.specs.Prelude.{IfErr, IfOk}
+use Rattle.std.specs.Prelude.{◌≡◌, ℕ, ◌<◌, Bool, List, [], length, Option, Some, None, Result, IfErr, IfOk}
 use Rattle.ps_named.specs.FaultNames.{fault_name}
 use Rattle.ps_resolve.specs.Parts.{HasItsParts}
 use Rattle.ps_resolve.specs.Sources.{order_of}

@@ -5,13 +5,11 @@ use Rattle.ps_report.specs.declared.verdict.Verdict.{Verdict}
 use Rattle.ps_report.specs.declared.verdict.Verdict.TheVariants as verdict
 use Rattle.ps_calls.specs.Answers.{bare, linked_answer, refusal}
 use Rattle.ps_calls.specs.declared.answer.Answer.{Answer}
-use Rattle.ps_calls.specs.declared.answer.TheConstants.{DONE, WRONG_LENGTHS, NO_MEMORY, TOO_SMALL}
-use Rattle.ps_calls.specs.declared.answer.TheConstants.{WRONG_NAMES}
+use Rattle.ps_calls.specs.declared.answer.TheConstants.{DONE, WRONG_LENGTHS, NO_MEMORY, TOO_SMALL, WRONG_NAMES}
 use Rattle.ps_calls.specs.declared.checking.Found.{Found}
 use Rattle.ps_calls.specs.declared.check_answer.CheckAnswer.{CheckAnswer}
 use Rattle.ps_calls.specs.declared.outcome.Stop.{Stop}
-use Rattle.ps_calls.specs.declared.outcome.Stop.TheVariants.{Refused, WrongLengths, NoMemory}
-use Rattle.ps_calls.specs.declared.outcome.Stop.TheVariants.{TooSmall, WrongNames, NoSuchText}
+use Rattle.ps_calls.specs.declared.outcome.Stop.TheVariants.{Refused, WrongLengths, NoMemory, TooSmall, WrongNames, NoSuchText}
 
 -- a status, and nothing else
 abbrev pub bare_check : ℕ → CheckAnswer

@@ -1,7 +1,6 @@
 -- What a check finds and leaves in the caller's room, and why it leaves nothing.
 -- Source: this project's profile.
-use Rattle.std.specs.Prelude.{◌≡◌, ℕ, ◌+◌, ◌<◌, ⊤, All, Bool, IsUtf8, List}
-use Rattle.std.specs.Prelude.{length, sum, Option, None}
+use Rattle.std.specs.Prelude.{◌≡◌, ℕ, ◌+◌, ◌<◌, ⊤, All, Bool, IsUtf8, List, length, sum, Option, None}
 use Rattle.ps_named.specs.FaultNames.{fault_name}
 use Rattle.ps_report.specs.Reports.{IsReport}
 use Rattle.ps_report.specs.Verdicts.{check_status}
@@ -12,8 +11,7 @@ use Rattle.ps_calls.specs.Libraries.{split}
 use Rattle.ps_calls.specs.Rooms.{RoomBeginsWith}
 use Rattle.ps_calls.specs.declared.checking.Found.{Found}
 use Rattle.ps_calls.specs.declared.outcome.Stop.{Stop}
-use Rattle.ps_calls.specs.declared.outcome.Stop.TheVariants.{Refused, WrongLengths, NoMemory}
-use Rattle.ps_calls.specs.declared.outcome.Stop.TheVariants.{TooSmall, WrongNames, NoSuchText}
+use Rattle.ps_calls.specs.declared.outcome.Stop.TheVariants.{Refused, WrongLengths, NoMemory, TooSmall, WrongNames, NoSuchText}
 
 -- names of these lengths add up to what is given, and each is UTF-8
 abbrev pub AreNames : List ℕ → List ℕ → Type 0

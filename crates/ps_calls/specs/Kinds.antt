@@ -1,16 +1,13 @@
 -- The texts that there are, by their numbers.
 -- Source: this project's profile.
-use Rattle.std.specs.Prelude.{ℕ, ◌==◌, if◌then◌else◌, Bool, true, false, Option, Some, None}
-use Rattle.std.specs.Prelude.{option_and_then}
+use Rattle.std.specs.Prelude.{ℕ, ◌==◌, if◌then◌else◌, Bool, true, false, Option, Some, None, option_and_then}
 use Rattle.ps_calls.specs.declared.kinds.ListForm.{ListForm}
 use Rattle.ps_calls.specs.declared.kinds.ListForm.TheVariants as list
 use Rattle.ps_calls.specs.declared.kinds.TextForm.{TextForm}
 use Rattle.ps_calls.specs.declared.kinds.TextForm.TheVariants as form
 use Rattle.ps_calls.specs.declared.kinds.TextKind.{TextKind}
 use Rattle.ps_calls.specs.declared.kinds.TextKind.TheVariants as kind
-use Rattle.ps_calls.specs.declared.kinds.TheConstants.{JSON, LINES, TEXT_CHECK, TEXT_LIST}
-use Rattle.ps_calls.specs.declared.kinds.TheConstants.{TEXT_MAP, TEXT_REFERENCES, TEXT_SHOW}
-use Rattle.ps_calls.specs.declared.kinds.TheConstants.{TEXT_UNITS, UNITS_HAD, UNITS_WANTED}
+use Rattle.ps_calls.specs.declared.kinds.TheConstants.{JSON, LINES, TEXT_CHECK, TEXT_LIST, TEXT_MAP, TEXT_REFERENCES, TEXT_SHOW, TEXT_UNITS, UNITS_HAD, UNITS_WANTED}
 
 -- the form of this number
 abbrev pub form_of : ℕ → Option TextForm

@@ -2,14 +2,12 @@
 -- Source: this project's profile.
 use Rattle.std.specs.Prelude.{Result, Ok, Err}
 use Rattle.ps_calls.specs.Answers.{bare, linked_answer, text_answer, refusal, small_answer}
-use Rattle.ps_calls.specs.declared.answer.TheConstants.{WRONG_LENGTHS, NO_MEMORY, WRONG_NAMES}
-use Rattle.ps_calls.specs.declared.answer.TheConstants.{WRONG_TEXT}
+use Rattle.ps_calls.specs.declared.answer.TheConstants.{WRONG_LENGTHS, NO_MEMORY, WRONG_NAMES, WRONG_TEXT}
 use Rattle.ps_calls.specs.declared.answer.Answer.{Answer}
 use Rattle.ps_calls.specs.declared.outcome.Done.{Done}
 use Rattle.ps_calls.specs.declared.outcome.Done.TheVariants.{Linked, Text}
 use Rattle.ps_calls.specs.declared.outcome.Stop.{Stop}
-use Rattle.ps_calls.specs.declared.outcome.Stop.TheVariants.{Refused, WrongLengths, NoMemory}
-use Rattle.ps_calls.specs.declared.outcome.Stop.TheVariants.{TooSmall, WrongNames, NoSuchText}
+use Rattle.ps_calls.specs.declared.outcome.Stop.TheVariants.{Refused, WrongLengths, NoMemory, TooSmall, WrongNames, NoSuchText}
 
 -- the answer of a call that was done
 abbrev pub done_answer : Done → Answer

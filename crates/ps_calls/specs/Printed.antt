@@ -1,7 +1,6 @@
 -- What is made of files, as text, and why it is not.
 -- Source: this project's profile.
-use Rattle.std.specs.Prelude.{◌≡◌, ℕ, ◌+◌, ◌<◌, ⊤, All, Bool, true, false, IsUtf8, List, []}
-use Rattle.std.specs.Prelude.{◌∷◌, ◌++◌, codes, length, sum, Option, Some, None, Ok, Err}
+use Rattle.std.specs.Prelude.{◌≡◌, ℕ, ◌+◌, ◌<◌, ⊤, All, Bool, true, false, IsUtf8, List, [], ◌∷◌, ◌++◌, codes, length, sum, Option, Some, None, Ok, Err}
 use Rattle.ps_words.specs.FaultPlaces.{in_file}
 use Rattle.ps_words.specs.declared.fault.Reason.{Reason}
 use Rattle.ps_codefile.specs.Dictionary.{OpenedFile, opened_alone}
@@ -33,8 +32,7 @@ use Rattle.ps_calls.specs.declared.outcome.Done.{Done}
 use Rattle.ps_calls.specs.declared.outcome.Done.TheVariants as done
 use Rattle.ps_calls.specs.declared.outcome.Refusal.{Refusal}
 use Rattle.ps_calls.specs.declared.outcome.Stop.{Stop}
-use Rattle.ps_calls.specs.declared.outcome.Stop.TheVariants.{Refused, WrongLengths, NoMemory}
-use Rattle.ps_calls.specs.declared.outcome.Stop.TheVariants.{TooSmall, WrongNames, NoSuchText}
+use Rattle.ps_calls.specs.declared.outcome.Stop.TheVariants.{Refused, WrongLengths, NoMemory, TooSmall, WrongNames, NoSuchText}
 
 -- what is listed of a file with this name and this phrase for what it is; of a document it is an
 -- item, the first or another

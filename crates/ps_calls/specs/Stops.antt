@@ -1,7 +1,6 @@
 -- Why a call leaves the caller's room as it was.
 -- Source: this project's profile.
-use Rattle.std.specs.Prelude.{◌≡◌, ◌≢◌, ℕ, ◌<◌, ◌≤◌, List, [], length, sum}
-use Rattle.std.specs.Prelude.{Some, None}
+use Rattle.std.specs.Prelude.{◌≡◌, ◌≢◌, ℕ, ◌<◌, ◌≤◌, List, [], length, sum, Some, None}
 use Rattle.ps_words.specs.declared.fault.Fault.{Fault}
 use Rattle.ps_named.specs.FaultNames.{fault_name}
 use Rattle.ps_resolve.specs.Parts.{HasItsParts}
@@ -17,8 +16,7 @@ use Rattle.ps_calls.specs.declared.libraries.TheConstants.{LIBRARIES_IN_PLACE}
 use Rattle.ps_calls.specs.declared.linking.TheConstants.{LINKED_MAX}
 use Rattle.ps_calls.specs.declared.outcome.Refusal.{Refusal}
 use Rattle.ps_calls.specs.declared.outcome.Stop.{Stop}
-use Rattle.ps_calls.specs.declared.outcome.Stop.TheVariants.{Refused, WrongLengths, NoMemory}
-use Rattle.ps_calls.specs.declared.outcome.Stop.TheVariants.{TooSmall, WrongNames, NoSuchText}
+use Rattle.ps_calls.specs.declared.outcome.Stop.TheVariants.{Refused, WrongLengths, NoMemory, TooSmall, WrongNames, NoSuchText}
 
 -- the refusal of these files for a fault, with the name of what it is about
 abbrev pub refusal_of : List ℕ → List (List ℕ) → Fault → Refusal

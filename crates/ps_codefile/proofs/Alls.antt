@@ -1,7 +1,5 @@
 -- Tests of a list of numbers.
-use Rattle.std.proofs.Common.{◌≡◌, ℕ, zero, suc, ◌+◌, ◌<◌, ◌≤◌, ◌-◌, Bool}
-use Rattle.std.proofs.Common.{true, false, true≢false, ◌&&◌, ◌||◌, refl, sym, ◌∙◌}
-use Rattle.std.proofs.Common.{subst, arith, add-zero}
+use Rattle.std.proofs.Common.{◌≡◌, ℕ, zero, suc, ◌+◌, ◌<◌, ◌≤◌, ◌-◌, Bool, true, false, true≢false, ◌&&◌, ◌||◌, refl, sym, ◌∙◌, subst, arith, add-zero}
 use Rattle.std.specs.List.{list_all, list_any, range_with_len}
 
 -- where each number of a list passes a test, all pass

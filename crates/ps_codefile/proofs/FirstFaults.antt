@@ -1,16 +1,13 @@
 -- The first fault of the procedure tables of a code, and the reason with which they are refused.
-use Rattle.std.proofs.Common.{◌≡◌, ℕ, ◌+◌, ◌-◌, ◌<◌, ◌≤◌, ◌&&◌, not}
-use Rattle.std.proofs.Common.{List, Bool, true, false, length, Ok, Err, refl, sym, ◌∙◌, arith}
+use Rattle.std.proofs.Common.{◌≡◌, ℕ, ◌+◌, ◌-◌, ◌<◌, ◌≤◌, ◌&&◌, not, List, Bool, true, false, length, Ok, Err, refl, sym, ◌∙◌, arith}
 use Rattle.std.specs.List.{list_all, list_any}
 use Rattle.std.specs.Prelude.{slice_index, ◌==◌}
 use Rattle.std.proofs.lemmas.Bool.Decides.{nat_tests}
 use Rattle.ps_words.specs.declared.order.Order.{Order}
 use Rattle.ps_words.specs.declared.fault.Reason.TheVariants as reason
 use Rattle.ps_codefile.specs.Places.{HasTables}
-use Rattle.ps_codefile.specs.ProcedureFaults.{IsFirstProcedure, is_native, is_outside}
-use Rattle.ps_codefile.specs.ProcedureFaults.{lacks_outer_block}
-use Rattle.ps_codefile.specs.Procedures.{dictionary_len, is_placed, numbers, procedures}
-use Rattle.ps_codefile.specs.Procedures.{read_tables, tables}
+use Rattle.ps_codefile.specs.ProcedureFaults.{IsFirstProcedure, is_native, is_outside, lacks_outer_block}
+use Rattle.ps_codefile.specs.Procedures.{dictionary_len, is_placed, numbers, procedures, read_tables, tables}
 use Rattle.ps_codefile.proofs.Alls.{all_from, none_from, not_all, some_at}
 use Rattle.ps_codefile.proofs.Tables.{any_table}
 

@@ -1,13 +1,10 @@
 -- The words and the tables of a code, procedure by procedure.
-use Rattle.std.proofs.Common.{◌≡◌, ℕ, suc, ◌-◌, ◌+◌, ◌*◌, ◌<◌, ◌≤◌}
-use Rattle.std.proofs.Common.{◌==◌, ◌||◌, List, [], ◌∷◌, Bool, false, Option, Some}
-use Rattle.std.proofs.Common.{None, get_or, length, refl, sym, ◌∙◌, ap, arith}
+use Rattle.std.proofs.Common.{◌≡◌, ℕ, suc, ◌-◌, ◌+◌, ◌*◌, ◌<◌, ◌≤◌, ◌==◌, ◌||◌, List, [], ◌∷◌, Bool, false, Option, Some, None, get_or, length, refl, sym, ◌∙◌, ap, arith}
 use Rattle.std.specs.List.{list_any, filter_map, range_with_len}
 use Rattle.std.proofs.lemmas.List.FromFn.{get_or-map-range_with_len, length-map-range_with_len}
 use Rattle.std.proofs.lemmas.Bool.Decides.{nat_tests}
 use Rattle.ps_words.specs.declared.order.Order.{Order}
-use Rattle.ps_codefile.specs.Procedures.{content_of, is_placed, numbers, procedures, table_of}
-use Rattle.ps_codefile.specs.Procedures.{tables}
+use Rattle.ps_codefile.specs.Procedures.{content_of, is_placed, numbers, procedures, table_of, tables}
 use Rattle.ps_codefile.specs.Places.{HasTables, HasWords, IsWhole, passes}
 use Rattle.ps_codefile.proofs.Alls.{all_at}
 

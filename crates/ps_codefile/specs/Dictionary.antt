@@ -2,10 +2,7 @@
 -- each, the code and the link information of an entry.
 -- Source: UCSD Pascal II.0 manual, code file format. How the byte order is found, the roles, and
 -- the tail, which is copied unread, are this project's profile.
-use Rattle.std.specs.Prelude.{◌≡◌, Result, ℕ, ◌+◌, ◌*◌, ◌%◌, ◌==◌, ◌&&◌}
-use Rattle.std.specs.Prelude.{◌||◌, not, if◌then◌else◌, List, [], ◌∷◌, length}
-use Rattle.std.specs.Prelude.{slice_index, slice_range, drop, map, nat_le, nat_lt, Bool, true}
-use Rattle.std.specs.Prelude.{false, Ok, Err}
+use Rattle.std.specs.Prelude.{◌≡◌, Result, ℕ, ◌+◌, ◌*◌, ◌%◌, ◌==◌, ◌&&◌, ◌||◌, not, if◌then◌else◌, List, [], ◌∷◌, length, slice_index, slice_range, drop, map, nat_le, nat_lt, Bool, true, false, Ok, Err}
 use Rattle.std.specs.List.{list_all}
 use Rattle.ps_words.specs.Words.{word_at, blocks}
 use Rattle.ps_words.specs.declared.order.Order.{Order}

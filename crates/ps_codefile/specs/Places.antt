@@ -1,11 +1,9 @@
 -- The places of an attribute table, and the words of a procedure dictionary.
-use Rattle.std.specs.Prelude.{ℕ, ◌+◌, ◌<◌, ◌≤◌, ◌&&◌, List, length, Bool}
-use Rattle.std.specs.Prelude.{nat_le, nat_lt, true, false, Option, ◌≡◌}
+use Rattle.std.specs.Prelude.{ℕ, ◌+◌, ◌<◌, ◌≤◌, ◌&&◌, List, length, Bool, nat_le, nat_lt, true, false, Option, ◌≡◌}
 use Rattle.std.specs.List.{list_all}
 use Rattle.std.specs.Option.{option_map_or}
 use Rattle.ps_words.specs.declared.order.Order.{Order}
-use Rattle.ps_codefile.specs.Procedures.{procedure_words, dictionary_len, dictionary_start}
-use Rattle.ps_codefile.specs.Procedures.{is_placed, numbers}
+use Rattle.ps_codefile.specs.Procedures.{procedure_words, dictionary_len, dictionary_start, is_placed, numbers}
 
 -- from `start` on, and before `end`
 abbrev pub is_between : ℕ → ℕ → ℕ → Bool

@@ -1,19 +1,14 @@
 -- What is wrong with the procedure tables of a code, and of which procedure.
 -- Source: UCSD Pascal II.0 manual, code file format; which fault is first is this project's
 -- profile.
-use Rattle.std.specs.Prelude.{◌≡◌, ℕ, ◌<◌, ◌≤◌, ◌==◌, ◌&&◌, ◌||◌, not}
-use Rattle.std.specs.Prelude.{List, length, slice_index, Bool, true, false}
+use Rattle.std.specs.Prelude.{◌≡◌, ℕ, ◌<◌, ◌≤◌, ◌==◌, ◌&&◌, ◌||◌, not, List, length, slice_index, Bool, true, false}
 use Rattle.ps_words.specs.declared.order.Order.{Order}
 use Rattle.ps_words.specs.declared.fault.Reason.{Reason}
 use Rattle.ps_words.specs.declared.fault.Reason.TheVariants as reason
 use Rattle.ps_codefile.specs.Places.{HasTables, passes}
-use Rattle.ps_codefile.specs.Procedures.{content_of, dictionary_len, is_placed, procedures}
-use Rattle.ps_codefile.specs.Procedures.{table_of}
+use Rattle.ps_codefile.specs.Procedures.{content_of, dictionary_len, is_placed, procedures, table_of}
 use Rattle.ps_codefile.specs.declared.procedure_fault.ProcedureFault.{ProcedureFault}
-use Rattle.ps_codefile.specs.declared.procedure_fault.ProcedureFault.TheVariants.{LongDictionary}
-use Rattle.ps_codefile.specs.declared.procedure_fault.ProcedureFault.TheVariants.{Outside}
-use Rattle.ps_codefile.specs.declared.procedure_fault.ProcedureFault.TheVariants.{NoOuterBlock}
-use Rattle.ps_codefile.specs.declared.procedure_fault.ProcedureFault.TheVariants.{Native}
+use Rattle.ps_codefile.specs.declared.procedure_fault.ProcedureFault.TheVariants.{LongDictionary, Outside, NoOuterBlock, Native}
 
 -- the reason with which a code is refused that has this fault
 abbrev pub reason_of : ProcedureFault → Reason

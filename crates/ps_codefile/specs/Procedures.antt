@@ -2,9 +2,7 @@
 -- points to, and the places that no operand may cover.
 -- Source: UCSD Pascal II.0 manual, code file format. That the places are reserved is this project's
 -- profile.
-use Rattle.std.specs.Prelude.{ℕ, ◌+◌, ◌-◌, ◌*◌, ◌==◌, ◌&&◌, ◌||◌, not}
-use Rattle.std.specs.Prelude.{if◌then◌else◌, List, length, slice_index, map, nat_le, nat_lt}
-use Rattle.std.specs.Prelude.{Bool, Option, Some, None, Result, Ok, Err}
+use Rattle.std.specs.Prelude.{ℕ, ◌+◌, ◌-◌, ◌*◌, ◌==◌, ◌&&◌, ◌||◌, not, if◌then◌else◌, List, length, slice_index, map, nat_le, nat_lt, Bool, Option, Some, None, Result, Ok, Err}
 use Rattle.std.specs.List.{list_all, list_any, range_with_len, filter_map}
 use Rattle.std.specs.Option.{option_map}
 use Rattle.ps_words.specs.Words.{word_at}

@@ -1,10 +1,7 @@
 -- Words that clap takes name a command, and each file that it has to have. Along the walk over the
 -- arguments each row has a value, since an argument that is used without one is a flag that prints
 -- a text or stands for a value; and the command that stops it is not the one that prints help.
-use Rattle.std.proofs.Common.{◌≡◌, ◌++◌, ◌∷◌, ◌&&◌, ◌||◌, ℕ, zero, suc}
-use Rattle.std.proofs.Common.{Bool, true, false, not, List, [], length, Option, Some, None}
-use Rattle.std.proofs.Common.{is_some, inl, inr, refl, sym, ap, ◌∙◌, true≢false}
-use Rattle.std.proofs.Common.{option_map, option_and_then}
+use Rattle.std.proofs.Common.{◌≡◌, ◌++◌, ◌∷◌, ◌&&◌, ◌||◌, ℕ, zero, suc, Bool, true, false, not, List, [], length, Option, Some, None, is_some, inl, inr, refl, sym, ap, ◌∙◌, true≢false, option_map, option_and_then}
 use Rattle.std.proofs.lemmas.Bool.{and_parts, cond_both}
 use Rattle.std.specs.Prelude.{⊤, IfSome, codes, drop, encode_utf8, find, fold, slice_get}
 use Rattle.std.specs.List.{AllByRecursion, list_all, slice_index_or}
@@ -17,24 +14,10 @@ use Rattle.clap.specs.declared.builder.value_parser.Reading.{Reading}
 use Rattle.clap.specs.declared.parser.matches.ValueSource.{ValueSource}
 use Rattle.clap.specs.declared.parser.matches.ValueSource.TheVariants.{CommandLine, DefaultValue}
 use Rattle.clap.specs.Lexer.{long_of, short_of}
-use Rattle.clap.specs.Walk.{Held, Names, Outcome, Row, Rule, Step, Text, Waiting, Walk, action_of}
-use Rattle.clap.specs.Walk.{after_flag, after_step, answers_to, arg_by_id, arg_by_index}
-use Rattle.clap.specs.Walk.{arg_by_long, arg_by_short, at_row, bundle, bundle_met}
-use Rattle.clap.specs.Walk.{bundle_step, default_rows, done, first_of, has_long}
-use Rattle.clap.specs.Walk.{has_short, has_row, long_met, long_or_other}
-use Rattle.clap.specs.Walk.{more_values, next, nothing_held, option, option_word, plain}
-use Rattle.clap.specs.Walk.{plain_word, pushed, reacted, reading_by}
-use Rattle.clap.specs.Walk.{rows_after, settled, settled_rows, short_met, short_or_plain, started}
-use Rattle.clap.specs.Walk.{subcommand, subcommand_met, subcommand_or_other}
-use Rattle.clap.specs.Walk.{takes_values, to_positional, trailing, used, used_as, used_by_id, value}
-use Rattle.clap.specs.Walk.{waits, walk, walk_from, walked, walked_from, with_default, with_values}
-use Rattle.clap.specs.Walk.{word_met}
-use Rattle.clap.specs.Simple.{Shape, argument_words, built, entered, is_simple, label_of, names_of}
-use Rattle.clap.specs.Simple.{rows_at, subcommand_of}
+use Rattle.clap.specs.Walk.{Held, Names, Outcome, Row, Rule, Step, Text, Waiting, Walk, action_of, after_flag, after_step, answers_to, arg_by_id, arg_by_index, arg_by_long, arg_by_short, at_row, bundle, bundle_met, bundle_step, default_rows, done, first_of, has_long, has_short, has_row, long_met, long_or_other, more_values, next, nothing_held, option, option_word, plain, plain_word, pushed, reacted, reading_by, rows_after, settled, settled_rows, short_met, short_or_plain, started, subcommand, subcommand_met, subcommand_or_other, takes_values, to_positional, trailing, used, used_as, used_by_id, value, waits, walk, walk_from, walked, walked_from, with_default, with_values, word_met}
+use Rattle.clap.specs.Simple.{Shape, argument_words, built, entered, is_simple, label_of, names_of, rows_at, subcommand_of}
 use Rattle.std.proofs.lemmas.Slice.Eq.{bytes_eq-Decides}
-use Rattle.clap.specs.Takes.{default_passes, entered_passes, is_given, level_passes, other_passes}
-use Rattle.clap.specs.Takes.{settle_passes, step_passes, takes, turn_passes, walk_passes}
-use Rattle.clap.specs.Takes.{word_passes}
+use Rattle.clap.specs.Takes.{default_passes, entered_passes, is_given, level_passes, other_passes, settle_passes, step_passes, takes, turn_passes, walk_passes, word_passes}
 use Rattle.ps_command.specs.CommandLine.{pslink_app}
 use Rattle.ps_command.specs.Requests.{LeavesOut}
 

@@ -2,9 +2,7 @@
 -- named, and what a link has written. `Reads` says of a path and of bytes that they were read
 -- there, and `Writes` that a file which was created there took them.
 -- Source: this project's profile.
-use Rattle.std.specs.Prelude.{◌≡◌, ◌⊎◌, ◌+◌, ◌++◌, ◌∷◌, []}
-use Rattle.std.specs.Prelude.{if◌then◌else◌, ℕ, Bool, true, false, List, Option, Some}
-use Rattle.std.specs.Prelude.{codes, max}
+use Rattle.std.specs.Prelude.{◌≡◌, ◌⊎◌, ◌+◌, ◌++◌, ◌∷◌, [], if◌then◌else◌, ℕ, Bool, true, false, List, Option, Some, codes, max}
 use Rattle.std.specs.List.{AllZip}
 use Rattle.std.specs.Io.KnownBytes.{Appends}
 use Rattle.clap.specs.Words.{IsAmong, Kinds, Row, Text, first_of}
@@ -28,8 +26,7 @@ use Rattle.ps_report.specs.declared.verdict.Verdict.{Verdict}
 use Rattle.ps_command.specs.declared.lists.Form.{Form}
 use Rattle.ps_command.specs.declared.lists.Form.TheVariants as form
 use Rattle.ps_command.specs.SummaryLine.{summary_line}
-use Rattle.ps_command.specs.Requests.{files_of, has_references, is_json, is_strict, is_unit}
-use Rattle.ps_command.specs.Requests.{libraries_of}
+use Rattle.ps_command.specs.Requests.{files_of, has_references, is_json, is_strict, is_unit, libraries_of}
 
 -- it holds of a host that was read at its path and of libraries that were read at theirs, one for
 -- one in their order, and of their linked file

@@ -1,7 +1,6 @@
 -- What a request stands for, by the command and the files that clap finds named in the arguments.
 -- Source: this project's profile.
-use Rattle.std.specs.Prelude.{◌≡◌, ◌⊎◌, Any, Bool, true, false, List, [], Option, Some}
-use Rattle.std.specs.Prelude.{None, codes, map, unwrap_or, ⊤}
+use Rattle.std.specs.Prelude.{◌≡◌, ◌⊎◌, Any, Bool, true, false, List, [], Option, Some, None, codes, map, unwrap_or, ⊤}
 use Rattle.std.specs.List.{list_any}
 use Rattle.std.specs.Option.{option_map_or}
 use Rattle.std.specs.Str.{bytes_eq}

@@ -1,8 +1,6 @@
 -- Queues of names and lists of segments that are not those that a link adds, computed.
-use Rattle.std.proofs.Common.{◌≡◌, ℕ, zero, suc, ◌+◌, ◌<◌, List, [], ◌∷◌}
-use Rattle.std.proofs.Common.{◌++◌, length, refl, sym, subst, inl, inr, ◌∙◌, arith}
-use Rattle.ps_examples.specs.Files.{host, library_naming_itself, library_of_used, util_information}
-use Rattle.ps_examples.specs.Files.{aux}
+use Rattle.std.proofs.Common.{◌≡◌, ℕ, zero, suc, ◌+◌, ◌<◌, List, [], ◌∷◌, ◌++◌, length, refl, sym, subst, inl, inr, ◌∙◌, arith}
+use Rattle.ps_examples.specs.Files.{host, library_naming_itself, library_of_used, util_information, aux}
 use Rattle.ps_examples.specs.Segments.{demo_segment, util_segment, using_segment, aux_reference}
 use Rattle.ps_examples.proofs.NotLinked.{same}
 use Rattle.ps_examples.proofs.NotOrigins.{no_name, count_aux, state_aux, blank_aux}

@@ -1,19 +1,16 @@
 -- What the builders of definitions and of allotments do not do, computed.
-use Rattle.std.proofs.Common.{◌≡◌, ℕ, zero, suc, ◌<◌, List, [], ◌∷◌, Some, true}
-use Rattle.std.proofs.Common.{refl, sym, ap, subst, ◌∙◌, inl, inr, arith}
+use Rattle.std.proofs.Common.{◌≡◌, ℕ, zero, suc, ◌<◌, List, [], ◌∷◌, Some, true, refl, sym, ap, subst, ◌∙◌, inl, inr, arith}
 use Rattle.std.specs.Prelude.{slice_get}
 use Rattle.std.proofs.lemmas.Bool.{false≢true}
 use Rattle.ps_examples.specs.Files.{count, state}
 use Rattle.ps_examples.specs.Segments.{count_reference, state_reference, end_mark}
-use Rattle.ps_examples.specs.Owners.{defined_again, util_owner, aux_owner, duplicate_owner}
-use Rattle.ps_examples.specs.Owners.{plain_owner, first_private, second_private}
+use Rattle.ps_examples.specs.Owners.{defined_again, util_owner, aux_owner, duplicate_owner, plain_owner, first_private, second_private}
 use Rattle.ps_examples.proofs.NotLinked.{same, count_state}
 use Rattle.ps_examples.proofs.NotOrigins.{none_passes}
 use Rattle.ps_linkinfo.specs.RecordCounts.{is_definition, is_private_reference}
 use Rattle.ps_linkinfo.specs.declared.record.Body.TheVariants.{PublDef, ConstDef}
 use Rattle.ps_linkinfo.specs.declared.record.LinkRecord.{LinkRecord as Record}
-use Rattle.ps_resolve.specs.Builders.{IsFirstNamesake, StopsDefinitions, IsUnfit, StopsPrivates}
-use Rattle.ps_resolve.specs.Builders.{AreByRecord}
+use Rattle.ps_resolve.specs.Builders.{IsFirstNamesake, StopsDefinitions, IsUnfit, StopsPrivates, AreByRecord}
 use Rattle.ps_resolve.specs.First.{Before}
 use Rattle.ps_resolve.specs.Privates.{Owner}
 use Rattle.ps_resolve.specs.Standing.Phrases.{SomeItem}

@@ -1,15 +1,10 @@
 -- Where segments of the small files do not come from, computed.
-use Rattle.std.proofs.Common.{◌≡◌, ℕ, zero, suc, ◌<◌, List, [], ◌∷◌, Option, Some}
-use Rattle.std.proofs.Common.{None, Result, Ok, Err, true, false, refl, sym, ap, subst, ◌∙◌}
-use Rattle.std.proofs.Common.{inl, inr, arith}
+use Rattle.std.proofs.Common.{◌≡◌, ℕ, zero, suc, ◌<◌, List, [], ◌∷◌, Option, Some, None, Result, Ok, Err, true, false, refl, sym, ap, subst, ◌∙◌, inl, inr, arith}
 use Rattle.std.specs.Prelude.{◌⊎◌, slice_get}
 use Rattle.std.specs.List.{AllByRecursion}
-use Rattle.ps_examples.specs.Files.{host, library, host_without_7, put_at, blank_name, util, aux}
-use Rattle.ps_examples.specs.Files.{count, state, nobody}
+use Rattle.ps_examples.specs.Files.{host, library, host_without_7, put_at, blank_name, util, aux, count, state, nobody}
 use Rattle.ps_linkinfo.specs.RecordCounts.{is_unit_reference}
-use Rattle.ps_examples.specs.Segments.{count_reference, state_reference, end_mark, demo_segment}
-use Rattle.ps_examples.specs.Segments.{util_segment, using_segment, aux_segment, self_segment}
-use Rattle.ps_examples.specs.Segments.{nobody_segment, count_segment, past_segment}
+use Rattle.ps_examples.specs.Segments.{count_reference, state_reference, end_mark, demo_segment, util_segment, using_segment, aux_segment, self_segment, nobody_segment, count_segment, past_segment}
 use Rattle.ps_linkinfo.specs.declared.record.LinkRecord.{LinkRecord as Record}
 use Rattle.ps_resolve.specs.Sources.{Segment}
 use Rattle.ps_resolve.specs.Origins.{HasOne, AsksFor, IsAddedUnit, IsUnitOf, IsReadFrom}

@@ -1,15 +1,12 @@
 -- Lists of segments that are not those of the small links, computed.
-use Rattle.std.proofs.Common.{◌≡◌, ℕ, List, [], ◌∷◌, Result, Ok, false, true, refl}
-use Rattle.std.proofs.Common.{ap, subst, ◌∙◌, arith, sym, Option}
+use Rattle.std.proofs.Common.{◌≡◌, ℕ, List, [], ◌∷◌, Result, Ok, false, true, refl, ap, subst, ◌∙◌, arith, sym, Option}
 use Rattle.std.specs.Option.{option_map_or}
 use Rattle.std.specs.Prelude.{slice_get, All, is_some}
 use Rattle.std.proofs.lemmas.Bool.{false≢true}
 use Rattle.ps_codefile.specs.declared.entry.Role.{Role}
 use Rattle.ps_codefile.specs.declared.entry.Role.TheVariants as role
-use Rattle.ps_examples.specs.Files.{host, library, host_in, library_of_used, library_of_used_big}
-use Rattle.ps_examples.specs.Files.{util_information, put_at, aux, util_code}
-use Rattle.ps_examples.specs.Segments.{demo_segment, util_segment, using_segment, aux_segment}
-use Rattle.ps_examples.specs.Segments.{past_segment}
+use Rattle.ps_examples.specs.Files.{host, library, host_in, library_of_used, library_of_used_big, util_information, put_at, aux, util_code}
+use Rattle.ps_examples.specs.Segments.{demo_segment, util_segment, using_segment, aux_segment, past_segment}
 use Rattle.ps_examples.proofs.NotOrigins.{none_passes, no_name, count_aux, state_aux, blank_aux}
 use Rattle.ps_resolve.specs.Added.{empty_slots, rounds, segments, added_segments}
 use Rattle.ps_resolve.specs.Origins.{HasOne, AsksFor, HaveOneEach, AreAdded, AreOfRounds}

@@ -3,8 +3,7 @@
 use Rattle.std.specs.Prelude.{ℕ, List, [], ◌∷◌, ◌++◌}
 use Rattle.ps_words.specs.declared.order.Order.{Order}
 use Rattle.ps_words.specs.declared.order.Order.TheVariants.{Little, Big}
-use Rattle.ps_examples.specs.Files.{filled_to, put_at, with_slot, zeros, no_segments, demo, util}
-use Rattle.ps_examples.specs.Files.{aux, tools, demo_code, util_code}
+use Rattle.ps_examples.specs.Files.{filled_to, put_at, with_slot, zeros, no_segments, demo, util, aux, tools, demo_code, util_code}
 
 -- DEMO in block 1 and UTIL in block 2; every kind is LINKED, and the names and byte 300 are the
 -- host's

@@ -1,8 +1,7 @@
 -- Small files on which the definitions are computed: a host that wants one unit, the library that
 -- has it, and what such files are changed by.
 -- Source: this project's examples.
-use Rattle.std.specs.Prelude.{ℕ, ◌+◌, ◌-◌, ◌*◌, ◌/◌, List, [], ◌∷◌}
-use Rattle.std.specs.Prelude.{◌++◌, length, replicate, take, drop}
+use Rattle.std.specs.Prelude.{ℕ, ◌+◌, ◌-◌, ◌*◌, ◌/◌, List, [], ◌∷◌, ◌++◌, length, replicate, take, drop}
 use Rattle.std.specs.List.{flat_map, range_with_len}
 use Rattle.ps_words.specs.Words.{word_bytes}
 use Rattle.ps_words.specs.declared.order.Order.{Order}

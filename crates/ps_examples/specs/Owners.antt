@@ -3,8 +3,7 @@
 -- Source: this project's examples.
 use Rattle.std.specs.Prelude.{List, [], ◌∷◌}
 use Rattle.ps_examples.specs.Files.{count, state, nobody}
-use Rattle.ps_examples.specs.Segments.{count_reference, state_reference, end_mark, util_segment}
-use Rattle.ps_examples.specs.Segments.{aux_segment}
+use Rattle.ps_examples.specs.Segments.{count_reference, state_reference, end_mark, util_segment, aux_segment}
 use Rattle.ps_linkinfo.specs.declared.record.Body.TheVariants.{PublRef, PublDef, ConstDef}
 use Rattle.ps_linkinfo.specs.declared.record.LinkRecord.{LinkRecord as Record}
 use Rattle.ps_resolve.specs.Privates.{Owner, owner_of}

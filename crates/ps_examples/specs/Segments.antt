@@ -2,15 +2,11 @@
 -- Source: this project's examples.
 use Rattle.std.specs.Prelude.{List, [], ◌∷◌, ◌++◌, false, true, None}
 use Rattle.ps_codefile.specs.declared.entry.Role.TheVariants.{Host, Wanted, Plain}
-use Rattle.ps_linkinfo.specs.declared.record.Body.TheVariants.{UnitRef, PublRef, PrivRef, PublDef}
-use Rattle.ps_linkinfo.specs.declared.record.Body.TheVariants.{ConstDef, Eof}
+use Rattle.ps_linkinfo.specs.declared.record.Body.TheVariants.{UnitRef, PublRef, PrivRef, PublDef, ConstDef, Eof}
 use Rattle.ps_linkinfo.specs.declared.record.LinkRecord.{LinkRecord as Record}
 use Rattle.ps_resolve.specs.Sources.{Segment, tables_of}
 use Rattle.ps_resolve.specs.LinkedBytes.{segments_of}
-use Rattle.ps_examples.specs.Files.{host, library, library_with, library_of_two, library_of_used}
-use Rattle.ps_examples.specs.Files.{host_with_tools, wanting_aux, put_at, blank_name, demo, util}
-use Rattle.ps_examples.specs.Files.{aux, tools, count, state, nobody, demo_code, util_code}
-use Rattle.ps_examples.specs.Files.{aux_code, priv_ref, eof_mark, util_information}
+use Rattle.ps_examples.specs.Files.{host, library, library_with, library_of_two, library_of_used, host_with_tools, wanting_aux, put_at, blank_name, demo, util, aux, tools, count, state, nobody, demo_code, util_code, aux_code, priv_ref, eof_mark, util_information}
 use Rattle.ps_words.specs.declared.order.Order.TheVariants.{Little}
 
 -- a PUBLREF of COUNT with an operand at 1; UTIL has it, and the two records below

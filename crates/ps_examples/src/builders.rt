@@ -1,13 +1,9 @@
 ghost use Rattle.std.specs.Prelude.{◌≡◌, [], ◌∷◌};
 ghost use Rattle.ps_examples.specs.Files.{state};
-ghost use Rattle.ps_examples.specs.Owners.{defined_once, defined_again};
-ghost use Rattle.ps_examples.specs.Owners.{util_owner, aux_owner, duplicate_owner, plain_owner};
-ghost use Rattle.ps_examples.specs.Owners.{first_private, second_private, third_private};
+ghost use Rattle.ps_examples.specs.Owners.{defined_once, defined_again, util_owner, aux_owner, duplicate_owner, plain_owner, first_private, second_private, third_private};
 ghost use Rattle.ps_examples.specs.Segments.{count_reference};
 ghost use Rattle.ps_linkinfo.specs.RecordCounts.{is_definition};
-ghost use Rattle.ps_resolve.specs.Builders.{HaveNoNamesakes, StopsDefinitions, offset_at};
-ghost use Rattle.ps_resolve.specs.Builders.{HaveDistinctPrivates, HaveRoom, StopsPrivates, all_asked};
-ghost use Rattle.ps_resolve.specs.Builders.{asked_of, AreByRecord, words_of_all};
+ghost use Rattle.ps_resolve.specs.Builders.{HaveNoNamesakes, StopsDefinitions, offset_at, HaveDistinctPrivates, HaveRoom, StopsPrivates, all_asked, asked_of, AreByRecord, words_of_all};
 ghost use Rattle.ps_resolve.specs.Offsets.{FollowOn};
 ghost use Rattle.ps_resolve.specs.declared.linkage.Stop.TheVariants.{Refused, Memory};
 ghost use Rattle.ps_words.specs.FaultPlaces.{in_record};

@@ -1,19 +1,9 @@
 ghost use Rattle.std.specs.Prelude.{◌≡◌, ℕ, List, [], ◌∷◌, true};
-ghost use Rattle.ps_examples.specs.Files.{blank_name, util, aux, tools, count, state, nobody};
-ghost use Rattle.ps_examples.specs.Files.{demo_code, host_in, library_in};
-ghost use Rattle.ps_examples.specs.Segments.{state_reference, demo_segment, util_segment};
-ghost use Rattle.ps_examples.specs.Segments.{using_segment, tools_segment, displaced_segment};
-ghost use Rattle.ps_examples.specs.Segments.{pair, three, with_plain, with_two_privates};
-ghost use Rattle.ps_examples.specs.Segments.{with_two_units, with_constant, with_unused};
-ghost use Rattle.ps_examples.specs.Segments.{meeting_segment, twice_segment};
-ghost use Rattle.ps_examples.specs.Segments.{numbered_segment, sized_segment};
-ghost use Rattle.ps_linkinfo.specs.declared.record.Body.TheVariants.{UnitRef, PublRef, PrivRef};
-ghost use Rattle.ps_linkinfo.specs.declared.record.Body.TheVariants.{PublDef, ConstDef, Eof};
+ghost use Rattle.ps_examples.specs.Files.{blank_name, util, aux, tools, count, state, nobody, demo_code, host_in, library_in};
+ghost use Rattle.ps_examples.specs.Segments.{state_reference, demo_segment, util_segment, using_segment, tools_segment, displaced_segment, pair, three, with_plain, with_two_privates, with_two_units, with_constant, with_unused, meeting_segment, twice_segment, numbered_segment, sized_segment};
+ghost use Rattle.ps_linkinfo.specs.declared.record.Body.TheVariants.{UnitRef, PublRef, PrivRef, PublDef, ConstDef, Eof};
 ghost use Rattle.ps_resolve.specs.Standing.Privates.{private_offset};
-ghost use Rattle.ps_resolve.specs.LinkedBytes.{Reaches, Becomes};
-ghost use Rattle.ps_resolve.specs.LinkedBytes.{IsSlotOf, IsPublic, IsBase, all_private_words};
-ghost use Rattle.ps_resolve.specs.LinkedBytes.{IsNumberPlace, IsSizePlace};
-ghost use Rattle.ps_resolve.specs.LinkedBytes.{IsLinkedByte, IsOnePlace, segments_of};
+ghost use Rattle.ps_resolve.specs.LinkedBytes.{Reaches, Becomes, IsSlotOf, IsPublic, IsBase, all_private_words, IsNumberPlace, IsSizePlace, IsLinkedByte, IsOnePlace, segments_of};
 ghost use Rattle.ps_resolve.specs.Sources.{tables_of};
 ghost use Rattle.ps_words.specs.declared.order.Order.TheVariants.{Little, Big};
 

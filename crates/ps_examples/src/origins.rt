@@ -1,16 +1,9 @@
 ghost use Rattle.std.specs.Prelude.{◌≡◌, ℕ, List, [], ◌∷◌, None, take};
 ghost use Rattle.ps_codefile.specs.Dictionary.{entry_at};
 ghost use Rattle.ps_codefile.specs.declared.entry.Role.TheVariants as role;
-ghost use Rattle.ps_examples.specs.Files.{host, library, host_with_tools, put_at, with_slot};
-ghost use Rattle.ps_examples.specs.Files.{blank_name, util, aux, util_code, host_without_7};
-ghost use Rattle.ps_examples.specs.Files.{library_of_the_last, library_past_the_last};
-ghost use Rattle.ps_examples.specs.Segments.{demo_segment, util_segment, using_segment};
-ghost use Rattle.ps_examples.specs.Segments.{aux_segment, self_segment, count_segment};
-ghost use Rattle.ps_examples.specs.Segments.{past_segment, tools_segment, nobody_segment};
-ghost use Rattle.ps_examples.specs.Segments.{naming_segment, named_segment};
-ghost use Rattle.ps_examples.specs.Segments.{count_reference, pair, three, with_plain};
-ghost use Rattle.ps_resolve.specs.Origins.{HasOne, IsOwn, IsAddedUnit, IsFile, IsInPlace};
-ghost use Rattle.ps_resolve.specs.Origins.{IsUnitOf, IsSliceOf, IsReadFrom};
+ghost use Rattle.ps_examples.specs.Files.{host, library, host_with_tools, put_at, with_slot, blank_name, util, aux, util_code, host_without_7, library_of_the_last, library_past_the_last};
+ghost use Rattle.ps_examples.specs.Segments.{demo_segment, util_segment, using_segment, aux_segment, self_segment, count_segment, past_segment, tools_segment, nobody_segment, naming_segment, named_segment, count_reference, pair, three, with_plain};
+ghost use Rattle.ps_resolve.specs.Origins.{HasOne, IsOwn, IsAddedUnit, IsFile, IsInPlace, IsUnitOf, IsSliceOf, IsReadFrom};
 ghost use Rattle.ps_resolve.specs.Sources.{Segment};
 ghost use Rattle.ps_words.specs.declared.order.Order.TheVariants.{Little};
 

@@ -1,12 +1,7 @@
 ghost use Rattle.std.specs.Prelude.{[], ◌∷◌, false};
-ghost use Rattle.ps_examples.specs.Files.{host, library, host_in, library_in, library_of_used};
-ghost use Rattle.ps_examples.specs.Files.{library_of_used_big, util_information, with_slot};
-ghost use Rattle.ps_examples.specs.Files.{util, tools};
-ghost use Rattle.ps_examples.specs.Segments.{demo_segment, util_segment, using_segment};
-ghost use Rattle.ps_examples.specs.Segments.{aux_segment, past_segment, again_segment};
-ghost use Rattle.ps_examples.specs.Segments.{tools_segment, pair, three, with_plain};
-ghost use Rattle.ps_resolve.specs.Origins.{HaveOneEach, AreBySlot, AreOwn, AreAdded};
-ghost use Rattle.ps_resolve.specs.Origins.{AreOfRounds, AreInPlace, AreOfLibraries, AreRead};
+ghost use Rattle.ps_examples.specs.Files.{host, library, host_in, library_in, library_of_used, library_of_used_big, util_information, with_slot, util, tools};
+ghost use Rattle.ps_examples.specs.Segments.{demo_segment, util_segment, using_segment, aux_segment, past_segment, again_segment, tools_segment, pair, three, with_plain};
+ghost use Rattle.ps_resolve.specs.Origins.{HaveOneEach, AreBySlot, AreOwn, AreAdded, AreOfRounds, AreInPlace, AreOfLibraries, AreRead};
 ghost use Rattle.ps_resolve.specs.LinkedBytes.{segments_of};
 ghost use Rattle.ps_resolve.specs.OfLink.{AreOfLink};
 ghost use Rattle.ps_words.specs.declared.order.Order.TheVariants.{Little, Big};

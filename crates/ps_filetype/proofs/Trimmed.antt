@@ -1,7 +1,5 @@
 -- A name without the blanks at its end, byte by byte.
-use Rattle.std.proofs.Common.{◌≡◌, ◌≢◌, ◌∙◌, ◌++◌, ◌∷◌, ◌+◌}
-use Rattle.std.proofs.Common.{◌==◌, ◌&&◌, ◌<◌, [], ℕ, List, Bool, true, false, length}
-use Rattle.std.proofs.Common.{take, get_or, refl, sym, ap, arith}
+use Rattle.std.proofs.Common.{◌≡◌, ◌≢◌, ◌∙◌, ◌++◌, ◌∷◌, ◌+◌, ◌==◌, ◌&&◌, ◌<◌, [], ℕ, List, Bool, true, false, length, take, get_or, refl, sym, ap, arith}
 use Rattle.std.specs.Prelude.{if◌then◌else◌}
 use Rattle.std.proofs.lemmas.Bool.Decides.{nat_tests}
 use Rattle.std.proofs.lemmas.List.{take_more}

@@ -1,8 +1,6 @@
 -- What a code file is for, by the kinds of its segments, and how a file is read by itself.
 -- Source: this project's profile, over the kinds of the UCSD Pascal II.0 manual.
-use Rattle.std.specs.Prelude.{ℕ, ◌==◌, ◌&&◌, ◌||◌, not, if◌then◌else◌, List}
-use Rattle.std.specs.Prelude.{nat_le, Bool, false, Option, Some, None, Result}
-use Rattle.std.specs.Prelude.{Ok, Err, codes}
+use Rattle.std.specs.Prelude.{ℕ, ◌==◌, ◌&&◌, ◌||◌, not, if◌then◌else◌, List, nat_le, Bool, false, Option, Some, None, Result, Ok, Err, codes}
 use Rattle.std.specs.List.{list_all, list_any}
 use Rattle.std.specs.Option.{option_map_or}
 use Rattle.std.specs.Result.{is_ok, result_ok}
@@ -10,8 +8,7 @@ use Rattle.ps_words.specs.declared.order.Order.{Order}
 use Rattle.ps_words.specs.declared.order.Order.TheVariants.{Little, Big}
 use Rattle.ps_words.specs.declared.fault.Reason.{Reason}
 use Rattle.ps_words.specs.declared.fault.Reason.TheVariants as reason
-use Rattle.ps_codefile.specs.Dictionary.{OpenedFile, code_of, entry_at, is_filled}
-use Rattle.ps_codefile.specs.Dictionary.{is_nameless, opened_alone, opened_beside, role_of, slots}
+use Rattle.ps_codefile.specs.Dictionary.{OpenedFile, code_of, entry_at, is_filled, is_nameless, opened_alone, opened_beside, role_of, slots}
 use Rattle.ps_codefile.specs.Roles.{is_wanted}
 use Rattle.ps_codefile.specs.declared.entry.Entry.{Entry}
 use Rattle.ps_codefile.specs.declared.entry.Role.{Role}

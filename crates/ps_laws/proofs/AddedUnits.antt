@@ -1,20 +1,7 @@
 -- The units that are added are those that are requested, as they are said plainly.
-use Rattle.std.proofs.Common.{rules, ◌≡◌, ℕ, zero, suc, ◌+◌, ◌-◌, ◌<◌}
-use Rattle.std.proofs.Common.{◌≤◌, List}
-use Rattle.std.proofs.Common.{[], ◌∷◌, ◌++◌, length, map, Option, Some, None, Ok}
-use Rattle.std.proofs.Common.{true, false, refl, sym, ap, subst, ◌∙◌, inl, inr, arith}
-use Rattle.std.proofs.Common.{is_some, length-append, length-take, take}
-use Rattle.ps_laws.proofs.Words.{◌⊎◌, ◌≢◌, slice_get, AddedUnits}
-use Rattle.ps_laws.proofs.Words.{if◌then◌else◌, is_unit_reference, all_unit_references, Order}
-use Rattle.ps_laws.proofs.Words.{bytes_eq, cases_lt, entry_at, SomeItem, source_of, Asks}
-use Rattle.ps_laws.proofs.Words.{lookup, Record, Before, IsGiver, Reason}
-use Rattle.ps_laws.proofs.Words.{option_map, IsUnitSlot, Role, role_fault, code_fault, own_segment}
-use Rattle.ps_laws.proofs.Words.{bytes_eq-Decides, information_of, unit_references}
-use Rattle.ps_laws.proofs.Words.{cases_order, false≢true, added_fault, unit_source, UnitReference}
-use Rattle.ps_laws.proofs.Words.{code_of, IsOfFile, HasRole, reading, is_unit, Segment}
-use Rattle.ps_laws.proofs.Words.{enumerate_from, nat_lt, requested_from, added_segments}
-use Rattle.ps_laws.proofs.Words.{request_by_slot, needs_linking}
-use Rattle.std.proofs.lemmas.Bool.{or_cases, or_left}
+use Rattle.std.proofs.Common.{rules, ◌≡◌, ℕ, zero, suc, ◌+◌, ◌-◌, ◌<◌, ◌≤◌, List, [], ◌∷◌, ◌++◌, length, map, Option, Some, None, Ok, true, false, refl, sym, ap, subst, ◌∙◌, inl, inr, arith, is_some, length-append, length-take, take}
+use Rattle.ps_laws.proofs.Words.{◌⊎◌, ◌≢◌, slice_get, AddedUnits, if◌then◌else◌, is_unit_reference, all_unit_references, Order, bytes_eq, cases_lt, entry_at, SomeItem, source_of, Asks, lookup, Record, Before, IsGiver, Reason, option_map, IsUnitSlot, Role, role_fault, code_fault, own_segment, bytes_eq-Decides, information_of, unit_references, cases_order, false≢true, added_fault, unit_source, UnitReference, code_of, IsOfFile, HasRole, reading, is_unit, Segment, enumerate_from, nat_lt, requested_from, added_segments, request_by_slot, needs_linking}
+use Rattle.std.proofs.lemmas.Bool.{or_cases, or_left, lt-ltb}
 use Rattle.std.proofs.lemmas.Option.{slice_get_within, slice_get-map}
 use Rattle.ps_resolve.specs.Added.{is_already_known, requested_units}
 use Rattle.ps_codefile.specs.declared.entry.Role.TheVariants as role
@@ -23,21 +10,17 @@ use Rattle.ps_resolve.specs.Sources.{information_block, own_segments}
 use Rattle.ps_resolve.specs.RequestedUnits.{HasSlot, AreGiven, IsOfFirstLibrary}
 use Rattle.ps_laws.proofs.Least.{not_both}
 use Rattle.ps_laws.proofs.Looking.{any_of_items, is_there}
-use Rattle.ps_laws.proofs.Items.{not_apart, at_left, first_right, right_at, of_filter_map}
-use Rattle.ps_laws.proofs.Items.{of_numbered, in_front}
-use Rattle.std.proofs.lemmas.Bool.{lt-ltb}
+use Rattle.ps_laws.proofs.Items.{not_apart, at_left, first_right, right_at, of_filter_map, of_numbered, in_front}
 use Rattle.ps_resolve.proofs.EachSegment.{own_made as made_from}
 pub use Rattle.ps_resolve.proofs.FirstSlots.{or_none as both_none, some_mapped}
 use Rattle.ps_laws.proofs.Sources.{ok_is}
-use Rattle.ps_resolve.proofs.EachRound.{own_units, references_of, request_parts}
-use Rattle.ps_resolve.proofs.EachRound.{source_made, unit_there}
+use Rattle.ps_resolve.proofs.EachRound.{own_units, references_of, request_parts, source_made, unit_there}
 use Rattle.ps_resolve.proofs.OfLink.{role_none, round_known}
 use Rattle.ps_laws.proofs.UnitPlaces.{unit_place}
 use Rattle.ps_laws.proofs.OneQueue.{giver_of_front}
 use Rattle.ps_resolve.proofs.OfRounds.{in_empty, name_placed, queue_of, round_at, segment_named}
 use Rattle.ps_resolve.proofs.Requesting.{grown}
-use Rattle.ps_laws.proofs.Asked.{is_had_there, reference_of, all_known, own_in, own_at, units_named}
-use Rattle.ps_laws.proofs.Asked.{reference_in, references_are}
+use Rattle.ps_laws.proofs.Asked.{is_had_there, reference_of, all_known, own_in, own_at, units_named, reference_in, references_are}
 
 -- 1. the references of a sequence of segments
 -- an item of a mapped list is what the function makes of the item at the same place

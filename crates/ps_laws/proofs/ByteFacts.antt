@@ -1,18 +1,9 @@
 -- The byte that the edits of a segment make is its linked byte, and no other byte is.
-use Rattle.std.proofs.Common.{rules, ◌≡◌, ℕ, ◌+◌, ◌-◌, ◌≤◌, List}
-use Rattle.std.proofs.Common.{[], ◌∷◌, length, Option, Some, None, Ok}
-use Rattle.std.proofs.Common.{true, false, refl, sym, ap, ◌∙◌, inl, inr, arith}
-use Rattle.ps_laws.proofs.Words.{◌⊎◌, if◌then◌else◌, slice_get, find}
-use Rattle.ps_laws.proofs.Words.{lookup, option_map_or, bytes_eq}
-use Rattle.ps_laws.proofs.Words.{table_of, private_offset, next_of, IsReference, Reaches}
-use Rattle.ps_laws.proofs.Words.{IsSizePlace, IsOnePlace, summed_edits, summed_segment, refs_of}
-use Rattle.ps_laws.proofs.Words.{Body, Record, needs_linking, is_host, is_unit, Segment}
-use Rattle.ps_laws.proofs.Words.{host_records, units_of, target_in, target_of, known_of}
-use Rattle.ps_laws.proofs.Words.{grown_data_size, Target, Order, Edit}
+use Rattle.std.proofs.Common.{rules, ◌≡◌, ℕ, ◌+◌, ◌-◌, ◌≤◌, List, [], ◌∷◌, length, Option, Some, None, Ok, true, false, refl, sym, ap, ◌∙◌, inl, inr, arith}
+use Rattle.ps_laws.proofs.Words.{◌⊎◌, if◌then◌else◌, slice_get, find, lookup, option_map_or, bytes_eq, table_of, private_offset, next_of, IsReference, Reaches, IsSizePlace, IsOnePlace, summed_edits, summed_segment, refs_of, Body, Record, needs_linking, is_host, is_unit, Segment, host_records, units_of, target_in, target_of, known_of, grown_data_size, Target, Order, Edit}
 use Rattle.std.specs.Prelude.{slice_index}
 use Rattle.ps_resolve.specs.Standing.Privates.{words_before}
-use Rattle.ps_resolve.specs.LinkedBytes.{IsSlotOf, IsPublic, IsBase, all_private_words, Becomes}
-use Rattle.ps_resolve.specs.LinkedBytes.{IsNumberPlace, IsLinkedByte}
+use Rattle.ps_resolve.specs.LinkedBytes.{IsSlotOf, IsPublic, IsBase, all_private_words, Becomes, IsNumberPlace, IsLinkedByte}
 use Rattle.ps_linkinfo.specs.declared.record.Body.TheVariants.{UnitRef, PublRef, PrivRef, PublDef}
 use Rattle.ps_resolve.specs.Symbols.{def_in, definition_in, definitions, definition_of}
 use Rattle.ps_resolve.specs.Operands.{edit_of}
@@ -26,8 +17,7 @@ use Rattle.ps_laws.proofs.References.{named_some}
 use Rattle.ps_laws.proofs.Looking.{of_test, find_none}
 use Rattle.ps_laws.proofs.PrivateOffsets.{all_are}
 use Rattle.ps_laws.proofs.SoundCodes.{HasOuter}
-use Rattle.ps_laws.proofs.EditsAt.{edit_place, IsNumber, IsSize, IsOfReference, what_covers}
-use Rattle.ps_laws.proofs.EditsAt.{number_covers, size_covers, reference_covers}
+use Rattle.ps_laws.proofs.EditsAt.{edit_place, IsNumber, IsSize, IsOfReference, what_covers, number_covers, size_covers, reference_covers}
 use Rattle.ps_words.specs.Words.{word_bytes, operand_bytes, displacement_at}
 use Rattle.ps_words.specs.Edits.{place_of, stored_bytes, covers}
 

@@ -1,15 +1,9 @@
 -- Where no fault applies, the edits of a link make the linked bytes, and each place has one.
-use Rattle.std.proofs.Common.{◌≡◌, ℕ, ◌<◌, ◌≤◌, List, length, Some}
-use Rattle.std.proofs.Common.{None}
-use Rattle.std.proofs.Common.{Result, Ok, Err, true, refl, inl}
-use Rattle.ps_laws.proofs.Words.{table_of, OfReferences, IsSegment, IsOfFile}
-use Rattle.ps_laws.proofs.Words.{private_offset, IsReference, IsOnePlace, segments_of}
-use Rattle.ps_laws.proofs.Words.{summed_segment, NoneStands, Record, needs_linking, is_host}
-use Rattle.ps_laws.proofs.Words.{Segment, order_of, target_of, known_of, Target, in_record, Reason}
+use Rattle.std.proofs.Common.{◌≡◌, ℕ, ◌<◌, ◌≤◌, List, length, Some, None, Result, Ok, Err, true, refl, inl}
+use Rattle.ps_laws.proofs.Words.{table_of, OfReferences, IsSegment, IsOfFile, private_offset, IsReference, IsOnePlace, segments_of, summed_segment, NoneStands, Record, needs_linking, is_host, Segment, order_of, target_of, known_of, Target, in_record, Reason}
 use Rattle.std.proofs.lemmas.List.Elements.{All-same, All-map}
 use Rattle.ps_resolve.specs.Standing.References.{RecordHas}
-use Rattle.ps_resolve.specs.LinkedBytes.{IsLinkedByte, HaveLinkedBytes, HaveOneLinkedByte}
-use Rattle.ps_resolve.specs.LinkedBytes.{HaveApartPlaces}
+use Rattle.ps_resolve.specs.LinkedBytes.{IsLinkedByte, HaveLinkedBytes, HaveOneLinkedByte, HaveApartPlaces}
 use Rattle.ps_resolve.specs.AllFaults.{reading_fault}
 use Rattle.ps_resolve.specs.Linking.{linked_byte}
 use Rattle.ps_words.specs.declared.edit.Edit.{Edit}

@@ -1,10 +1,7 @@
 -- The slot of a record that requests a unit does not itself want one that no library has.
-use Rattle.std.proofs.Common.{◌≡◌, List, ◌++◌, Option, ◌∙◌, is_none}
-use Rattle.std.proofs.Common.{ℕ, take, Some, None, true, refl, subst, inl, inr, arith}
+use Rattle.std.proofs.Common.{◌≡◌, List, ◌++◌, Option, ◌∙◌, is_none, ℕ, take, Some, None, true, refl, subst, inl, inr, arith}
 use Rattle.ps_codefile.specs.declared.entry.Role.TheVariants as role
-use Rattle.ps_laws.proofs.Words.{Segment, unit_source, own_segment}
-use Rattle.ps_laws.proofs.Words.{IsGiver, HasRole, UnitReference, Order, slice_get}
-use Rattle.ps_laws.proofs.Words.{false≢true, none-some, is_empty, added_segments, is_role}
+use Rattle.ps_laws.proofs.Words.{Segment, unit_source, own_segment, IsGiver, HasRole, UnitReference, Order, slice_get, false≢true, none-some, is_empty, added_segments, is_role}
 use Rattle.ps_resolve.specs.Parts.{WantsMissing}
 use Rattle.ps_resolve.specs.Sources.{own_segments}
 use Rattle.ps_resolve.specs.Standing.Rounds.{IsRequested}

@@ -1,13 +1,9 @@
 -- Where no fault applies, the host has one segment of its own, no two of its definitions have a
 -- name in common, and one base offset.
-use Rattle.std.proofs.Common.{◌≡◌, ℕ, zero, suc, ◌+◌, ◌<◌, List, [], ◌∷◌}
-use Rattle.std.proofs.Common.{length, Some, None, Bool, true, false, refl, sym, ap}
-use Rattle.std.proofs.Common.{◌∙◌, is_some, arith}
+use Rattle.std.proofs.Common.{◌≡◌, ℕ, zero, suc, ◌+◌, ◌<◌, List, [], ◌∷◌, length, Some, None, Bool, true, false, refl, sym, ap, ◌∙◌, is_some, arith}
 use Rattle.ps_resolve.specs.Standing.Definitions.{HasEarlierNamesake}
 use Rattle.ps_laws.proofs.Looking.{is_there}
-use Rattle.ps_laws.proofs.Words.{same_Some, cons_option, option_map_or, false≢true, next_of, Body}
-use Rattle.ps_laws.proofs.Words.{Record, segments_of, is_host, Segment, order_of, host_of}
-use Rattle.ps_laws.proofs.Words.{host_records, NoneStands, OfDefinitions, in_record}
+use Rattle.ps_laws.proofs.Words.{same_Some, cons_option, option_map_or, false≢true, next_of, Body, Record, segments_of, is_host, Segment, order_of, host_of, host_records, NoneStands, OfDefinitions, in_record}
 use Rattle.std.specs.Prelude.{filter_map, slice_get, unwrap_or}
 use Rattle.ps_linkinfo.specs.RecordCounts.{is_definition, next_in}
 use Rattle.ps_linkinfo.specs.Records.{EndsOnce, is_end, is_eof}

@@ -1,9 +1,6 @@
 -- Just one queue of names and one list of segments have what is said of the units that are added.
-use Rattle.std.proofs.Common.{rules, ◌≡◌, ℕ, zero, suc, ◌+◌, ◌<◌, List, []}
-use Rattle.std.proofs.Common.{◌∷◌, ◌++◌, length, take, Option, Some, None, Bool, refl}
-use Rattle.std.proofs.Common.{sym, ap, subst, ◌∙◌, inl, inr, arith}
-use Rattle.ps_laws.proofs.Words.{slice_get, cases_order, same_Some, Role, Record, IsNamed, HasEntry}
-use Rattle.ps_laws.proofs.Words.{Before, Segment, Asks, IsGiver, AddedUnits, UnitReference, Order}
+use Rattle.std.proofs.Common.{rules, ◌≡◌, ℕ, zero, suc, ◌+◌, ◌<◌, List, [], ◌∷◌, ◌++◌, length, take, Option, Some, None, Bool, refl, sym, ap, subst, ◌∙◌, inl, inr, arith}
+use Rattle.ps_laws.proofs.Words.{slice_get, cases_order, same_Some, Role, Record, IsNamed, HasEntry, Before, Segment, Asks, IsGiver, AddedUnits, UnitReference, Order}
 use Rattle.ps_codefile.specs.Procedures.{ProcedureTables}
 use Rattle.ps_resolve.specs.Sources.{own_segments}
 use Rattle.ps_resolve.specs.RequestedUnits.{IsOfFirstLibrary}

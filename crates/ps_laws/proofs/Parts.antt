@@ -1,9 +1,6 @@
 -- A fault that applies has just the parts of its number.
-use Rattle.std.proofs.Common.{◌≡◌, ℕ, List, length, Some, Ok, Err, Bool, ap, sym, subst}
-use Rattle.std.proofs.Common.{◌∙◌, inl, inr, arith}
-use Rattle.ps_laws.proofs.Words.{UnitReference, in_slot, in_record, Order, Fault, Reason, role_of}
-use Rattle.ps_laws.proofs.Words.{code_of, entry_at, EntryFault, CodeFault, InRound, Step, OfSlots}
-use Rattle.ps_laws.proofs.Words.{OfSources, OfAdded, Entry, Role, is_host, file_at}
+use Rattle.std.proofs.Common.{◌≡◌, ℕ, List, length, Some, Ok, Err, Bool, ap, sym, subst, ◌∙◌, inl, inr, arith}
+use Rattle.ps_laws.proofs.Words.{UnitReference, in_slot, in_record, Order, Fault, Reason, role_of, code_of, entry_at, EntryFault, CodeFault, InRound, Step, OfSlots, OfSources, OfAdded, Entry, Role, is_host, file_at}
 use Rattle.ps_codefile.specs.declared.entry.Role.TheVariants as role
 use Rattle.ps_words.specs.declared.fault.Reason.TheVariants as reason
 use Rattle.ps_resolve.specs.Standing.Slots.{SlotHas}

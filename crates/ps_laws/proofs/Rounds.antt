@@ -1,21 +1,12 @@
 -- The first fault of the units that are added is the smallest that is.
-use Rattle.std.proofs.Common.{◌≡◌, ◌≤◌, ◌∷◌, ◌∙◌, append-nil, length-append}
-use Rattle.std.proofs.Common.{ℕ, ◌+◌, length, Option, subst, arith, unwrap_or}
-use Rattle.std.proofs.Common.{List, [], take, Some, None, Bool, refl, inl, inr}
-use Rattle.ps_laws.proofs.Words.{◌⊎◌, if◌then◌else◌, Decides, slice_get, option_or}
-use Rattle.ps_laws.proofs.Words.{option_map, option_and_then, cases_lt, Decides-or}
-use Rattle.ps_laws.proofs.Words.{RoundsOutcome, after, added_segments, added_fault}
-use Rattle.ps_laws.proofs.Words.{Step, OfSources, OfAdded, rank, part, key}
-use Rattle.ps_laws.proofs.Words.{InRound, entry_fault, code_fault, Before, Segment}
-use Rattle.ps_laws.proofs.Words.{unit_source, UnitReference}
-use Rattle.ps_laws.proofs.Words.{in_record, Order, Fault}
+use Rattle.std.proofs.Common.{◌≡◌, ◌≤◌, ◌∷◌, ◌∙◌, append-nil, length-append, ℕ, ◌+◌, length, Option, subst, arith, unwrap_or, List, [], take, Some, None, Bool, refl, inl, inr}
+use Rattle.ps_laws.proofs.Words.{◌⊎◌, if◌then◌else◌, Decides, slice_get, option_or, option_map, option_and_then, cases_lt, Decides-or, RoundsOutcome, after, added_segments, added_fault, Step, OfSources, OfAdded, rank, part, key, InRound, entry_fault, code_fault, Before, Segment, unit_source, UnitReference, in_record, Order, Fault}
 use Rattle.ps_resolve.specs.Added.{is_missing, requested_units, rounds}
 use Rattle.ps_resolve.specs.Standing.Keys.{record_read}
 use Rattle.ps_resolve.specs.Standing.Rounds.{IsMissing, PlacedFault}
 use Rattle.ps_codefile.specs.declared.entry.Role.TheVariants as role
 use Rattle.ps_resolve.proofs.EachRound.{IsTurn, all_rounds, round_fault, segments_before}
-use Rattle.ps_laws.proofs.Least.{quiet, least_else, Least, nothing, this, Precedes, least_same}
-use Rattle.ps_laws.proofs.Least.{least_order, least_map}
+use Rattle.ps_laws.proofs.Least.{quiet, least_else, Least, nothing, this, Precedes, least_same, least_order, least_map}
 use Rattle.ps_laws.proofs.Looking.{of_test}
 use Rattle.ps_laws.proofs.Sources.{OneStop, none_has, unit_least, placed_late}
 use Rattle.ps_words.specs.declared.fault.Reason.TheVariants as reason

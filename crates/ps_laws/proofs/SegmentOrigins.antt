@@ -1,15 +1,6 @@
 -- Where no fault applies, the segments of a link have the origins that are said plainly.
-use Rattle.std.proofs.Common.{◌≡◌, ℕ, zero, suc, ◌+◌, ◌<◌, ◌≤◌, List, []}
-use Rattle.std.proofs.Common.{◌∷◌, ◌++◌, take, Some, None, Result, Ok}
-use Rattle.std.proofs.Common.{true, false, refl, sym, ap, subst, ◌∙◌, inl, inr, arith}
-use Rattle.ps_laws.proofs.Words.{◌≢◌, false≢true, request_fault, UnitReference}
-use Rattle.ps_laws.proofs.Words.{◌⊎◌, slice_get, or_parts, request_of, NoneStands, role_fault}
-use Rattle.ps_laws.proofs.Words.{range_with_len, option_map_or, added_segments, request_by_slot}
-use Rattle.ps_laws.proofs.Words.{option_map, result_err, added_fault, segments_of, unit_source}
-use Rattle.ps_laws.proofs.Words.{option_or, result_ok, IsOfRound, IsSegment, source_of}
-use Rattle.ps_laws.proofs.Words.{entry_at, role_of, code_of, SomeItem, IsOfFile, is_empty, order_of}
-use Rattle.ps_laws.proofs.Words.{Request, HasRole, reading, Segment, file_at, is_role, IsGiver}
-use Rattle.ps_laws.proofs.Words.{Entry, Role, Record, IsFile, Asks, in_slot, Order, Reason}
+use Rattle.std.proofs.Common.{◌≡◌, ℕ, zero, suc, ◌+◌, ◌<◌, ◌≤◌, List, [], ◌∷◌, ◌++◌, take, Some, None, Result, Ok, true, false, refl, sym, ap, subst, ◌∙◌, inl, inr, arith}
+use Rattle.ps_laws.proofs.Words.{◌≢◌, false≢true, request_fault, UnitReference, ◌⊎◌, slice_get, or_parts, request_of, NoneStands, role_fault, range_with_len, option_map_or, added_segments, request_by_slot, option_map, result_err, added_fault, segments_of, unit_source, option_or, result_ok, IsOfRound, IsSegment, source_of, entry_at, role_of, code_of, SomeItem, IsOfFile, is_empty, order_of, Request, HasRole, reading, Segment, file_at, is_role, IsGiver, Entry, Role, Record, IsFile, Asks, in_slot, Order, Reason}
 use Rattle.std.specs.Prelude.{◌↔◌, All}
 use Rattle.std.proofs.Math.Dec.{ltb}
 use Rattle.std.proofs.lemmas.Bool.{ltb-false}
@@ -22,9 +13,7 @@ use Rattle.ps_codefile.specs.declared.entry.Role.TheVariants as role
 use Rattle.ps_linkinfo.specs.Records.{Spells}
 use Rattle.ps_resolve.specs.Sources.{own_segments}
 use Rattle.ps_resolve.specs.Faults.{slot_reason, slots_fault, sources_fault}
-use Rattle.ps_resolve.specs.Origins.{IsOwn, IsAddedUnit, IsInPlace, IsUnitOf, IsSliceOf, IsReadFrom}
-use Rattle.ps_resolve.specs.Origins.{HaveOneEach, AreBySlot, AreOwn, AreAdded, AreInPlace}
-use Rattle.ps_resolve.specs.Origins.{AreOfLibraries, AreRead, AreOfRounds, IsTaken, AsksFor}
+use Rattle.ps_resolve.specs.Origins.{IsOwn, IsAddedUnit, IsInPlace, IsUnitOf, IsSliceOf, IsReadFrom, HaveOneEach, AreBySlot, AreOwn, AreAdded, AreInPlace, AreOfLibraries, AreRead, AreOfRounds, IsTaken, AsksFor}
 use Rattle.ps_resolve.specs.RequestedUnits.{HasSlot}
 use Rattle.ps_resolve.proofs.FirstSlots.{none_mapped as map_none}
 use Rattle.ps_laws.proofs.Items.{In, all_items, in_range, in_filter, of_take, some_before}

@@ -1,35 +1,18 @@
 -- The first fault of the sources is the smallest that is.
-use Rattle.std.proofs.Common.{rules, ◌≡◌, ℕ, ◌+◌, ◌-◌, ◌*◌, ◌<◌, ◌≤◌}
-use Rattle.std.proofs.Common.{List, [], ◌∷◌, length, Option, Some, None, Result, Ok, Err}
-use Rattle.std.proofs.Common.{Bool, true, false, refl, sym, ap, ◌∙◌, inl, inr, arith}
-use Rattle.std.proofs.Common.{leb-true, le-leb, unwrap_or, is_none}
-use Rattle.ps_laws.proofs.Words.{◌⊎◌, ◌≢◌, if◌then◌else◌, nat_lt, not, ◌&&◌}
-use Rattle.ps_laws.proofs.Words.{◌||◌, ◌==◌, nat_le, Decides, range_with_len}
-use Rattle.ps_laws.proofs.Words.{enumerate_from, slice_get, list_any, filter_map, find, option_or}
-use Rattle.ps_laws.proofs.Words.{option_map, option_and_then, option_map_or, result_ok}
-use Rattle.ps_laws.proofs.Words.{false≢true, Decides-at, Decides-ltb, Decides-and, Decides-or}
-use Rattle.ps_laws.proofs.Words.{Decides-like, Decides-eqb, none-some, same_Some, bytes_eq-Decides}
-use Rattle.ps_laws.proofs.Words.{slots, entry_at, role_of, code_of, information_of, table_of}
-use Rattle.ps_laws.proofs.Words.{Because, SomeBelow, SomeItem, OfSources, rank, part, IsNamed}
-use Rattle.ps_laws.proofs.Words.{HasEntry, EntryFault, CodeFault, Entry, Role, reading, Record}
-use Rattle.ps_laws.proofs.Words.{entry_fault, code_fault, role_fault, first_of, fault_if, is_host}
-use Rattle.ps_laws.proofs.Words.{needs_linking, is_named, chosen_library, source_of, unit_source}
-use Rattle.ps_laws.proofs.Words.{file_at, in_slot, in_record, Order, Reason, Fault}
+use Rattle.std.proofs.Common.{rules, ◌≡◌, ℕ, ◌+◌, ◌-◌, ◌*◌, ◌<◌, ◌≤◌, List, [], ◌∷◌, length, Option, Some, None, Result, Ok, Err, Bool, true, false, refl, sym, ap, ◌∙◌, inl, inr, arith, leb-true, le-leb, unwrap_or, is_none}
+use Rattle.ps_laws.proofs.Words.{◌⊎◌, ◌≢◌, if◌then◌else◌, nat_lt, not, ◌&&◌, ◌||◌, ◌==◌, nat_le, Decides, range_with_len, enumerate_from, slice_get, list_any, filter_map, find, option_or, option_map, option_and_then, option_map_or, result_ok, false≢true, Decides-at, Decides-ltb, Decides-and, Decides-or, Decides-like, Decides-eqb, none-some, same_Some, bytes_eq-Decides, slots, entry_at, role_of, code_of, information_of, table_of, Because, SomeBelow, SomeItem, OfSources, rank, part, IsNamed, HasEntry, EntryFault, CodeFault, Entry, Role, reading, Record, entry_fault, code_fault, role_fault, first_of, fault_if, is_host, needs_linking, is_named, chosen_library, source_of, unit_source, file_at, in_slot, in_record, Order, Reason, Fault}
 use Rattle.std.specs.Prelude.{◌↔◌, slice_index}
 use Rattle.std.specs.List.{list_all}
 use Rattle.std.proofs.lemmas.Bool.Decides.{Decides-not}
-use Rattle.ps_codefile.specs.Procedures.{procedures, content_of, dictionary_start, dictionary_len}
-use Rattle.ps_codefile.specs.Procedures.{is_placed, numbers, tables, tables_fault}
-use Rattle.ps_resolve.specs.Standing.Sources.{EntriesHave, NoneHas, UnitFault, HasBadTable, AreBad}
-use Rattle.ps_resolve.specs.Standing.Sources.{TablesHave, InSources}
+use Rattle.ps_codefile.specs.Procedures.{procedures, content_of, dictionary_start, dictionary_len, is_placed, numbers, tables, tables_fault}
+use Rattle.ps_resolve.specs.Standing.Sources.{EntriesHave, NoneHas, UnitFault, HasBadTable, AreBad, TablesHave, InSources}
 use Rattle.ps_linkinfo.specs.Records.{Stops}
 use Rattle.ps_resolve.specs.Faults.{entries_reason, information_fault, sources_fault}
 use Rattle.ps_resolve.specs.Requests.{is_missing}
 use Rattle.ps_resolve.specs.Sources.{has_entry}
 use Rattle.ps_resolve.proofs.Requested.{has_name}
 pub use Rattle.ps_resolve.proofs.FirstSlots.{ok_is}
-use Rattle.ps_laws.proofs.Least.{Least, nothing, this, Precedes, least_same, least_or, least_if}
-use Rattle.ps_laws.proofs.Least.{least_then, least_below, least_items, least_guard, least_else}
+use Rattle.ps_laws.proofs.Least.{Least, nothing, this, Precedes, least_same, least_or, least_if, least_then, least_below, least_items, least_guard, least_else}
 use Rattle.ps_resolve.specs.Standing.Rounds.{PlacedFault}
 use Rattle.ps_laws.proofs.Steps.{Ranked, because, any_of_range, any_lesser}
 use Rattle.ps_laws.proofs.Items.{not_apart}

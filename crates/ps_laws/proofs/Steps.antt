@@ -1,25 +1,14 @@
 -- The first fault of each step is the smallest that is.
-use Rattle.std.proofs.Common.{rules, ◌≡◌, ℕ, zero, suc, ◌+◌, ◌<◌, ◌≤◌, List}
-use Rattle.std.proofs.Common.{length, Option, Result, Ok, Err, Bool, false, refl, subst, inl, inr}
-use Rattle.std.proofs.Common.{arith}
-use Rattle.ps_laws.proofs.Words.{◌⊎◌, if◌then◌else◌, ◌&&◌, Decides}
-use Rattle.ps_laws.proofs.Words.{range_with_len, list_any, option_map, option_map_or, result_ok}
-use Rattle.ps_laws.proofs.Words.{result_err, bytes_eq, cases_lt, false≢true, Decides-ltb}
-use Rattle.ps_laws.proofs.Words.{Decides-and, Decides-like, bytes_eq-Decides, entry_at}
-use Rattle.ps_laws.proofs.Words.{role_of, Because, SomeBelow, HasRole, IsUnitSlot, Step, OfHost}
-use Rattle.ps_laws.proofs.Words.{OfSlots, OfNoHost, OfLibraries, rank, Role, is_role}
-use Rattle.ps_laws.proofs.Words.{is_host, is_unit, Order, Reason, Fault}
+use Rattle.std.proofs.Common.{rules, ◌≡◌, ℕ, zero, suc, ◌+◌, ◌<◌, ◌≤◌, List, length, Option, Result, Ok, Err, Bool, false, refl, subst, inl, inr, arith}
+use Rattle.ps_laws.proofs.Words.{◌⊎◌, if◌then◌else◌, ◌&&◌, Decides, range_with_len, list_any, option_map, option_map_or, result_ok, result_err, bytes_eq, cases_lt, false≢true, Decides-ltb, Decides-and, Decides-like, bytes_eq-Decides, entry_at, role_of, Because, SomeBelow, HasRole, IsUnitSlot, Step, OfHost, OfSlots, OfNoHost, OfLibraries, rank, Role, is_role, is_host, is_unit, Order, Reason, Fault}
 use Rattle.std.proofs.lemmas.Bool.Decides.{Decides-not}
-use Rattle.ps_codefile.specs.Dictionary.{FileOrder, file_order, opened_alone, opened_as}
-use Rattle.ps_codefile.specs.Dictionary.{opened_beside_as, same_order}
+use Rattle.ps_codefile.specs.Dictionary.{FileOrder, file_order, opened_alone, opened_as, opened_beside_as, same_order}
 use Rattle.ps_resolve.specs.Standing.Hosts.{HostHas, InHost}
 use Rattle.ps_resolve.specs.Standing.Slots.{SlotHas, InSlots, InNoHost}
 use Rattle.ps_resolve.specs.Standing.Libraries.{LibraryHas, InLibraries}
-use Rattle.ps_resolve.specs.Faults.{host_fault, slot_reason, slots_fault, no_host_fault}
-use Rattle.ps_resolve.specs.Faults.{library_reason, libraries_fault}
+use Rattle.ps_resolve.specs.Faults.{host_fault, slot_reason, slots_fault, no_host_fault, library_reason, libraries_fault}
 use Rattle.ps_words.specs.FaultPlaces.{in_file}
-use Rattle.ps_laws.proofs.Least.{Least, nothing, this, Precedes, least_same, least_order, least_or}
-use Rattle.ps_laws.proofs.Least.{least_if, least_map, least_below, least_each}
+use Rattle.ps_laws.proofs.Least.{Least, nothing, this, Precedes, least_same, least_order, least_or, least_if, least_map, least_below, least_each}
 use Rattle.ps_codefile.specs.declared.entry.Role.TheVariants as role
 use Rattle.ps_words.specs.declared.fault.Reason.TheVariants as reason
 

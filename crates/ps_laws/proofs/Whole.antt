@@ -1,22 +1,13 @@
 -- The first fault of all is the smallest that is.
-use Rattle.std.proofs.Common.{◌≡◌, ℕ, ◌+◌, ◌<◌, ◌≤◌, List, [], ◌∷◌}
-use Rattle.std.proofs.Common.{Option, Some, None, true, refl, sym, ap, subst, ◌∙◌, inl, inr}
-use Rattle.std.proofs.Common.{arith}
-use Rattle.ps_laws.proofs.Words.{◌⊎◌, ◌≢◌, slice_get, cases_lt, option_or, option_map}
-use Rattle.ps_laws.proofs.Words.{order_of, added_fault, Step, OfHost, OfSlots, OfNoHost}
-use Rattle.ps_laws.proofs.Words.{OfLibraries, OfSources, OfAdded, OfDefinitions, OfPrivates}
-use Rattle.ps_laws.proofs.Words.{OfDataSize, OfReferences, key, InRound, Order, Fault}
-use Rattle.ps_resolve.specs.Faults.{slots_fault}
-use Rattle.ps_resolve.specs.Faults.{sources_fault}
-use Rattle.ps_resolve.specs.Faults.{linking_fault}
+use Rattle.std.proofs.Common.{◌≡◌, ℕ, ◌+◌, ◌<◌, ◌≤◌, List, [], ◌∷◌, Option, Some, None, true, refl, sym, ap, subst, ◌∙◌, inl, inr, arith}
+use Rattle.ps_laws.proofs.Words.{◌⊎◌, ◌≢◌, slice_get, cases_lt, option_or, option_map, order_of, added_fault, Step, OfHost, OfSlots, OfNoHost, OfLibraries, OfSources, OfAdded, OfDefinitions, OfPrivates, OfDataSize, OfReferences, key, InRound, Order, Fault}
+use Rattle.ps_resolve.specs.Faults.{slots_fault, sources_fault, linking_fault}
 use Rattle.ps_resolve.specs.AllFaults.{first_fault, reading_fault}
 use Rattle.ps_resolve.specs.Added.{segments}
 use Rattle.ps_resolve.specs.Standing.Keys.{turn, is_of_reading}
 use Rattle.ps_resolve.specs.Standing.{StandsIn, FaultAt, NoneStandsInReading, IsFirst}
 use Rattle.ps_resolve.proofs.FirstSlots.{or_none as both_none}
-use Rattle.ps_laws.proofs.Least.{Least, nothing, this, Precedes, least_same, least_or}
-use Rattle.ps_laws.proofs.Least.{least_or_then}
-use Rattle.ps_laws.proofs.Least.{not_both}
+use Rattle.ps_laws.proofs.Least.{Least, nothing, this, Precedes, least_same, least_or, least_or_then, not_both}
 use Rattle.ps_laws.proofs.Steps.{step_1, step_2, step_3, step_4}
 use Rattle.ps_laws.proofs.Sources.{OneStop, step_5}
 use Rattle.ps_laws.proofs.Rounds.{Place, Earlier, tagged, step_6}

@@ -1,8 +1,7 @@
 ghost use Rattle.std.specs.Prelude.{List, ℕ};
 ghost use Rattle.ps_resolve.specs.Standing.{NoneStands};
 ghost use Rattle.ps_resolve.specs.LinkedBytes.{segments_of};
-ghost use Rattle.ps_resolve.specs.Origins.{AreAdded, AreBySlot, AreInPlace, AreOfLibraries};
-ghost use Rattle.ps_resolve.specs.Origins.{AreOfRounds, AreOwn, AreRead, HaveOneEach};
+ghost use Rattle.ps_resolve.specs.Origins.{AreAdded, AreBySlot, AreInPlace, AreOfLibraries, AreOfRounds, AreOwn, AreRead, HaveOneEach};
 
 use ps_linkinfo::one_reading;
 

@@ -1,16 +1,10 @@
 -- The map of a plan is the map of its link, and the row of a source.
-use Rattle.std.proofs.Common.{◌≡◌, ℕ, zero, suc, ◌+◌, ◌≤◌, ◌<◌, List, []}
-use Rattle.std.proofs.Common.{◌∷◌, ◌++◌, length, map, get_or, Some, refl, sym}
-use Rattle.std.proofs.Common.{◌∙◌, ap, arith}
-use Rattle.ps_linkfile.proofs.Words.{find, order_of, get_or-map-range_with_len}
-use Rattle.ps_linkfile.proofs.Words.{Segment, Planned, Origin, origin_of, origin_of_source, IsPlan}
-use Rattle.ps_linkfile.proofs.Words.{nat_tests, Source, block_of, starts_of, Ascend}
+use Rattle.std.proofs.Common.{◌≡◌, ℕ, zero, suc, ◌+◌, ◌≤◌, ◌<◌, List, [], ◌∷◌, ◌++◌, length, map, get_or, Some, refl, sym, ◌∙◌, ap, arith}
+use Rattle.ps_linkfile.proofs.Words.{find, order_of, get_or-map-range_with_len, Segment, Planned, Origin, origin_of, origin_of_source, IsPlan, nat_tests, Source, block_of, starts_of, Ascend}
 use Rattle.std.specs.Prelude.{◌==◌, slice_get}
 use Rattle.std.proofs.lemmas.Option.{unwrap_or-slice_get}
 use Rattle.ps_resolve.specs.Added.{segments, slot_name, slot_names}
-use Rattle.ps_linkfile.specs.MapText.{code_row, segment_row, name_in, source_row, map_of, map_in}
-use Rattle.ps_linkfile.specs.MapText.{json_end, map_json_in, map_json_of, members_in, members_of}
-use Rattle.ps_linkfile.specs.MapText.{plan_rows, rows_of}
+use Rattle.ps_linkfile.specs.MapText.{code_row, segment_row, name_in, source_row, map_of, map_in, json_end, map_json_in, map_json_of, members_in, members_of, plan_rows, rows_of}
 use Rattle.ps_linkfile.specs.Rows.{row_in, rows_from, rows_in}
 use Rattle.ps_linkfile.specs.declared.rows.Form.{Form}
 use Rattle.ps_linkfile.specs.declared.rows.Form.TheVariants.{Lines, Json}

@@ -1,15 +1,9 @@
 -- The sixteen pairs of a segment dictionary, byte by byte.
-use Rattle.std.proofs.Common.{◌≡◌, ◌≢◌, ℕ, zero, suc, ◌+◌, ◌*◌, ◌/◌}
-use Rattle.std.proofs.Common.{◌%◌, ◌≤◌, ◌<◌, List, [], ◌∷◌, ◌++◌, length}
-use Rattle.std.proofs.Common.{get_or, drop, replicate, sym, ◌∙◌, ap, subst, inl, inr, arith}
-use Rattle.std.proofs.Common.{length-append}
-use Rattle.ps_linkfile.proofs.Words.{flat_map, range_with_len, cases_lt, word_bytes, blocks, Order}
-use Rattle.ps_linkfile.proofs.Words.{Origin, slots, Ascend, get_or-replicate, length-replicate}
-use Rattle.ps_linkfile.proofs.Words.{get_or_append_left, ext_get_or, drop_all}
+use Rattle.std.proofs.Common.{◌≡◌, ◌≢◌, ℕ, zero, suc, ◌+◌, ◌*◌, ◌/◌, ◌%◌, ◌≤◌, ◌<◌, List, [], ◌∷◌, ◌++◌, length, get_or, drop, replicate, sym, ◌∙◌, ap, subst, inl, inr, arith, length-append}
+use Rattle.ps_linkfile.proofs.Words.{flat_map, range_with_len, cases_lt, word_bytes, blocks, Order, Origin, slots, Ascend, get_or-replicate, length-replicate, get_or_append_left, ext_get_or, drop_all}
 use Rattle.std.proofs.lemmas.List.{get_or-append_right}
 use Rattle.ps_linkfile.specs.LinkedFile.{block_of, pair_of, all_pairs}
-use Rattle.ps_linkfile.proofs.Blocks.{Left, left_start, left_more, first_block, first_pair}
-use Rattle.ps_linkfile.proofs.Blocks.{no_pair}
+use Rattle.ps_linkfile.proofs.Blocks.{Left, left_start, left_more, first_block, first_pair, no_pair}
 
 module _ (f : ℕ → List ℕ) where
   -- place j of what f gives of the s-th number, where it gives four bytes of each

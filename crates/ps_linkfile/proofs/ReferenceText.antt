@@ -1,7 +1,5 @@
 -- The text of references, which is written from the last one on.
-use Rattle.std.proofs.Common.{◌≡◌, ℕ, ◌+◌, ◌-◌, ◌<◌, ◌≤◌, ◌++◌, List}
-use Rattle.std.proofs.Common.{◌∷◌, length, take, drop, get_or, ◌∙◌, ap, arith}
-use Rattle.std.proofs.Common.{add-one, refl}
+use Rattle.std.proofs.Common.{◌≡◌, ℕ, ◌+◌, ◌-◌, ◌<◌, ◌≤◌, ◌++◌, List, ◌∷◌, length, take, drop, get_or, ◌∙◌, ap, arith, add-one, refl}
 use Rattle.ps_linkfile.proofs.Words.{flat_map, MAX_WORD, reference, PIECE_REFERENCES}
 use Rattle.std.specs.Prelude.{decimal, min}
 use Rattle.std.proofs.lemmas.Fmt.{length-decimal-le}

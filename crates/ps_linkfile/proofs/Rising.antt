@@ -1,14 +1,10 @@
 -- How the counts of a writer rise while a file is written.
-use Rattle.std.proofs.Common.{rules, ◌≡◌, ◌≢◌, ◌∙◌, ℕ, ◌+◌, ◌*◌}
-use Rattle.std.proofs.Common.{◌-◌, ◌≤◌, ◌<◌, List, [], ◌∷◌, length, drop}
-use Rattle.std.proofs.Common.{Ok, ap, refl, arith, ◌^◌}
-use Rattle.ps_linkfile.proofs.Words.{All, min, blocks, MAX_CODE_LEN, Origin, Counts, WriteFault}
-use Rattle.ps_linkfile.proofs.Words.{NoneFailed, OneFailed, Rises, all_blocks, Ascend}
+use Rattle.std.proofs.Common.{rules, ◌≡◌, ◌≢◌, ◌∙◌, ℕ, ◌+◌, ◌*◌, ◌-◌, ◌≤◌, ◌<◌, List, [], ◌∷◌, length, drop, Ok, ap, refl, arith, ◌^◌}
+use Rattle.ps_linkfile.proofs.Words.{All, min, blocks, MAX_CODE_LEN, Origin, Counts, WriteFault, NoneFailed, OneFailed, Rises, all_blocks, Ascend}
 use Rattle.std.specs.declared.io.Error.{Error}
 use Rattle.ps_linkfile.specs.declared.block_layout.TheConstants.{MAX_FILE_BLOCKS}
 use Rattle.ps_linkfile.specs.declared.error.WriteFault.TheVariants.{Device, Stalled}
-use Rattle.ps_linkfile.specs.Counts.{AreAtMost, Failures, IfDevice, IfStalled, OneError, OneStall}
-use Rattle.ps_linkfile.specs.Counts.{RisesByPieces, counts_after}
+use Rattle.ps_linkfile.specs.Counts.{AreAtMost, Failures, IfDevice, IfStalled, OneError, OneStall, RisesByPieces, counts_after}
 use Rattle.ps_linkfile.proofs.Blocks.{all_blocks-cons, few_codes, few_blocks}
 
 -- the counts after the first i of so many bytes went out; while some are left, each write was short

@@ -1,29 +1,15 @@
 -- The linked file is one list: where its facts hold, each byte is that of the list.
-use Rattle.std.proofs.Common.{◌≡◌, ℕ, suc, List, ◌+◌, ◌-◌, ◌*◌, ◌/◌}
-use Rattle.std.proofs.Common.{◌≤◌, ◌<◌}
-use Rattle.std.proofs.Common.{[], ◌∷◌, ◌++◌, length, map, get_or, take, drop, replicate}
-use Rattle.std.proofs.Common.{Option, Some, None, Result, Err, Bool, true, false, cond, refl, sym}
-use Rattle.std.proofs.Common.{◌∙◌, ap, subst, inl, inr, arith, append_assoc, length-append}
-use Rattle.std.proofs.Common.{length-take, length-drop}
-use Rattle.ps_linkfile.proofs.Words.{flat_map, length-map-range_with_len, get_or-map-range_with_len}
-use Rattle.ps_linkfile.proofs.Words.{nat_tests, file_order, ext_get_or, all_blocks, LinkedFile}
-use Rattle.ps_linkfile.proofs.Words.{All-nil, in_file, Segment, drop_all, block_of}
-use Rattle.ps_linkfile.proofs.Words.{All-cons, opened_as, order_of, drop-drop}
-use Rattle.ps_linkfile.proofs.Words.{blocks, get_or_append_left, get_or-replicate}
-use Rattle.ps_linkfile.proofs.Words.{Order, Fault, Origin, pair_of, origins, Reason, origin_of}
-use Rattle.ps_linkfile.proofs.Words.{Edit, padded_segment, linked_file}
-use Rattle.ps_linkfile.proofs.Words.{OpenedFile, patched_or_zero, linked_segments}
+use Rattle.std.proofs.Common.{◌≡◌, ℕ, suc, List, ◌+◌, ◌-◌, ◌*◌, ◌/◌, ◌≤◌, ◌<◌, [], ◌∷◌, ◌++◌, length, map, get_or, take, drop, replicate, Option, Some, None, Result, Err, Bool, true, false, cond, refl, sym, ◌∙◌, ap, subst, inl, inr, arith, append_assoc, length-append, length-take, length-drop}
+use Rattle.ps_linkfile.proofs.Words.{flat_map, length-map-range_with_len, get_or-map-range_with_len, nat_tests, file_order, ext_get_or, all_blocks, LinkedFile, All-nil, in_file, Segment, drop_all, block_of, All-cons, opened_as, order_of, drop-drop, blocks, get_or_append_left, get_or-replicate, Order, Fault, Origin, pair_of, origins, Reason, origin_of, Edit, padded_segment, linked_file, OpenedFile, patched_or_zero, linked_segments}
 use Rattle.std.specs.Prelude.{All, nat_lt, slice_range}
 use Rattle.std.specs.Option.{option_map}
 use Rattle.std.specs.Result.{result_err}
 use Rattle.std.proofs.lemmas.Bool.{cases_lt, ltb-false, le-ltb}
-use Rattle.std.proofs.lemmas.List.{append-nil, get_or-take, get_or-drop, get_or-append-add, take_at}
-use Rattle.std.proofs.lemmas.List.{drop_at}
+use Rattle.std.proofs.lemmas.List.{append-nil, get_or-take, get_or-drop, get_or-append-add, take_at, drop_at}
 use Rattle.std.proofs.lemmas.List.Folds.{drop_split}
 use Rattle.std.proofs.Math.Seq.{take-append_seam, drop-append-add}
 use Rattle.ps_words.specs.declared.fault.Reason.TheVariants as reason
-use Rattle.ps_resolve.specs.LinkedBytes.{IsLinkedByte, segments_of, HaveLinkedBytes}
-use Rattle.ps_resolve.specs.LinkedBytes.{HaveOneLinkedByte}
+use Rattle.ps_resolve.specs.LinkedBytes.{IsLinkedByte, segments_of, HaveLinkedBytes, HaveOneLinkedByte}
 use Rattle.ps_resolve.specs.Standing.{NoneStands, NoneStandsInReading, FaultAt, IsFirst}
 use Rattle.ps_resolve.specs.Standing.Keys.{Step}
 use Rattle.ps_resolve.specs.Parts.{HasItsParts}

@@ -1,21 +1,15 @@
 -- The words that several proofs use, each with its home.
-pub use Rattle.ps_codefile.specs.Dictionary.{FileOrder, OpenedFile, Ordered, code_of, entry_at}
-pub use Rattle.ps_codefile.specs.Dictionary.{file_order, information_of, opened_as, slots}
+pub use Rattle.ps_codefile.specs.Dictionary.{FileOrder, OpenedFile, Ordered, code_of, entry_at, file_order, information_of, opened_as, slots}
 pub use Rattle.ps_codefile.specs.declared.code_layout.TheConstants.{MAX_CODE_LEN}
 pub use Rattle.ps_codefile.specs.declared.entry.Entry.{Entry}
 pub use Rattle.ps_linkfile.specs.Counts.{NoneFailed, OneFailed, Rises}
 pub use Rattle.ps_linkfile.specs.JsonText.{json_byte, reference_item}
-pub use Rattle.ps_linkfile.specs.Lines.{field, hex_byte, line, reference, references, shown_name}
-pub use Rattle.ps_linkfile.specs.Lines.{two_digits}
-pub use Rattle.ps_linkfile.specs.LinkedFile.{LinkedFile, all_blocks, block_of, origins}
-pub use Rattle.ps_linkfile.specs.LinkedFile.{linked_file, linked_segments, padded_code}
-pub use Rattle.ps_linkfile.specs.LinkedFile.{padded_segment, pair_of}
+pub use Rattle.ps_linkfile.specs.Lines.{field, hex_byte, line, reference, references, shown_name, two_digits}
+pub use Rattle.ps_linkfile.specs.LinkedFile.{LinkedFile, all_blocks, block_of, origins, linked_file, linked_segments, padded_code, padded_segment, pair_of}
 pub use Rattle.ps_linkfile.specs.Outcomes.{AppendsPrefix}
-pub use Rattle.ps_linkfile.specs.ReferencesText.{Listed, listed_in, listing_in, listings_in}
-pub use Rattle.ps_linkfile.specs.ReferencesText.{listings_of, place_in, references_in}
+pub use Rattle.ps_linkfile.specs.ReferencesText.{Listed, listed_in, listing_in, listings_in, listings_of, place_in, references_in}
 pub use Rattle.ps_linkfile.specs.ShowText.{order_shown}
-pub use Rattle.ps_linkfile.specs.Writing.{Ascend, HaveEdits, file_in, padded_codes}
-pub use Rattle.ps_linkfile.specs.Writing.{starts_of}
+pub use Rattle.ps_linkfile.specs.Writing.{Ascend, HaveEdits, file_in, padded_codes, starts_of}
 pub use Rattle.ps_linkfile.specs.declared.cause.Cause.{Cause}
 pub use Rattle.ps_linkfile.specs.declared.counts.Counts.{Counts}
 pub use Rattle.ps_linkfile.specs.declared.error.WriteFault.{WriteFault}
@@ -26,8 +20,7 @@ pub use Rattle.ps_linkinfo.specs.Records.{reading}
 pub use Rattle.ps_linkinfo.specs.declared.record.LinkRecord.{LinkRecord as Record}
 pub use Rattle.ps_patch.specs.Patched.{patched_or_zero}
 pub use Rattle.ps_resolve.specs.Linking.{edited_from, edited_segments, known_of}
-pub use Rattle.ps_resolve.specs.Plans.{IsPlan, LinkSegments, Origin, Planned, origin_of}
-pub use Rattle.ps_resolve.specs.Plans.{origin_of_source}
+pub use Rattle.ps_resolve.specs.Plans.{IsPlan, LinkSegments, Origin, Planned, origin_of, origin_of_source}
 pub use Rattle.ps_resolve.specs.Privates.{private_words, total_words}
 pub use Rattle.ps_resolve.specs.References.{Known}
 pub use Rattle.ps_resolve.specs.Sources.{Segment, host_records, known_order, order_of}
@@ -42,14 +35,10 @@ pub use Rattle.ps_words.specs.declared.order.Order.{Order}
 pub use Rattle.ps_words.specs.declared.words.TheConstants.{MAX_WORD}
 pub use Rattle.std.proofs.lemmas.Bool.{cases_lt}
 pub use Rattle.std.proofs.lemmas.Bool.Decides.{nat_tests}
-pub use Rattle.std.proofs.lemmas.List.{drop-drop, drop_all, drop_more, ext_get_or, get_or-replicate}
-pub use Rattle.std.proofs.lemmas.List.{get_or_append_left, length-map, length-replicate}
-pub use Rattle.std.proofs.lemmas.List.{take-append-drop}
+pub use Rattle.std.proofs.lemmas.List.{drop-drop, drop_all, drop_more, ext_get_or, get_or-replicate, get_or_append_left, length-map, length-replicate, take-append-drop}
 pub use Rattle.std.proofs.lemmas.List.Elements.{All-cons, All-head, All-nil, All-tail}
-pub use Rattle.std.proofs.lemmas.List.FromFn.{fill_by_all, get_or-map-range_with_len}
-pub use Rattle.std.proofs.lemmas.List.FromFn.{length-map-range_with_len}
-pub use Rattle.std.proofs.lemmas.Result.{IfErr-weaker, err_from_is_err_and, on_err_weaker}
-pub use Rattle.std.proofs.lemmas.Result.{on_ok_weaker}
+pub use Rattle.std.proofs.lemmas.List.FromFn.{fill_by_all, get_or-map-range_with_len, length-map-range_with_len}
+pub use Rattle.std.proofs.lemmas.Result.{IfErr-weaker, err_from_is_err_and, on_err_weaker, on_ok_weaker}
 pub use Rattle.std.specs.Io.KnownBytes.{Appends}
 pub use Rattle.std.specs.List.{enumerate_from, filter, find, flat_map, range_with_len}
 pub use Rattle.std.specs.Option.{option_map_or, option_or}

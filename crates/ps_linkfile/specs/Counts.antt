@@ -1,7 +1,6 @@
 -- How often a writer was called, and how its counts rise.
 -- Source: this project's profile.
-use Rattle.std.specs.Prelude.{◌≡◌, ℕ, ◌+◌, ◌^◌, ◌<◌, ◌≤◌, ◌==◌, min}
-use Rattle.std.specs.Prelude.{◌&&◌, nat_lt, if◌then◌else◌, Result, Ok, Err, ⊤}
+use Rattle.std.specs.Prelude.{◌≡◌, ℕ, ◌+◌, ◌^◌, ◌<◌, ◌≤◌, ◌==◌, min, ◌&&◌, nat_lt, if◌then◌else◌, Result, Ok, Err, ⊤}
 use Rattle.ps_linkfile.specs.declared.counts.Counts.{Counts}
 use Rattle.ps_linkfile.specs.declared.error.WriteFault.{WriteFault}
 use Rattle.ps_linkfile.specs.declared.error.WriteFault.TheVariants.{Device, Stalled}

@@ -1,8 +1,7 @@
 -- The parts of a JSON document that map, show and their kin are made of: names, items of an array,
 -- and words that are true or false.
 -- Source: RFC 8259; which members there are is this project's profile.
-use Rattle.std.specs.Prelude.{ℕ, ◌==◌, if◌then◌else◌, Bool, List, [], ◌∷◌}
-use Rattle.std.specs.Prelude.{◌++◌, codes, decimal}
+use Rattle.std.specs.Prelude.{ℕ, ◌==◌, if◌then◌else◌, Bool, List, [], ◌∷◌, ◌++◌, codes, decimal}
 use Rattle.std.specs.List.{enumerate_from, flat_map}
 use Rattle.ps_words.specs.FaultText.{number_of, name_of}
 use Rattle.ps_words.specs.declared.fault.Reason.{Reason}

@@ -1,9 +1,7 @@
 -- The linked file: block 0 has its segment dictionary, and the blocks after it have the code of
 -- each segment, by slot, each padded with zeros to its last block's end.
 -- Source: UCSD Pascal II.0 manual, code file format; the layout is this project's profile.
-use Rattle.std.specs.Prelude.{◌≡◌, ℕ, ◌+◌, ◌*◌, ◌<◌, ◌≤◌, ◌==◌, List}
-use Rattle.std.specs.Prelude.{[], ◌∷◌, ◌++◌, length, map, replicate, slice_index}
-use Rattle.std.specs.Prelude.{slice_range, nat_lt, All, sum_by}
+use Rattle.std.specs.Prelude.{◌≡◌, ℕ, ◌+◌, ◌*◌, ◌<◌, ◌≤◌, ◌==◌, List, [], ◌∷◌, ◌++◌, length, map, replicate, slice_index, slice_range, nat_lt, All, sum_by}
 use Rattle.std.specs.List.{range_with_len, filter, find, flat_map}
 use Rattle.std.specs.Option.{option_map_or}
 use Rattle.ps_words.specs.Words.{word_bytes, blocks}

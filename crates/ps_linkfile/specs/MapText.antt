@@ -1,8 +1,7 @@
 -- The map of a link: its segments by slot, the definitions in record order, the privates by slot
 -- and then by record, and what is free after them.
 -- Source: this project's profile.
-use Rattle.std.specs.Prelude.{ℕ, ◌+◌, List, [], ◌∷◌, ◌++◌, Bool, length, map, codes}
-use Rattle.std.specs.Prelude.{slice_get, unwrap_or}
+use Rattle.std.specs.Prelude.{ℕ, ◌+◌, List, [], ◌∷◌, ◌++◌, Bool, length, map, codes, slice_get, unwrap_or}
 use Rattle.ps_resolve.specs.Sources.{Segment, order_of, host_records}
 use Rattle.ps_resolve.specs.Added.{segments}
 use Rattle.ps_linkinfo.specs.RecordCounts.{next_of}
@@ -15,8 +14,7 @@ use Rattle.ps_resolve.specs.declared.definitions.DefKind.{DefKind}
 use Rattle.ps_resolve.specs.declared.definitions.DefKind.TheVariants.{Public, Constant}
 use Rattle.ps_resolve.specs.declared.allotment.Private.{Private}
 use Rattle.ps_linkfile.specs.LinkedFile.{origins, block_of, all_blocks}
-use Rattle.ps_linkfile.specs.Rows.{Value, InSlot, OfKind, Named, Total, Number, Short, Flag}
-use Rattle.ps_linkfile.specs.Rows.{by_form, rows_in, values_in}
+use Rattle.ps_linkfile.specs.Rows.{Value, InSlot, OfKind, Named, Total, Number, Short, Flag, by_form, rows_in, values_in}
 use Rattle.ps_linkfile.specs.declared.rows.Form.{Form}
 use Rattle.ps_linkfile.specs.declared.rows.Form.TheVariants.{Lines, Json}
 

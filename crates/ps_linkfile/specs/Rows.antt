@@ -4,8 +4,7 @@
 use Rattle.std.specs.Prelude.{ℕ, if◌then◌else◌, Bool, List, [], ◌∷◌, ◌++◌, codes, decimal}
 use Rattle.std.specs.List.{flat_map, enumerate_from}
 use Rattle.ps_words.specs.declared.fault.Reason.{Reason}
-use Rattle.ps_linkfile.specs.JsonText.{json_bool, json_name, json_reason, member}
-use Rattle.ps_linkfile.specs.JsonText.{references_member, separator}
+use Rattle.ps_linkfile.specs.JsonText.{json_bool, json_name, json_reason, member, references_member, separator}
 use Rattle.ps_linkfile.specs.Lines.{fault_words, hex_byte, references, shown_name, two_digits}
 use Rattle.ps_linkfile.specs.declared.rows.Form.{Form}
 use Rattle.ps_linkfile.specs.declared.rows.Form.TheVariants.{Lines, Json}

@@ -4,8 +4,7 @@ use Rattle.std.specs.Prelude.{ℕ, List, [], ◌++◌, codes}
 use Rattle.std.specs.List.{flat_map}
 use Rattle.ps_words.specs.declared.order.Order.{Order}
 use Rattle.ps_words.specs.declared.order.Order.TheVariants.{Little, Big}
-use Rattle.ps_codefile.specs.Dictionary.{slots, FileOrder, Zero, Ordered, Mixed, file_order}
-use Rattle.ps_codefile.specs.Dictionary.{entry_at}
+use Rattle.ps_codefile.specs.Dictionary.{slots, FileOrder, Zero, Ordered, Mixed, file_order, entry_at}
 use Rattle.ps_resolve.specs.Sources.{known_order}
 use Rattle.ps_linkfile.specs.ShowText.{entry_in, links_in}
 use Rattle.ps_linkfile.specs.declared.rows.Form.TheVariants.{Json}

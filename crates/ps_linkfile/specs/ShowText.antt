@@ -1,9 +1,7 @@
 -- What a code file has: its byte order, its sixteen slots, and the link information of each segment
 -- that is to be linked, record by record.
 -- Source: this project's profile.
-use Rattle.std.specs.Prelude.{◌≡◌, ℕ, ◌==◌, ◌&&◌, ◌||◌, if◌then◌else◌}
-use Rattle.std.specs.Prelude.{List, [], ◌∷◌, ◌++◌, length, map, nat_lt, codes}
-use Rattle.std.specs.Prelude.{not, Bool, Option, Some, None, Ok, Err}
+use Rattle.std.specs.Prelude.{◌≡◌, ℕ, ◌==◌, ◌&&◌, ◌||◌, if◌then◌else◌, List, [], ◌∷◌, ◌++◌, length, map, nat_lt, codes, not, Bool, Option, Some, None, Ok, Err}
 use Rattle.std.specs.List.{flat_map, enumerate_from, filter, list_any}
 use Rattle.std.specs.Str.{bytes_eq}
 use Rattle.ps_words.specs.declared.order.Order.{Order}
@@ -12,21 +10,18 @@ use Rattle.ps_words.specs.FaultPlaces.{in_file}
 use Rattle.ps_words.specs.declared.fault.Reason.{Reason}
 use Rattle.ps_words.specs.declared.fault.Reason.TheVariants as reason
 use Rattle.ps_words.specs.declared.fault.Fault.{Fault as FileFault}
-use Rattle.ps_codefile.specs.Dictionary.{slots, block_len, FileOrder, Zero, Ordered, Mixed}
-use Rattle.ps_codefile.specs.Dictionary.{file_order, entry_at, is_filled, code_of, information_of}
+use Rattle.ps_codefile.specs.Dictionary.{slots, block_len, FileOrder, Zero, Ordered, Mixed, file_order, entry_at, is_filled, code_of, information_of}
 use Rattle.ps_codefile.specs.declared.entry.Entry.{Entry}
 use Rattle.ps_linkinfo.specs.Records.{reading}
 use Rattle.ps_linkinfo.specs.declared.record.Body.{Body}
-use Rattle.ps_linkinfo.specs.declared.record.Body.TheVariants.{UnitRef, PublRef, PrivRef, PublDef}
-use Rattle.ps_linkinfo.specs.declared.record.Body.TheVariants.{ConstDef, Eof}
+use Rattle.ps_linkinfo.specs.declared.record.Body.TheVariants.{UnitRef, PublRef, PrivRef, PublDef, ConstDef, Eof}
 use Rattle.ps_linkinfo.specs.declared.record.LinkRecord.{LinkRecord}
 use Rattle.ps_codefile.specs.Roles.{is_unit}
 use Rattle.ps_resolve.specs.Sources.{known_order}
 use Rattle.ps_resolve.specs.Faults.{is_role}
 use Rattle.ps_linkfile.specs.JsonText.{separator}
 use Rattle.ps_linkfile.specs.Lines.{line, two_digits}
-use Rattle.ps_linkfile.specs.Rows.{Value, InSlot, Number, Flag, Record, Kind, Named, References, Fault}
-use Rattle.ps_linkfile.specs.Rows.{by_form, reason_in, row_in, values_in}
+use Rattle.ps_linkfile.specs.Rows.{Value, InSlot, Number, Flag, Record, Kind, Named, References, Fault, by_form, reason_in, row_in, values_in}
 use Rattle.ps_linkfile.specs.declared.rows.Form.{Form}
 use Rattle.ps_linkfile.specs.declared.rows.Form.TheVariants.{Lines, Json}
 use Rattle.ps_linkfile.specs.declared.error.LinkError.{LinkError}

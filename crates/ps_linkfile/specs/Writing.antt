@@ -1,15 +1,13 @@
 -- The file that a plan of a link stands for, and what a plan is owed so that it can be written.
 -- Source: this project's profile.
-use Rattle.std.specs.Prelude.{◌≡◌, ℕ, ◌+◌, ◌<◌, ◌≤◌, List, [], ◌∷◌}
-use Rattle.std.specs.Prelude.{◌++◌, length, map, All, ⊤}
+use Rattle.std.specs.Prelude.{◌≡◌, ℕ, ◌+◌, ◌<◌, ◌≤◌, List, [], ◌∷◌, ◌++◌, length, map, All, ⊤}
 use Rattle.ps_words.specs.Edits.{AreEdits}
 use Rattle.ps_words.specs.declared.order.Order.{Order}
 use Rattle.ps_words.specs.declared.edit.Edit.{Edit}
 use Rattle.ps_codefile.specs.Dictionary.{block_len}
 use Rattle.ps_codefile.specs.declared.code_layout.TheConstants.{MAX_CODE_LEN}
 use Rattle.ps_resolve.specs.Plans.{Planned, Origin}
-use Rattle.ps_linkfile.specs.LinkedFile.{all_blocks, block_of, dictionary, padded_code}
-use Rattle.ps_linkfile.specs.LinkedFile.{LinkedFile, summary_of}
+use Rattle.ps_linkfile.specs.LinkedFile.{all_blocks, block_of, dictionary, padded_code, LinkedFile, summary_of}
 use Rattle.ps_linkfile.specs.declared.summary.Summary.{Summary}
 
 -- the code of each source with its edits, in whole blocks

@@ -1,6 +1,5 @@
 -- The hash of the names of the records that are left.
-use Rattle.std.proofs.Common.{◌≡◌, ℕ, ◌+◌, List, [], ◌∷◌, Bool, true, false}
-use Rattle.std.proofs.Common.{if◌then◌else◌, refl, ap}
+use Rattle.std.proofs.Common.{◌≡◌, ℕ, ◌+◌, List, [], ◌∷◌, Bool, true, false, if◌then◌else◌, refl, ap}
 use Rattle.std.specs.Prelude.{fold}
 use Rattle.std.specs.Hash.DefaultHasher as sip
 use Rattle.std.specs.declared.hash.DefaultHasher.{DefaultHasher}

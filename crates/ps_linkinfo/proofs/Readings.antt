@@ -1,19 +1,15 @@
 -- Link information has one reading.
-use Rattle.std.proofs.Common.{◌≡◌, ℕ, ◌+◌, ◌≤◌, List, [], ◌∷◌, length, drop}
-use Rattle.std.proofs.Common.{false, Some, None, sym, ◌∙◌, ap, subst, arith}
+use Rattle.std.proofs.Common.{◌≡◌, ℕ, ◌+◌, ◌≤◌, List, [], ◌∷◌, length, drop, false, Some, None, sym, ◌∙◌, ap, subst, arith}
 use Rattle.std.specs.List.{AllByRecursion}
 use Rattle.ps_words.specs.Words.{word_at}
 use Rattle.ps_words.specs.declared.order.Order.{Order}
 use Rattle.ps_words.specs.declared.fault.Reason.{Reason}
-use Rattle.ps_linkinfo.specs.Records.{AreSpelled, BeginsWith, IsBody, EndsOnce, Spells, Stops}
-use Rattle.ps_linkinfo.specs.Records.{IsReading, is_eof, size_of, used_by, body_at, record_at, bad}
-use Rattle.ps_linkinfo.specs.Records.{refs_of, list_len}
+use Rattle.ps_linkinfo.specs.Records.{AreSpelled, BeginsWith, IsBody, EndsOnce, Spells, Stops, IsReading, is_eof, size_of, used_by, body_at, record_at, bad, refs_of, list_len}
 use Rattle.std.proofs.lemmas.Bool.Decides.{nat_tests}
 use Rattle.ps_linkinfo.proofs.Words.{refs_len}
 use Rattle.ps_linkinfo.proofs.Spelled.{behind_cons}
 use Rattle.ps_linkinfo.specs.declared.record.Body.{Body}
-use Rattle.ps_linkinfo.specs.declared.record.Body.TheVariants.{UnitRef, PublRef, PrivRef, PublDef}
-use Rattle.ps_linkinfo.specs.declared.record.Body.TheVariants.{ConstDef, Eof}
+use Rattle.ps_linkinfo.specs.declared.record.Body.TheVariants.{UnitRef, PublRef, PrivRef, PublDef, ConstDef, Eof}
 use Rattle.ps_linkinfo.specs.declared.record.LinkRecord.{LinkRecord as Record}
 
 -- a body is what its bytes say

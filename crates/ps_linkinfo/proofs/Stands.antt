@@ -1,23 +1,17 @@
 -- The reading of link information is what its bytes spell, or what stops it.
-use Rattle.std.proofs.Common.{◌≡◌, ℕ, zero, suc, ◌+◌, ◌/◌, ◌<◌, ◌≤◌}
-use Rattle.std.proofs.Common.{◌==◌, List, [], ◌∷◌, length, length-drop, drop, Bool, true}
-use Rattle.std.proofs.Common.{false, Option, Some, None, refl, sym, ◌∙◌, ap, subst, arith}
-use Rattle.std.proofs.Common.{if◌then◌else◌}
+use Rattle.std.proofs.Common.{◌≡◌, ℕ, zero, suc, ◌+◌, ◌/◌, ◌<◌, ◌≤◌, ◌==◌, List, [], ◌∷◌, length, length-drop, drop, Bool, true, false, Option, Some, None, refl, sym, ◌∙◌, ap, subst, arith, if◌then◌else◌}
 use Rattle.std.proofs.lemmas.Bool.Decides.{nat_tests}
 use Rattle.std.specs.List.{AllByRecursion}
 use Rattle.ps_words.specs.Words.{word_at}
 use Rattle.ps_words.specs.declared.order.Order.{Order}
 use Rattle.ps_words.specs.declared.fault.Reason.{Reason}
-use Rattle.ps_linkinfo.specs.Records.{AreSpelled, BeginsWith, IsBody, EndsOnce, Spells, Stops}
-use Rattle.ps_linkinfo.specs.Records.{is_eof, size_of, used_by, body_at, record_at, refs_at}
-use Rattle.ps_linkinfo.specs.Records.{refs_of, bad, bad_format, list_len, reading, read_from}
+use Rattle.ps_linkinfo.specs.Records.{AreSpelled, BeginsWith, IsBody, EndsOnce, Spells, Stops, is_eof, size_of, used_by, body_at, record_at, refs_at, refs_of, bad, bad_format, list_len, reading, read_from}
 use Rattle.ps_linkinfo.proofs.Words.{refs_len}
 use Rattle.ps_linkinfo.proofs.Spelled.{behind_cons}
 use Rattle.ps_linkinfo.proofs.Readings.{record_is, no_fault}
 use Rattle.ps_linkinfo.proofs.Steps.{read_end, read_last, read_more, long_enough, size_least}
 use Rattle.ps_linkinfo.specs.declared.record.Body.{Body}
-use Rattle.ps_linkinfo.specs.declared.record.Body.TheVariants.{UnitRef, PublRef, PrivRef, PublDef}
-use Rattle.ps_linkinfo.specs.declared.record.Body.TheVariants.{ConstDef, Eof}
+use Rattle.ps_linkinfo.specs.declared.record.Body.TheVariants.{UnitRef, PublRef, PrivRef, PublDef, ConstDef, Eof}
 use Rattle.ps_linkinfo.specs.declared.record.LinkRecord.{LinkRecord as Record}
 
 -- a body that is whole and first

@@ -1,17 +1,12 @@
 -- Walks over link information.
-use Rattle.std.proofs.Common.{◌≡◌, ℕ, zero, suc, ◌+◌, ◌/◌, ◌-◌, ◌≤◌, List}
-use Rattle.std.proofs.Common.{[], ◌∷◌, ◌++◌, length, length-drop, drop, Bool, true, false}
-use Rattle.std.proofs.Common.{Option, Some, None, Result, Ok, Err, refl, sym, ◌∙◌, ap, subst}
-use Rattle.std.proofs.Common.{append_assoc, arith}
+use Rattle.std.proofs.Common.{◌≡◌, ℕ, zero, suc, ◌+◌, ◌/◌, ◌-◌, ◌≤◌, List, [], ◌∷◌, ◌++◌, length, length-drop, drop, Bool, true, false, Option, Some, None, Result, Ok, Err, refl, sym, ◌∙◌, ap, subst, append_assoc, arith}
 use Rattle.std.specs.List.{AllByRecursion, filter_map}
 use Rattle.std.specs.Result.{result_ok}
 use Rattle.ps_words.specs.declared.order.Order.{Order}
 use Rattle.ps_words.specs.declared.fault.Reason.{Reason}
-use Rattle.ps_linkinfo.specs.Records.{AreSpelled, BeginsWith, reading, read_from, record_at}
-use Rattle.ps_linkinfo.specs.Records.{size_of, is_eof, bad, used_by}
+use Rattle.ps_linkinfo.specs.Records.{AreSpelled, BeginsWith, reading, read_from, record_at, size_of, is_eof, bad, used_by}
 use Rattle.ps_linkinfo.specs.Walk.{Walk, Advances, HasGiven, left_of, whole_walk}
-use Rattle.ps_linkinfo.specs.Left.{items_of, items_at, items_left, records_left, fault_in}
-use Rattle.ps_linkinfo.specs.Left.{fault_left}
+use Rattle.ps_linkinfo.specs.Left.{items_of, items_at, items_left, records_left, fault_in, fault_left}
 use Rattle.ps_linkinfo.proofs.Spelled.{spelled_fit, spelled_more, used_more, used_cons}
 use Rattle.ps_linkinfo.proofs.Readings.{record_is}
 use Rattle.ps_linkinfo.proofs.Steps.{long_enough, read_end, size_least}

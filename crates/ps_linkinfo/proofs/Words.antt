@@ -1,11 +1,8 @@
 -- The words of a list.
-use Rattle.std.proofs.Common.{◌≡◌, ℕ, ◌+◌, ◌*◌, ◌/◌, ◌<◌, ◌≤◌}
-use Rattle.std.proofs.Common.{◌-◌, ◌∙◌, List, length, get_or, take, drop, ap, arith}
-use Rattle.std.proofs.Common.{zero-add, length-drop}
+use Rattle.std.proofs.Common.{◌≡◌, ℕ, ◌+◌, ◌*◌, ◌/◌, ◌<◌, ◌≤◌, ◌-◌, ◌∙◌, List, length, get_or, take, drop, ap, arith, zero-add, length-drop}
 use Rattle.std.proofs.lemmas.List.{length-take, get_or-take, get_or-drop}
 use Rattle.ps_linkinfo.specs.Records.{refs_at}
-use Rattle.std.proofs.lemmas.List.FromFn.{fill_by_all, length-map-range_with_len}
-use Rattle.std.proofs.lemmas.List.FromFn.{get_or-map-range_with_len}
+use Rattle.std.proofs.lemmas.List.FromFn.{fill_by_all, length-map-range_with_len, get_or-map-range_with_len}
 use Rattle.ps_words.specs.Words.{word, word_at}
 use Rattle.ps_words.specs.declared.order.Order.{Order}
 use Rattle.ps_linkinfo.specs.Refs.{words_of}

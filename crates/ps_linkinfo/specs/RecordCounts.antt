@@ -2,15 +2,12 @@
 -- references they have, the value of their EOFMARK, and a hash of their names.
 -- Source: the types are those of the published II.0 Linker source; the hash is this project's
 -- profile.
-use Rattle.std.specs.Prelude.{ℕ, ◌||◌, if◌then◌else◌, List, length, Bool, true, false}
-use Rattle.std.specs.Prelude.{Option, Some, None, fold, count_by, sum_by, slice_get, unwrap_or}
-use Rattle.std.specs.Prelude.{filter_map}
+use Rattle.std.specs.Prelude.{ℕ, ◌||◌, if◌then◌else◌, List, length, Bool, true, false, Option, Some, None, fold, count_by, sum_by, slice_get, unwrap_or, filter_map}
 use Rattle.std.specs.Hash.DefaultHasher as sip
 use Rattle.std.specs.declared.hash.DefaultHasher.{DefaultHasher}
 use Rattle.ps_linkinfo.specs.Records.{refs_of}
 use Rattle.ps_linkinfo.specs.declared.record.Body.{Body}
-use Rattle.ps_linkinfo.specs.declared.record.Body.TheVariants.{UnitRef, PublRef, PrivRef, PublDef}
-use Rattle.ps_linkinfo.specs.declared.record.Body.TheVariants.{ConstDef, Eof}
+use Rattle.ps_linkinfo.specs.declared.record.Body.TheVariants.{UnitRef, PublRef, PrivRef, PublDef, ConstDef, Eof}
 use Rattle.ps_linkinfo.specs.declared.record.LinkRecord.{LinkRecord as Record}
 use Rattle.ps_linkinfo.specs.declared.record_counts.RecordCounts.{RecordCounts}
 

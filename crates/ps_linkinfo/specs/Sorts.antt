@@ -5,8 +5,7 @@ use Rattle.std.specs.List.{find}
 use Rattle.std.specs.Str.{bytes_eq}
 use Rattle.ps_linkinfo.specs.RecordCounts.{is_definition, is_private_reference, is_public_reference}
 use Rattle.ps_linkinfo.specs.declared.record.Body.{Body}
-use Rattle.ps_linkinfo.specs.declared.record.Body.TheVariants.{UnitRef, PublRef, PrivRef, PublDef}
-use Rattle.ps_linkinfo.specs.declared.record.Body.TheVariants.{ConstDef, Eof}
+use Rattle.ps_linkinfo.specs.declared.record.Body.TheVariants.{UnitRef, PublRef, PrivRef, PublDef, ConstDef, Eof}
 use Rattle.ps_linkinfo.specs.declared.record.LinkRecord.{LinkRecord as Record}
 use Rattle.ps_linkinfo.specs.declared.sort.Sort.{Sort}
 use Rattle.ps_linkinfo.specs.declared.sort.Sort.TheVariants.{Request, Variable, Definition, Private}

@@ -1,9 +1,7 @@
 -- A walk over link information, record by record: where it is, what it may give next, which records
 -- it has given.
 -- Source: this project's profile.
-use Rattle.std.specs.Prelude.{◌≡◌, ℕ, ◌+◌, ◌-◌, ◌/◌, if◌then◌else◌}
-use Rattle.std.specs.Prelude.{length, List, drop, Bool, true, false, Option, Some, None, Result, Ok}
-use Rattle.std.specs.Prelude.{Err}
+use Rattle.std.specs.Prelude.{◌≡◌, ℕ, ◌+◌, ◌-◌, ◌/◌, if◌then◌else◌, length, List, drop, Bool, true, false, Option, Some, None, Result, Ok, Err}
 use Rattle.ps_words.specs.declared.order.Order.{Order}
 use Rattle.ps_words.specs.declared.fault.Reason.{Reason}
 use Rattle.ps_linkinfo.specs.Records.{AreSpelled, BeginsWith, bad, is_eof, size_of, used_by}

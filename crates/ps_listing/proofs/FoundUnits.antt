@@ -1,8 +1,5 @@
 -- The units of a file, slot by slot.
-use Rattle.std.proofs.Common.{◌≡◌, ℕ, suc, ◌+◌, ◌-◌, ◌<◌, List, [], ◌∷◌}
-use Rattle.std.proofs.Common.{◌++◌, drop, Bool, true, false, Option, Some, None, append_assoc}
-use Rattle.std.proofs.Common.{append-nil, length, length-append, sym, ◌∙◌, ap, arith}
-use Rattle.std.proofs.Common.{is_some, true≢false}
+use Rattle.std.proofs.Common.{◌≡◌, ℕ, suc, ◌+◌, ◌-◌, ◌<◌, List, [], ◌∷◌, ◌++◌, drop, Bool, true, false, Option, Some, None, append_assoc, append-nil, length, length-append, sym, ◌∙◌, ap, arith, is_some, true≢false}
 use Rattle.std.specs.Prelude.{◌||◌, Result, Ok, Err, IfErr}
 use Rattle.std.specs.List.{cons_option, filter_map, list_any, range_with_len}
 use Rattle.std.specs.Option.{option_to_list}

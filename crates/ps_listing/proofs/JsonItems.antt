@@ -1,12 +1,10 @@
 -- The items of records and of slots, where an empty one has none.
-use Rattle.std.proofs.Common.{◌≡◌, ℕ, suc, ◌+◌, ◌-◌, ◌<◌, ◌≤◌, List, []}
-use Rattle.std.proofs.Common.{◌∷◌, ◌++◌, Bool, refl, ap, arith}
+use Rattle.std.proofs.Common.{◌≡◌, ℕ, suc, ◌+◌, ◌-◌, ◌<◌, ◌≤◌, List, [], ◌∷◌, ◌++◌, Bool, refl, ap, arith}
 use Rattle.std.specs.List.{range_with_len}
 use Rattle.ps_words.specs.declared.order.Order.{Order}
 use Rattle.ps_linkinfo.specs.Numbered.{numbered_records}
 use Rattle.ps_linkinfo.specs.declared.record.LinkRecord.{LinkRecord as Record}
-use Rattle.ps_listing.specs.ListJson.{is_first_after, is_first_after_slot, slot_item, slot_items}
-use Rattle.ps_listing.specs.ListJson.{use_item, use_items}
+use Rattle.ps_listing.specs.ListJson.{is_first_after, is_first_after_slot, slot_item, slot_items, use_item, use_items}
 
 -- the items of records beside their indices
 abbrev pub numbered_items : Bool → List (ℕ × Record) → List ℕ

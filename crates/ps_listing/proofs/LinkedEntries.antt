@@ -1,6 +1,5 @@
 -- The kind of an entry whose segment is to be linked.
-use Rattle.std.proofs.Common.{◌≡◌, ◌==◌, ◌&&◌, ◌||◌, not, if◌then◌else◌}
-use Rattle.std.proofs.Common.{Bool, true, false, refl, Ok, Err}
+use Rattle.std.proofs.Common.{◌≡◌, ◌==◌, ◌&&◌, ◌||◌, not, if◌then◌else◌, Bool, true, false, refl, Ok, Err}
 use Rattle.std.specs.Prelude.{Result, nat_le}
 use Rattle.ps_words.specs.declared.fault.Reason.{Reason}
 use Rattle.ps_words.specs.declared.fault.Reason.TheVariants as reason

@@ -1,10 +1,7 @@
 -- What files have, as lines made for grep: a line of the file, and one for each of its segments.
 -- Each begins with the path.
 -- Source: this project's profile.
-use Rattle.std.specs.Prelude.{ℕ, ◌-◌, take, is_none, is_some, ◌==◌, ◌||◌}
-use Rattle.std.specs.Prelude.{if◌then◌else◌, not, List, [], ◌∷◌, ◌++◌, length, chars}
-use Rattle.std.specs.Prelude.{codes, decimal, Bool, true, false, Option, Some, None, Result, Ok}
-use Rattle.std.specs.Prelude.{Err}
+use Rattle.std.specs.Prelude.{ℕ, ◌-◌, take, is_none, is_some, ◌==◌, ◌||◌, if◌then◌else◌, not, List, [], ◌∷◌, ◌++◌, length, chars, codes, decimal, Bool, true, false, Option, Some, None, Result, Ok, Err}
 use Rattle.std.specs.Char.{encode_utf8, is_ascii_whitespace}
 use Rattle.std.specs.List.{flat_map, list_any, suffix_len}
 use Rattle.ps_words.specs.declared.order.Order.{Order}
@@ -17,8 +14,7 @@ use Rattle.ps_codefile.specs.Roles.{needs_linking}
 use Rattle.ps_codefile.specs.declared.entry.Role.{Role}
 use Rattle.ps_codefile.specs.declared.entry.Role.TheVariants as role
 use Rattle.ps_linkinfo.specs.declared.record.Body.{Body}
-use Rattle.ps_linkinfo.specs.declared.record.Body.TheVariants.{UnitRef, PublRef, PrivRef, PublDef}
-use Rattle.ps_linkinfo.specs.declared.record.Body.TheVariants.{ConstDef, Eof}
+use Rattle.ps_linkinfo.specs.declared.record.Body.TheVariants.{UnitRef, PublRef, PrivRef, PublDef, ConstDef, Eof}
 use Rattle.ps_linkinfo.specs.declared.record.LinkRecord.{LinkRecord as Record}
 use Rattle.ps_resolve.specs.Faults.{code_fault}
 use Rattle.ps_resolve.specs.Sources.{records_of}

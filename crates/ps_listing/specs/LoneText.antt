@@ -1,7 +1,6 @@
 -- The units of a file by themselves, and a line of each, made for grep.
 -- Source: this project's profile.
-use Rattle.std.specs.Prelude.{ℕ, ◌||◌, List, [], ◌∷◌, ◌++◌, codes, Bool, Option}
-use Rattle.std.specs.Prelude.{Some, None, Result, Ok, Err, is_some, length, ◌==◌}
+use Rattle.std.specs.Prelude.{ℕ, ◌||◌, List, [], ◌∷◌, ◌++◌, codes, Bool, Option, Some, None, Result, Ok, Err, is_some, length, ◌==◌}
 use Rattle.std.specs.List.{filter_map, flat_map, list_any}
 use Rattle.ps_words.specs.FaultText.{part_text}
 use Rattle.ps_words.specs.declared.fault.Reason.{Reason}

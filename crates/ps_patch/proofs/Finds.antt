@@ -1,7 +1,5 @@
 -- Which edit covers a place, of edits that are apart.
-use Rattle.std.proofs.Common.{◌≡◌, ℕ, zero, suc, ◌+◌, ◌-◌, ◌≤◌, ◌<◌, List}
-use Rattle.std.proofs.Common.{[], ◌∷◌, length, drop, get_or, Option, Some, None, All, refl}
-use Rattle.std.proofs.Common.{ap, sym, ◌∙◌, subst, arith, add-one, true, false, Bool}
+use Rattle.std.proofs.Common.{◌≡◌, ℕ, zero, suc, ◌+◌, ◌-◌, ◌≤◌, ◌<◌, List, [], ◌∷◌, length, drop, get_or, Option, Some, None, All, refl, ap, sym, ◌∙◌, subst, arith, add-one, true, false, Bool}
 use Rattle.std.proofs.lemmas.Bool.Decides.{nat_tests}
 use Rattle.std.proofs.lemmas.List.Elements.{All-head, All-tail}
 use Rattle.std.proofs.Math.Seq.{drop-cons}

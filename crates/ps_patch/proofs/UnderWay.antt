@@ -1,7 +1,5 @@
 -- A patcher moves on by a block.
-use Rattle.std.proofs.Common.{◌≡◌, ℕ, ◌+◌, ◌-◌, ◌≤◌, ◌<◌, List, []}
-use Rattle.std.proofs.Common.{◌∷◌, length, drop, get_or, sym, ◌∙◌, subst, refl, arith}
-use Rattle.std.proofs.Common.{All, Bool, true, false}
+use Rattle.std.proofs.Common.{◌≡◌, ℕ, ◌+◌, ◌-◌, ◌≤◌, ◌<◌, List, [], ◌∷◌, length, drop, get_or, sym, ◌∙◌, subst, refl, arith, All, Bool, true, false}
 use Rattle.std.specs.Prelude.{find, min, nat_lt}
 use Rattle.std.proofs.Math.ListN.{drop_of_length-le, get_or-eq_default}
 use Rattle.std.proofs.lemmas.Bool.{ltb-false, ltb-true}

@@ -1,7 +1,6 @@
 -- What a patcher works on and how far it is, and what it knows of the edits that it is done with.
 -- Source: this project's profile.
-use Rattle.std.specs.Prelude.{◌≡◌, ℕ, ◌+◌, ◌<◌, ◌≤◌, List, [], ◌∷◌}
-use Rattle.std.specs.Prelude.{drop, find, length, ⊤}
+use Rattle.std.specs.Prelude.{◌≡◌, ℕ, ◌+◌, ◌<◌, ◌≤◌, List, [], ◌∷◌, drop, find, length, ⊤}
 use Rattle.ps_words.specs.Edits.{AreEdits, covers, place_of, width}
 use Rattle.ps_words.specs.declared.order.Order.{Order}
 use Rattle.ps_words.specs.declared.edit.Edit.{Edit}

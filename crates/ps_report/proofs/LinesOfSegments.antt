@@ -1,6 +1,5 @@
 -- The lines of the segments of a link, one after another.
-use Rattle.std.proofs.Common.{◌≡◌, ◌∙◌, ◌++◌, ◌∷◌, ◌+◌, ◌<◌, [], ℕ}
-use Rattle.std.proofs.Common.{List, Some, Ok, length, map, take, get_or, sym, ap, subst}
+use Rattle.std.proofs.Common.{◌≡◌, ◌∙◌, ◌++◌, ◌∷◌, ◌+◌, ◌<◌, [], ℕ, List, Some, Ok, length, map, take, get_or, sym, ap, subst}
 use Rattle.std.proofs.lemmas.List.{map-append, take_more}
 use Rattle.ps_resolve.specs.Sources.{Segment, opened_files, order_of}
 use Rattle.ps_resolve.specs.Added.{segments}
@@ -8,8 +7,7 @@ use Rattle.ps_resolve.specs.Readings.{HostFiles, opened_host, read_requests}
 use Rattle.ps_resolve.specs.declared.reading.added.UnitReference.{UnitReference}
 use Rattle.ps_resolve.proofs.ReadingSlots.{host_of_files}
 use Rattle.ps_warnings.specs.Paths.{path_of}
-use Rattle.ps_report.specs.SegmentLines.{from_words, head_words, lines_of_segments, part_as}
-use Rattle.ps_report.specs.SegmentLines.{segment_line, segment_lines}
+use Rattle.ps_report.specs.SegmentLines.{from_words, head_words, lines_of_segments, part_as, segment_line, segment_lines}
 use Rattle.ps_report.specs.SlotLines.{AddsSlotLines}
 use Rattle.ps_warnings.specs.declared.segments.Part.{Part}
 use Rattle.ps_report.proofs.SlotLines.{adds_then}

@@ -1,10 +1,6 @@
 -- Texts without a byte 10.
-use Rattle.std.proofs.Common.{zero, suc, ◌||◌, Bor, ◌≡◌, ◌++◌, ◌∷◌, ◌+◌}
-use Rattle.std.proofs.Common.{◌/◌, ◌%◌, ◌==◌, ◌&&◌, ◌≤◌, ◌<◌, [], ℕ}
-use Rattle.std.proofs.Common.{List, Bool, true, false, not, cond, length, take, refl, sym, ap}
-use Rattle.std.proofs.Common.{subst, arith}
-use Rattle.std.specs.Prelude.{if◌then◌else◌, Option, Some, None, IfSome, MatchOption, chars}
-use Rattle.std.specs.Prelude.{nat_lt}
+use Rattle.std.proofs.Common.{zero, suc, ◌||◌, Bor, ◌≡◌, ◌++◌, ◌∷◌, ◌+◌, ◌/◌, ◌%◌, ◌==◌, ◌&&◌, ◌≤◌, ◌<◌, [], ℕ, List, Bool, true, false, not, cond, length, take, refl, sym, ap, subst, arith}
+use Rattle.std.specs.Prelude.{if◌then◌else◌, Option, Some, None, IfSome, MatchOption, chars, nat_lt}
 use Rattle.std.specs.Char.{encode_utf8}
 use Rattle.std.specs.Fmt.{digit_glyph, digits, digits_onto}
 use Rattle.std.specs.List.{after_first, before_first, flat_map, list_any, position_or_len}
@@ -12,8 +8,7 @@ use Rattle.std.specs.Str.{IsUtf8}
 use Rattle.std.proofs.Math.Utf8.{encode, encodes}
 use Rattle.std.proofs.lemmas.Bool.Decides.{nat_tests}
 use Rattle.std.proofs.lemmas.Str.{encodes-chars}
-use Rattle.ps_filetype.specs.Shown.{control_escape, hex_digit, is_printed, is_quoted, other_char}
-use Rattle.ps_filetype.specs.Shown.{is_hidden, quoted_char, quotes, shown_byte, shown_name, shown_path, trimmed}
+use Rattle.ps_filetype.specs.Shown.{control_escape, hex_digit, is_printed, is_quoted, other_char, is_hidden, quoted_char, quotes, shown_byte, shown_name, shown_path, trimmed}
 use Rattle.ps_report.specs.SlotLines.{one_line}
 
 pub and_left : (x y : Bool) → (x && y) ≡ true → x ≡ true

@@ -1,6 +1,5 @@
 -- The parts of a report that have no line of a segment, and those that are put together.
-use Rattle.std.proofs.Common.{◌≡◌, ◌∙◌, ◌++◌, ◌∷◌, [], ℕ}
-use Rattle.std.proofs.Common.{List, Option, Some, None, true, false, codes, refl, sym, ap}
+use Rattle.std.proofs.Common.{◌≡◌, ◌∙◌, ◌++◌, ◌∷◌, [], ℕ, List, Option, Some, None, true, false, codes, refl, sym, ap}
 use Rattle.std.specs.Prelude.{decimal}
 use Rattle.std.proofs.lemmas.List.{append_assoc}
 use Rattle.ps_words.specs.FaultText.{fault_text, kind_of, name_of, number_of, part_text}

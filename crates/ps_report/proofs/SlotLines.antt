@@ -1,11 +1,9 @@
 -- The lines of a text to which a line is added.
-use Rattle.std.proofs.Common.{◌≡◌, ◌∙◌, ◌++◌, ◌∷◌, ◌==◌, [], ℕ, List}
-use Rattle.std.proofs.Common.{Bool, true, false, not, cond, append-nil, refl, sym, subst, ap}
+use Rattle.std.proofs.Common.{◌≡◌, ◌∙◌, ◌++◌, ◌∷◌, ◌==◌, [], ℕ, List, Bool, true, false, not, cond, append-nil, refl, sym, subst, ap}
 use Rattle.std.specs.Prelude.{if◌then◌else◌}
 use Rattle.std.specs.List.{filter}
 use Rattle.std.proofs.lemmas.List.{append_assoc}
-use Rattle.ps_report.specs.SlotLines.{AddsSlotLines, indent, is_slot_line, lines_of, one_line}
-use Rattle.ps_report.specs.SlotLines.{other_line, slot_lines, with_first}
+use Rattle.ps_report.specs.SlotLines.{AddsSlotLines, indent, is_slot_line, lines_of, one_line, other_line, slot_lines, with_first}
 use Rattle.ps_report.proofs.OneLine.{and_left, and_right}
 
 -- a line ends at the first byte 10

@@ -1,7 +1,6 @@
 -- A verdict that is right says 1 exactly where the files are refused; if it is to be strict, where
 -- there is a warning too.
-use Rattle.std.proofs.Common.{◌≡◌, ◌↔◌, ◌⊎◌, ◌<◌, ◌==◌, ◌&&◌, not}
-use Rattle.std.proofs.Common.{ℕ, Bool, List, false, true, inl, inr, refl, arith}
+use Rattle.std.proofs.Common.{◌≡◌, ◌↔◌, ◌⊎◌, ◌<◌, ◌==◌, ◌&&◌, not, ℕ, Bool, List, false, true, inl, inr, refl, arith}
 use Rattle.std.specs.Prelude.{if◌then◌else◌}
 use Rattle.std.proofs.lemmas.Bool.Decides.{nat_tests}
 use Rattle.ps_resolve.specs.Standing.{NoneStands}

@@ -1,18 +1,14 @@
 -- The lines of a report to which a line is added that is a warning's, or none's.
-use Rattle.std.proofs.Common.{◌≡◌, ◌∙◌, ◌+◌, ◌++◌, ◌∷◌, ◌==◌, ◌&&◌}
-use Rattle.std.proofs.Common.{[], ℕ, List, Bool, true, false, not, cond, append-nil, length}
-use Rattle.std.proofs.Common.{◌<◌, Bor, refl, sym, subst, ap, arith, get_or, take}
+use Rattle.std.proofs.Common.{◌≡◌, ◌∙◌, ◌+◌, ◌++◌, ◌∷◌, ◌==◌, ◌&&◌, [], ℕ, List, Bool, true, false, not, cond, append-nil, length, ◌<◌, Bor, refl, sym, subst, ap, arith, get_or, take}
 use Rattle.std.specs.Prelude.{if◌then◌else◌, Option, Some, None, IfSome}
 use Rattle.std.specs.List.{after_first, before_first, filter, flat_map, list_all, position_or_len}
 use Rattle.std.proofs.lemmas.Bool.Decides.{nat_tests}
 use Rattle.std.proofs.lemmas.List.{append_assoc, length-take-le}
 use Rattle.std.proofs.lemmas.List.Sums.{passes_at_first, split_at_first}
-use Rattle.ps_report.specs.SlotLines.{AddsSlotLines, is_slot_line, lines_of, one_line}
-use Rattle.ps_report.specs.SlotLines.{slot_lines, with_first}
+use Rattle.ps_report.specs.SlotLines.{AddsSlotLines, is_slot_line, lines_of, one_line, slot_lines, with_first}
 use Rattle.ps_report.proofs.OneLine.{Splits, and_both, and_left, and_right, one_append}
 use Rattle.ps_report.proofs.SlotLines.{adds_line, adds_no_line, adds_then}
-use Rattle.ps_report.specs.WarningLines.{AddsWarnings, head, indent, is_warning_line, mark, note_line, other_line}
-use Rattle.ps_report.specs.WarningLines.{other_lines, warning_line, warning_lines, warnings_in}
+use Rattle.ps_report.specs.WarningLines.{AddsWarnings, head, indent, is_warning_line, mark, note_line, other_line, other_lines, warning_line, warning_lines, warnings_in}
 
 -- a line ends at the first byte 10
 more_ends : (b : ℕ) (line rest : List ℕ) (t : Bool) → (b == 10) ≡ t

@@ -1,7 +1,6 @@
 -- What is inside the strings of a report as JSON: texts, and names.
 -- Source: RFC 8259; which characters are escaped is this project's profile.
-use Rattle.std.specs.Prelude.{ℕ, ◌==◌, ◌/◌, ◌%◌, if◌then◌else◌, false, List, []}
-use Rattle.std.specs.Prelude.{◌∷◌, ◌++◌, Option, Some, None, chars, codes}
+use Rattle.std.specs.Prelude.{ℕ, ◌==◌, ◌/◌, ◌%◌, if◌then◌else◌, false, List, [], ◌∷◌, ◌++◌, Option, Some, None, chars, codes}
 use Rattle.std.specs.Char.{encode_utf8, is_control}
 use Rattle.std.specs.Fmt.{digit_glyph}
 use Rattle.std.specs.List.{flat_map}

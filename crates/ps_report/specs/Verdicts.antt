@@ -1,7 +1,6 @@
 -- What a check finds: whether the files are linked, the line that says so, and the status.
 -- Source: this project's profile.
-use Rattle.std.specs.Prelude.{◌≡◌, ℕ, ◌==◌, ◌&&◌, not, if◌then◌else◌, Bool}
-use Rattle.std.specs.Prelude.{List, ◌++◌, Option, Some, None, Result, Ok, codes, decimal}
+use Rattle.std.specs.Prelude.{◌≡◌, ℕ, ◌==◌, ◌&&◌, not, if◌then◌else◌, Bool, List, ◌++◌, Option, Some, None, Result, Ok, codes, decimal}
 use Rattle.std.specs.Result.{IsErr}
 use Rattle.ps_resolve.specs.Parts.{HasItsParts}
 use Rattle.ps_resolve.specs.Sources.{order_of}

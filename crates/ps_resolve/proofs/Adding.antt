@@ -1,9 +1,6 @@
 -- The queue of names that are requested, of which only the first ten are kept, and the rounds that
 -- it gives.
-use Rattle.std.proofs.Common.{◌≡◌, ℕ, ◌+◌, ◌<◌, ◌≤◌, List, [], ◌∷◌}
-use Rattle.std.proofs.Common.{◌++◌, ◌-◌, length, length-append, append_assoc, append-nil}
-use Rattle.std.proofs.Common.{take, Bool, true, false, Option, Some, None, inl, inr, refl, sym}
-use Rattle.std.proofs.Common.{◌∙◌, ap, arith}
+use Rattle.std.proofs.Common.{◌≡◌, ℕ, ◌+◌, ◌<◌, ◌≤◌, List, [], ◌∷◌, ◌++◌, ◌-◌, length, length-append, append_assoc, append-nil, take, Bool, true, false, Option, Some, None, inl, inr, refl, sym, ◌∙◌, ap, arith}
 use Rattle.std.specs.Prelude.{◌⊎◌, All, if◌then◌else◌}
 use Rattle.std.proofs.lemmas.Bool.{cases_lt}
 use Rattle.std.proofs.lemmas.List.{take-append-le, take_all, length-take, length-take-le}
@@ -11,9 +8,7 @@ use Rattle.std.proofs.lemmas.List.Elements.{All-nil, All-cons, All-append}
 use Rattle.std.specs.List.{slice_get, filter, range_with_len}
 use Rattle.ps_words.specs.declared.order.Order.{Order}
 use Rattle.ps_linkinfo.specs.RecordCounts.{is_unit_reference, units_in as units_asked}
-use Rattle.ps_resolve.specs.Added.{is_already_known, unit_references, all_unit_references}
-use Rattle.ps_resolve.specs.Added.{requested_from, unplaced_fault, placed_fault, added_segment}
-use Rattle.ps_resolve.specs.Added.{RoundsOutcome, after, rounds_from}
+use Rattle.ps_resolve.specs.Added.{is_already_known, unit_references, all_unit_references, requested_from, unplaced_fault, placed_fault, added_segment, RoundsOutcome, after, rounds_from}
 use Rattle.ps_words.specs.declared.fault.Fault.{Fault}
 use Rattle.ps_linkinfo.specs.declared.record.Body.{Body}
 use Rattle.ps_linkinfo.specs.declared.record.Body.TheVariants.{UnitRef}

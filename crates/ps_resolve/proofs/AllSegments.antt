@@ -1,6 +1,5 @@
 -- One segment more of those that are linked one after another.
-use Rattle.std.proofs.Common.{◌≡◌, ℕ, ◌+◌, ◌<◌, ◌≤◌, ◌++◌, List, []}
-use Rattle.std.proofs.Common.{◌∷◌, length, map, get_or, drop, Option, None, arith}
+use Rattle.std.proofs.Common.{◌≡◌, ℕ, ◌+◌, ◌<◌, ◌≤◌, ◌++◌, List, [], ◌∷◌, length, map, get_or, drop, Option, None, arith}
 use Rattle.std.specs.Prelude.{⊤}
 use Rattle.ps_words.specs.declared.order.Order.{Order}
 use Rattle.ps_words.specs.declared.edit.Edit.{Edit}

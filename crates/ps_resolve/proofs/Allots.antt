@@ -1,7 +1,5 @@
 -- One record more of the privates.
-use Rattle.std.proofs.Common.{rules, ◌≡◌, ℕ, ◌+◌, ◌<◌, ◌≤◌, ◌++◌, List}
-use Rattle.std.proofs.Common.{[], ◌∷◌, length, length-append, Bool, true, false, is_some}
-use Rattle.std.proofs.Common.{Option, Some, None, refl, sym, ◌∙◌, ap, arith, append_assoc}
+use Rattle.std.proofs.Common.{rules, ◌≡◌, ℕ, ◌+◌, ◌<◌, ◌≤◌, ◌++◌, List, [], ◌∷◌, length, length-append, Bool, true, false, is_some, Option, Some, None, refl, sym, ◌∙◌, ap, arith, append_assoc}
 use Rattle.std.specs.Prelude.{nat_eq}
 use Rattle.std.specs.Option.{option_eq}
 use Rattle.std.specs.Bool.{Decides}
@@ -10,10 +8,7 @@ use Rattle.std.specs.Str.{bytes_eq}
 use Rattle.std.proofs.lemmas.Bool.Decides.{nat_tests}
 use Rattle.ps_words.specs.declared.fault.Reason.TheVariants as reason
 use Rattle.ps_linkinfo.specs.RecordCounts.{is_private_reference, privates_in}
-use Rattle.ps_resolve.specs.Privates.{Owner}
-use Rattle.ps_resolve.specs.Privates.{words_in, allotted_privates, private_words}
-use Rattle.ps_resolve.specs.Privates.{private_fault, all_allotted, first_private_fault}
-use Rattle.ps_resolve.specs.Privates.{unallotted_fault}
+use Rattle.ps_resolve.specs.Privates.{Owner, words_in, allotted_privates, private_words, private_fault, all_allotted, first_private_fault, unallotted_fault}
 use Rattle.ps_resolve.specs.Stops.{IsStop}
 use Rattle.ps_linkinfo.specs.declared.record.LinkRecord.{LinkRecord as Record}
 use Rattle.ps_resolve.specs.Builders.{FindsNamesake}

@@ -2,8 +2,7 @@
 use Rattle.std.proofs.Common.{arith, ◌≡◌, ◌+◌, List, ◌∷◌, Bool, cond}
 use Rattle.std.specs.Prelude.{count_by}
 use Rattle.std.proofs.lemmas.List.Sums.{sum_by-cons}
-use Rattle.ps_linkinfo.specs.RecordCounts.{is_private_reference, is_public_reference}
-use Rattle.ps_linkinfo.specs.RecordCounts.{is_unit_reference, privates_in, publics_in, units_in}
+use Rattle.ps_linkinfo.specs.RecordCounts.{is_private_reference, is_public_reference, is_unit_reference, privates_in, publics_in, units_in}
 use Rattle.ps_linkinfo.specs.declared.record.LinkRecord.{LinkRecord as Record}
 
 pub one_more : {X : Type 0} (test : X → Bool) (x : X) (xs : List X)

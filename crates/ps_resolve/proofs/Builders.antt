@@ -1,9 +1,6 @@
 -- What the builders of definitions and of allotments say of their refusals, by looking back; and
 -- how the privates of an allotment are.
-use Rattle.std.proofs.Common.{rules, ◌≡◌, ℕ, zero, suc, ◌+◌, ◌<◌, List, []}
-use Rattle.std.proofs.Common.{◌∷◌, ◌++◌, length, length-append, take, map, Option, Some}
-use Rattle.std.proofs.Common.{None, Bool, true, refl, sym, ap, subst, ◌∙◌, inl, inr, arith}
-use Rattle.std.proofs.Common.{append_assoc}
+use Rattle.std.proofs.Common.{rules, ◌≡◌, ℕ, zero, suc, ◌+◌, ◌<◌, List, [], ◌∷◌, ◌++◌, length, length-append, take, map, Option, Some, None, Bool, true, refl, sym, ap, subst, ◌∙◌, inl, inr, arith, append_assoc}
 use Rattle.std.specs.Prelude.{◌==◌, ◌&&◌, ◌||◌, count_by, nat_le, nat_lt}
 use Rattle.std.specs.Bool.{Decides}
 use Rattle.std.specs.List.{enumerate_from, filter_map, slice_get, flat_map}
@@ -20,25 +17,19 @@ use Rattle.ps_words.specs.declared.fault.Reason.TheVariants as reason
 use Rattle.ps_resolve.specs.First.{Before}
 use Rattle.ps_resolve.specs.Searches.{first_of, fault_if}
 use Rattle.ps_resolve.specs.Symbols.{definitions, first_duplicate}
-use Rattle.ps_resolve.specs.Privates.{Owner}
-use Rattle.ps_resolve.specs.Privates.{allotted_privates, private_words, private_fault}
-use Rattle.ps_resolve.specs.Privates.{all_allotted, all_words, first_private_fault}
+use Rattle.ps_resolve.specs.Privates.{Owner, allotted_privates, private_words, private_fault, all_allotted, all_words, first_private_fault}
 use Rattle.ps_resolve.specs.Offsets.{RiseFrom}
 use Rattle.ps_resolve.specs.Standing.Phrases.{SomeItem}
 use Rattle.ps_resolve.specs.Standing.Definitions.{HasEarlierNamesake}
 use Rattle.ps_linkinfo.specs.RecordCounts.{is_definition, is_private_reference}
 use Rattle.ps_resolve.specs.References.{words_taken, words_taken_by}
 use Rattle.ps_resolve.specs.Stops.{IsStop, duplicate_fault}
-use Rattle.ps_resolve.specs.Builders.{HaveNoNamesakes, StopsDefinitions, offset_at}
-use Rattle.ps_resolve.specs.Builders.{HaveDistinctPrivates, HaveRoom, IsUnfit, IsFirstUnfit}
-use Rattle.ps_resolve.specs.Builders.{StopsPrivates, asked_in, all_asked, asked_of, AreByRecord}
-use Rattle.ps_resolve.specs.Builders.{words_of_all}
+use Rattle.ps_resolve.specs.Builders.{HaveNoNamesakes, StopsDefinitions, offset_at, HaveDistinctPrivates, HaveRoom, IsUnfit, IsFirstUnfit, StopsPrivates, asked_in, all_asked, asked_of, AreByRecord, words_of_all}
 use Rattle.ps_resolve.specs.declared.allotment.Private.{Private}
 use Rattle.ps_resolve.specs.declared.linkage.SegmentPlace.{SegmentPlace}
 use Rattle.ps_resolve.specs.declared.linkage.Stop.{Stop}
 use Rattle.ps_resolve.specs.declared.linkage.Stop.TheVariants.{Refused, Memory}
-use Rattle.ps_resolve.proofs.LookingBack.{is_again, again, take_prefix, longer, definitions_carried}
-use Rattle.ps_resolve.proofs.LookingBack.{words_before, reason_at, record_fault, privates_carried}
+use Rattle.ps_resolve.proofs.LookingBack.{is_again, again, take_prefix, longer, definitions_carried, words_before, reason_at, record_fault, privates_carried}
 use Rattle.ps_resolve.proofs.Allots.{privates_counted}
 use Rattle.ps_resolve.proofs.Duplicates.{definitions_counted}
 use Rattle.ps_resolve.proofs.FirstSlots.{some_mapped}

@@ -1,14 +1,10 @@
 -- The one table of segments: the host's own by slot, into which the added ones are put.
-use Rattle.std.proofs.Common.{◌≡◌, ◌≢◌, ℕ, zero, suc, ◌+◌, ◌<◌, ◌≤◌}
-use Rattle.std.proofs.Common.{List, [], ◌∷◌, ◌++◌, length, take, drop, get_or, Bool}
-use Rattle.std.proofs.Common.{true, false, if◌then◌else◌, Option, Some, None, Result, Ok}
-use Rattle.std.proofs.Common.{refl, sym, ◌∙◌, ap, subst, arith}
+use Rattle.std.proofs.Common.{◌≡◌, ◌≢◌, ℕ, zero, suc, ◌+◌, ◌<◌, ◌≤◌, List, [], ◌∷◌, ◌++◌, length, take, drop, get_or, Bool, true, false, if◌then◌else◌, Option, Some, None, Result, Ok, refl, sym, ◌∙◌, ap, subst, arith}
 use Rattle.std.specs.Prelude.{All, is_none, nat_lt}
 use Rattle.std.specs.List.{filter, filter_map, find, insert, range_with_len}
 use Rattle.std.specs.Option.{option_map_or, option_or}
 use Rattle.std.specs.Result.{result_ok}
-use Rattle.std.proofs.lemmas.List.Elements.{All-nil, All-cons, All-head, All-tail, All-append}
-use Rattle.std.proofs.lemmas.List.Elements.{All-weaker, filter_passes}
+use Rattle.std.proofs.lemmas.List.Elements.{All-nil, All-cons, All-head, All-tail, All-append, All-weaker, filter_passes}
 use Rattle.std.proofs.lemmas.List.Folds.{find-append}
 use Rattle.std.proofs.lemmas.List.{take-append-drop, drop_all}
 use Rattle.ps_words.specs.declared.order.Order.{Order}
@@ -21,8 +17,7 @@ use Rattle.ps_resolve.specs.Added.{added_segment, empty_slots}
 use Rattle.ps_resolve.specs.Faults.{is_role, source_fault}
 use Rattle.ps_resolve.specs.Linkable.{AscendFrom}
 use Rattle.ps_resolve.specs.Readings.{read_segment, read_segments}
-use Rattle.ps_resolve.specs.KnownSegments.{is_in_slot, put_by_slot, segment_in_slot}
-use Rattle.ps_resolve.specs.KnownSegments.{segments_in_slots}
+use Rattle.ps_resolve.specs.KnownSegments.{is_in_slot, put_by_slot, segment_in_slot, segments_in_slots}
 use Rattle.ps_resolve.specs.declared.reading.added.UnitReference.{UnitReference}
 use Rattle.ps_resolve.proofs.EachSegment.{added_made}
 use Rattle.ps_resolve.proofs.InSlots.{InPlace, found_there, same_kept}

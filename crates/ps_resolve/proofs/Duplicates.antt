@@ -1,9 +1,6 @@
 -- One record more of a table of definitions.
-use Rattle.std.proofs.Common.{rules, ◌≡◌, ℕ, ◌+◌, List, [], ◌∷◌, ◌++◌, length}
-use Rattle.std.proofs.Common.{true, false, Option, Some, None, is_some, refl, arith, append_assoc}
-use Rattle.std.proofs.Common.{length-append, ◌<◌}
-use Rattle.ps_resolve.specs.Symbols.{def_in, definitions, definition_of, first_duplicate}
-use Rattle.ps_resolve.specs.Symbols.{first_duplicate_from}
+use Rattle.std.proofs.Common.{rules, ◌≡◌, ℕ, ◌+◌, List, [], ◌∷◌, ◌++◌, length, true, false, Option, Some, None, is_some, refl, arith, append_assoc, length-append, ◌<◌}
+use Rattle.ps_resolve.specs.Symbols.{def_in, definitions, definition_of, first_duplicate, first_duplicate_from}
 use Rattle.ps_resolve.specs.declared.definitions.Def.{Def}
 use Rattle.ps_linkinfo.specs.RecordCounts.{is_definition, definitions_in}
 use Rattle.ps_linkinfo.specs.declared.record.LinkRecord.{LinkRecord as Record}

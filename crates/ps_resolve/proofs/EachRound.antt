@@ -1,9 +1,7 @@
 -- The rounds in which units are added: what holds of all of them, where it goes from each to the
 -- one
 -- before.
-use Rattle.std.proofs.Common.{◌≡◌, ℕ, ◌+◌, List, [], ◌∷◌, ◌++◌, length}
-use Rattle.std.proofs.Common.{Option, Some, None, Bool, true, false, refl, sym, ap, subst}
-use Rattle.std.proofs.Common.{◌∙◌, arith, append_assoc, append-nil, is_none, is_some, take}
+use Rattle.std.proofs.Common.{◌≡◌, ℕ, ◌+◌, List, [], ◌∷◌, ◌++◌, length, Option, Some, None, Bool, true, false, refl, sym, ap, subst, ◌∙◌, arith, append_assoc, append-nil, is_none, is_some, take}
 use Rattle.std.specs.Prelude.{if◌then◌else◌}
 use Rattle.std.specs.List.{enumerate_from, slice_get, find}
 use Rattle.std.specs.Option.{option_map, option_or, option_and_then}
@@ -12,14 +10,10 @@ use Rattle.std.proofs.lemmas.Grind.{flat_map-append}
 use Rattle.ps_codefile.specs.Dictionary.{slots}
 use Rattle.ps_codefile.specs.declared.entry.Role.{Role}
 use Rattle.ps_codefile.specs.declared.entry.Role.TheVariants as role
-use Rattle.ps_resolve.specs.Added.{unit_references, all_unit_references, requested_from}
-use Rattle.ps_resolve.specs.Added.{empty_slots, is_missing, unplaced_fault, placed_fault, as_added}
-use Rattle.ps_resolve.specs.Added.{added_segment, request_of, RoundsOutcome, after, rounds_from}
-use Rattle.ps_resolve.specs.Added.{requested_units, rounds, added_segments}
+use Rattle.ps_resolve.specs.Added.{unit_references, all_unit_references, requested_from, empty_slots, is_missing, unplaced_fault, placed_fault, as_added, added_segment, request_of, RoundsOutcome, after, rounds_from, requested_units, rounds, added_segments}
 use Rattle.ps_resolve.specs.Faults.{entry_fault, code_fault, request_fault}
 use Rattle.ps_resolve.specs.Requests.{missing_at}
-use Rattle.ps_resolve.specs.Sources.{Segment, is_named, has_entry, chosen_library, unit_source}
-use Rattle.ps_resolve.specs.Sources.{segment_from, own_segments, units_of}
+use Rattle.ps_resolve.specs.Sources.{Segment, is_named, has_entry, chosen_library, unit_source, segment_from, own_segments, units_of}
 use Rattle.ps_resolve.specs.declared.reading.added.UnitReference.{UnitReference}
 use Rattle.ps_resolve.specs.declared.reading.request.Request.{Request}
 use Rattle.ps_resolve.proofs.Adding.{no_name_left, requested-append, round_adds, round_refused}

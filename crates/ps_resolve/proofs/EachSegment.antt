@@ -1,7 +1,5 @@
 -- What a segment of a link is made of, and what holds of each.
-use Rattle.std.proofs.Common.{rules, ◌≡◌, ℕ, ◌<◌, List, [], ◌∷◌, Bool, true}
-use Rattle.std.proofs.Common.{false, Option, Some, None, Result, Ok, refl, ◌∙◌, ◌==◌, inl}
-use Rattle.std.proofs.Common.{inr, arith}
+use Rattle.std.proofs.Common.{rules, ◌≡◌, ℕ, ◌<◌, List, [], ◌∷◌, Bool, true, false, Option, Some, None, Result, Ok, refl, ◌∙◌, ◌==◌, inl, inr, arith}
 use Rattle.std.specs.Prelude.{◌⊎◌, All}
 use Rattle.std.specs.List.{filter_map, cons_option, find}
 use Rattle.std.specs.Option.{option_and_then, option_map}
@@ -18,8 +16,7 @@ use Rattle.ps_codefile.specs.declared.entry.Role.{Role}
 use Rattle.ps_codefile.specs.declared.entry.Role.TheVariants.{Wanted}
 use Rattle.ps_resolve.specs.Added.{added_segment, added_segments, as_added, segment_at}
 use Rattle.ps_resolve.specs.Faults.{is_role}
-use Rattle.ps_resolve.specs.Sources.{Segment, file_at, own_segment, segment_from, segment_with}
-use Rattle.ps_resolve.specs.Sources.{source_of, unit_source}
+use Rattle.ps_resolve.specs.Sources.{Segment, file_at, own_segment, segment_from, segment_with, source_of, unit_source}
 use Rattle.ps_resolve.specs.declared.reading.added.UnitReference.{UnitReference}
 use Rattle.ps_resolve.proofs.FirstSlots.{some_mapped}
 

@@ -1,31 +1,25 @@
 -- Records of a kind that have the name of an earlier one: that none has, where the numbers of the
 -- names of privates differ, and the first of them.
-use Rattle.std.proofs.Common.{◌≡◌, ℕ, nat_cmp, zero, suc, ◌+◌, ◌<◌, ◌==◌}
-use Rattle.std.proofs.Common.{◌++◌, List, [], ◌∷◌, length, take, Bool, true, false, Some}
-use Rattle.std.proofs.Common.{refl, sym, ◌∙◌, ap, subst, arith, append_assoc, append-nil}
+use Rattle.std.proofs.Common.{◌≡◌, ℕ, nat_cmp, zero, suc, ◌+◌, ◌<◌, ◌==◌, ◌++◌, List, [], ◌∷◌, length, take, Bool, true, false, Some, refl, sym, ◌∙◌, ap, subst, arith, append_assoc, append-nil}
 use Rattle.std.specs.Prelude.{nat_lt}
 use Rattle.std.specs.Bool.{Decides}
 use Rattle.std.specs.Int.{w64, from_be_bytes}
-use Rattle.std.specs.List.{AllByRecursion, IsAllAdjacentAnswer, IsDistinct, filter, list_any}
-use Rattle.std.specs.List.{slice_get}
+use Rattle.std.specs.List.{AllByRecursion, IsAllAdjacentAnswer, IsDistinct, filter, list_any, slice_get}
 use Rattle.std.specs.List.Sorted.{IsPermutation, IsSorted, IsStrictlyIncreasing}
 use Rattle.std.specs.Str.{bytes_eq}
 use Rattle.std.proofs.lemmas.Bool.{false≢true}
 use Rattle.std.proofs.lemmas.List.Kept.{AllPairs-from_increasing}
 use Rattle.std.proofs.lemmas.List.{length-map}
-use Rattle.std.proofs.lemmas.List.Sorted.{IsNonDecreasingBy-from_sort, IsPermutation-refl}
-use Rattle.std.proofs.lemmas.List.Sorted.{IsPermutation-sym}
+use Rattle.std.proofs.lemmas.List.Sorted.{IsNonDecreasingBy-from_sort, IsPermutation-refl, IsPermutation-sym}
 use Rattle.std.proofs.lemmas.List.Sums.{length-filter}
-use Rattle.std.proofs.lemmas.Map.Keys.{IsDistinct-head, IsDistinct-tail, IsDistinct-from_apart}
-use Rattle.std.proofs.lemmas.Map.Keys.{IsDistinct-IsPermutation, IsStrictlyIncreasing-from_distinct}
+use Rattle.std.proofs.lemmas.Map.Keys.{IsDistinct-head, IsDistinct-tail, IsDistinct-from_apart, IsDistinct-IsPermutation, IsStrictlyIncreasing-from_distinct}
 use Rattle.std.proofs.lemmas.Option.{slice_get_within}
 use Rattle.ps_linkinfo.specs.RecordCounts.{is_private_reference, privates_in}
 use Rattle.ps_linkinfo.specs.declared.record.Body.{Body}
 use Rattle.ps_linkinfo.specs.declared.record.LinkRecord.{LinkRecord as Record}
 use Rattle.ps_resolve.specs.Builders.{HaveNoNamesakes, IsFirstNamesake, private_numbers}
 use Rattle.ps_resolve.specs.Standing.Definitions.{HasEarlierNamesake}
-use Rattle.ps_resolve.proofs.LookingBack.{again, is_again, longer, more_names, names_of, seen_is}
-use Rattle.ps_resolve.proofs.LookingBack.{take_prefix}
+use Rattle.ps_resolve.proofs.LookingBack.{again, is_again, longer, more_names, names_of, seen_is, take_prefix}
 
 abbrev number : Record → ℕ
 number r = from_be_bytes w64 r.name

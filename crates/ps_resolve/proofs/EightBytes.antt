@@ -1,22 +1,16 @@
 -- The names of all slots of a linked file have eight bytes each: those of the host's dictionary,
 -- and those of UNITREF records.
-use Rattle.std.proofs.Common.{◌≡◌, ℕ, ◌+◌, ◌*◌, ◌<◌, ◌≤◌, ◌==◌, List}
-use Rattle.std.proofs.Common.{[], ◌∷◌, ◌++◌, length, length-append, map, Bool, true}
-use Rattle.std.proofs.Common.{false, if◌then◌else◌, Option, Some, None, refl, sym, ap}
-use Rattle.std.proofs.Common.{◌∙◌, subst, inl, inr, arith}
+use Rattle.std.proofs.Common.{◌≡◌, ℕ, ◌+◌, ◌*◌, ◌<◌, ◌≤◌, ◌==◌, List, [], ◌∷◌, ◌++◌, length, length-append, map, Bool, true, false, if◌then◌else◌, Option, Some, None, refl, sym, ap, ◌∙◌, subst, inl, inr, arith}
 use Rattle.std.specs.Prelude.{All}
 use Rattle.std.specs.List.{flat_map, find}
 use Rattle.std.specs.Option.{option_map_or}
 use Rattle.std.proofs.lemmas.List.{length-drop}
-use Rattle.std.proofs.lemmas.List.Elements.{All-nil, All-cons, All-tail, All-append, All-push}
-use Rattle.std.proofs.lemmas.List.Elements.{All-from_get_or}
+use Rattle.std.proofs.lemmas.List.Elements.{All-nil, All-cons, All-tail, All-append, All-push, All-from_get_or}
 use Rattle.std.proofs.lemmas.List.FromFn.{get_or-range_with_len}
 use Rattle.std.proofs.lemmas.Bool.{cond_both}
 use Rattle.ps_words.specs.declared.order.Order.{Order}
 use Rattle.ps_codefile.specs.Dictionary.{slots, name_at, entry_at, information_of}
-use Rattle.ps_resolve.specs.Added.{is_already_known, unit_references, all_unit_references}
-use Rattle.ps_resolve.specs.Added.{requested_from, added_segments, requested_units, segment_at}
-use Rattle.ps_resolve.specs.Added.{segments, slot_name, slot_names}
+use Rattle.ps_resolve.specs.Added.{is_already_known, unit_references, all_unit_references, requested_from, added_segments, requested_units, segment_at, segments, slot_name, slot_names}
 use Rattle.ps_linkinfo.specs.RecordCounts.{is_unit_reference}
 use Rattle.ps_codefile.specs.declared.entry.Entry.{Entry}
 use Rattle.ps_codefile.specs.declared.entry.Role.{Role}
@@ -25,8 +19,7 @@ use Rattle.ps_linkinfo.specs.Records.{reading}
 use Rattle.ps_linkinfo.specs.declared.record.LinkRecord.{LinkRecord as Record}
 use Rattle.ps_resolve.specs.Sources.{Segment, own_segment, own_segments, units_of, records_of}
 use Rattle.ps_resolve.specs.declared.reading.added.UnitReference.{UnitReference}
-use Rattle.ps_resolve.proofs.EachSegment.{IsMade, added_made, at_slot, each_slot, find_has}
-use Rattle.ps_resolve.proofs.EachSegment.{own_made}
+use Rattle.ps_resolve.proofs.EachSegment.{IsMade, added_made, at_slot, each_slot, find_has, own_made}
 use Rattle.ps_resolve.proofs.Items.{of_all}
 use Rattle.ps_resolve.proofs.OfRounds.{each_added, queue_of}
 

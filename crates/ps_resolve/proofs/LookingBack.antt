@@ -1,8 +1,6 @@
 -- The searches of a segment's records that carry what came before are those that look back over the
 -- records. What is said of whole links, in ps_laws, is on them too.
-use Rattle.std.proofs.Common.{◌≡◌, ℕ, zero, suc, ◌+◌, ◌<◌, List, [], ◌∷◌}
-use Rattle.std.proofs.Common.{◌++◌, length, take, map, Option, Some, Bool, true, refl, sym, inl}
-use Rattle.std.proofs.Common.{inr, arith, append_assoc, append-nil, is_some}
+use Rattle.std.proofs.Common.{◌≡◌, ℕ, zero, suc, ◌+◌, ◌<◌, List, [], ◌∷◌, ◌++◌, length, take, map, Option, Some, Bool, true, refl, sym, inl, inr, arith, append_assoc, append-nil, is_some}
 use Rattle.std.specs.Prelude.{◌⊎◌, ◌&&◌, ◌||◌, nat_lt}
 use Rattle.std.specs.Bool.{Decides}
 use Rattle.std.specs.List.{enumerate_from, slice_get, list_any, filter, cons_option}
@@ -18,8 +16,7 @@ use Rattle.ps_words.specs.declared.fault.Fault.{Fault}
 use Rattle.ps_words.specs.declared.fault.Reason.{Reason}
 use Rattle.ps_words.specs.declared.fault.Reason.TheVariants as reason
 use Rattle.ps_resolve.specs.Searches.{first_of, fault_if}
-use Rattle.ps_resolve.specs.Symbols.{def_in, definition_in, definitions, definition_of}
-use Rattle.ps_resolve.specs.Symbols.{first_duplicate_from}
+use Rattle.ps_resolve.specs.Symbols.{def_in, definition_in, definitions, definition_of, first_duplicate_from}
 use Rattle.ps_resolve.specs.Privates.{words_in, private_words, private_fault}
 use Rattle.ps_resolve.specs.Standing.Phrases.{SomeBelow}
 use Rattle.ps_resolve.specs.Standing.Definitions.{HasEarlierNamesake}

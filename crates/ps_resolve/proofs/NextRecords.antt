@@ -1,14 +1,10 @@
 -- One record more of a segment.
-use Rattle.std.proofs.Common.{◌≡◌, ℕ, ◌+◌, ◌++◌, List, [], ◌∷◌, map, Bool}
-use Rattle.std.proofs.Common.{true, false, Some, None, Ok, Err, refl, ap, subst, append_assoc}
-use Rattle.std.proofs.Common.{arith}
+use Rattle.std.proofs.Common.{◌≡◌, ℕ, ◌+◌, ◌++◌, List, [], ◌∷◌, map, Bool, true, false, Some, None, Ok, Err, refl, ap, subst, append_assoc, arith}
 use Rattle.std.specs.Prelude.{IsPermutation}
 use Rattle.std.specs.Option.{option_map, option_or}
 use Rattle.std.proofs.lemmas.List.Sorted.{IsPermutation-trans, IsPermutation-append_left}
 use Rattle.ps_linkinfo.specs.Records.{refs_of}
-use Rattle.ps_linkinfo.specs.RecordCounts.{is_private_reference, is_public_reference}
-use Rattle.ps_linkinfo.specs.RecordCounts.{is_unit_reference, privates_in, publics_in}
-use Rattle.ps_linkinfo.specs.RecordCounts.{units_in as units_asked}
+use Rattle.ps_linkinfo.specs.RecordCounts.{is_private_reference, is_public_reference, is_unit_reference, privates_in, publics_in, units_in as units_asked}
 use Rattle.ps_resolve.specs.Privates.{private_words}
 use Rattle.ps_linkinfo.specs.declared.record.Body.{Body}
 use Rattle.ps_linkinfo.specs.declared.record.Body.TheVariants.{UnitRef, PublRef, PrivRef}
@@ -23,8 +19,7 @@ use Rattle.ps_resolve.specs.TakenPlaces.{AreTaken}
 use Rattle.ps_resolve.specs.EditTables.{IsTableOf, edits_of}
 use Rattle.ps_resolve.specs.declared.edit_table.PlaceState.{PlaceState}
 use Rattle.ps_resolve.specs.Stops.{IsStop}
-use Rattle.ps_resolve.specs.References.{Known, words_taken, target_in, target_of, records_fault}
-use Rattle.ps_resolve.specs.References.{records_edits}
+use Rattle.ps_resolve.specs.References.{Known, words_taken, target_in, target_of, records_fault, records_edits}
 use Rattle.ps_resolve.specs.declared.references.Target.{Target}
 use Rattle.ps_resolve.specs.declared.references.Target.TheVariants.{Slot}
 use Rattle.ps_resolve.proofs.Apart.{one_private, one_public, one_unit}

@@ -1,16 +1,13 @@
 -- What is known of each segment of a link whose files were read without a fault.
-use Rattle.std.proofs.Common.{◌≡◌, ℕ, ◌<◌, List, get_or, Some, None, true, sym, ap}
-use Rattle.std.proofs.Common.{subst, ◌∙◌, inl, inr, is_some, arith}
+use Rattle.std.proofs.Common.{◌≡◌, ℕ, ◌<◌, List, get_or, Some, None, true, sym, ap, subst, ◌∙◌, inl, inr, is_some, arith}
 use Rattle.std.specs.Prelude.{◌⊎◌}
 use Rattle.std.specs.Option.{option_and_then}
 use Rattle.ps_codefile.specs.Dictionary.{entry_at, role_of}
 use Rattle.ps_codefile.specs.declared.entry.Role.{Role}
 use Rattle.ps_codefile.specs.declared.entry.Role.TheVariants as role
-use Rattle.ps_resolve.specs.Added.{added_fault, added_segments, as_added, request_of, segment_at}
-use Rattle.ps_resolve.specs.Added.{segments}
+use Rattle.ps_resolve.specs.Added.{added_fault, added_segments, as_added, request_of, segment_at, segments}
 use Rattle.ps_resolve.specs.AllFaults.{reading_fault}
-use Rattle.ps_resolve.specs.Faults.{code_fault, role_fault, source_fault, sources_fault}
-use Rattle.ps_resolve.specs.Faults.{slots_fault, no_host_fault}
+use Rattle.ps_resolve.specs.Faults.{code_fault, role_fault, source_fault, sources_fault, slots_fault, no_host_fault}
 use Rattle.ps_resolve.specs.OfLink.{AreOfLink, IsOfFile, IsOfSlot, IsOfRound}
 use Rattle.ps_resolve.specs.Requests.{request_by_slot}
 use Rattle.ps_resolve.specs.Sources.{Segment, host_of, order_of, source_of, own_segment}

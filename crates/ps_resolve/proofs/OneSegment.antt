@@ -1,6 +1,5 @@
 -- The edits of one segment link it.
-use Rattle.std.proofs.Common.{rules, arith, ◌≡◌, ℕ, ◌-◌, ◌++◌, List, [], ◌∷◌}
-use Rattle.std.proofs.Common.{length, true, Option}
+use Rattle.std.proofs.Common.{rules, arith, ◌≡◌, ℕ, ◌-◌, ◌++◌, List, [], ◌∷◌, length, true, Option}
 use Rattle.std.specs.Prelude.{IsPermutation}
 use Rattle.std.specs.Option.{option_to_list}
 use Rattle.std.proofs.lemmas.List.Sorted.{IsPermutation-sym}

@@ -1,8 +1,6 @@
 -- The edits of a segment that are no reference's: they cover reserved places, each once, and so are
 -- beside those of the references.
-use Rattle.std.proofs.Common.{rules, ◌≡◌, ℕ, suc, ◌+◌, ◌-◌, ◌<◌, ◌≤◌}
-use Rattle.std.proofs.Common.{◌++◌, ◌&&◌, List, [], ◌∷◌, length, Bool, true, Option}
-use Rattle.std.proofs.Common.{None, get_or, sym, subst, arith}
+use Rattle.std.proofs.Common.{rules, ◌≡◌, ℕ, suc, ◌+◌, ◌-◌, ◌<◌, ◌≤◌, ◌++◌, ◌&&◌, List, [], ◌∷◌, length, Bool, true, Option, None, get_or, sym, subst, arith}
 use Rattle.std.specs.Prelude.{IsPermutation, All, IfSome, nat_le, nat_lt}
 use Rattle.std.specs.Option.{option_to_list}
 use Rattle.std.proofs.lemmas.List.{get_or-set_other, get_or_past}
@@ -19,8 +17,7 @@ use Rattle.ps_resolve.specs.EditTables.{IsTableOf, edits_of, first_state, is_wid
 use Rattle.ps_resolve.specs.TakenPlaces.{AreTaken}
 use Rattle.ps_resolve.specs.declared.edit_table.PlaceState.{PlaceState}
 use Rattle.ps_resolve.specs.declared.edit_table.PlaceState.TheVariants.{Free}
-use Rattle.ps_resolve.proofs.InPlaces.{IsIdle, idle_narrow, table_more, put_more, put_taken}
-use Rattle.ps_resolve.proofs.InPlaces.{none_listed}
+use Rattle.ps_resolve.proofs.InPlaces.{IsIdle, idle_narrow, table_more, put_more, put_taken, none_listed}
 use Rattle.ps_resolve.proofs.Inside.{records_inside}
 
 -- the place of a segment's number is one of the procedure dictionary's

@@ -1,6 +1,5 @@
 -- How long a code is that is whole in its file, and which kinds have one of a linked segment.
-use Rattle.std.proofs.Common.{◌≡◌, ◌&&◌, ◌||◌, ◌+◌, ◌≤◌, ℕ, List, length}
-use Rattle.std.proofs.Common.{Bool, true, false, if◌then◌else◌, Ok, Err, arith}
+use Rattle.std.proofs.Common.{◌≡◌, ◌&&◌, ◌||◌, ◌+◌, ◌≤◌, ℕ, List, length, Bool, true, false, if◌then◌else◌, Ok, Err, arith}
 use Rattle.std.proofs.Math.Dec.{ltb}
 use Rattle.std.specs.List.{slice_range}
 use Rattle.std.proofs.lemmas.List.{length-take, length-drop}

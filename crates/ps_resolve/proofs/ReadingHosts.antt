@@ -1,7 +1,6 @@
 -- The host, read by itself, and what is known of the segments of a link once the files were read
 -- without a fault.
-use Rattle.std.proofs.Common.{arith, ◌≡◌, ℕ, List, length, Bool, if◌then◌else◌}
-use Rattle.std.proofs.Common.{Option, Some, Ok, Err}
+use Rattle.std.proofs.Common.{arith, ◌≡◌, ℕ, List, length, Bool, if◌then◌else◌, Option, Some, Ok, Err}
 use Rattle.std.proofs.Math.Dec.{ltb}
 use Rattle.std.specs.Option.{option_or}
 use Rattle.ps_words.specs.FaultPlaces.{in_file}

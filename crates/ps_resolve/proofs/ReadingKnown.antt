@@ -1,9 +1,6 @@
 -- What is known of the segments of a link once the files were read without a fault: they rise by
 -- slot, and one of them is the host's own.
-use Rattle.std.proofs.Common.{◌≡◌, ℕ, zero, suc, ◌+◌, ◌<◌, ◌≤◌, List, []}
-use Rattle.std.proofs.Common.{◌∷◌, map, length, get_or, Bool, true, false, ◌&&◌, not}
-use Rattle.std.proofs.Common.{Option, Some, None, is_some, Result, Ok, refl, sym, ◌∙◌, ap}
-use Rattle.std.proofs.Common.{arith}
+use Rattle.std.proofs.Common.{◌≡◌, ℕ, zero, suc, ◌+◌, ◌<◌, ◌≤◌, List, [], ◌∷◌, map, length, get_or, Bool, true, false, ◌&&◌, not, Option, Some, None, is_some, Result, Ok, refl, sym, ◌∙◌, ap, arith}
 use Rattle.std.specs.List.{range_with_len, filter_map, find, list_any}
 use Rattle.std.specs.Prelude.{All}
 use Rattle.std.specs.Option.{option_map, option_map_or}
@@ -23,8 +20,7 @@ use Rattle.ps_resolve.specs.Added.{segment_at, segments, added_segments}
 use Rattle.ps_resolve.specs.Searches.{first_of, fault_if}
 use Rattle.ps_codefile.specs.Roles.{is_host, is_empty}
 use Rattle.ps_resolve.specs.Sources.{Segment, own_segment, segment_from, host_of}
-use Rattle.ps_resolve.specs.Faults.{is_role, slot_reason, slots_fault, no_host_fault, sources_fault}
-use Rattle.ps_resolve.specs.Faults.{source_fault}
+use Rattle.ps_resolve.specs.Faults.{is_role, slot_reason, slots_fault, no_host_fault, sources_fault, source_fault}
 use Rattle.ps_resolve.specs.Linkable.{AscendFrom, HasOneHost}
 use Rattle.ps_resolve.proofs.EachRound.{source_made}
 use Rattle.ps_resolve.proofs.EachSegment.{at_slot, each_slot, find_has, own_made}

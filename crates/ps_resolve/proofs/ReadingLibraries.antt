@@ -1,7 +1,5 @@
 -- The libraries of a link, from one of them on.
-use Rattle.std.proofs.Common.{◌≡◌, ℕ, suc, ◌+◌, ◌<◌, List, [], ◌∷◌, length}
-use Rattle.std.proofs.Common.{get_or, drop, map, Bool, true, false, if◌then◌else◌, Option}
-use Rattle.std.proofs.Common.{Some, None, Ok, Err, Bor, inl, inr, refl, ◌∙◌, ap, arith}
+use Rattle.std.proofs.Common.{◌≡◌, ℕ, suc, ◌+◌, ◌<◌, List, [], ◌∷◌, length, get_or, drop, map, Bool, true, false, if◌then◌else◌, Option, Some, None, Ok, Err, Bor, inl, inr, refl, ◌∙◌, ap, arith}
 use Rattle.std.proofs.Math.Dec.{ltb}
 use Rattle.std.proofs.lemmas.List.{drop_more, drop-map}
 use Rattle.std.proofs.lemmas.Bool.{cases_Bool}
@@ -13,11 +11,9 @@ use Rattle.ps_words.specs.declared.order.Order.{Order}
 use Rattle.ps_words.specs.declared.fault.Reason.{Reason}
 use Rattle.ps_words.specs.declared.fault.Reason.TheVariants as reason
 use Rattle.ps_words.specs.declared.fault.Fault.{Fault}
-use Rattle.ps_codefile.specs.Dictionary.{OpenedFile, FileOrder, file_order, opened_beside}
-use Rattle.ps_codefile.specs.Dictionary.{opened_beside_as, slots}
+use Rattle.ps_codefile.specs.Dictionary.{OpenedFile, FileOrder, file_order, opened_beside, opened_beside_as, slots}
 use Rattle.ps_resolve.specs.Searches.{first_of}
-use Rattle.ps_resolve.specs.Sources.{is_named, has_entry, chosen_library, file_at, opened}
-use Rattle.ps_resolve.specs.Sources.{opened_file, opened_files, unit_source}
+use Rattle.ps_resolve.specs.Sources.{is_named, has_entry, chosen_library, file_at, opened, opened_file, opened_files, unit_source}
 use Rattle.ps_resolve.specs.Faults.{library_fault, library_reason}
 use Rattle.ps_resolve.proofs.FirstSlots.{any_found, neither_first, none_mapped}
 

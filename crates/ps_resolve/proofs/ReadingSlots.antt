@@ -1,6 +1,5 @@
 -- What is read of the slots of a host, where reading has no fault: the segments of the link.
-use Rattle.std.proofs.Common.{arith, ◌≡◌, ℕ, List, [], ◌∷◌, ◌++◌, ◌≢◌, take}
-use Rattle.std.proofs.Common.{Option, Some, None, Result, Ok, Err, refl, ◌∙◌}
+use Rattle.std.proofs.Common.{arith, ◌≡◌, ℕ, List, [], ◌∷◌, ◌++◌, ◌≢◌, take, Option, Some, None, Result, Ok, Err, refl, ◌∙◌}
 use Rattle.std.specs.List.{filter_map, find}
 use Rattle.std.specs.Option.{option_and_then, option_map, option_or}
 use Rattle.std.specs.Result.{result_ok}
@@ -10,17 +9,11 @@ use Rattle.ps_words.specs.declared.fault.Fault.{Fault}
 use Rattle.ps_words.specs.declared.fault.Reason.{Reason}
 use Rattle.ps_codefile.specs.Dictionary.{OpenedFile, entry_at, opened_alone, role_of, slots}
 use Rattle.ps_resolve.specs.Searches.{first_of}
-use Rattle.ps_resolve.specs.Sources.{Segment, own_segment, own_segments, opened_files, order_of}
-use Rattle.ps_resolve.specs.Sources.{units_of}
-use Rattle.ps_resolve.specs.Faults.{slots_fault, no_host_fault, libraries_fault, source_fault}
-use Rattle.ps_resolve.specs.Faults.{sources_fault}
-use Rattle.ps_resolve.specs.Added.{RoundsOutcome, all_unit_references, empty_slots, requested_from}
-use Rattle.ps_resolve.specs.Added.{rounds, rounds_in, segments}
+use Rattle.ps_resolve.specs.Sources.{Segment, own_segment, own_segments, opened_files, order_of, units_of}
+use Rattle.ps_resolve.specs.Faults.{slots_fault, no_host_fault, libraries_fault, source_fault, sources_fault}
+use Rattle.ps_resolve.specs.Added.{RoundsOutcome, all_unit_references, empty_slots, requested_from, rounds, rounds_in, segments}
 use Rattle.ps_resolve.specs.AllFaults.{reading_fault}
-use Rattle.ps_resolve.specs.Readings.{HostFiles, all_read, host_reading_fault, own_reading_fault}
-use Rattle.ps_resolve.specs.Readings.{opened_host, read_requests, read_rounds, read_segment}
-use Rattle.ps_resolve.specs.Readings.{read_segments, fault_of_added, queued_request, slot_after}
-use Rattle.ps_resolve.specs.Readings.{slot_fault, slot_reading, slot_request, wanted_request}
+use Rattle.ps_resolve.specs.Readings.{HostFiles, all_read, host_reading_fault, own_reading_fault, opened_host, read_requests, read_rounds, read_segment, read_segments, fault_of_added, queued_request, slot_after, slot_fault, slot_reading, slot_request, wanted_request}
 use Rattle.ps_resolve.specs.declared.reading.request.Request.{Request}
 use Rattle.ps_resolve.specs.KnownSegments.{is_in_slot, segments_in_slots}
 use Rattle.ps_resolve.proofs.FirstSlots.{neither_first, neither_second}

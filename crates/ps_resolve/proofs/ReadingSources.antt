@@ -1,7 +1,5 @@
 -- The segments of a link, slot by slot.
-use Rattle.std.proofs.Common.{◌≡◌, ℕ, ◌+◌, ◌-◌, ◌<◌, ◌≤◌, List, []}
-use Rattle.std.proofs.Common.{◌∷◌, ◌++◌, append_assoc, length, length-append, Option}
-use Rattle.std.proofs.Common.{Some, None, Ok, ◌⊎◌, inl, inr, refl, arith}
+use Rattle.std.proofs.Common.{◌≡◌, ℕ, ◌+◌, ◌-◌, ◌<◌, ◌≤◌, List, [], ◌∷◌, ◌++◌, append_assoc, length, length-append, Option, Some, None, Ok, ◌⊎◌, inl, inr, refl, arith}
 use Rattle.std.specs.List.{range_with_len, filter_map}
 use Rattle.std.specs.Prelude.{All}
 use Rattle.std.specs.Option.{option_and_then, option_to_list, IfSome}

@@ -1,8 +1,5 @@
 -- Names that are already known: requesting them again does not change the queue.
-use Rattle.std.proofs.Common.{◌≡◌, ◌∙◌, ℕ, ◌+◌, ◌≤◌, ◌++◌, List, []}
-use Rattle.std.proofs.Common.{◌∷◌, length, length-append, append_assoc, append-nil, take}
-use Rattle.std.proofs.Common.{drop, get_or, ◌<◌, Bool, true, false, inl, inr, refl, sym, subst}
-use Rattle.std.proofs.Common.{arith}
+use Rattle.std.proofs.Common.{◌≡◌, ◌∙◌, ℕ, ◌+◌, ◌≤◌, ◌++◌, List, [], ◌∷◌, length, length-append, append_assoc, append-nil, take, drop, get_or, ◌<◌, Bool, true, false, inl, inr, refl, sym, subst, arith}
 use Rattle.std.specs.Prelude.{All}
 use Rattle.std.proofs.lemmas.Bool.{or_left, or_right}
 use Rattle.std.proofs.lemmas.List.{take_all}
@@ -12,8 +9,7 @@ use Rattle.std.proofs.lemmas.Slice.Eq.{bytes_eq-Decides}
 use Rattle.ps_linkinfo.specs.RecordCounts.{is_unit_reference}
 use Rattle.ps_linkinfo.specs.declared.record.LinkRecord.{LinkRecord as Record}
 use Rattle.ps_resolve.specs.Sources.{Segment}
-use Rattle.ps_resolve.specs.Added.{is_already_known, requested_from, unit_references}
-use Rattle.ps_resolve.specs.Added.{all_unit_references, IsAlreadyKnown, AreAlreadyKnown}
+use Rattle.ps_resolve.specs.Added.{is_already_known, requested_from, unit_references, all_unit_references, IsAlreadyKnown, AreAlreadyKnown}
 use Rattle.ps_resolve.specs.declared.reading.added.UnitReference.{UnitReference}
 use Rattle.ps_resolve.proofs.Adding.{few_kept, kept_segment, queue_prefix}
 use Rattle.ps_resolve.proofs.Segs.{drop_at}

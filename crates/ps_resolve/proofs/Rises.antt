@@ -1,16 +1,13 @@
 -- Privates are by slot and then by record, where the segments are by slot; and so one is found by
 -- binary search.
-use Rattle.std.proofs.Common.{◌≡◌, ℕ, zero, suc, ◌+◌, ◌<◌, ◌==◌, ◌&&◌}
-use Rattle.std.proofs.Common.{◌||◌, ◌++◌, List, [], ◌∷◌, length, map, get_or, Bool}
-use Rattle.std.proofs.Common.{true, false, Option, Some, None, inl, inr, refl, ap, arith}
+use Rattle.std.proofs.Common.{◌≡◌, ℕ, zero, suc, ◌+◌, ◌<◌, ◌==◌, ◌&&◌, ◌||◌, ◌++◌, List, [], ◌∷◌, length, map, get_or, Bool, true, false, Option, Some, None, inl, inr, refl, ap, arith}
 use Rattle.std.specs.Prelude.{find, nat_lt}
 use Rattle.std.specs.List.Sorted.{IsPartitionedBy, IsPartitionPoint}
 use Rattle.std.proofs.lemmas.Bool.{cases_lt, cases_order}
 use Rattle.std.proofs.lemmas.Bool.Decides.{nat_tests}
 use Rattle.ps_linkinfo.specs.declared.record.LinkRecord.{LinkRecord as Record}
 use Rattle.ps_resolve.specs.Linkable.{AscendFrom}
-use Rattle.ps_resolve.specs.Privates.{Owner}
-use Rattle.ps_resolve.specs.Privates.{words_in, allotted_privates, private_words, all_allotted}
+use Rattle.ps_resolve.specs.Privates.{Owner, words_in, allotted_privates, private_words, all_allotted}
 use Rattle.ps_resolve.specs.Offsets.{is_from, RiseFrom, is_of, offset_listed}
 use Rattle.ps_resolve.specs.declared.allotment.Private.{Private}
 

@@ -1,7 +1,5 @@
 -- The items of a list, one by one.
-use Rattle.std.proofs.Common.{◌≡◌, ℕ, ◌+◌, ◌<◌, ◌++◌, List, []}
-use Rattle.std.proofs.Common.{◌∷◌, length, map, get_or, drop, refl, arith}
-use Rattle.std.proofs.Common.{drop-cons, append_assoc}
+use Rattle.std.proofs.Common.{◌≡◌, ℕ, ◌+◌, ◌<◌, ◌++◌, List, [], ◌∷◌, length, map, get_or, drop, refl, arith, drop-cons, append_assoc}
 use Rattle.std.proofs.lemmas.List.{map-append}
 use Rattle.ps_resolve.specs.Privates.{owner_of}
 use Rattle.ps_resolve.specs.Sources.{Segment}

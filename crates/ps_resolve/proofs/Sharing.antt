@@ -1,8 +1,6 @@
 -- Segments that have the same records, since their link information begins in one block of one
 -- file.
-use Rattle.std.proofs.Common.{◌≡◌, ◌∙◌, ℕ, suc, zero, ◌+◌, ◌<◌, ◌++◌}
-use Rattle.std.proofs.Common.{List, [], ◌∷◌, length, take, get_or, Bool, true, false, Option}
-use Rattle.std.proofs.Common.{None, Result, Ok, Err, refl, sym, arith, add-one}
+use Rattle.std.proofs.Common.{◌≡◌, ◌∙◌, ℕ, suc, zero, ◌+◌, ◌<◌, ◌++◌, List, [], ◌∷◌, length, take, get_or, Bool, true, false, Option, None, Result, Ok, Err, refl, sym, arith, add-one}
 use Rattle.std.specs.Prelude.{All, IfSome, is_some}
 use Rattle.std.proofs.lemmas.List.{nil_from_length}
 use Rattle.std.proofs.lemmas.List.Elements.{All-nil, All-cons, All-head, All-tail}
@@ -14,13 +12,10 @@ use Rattle.ps_linkinfo.specs.RecordCounts.{is_private_reference, privates_in, re
 use Rattle.ps_linkinfo.specs.declared.record.Body.{Body}
 use Rattle.ps_linkinfo.specs.declared.record.LinkRecord.{LinkRecord as Record}
 use Rattle.ps_codefile.specs.Roles.{needs_linking}
-use Rattle.ps_resolve.specs.Sources.{Segment}
-use Rattle.ps_resolve.specs.Sources.{file_at}
-use Rattle.ps_resolve.specs.KnownSegments.{ArePlacedIn, IsRead, IsSound, IsLike, AreAlike}
-use Rattle.ps_resolve.specs.KnownSegments.{HasRecordsAt}
+use Rattle.ps_resolve.specs.Sources.{Segment, file_at}
+use Rattle.ps_resolve.specs.KnownSegments.{ArePlacedIn, IsRead, IsSound, IsLike, AreAlike, HasRecordsAt}
 use Rattle.ps_resolve.specs.Operands.{operands}
-use Rattle.ps_resolve.specs.References.{Known, HasTarget, HaveTargets, target_in, target_of}
-use Rattle.ps_resolve.specs.References.{words_taken, records_fault}
+use Rattle.ps_resolve.specs.References.{Known, HasTarget, HaveTargets, target_in, target_of, words_taken, records_fault}
 use Rattle.ps_resolve.specs.declared.references.Target.{Target}
 use Rattle.ps_resolve.proofs.Apart.{one_private}
 use Rattle.ps_resolve.proofs.FirstSlots.{neither_second}

@@ -1,6 +1,5 @@
 -- The first fault of a link's segments, stage by stage.
-use Rattle.std.proofs.Common.{arith, ◌≡◌, ℕ, ◌<◌, List, [], ◌∷◌, length, map}
-use Rattle.std.proofs.Common.{true, Option, Some, None, refl, sym, ◌∙◌, ap}
+use Rattle.std.proofs.Common.{arith, ◌≡◌, ℕ, ◌<◌, List, [], ◌∷◌, length, map, true, Option, Some, None, refl, sym, ◌∙◌, ap}
 use Rattle.std.specs.Prelude.{All}
 use Rattle.std.specs.Option.{option_or, option_map_or}
 use Rattle.ps_words.specs.declared.edit.Edit.{Edit}
@@ -11,14 +10,12 @@ use Rattle.ps_linkinfo.specs.RecordCounts.{next_of}
 use Rattle.ps_resolve.specs.Sources.{Segment, host_of, host_records, units_of}
 use Rattle.ps_resolve.specs.Symbols.{definitions, first_duplicate}
 use Rattle.ps_resolve.specs.Stops.{IsStop, duplicate_fault}
-use Rattle.ps_resolve.specs.Privates.{Allotted, owner_of, all_allotted, allotment_of}
-use Rattle.ps_resolve.specs.Privates.{first_private_fault, total_words}
+use Rattle.ps_resolve.specs.Privates.{Allotted, owner_of, all_allotted, allotment_of, first_private_fault, total_words}
 use Rattle.ps_resolve.specs.Edits.{IsOfSize, AreOfReferences}
 use Rattle.ps_resolve.specs.Linkable.{HasOneHost}
 use Rattle.ps_resolve.specs.References.{Known, known_by}
 use Rattle.ps_resolve.specs.Linking.{known_of, data_edits, edited_segments, edited_from}
-use Rattle.ps_resolve.specs.Faults.{definitions_fault, privates_fault, data_fault, size_fault}
-use Rattle.ps_resolve.specs.Faults.{references_fault, references_fault_from, linking_fault}
+use Rattle.ps_resolve.specs.Faults.{definitions_fault, privates_fault, data_fault, size_fault, references_fault, references_fault_from, linking_fault}
 use Rattle.ps_resolve.specs.Plans.{AreStopped, LinkSegments, origin_of, origin_of_source}
 use Rattle.ps_resolve.specs.declared.definitions.Def.{Def}
 use Rattle.ps_resolve.specs.declared.linkage.Stop.{Stop}

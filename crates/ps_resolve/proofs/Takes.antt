@@ -1,7 +1,5 @@
 -- One reference more.
-use Rattle.std.proofs.Common.{◌≡◌, ℕ, suc, ◌+◌, ◌<◌, ◌≤◌, ◌||◌, ◌++◌}
-use Rattle.std.proofs.Common.{List, [], ◌∷◌, length, map, take, drop, get_or, Bool, true}
-use Rattle.std.proofs.Common.{false, Some, None, add-one, append_assoc, arith}
+use Rattle.std.proofs.Common.{◌≡◌, ℕ, suc, ◌+◌, ◌<◌, ◌≤◌, ◌||◌, ◌++◌, List, [], ◌∷◌, length, map, take, drop, get_or, Bool, true, false, Some, None, add-one, append_assoc, arith}
 use Rattle.std.specs.Prelude.{nat_lt, IsPermutation}
 use Rattle.std.specs.List.{list_any, range_with_len}
 use Rattle.std.proofs.Math.Seq.{drop-cons}
@@ -17,8 +15,7 @@ use Rattle.ps_words.specs.declared.edit.Edit.{Edit}
 use Rattle.ps_resolve.specs.EditTables.{IsTableOf, edits_of, is_taken_at, put_in}
 use Rattle.ps_resolve.specs.declared.edit_table.PlaceState.{PlaceState}
 use Rattle.ps_resolve.specs.declared.edit_table.PlaceState.TheVariants.{Free, Taken}
-use Rattle.ps_resolve.specs.Operands.{edit_of, is_in, operands, width_of, value_of, refs_fault}
-use Rattle.ps_resolve.specs.Operands.{reference_reason}
+use Rattle.ps_resolve.specs.Operands.{edit_of, is_in, operands, width_of, value_of, refs_fault, reference_reason}
 use Rattle.ps_resolve.specs.Searches.{fault_if}
 use Rattle.ps_resolve.specs.declared.references.Target.{Target}
 use Rattle.ps_words.specs.declared.words.TheConstants.{MAX_OPERAND}

@@ -6,8 +6,7 @@ use Rattle.ps_words.specs.declared.fault.Fault.{Fault}
 use Rattle.ps_words.specs.declared.order.Order.{Order}
 use Rattle.ps_resolve.specs.Sources.{order_of}
 use Rattle.ps_resolve.specs.Added.{added_fault, segments}
-use Rattle.ps_resolve.specs.Faults.{host_fault, slots_fault, no_host_fault, libraries_fault}
-use Rattle.ps_resolve.specs.Faults.{sources_fault, linking_fault}
+use Rattle.ps_resolve.specs.Faults.{host_fault, slots_fault, no_host_fault, libraries_fault, sources_fault, linking_fault}
 
 -- the sources of the slots, and the units that are added
 abbrev pub reading_rest : Order → List ℕ → List (List ℕ) → Option Fault

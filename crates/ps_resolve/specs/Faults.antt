@@ -1,9 +1,7 @@
 -- The faults of a link, step by step: of each step the first fault in its own order, and a later
 -- step is looked at only where no earlier one has a fault.
 -- Source: this project's profile.
-use Rattle.std.specs.Prelude.{ℕ, ◌+◌, ◌==◌, ◌&&◌, not, if◌then◌else◌, List, []}
-use Rattle.std.specs.Prelude.{◌∷◌, length, map, nat_lt, Bool, false, Option, Some, None, Ok}
-use Rattle.std.specs.Prelude.{Err, option_and_then}
+use Rattle.std.specs.Prelude.{ℕ, ◌+◌, ◌==◌, ◌&&◌, not, if◌then◌else◌, List, [], ◌∷◌, length, map, nat_lt, Bool, false, Option, Some, None, Ok, Err, option_and_then}
 use Rattle.std.specs.List.{range_with_len, list_any, find, enumerate_from}
 use Rattle.std.specs.Option.{option_map, option_map_or, option_or}
 use Rattle.std.specs.Result.{result_err, result_ok}
@@ -13,8 +11,7 @@ use Rattle.ps_words.specs.declared.order.Order.{Order}
 use Rattle.ps_words.specs.declared.fault.Reason.{Reason}
 use Rattle.ps_words.specs.declared.fault.Reason.TheVariants as reason
 use Rattle.ps_words.specs.declared.fault.Fault.{Fault}
-use Rattle.ps_codefile.specs.Dictionary.{slots, opened_alone, opened_beside, entry_at, role_of}
-use Rattle.ps_codefile.specs.Dictionary.{code_of, information_of}
+use Rattle.ps_codefile.specs.Dictionary.{slots, opened_alone, opened_beside, entry_at, role_of, code_of, information_of}
 use Rattle.ps_codefile.specs.Procedures.{table_of, tables_fault, is_reserved}
 use Rattle.ps_linkinfo.specs.RecordCounts.{next_of}
 use Rattle.ps_resolve.specs.Privates.{owner_of, first_private_fault, private_words, total_words}
@@ -24,8 +21,7 @@ use Rattle.ps_codefile.specs.declared.entry.Entry.{Entry}
 use Rattle.ps_linkinfo.specs.Records.{reading}
 use Rattle.ps_resolve.specs.Searches.{first_of, fault_if}
 use Rattle.ps_codefile.specs.Roles.{needs_linking, is_host, is_unit}
-use Rattle.ps_resolve.specs.Sources.{Segment, source_of, unit_source, file_at, is_named}
-use Rattle.ps_resolve.specs.Sources.{chosen_library, library_file, host_of, host_records}
+use Rattle.ps_resolve.specs.Sources.{Segment, source_of, unit_source, file_at, is_named, chosen_library, library_file, host_of, host_records}
 use Rattle.ps_resolve.specs.Requests.{is_missing, missing_at, request_by_slot}
 use Rattle.ps_resolve.specs.declared.reading.request.Request.{Request}
 use Rattle.ps_resolve.specs.Symbols.{first_duplicate}

@@ -1,8 +1,6 @@
 -- What is known of the segments that were read, and which of them is in which slot.
 -- Source: this project's profile.
-use Rattle.std.specs.Prelude.{◌≡◌, ◌≤◌, ◌*◌, ◌==◌, nat_lt, if◌then◌else◌}
-use Rattle.std.specs.Prelude.{ℕ, All, List, [], ◌∷◌, length, drop, Bool, true, Option, Some}
-use Rattle.std.specs.Prelude.{None, ◌&&◌}
+use Rattle.std.specs.Prelude.{◌≡◌, ◌≤◌, ◌*◌, ◌==◌, nat_lt, if◌then◌else◌, ℕ, All, List, [], ◌∷◌, length, drop, Bool, true, Option, Some, None, ◌&&◌}
 use Rattle.std.specs.List.{find, filter_map, list_any, Contains}
 use Rattle.std.specs.Option.{option_or}
 use Rattle.ps_words.specs.declared.order.Order.{Order}

@@ -4,9 +4,7 @@
 -- Source: the link records and the data size of the outer block are those of the published II.0
 -- Linker source, and BIG operands those of the UCSD Pascal II.0 manual; the order of the privates
 -- is this project's profile.
-use Rattle.std.specs.Prelude.{◌≡◌, ℕ, ◌+◌, ◌-◌, ◌<◌, if◌then◌else◌, List}
-use Rattle.std.specs.Prelude.{[], ◌∷◌, ◌++◌, length, map, slice_get, slice_index, true}
-use Rattle.std.specs.Prelude.{Some, All}
+use Rattle.std.specs.Prelude.{◌≡◌, ℕ, ◌+◌, ◌-◌, ◌<◌, if◌then◌else◌, List, [], ◌∷◌, ◌++◌, length, map, slice_get, slice_index, true, Some, All}
 use Rattle.std.specs.List.{flat_map, enumerate_from}
 use Rattle.ps_words.specs.Words.{word_bytes, operand_bytes, displacement_at}
 use Rattle.ps_words.specs.declared.order.Order.{Order}
@@ -20,14 +18,12 @@ use Rattle.ps_resolve.specs.Standing.References.{Covers}
 use Rattle.ps_resolve.specs.Standing.Privates.{private_offset, words_before}
 use Rattle.ps_linkinfo.specs.Records.{refs_of}
 use Rattle.ps_linkinfo.specs.declared.record.Body.{Body}
-use Rattle.ps_linkinfo.specs.declared.record.Body.TheVariants.{UnitRef, PublRef, PrivRef, PublDef}
-use Rattle.ps_linkinfo.specs.declared.record.Body.TheVariants.{ConstDef, Eof}
+use Rattle.ps_linkinfo.specs.declared.record.Body.TheVariants.{UnitRef, PublRef, PrivRef, PublDef, ConstDef, Eof}
 use Rattle.ps_linkinfo.specs.declared.record.LinkRecord.{LinkRecord as Record}
 use Rattle.ps_codefile.specs.Roles.{needs_linking, is_host, is_unit}
 use Rattle.ps_resolve.specs.Sources.{Segment, order_of}
 use Rattle.ps_resolve.specs.References.{words_taken_by, record_edits}
-use Rattle.ps_resolve.specs.Linking.{edited_segments, known_of, data_edits, grown_data_size}
-use Rattle.ps_resolve.specs.Linking.{linked_byte}
+use Rattle.ps_resolve.specs.Linking.{edited_segments, known_of, data_edits, grown_data_size, linked_byte}
 
 -- reference i of record r, the segment's record `rec`, has its operand at x
 abbrev pub IsReference : Segment → ℕ → Record → ℕ → ℕ → Type 0

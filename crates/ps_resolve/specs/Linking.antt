@@ -2,8 +2,7 @@
 -- code.
 -- Source: this project's profile; the data size of the outer block that grows by the private words
 -- is that of the published II.0 Linker source.
-use Rattle.std.specs.Prelude.{ℕ, ◌+◌, ◌-◌, ◌*◌, if◌then◌else◌, List, []}
-use Rattle.std.specs.Prelude.{◌∷◌, ◌++◌, length}
+use Rattle.std.specs.Prelude.{ℕ, ◌+◌, ◌-◌, ◌*◌, if◌then◌else◌, List, [], ◌∷◌, ◌++◌, length}
 use Rattle.std.specs.Option.{option_map_or}
 use Rattle.ps_words.specs.Words.{word_at}
 use Rattle.ps_words.specs.Edits.{patched_byte}

@@ -1,18 +1,15 @@
 -- What is known of each segment of a link whose files were read without a fault.
 -- Source: this project's profile.
-use Rattle.std.specs.Prelude.{◌≡◌, ◌⊎◌, ◌<◌, ℕ, List, [], take, slice_get, true}
-use Rattle.std.specs.Prelude.{false, Ok, Some, None, All}
+use Rattle.std.specs.Prelude.{◌≡◌, ◌⊎◌, ◌<◌, ℕ, List, [], take, slice_get, true, false, Ok, Some, None, All}
 use Rattle.ps_words.specs.declared.order.Order.{Order}
 use Rattle.ps_codefile.specs.Dictionary.{entry_at, code_of, information_of}
 use Rattle.ps_codefile.specs.Procedures.{tables_fault}
 use Rattle.ps_codefile.specs.Roles.{needs_linking, is_host}
 use Rattle.ps_codefile.specs.declared.entry.Role.TheVariants.{Wanted}
 use Rattle.ps_linkinfo.specs.Records.{reading}
-use Rattle.ps_resolve.specs.Added.{added_segment, added_segments, empty_slots, placed_fault}
-use Rattle.ps_resolve.specs.Added.{requested_units, segment_at, segments}
+use Rattle.ps_resolve.specs.Added.{added_segment, added_segments, empty_slots, placed_fault, requested_units, segment_at, segments}
 use Rattle.ps_resolve.specs.Faults.{role_fault}
-use Rattle.ps_resolve.specs.Sources.{Segment, file_at, host_of, information_block, order_of}
-use Rattle.ps_resolve.specs.Sources.{own_segment, source_of, tables_of, unit_source}
+use Rattle.ps_resolve.specs.Sources.{Segment, file_at, host_of, information_block, order_of, own_segment, source_of, tables_of, unit_source}
 use Rattle.ps_resolve.specs.Standing.Slots.{HasRole}
 use Rattle.ps_resolve.specs.declared.reading.added.UnitReference.{UnitReference}
 

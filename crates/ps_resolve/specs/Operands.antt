@@ -1,7 +1,6 @@
 -- Operands that references name, and the first fault of them.
 -- Source: this project's profile; BIG operands are those of the UCSD Pascal II.0 manual.
-use Rattle.std.specs.Prelude.{ℕ, ◌+◌, ◌&&◌, List, [], ◌∷◌, ◌++◌, length, map}
-use Rattle.std.specs.Prelude.{Bool, nat_le, nat_lt, Option, None}
+use Rattle.std.specs.Prelude.{ℕ, ◌+◌, ◌&&◌, List, [], ◌∷◌, ◌++◌, length, map, Bool, nat_le, nat_lt, Option, None}
 use Rattle.std.specs.List.{range_with_len, list_any}
 use Rattle.std.specs.Option.{option_map, option_or}
 use Rattle.ps_words.specs.Words.{displacement_at}

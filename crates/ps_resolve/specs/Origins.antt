@@ -3,9 +3,7 @@
 -- Source: the segment dictionary and its kinds are those of the UCSD Pascal II.0 manual, the
 -- records those of the published II.0 Linker source; from which file a slot's segment comes is this
 -- project's profile.
-use Rattle.std.specs.Prelude.{◌≡◌, ◌≢◌, ◌⊎◌, ℕ, ◌+◌, ◌*◌, ◌<◌}
-use Rattle.std.specs.Prelude.{◌≤◌, List, [], ◌∷◌, length, slice_get, slice_range, true}
-use Rattle.std.specs.Prelude.{false, Ok, Some, All}
+use Rattle.std.specs.Prelude.{◌≡◌, ◌≢◌, ◌⊎◌, ℕ, ◌+◌, ◌*◌, ◌<◌, ◌≤◌, List, [], ◌∷◌, length, slice_get, slice_range, true, false, Ok, Some, All}
 use Rattle.ps_words.specs.declared.order.Order.{Order}
 use Rattle.ps_codefile.specs.Dictionary.{block_len, entry_at, is_nameless, code_of, information_of}
 use Rattle.ps_linkinfo.specs.RecordCounts.{is_unit_reference}

@@ -1,10 +1,8 @@
 -- Which parts a fault that applies is reported with: the slot, the record, the reference, and the
 -- file that is at fault.
 -- Source: this project's profile.
-use Rattle.std.specs.Prelude.{◌≡◌, ◌≢◌, ◌↔◌, ℕ, ◌≤◌, List, Some, None}
-use Rattle.std.specs.Prelude.{is_some, true}
-use Rattle.ps_words.specs.FaultPlaces.{has_slot, has_record, has_reference, is_of_host}
-use Rattle.ps_words.specs.FaultPlaces.{is_of_library}
+use Rattle.std.specs.Prelude.{◌≡◌, ◌≢◌, ◌↔◌, ℕ, ◌≤◌, List, Some, None, is_some, true}
+use Rattle.ps_words.specs.FaultPlaces.{has_slot, has_record, has_reference, is_of_host, is_of_library}
 use Rattle.ps_words.specs.FaultText.{number_of}
 use Rattle.ps_words.specs.declared.order.Order.{Order}
 use Rattle.ps_words.specs.declared.fault.Fault.{Fault}

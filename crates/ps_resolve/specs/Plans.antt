@@ -1,7 +1,6 @@
 -- A plan of a link: where the code of each segment comes from, and the edits that link it.
 -- Source: this project's profile.
-use Rattle.std.specs.Prelude.{◌≡◌, ℕ, ◌+◌, ◌<◌, List, [], ◌∷◌, length, map}
-use Rattle.std.specs.Prelude.{Bool, IsPermutation, ⊤, Some, None}
+use Rattle.std.specs.Prelude.{◌≡◌, ℕ, ◌+◌, ◌<◌, List, [], ◌∷◌, length, map, Bool, IsPermutation, ⊤, Some, None}
 use Rattle.ps_words.specs.Edits.{AreEdits, patched_byte}
 use Rattle.ps_words.specs.declared.order.Order.{Order}
 use Rattle.ps_words.specs.declared.edit.Edit.{Edit}

@@ -1,9 +1,7 @@
 -- What is read of each slot of a host, also after the first fault, and the names that are
 -- requested.
 -- Source: this project's profile.
-use Rattle.std.specs.Prelude.{◌≡◌, ◌≤◌, ℕ, ◌==◌, ◌++◌, if◌then◌else◌}
-use Rattle.std.specs.Prelude.{List, [], length, take, slice_get, All, false, Option, Some}
-use Rattle.std.specs.Prelude.{None, Result, Ok, Err, is_none, option_and_then}
+use Rattle.std.specs.Prelude.{◌≡◌, ◌≤◌, ℕ, ◌==◌, ◌++◌, if◌then◌else◌, List, [], length, take, slice_get, All, false, Option, Some, None, Result, Ok, Err, is_none, option_and_then}
 use Rattle.std.specs.List.{enumerate_from, filter_map, find}
 use Rattle.std.specs.Option.{option_map, option_map_or, option_or}
 use Rattle.std.specs.Result.{result_ok}
@@ -15,10 +13,8 @@ use Rattle.ps_codefile.specs.declared.entry.Role.{Role}
 use Rattle.ps_codefile.specs.declared.entry.Role.TheVariants.{Empty, Wanted, Plain, Host, Unit}
 use Rattle.ps_resolve.specs.Requests.{is_missing, request_by_slot}
 use Rattle.ps_resolve.specs.Sources.{Segment, own_segment, opened_files, unit_source, units_of}
-use Rattle.ps_resolve.specs.Faults.{slots_fault, no_host_fault, libraries_fault, source_fault}
-use Rattle.ps_resolve.specs.Faults.{sources_fault}
-use Rattle.ps_resolve.specs.Added.{RoundsOutcome, all_unit_references, empty_slots, requested_from}
-use Rattle.ps_resolve.specs.Added.{request_of, rounds_of}
+use Rattle.ps_resolve.specs.Faults.{slots_fault, no_host_fault, libraries_fault, source_fault, sources_fault}
+use Rattle.ps_resolve.specs.Added.{RoundsOutcome, all_unit_references, empty_slots, requested_from, request_of, rounds_of}
 use Rattle.ps_resolve.specs.KnownSegments.{IsRead, segments_in_slots}
 use Rattle.ps_resolve.specs.declared.reading.added.UnitReference.{UnitReference}
 use Rattle.ps_resolve.specs.declared.reading.request.Request.{Request}

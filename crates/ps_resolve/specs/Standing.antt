@@ -6,9 +6,7 @@ use Rattle.ps_resolve.specs.First.{Before}
 use Rattle.ps_resolve.specs.Sources.{order_of}
 use Rattle.ps_words.specs.declared.order.Order.{Order}
 use Rattle.ps_words.specs.declared.fault.Fault.{Fault}
-use Rattle.ps_resolve.specs.Standing.Keys.{Step, is_of_reading, key, OfHost, OfSlots, OfNoHost}
-use Rattle.ps_resolve.specs.Standing.Keys.{OfLibraries, OfSources, OfAdded, OfDefinitions}
-use Rattle.ps_resolve.specs.Standing.Keys.{OfPrivates, OfDataSize, OfReferences}
+use Rattle.ps_resolve.specs.Standing.Keys.{Step, is_of_reading, key, OfHost, OfSlots, OfNoHost, OfLibraries, OfSources, OfAdded, OfDefinitions, OfPrivates, OfDataSize, OfReferences}
 use Rattle.ps_resolve.specs.Standing.Hosts.{InHost}
 use Rattle.ps_resolve.specs.Standing.Slots.{InSlots, InNoHost}
 use Rattle.ps_resolve.specs.Standing.Libraries.{InLibraries}

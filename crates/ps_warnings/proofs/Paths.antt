@@ -1,6 +1,5 @@
 -- The paths of files, by their numbers.
-use Rattle.std.proofs.Common.{◌≡◌, ◌∷◌, ◌-◌, ◌<◌, ◌≤◌, [], zero, suc, ℕ}
-use Rattle.std.proofs.Common.{List, Bor, length, refl, ap, arith}
+use Rattle.std.proofs.Common.{◌≡◌, ◌∷◌, ◌-◌, ◌<◌, ◌≤◌, [], zero, suc, ℕ, List, Bor, length, refl, ap, arith}
 use Rattle.ps_resolve.specs.Sources.{contents}
 use Rattle.ps_warnings.specs.Paths.{path_of}
 

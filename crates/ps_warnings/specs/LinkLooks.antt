@@ -1,7 +1,6 @@
 -- What looks wrong in a link as a whole, by its segments as they were read, in their order.
 -- Source: this project's profile.
-use Rattle.std.specs.Prelude.{ℕ, ◌==◌, ◌%◌, ◌&&◌, not, if◌then◌else◌, List, map}
-use Rattle.std.specs.Prelude.{nat_lt, Bool, Option, Some, None}
+use Rattle.std.specs.Prelude.{ℕ, ◌==◌, ◌%◌, ◌&&◌, not, if◌then◌else◌, List, map, nat_lt, Bool, Option, Some, None}
 use Rattle.std.specs.Char.{to_ascii_uppercase}
 use Rattle.std.specs.List.{find}
 use Rattle.std.specs.Option.{option_map}

@@ -1,15 +1,13 @@
 -- What looks wrong in the link information of a segment, by what a link does with it.
 -- Source: this project's profile.
-use Rattle.std.specs.Prelude.{ℕ, ◌+◌, ◌/◌, ◌==◌, ◌&&◌, not, if◌then◌else◌, List, length}
-use Rattle.std.specs.Prelude.{nat_lt, Bool, true, Option, Some, None, is_some}
+use Rattle.std.specs.Prelude.{ℕ, ◌+◌, ◌/◌, ◌==◌, ◌&&◌, not, if◌then◌else◌, List, length, nat_lt, Bool, true, Option, Some, None, is_some}
 use Rattle.std.specs.Option.{option_map}
 use Rattle.ps_words.specs.Words.{displacement_at}
 use Rattle.ps_linkinfo.specs.Numbered.{numbered_records}
 use Rattle.ps_linkinfo.specs.RecordCounts.{next_of}
 use Rattle.ps_linkinfo.specs.Sorts.{first_named}
 use Rattle.ps_linkinfo.specs.declared.record.Body.{Body}
-use Rattle.ps_linkinfo.specs.declared.record.Body.TheVariants.{UnitRef, PublRef, PrivRef, PublDef}
-use Rattle.ps_linkinfo.specs.declared.record.Body.TheVariants.{ConstDef, Eof}
+use Rattle.ps_linkinfo.specs.declared.record.Body.TheVariants.{UnitRef, PublRef, PrivRef, PublDef, ConstDef, Eof}
 use Rattle.ps_linkinfo.specs.declared.record.LinkRecord.{LinkRecord as Record}
 use Rattle.ps_linkinfo.specs.declared.sort.Sort.TheVariants as sort
 use Rattle.ps_resolve.specs.Searches.{first_of}

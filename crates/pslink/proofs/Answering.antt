@@ -12,8 +12,7 @@ use Rattle.ps_calls.specs.declared.answer.TheConstants.{DONE, TOO_SMALL}
 use Rattle.ps_calls.specs.declared.outcome.Done.{Done}
 use Rattle.ps_calls.specs.declared.outcome.Done.TheVariants.{Linked, Text}
 use Rattle.ps_calls.specs.declared.outcome.Stop.{Stop}
-use Rattle.ps_calls.specs.declared.outcome.Stop.TheVariants.{Refused, WrongLengths, NoMemory}
-use Rattle.ps_calls.specs.declared.outcome.Stop.TheVariants.{TooSmall, WrongNames, NoSuchText}
+use Rattle.ps_calls.specs.declared.outcome.Stop.TheVariants.{Refused, WrongLengths, NoMemory, TooSmall, WrongNames, NoSuchText}
 
 -- it was done
 pub links : (host : List ℕ) (libs : List (List ℕ)) (old new : List ℕ) (a : Answer)

@@ -1,6 +1,5 @@
 -- `Gate::refuses` at a call: what it is handed, and what a caller has of it. Assumes `Logic`.
-use Rattle.std.proofs.Common.{◌≡◌, ℕ, ◌^◌, ◌<◌, List, [], ◌∷◌, Bool, refl, ap}
-use Rattle.std.proofs.Common.{w64}
+use Rattle.std.proofs.Common.{◌≡◌, ℕ, ◌^◌, ◌<◌, List, [], ◌∷◌, Bool, refl, ap, w64}
 use seplogic.Ra.Ura.{Ura}
 use mir.Val.{Val, vbool, vint, vptr}
 use base.Logic.{SProp, ent, sep, guard, ex, id⊢}
@@ -9,9 +8,7 @@ use prog.Memory.{Memory}
 use prog.Routine.{Routine}
 use types.Logic.{Logic, sem}
 use contract.Monad.{Fun}
-use types.Kit.{‵, raw, ◌⊛◌, some, later, ◌$◌, ◌∵◌, !, qed, move, keep, use1}
-use types.Kit.{split, join, pick, fjoin, feq_i, feq_l, flt_i, check, show, await, updating}
-use types.Kit.{now as at_once, done}
+use types.Kit.{‵, raw, ◌⊛◌, some, later, ◌$◌, ◌∵◌, !, qed, move, keep, use1, split, join, pick, fjoin, feq_i, feq_l, flt_i, check, show, await, updating, now as at_once, done}
 use denote.RattleType.{RattleType}
 use denote.Memory.{hidden_shr}
 use denote.Builtin.{bool}

@@ -1,7 +1,6 @@
 -- Faults of the private variables, and where each of them lies.
 -- Source: this project's profile.
-use Rattle.std.specs.Prelude.{nat_lt, ◌==◌, ◌≡◌, ℕ, ◌+◌, ◌<◌, List, [], take}
-use Rattle.std.specs.Prelude.{true, if◌then◌else◌}
+use Rattle.std.specs.Prelude.{nat_lt, ◌==◌, ◌≡◌, ℕ, ◌+◌, ◌<◌, List, [], take, true, if◌then◌else◌}
 use Rattle.ps_linkinfo.specs.declared.record.LinkRecord.{LinkRecord as Record}
 use Rattle.ps_resolve.specs.Sources.{Segment, host_records}
 use Rattle.ps_resolve.specs.Added.{segments}

@@ -1,7 +1,6 @@
 -- Faults of the units that only a unit names, each of which is added in a round of its own.
 -- Source: this project's profile.
-use Rattle.std.specs.Prelude.{◌≡◌, ◌⊎◌, ℕ, ◌≤◌, List, length, slice_get, take}
-use Rattle.std.specs.Prelude.{true, Some, None}
+use Rattle.std.specs.Prelude.{◌≡◌, ◌⊎◌, ℕ, ◌≤◌, List, length, slice_get, take, true, Some, None}
 use Rattle.ps_codefile.specs.Dictionary.{entry_at, is_nameless}
 use Rattle.ps_resolve.specs.Sources.{unit_source, file_at}
 use Rattle.ps_resolve.specs.Added.{added_segments, requested_units, empty_slots}

@@ -1,6 +1,4 @@
-use Rattle.std.proofs.Common.{◌≡◌, ◌≤◌, ◌<◌, ◌⊎◌, ◌∷◌, ◌+◌, ◌++◌, [], ℕ, ◌∙◌}
-use Rattle.std.proofs.Common.{List, Bor, append-nil, inl, inr, drop, length, ap, sym, subst}
-use Rattle.std.proofs.Common.{arith, true}
+use Rattle.std.proofs.Common.{◌≡◌, ◌≤◌, ◌<◌, ◌⊎◌, ◌∷◌, ◌+◌, ◌++◌, [], ℕ, ◌∙◌, List, Bor, append-nil, inl, inr, drop, length, ap, sym, subst, arith, true}
 use Rattle.std.specs.Prelude.{min}
 use Rattle.ps_resolve.specs.Sources.{contents}
 use Rattle.ps_calls.specs.Printed.{AreListed, listed}

@@ -1,5 +1,4 @@
-use Rattle.std.proofs.Common.{◌≤◌, ◌∙◌, ◌∷◌, ◌==◌, ◌&&◌, ℕ, Bool, List, Bor, true, false}
-use Rattle.std.proofs.Common.{ap, arith, map, not, string_bytes, subst, sym, vec_len}
+use Rattle.std.proofs.Common.{◌≤◌, ◌∙◌, ◌∷◌, ◌==◌, ◌&&◌, ℕ, Bool, List, Bor, true, false, ap, arith, map, not, string_bytes, subst, sym, vec_len}
 use Rattle.std.specs.Prelude.{if◌then◌else◌}
 use Rattle.ps_report.specs.Reports.{IsReport}
 use Rattle.ps_report.specs.Verdicts.{check_status}

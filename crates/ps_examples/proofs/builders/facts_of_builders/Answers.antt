@@ -1,7 +1,5 @@
 use Rattle.std.proofs.Common.{zero, suc, [], ◌∷◌, refl, arith}
-use Rattle.ps_examples.specs.Owners.{defined_once, defined_again, util_owner, aux_owner}
-use Rattle.ps_examples.specs.Owners.{duplicate_owner, plain_owner, first_private, second_private}
-use Rattle.ps_examples.specs.Owners.{third_private}
+use Rattle.ps_examples.specs.Owners.{defined_once, defined_again, util_owner, aux_owner, duplicate_owner, plain_owner, first_private, second_private, third_private}
 use Rattle.ps_resolve.proofs.Builders as builders
 use Rattle.ps_resolve.specs.Offsets.{FollowOn}
 use Rattle.ps_resolve.specs.declared.linkage.Stop.TheVariants.{Refused}

@@ -1,25 +1,17 @@
 use Rattle.std.proofs.lemmas.Bool.{ltb-true}
-use Rattle.std.proofs.Common.{◌≡◌, ℕ, ◌+◌, List, [], ◌∷◌, refl, sym, ap}
-use Rattle.std.proofs.Common.{◌∙◌, arith}
+use Rattle.std.proofs.Common.{◌≡◌, ℕ, ◌+◌, List, [], ◌∷◌, refl, sym, ap, ◌∙◌, arith}
 use Rattle.std.specs.Prelude.{slice_index}
 use Rattle.ps_examples.specs.Files.{host, library, blank_name, aux, count, state}
-use Rattle.ps_resolve.specs.Faults.{slots_fault, no_host_fault, libraries_fault, sources_fault}
-use Rattle.ps_resolve.specs.Faults.{linking_fault, definitions_fault, privates_fault, data_fault}
-use Rattle.ps_resolve.specs.Faults.{references_fault}
+use Rattle.ps_resolve.specs.Faults.{slots_fault, no_host_fault, libraries_fault, sources_fault, linking_fault, definitions_fault, privates_fault, data_fault, references_fault}
 use Rattle.ps_resolve.specs.AllFaults.{first_fault, reading_fault}
 use Rattle.ps_resolve.specs.Added.{empty_slots, rounds, segments}
-use Rattle.ps_examples.specs.Segments.{count_reference, aux_reference, demo_segment, util_segment}
-use Rattle.ps_examples.specs.Segments.{pair}
+use Rattle.ps_examples.specs.Segments.{count_reference, aux_reference, demo_segment, util_segment, pair}
 use Rattle.ps_linkinfo.specs.declared.record.Body.TheVariants.{UnitRef, PublRef, PublDef, Eof}
 use Rattle.ps_resolve.specs.Sources.{Segment, own_segments}
 use Rattle.ps_resolve.specs.Standing.Privates.{words_before}
 use Rattle.ps_words.specs.declared.edit.Edit.{Edit}
 use Rattle.ps_words.specs.Words.{operand_bytes, displacement_at}
-use Rattle.ps_examples.proofs.NotLinked.{of_first, no_host, not_the_slot_of_another_unit}
-use Rattle.ps_examples.proofs.NotLinked.{a_plain_segment_is_no_unit, not_the_unit_of_another_name}
-use Rattle.ps_examples.proofs.NotLinked.{not_another_slot, a_constant_is_not_public}
-use Rattle.ps_examples.proofs.NotLinked.{a_unit_defines_nothing, count_state, not_public, body_is}
-use Rattle.ps_examples.proofs.NotLinked.{base_of_pair}
+use Rattle.ps_examples.proofs.NotLinked.{of_first, no_host, not_the_slot_of_another_unit, a_plain_segment_is_no_unit, not_the_unit_of_another_name, not_another_slot, a_constant_is_not_public, a_unit_defines_nothing, count_state, not_public, body_is, base_of_pair}
 use Rattle.ps_examples.proofs.byte_facts.bytes_that_are_not_linked.Goals as goal
 
 pub returns : goal.returns

@@ -5,9 +5,7 @@ use Rattle.ps_examples.specs.Segments.{demo_segment, aux_segment}
 use Rattle.ps_linkinfo.specs.declared.record.Body.TheVariants.{PublDef, Eof}
 use Rattle.ps_resolve.specs.Sources.{Segment, own_segments}
 use Rattle.ps_resolve.specs.Added.{empty_slots, rounds, segments}
-use Rattle.ps_resolve.specs.Faults.{slots_fault, no_host_fault, libraries_fault, sources_fault}
-use Rattle.ps_resolve.specs.Faults.{linking_fault, definitions_fault, privates_fault, data_fault}
-use Rattle.ps_resolve.specs.Faults.{references_fault}
+use Rattle.ps_resolve.specs.Faults.{slots_fault, no_host_fault, libraries_fault, sources_fault, linking_fault, definitions_fault, privates_fault, data_fault, references_fault}
 use Rattle.ps_resolve.specs.AllFaults.{first_fault, reading_fault}
 use Rattle.ps_words.specs.declared.edit.Edit.{Edit}
 use Rattle.ps_words.specs.declared.order.Order.TheVariants.{Big}

@@ -1,8 +1,7 @@
 use Rattle.std.proofs.Common.{refl}
 use Rattle.ps_resolve.specs.Added.{empty_slots}
 use Rattle.ps_resolve.specs.KnownSegments.{segments_in_slots}
-use Rattle.ps_resolve.specs.Readings.{all_read, read_requests, read_rounds}
-use Rattle.ps_resolve.specs.Readings.{read_segments}
+use Rattle.ps_resolve.specs.Readings.{all_read, read_requests, read_rounds, read_segments}
 use Rattle.ps_examples.proofs.readings.added_units_after_a_fault.Goals as goal
 
 pub returns : goal.returns

@@ -2,8 +2,7 @@ use Rattle.std.proofs.Common.{refl}
 use Rattle.ps_resolve.specs.Added.{empty_slots}
 use Rattle.ps_resolve.specs.Faults.{slots_fault, no_host_fault, libraries_fault, sources_fault}
 use Rattle.ps_resolve.specs.KnownSegments.{segments_in_slots}
-use Rattle.ps_resolve.specs.Readings.{all_read, host_reading_fault, read_requests, read_rounds}
-use Rattle.ps_resolve.specs.Readings.{read_segments}
+use Rattle.ps_resolve.specs.Readings.{all_read, host_reading_fault, read_requests, read_rounds, read_segments}
 use Rattle.ps_examples.proofs.readings.slots_after_a_fault.Goals as goal
 
 pub returns : goal.returns

@@ -9,9 +9,7 @@ use Rattle.ps_relied.specs.Alike.{AreFilesAlike}
 use Rattle.ps_relied.specs.SameSegments.{HaveSameHeads}
 use Rattle.ps_resolve.specs.Added.{empty_slots, rounds, segments, slot_names}
 use Rattle.ps_resolve.specs.AllFaults.{first_fault, reading_fault}
-use Rattle.ps_resolve.specs.Faults.{slots_fault, no_host_fault, libraries_fault, sources_fault}
-use Rattle.ps_resolve.specs.Faults.{linking_fault, definitions_fault, privates_fault, data_fault}
-use Rattle.ps_resolve.specs.Faults.{references_fault}
+use Rattle.ps_resolve.specs.Faults.{slots_fault, no_host_fault, libraries_fault, sources_fault, linking_fault, definitions_fault, privates_fault, data_fault, references_fault}
 use Rattle.ps_resolve.specs.Sources.{own_segments}
 use Rattle.ps_words.specs.declared.order.Order.TheVariants.{Little}
 

@@ -1,5 +1,4 @@
-use Rattle.ps_laws.proofs.SegmentOrigins.{one_each, by_slot, own, added_ones, rounds, in_place}
-use Rattle.ps_laws.proofs.SegmentOrigins.{of_libraries, all_read}
+use Rattle.ps_laws.proofs.SegmentOrigins.{one_each, by_slot, own, added_ones, rounds, in_place, of_libraries, all_read}
 use Rattle.ps_laws.proofs.origins.segments_have_origins.Goals as goal
 
 pub returns : goal.returns

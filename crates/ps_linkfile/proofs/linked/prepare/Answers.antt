@@ -1,7 +1,6 @@
 use Rattle.std.proofs.Common.{arith, map}
 use Rattle.ps_linkfile.proofs.Plans.{plan_ready, plan_file, plan_summary}
-use Rattle.ps_linkfile.proofs.Maps.{plan_text}
-use Rattle.ps_linkfile.proofs.Maps.{plan_json}
+use Rattle.ps_linkfile.proofs.Maps.{plan_text, plan_json}
 use Rattle.ps_linkfile.proofs.Whole.{names_first, there, long_host}
 use Rattle.ps_linkfile.proofs.linked.prepare.Goals as goal
 

@@ -1,5 +1,4 @@
-use Rattle.std.proofs.Common.{◌≡◌, ◌+◌, ◌*◌, ℕ, List}
-use Rattle.std.proofs.Common.{arith, refl, sym}
+use Rattle.std.proofs.Common.{◌≡◌, ◌+◌, ◌*◌, ℕ, List, arith, refl, sym}
 use Rattle.ps_linkfile.proofs.Words.{reference, PIECE_REFERENCES}
 use Rattle.ps_linkfile.proofs.InPieces.{one_piece}
 use Rattle.ps_linkfile.proofs.Written.{none_yet, some_more}

@@ -1,7 +1,6 @@
 use Rattle.std.proofs.Common.{arith, refl}
 use Rattle.ps_linkfile.proofs.Words.{drop_more, hex_byte}
-use Rattle.ps_linkfile.proofs.Written.{adds_is, all_written, items_left, items_over, none_yet}
-use Rattle.ps_linkfile.proofs.Written.{some_more}
+use Rattle.ps_linkfile.proofs.Written.{adds_is, all_written, items_left, items_over, none_yet, some_more}
 use Rattle.ps_linkfile.proofs.references.add_hex.Goals as goal
 
 pub loop-byte-init : goal.loop-byte-init

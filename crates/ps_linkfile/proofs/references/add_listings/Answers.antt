@@ -1,5 +1,4 @@
-use Rattle.std.proofs.Common.{arith, refl, sym, ap, ◌∙◌, List, ◌≡◌, drop, ◌∷◌}
-use Rattle.std.proofs.Common.{◌+◌}
+use Rattle.std.proofs.Common.{arith, refl, sym, ap, ◌∙◌, List, ◌≡◌, drop, ◌∷◌, ◌+◌}
 use Rattle.ps_linkfile.proofs.Words.{drop_more, listing_in, Listed}
 use Rattle.ps_linkfile.proofs.Numbered.{numbered_left, numbered_over}
 use Rattle.ps_linkfile.proofs.Written.{adds_is, all_stopped, all_written, none_yet, some_more}

@@ -1,6 +1,5 @@
 use Rattle.std.proofs.Common.{arith, ◌≡◌, ◌∙◌, ◌++◌, ℕ, List, None, ap}
-use Rattle.ps_linkfile.proofs.Words.{IsPlan, Listed, Planned, Segment, edited_segments}
-use Rattle.ps_linkfile.proofs.Words.{listings_in, listings_of, order_of, references_in}
+use Rattle.ps_linkfile.proofs.Words.{IsPlan, Listed, Planned, Segment, edited_segments, listings_in, listings_of, order_of, references_in}
 use Rattle.ps_resolve.specs.Added.{segments}
 use Rattle.ps_resolve.specs.AllFaults.{first_fault, reading_fault}
 use Rattle.ps_resolve.specs.Readings.{ReadFiles}

@@ -1,6 +1,5 @@
 use Rattle.std.proofs.Common.{arith, length-append}
-use Rattle.ps_linkfile.proofs.Words.{on_err_weaker, on_ok_weaker}
-use Rattle.ps_linkfile.proofs.Words.{padded_codes}
+use Rattle.ps_linkfile.proofs.Words.{on_err_weaker, on_ok_weaker, padded_codes}
 use Rattle.ps_linkfile.specs.LinkedFile.{dictionary}
 use Rattle.ps_linkfile.proofs.Prefixes.{appends_twice, prefix_last, prefix_then, on_err_always}
 use Rattle.ps_linkfile.proofs.Codes.{codes_len}

@@ -5,8 +5,7 @@ use Rattle.ps_linkinfo.specs.Walk.{Walk, whole_walk}
 use Rattle.ps_linkinfo.specs.declared.record.LinkRecord.{LinkRecord as Record}
 use Rattle.ps_linkinfo.proofs.Readings.{is_reading, is_stop}
 use Rattle.ps_linkinfo.proofs.Stands.{IsReadingOf, reading_is}
-use Rattle.ps_linkinfo.proofs.Walks.{Walked, walked_first, walked_more, walked_all, walked_to_fault}
-use Rattle.ps_linkinfo.proofs.Walks.{walked_good}
+use Rattle.ps_linkinfo.proofs.Walks.{Walked, walked_first, walked_more, walked_all, walked_to_fault, walked_good}
 use Rattle.ps_linkinfo.proofs.reader.read_records.Goals as goal
 
 pub loop-item-init : goal.loop-item-init

@@ -3,8 +3,7 @@ use Rattle.std.specs.Prelude.{Result}
 use Rattle.ps_words.specs.declared.fault.Reason.{Reason}
 use Rattle.ps_codefile.specs.declared.entry.Role.{Role}
 use Rattle.ps_linkfile.proofs.Written.{adds_is}
-use Rattle.ps_listing.specs.ListJson.{is_first_after_role, is_first_after_slot, role_item}
-use Rattle.ps_listing.specs.ListJson.{slot_item}
+use Rattle.ps_listing.specs.ListJson.{is_first_after_role, is_first_after_slot, role_item, slot_item}
 use Rattle.ps_listing.proofs.slots_json.add_slot.Goals as goal
 
 pub returns-clause-item : goal.returns-clause-item

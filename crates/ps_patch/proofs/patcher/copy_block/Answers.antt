@@ -1,11 +1,8 @@
-use Rattle.std.proofs.Common.{◌≡◌, ◌≤◌, ◌<◌, ◌+◌, ◌-◌, ◌++◌, ◌∙◌}
-use Rattle.std.proofs.Common.{ℕ, List, Bool, true, false, ap, drop, get_or, length, length-drop}
-use Rattle.std.proofs.Common.{refl, replicate, sym, take, arith}
+use Rattle.std.proofs.Common.{◌≡◌, ◌≤◌, ◌<◌, ◌+◌, ◌-◌, ◌++◌, ◌∙◌, ℕ, List, Bool, true, false, ap, drop, get_or, length, length-drop, refl, replicate, sym, take, arith}
 use Rattle.std.specs.Prelude.{min, nat_lt}
 use Rattle.std.proofs.Math.ListN.{get_or-eq_default}
 use Rattle.std.proofs.lemmas.Bool.{ltb-false, ltb-true}
-use Rattle.std.proofs.lemmas.List.{get_or-append_right, get_or-drop, get_or-replicate, get_or-take}
-use Rattle.std.proofs.lemmas.List.{get_or_append_left}
+use Rattle.std.proofs.lemmas.List.{get_or-append_right, get_or-drop, get_or-replicate, get_or-take, get_or_append_left}
 use Rattle.ps_patch.proofs.patcher.copy_block.Goals as goal
 
 -- a place of the part of the code that is there

@@ -1,6 +1,4 @@
-use Rattle.std.proofs.Common.{◌≡◌, ◌≤◌, ◌<◌, ◌⊎◌, ◌∷◌, ◌+◌, [], ℕ}
-use Rattle.std.proofs.Common.{List, Bor, append-nil, inl, inr, drop, length, map, ap, sym, subst}
-use Rattle.std.proofs.Common.{arith}
+use Rattle.std.proofs.Common.{◌≡◌, ◌≤◌, ◌<◌, ◌⊎◌, ◌∷◌, ◌+◌, [], ℕ, List, Bor, append-nil, inl, inr, drop, length, map, ap, sym, subst, arith}
 use Rattle.std.specs.Prelude.{min}
 use Rattle.ps_resolve.specs.Sources.{contents}
 use Rattle.ps_report.specs.Lists.{AreLists}

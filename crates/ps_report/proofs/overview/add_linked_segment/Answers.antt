@@ -1,5 +1,4 @@
-use Rattle.std.proofs.Common.{◌≡◌, ◌∷◌, [], List, ℕ, ap, length, refl, subst}
-use Rattle.std.proofs.Common.{string_bytes}
+use Rattle.std.proofs.Common.{◌≡◌, ◌∷◌, [], List, ℕ, ap, length, refl, subst, string_bytes}
 use Rattle.std.specs.Result.{OnOk}
 use Rattle.ps_resolve.specs.Sources.{contents}
 use Rattle.ps_warnings.specs.Paths.{path_of}

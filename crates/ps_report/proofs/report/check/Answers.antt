@@ -1,5 +1,4 @@
-use Rattle.std.proofs.Common.{◌≡◌, ◌∙◌, ◌∷◌, ◌++◌, [], ℕ, List, Bor, length, map, string_bytes}
-use Rattle.std.proofs.Common.{subst, sym, vec_len, ap, arith}
+use Rattle.std.proofs.Common.{◌≡◌, ◌∙◌, ◌∷◌, ◌++◌, [], ℕ, List, Bor, length, map, string_bytes, subst, sym, vec_len, ap, arith}
 use Rattle.std.proofs.lemmas.Grind.{common_steps}
 use Rattle.ps_resolve.specs.Sources.{contents}
 use Rattle.ps_report.specs.SegmentLines.{segment_lines}

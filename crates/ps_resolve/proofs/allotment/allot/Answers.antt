@@ -1,7 +1,5 @@
 use Rattle.std.proofs.Common.{◌≤◌, ◌+◌, ◌∙◌, sym, arith, append-nil}
-use Rattle.ps_resolve.proofs.Allots.{Allots, allot_more, allot_on, allots, duplicate_fault}
-use Rattle.ps_resolve.proofs.Allots.{is_duplicate, no_privates, not_duplicate, privates_counted}
-use Rattle.ps_resolve.proofs.Allots.{room_fault}
+use Rattle.ps_resolve.proofs.Allots.{Allots, allot_more, allot_on, allots, duplicate_fault, is_duplicate, no_privates, not_duplicate, privates_counted, room_fault}
 use Rattle.ps_resolve.proofs.Duplicates.{positive}
 use Rattle.ps_resolve.proofs.Numbers.{one, none}
 use Rattle.ps_resolve.specs.declared.allotment.TheConstants.{MAX_NEXT_FREE}

@@ -1,10 +1,7 @@
-use Rattle.std.proofs.Common.{rules, arith, ◌≡◌, ◌∙◌, [], ◌∷◌, ◌++◌, ap, sym}
-use Rattle.std.proofs.Common.{append-nil, is_some}
+use Rattle.std.proofs.Common.{rules, arith, ◌≡◌, ◌∙◌, [], ◌∷◌, ◌++◌, ap, sym, append-nil, is_some}
 use Rattle.std.specs.Str.{bytes_eq}
 use Rattle.indexmap.proofs.CallerLemmas.{insert_entry-new}
-use Rattle.ps_resolve.proofs.Duplicates.{Defines, again_first, definitions_counted, new_entries}
-use Rattle.ps_resolve.proofs.Duplicates.{new_first, no_definitions, none_entries, none_first}
-use Rattle.ps_resolve.proofs.Duplicates.{none_is, positive, some_there}
+use Rattle.ps_resolve.proofs.Duplicates.{Defines, again_first, definitions_counted, new_entries, new_first, no_definitions, none_entries, none_first, none_is, positive, some_there}
 use Rattle.ps_resolve.proofs.Numbers.{one, none}
 use Rattle.ps_resolve.proofs.definitions.table_of.Goals as goal
 

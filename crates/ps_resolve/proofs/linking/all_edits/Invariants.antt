@@ -1,5 +1,4 @@
-use Rattle.std.proofs.Common.{◌≡◌, ℕ, ◌+◌, ◌++◌, ◌∷◌, [], List, map, take}
-use Rattle.std.proofs.Common.{drop, true}
+use Rattle.std.proofs.Common.{◌≡◌, ℕ, ◌+◌, ◌++◌, ◌∷◌, [], List, map, take, drop, true}
 use Rattle.std.specs.Prelude.{All}
 use Rattle.ps_words.specs.declared.edit.Edit.{Edit}
 use Rattle.ps_resolve.specs.Faults.{references_fault_from}

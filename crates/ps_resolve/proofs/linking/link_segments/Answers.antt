@@ -1,5 +1,4 @@
-use Rattle.std.proofs.Common.{◌≡◌, ℕ, ◌+◌, [], ◌∷◌, List, map, Some, refl, sym}
-use Rattle.std.proofs.Common.{◌∙◌, ap, arith}
+use Rattle.std.proofs.Common.{◌≡◌, ℕ, ◌+◌, [], ◌∷◌, List, map, Some, refl, sym, ◌∙◌, ap, arith}
 use Rattle.std.proofs.lemmas.Result.{err_from_is_err_and}
 use Rattle.std.proofs.lemmas.List.{length-map}
 use Rattle.ps_words.specs.declared.edit.Edit.{Edit}
@@ -11,9 +10,7 @@ use Rattle.ps_resolve.specs.Linkable.{AreSegments}
 use Rattle.ps_resolve.specs.declared.reading.host.HostSegment.{HostSegment}
 use Rattle.ps_resolve.proofs.Hosts.{of_hosts}
 use Rattle.ps_resolve.proofs.Segs.{slots_are}
-use Rattle.ps_resolve.proofs.Stages.{records_are, definitions_stop, privates_stop, words_are}
-use Rattle.ps_resolve.proofs.Stages.{allotment_is, size_stop, references_stop, none_stands}
-use Rattle.ps_resolve.proofs.Stages.{all_linked, as_many}
+use Rattle.ps_resolve.proofs.Stages.{records_are, definitions_stop, privates_stop, words_are, allotment_is, size_stop, references_stop, none_stands, all_linked, as_many}
 use Rattle.ps_resolve.proofs.linking.link_segments.Goals as goal
 
 -- what is known of the segments, as a slice lends them

@@ -1,7 +1,6 @@
 -- It returns `Err` where the gate refuses, and else what the inner allocator returns. Assumes
 -- `Logic`.
-use Rattle.std.proofs.Common.{◌≡◌, ℕ, ◌+◌, ◌^◌, ◌<◌, true, false, List, []}
-use Rattle.std.proofs.Common.{◌∷◌, Ok, Err, refl, w64, Bor}
+use Rattle.std.proofs.Common.{◌≡◌, ℕ, ◌+◌, ◌^◌, ◌<◌, true, false, List, [], ◌∷◌, Ok, Err, refl, w64, Bor, Bool}
 use seplogic.Ra.Ura.{Ura}
 use mir.Syntax.{Ty, Args, Fn, a_type, dnil, dcons}
 use mir.Val.{Val, vbool, vint, vptr}
@@ -16,8 +15,7 @@ use contract.BorrowLft.{◌⊑◌, ⊑_trans}
 use contract.Monad.{Fun, fact}
 use contract.Running.{tables, tables_of}
 use sound.WpLaws.{fm_of, WpFn-mono}
-use types.Run.{stop, fld, addr, lit, no_more, and_then, first, branches, skips, exec, returns}
-use types.Run.{returns_within, enter}
+use types.Run.{stop, fld, addr, lit, no_more, and_then, first, branches, skips, exec, returns, returns_within, enter}
 use types.Part.{agg}
 use denote.Exit.{yes}
 use denote.RattleType.{owns}
@@ -32,19 +30,14 @@ use denote.Triple.Spec.{triple_of}
 use denote.Triple.Statement.{Triple}
 use denote.Triple.Table.{entered, cited}
 use denote.Triple.Walked.{Stays, stay_dropped, walk_of, ends_at, walked, Goes-dropped, walk_Meets}
-use types.Kit.{‵, raw, ◌⊛◌, some, later, given, learn, pick, by, at_ret, ⋆, ◌$◌}
-use types.Kit.{◌∵◌, !, qed, move, keep, use0, use1, use2, split, join, fsplit, fjoin}
-use types.Kit.{suffices, await, done}
+use types.Kit.{‵, raw, ◌⊛◌, some, later, given, learn, pick, by, at_ret, ⋆, ◌$◌, ◌∵◌, !, qed, move, keep, use0, use1, use2, split, join, fsplit, fjoin, suffices, await, done}
 use types.ByLocal.{alloc_all, pass_all, free_all, look_at, get, through, sets, lands_as, env}
 use denote.RawPtr.{block_ptr}
 use denote.Builtin.{usize, RefOf}
 use denote.Triple.Call.{calls_at}
 use Rattle.std.specs.Allocator.{block_if_ok}
-use Rattle.std.proofs.alloc.Calls.{Al, α, seen, token, Answer, answer_val, Answer-typed, Answer-Ok}
-use Rattle.std.proofs.alloc.Calls.{Answer-err, takes_key, Takes, at_takes, Answered, Takes-goes}
-use Rattle.std.proofs.alloc.Calls.{Takes-gives, answers}
+use Rattle.std.proofs.alloc.Calls.{Al, α, seen, token, Answer, answer_val, Answer-typed, Answer-Ok, Answer-err, takes_key, Takes, at_takes, Answered, Takes-goes, Takes-gives, answers}
 use Rattle.refusing.proofs.GateSteps.{GateRow, Refuses, at_refuses, Refuses-goes, Refuses-gives}
-use Rattle.std.proofs.Common.{Bool}
 use Rattle.std.proofs.VecSteps.Shapes.{after}
 use Rattle.refusing.proofs.Gate.refuses.Symbol as c_sym
 use Rattle.refusing.proofs.Gate.refuses.Met as c_met

@@ -1,5 +1,4 @@
-use Rattle.std.proofs.Common.{◌≡◌, ◌+◌, ◌-◌, ◌<◌, ◌||◌, ◌∙◌, ℕ, Bool}
-use Rattle.std.proofs.Common.{true, false, if◌then◌else◌, get_or, refl, ap, sym, arith}
+use Rattle.std.proofs.Common.{◌≡◌, ◌+◌, ◌-◌, ◌<◌, ◌||◌, ◌∙◌, ℕ, Bool, true, false, if◌then◌else◌, get_or, refl, ap, sym, arith}
 use Rattle.std.specs.List.{list_any, range_with_len}
 use Rattle.ps_codefile.specs.Procedures.{is_in_table, table_of}
 use Rattle.ps_codefile.specs.Places.{passes}

@@ -1,7 +1,6 @@
 use Rattle.std.proofs.Common.{arith, ◌≡◌, false, rules}
 use Rattle.std.specs.Prelude.{is_some}
-use Rattle.ps_linkfile.proofs.Sending.{counted_fault, counted_more, sent_more, sent_no_more}
-use Rattle.ps_linkfile.proofs.Sending.{sent_prefix}
+use Rattle.ps_linkfile.proofs.Sending.{counted_fault, counted_more, sent_more, sent_no_more, sent_prefix}
 use Rattle.ps_linkfile.proofs.stream.StreamTextWriter.add.Goals as goal
 
 pub returns-then-is_some : goal.returns-then-is_some

@@ -8,8 +8,7 @@ use Rattle.ps_resolve.specs.Requests.{as_requested}
 use Rattle.ps_resolve.specs.KnownSegments.{IsRead}
 use Rattle.ps_resolve.specs.Sources.{file_at, segment_from, opened}
 use Rattle.ps_resolve.specs.Faults.{code_fault}
-use Rattle.ps_resolve.proofs.Requested.{brought_by, found_at, placed_by, placed_refused}
-use Rattle.ps_resolve.proofs.Requested.{read_marked}
+use Rattle.ps_resolve.proofs.Requested.{brought_by, found_at, placed_by, placed_refused, read_marked}
 use Rattle.ps_resolve.proofs.ReadingUnits.{kind_is}
 use Rattle.ps_resolve.proofs.Sharing.{placed_in}
 use Rattle.ps_resolve.proofs.reading.request.read_unit.Goals as goal

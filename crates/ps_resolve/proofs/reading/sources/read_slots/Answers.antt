@@ -1,6 +1,4 @@
-use Rattle.std.proofs.Common.{rules, ◌≡◌, ◌+◌, ◌<◌, ◌∙◌, ◌-◌, ℕ, List}
-use Rattle.std.proofs.Common.{append-nil, if◌then◌else◌, true, Option, Some, None, Result}
-use Rattle.std.proofs.Common.{Ok, Err, refl, sym, arith}
+use Rattle.std.proofs.Common.{rules, ◌≡◌, ◌+◌, ◌<◌, ◌∙◌, ◌-◌, ℕ, List, append-nil, if◌then◌else◌, true, Option, Some, None, Result, Ok, Err, refl, sym, arith}
 use Rattle.std.specs.Prelude.{is_none, IfOk, IfSome, option_and_then}
 use Rattle.std.specs.List.{range_with_len}
 use Rattle.std.specs.Option.{option_or}

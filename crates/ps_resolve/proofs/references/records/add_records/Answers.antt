@@ -1,5 +1,4 @@
-use Rattle.std.proofs.Common.{rules, ℕ, ◌+◌, ◌++◌, ◌∙◌, [], sym, subst, arith}
-use Rattle.std.proofs.Common.{Option, append-nil, List, ap}
+use Rattle.std.proofs.Common.{rules, ℕ, ◌+◌, ◌++◌, ◌∙◌, [], sym, subst, arith, Option, append-nil, List, ap}
 use Rattle.std.proofs.lemmas.Result.{err_from_is_err_and}
 use Rattle.std.specs.Option.{option_map}
 use Rattle.ps_words.specs.declared.fault.Reason.{Reason}

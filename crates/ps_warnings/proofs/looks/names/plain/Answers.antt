@@ -1,5 +1,4 @@
-use Rattle.std.proofs.Common.{◌≡◌, ◌+◌, ◌<◌, ◌≤◌, ◌∷◌, ◌++◌, ◌∙◌, [], List, ℕ, zero, suc, length, take, map}
-use Rattle.std.proofs.Common.{ap, arith, get_or, refl, subst, sym}
+use Rattle.std.proofs.Common.{◌≡◌, ◌+◌, ◌<◌, ◌≤◌, ◌∷◌, ◌++◌, ◌∙◌, [], List, ℕ, zero, suc, length, take, map, ap, arith, get_or, refl, subst, sym}
 use Rattle.std.proofs.lemmas.List.{take_more_set, take_all}
 use Rattle.std.proofs.lemmas.Grind.{common_steps}
 use Rattle.ps_warnings.specs.LinkLooks.{plain_byte}
