@@ -142,8 +142,9 @@ Example:
 
 The report is for a person: the files, where each segment comes from, whether they
 are linked, and if not what is wrong and what to do. A line that begins with
-'warning: ' reports what looks wrong and is no fault. No file is written. With --json
-the verdict, the warnings and the report are printed as one JSON document.
+'warning: ' reports what looks wrong and is no fault, one with 'harmless: ' what changes
+no link, and one with 'note: ' a guess. No file is written. With --json the verdict,
+the warnings and the report are printed as one JSON document.
 
 With --unit, HOST and each LIB are files of any kind. They are listed as by list, and
 after the lines of each file comes a line of each unit that it has, with its first
