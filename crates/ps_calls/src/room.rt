@@ -83,11 +83,11 @@ impl ToldWriter for Room<'_> {
 
     fn told_write(&mut self, bytes: &[u8]) -> io::Result<usize> {
         let count = self.take(bytes);
-        self.writes = self.writes.saturating_add(1);
+        self.writes += 1;
         if count < bytes.len() {
-            self.shorts = self.shorts.saturating_add(1);
+            self.shorts += 1;
             if count == 0 {
-                self.stalls = self.stalls.saturating_add(1);
+                self.stalls += 1;
             }
         }
         Ok(count)

@@ -1,6 +1,6 @@
 -- How often a writer was called, and how its counts rise.
 -- Source: this project's profile.
-use Rattle.std.specs.Prelude.{◌≡◌, ℕ, ◌+◌, ◌^◌, ◌<◌, ◌≤◌, ◌==◌, min, ◌&&◌, nat_lt, if◌then◌else◌, Result, Ok, Err, ⊤}
+use Rattle.std.specs.Prelude.{◌≡◌, ℕ, ◌+◌, ◌-◌, ◌^◌, ◌<◌, ◌≤◌, ◌==◌, min, Bool, true, false, ◌&&◌, nat_lt, if◌then◌else◌, Result, Ok, Err, ⊤}
 use Rattle.ps_linkfile.specs.declared.counts.Counts.{Counts}
 use Rattle.ps_linkfile.specs.declared.error.WriteFault.{WriteFault}
 use Rattle.ps_linkfile.specs.declared.error.WriteFault.TheVariants.{Device, Stalled}
@@ -9,24 +9,33 @@ use Rattle.ps_linkfile.specs.declared.error.WriteFault.TheVariants.{Device, Stal
 abbrev pub no_counts : Counts
 no_counts = record { writes = 0; errors = 0; stalls = 0; shorts = 0 }
 
+-- the counts after a write of so many bytes that gave this result, where `next` says what becomes of
+-- each that applies
+abbrev pub counted_by : {E : Type 0} → (ℕ → ℕ) → Counts → ℕ → Result ℕ E → Counts
+counted_by next old size (Ok taken) = record {
+  writes = next old.writes;
+  errors = old.errors;
+  stalls = if nat_lt taken size && taken == 0 then next old.stalls else old.stalls;
+  shorts = if nat_lt taken size then next old.shorts else old.shorts;
+}
+counted_by next old size (Err error) = record {
+  writes = next old.writes;
+  errors = next old.errors;
+  stalls = old.stalls;
+  shorts = old.shorts;
+}
+
+-- each that applies is one more
+abbrev pub counts_after : {E : Type 0} → Counts → ℕ → Result ℕ E → Counts
+counts_after old size result = counted_by (λ n. n + 1) old size result
+
 -- one more, unless 64 bits hold no more
 abbrev pub one_more : ℕ → ℕ
 one_more n = min (n + 1) 18446744073709551615
 
--- the counts after a write of so many bytes that gave this result
-abbrev pub counts_after : {E : Type 0} → Counts → ℕ → Result ℕ E → Counts
-counts_after old size (Ok taken) = record {
-  writes = one_more old.writes;
-  errors = old.errors;
-  stalls = if nat_lt taken size && taken == 0 then one_more old.stalls else old.stalls;
-  shorts = if nat_lt taken size then one_more old.shorts else old.shorts;
-}
-counts_after old size (Err error) = record {
-  writes = one_more old.writes;
-  errors = one_more old.errors;
-  stalls = old.stalls;
-  shorts = old.shorts;
-}
+-- each that applies is one more, unless 64 bits hold no more
+abbrev pub saturated_after : {E : Type 0} → Counts → ℕ → Result ℕ E → Counts
+saturated_after old size result = counted_by one_more old size result
 
 -- none of the counts is above n
 pub record AreAtMost (counts : Counts) (n : ℕ) : Type 0 where
@@ -34,6 +43,18 @@ pub record AreAtMost (counts : Counts) (n : ℕ) : Type 0 where
   pub errors : counts.errors ≤ n
   pub stalls : counts.stalls ≤ n
   pub shorts : counts.shorts ≤ n
+
+-- each of the counts is below n
+pub record AreBelow (counts : Counts) (n : ℕ) : Type 0 where
+  pub writes : counts.writes < n
+  pub errors : counts.errors < n
+  pub stalls : counts.stalls < n
+  pub shorts : counts.shorts < n
+
+-- 64 bits hold the counts after so many writes more, where they have to
+abbrev pub HasRoom : Bool → Counts → ℕ → Type 0
+HasRoom true counts n = AreBelow counts (2 ^ 64 - n)
+HasRoom false counts n = ⊤
 
 -- there were at most as many writes as bytes
 abbrev pub RisesByBytes : Counts → Counts → ℕ → Type 0

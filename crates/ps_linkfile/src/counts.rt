@@ -18,7 +18,7 @@ pub struct Counts {
 
 impl Counts {
     ghost use Rattle.std.specs.Prelude.{◌≡◌};
-    ghost use Rattle.ps_linkfile.specs.Counts.{no_counts, counts_after};
+    ghost use Rattle.ps_linkfile.specs.Counts.{no_counts, saturated_after};
 
     /// The counts before the first write, which are 0.
     /// Source: this project's profile.
@@ -35,7 +35,7 @@ impl Counts {
 
     /// Counts a write of so many bytes, by its result.
     pub(crate) fn count(&mut self, size: usize, answer: &io::Result<usize>)
-        ensures { self.new ≡ counts_after self.old size answer.now }
+        ensures { self.new ≡ saturated_after self.old size answer.now }
     {
         self.writes = self.writes.saturating_add(1);
         match answer {

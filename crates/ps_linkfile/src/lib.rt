@@ -42,5 +42,4 @@ pub use stream::write_text;
 pub use summary::Summary;
 pub use text_writer::{Text, TextWriter};
 pub use told::{Counting, ToldWriter};
-pub use write_counter::{ByWriter, WriteCounter};
 pub use writing::write_all_of;

@@ -19,7 +19,7 @@ use crate::stream::write_text;
 use crate::summary::Summary;
 use crate::text_writer::TextWriter;
 use crate::told::ToldWriter;
-use crate::write_counter::{ByWriter, WriteCounter};
+use crate::write_counter::ByWriter;
 use crate::writing::write_file;
 use ps_laws::{bytes_are_linked, first_of_all};
 use ps_resolve::{Plan, resolve, slot_names_are_whole};
@@ -124,28 +124,22 @@ impl<'a, A: Allocator + Copy> Linked<'a, A> {
     }
 
     /// Writes the map of the link, the text that `map_text` returns, in pieces, by writes that
-    /// `counter` makes and counts. It takes no memory.
+    /// are counted in `counts`. It takes no memory.
     ///
     /// After Ok no write failed. Refuses `Device` where a write returned an error, which is not
     /// repeated: that was one write, and none stalled. Refuses `Stalled` where a write of at least
     /// one byte took none: that was one write, and none returned an error. The writer then has a
     /// prefix of the map.
     /// Source: this project's profile.
-    pub fn write_map<W: Write, C: WriteCounter<W>>(
-        &self,
-        out: &mut W,
-        counter: &mut C,
-    ) -> Result<(), WriteFault>
+    pub fn write_map<W: Write>(&self, out: &mut W, counts: &mut Counts) -> Result<(), WriteFault>
         ensures map { OnOk result (Appends (W.contents out.old) (W.contents out.new)
             (map_in self.now)) }
         ensures prefix { OnErr result (AppendsPrefix (W.contents out.old) (W.contents out.new)
             (map_in self.now)) }
-        ensures ok { OnOk result (NoneFailed (C.counts counter.old out.old)
-            (C.counts counter.new out.new)) }
-        ensures failed { IfErr result (λ fault. OneFailed fault (C.counts counter.old out.old)
-            (C.counts counter.new out.new)) }
+        ensures ok { OnOk result (NoneFailed counts.old counts.new) }
+        ensures failed { IfErr result (λ fault. OneFailed fault counts.old counts.new) }
     {
-        write_text(&LinkMap(Form::Lines, self), out, counter)
+        write_text(&LinkMap(Form::Lines, self), out, counts)
     }
 
     /// Writes the map of the link as one JSON document: the values of its lines, of each name the
@@ -154,21 +148,19 @@ impl<'a, A: Allocator + Copy> Linked<'a, A> {
     ///
     /// Refuses what `write_map` refuses. The writer then has a prefix of the document.
     /// Source: RFC 8259; the document is this project's profile.
-    pub fn write_map_json<W: Write, C: WriteCounter<W>>(
+    pub fn write_map_json<W: Write>(
         &self,
         out: &mut W,
-        counter: &mut C,
+        counts: &mut Counts,
     ) -> Result<(), WriteFault>
         ensures json { OnOk result (Appends (W.contents out.old) (W.contents out.new)
             (map_json_in self.now)) }
         ensures prefix { OnErr result (AppendsPrefix (W.contents out.old) (W.contents out.new)
             (map_json_in self.now)) }
-        ensures ok { OnOk result (NoneFailed (C.counts counter.old out.old)
-            (C.counts counter.new out.new)) }
-        ensures failed { IfErr result (λ fault. OneFailed fault (C.counts counter.old out.old)
-            (C.counts counter.new out.new)) }
+        ensures ok { OnOk result (NoneFailed counts.old counts.new) }
+        ensures failed { IfErr result (λ fault. OneFailed fault counts.old counts.new) }
     {
-        write_text(&LinkMap(Form::Json, self), out, counter)
+        write_text(&LinkMap(Form::Json, self), out, counts)
     }
 }
 

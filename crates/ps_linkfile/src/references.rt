@@ -15,6 +15,7 @@ ghost use Rattle.ps_linkfile.specs.declared.cause.Cause.TheVariants.{Reference};
 ghost use Rattle.ps_linkfile.specs.ReferencesText.{bytes_at as bytes_at_spec, item_end as item_end_spec, listing_in, place_in, record_in, references_in, references_of};
 
 use crate::cause::{Cause, ReferenceKind};
+use crate::counts::Counts;
 use crate::error::{LinkError, WriteFault};
 use crate::json::separator;
 use crate::linked::{Linked, prepare};
@@ -22,7 +23,6 @@ use crate::listing::{Listing, list_segments};
 use crate::rows::{Form, Part, add_by_form, add_parts, by_form};
 use crate::stream::write_text;
 use crate::text_writer::{Text, TextWriter};
-use crate::write_counter::WriteCounter;
 use ps_laws::first_of_all;
 use ps_resolve::read;
 use ps_words::{BLOCK_SIZE, Name};
@@ -228,28 +228,22 @@ impl<A: Allocator + Copy> Text for Referenced<'_, '_, A> {
 }
 
 impl<'a, A: Allocator + Copy> ReferenceMap<'a, A> {
-    /// Writes the text in pieces, by writes that `counter` makes and counts. It takes no memory.
+    /// Writes the text in pieces, by writes that are counted in `counts`. It takes no memory.
     ///
     /// After Ok no write failed. Refuses `Device` where a write returned an error, which is not
     /// repeated: that was one write, and none stalled. Refuses `Stalled` where a write of at least
     /// one byte took none: that was one write, and none returned an error. The writer then has a
     /// prefix of the text.
     /// Source: this project's profile.
-    pub fn write<W: Write, C: WriteCounter<W>>(
-        &self,
-        out: &mut W,
-        counter: &mut C,
-    ) -> Result<(), WriteFault>
+    pub fn write<W: Write>(&self, out: &mut W, counts: &mut Counts) -> Result<(), WriteFault>
         ensures text { OnOk result (Appends (W.contents out.old) (W.contents out.new)
             (references_text self.now)) }
         ensures prefix { OnErr result (AppendsPrefix (W.contents out.old) (W.contents out.new)
             (references_text self.now)) }
-        ensures ok { OnOk result (NoneFailed (C.counts counter.old out.old)
-            (C.counts counter.new out.new)) }
-        ensures failed { IfErr result (λ fault. OneFailed fault (C.counts counter.old out.old)
-            (C.counts counter.new out.new)) }
+        ensures ok { OnOk result (NoneFailed counts.old counts.new) }
+        ensures failed { IfErr result (λ fault. OneFailed fault counts.old counts.new) }
     {
-        write_text(&Referenced(Form::Lines, self), out, counter)
+        write_text(&Referenced(Form::Lines, self), out, counts)
     }
 
     /// Writes the map and the references as one JSON document: the values of the lines, of each
@@ -258,21 +252,15 @@ impl<'a, A: Allocator + Copy> ReferenceMap<'a, A> {
     ///
     /// Refuses what `write` refuses. The writer then has a prefix of the document.
     /// Source: RFC 8259; the document is this project's profile.
-    pub fn write_json<W: Write, C: WriteCounter<W>>(
-        &self,
-        out: &mut W,
-        counter: &mut C,
-    ) -> Result<(), WriteFault>
+    pub fn write_json<W: Write>(&self, out: &mut W, counts: &mut Counts) -> Result<(), WriteFault>
         ensures json { OnOk result (Appends (W.contents out.old) (W.contents out.new)
             (referenced_json self.now)) }
         ensures prefix { OnErr result (AppendsPrefix (W.contents out.old) (W.contents out.new)
             (referenced_json self.now)) }
-        ensures ok { OnOk result (NoneFailed (C.counts counter.old out.old)
-            (C.counts counter.new out.new)) }
-        ensures failed { IfErr result (λ fault. OneFailed fault (C.counts counter.old out.old)
-            (C.counts counter.new out.new)) }
+        ensures ok { OnOk result (NoneFailed counts.old counts.new) }
+        ensures failed { IfErr result (λ fault. OneFailed fault counts.old counts.new) }
     {
-        write_text(&Referenced(Form::Json, self), out, counter)
+        write_text(&Referenced(Form::Json, self), out, counts)
     }
 }
 

@@ -17,6 +17,7 @@ ghost use Rattle.ps_linkfile.specs.Rows.{Kind, Named, Number, Record, row_in};
 ghost use Rattle.ps_linkfile.specs.Outcomes.{LeavesFailure, LeavesTextPrefix, LeavesUntouched};
 ghost use Rattle.ps_linkfile.specs.ShowText.{entry_in, order_words, slot_line, unit_names as unit_names_spec, is_listed as is_listed_spec, record_in, fault_in, records_in, has_links as has_links_spec, links_head, links_in, show_of, order_shown, show_fault, IsUnshown, IsUnwritten};
 
+use crate::counts::Counts;
 use crate::error::LinkError;
 use crate::in_memory::in_memory;
 use crate::json::separator;
@@ -24,7 +25,6 @@ use crate::lines::two_digits;
 use crate::rows::{Form, Part, add_by_form, add_parts, add_reason, add_row};
 use crate::stream::write_text;
 use crate::text_writer::{Text, TextWriter};
-use crate::write_counter::WriteCounter;
 use arrayvec::ArrayVec;
 use ps_codefile::dictionary_layout::{SLOT_COUNT, SLOTS};
 use ps_codefile::{Dict, Entry, Role};
@@ -369,7 +369,7 @@ pub fn show_text<A: Allocator + Copy>(alloc: A, file: &[u8]) -> Result<Vec<u8, A
     Ok(in_memory(alloc, &read(file)?)?)
 }
 
-/// Writes the text that `show_text` returns, in pieces, by writes that `counter` makes and counts.
+/// Writes the text that `show_text` returns, in pieces, by writes that are counted in `counts`.
 /// It takes no memory.
 ///
 /// After Ok no write failed. Refuses `Refused` as `show_text` does, of the same files; nothing was
@@ -377,11 +377,7 @@ pub fn show_text<A: Allocator + Copy>(alloc: A, file: &[u8]) -> Result<Vec<u8, A
 /// which returned the error of `Device`, or which took none of at least one byte where it is
 /// `Stalled`. The writer then has a prefix of the text. Never returns `Memory`.
 /// Source: UCSD Pascal II.0 manual, code file format; the text is this project's profile.
-pub fn write_show<W: Write, C: WriteCounter<W>>(
-    file: &[u8],
-    out: &mut W,
-    counter: &mut C,
-) -> Result<(), LinkError>
+pub fn write_show<W: Write>(file: &[u8], out: &mut W, counts: &mut Counts) -> Result<(), LinkError>
     ensures written { OnOk result (Appends (W.contents out.old) (W.contents out.new)
         (show_of file.now)) }
     ensures sound { OnOk result (show_fault file.now ≡ None) }
@@ -389,10 +385,8 @@ pub fn write_show<W: Write, C: WriteCounter<W>>(
     ensures untouched { IfErr result (λ e. LeavesUntouched e out.old out.new) }
     ensures prefix { IfErr result (λ e. LeavesTextPrefix (show_of file.now) e
         (W.contents out.old) (W.contents out.new)) }
-    ensures ok { OnOk result (NoneFailed (C.counts counter.old out.old)
-        (C.counts counter.new out.new)) }
-    ensures failed { IfErr result (λ e. LeavesFailure e (C.counts counter.old out.old)
-        (C.counts counter.new out.new)) }
+    ensures ok { OnOk result (NoneFailed counts.old counts.new) }
+    ensures failed { IfErr result (λ e. LeavesFailure e counts.old counts.new) }
 {
-    Ok(write_text(&read(file)?, out, counter)?)
+    Ok(write_text(&read(file)?, out, counts)?)
 }

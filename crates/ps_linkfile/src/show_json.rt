@@ -9,12 +9,12 @@ ghost use Rattle.ps_linkfile.specs.Outcomes.{LeavesFailure, LeavesTextPrefix, Le
 ghost use Rattle.ps_linkfile.specs.ShowJson.{order_member, show_json_of, slot_item};
 ghost use Rattle.ps_linkfile.specs.ShowText.{order_shown, show_fault, unit_names as unit_names_spec, IsUnwritten};
 
+use crate::counts::Counts;
 use crate::error::LinkError;
 use crate::rows::Form;
 use crate::show::{ShownFile, add_entry, add_links, read, unit_names};
 use crate::stream::write_text;
 use crate::text_writer::{Text, TextWriter};
-use crate::write_counter::WriteCounter;
 use ps_codefile::Dict;
 use ps_codefile::dictionary_layout::SLOTS;
 use ps_words::{Name, Order};
@@ -81,10 +81,10 @@ fn add_slot<S: TextWriter>(text: &mut S, dict: &Dict, units: &[Name], slot: u8)
 /// Refuses what `write_show` refuses. After `Write` the writer has a prefix of the document.
 /// Source: UCSD Pascal II.0 manual, code file format; RFC 8259; the document is this project's
 /// profile.
-pub fn write_show_json<W: Write, C: WriteCounter<W>>(
+pub fn write_show_json<W: Write>(
     file: &[u8],
     out: &mut W,
-    counter: &mut C,
+    counts: &mut Counts,
 ) -> Result<(), LinkError>
     ensures written { OnOk result (Appends (W.contents out.old) (W.contents out.new)
         (show_json_of file.now)) }
@@ -93,10 +93,8 @@ pub fn write_show_json<W: Write, C: WriteCounter<W>>(
     ensures untouched { IfErr result (λ e. LeavesUntouched e out.old out.new) }
     ensures prefix { IfErr result (λ e. LeavesTextPrefix (show_json_of file.now) e
         (W.contents out.old) (W.contents out.new)) }
-    ensures ok { OnOk result (NoneFailed (C.counts counter.old out.old)
-        (C.counts counter.new out.new)) }
-    ensures failed { IfErr result (λ e. LeavesFailure e (C.counts counter.old out.old)
-        (C.counts counter.new out.new)) }
+    ensures ok { OnOk result (NoneFailed counts.old counts.new) }
+    ensures failed { IfErr result (λ e. LeavesFailure e counts.old counts.new) }
 {
-    Ok(write_text(&JsonFile { shown: read(file)? }, out, counter)?)
+    Ok(write_text(&JsonFile { shown: read(file)? }, out, counts)?)
 }

@@ -4,9 +4,9 @@ ghost use Rattle.std.specs.Io.KnownBytes.{Appends};
 ghost use Rattle.ps_linkfile.specs.Counts.{NoneFailed, OneFailed};
 ghost use Rattle.ps_linkfile.specs.Outcomes.{AppendsPrefix};
 
+use crate::counts::Counts;
 use crate::error::WriteFault;
 use crate::text_writer::{Text, TextWriter};
-use crate::write_counter::WriteCounter;
 use crate::writing::write_all_of;
 use arrayvec::ArrayVec;
 use std::io::Write;
@@ -18,9 +18,9 @@ const BUFFER_LEN: usize = 16384;
 type Gathered = ArrayVec<u8, BUFFER_LEN>;
 
 /// Writes what was gathered.
-fn flush<W: Write, C: WriteCounter<W>>(
+fn flush<W: Write>(
     out: &mut W,
-    counter: &mut C,
+    counts: &mut Counts,
     gathered: &mut Gathered,
 ) -> Result<(), WriteFault>
     ensures bytes { OnOk result (Appends (W.contents out.old) (W.contents out.new)
@@ -28,20 +28,18 @@ fn flush<W: Write, C: WriteCounter<W>>(
     ensures empty { OnOk result (gathered.new.items ≡ []) }
     ensures prefix { OnErr result (AppendsPrefix (W.contents out.old) (W.contents out.new)
         gathered.old.items) }
-    ensures ok { OnOk result (NoneFailed (C.counts counter.old out.old)
-        (C.counts counter.new out.new)) }
-    ensures failed { IfErr result (λ fault. OneFailed fault (C.counts counter.old out.old)
-        (C.counts counter.new out.new)) }
+    ensures ok { OnOk result (NoneFailed counts.old counts.new) }
+    ensures failed { IfErr result (λ fault. OneFailed fault counts.old counts.new) }
 {
-    write_all_of(out, counter, gathered.as_slice())?;
+    write_all_of(out, counts, gathered.as_slice())?;
     gathered.clear();
     Ok(())
 }
 
 /// Gathers these bytes, and writes what was gathered before where there is no room for them.
-fn gather<W: Write, C: WriteCounter<W>>(
+fn gather<W: Write>(
     out: &mut W,
-    counter: &mut C,
+    counts: &mut Counts,
     gathered: &mut Gathered,
     bytes: &[u8],
 ) -> Result<(), WriteFault>
@@ -50,41 +48,39 @@ fn gather<W: Write, C: WriteCounter<W>>(
         × (sent ++ gathered.new.items ≡ gathered.old.items ++ bytes.now)) }
     ensures prefix { OnErr result (AppendsPrefix (W.contents out.old) (W.contents out.new)
         (gathered.old.items ++ bytes.now)) }
-    ensures ok { OnOk result (NoneFailed (C.counts counter.old out.old)
-        (C.counts counter.new out.new)) }
-    ensures failed { IfErr result (λ fault. OneFailed fault (C.counts counter.old out.old)
-        (C.counts counter.new out.new)) }
+    ensures ok { OnOk result (NoneFailed counts.old counts.new) }
+    ensures failed { IfErr result (λ fault. OneFailed fault counts.old counts.new) }
 {
     if gathered.try_extend_from_slice(bytes).is_ok() {
         return Ok(());
     }
-    flush(out, counter, gathered)?;
+    flush(out, counts, gathered)?;
     if gathered.try_extend_from_slice(bytes).is_ok() {
         return Ok(());
     }
-    write_all_of(out, counter, bytes)
+    write_all_of(out, counts, bytes)
 }
 
 /// A writer of text in front of a writer of bytes, which is not called again once it failed.
-struct Stream<'w, W: Write, C: WriteCounter<W>> {
+struct Stream<'w, W: Write> {
     out: &'w mut W,
-    counter: &'w mut C,
+    counts: &'w mut Counts,
     gathered: Gathered,
     fault: Option<WriteFault>,
 }
 
-impl<W: Write, C: WriteCounter<W>> TextWriter for Stream<'_, W, C> {
+impl<W: Write> TextWriter for Stream<'_, W> {
     ghost use Rattle.std.specs.Prelude.{◌≡◌};
     ghost use Rattle.ps_linkfile.specs.Adding.{IsCounted, IsSent};
     ghost use Rattle.ps_linkfile.specs.Counts.{failures_in};
 
-    ghost added = { λ first text now. (now.out.ghost_name ≡ first.out.ghost_name) × (now.counter.ghost_name ≡ first.counter.ghost_name) × IsSent (W.contents first.out.now) text (W.contents now.out.now) now.gathered.items now.fault × IsCounted (failures_in (C.counts first.counter.now first.out.now)) (failures_in (C.counts now.counter.now now.out.now)) now.fault };
+    ghost added = { λ first text now. (now.out.ghost_name ≡ first.out.ghost_name) × (now.counts.ghost_name ≡ first.counts.ghost_name) × IsSent (W.contents first.out.now) text (W.contents now.out.now) now.gathered.items now.fault × IsCounted (failures_in first.counts.now) (failures_in now.counts.now) now.fault };
 
     fn add(&mut self, bytes: &[u8]) {
         if self.fault.is_some() {
             return;
         }
-        match gather(self.out, self.counter, &mut self.gathered, bytes) {
+        match gather(self.out, self.counts, &mut self.gathered, bytes) {
             Ok(()) => {}
             Err(fault) => self.fault = Some(fault),
         }
@@ -95,7 +91,7 @@ impl<W: Write, C: WriteCounter<W>> TextWriter for Stream<'_, W, C> {
     }
 }
 
-/// Writes the text, in pieces of at most 16384 bytes, by writes that `counter` makes and counts. It
+/// Writes the text, in pieces of at most 16384 bytes, by writes that are counted in `counts`. It
 /// takes no memory.
 ///
 /// After Ok no write failed. Refuses `Device` where a write returned an error, which is not
@@ -103,35 +99,33 @@ impl<W: Write, C: WriteCounter<W>> TextWriter for Stream<'_, W, C> {
 /// byte took none: that was one write, and none returned an error. The writer then has a prefix of
 /// the text.
 /// Source: this project's profile.
-pub fn write_text<W: Write, C: WriteCounter<W>, T: Text>(
+pub fn write_text<W: Write, T: Text>(
     text: &T,
     out: &mut W,
-    counter: &mut C,
+    counts: &mut Counts,
 ) -> Result<(), WriteFault>
     ensures all { OnOk result (Appends (W.contents out.old) (W.contents out.new)
         (T.bytes text.now)) }
     ensures prefix { OnErr result (AppendsPrefix (W.contents out.old) (W.contents out.new)
         (T.bytes text.now)) }
-    ensures ok { OnOk result (NoneFailed (C.counts counter.old out.old)
-        (C.counts counter.new out.new)) }
-    ensures failed { IfErr result (λ fault. OneFailed fault (C.counts counter.old out.old)
-        (C.counts counter.new out.new)) }
+    ensures ok { OnOk result (NoneFailed counts.old counts.new) }
+    ensures failed { IfErr result (λ fault. OneFailed fault counts.old counts.new) }
 {
     let mut stream = Stream {
         out,
-        counter,
+        counts,
         gathered: ArrayVec::new(),
         fault: None,
     };
     text.add_to(&mut stream);
     let Stream {
         out,
-        counter,
+        counts,
         mut gathered,
         fault,
     } = stream;
     match fault {
         Some(fault) => Err(fault),
-        None => flush(out, counter, &mut gathered),
+        None => flush(out, counts, &mut gathered),
     }
 }

@@ -2,15 +2,14 @@ ghost use Rattle.std.specs.Prelude.{◌≡◌, length};
 ghost use Rattle.std.specs.Io.{WritesAtMost};
 ghost use Rattle.std.specs.Io.KnownBytes.{WriteAppends, Keeps};
 ghost use Rattle.ps_linkfile.specs.declared.counts.Counts.{Counts};
-ghost use Rattle.ps_linkfile.specs.Counts.{counts_after, no_counts};
+ghost use Rattle.ps_linkfile.specs.Counts.{AreBelow, counts_after, no_counts};
 
 use crate::counts::Counts;
 use crate::write_counter::WriteCounter;
 use std::io;
 use std::io::Write;
 
-/// A writer that counts the writes made by `told_write`, and reports the counts. A count that has
-/// reached `u64::MAX` stays.
+/// A writer that counts the writes made by `told_write`, and reports the counts.
 ///
 /// Source: this project's profile.
 pub trait ToldWriter: Write {
@@ -34,10 +33,12 @@ pub trait ToldWriter: Write {
     fn shorts(&self) -> u64
         ensures { result ≡ (counts self.now).shorts };
 
-    /// Writes `bytes` as `write` does, and counts the write by what it returns.
+    /// Writes `bytes` as `write` does, and adds one to each count that applies to what it returns.
     ///
-    /// Returns how many of the bytes, from the first on, were taken, or the error of the write.
+    /// Each count is below `u64::MAX` before. Returns how many of the bytes, from the first on, were
+    /// taken, or the error of the write.
     fn told_write(&mut self, bytes: &[u8]) -> io::Result<usize>
+        requires { AreBelow (counts self.old) 18446744073709551615 }
         ensures bound { WritesAtMost result bytes.now }
         ensures bytes { WriteAppends (Self.contents self.old) (Self.contents self.new) result
             bytes.now }
@@ -119,6 +120,7 @@ impl<W: Write> ToldWriter for Counting<W> {
         self.counts.shorts
     }
 
+    #[tactic(auto, using(crate::proofs::Rising::none_saturated))]
     fn told_write(&mut self, bytes: &[u8]) -> io::Result<usize> {
         self.counts.write(&mut self.inner, bytes)
     }

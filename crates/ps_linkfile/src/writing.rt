@@ -6,9 +6,10 @@ ghost use Rattle.ps_codefile.specs.Dictionary.{block_len};
 ghost use Rattle.ps_linkfile.specs.LinkedFile.{all_blocks, padded_code};
 ghost use Rattle.ps_linkfile.specs.Writing.{file_in, padded_codes, summary_in, HaveEdits, IsReady};
 ghost use Rattle.ps_linkfile.specs.Outcomes.{AppendsPrefix};
-ghost use Rattle.ps_linkfile.specs.Counts.{NoneFailed, OneFailed, Rises};
+ghost use Rattle.ps_linkfile.specs.Counts.{HasRoom, NoneFailed, OneFailed, Rises};
 
 use crate::block_layout::MAX_FILE_BLOCKS;
+use crate::counts::Counts;
 use crate::dictionary::dictionary_of;
 use crate::error::WriteFault;
 use crate::write_counter::WriteCounter;
@@ -18,19 +19,13 @@ use ps_words::{BLOCK_SIZE, Edit, Order};
 use std::alloc::Allocator;
 use std::io::Write;
 
-/// Writes all bytes, by writes that `counter` makes and counts, each of all that are left. It takes
-/// no memory.
-///
-/// After Ok no write failed. Refuses `Device` where a write returned an error, which is not
-/// repeated: that was one write, and none stalled. Refuses `Stalled` where a write of at least one
-/// byte took none: that was one write, and none returned an error. The writer then has a prefix of
-/// the bytes.
-/// Source: this project's profile.
-pub fn write_all_of<W: Write, T: WriteCounter<W>>(
+/// Writes all bytes, by writes that `counter` makes and counts, each of all that are left.
+fn write_all<W: Write, T: WriteCounter<W>>(
     out: &mut W,
     counter: &mut T,
     bytes: &[u8],
 ) -> Result<(), WriteFault>
+    requires { HasRoom T.needs_room (T.counts counter.old out.old) (length bytes.now) }
     ensures all { OnOk result (Appends (W.contents out.old) (W.contents out.new) bytes.now) }
     ensures prefix { OnErr result (AppendsPrefix (W.contents out.old) (W.contents out.new)
         bytes.now) }
@@ -52,6 +47,29 @@ pub fn write_all_of<W: Write, T: WriteCounter<W>>(
     Ok(())
 }
 
+/// Writes all bytes, by writes that are counted in `counts`, each of all that are left. It takes no
+/// memory.
+///
+/// After Ok no write failed. Refuses `Device` where a write returned an error, which is not
+/// repeated: that was one write, and none stalled. Refuses `Stalled` where a write of at least one
+/// byte took none: that was one write, and none returned an error. The writer then has a prefix of
+/// the bytes.
+/// Source: this project's profile.
+pub fn write_all_of<W: Write>(
+    out: &mut W,
+    counts: &mut Counts,
+    bytes: &[u8],
+) -> Result<(), WriteFault>
+    ensures all { OnOk result (Appends (W.contents out.old) (W.contents out.new) bytes.now) }
+    ensures prefix { OnErr result (AppendsPrefix (W.contents out.old) (W.contents out.new)
+        bytes.now) }
+    ensures writes { Rises counts.old counts.new (length bytes.now) (min 1 (length bytes.now)) }
+    ensures ok { OnOk result (NoneFailed counts.old counts.new) }
+    ensures failed { IfErr result (λ fault. OneFailed fault counts.old counts.new) }
+{
+    write_all(out, counts, bytes)
+}
+
 /// Writes a code with its edits, in whole blocks, each of which passes through the same 512 bytes.
 fn write_code<W: Write, T: WriteCounter<W>>(
     order: Order,
@@ -60,7 +78,9 @@ fn write_code<W: Write, T: WriteCounter<W>>(
     out: &mut W,
     counter: &mut T,
 ) -> Result<(), WriteFault>
-    requires { AreEdits (length code.now) edits.now }
+    requires edits { AreEdits (length code.now) edits.now }
+    requires room { HasRoom T.needs_room (T.counts counter.old out.old)
+        (block_len * blocks (length code.now)) }
     ensures all { OnOk result (Appends (W.contents out.old) (W.contents out.new)
         (padded_code order code.now edits.now)) }
     ensures prefix { OnErr result (AppendsPrefix (W.contents out.old) (W.contents out.new)
@@ -75,7 +95,7 @@ fn write_code<W: Write, T: WriteCounter<W>>(
     let mut patcher = Patcher::new(order, code, edits);
     let mut block = [0; BLOCK_SIZE];
     while patcher.fill(&mut block) > 0 {
-        write_all_of(out, counter, &block)?;
+        write_all(out, counter, &block)?;
     }
     Ok(())
 }
@@ -86,7 +106,9 @@ fn write_codes<A: Allocator + Copy, W: Write, T: WriteCounter<W>>(
     out: &mut W,
     counter: &mut T,
 ) -> Result<(), WriteFault>
-    requires { HaveEdits plan.now.origins plan.now.edits }
+    requires edits { HaveEdits plan.now.origins plan.now.edits }
+    requires room { HasRoom T.needs_room (T.counts counter.old out.old)
+        (block_len * all_blocks plan.now.origins) }
     ensures all { OnOk result (Appends (W.contents out.old) (W.contents out.new)
         (padded_codes plan.now.order plan.now.origins plan.now.edits)) }
     ensures prefix { OnErr result (AppendsPrefix (W.contents out.old) (W.contents out.new)
@@ -110,7 +132,9 @@ pub(crate) fn write_file<A: Allocator + Copy, W: Write, T: WriteCounter<W>>(
     out: &mut W,
     counter: &mut T,
 ) -> Result<(), WriteFault>
-    requires { IsReady plan.now }
+    requires ready { IsReady plan.now }
+    requires room { HasRoom T.needs_room (T.counts counter.old out.old)
+        (block_len * MAX_FILE_BLOCKS) }
     ensures all { OnOk result (Appends (W.contents out.old) (W.contents out.new)
         (file_in plan.now)) }
     ensures prefix { OnErr result (AppendsPrefix (W.contents out.old) (W.contents out.new)
@@ -123,6 +147,6 @@ pub(crate) fn write_file<A: Allocator + Copy, W: Write, T: WriteCounter<W>>(
     ensures failed { IfErr result (λ fault. OneFailed fault (T.counts counter.old out.old)
         (T.counts counter.new out.new)) }
 {
-    write_all_of(out, counter, &dictionary_of(plan))?;
+    write_all(out, counter, &dictionary_of(plan))?;
     write_codes(plan, out, counter)
 }

@@ -10,7 +10,7 @@ use crate::json::{add_fault, add_text};
 use crate::slots_json::{add_length, add_slots};
 use ps_codefile::Dict;
 use ps_filetype::{CodeFile, open};
-use ps_linkfile::{Text, TextWriter, WriteCounter, WriteFault, write_text};
+use ps_linkfile::{Counts, Text, TextWriter, WriteFault, write_text};
 use ps_words::{Order, Reason};
 use std::io::Write;
 
@@ -182,24 +182,22 @@ fn add_item<S: TextWriter>(
 /// profile.
 ///
 /// [`phrase`]: crate::phrase
-pub fn write_list_json<W: Write, C: WriteCounter<W>>(
+pub fn write_list_json<W: Write>(
     path: &str,
     phrase: &str,
     file: &[u8],
     out: &mut W,
-    counter: &mut C,
+    counts: &mut Counts,
 ) -> Result<(), WriteFault>
     ensures written { OnOk result (Appends (W.contents out.old) (W.contents out.new)
         (list_json_of path.now phrase.now file.now)) }
     ensures prefix { OnErr result (AppendsPrefix (W.contents out.old) (W.contents out.new)
         (list_json_of path.now phrase.now file.now)) }
-    ensures ok { OnOk result (NoneFailed (C.counts counter.old out.old)
-        (C.counts counter.new out.new)) }
-    ensures failed { IfErr result (λ fault. OneFailed fault (C.counts counter.old out.old)
-        (C.counts counter.new out.new)) }
+    ensures ok { OnOk result (NoneFailed counts.old counts.new) }
+    ensures failed { IfErr result (λ fault. OneFailed fault counts.old counts.new) }
 {
     let item = JsonFile { path, phrase, file };
-    write_text(&item, out, counter)
+    write_text(&item, out, counts)
 }
 
 /// Writes the object of the file at a path at which nothing could be read, as `write_list_json`
@@ -208,20 +206,18 @@ pub fn write_list_json<W: Write, C: WriteCounter<W>>(
 ///
 /// Refused where `write_list` is. The writer then has a prefix of the text.
 /// Source: RFC 8259; the object is this project's profile.
-pub fn write_unread_json<W: Write, C: WriteCounter<W>>(
+pub fn write_unread_json<W: Write>(
     path: &str,
     out: &mut W,
-    counter: &mut C,
+    counts: &mut Counts,
 ) -> Result<(), WriteFault>
     ensures written { OnOk result (Appends (W.contents out.old) (W.contents out.new)
         (unread_json_of path.now)) }
     ensures prefix { OnErr result (AppendsPrefix (W.contents out.old) (W.contents out.new)
         (unread_json_of path.now)) }
-    ensures ok { OnOk result (NoneFailed (C.counts counter.old out.old)
-        (C.counts counter.new out.new)) }
-    ensures failed { IfErr result (λ fault. OneFailed fault (C.counts counter.old out.old)
-        (C.counts counter.new out.new)) }
+    ensures ok { OnOk result (NoneFailed counts.old counts.new) }
+    ensures failed { IfErr result (λ fault. OneFailed fault counts.old counts.new) }
 {
     let item = UnreadFile { path };
-    write_text(&item, out, counter)
+    write_text(&item, out, counts)
 }

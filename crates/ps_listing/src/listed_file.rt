@@ -10,7 +10,7 @@ use crate::slots::{add_slots, has_refused};
 use crate::words::{add_order, add_path, add_phrase, add_purpose, add_refusal, add_size};
 use ps_codefile::Dict;
 use ps_filetype::{CodeFile, open};
-use ps_linkfile::{Text, TextWriter, WriteCounter, WriteFault, add_number, write_text};
+use ps_linkfile::{Counts, Text, TextWriter, WriteFault, add_number, write_text};
 use ps_words::Reason;
 use std::io::Write;
 
@@ -101,30 +101,28 @@ fn add_file<S: TextWriter>(text: &mut S, path: &str, phrase: &str, size: usize, 
 /// refused ends with the number and the name of its first fault, and with the index of the record.
 /// A file that is no code file has one line.
 ///
-/// It is written in pieces, by writes that `counter` makes and counts, and takes no memory. After
+/// It is written in pieces, by writes that are counted in `counts`, and takes no memory. After
 /// Ok no write failed. Refused where a write failed, in the way that the fault says: that was one
 /// write, which is not repeated. The writer then has a prefix of the text. Source: UCSD Pascal II.0
 /// manual, code file format; the text is this project's profile.
 ///
 /// [`phrase`]: crate::phrase
-pub fn write_list<W: Write, C: WriteCounter<W>>(
+pub fn write_list<W: Write>(
     path: &str,
     phrase: &str,
     file: &[u8],
     out: &mut W,
-    counter: &mut C,
+    counts: &mut Counts,
 ) -> Result<(), WriteFault>
     ensures written { OnOk result (Appends (W.contents out.old) (W.contents out.new)
         (list_of path.now phrase.now file.now)) }
     ensures prefix { OnErr result (AppendsPrefix (W.contents out.old) (W.contents out.new)
         (list_of path.now phrase.now file.now)) }
-    ensures ok { OnOk result (NoneFailed (C.counts counter.old out.old)
-        (C.counts counter.new out.new)) }
-    ensures failed { IfErr result (λ fault. OneFailed fault (C.counts counter.old out.old)
-        (C.counts counter.new out.new)) }
+    ensures ok { OnOk result (NoneFailed counts.old counts.new) }
+    ensures failed { IfErr result (λ fault. OneFailed fault counts.old counts.new) }
 {
     let listed = ListedFile { path, phrase, file };
-    write_text(&listed, out, counter)
+    write_text(&listed, out, counts)
 }
 
 /// A file that was opened, or was not, is refused.

@@ -12,7 +12,7 @@ ghost use Rattle.ps_listing.specs.LoneText.{has_no_sound as has_no_sound_spec, i
 use crate::words::{add_path, add_reference, add_refusal};
 use ps_codefile::Role;
 use ps_codefile::dictionary_layout::SLOTS;
-use ps_linkfile::{Text, TextWriter, WriteCounter, WriteFault, add_slot_name, write_text};
+use ps_linkfile::{Counts, Text, TextWriter, WriteFault, add_slot_name, write_text};
 use ps_resolve::{HostReading, lone_fault, read};
 use ps_words::{Fault, Name};
 use std::alloc::{AllocError, Allocator};
@@ -168,25 +168,23 @@ fn add_lines<S: TextWriter>(text: &mut S, path: &str, units: &[LoneUnit])
 /// `PATH: slot 02 UTIL     by itself, refused 33 Overlap record 1 reference 0`.
 ///
 /// Each begins with the path, in which a hidden character, as one that could end the line, is a
-/// question mark. They are written in pieces, by writes that `counter` makes and counts, and take
+/// question mark. They are written in pieces, by writes that are counted in `counts`, and take
 /// no memory. After Ok no write failed. Refused where a write failed, in the way that the fault
 /// says: that was one write, which is not repeated. The writer then has a prefix of the text.
 /// Source: this project's profile.
-pub fn write_lone_units<W: Write, C: WriteCounter<W>>(
+pub fn write_lone_units<W: Write>(
     path: &str,
     units: &[LoneUnit],
     out: &mut W,
-    counter: &mut C,
+    counts: &mut Counts,
 ) -> Result<(), WriteFault>
     ensures written { OnOk result (Appends (W.contents out.old) (W.contents out.new)
         (lone_text path.now units.now)) }
     ensures prefix { OnErr result (AppendsPrefix (W.contents out.old) (W.contents out.new)
         (lone_text path.now units.now)) }
-    ensures ok { OnOk result (NoneFailed (C.counts counter.old out.old)
-        (C.counts counter.new out.new)) }
-    ensures failed { IfErr result (λ fault. OneFailed fault (C.counts counter.old out.old)
-        (C.counts counter.new out.new)) }
+    ensures ok { OnOk result (NoneFailed counts.old counts.new) }
+    ensures failed { IfErr result (λ fault. OneFailed fault counts.old counts.new) }
 {
     let lines = LoneLines { path, units };
-    write_text(&lines, out, counter)
+    write_text(&lines, out, counts)
 }

@@ -8,8 +8,7 @@ use super::writers::Full::{Fails, Stalls};
 use super::writers::{Counts, Full, Room, Writer};
 use crate::code_file::CodeFile;
 use ps_linkfile::{
-    ByWriter, Counting, LinkError, Linked, Summary, ToldWriter, WriteFault, link, prepare,
-    write_show,
+    Counting, LinkError, Linked, Summary, ToldWriter, WriteFault, link, prepare, write_show,
 };
 use refusing::Refusing;
 use std::alloc::{AllocError, Global};
@@ -354,42 +353,45 @@ static FAILURES: [(usize, Full, (u64, u64)); 4] = [
     (9, Stalls, (0, 1)),
 ];
 
-/// Checks what was counted where a text was written, or was not. A flush is handed on, and is not
-/// counted.
-fn has_counted(rt: &impl Abort, is_written: bool, out: Counting<Room>, wanted: (u64, u64)) {
-    let mut out = out;
-    assert!(rt; out.flush().is_err());
-    let failures = (out.errors(), out.stalls());
-    let inner = out.into_inner();
-    let [_, errors, stalls, _] = inner.counts();
-    assert!(rt; inner.flushes == 1);
+/// Checks what was counted where a text was written, or was not: the writes that the writer had.
+fn has_counted(
+    rt: &impl Abort,
+    is_written: bool,
+    out: &Room,
+    told: ps_linkfile::Counts,
+    wanted: (u64, u64),
+) {
+    let [_, errors, stalls, _] = out.counts();
+    let counted = [told.writes, told.errors, told.stalls, told.shorts];
     assert!(rt; is_written == (wanted == (0, 0)), "{wanted:?}");
-    assert!(rt; failures == wanted, "{wanted:?}");
     assert!(rt; (errors, stalls) == wanted, "{wanted:?}");
+    assert!(rt; counted == out.counts(), "{wanted:?}");
 }
 
-/// Writes a map to a writer that counts.
+/// Writes a map, and counts.
 fn counts_of_a_map(
     rt: &(impl Abort + AllocGlobal),
     linked: &Linked<'_>,
     writer: Writer,
     wanted: (u64, u64),
 ) {
-    let mut out = Counting::new(Room::new(rt.alloc(), writer).expect(rt, "no memory"));
-    let is_written = linked.write_map(&mut out, &mut ByWriter).is_ok();
-    has_counted(rt, is_written, out, wanted)
+    let mut out = Room::new(rt.alloc(), writer).expect(rt, "no memory");
+    let mut counts = ps_linkfile::Counts::new();
+    let is_written = linked.write_map(&mut out, &mut counts).is_ok();
+    has_counted(rt, is_written, &out, counts, wanted)
 }
 
-/// Writes a show to one.
+/// Writes a show, and counts.
 fn counts_of_a_show(
     rt: &(impl Abort + AllocGlobal),
     file: &[u8],
     writer: Writer,
     wanted: (u64, u64),
 ) {
-    let mut out = Counting::new(Room::new(rt.alloc(), writer).expect(rt, "no memory"));
-    let is_written = write_show(file, &mut out, &mut ByWriter).is_ok();
-    has_counted(rt, is_written, out, wanted)
+    let mut out = Room::new(rt.alloc(), writer).expect(rt, "no memory");
+    let mut counts = ps_linkfile::Counts::new();
+    let is_written = write_show(file, &mut out, &mut counts).is_ok();
+    has_counted(rt, is_written, &out, counts, wanted)
 }
 
 #[test]

@@ -1,8 +1,18 @@
 use Rattle.std.proofs.Common.{◌≡◌, ◌∙◌, ◌*◌, ◌+◌, ◌++◌, ◌-◌, ◌<◌, length, map, ap, refl, sym, arith}
 use Rattle.ps_linkfile.proofs.Words.{min, range_with_len, blocks, patched_or_zero}
 use Rattle.ps_linkfile.proofs.Prefixes.{appends_twice, image_is, image_split, prefix_more, on_err_always}
-use Rattle.ps_linkfile.proofs.Rising.{rises_then}
+use Rattle.ps_linkfile.proofs.Rising.{rises_then, room_then}
 use Rattle.ps_linkfile.proofs.writing.write_code.Goals as goal
+
+pub write_all-requires : goal.write_all-requires
+write_all-requires g c =
+    let n = length c.args.code.now in
+    let (at, inv) = c.loop-patcher.invariant in
+    let some : c.fill.result ≡ min 512 (n - min (512 * at) n) =
+    rw inv.is at c.fill.ensures.count in
+    let below : 512 * at < n = omega (arith, some, c.loop-patcher-test.true) in
+    room_then g.T.WriteCounter.needs_room _ _ (512 * blocks n) (512 * at) at
+    (length c.fill.new.block) c.requires.room inv.rises inv.none (omega (arith, below))
 
 pub loop-patcher-preserved : goal.loop-patcher-preserved
 loop-patcher-preserved g c =
@@ -23,16 +33,16 @@ loop-patcher-preserved g c =
         written = rw (image_split f 0 (512 * at) 512 (512 * (at + 1)) (512 * at) (omega arith)
             (omega arith))
             (appends_twice _ _ _ _ _ inv.written
-            (rw block at c.in_ok-write_all_of.ensures.all));
+            (rw block at c.in_ok-write_all.ensures.all));
         rises = rises_then _ _ _ (512 * at) at (length c.fill.new.block)
             (min 1 (length c.fill.new.block)) (512 * (at + 1))
-            (at + 1) inv.rises c.write_all_of.ensures.writes (omega arith) (omega arith);
-        none = c.in_ok-write_all_of.ensures.ok ∙ inv.none;
+            (at + 1) inv.rises c.write_all.ensures.writes (omega arith) (omega arith);
+        none = c.in_ok-write_all.ensures.ok ∙ inv.none;
       },
     )
 
-pub returns-in_err-write_all_of-clause-prefix : goal.returns-in_err-write_all_of-clause-prefix
-returns-in_err-write_all_of-clause-prefix g c =
+pub returns-in_err-write_all-clause-prefix : goal.returns-in_err-write_all-clause-prefix
+returns-in_err-write_all-clause-prefix g c =
     let n = length c.args.code.now in
     let (at, inv) = c.loop-patcher.invariant in
     let f = patched_or_zero c.args.order c.args.code.now c.args.edits.now in
@@ -49,4 +59,4 @@ returns-in_err-write_all_of-clause-prefix g c =
     ++ us) (sym (image_split f (512 * at) 512 (whole - (512 * at + 512)) (whole - 512 * at)
     (512 * at + 512) (omega (arith, below)) refl)) ∙ sym (image_split f 0 (512 * at)
     (whole - 512 * at) whole (512 * at) (omega (arith, below)) (omega arith))) inv.written
-    (rw block at c.in_err-write_all_of.ensures.prefix))
+    (rw block at c.in_err-write_all.ensures.prefix))

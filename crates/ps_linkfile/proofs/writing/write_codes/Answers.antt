@@ -3,14 +3,21 @@ use Rattle.ps_linkfile.proofs.Words.{drop_all, length-map}
 use Rattle.ps_linkfile.proofs.Prefixes.{appends_none, on_err_always}
 use Rattle.ps_linkfile.proofs.Codes.{edits_here, codes_more, codes_prefix}
 use Rattle.ps_linkfile.proofs.Views.{no_source, is_at}
-use Rattle.ps_linkfile.proofs.Rising.{blocks_done, blocks_more, blocks_none, blocks_stop}
+use Rattle.ps_linkfile.proofs.Rising.{blocks_done, blocks_more, blocks_none, blocks_room, blocks_stop}
 use Rattle.ps_linkfile.proofs.writing.write_codes.Goals as goal
 
 pub loop-k-init : goal.loop-k-init
 loop-k-init g c = grind (arith, appends_none, blocks_none)
 
-pub write_code-requires : goal.write_code-requires
-write_code-requires g c = grind (arith, no_source, is_at, edits_here)
+pub write_code-requires-clause-edits : goal.write_code-requires-clause-edits
+write_code-requires-clause-edits g c = grind (arith, no_source, is_at, edits_here)
+
+pub write_code-requires-clause-room : goal.write_code-requires-clause-room
+write_code-requires-clause-room g c =
+    let at =
+    is_at _ _ _ _ _ c.sources-source-items.ensures.origins c.loop-k-test.true c.edits.ensures in
+    let (n, counts) = c.loop-k.invariant.counts in
+    blocks_room _ _ n _ _ _ g.T.WriteCounter.needs_room at.origin counts c.requires.room
 
 pub returns-in_err-write_code-clause-prefix : goal.returns-in_err-write_code-clause-prefix
 returns-in_err-write_code-clause-prefix g c =

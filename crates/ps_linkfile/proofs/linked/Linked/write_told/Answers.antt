@@ -1,8 +1,11 @@
 use Rattle.std.proofs.Common.{arith}
 use Rattle.ps_linkfile.proofs.Words.{err_from_is_err_and}
 use Rattle.ps_linkfile.proofs.Prefixes.{on_err_always}
-use Rattle.ps_linkfile.proofs.Rising.{by_pieces, if_device, if_stalled}
+use Rattle.ps_linkfile.proofs.Rising.{by_pieces, if_device, if_stalled, room_for_a_file}
 use Rattle.ps_linkfile.proofs.linked.Linked.write_told.Goals as goal
+
+pub write_file-requires-clause-room : goal.write_file-requires-clause-room
+write_file-requires-clause-room g c = room_for_a_file _ c.requires
 
 pub returns-in_err-write_file-clause-prefix : goal.returns-in_err-write_file-clause-prefix
 returns-in_err-write_file-clause-prefix g c = grind (arith, on_err_always)

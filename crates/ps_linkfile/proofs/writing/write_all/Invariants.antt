@@ -1,7 +1,7 @@
 use Rattle.std.proofs.Common.{length, ◌-◌, ◌≤◌, take}
 use Rattle.std.specs.Io.KnownBytes.{Appends}
 use Rattle.ps_linkfile.proofs.Rising.{Progress}
-use Rattle.ps_linkfile.proofs.writing.write_all_of.Given as goal
+use Rattle.ps_linkfile.proofs.writing.write_all.Given as goal
 
 -- the bytes so far were appended
 abbrev pub invariant-loop-at : goal.invariant-loop-at
