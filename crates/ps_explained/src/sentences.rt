@@ -1,7 +1,7 @@
 //! What each fault is, and what to do about it: the one home of these sentences. In a remedy
 //! `the file` is the file at fault: a report has its path there. `man/make_fault_table.py` makes the
 //! table in LINKING.md from the two tables here.
-ghost use Rattle.std.specs.Prelude.{◌≡◌, ◌≤◌, length, true};
+ghost use Rattle.std.specs.Prelude.{◌≡◌, ◌≤◌, [], get_or, length, map, true};
 ghost use Rattle.std.specs.List.{list_all};
 ghost use Rattle.ps_explained.specs.Sentences.{is_printed, remedy_of as remedy_of_spec, meaning_of as meaning_of_spec};
 
@@ -164,22 +164,12 @@ static REMEDIES: [&str; ROWS] = [
     "Join two units into one, or take linked segments out of the host.",
 ];
 
-/// The row of this number in the table of what is wrong.
-fn meaning(number: u8) -> &'static str
-    ensures { result.now ≡ meaning_of_spec number }
+/// The row of this number in a table; nothing past its end.
+fn row(table: &[&'static str], number: u8) -> &'static str
+    ensures { result.now ≡ get_or (map (λ text. text.now) table.now) number [] }
 {
-    match MEANINGS.get(usize::from(number)) {
-        Some(sentence) => sentence,
-        None => "",
-    }
-}
-
-/// The row of this number in the table of what to do.
-fn remedy(number: u8) -> &'static str
-    ensures { result.now ≡ remedy_of_spec number }
-{
-    match REMEDIES.get(usize::from(number)) {
-        Some(sentences) => sentences,
+    match table.get(usize::from(number)) {
+        Some(text) => text,
         None => "",
     }
 }
@@ -187,23 +177,21 @@ fn remedy(number: u8) -> &'static str
 /// What is wrong where files are refused for the fault of this number, in a sentence of ASCII; nothing
 /// where there is no such fault.
 /// Source: this project's profile.
-#[tactic(auto, using(crate::proofs::Tables::meaning_short, crate::proofs::Tables::meaning_printed))]
 pub fn meaning_of(number: u8) -> &'static str
     ensures sentence { result.now ≡ meaning_of_spec number }
     ensures short { length result.now ≤ SENTENCE_LEN }
     ensures printed { list_all is_printed result.now ≡ true }
 {
-    meaning(number)
+    row(&MEANINGS, number)
 }
 
 /// What to do about the fault of this number, in sentences of ASCII; nothing where there is no such
 /// fault.
 /// Source: this project's profile.
-#[tactic(auto, using(crate::proofs::Tables::remedy_short, crate::proofs::Tables::remedy_printed))]
 pub fn remedy_of(number: u8) -> &'static str
     ensures sentence { result.now ≡ remedy_of_spec number }
     ensures short { length result.now ≤ SENTENCE_LEN }
     ensures printed { list_all is_printed result.now ≡ true }
 {
-    remedy(number)
+    row(&REMEDIES, number)
 }

@@ -190,9 +190,9 @@ impl fmt::Display for HexBytes {
 
 /// The members of a name: as map and show print it, and all its bytes.
 #[derive(Clone, Copy)]
-struct Named(Name);
+struct NamePair(Name);
 
-impl fmt::Display for Named {
+impl fmt::Display for NamePair {
     ghost output = { λ name. Some (named name.0) };
 
     fn fmt<W: fmt::Write>(&self, f: &mut Formatter<W>) -> fmt::Result {
@@ -208,7 +208,7 @@ impl fmt::Display for NameOrNull {
     fn fmt<W: fmt::Write>(&self, f: &mut Formatter<W>) -> fmt::Result {
         match self.0 {
             Some(name) => {
-                let members = Named(name);
+                let members = NamePair(name);
                 write!(f, "{{{members}}}")
             }
             None => f.write_str("null"),
@@ -226,7 +226,7 @@ impl fmt::Display for NameMembers {
     fn fmt<W: fmt::Write>(&self, f: &mut Formatter<W>) -> fmt::Result {
         match self.0 {
             Some(name) => {
-                let members = Named(name);
+                let members = NamePair(name);
                 write!(f, "{members}")
             }
             None => f.write_str("\"name\":null,\"name_hex\":null"),
