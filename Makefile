@@ -29,12 +29,12 @@ BINARY = $(PROGRAM)/out/ps_linker
 CONFIG = $(LIB)/cmake/pslink
 # man NAME finds pslink(3) for each function of the header
 CALLS = pslink_link pslink_map pslink_check pslink_show pslink_text pslink_units pslink_link_files pslink_map_files pslink_check_files \
-	pslink_text_files pslink_fault_text pslink_fault_name pslink_status_text pslink_release pslink_release_number \
-	pslink_version
+	pslink_text_files pslink_fault_text pslink_fault_name pslink_fault_meaning pslink_fault_remedy pslink_status_text \
+	pslink_release pslink_release_number pslink_version
 # what the documents link to, beside them
 BESIDE = README.md CHANGES.md LICENSE $(wildcard docs/*.md docs/*.json samples/* man/pslink.*) include/pslink.h \
 	$(addprefix bindings/python/,pyproject.toml build_backend.py LICENSE pslink/__init__.py pslink/py.typed) \
-	$(addprefix bindings/rust/,Cargo.toml build.rs LICENSE src/lib.rs src/raw.rs src/reason.rs tests/calls.rs) \
+	$(addprefix bindings/rust/,Cargo.toml build.rs LICENSE src/lib.rs src/look.rs src/raw.rs src/reason.rs tests/calls.rs) \
 	$(wildcard bindings/rust/tests/samples/*)
 
 .PHONY: demo build lib test bench vectors install install-program install-built install-built-program install-texts uninstall dist

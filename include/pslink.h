@@ -110,6 +110,8 @@ extern "C" {
 #define PSLINK_TEXT_LIST 4u       /* what each file has, as the program's `list` */
 #define PSLINK_TEXT_UNITS 5u      /* the list of each file, and after it what is wrong with its
                                      units by themselves, as `check --unit`: PSLINK_LINES alone */
+#define PSLINK_TEXT_LOOKS 6u      /* what looks wrong, one by one: the warnings of the report, what
+                                     is harmless, and the notes, each in a line */
 #define PSLINK_LINES 0u           /* lines of text, each ended by a byte 10 */
 #define PSLINK_JSON 1u            /* one JSON document, as the program's `--json` */
 
@@ -124,6 +126,9 @@ extern "C" {
 /* How many bytes the text of a fault, the name of a fault, the text of a status and the release
    have at most, the closing 0 counted. */
 #define PSLINK_FAULT_TEXT_MAX 160u
+
+/* The same of what a fault means and of what to do about it. Since 0.2.0. */
+#define PSLINK_SENTENCE_MAX 256u
 
 /* The faults, by their numbers. pslink(1) says when each is reported, and what to do about it. */
 /* made by man/make_constants.py from crates/ps_words/src/fault.rt */
@@ -264,6 +269,8 @@ uint32_t pslink_units_nonnull(uint32_t which, const void *host, size_t host_leng
                               size_t count, void *out, size_t out_length, pslink_answer *answer);
 size_t pslink_fault_text_nonnull(const pslink_answer *answer, void *out, size_t out_length);
 size_t pslink_fault_name_nonnull(uint8_t fault, void *out, size_t out_length);
+size_t pslink_fault_meaning_nonnull(uint8_t fault, void *out, size_t out_length);
+size_t pslink_fault_remedy_nonnull(uint8_t fault, void *out, size_t out_length);
 size_t pslink_status_text_nonnull(uint32_t status, void *out, size_t out_length);
 size_t pslink_release_nonnull(void *out, size_t out_length);
 
@@ -328,16 +335,21 @@ static inline uint32_t pslink_show(const void *file, size_t file_length, void *o
 
 /*
  * What the program prints of the same files: the text `what` in this `form`, PSLINK_TEXT_MAP to
- * PSLINK_TEXT_UNITS, and PSLINK_LINES or PSLINK_JSON. pslink(1) has the lines, docs/JSON.md the
+ * PSLINK_TEXT_LOOKS, and PSLINK_LINES or PSLINK_JSON. pslink(1) has the lines, docs/JSON.md the
  * documents. It is text without a closing 0, UTF-8 where names of files are in it. Where there is
  * no such text, or it has no such form, the answer is PSLINK_WRONG_TEXT. Its length is found as
  * that of a map.
  *
- * A map and its references are refused as a link is, and a show as that of pslink_show. A report, a
- * list and its units are never PSLINK_REFUSED: what is wrong with the files is in the text.
- * `names` and `name_lengths`: as those of pslink_check, for a report, a list and its units; of the
- * others they are not looked at, and may be NULL. A show, a list and its units are of files by
- * themselves: `host` is the first of them, or the one of a show, in which `libs` have no part.
+ * A map and its references are refused as a link is, and a show as that of pslink_show. A report,
+ * what looks wrong, a list and its units are never PSLINK_REFUSED: what is wrong with the files is in
+ * the text. `names` and `name_lengths`: as those of pslink_check, for these four; of the others they
+ * are not looked at, and may be NULL. A show, a list and its units are of files by themselves: `host`
+ * is the first of them, or the one of a show, in which `libs` have no part.
+ *
+ * What looks wrong is the last lines of the report on the same files, one for each warning, for each
+ * look that is harmless and for each note: they begin with `warning: `, `harmless: ` and `note: `. It
+ * is empty where nothing does. Its document has the lists `warnings`, `harmless` and `notes` of the
+ * document of the report, each item in a line.
  *
  * Since 0.2.0.
  */
@@ -377,6 +389,14 @@ static inline size_t pslink_fault_text(const pslink_answer *answer, char *out, s
 /* In the same way the name of the fault of this number, as "MissingUnit"; 0 where there is none.
    Since 0.1.0. */
 static inline size_t pslink_fault_name(uint8_t fault, char *out, size_t out_length);
+
+/* In the same way what the fault of this number means, a sentence of ASCII, as "No segment of the file
+   is a host program."; at most PSLINK_SENTENCE_MAX bytes. Since 0.2.0. */
+static inline size_t pslink_fault_meaning(uint8_t fault, char *out, size_t out_length);
+
+/* In the same way what to do about it, as "Keep one of them in the file.": `the file` is the one at
+   fault. pslink_check says both of the files at hand. Since 0.2.0. */
+static inline size_t pslink_fault_remedy(uint8_t fault, char *out, size_t out_length);
 
 /* In the same way what a status says, as "out of memory"; 0 where no function returns it. Since
    0.1.0. */
@@ -516,6 +536,18 @@ static inline size_t pslink_fault_name(uint8_t fault, char *out, size_t out_leng
 {
     return pslink_fault_name_nonnull(fault, pslink_write_at(out),
                                      pslink_length_at(out, out_length));
+}
+
+static inline size_t pslink_fault_meaning(uint8_t fault, char *out, size_t out_length)
+{
+    return pslink_fault_meaning_nonnull(fault, pslink_write_at(out),
+                                        pslink_length_at(out, out_length));
+}
+
+static inline size_t pslink_fault_remedy(uint8_t fault, char *out, size_t out_length)
+{
+    return pslink_fault_remedy_nonnull(fault, pslink_write_at(out),
+                                       pslink_length_at(out, out_length));
 }
 
 static inline size_t pslink_status_text(uint32_t status, char *out, size_t out_length)

@@ -24,22 +24,21 @@ def numbers():
     return {name: int(number) for name, number in re.findall(r"Reason::(\w+)(?: \{ \.\. \})? => (\d+),", source)}
 
 
-def sentences(function):
-    """What a function says of each fault, by the variants of `Reason`."""
-    body = SENTENCES.read_text().split(f"fn {function}(", 1)[1].split("\n}\n", 1)[0]
-    found = re.findall(r'Reason::(\w+)(?: \{ \.\. \})? =>\s*\{?\s*"((?:[^"\\]|\\.)*)"', body)
-    return {name: of_file(text.replace(OF_THE_PAGE, "")) for name, text in found}
-
-
-def of_file(text):
-    """A sentence of any file: an `@` stands for its path."""
-    return re.sub(r"^the", "The", text.replace("@", "the file"))
+def sentences(table):
+    """The sentences of a table, by the variants of `Reason`: a row for each number from 0 on, below a comment with the number and the
+    variant."""
+    body = SENTENCES.read_text().split(f"static {table}: ", 1)[1].split("\n];\n", 1)[0]
+    found = re.findall(r'// (\d+)(?: (\w+))?\n    "((?:[^"\\]|\\.)*)"', body)
+    known = {number: name for name, number in numbers().items()}
+    if [(int(number), name) for number, name, _ in found] != [(number, known.get(number, "")) for number in range(1 + len(known))]:
+        raise ValueError(f"the rows of {table} are not those of the faults, by their numbers")
+    return {name: text for _, name, text in found if name}
 
 
 def rows():
-    wrong, remedy = sentences("wrong_of"), sentences("remedy_of")
+    meanings, remedies = sentences("MEANINGS"), sentences("REMEDIES")
     for name, number in sorted(numbers().items(), key=lambda fault: fault[1]):
-        yield f"| {number} | {wrong[name]} | {remedy[name]} |\n"
+        yield f"| {number} | {meanings[name]} | {remedies[name]} |\n".replace(OF_THE_PAGE, "")
 
 
 def shown(text):

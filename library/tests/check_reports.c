@@ -255,13 +255,15 @@ static void check_texts(void)
     check(strstr((const char *)room, "HOST: little-endian, 1536 bytes, ") == (const char *)room, "the list is another", sizeof list);
     text_of(PSLINK_TEXT_UNITS, PSLINK_LINES, 1, room, sizeof room);
     check(strstr((const char *)room, "LIB1: slot 02 UTIL     by itself, no fault\n") != NULL, "units by themselves are others", 0);
-    for (what = PSLINK_TEXT_MAP; what <= PSLINK_TEXT_LIST; what++) {
+    for (what = PSLINK_TEXT_MAP; what <= PSLINK_TEXT_LOOKS; what++) {
+        if (what == PSLINK_TEXT_UNITS)
+            continue;
         size = text_of(what, PSLINK_JSON, 1, room, sizeof room);
         check(room[0] == '{' && memcmp(room + size - 2, "}\n", 2) == 0, "a document is none", what);
     }
     for (what = 0; what < 9; what++)
         for (form = 0; form < 4; form++) {
-            int is_there = what <= PSLINK_TEXT_LIST ? form <= PSLINK_JSON : what == PSLINK_TEXT_UNITS && form == PSLINK_LINES;
+            int is_there = what <= PSLINK_TEXT_LOOKS && form <= (what == PSLINK_TEXT_UNITS ? PSLINK_LINES : PSLINK_JSON);
 
             memset(room, FILLER, sizeof room);
             check((pslink_text(what, form, host.bytes, host.length, library.bytes, library.length, &library.length, 1, "HOSTLIB1", 8,
@@ -276,6 +278,54 @@ static void check_texts(void)
     check(pslink_text(PSLINK_TEXT_SHOW, PSLINK_JSON, host.bytes, 511, NULL, 0, NULL, 0, NULL, 0, NULL, room, sizeof room, &answer) ==
                   PSLINK_REFUSED && answer.fault == PSLINK_FAULT_SHORT_FILE && answer.has_name == 0,
           "a short file is shown", answer.fault);
+}
+
+/* What looks wrong, one by one: nothing of the pair; and of a library whose procedure has another number, whose operand has lost its
+ * bit 7, and which was padded, a warning, what is harmless and a note, which are the last lines of the report. */
+static void check_looks(void)
+{
+    static const char none[] = "{\"warnings\":[\n],\"harmless\":[\n],\"notes\":[\n]}\n";
+    static const char lines[] =
+        "warning: damaged: LIB1, segment UTIL: the attribute table of procedure 1 says that it is procedure 3\n"
+        "harmless: LIB1: its last 2 bytes are 1A: it was padded, as by CP/M\n"
+        "note: LIB1, segment UTIL, record 0: the operand at byte 1 may be damaged: its bit 7 is clear, and a compiler sets it\n";
+    static const char items[] =
+        "{\"warnings\":[\n"
+        "{\"weight\":\"damaged\",\"path\":\"LIB1\",\"segment\":{\"name\":\"UTIL    \",\"name_hex\":\"5554494C20202020\"},"
+        "\"record\":null,\"text\":\"the attribute table of procedure 1 says that it is procedure 3\"}\n"
+        "],\"harmless\":[\n"
+        "{\"weight\":\"harmless\",\"path\":\"LIB1\",\"segment\":null,"
+        "\"record\":null,\"text\":\"its last 2 bytes are 1A: it was padded, as by CP/M\"}\n"
+        "],\"notes\":[\n"
+        "{\"weight\":\"note\",\"path\":\"LIB1\",\"segment\":{\"name\":\"UTIL    \",\"name_hex\":\"5554494C20202020\"},"
+        "\"record\":0,\"text\":\"the operand at byte 1 may be damaged: its bit 7 is clear, and a compiler sets it\"}\n"
+        "]}\n";
+    static unsigned char room[ROOM], other[ROOM], file[1 << 16];
+    const pslink_named_file kept = library;
+    pslink_check_answer report;
+    pslink_answer answer;
+    size_t size;
+
+    memset(room, FILLER, sizeof room);
+    check(pslink_text_files(PSLINK_TEXT_LOOKS, PSLINK_LINES, host, &library, 1, room, sizeof room, &answer) == PSLINK_DONE &&
+              answer.written == 0 && answer.needed == 0 && is_untouched(room, 0, sizeof room),
+          "something of the pair looks wrong", answer.written);
+    size = text_of(PSLINK_TEXT_LOOKS, PSLINK_JSON, 1, room, sizeof room);
+    check(size == strlen(none) && memcmp(room, none, size) == 0, "the document of nothing is another", size);
+    memcpy(file, library.bytes, library.length);
+    file[512 + 18] = 3;
+    file[512 + 1] = 0;
+    memset(file + library.length, 0x1A, 2);
+    library.bytes = file;
+    library.length += 2;
+    size = text_of(PSLINK_TEXT_LOOKS, PSLINK_LINES, 1, room, sizeof room);
+    check(size == strlen(lines) && memcmp(room, lines, size) == 0, "what looks wrong is said otherwise", size);
+    check(make(1, other, sizeof other, &report) == PSLINK_DONE && report.warnings == 1 && report.written > size &&
+              memcmp(other + report.written - size, room, size) == 0,
+          "the report ends with other lines", report.written);
+    size = text_of(PSLINK_TEXT_LOOKS, PSLINK_JSON, 1, room, sizeof room);
+    check(size == strlen(items) && memcmp(room, items, size) == 0, "the document of what looks wrong is another", size);
+    library = kept;
 }
 
 /* The names of units that are wanted and had. */
@@ -342,6 +392,7 @@ int main(int argc, char **argv)
     check_strict();
     check_names();
     check_texts();
+    check_looks();
     check_units();
     check_too_long();
     return failures != 0;

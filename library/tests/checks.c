@@ -284,6 +284,55 @@ static void check_texts(void)
           "the release is another", 0);
 }
 
+/* What each fault means and what to do about it, in rooms that are just enough: ASCII that is printed. */
+static void check_sentences(void)
+{
+    static const struct {
+        uint8_t fault;
+        const char *meaning, *remedy;
+    } known[] = {
+        {PSLINK_FAULT_SHORT_FILE, "The file has less than the 512 bytes of a segment dictionary.",
+         "The file is truncated, or no code file. Copy it again, as binary, or give the code file."},
+        {PSLINK_FAULT_TWO_HOSTS, "A second segment is a host program.", "Keep one of them in the file."},
+        {PSLINK_FAULT_MISSING_UNIT,
+         "No library has the unit that the slot wants or, if a record is reported, that the UNITREF in this record requests.",
+         "Give the library that has it. If you gave it, see DAMAGED FILES in pslink(1)."},
+        {PSLINK_FAULT_TRUNCATED, "The file ends before the code does.", "Copy the file again, as binary."},
+        {PSLINK_FAULT_NO_SLOT,
+         "The host has no empty slot from 7 to 15 left for the unit that the UNITREF in this record requests.",
+         "Join two units into one, or take linked segments out of the host."},
+    };
+    size_t (*const calls[2])(uint8_t, char *, size_t) = {pslink_fault_meaning, pslink_fault_remedy};
+    char text[PSLINK_SENTENCE_MAX];
+    size_t size, k, at;
+    uint32_t number;
+
+    for (k = 0; k < 2; k++)
+        for (number = 0; number < 256; number++) {
+            memset(text, FILLER, sizeof text);
+            size = calls[k]((uint8_t)number, text, sizeof text);
+            check((size != 0) == (number >= 1 && number <= 35), "a fault has no sentence, or what is none has one", number);
+            check(is_untouched((unsigned char *)text, size, sizeof text), "what is behind a sentence is written to", number);
+            check(size == 0 || (size == strlen(text) + 1 && text[size - 2] == '.'), "a sentence is not closed", number);
+            for (at = 0; at + 1 < size; at++)
+                check(text[at] >= ' ' && text[at] <= '~', "a sentence has a byte that is not printed", number);
+            memset(text, FILLER, sizeof text);
+            check(size == 0 || (calls[k]((uint8_t)number, text, size - 1) == size &&
+                                is_untouched((unsigned char *)text, 0, sizeof text)),
+                  "a sentence is written where it does not fit", number);
+        }
+    for (k = 0; k < sizeof known / sizeof *known; k++) {
+        check(pslink_fault_meaning(known[k].fault, text, sizeof text) == strlen(known[k].meaning) + 1 &&
+                  strcmp(text, known[k].meaning) == 0,
+              "what a fault means is another", known[k].fault);
+        check(pslink_fault_remedy(known[k].fault, text, sizeof text) == strlen(known[k].remedy) + 1 &&
+                  strcmp(text, known[k].remedy) == 0,
+              "what to do about a fault is another", known[k].fault);
+    }
+    check(pslink_fault_remedy(PSLINK_FAULT_TWO_HOSTS, NULL, 100) == sizeof "Keep one of them in the file.",
+          "a sentence is put where no room is", 0);
+}
+
 /* Lengths that no block of memory can have. */
 static void check_too_long(void)
 {
@@ -354,6 +403,7 @@ int main(int argc, char **argv)
     check_lengths();
     check_null();
     check_texts();
+    check_sentences();
     check_too_long();
     check_threads();
     return failures != 0;

@@ -1,6 +1,6 @@
 #!/usr/bin/env python3
 """Writes the examples of programs to a folder, for .ci/library to compile and run: header.c of include/pslink.h, whose function
-gets a main; embedding.c, embedding.py and embedding.rs of docs/EMBEDDING.md, its CMakeLists.txt, and report.c, found.c and found.py,
+gets a main; embedding.c, embedding.py and embedding.rs of docs/EMBEDDING.md, its CMakeLists.txt, and report.c, found.c, found.py and why.c,
 whose functions get a main too; manual.c of man/pslink.3; and declarations.c, the declarations of that page. Prints where the page's
 types are not those of the header. Usage: examples.py FOLDER"""
 import pathlib
@@ -14,7 +14,7 @@ HEADER = (ROOT / "include/pslink.h").read_text().split("/* What follows is of no
 PAGE = (ROOT / "man/pslink.3").read_text()
 ENDINGS = {"c": ".c", "python": ".py", "rust": ".rs"}
 # functions of examples, which get the main of this name beside, and the example's name
-FUNCTIONS = {"show_report": "report", "link_found": "found"}
+FUNCTIONS = {"show_report": "report", "link_found": "found", "say_why": "why"}
 
 
 def of_header():

@@ -1,6 +1,7 @@
 #!/usr/bin/env python3
 """Names that the library answers, of each set of files of .ci/report: that of what a fault is about beside the words of the report, where
-a record was read its name, and else that of the segment; and those of units beside the document of the list. Prints what is otherwise.
+a record was read its name, and else that of the segment; and those of units beside the document of the list. And the sentences on each
+fault beside the table of docs/LINKING.md. Prints what is otherwise.
 Usage: fault_names.py LIBRARY"""
 import ctypes
 import json
@@ -12,6 +13,7 @@ import sys
 ROOT = pathlib.Path(__file__).resolve().parents[2]
 sys.dont_write_bytecode = True
 sys.path[:0] = [str(ROOT / name) for name in ("bench", "samples", ".ci")]
+SENTENCES = re.compile(r"^\| (\d+) \| ([^|]*\.) \| ([^|]*) \|$", re.M)
 RECORD = re.compile(r"^  record \d+: [A-Z]+ (.*)$", re.M)
 SEGMENT = re.compile(r"^  segment (.*), of slot \d\d of the host$", re.M)
 ROOM = 1 << 20
@@ -88,11 +90,26 @@ def unit_differences(library, room, host, libraries):
             yield f"the units {wanted} are wanted and {had} had"
 
 
+def sentence_differences(library, room):
+    """What a number has other sentences than in the table, or has any without a row of it."""
+    table = (ROOT / "docs/LINKING.md").read_text().split("### What to do about each fault\n", 1)[1].split("\n#", 1)[0]
+    rows = {int(number): sentences for number, *sentences in SENTENCES.findall(table)}
+    if len(rows) != 35:
+        yield f"the table has {len(rows)} faults"
+    for number in range(256):
+        calls = library.pslink_fault_meaning_nonnull, library.pslink_fault_remedy_nonnull
+        put = [room.value.decode() if call(ctypes.c_uint8(number), room, ctypes.c_size_t(ROOM)) else "" for call in calls]
+        found = [text.replace(" in pslink(1)", "") for text in put]
+        if found != rows.get(number, ["", ""]):
+            yield f"fault {number} has the sentences {found}"
+
+
 def main():
     library = ctypes.CDLL(str(pathlib.Path(sys.argv[1]).resolve()))
     room = ctypes.create_string_buffer(ROOM)
     sets = {(bytes(host), tuple(map(bytes, libraries))): None for host, libraries in runpy.run_path(str(ROOT / ".ci/report"))["sets"]()}
     found = [] if len(sets) >= 2000 else [f"there are {len(sets)} sets of files"]
+    found += sentence_differences(library, room)
     for number, (host, libraries) in enumerate(sets):
         for differ in (differences, unit_differences):
             found += [f"set {number}: {line}" for line in differ(library, room, host, libraries)]

@@ -79,6 +79,16 @@ size_t pslink_fault_name_nonnull(uint8_t fault, void *out, size_t out_length)
     return pslink_release_nonnull(out, out_length);
 }
 
+size_t pslink_fault_meaning_nonnull(uint8_t fault, void *out, size_t out_length)
+{
+    return pslink_fault_name_nonnull(fault, out, out_length);
+}
+
+size_t pslink_fault_remedy_nonnull(uint8_t fault, void *out, size_t out_length)
+{
+    return pslink_fault_name_nonnull(fault, out, out_length);
+}
+
 size_t pslink_status_text_nonnull(uint32_t status, void *out, size_t out_length)
 {
     (void)status;

@@ -124,6 +124,11 @@ def of_refusals():
         fault = raised(pslink.Refused, pool.apply_async(pslink.link, [HOST]).get, 60)
         check(fault and parts(fault) == MISSING, "a refusal of a pool is another")
     check(pslink.fault_name(13) == "MissingUnit" and [pslink.fault_name(n) for n in (-1, 0, 36, 255, 256, 1 << 40)] == [""] * 6, "the name of a fault is another")
+    check(fault.meaning == pslink.fault_meaning(13) and fault.remedy == pslink.fault_remedy(13), "the sentences of a refusal are others")
+    check(fault.remedy == "Give the library that has it. If you gave it, see DAMAGED FILES in pslink(1).", f"what to do is {fault.remedy}")
+    check(pslink.fault_meaning(28) == "The host program defines no such name.", f"fault 28 means {pslink.fault_meaning(28)}")
+    for sentence in (pslink.fault_meaning, pslink.fault_remedy):
+        check([sentence(n) for n in (-1, 0, 36, 255, 256, 1 << 40)] == [""] * 6, f"{sentence.__name__} has a sentence of no fault")
     check(pslink.release() == pslink.__version__, f"the release is {pslink.release()}, and that of the package {pslink.__version__}")
 
 
@@ -169,10 +174,20 @@ def of_texts():
     check(text("references", *files).startswith(pslink.map(*files)), "a map with references has no map")
     check(text("list", *files, ["one", "two"]).startswith("one: little-endian, 1536 bytes, host\n"), "a list names its files otherwise")
     check(text("list", HOST).startswith(f"{HOST}: "), "a list of a path names it otherwise")
-    for what in ("map", "references", "show", "check", "list"):
+    for what in ("map", "references", "show", "check", "list", "looks"):
         json.loads(text(what, *files, json=True))
     document = json.loads(text("check", HOST, [changed(LIBRARY, at530=b"\3")], json=True))
     check([warning["weight"] for warning in document["warnings"]] == ["damaged"], f"the warnings are {document['warnings']}")
+    # (a procedure of another number, padding, and an operand without its bit 7)
+    odd = changed(LIBRARY, at513=b"\0", at530=b"\3") + b"\x1a\x1a"
+    looks = [
+        ("damaged", "two\n", UTIL, None, "the attribute table of procedure 1 says that it is procedure 3"),
+        ("harmless", "two\n", None, None, "its last 2 bytes are 1A: it was padded, as by CP/M"),
+        ("note", "two\n", UTIL, 0, "the operand at byte 1 may be damaged: its bit 7 is clear, and a compiler sets it"),
+    ]
+    check(pslink.looks(HOST, [odd], ["\N{FLOPPY DISK}", "two\n"]) == looks, f"what looks wrong is {pslink.looks(HOST, [odd])}")
+    check(pslink.looks(*files) == [] and text("looks", *files) == "", "something of the pair looks wrong")
+    check(text("looks", HOST, [odd], ["one", "two"]).splitlines() == pslink.check(HOST, [odd], ["one", "two"]).text.splitlines()[-3:], "the lines of what looks wrong are others")
     check(parts(raised(pslink.Refused, text, "map", HOST)) == MISSING, "the text of a map is of files that are refused")
     check(raised(ValueError, lambda: text("units", HOST, json=True)), "there is a document of units")
     check(raised(ValueError, text, "plan", HOST), "there is a text of another name")

@@ -76,7 +76,7 @@ static void *a_check(void *room)
         named[k].length = libs[k].length;
     }
     pslink_check_files(of_host, named, count, 1, room, PSLINK_LINKED_MAX, &answer);
-    for (what = PSLINK_TEXT_MAP; what <= PSLINK_TEXT_UNITS; what++)
+    for (what = PSLINK_TEXT_MAP; what <= PSLINK_TEXT_LOOKS; what++)
         for (form = PSLINK_LINES; form <= PSLINK_JSON; form++)
             pslink_text_files(what, form, of_host, named, count, room, PSLINK_LINKED_MAX, &one);
     return room;

@@ -13,6 +13,7 @@ this package is an ImportError.
 
 import array
 import ctypes
+import json
 import mmap
 import os
 import subprocess
@@ -24,8 +25,8 @@ if TYPE_CHECKING:
 
 # (`map` is not among them, so that `import *` keeps Python's own)
 __all__ = [
-    "File", "Refused", "Report", "Summary", "Text", "check", "fault_name", "link", "link_with_summary", "release", "release_number",
-    "show", "text", "units_had", "units_wanted",
+    "File", "Look", "Refused", "Report", "Summary", "Text", "check", "fault_meaning", "fault_name", "fault_remedy", "link",
+    "link_with_summary", "looks", "release", "release_number", "show", "text", "units_had", "units_wanted",
 ]  # fmt: skip
 __version__ = "0.2.0"
 
@@ -36,9 +37,10 @@ else:
     # (where a program asks for the hints; Python 3.8 says no more of `array` and `PathLike`)
     File = Union[bytes, bytearray, memoryview, array.array, mmap.mmap, ctypes.Array, str, os.PathLike]
 
-# What `text` makes, as the commands of the program call it: `references` is the map with them, `units` is `check --unit`.
-Text = Literal["map", "references", "show", "check", "list", "units"]
-_TEXTS = {"map": 0, "references": 1, "show": 2, "check": 3, "list": 4, "units": 5}
+# What `text` makes, as the commands of the program call it: `references` is the map with them, `units` is `check --unit`, `looks` is
+# what looks wrong by a `check`, one by one.
+Text = Literal["map", "references", "show", "check", "list", "units", "looks"]
+_TEXTS = {"map": 0, "references": 1, "show": 2, "check": 3, "list": 4, "units": 5, "looks": 6}
 _LINES, _JSON = 0, 1
 _UNITS_WANTED, _UNITS_HAD = 0, 1
 _NAME_LENGTH = 8
@@ -51,6 +53,7 @@ _NAME = "libpslink.so.2"
 _LINKED_MAX = 524800
 _TEXT_GUESS = 4096
 _FAULT_TEXT_MAX = 160
+_SENTENCE_MAX = 256
 
 
 class _Answer(ctypes.Structure):
@@ -109,6 +112,8 @@ _FUNCTIONS = {
     "pslink_units_nonnull": ([*_NUMBER, *_BYTES, *_BYTES, *_LENGTHS, *_ROOM, *_ANSWER], ctypes.c_uint32),
     "pslink_fault_text_nonnull": ([*_ANSWER, *_ROOM], ctypes.c_size_t),
     "pslink_fault_name_nonnull": ([ctypes.c_uint8, *_ROOM], ctypes.c_size_t),
+    "pslink_fault_meaning_nonnull": ([ctypes.c_uint8, *_ROOM], ctypes.c_size_t),
+    "pslink_fault_remedy_nonnull": ([ctypes.c_uint8, *_ROOM], ctypes.c_size_t),
     "pslink_release_nonnull": (_ROOM, ctypes.c_size_t),
     "pslink_release_number": ([], ctypes.c_uint32),
 }
@@ -162,10 +167,10 @@ def _load():
 _library = _load()
 
 
-def _text(call):
+def _text(call, size=_FAULT_TEXT_MAX):
     """The text that a call puts, with a closing 0, in room that is long enough for each; '' where it puts none."""
-    room = ctypes.create_string_buffer(_FAULT_TEXT_MAX)
-    return ctypes.string_at(room, max(1, call(room, _FAULT_TEXT_MAX)) - 1).decode("ascii")
+    room = ctypes.create_string_buffer(size)
+    return ctypes.string_at(room, max(1, call(room, size)) - 1).decode("ascii")
 
 
 def fault_name(number: int) -> str:
@@ -173,6 +178,20 @@ def fault_name(number: int) -> str:
     if not 0 <= number <= 255:
         return ""
     return _text(lambda room, size: _library.pslink_fault_name_nonnull(number, room, size))
+
+
+def fault_meaning(number: int) -> str:
+    """What the fault of this number means, as 'No segment of the file is a host program.'; '' where there is none. Since 0.2.0."""
+    if not 0 <= number <= 255:
+        return ""
+    return _text(lambda room, size: _library.pslink_fault_meaning_nonnull(number, room, size), _SENTENCE_MAX)
+
+
+def fault_remedy(number: int) -> str:
+    """What to do about it, as 'Keep one of them in the file.', where `the file` is the one at fault. Since 0.2.0."""
+    if not 0 <= number <= 255:
+        return ""
+    return _text(lambda room, size: _library.pslink_fault_remedy_nonnull(number, room, size), _SENTENCE_MAX)
 
 
 def release() -> str:
@@ -191,7 +210,7 @@ class Refused(Exception):
     number: the number of the fault, 1 to 35. name: its name. file: the file at fault, 0 for the host, k for the k-th
     library. kind, slot, record, reference: numbers, each None where the fault has none. about: the eight bytes of the name of that
     unit, segment, symbol or variable which is at fault, as b'UTIL    ', after MissingUnit those of the unit to look for; None where
-    the fault is of none. (Since 0.2.0.)
+    the fault is of none. (Since 0.2.0.) `meaning` and `remedy` are sentences: what the fault is, and what to do about it.
     """
 
     def __init__(
@@ -217,6 +236,16 @@ class Refused(Exception):
         self.record = record
         self.reference = reference
         self.about = about
+
+    @property
+    def meaning(self) -> str:
+        """What the fault means, as `fault_meaning`. Since 0.2.0."""
+        return fault_meaning(self.number)
+
+    @property
+    def remedy(self) -> str:
+        """What to do about it, as `fault_remedy`. Since 0.2.0."""
+        return fault_remedy(self.number)
 
     def __str__(self) -> str:
         return self.text
@@ -417,7 +446,7 @@ def text(
     """What the program prints of these files by its command of this name, as lines, or as one JSON document. Since 0.2.0.
 
     `references` is a map with what the link stores at each place; `units` is a list and what is wrong with each unit by itself, as
-    lines alone. Of a `list` and of `units` all files are equal; of a `show` there is one. names: as of `check`. Raises what `link`
+    lines alone; `looks` is what looks wrong by a check, a line for each. Of a `list` and of `units` all files are equal; of a `show` there is one. names: as of `check`. Raises what `link`
     raises, Refused for a map, its references and a show alone, and ValueError for what is no such text.
     """
     if what not in _TEXTS:
@@ -434,6 +463,35 @@ def text(
         _Answer(),
     )
     return made.decode("utf-8")
+
+
+class Look(NamedTuple):
+    """What looks wrong in a file and is no fault, or is harmless, or is what the P-code makes one guess. Since 0.2.0.
+
+    weight: 'look' or 'damaged' of a warning, or 'harmless', or 'note'. path: what the report calls the file. segment: the eight bytes
+    of the name of the segment that it is in, or None. record: the index of the record, or None. text: what is said of it.
+    """
+
+    weight: str
+    path: str
+    segment: Optional[bytes]
+    record: Optional[int]
+    text: str
+
+
+def _look(item):
+    segment = item["segment"]
+    name = bytes.fromhex(segment["name_hex"]) if segment else None
+    return Look(item["weight"], item["path"], name, item["record"], item["text"])
+
+
+def looks(host: File, libs: Iterable[File] = (), names: Optional[Iterable[str]] = None) -> List[Look]:
+    """What looks wrong by a check of these files, one by one: the warnings, then what is harmless, then the notes. Since 0.2.0.
+
+    They are in the order of the report's lines, of which each has one. names, and what is raised: as of `check`.
+    """
+    made = json.loads(text("looks", host, libs, names, json=True))
+    return [_look(item) for kind in ("warnings", "harmless", "notes") for item in made[kind]]
 
 
 def units_wanted(host: File, libs: Iterable[File] = ()) -> List[bytes]:

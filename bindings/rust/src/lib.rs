@@ -11,9 +11,11 @@
 //! }
 //! ```
 
+mod look;
 mod raw;
 mod reason;
 
+pub use look::{Look, Weight};
 pub use reason::Reason;
 
 use raw::{Answer, CheckAnswer, Joined, Kind};
@@ -27,6 +29,9 @@ pub const LINKED_MAX: usize = 524_800;
 
 /// How many bytes a text of the library has at most, its closing 0 counted.
 const FAULT_TEXT_MAX: usize = 160;
+
+/// How many bytes a sentence on a fault has at most, its closing 0 counted.
+const SENTENCE_MAX: usize = 256;
 
 /// Room for a text, at first.
 const TEXT_GUESS: usize = 4096;
@@ -141,8 +146,8 @@ impl Summary {
 }
 
 /// The text that a call puts, with a closing 0, in room that is long enough for each.
-fn text_of(call: impl FnOnce(&mut [u8]) -> usize) -> String {
-    let mut text = [0; FAULT_TEXT_MAX];
+fn text_of<const MOST: usize>(call: impl FnOnce(&mut [u8]) -> usize) -> String {
+    let mut text = [0; MOST];
     let size = call(&mut text);
     let text = text.get(..size.saturating_sub(1)).unwrap_or_default();
     String::from_utf8_lossy(text).into_owned()
@@ -159,7 +164,7 @@ impl Fault {
             record: (answer.has_record != 0).then_some(answer.record),
             reference: (answer.has_reference != 0).then_some(answer.reference),
             about: (answer.has_name != 0).then_some(answer.name),
-            text: text_of(|room| raw::fault_text(answer, room)),
+            text: text_of::<FAULT_TEXT_MAX>(|room| raw::fault_text(answer, room)),
         })
     }
 
@@ -361,6 +366,8 @@ pub enum Text {
     List = 4,
     /// That list, and what is wrong with the units of each file by themselves: lines alone.
     Units = 5,
+    /// What looks wrong by that report, one by one, as [`looks`].
+    Looks = 6,
 }
 
 /// In which form [`text`] has it. Since 0.2.0.
@@ -396,6 +403,20 @@ pub fn text<H: AsRef<[u8]>, L: AsRef<[u8]>>(
         raw::text(kind, host, &files, &names, room, answer)
     })?;
     Ok(String::from_utf8_lossy(&text).into_owned())
+}
+
+/// What looks wrong by a check of these files and is no fault, one by one: the warnings, then what is
+/// harmless, then the notes, in the order of the report's lines. Each file goes with the name that
+/// the report has for it. Since 0.2.0.
+///
+/// # Errors
+/// Those of [`check`].
+pub fn looks<H: AsRef<[u8]>, L: AsRef<[u8]>>(
+    host: (&str, H),
+    libs: &[(&str, L)],
+) -> Result<Vec<Look>, Error> {
+    let document = text(Text::Looks, Form::Json, host, libs)?;
+    look::looks_in(&document).ok_or(Error::Unknown(DONE))
 }
 
 /// The names in `which` of the two lists.
@@ -444,7 +465,7 @@ pub fn show<F: AsRef<[u8]>>(file: F) -> Result<String, Error> {
 /// The release of the archive, as `0.2.0`.
 #[must_use]
 pub fn release() -> String {
-    text_of(raw::release)
+    text_of::<FAULT_TEXT_MAX>(raw::release)
 }
 
 /// The same as a number to compare, as 200: 10000 times its first part, 100 times its second, and
@@ -457,5 +478,17 @@ pub fn release_number() -> u32 {
 /// What the library calls the fault of this number, as `MissingUnit`; empty where there is none.
 #[must_use]
 pub fn fault_name(number: u8) -> String {
-    text_of(|room| raw::fault_name(number, room))
+    text_of::<FAULT_TEXT_MAX>(|room| raw::fault_name(number, room))
+}
+
+/// What the fault of this number means, in a sentence; empty where there is none. Since 0.2.0.
+#[must_use]
+pub fn fault_meaning(number: u8) -> String {
+    text_of::<SENTENCE_MAX>(|room| raw::fault_meaning(number, room))
+}
+
+/// What to do about it, in sentences in which `the file` is the one at fault. Since 0.2.0.
+#[must_use]
+pub fn fault_remedy(number: u8) -> String {
+    text_of::<SENTENCE_MAX>(|room| raw::fault_remedy(number, room))
 }

@@ -129,6 +129,8 @@ extern "C" {
     ) -> u32;
     fn pslink_fault_text_nonnull(answer: *const Answer, out: *mut u8, out_length: usize) -> usize;
     fn pslink_fault_name_nonnull(fault: u8, out: *mut u8, out_length: usize) -> usize;
+    fn pslink_fault_meaning_nonnull(fault: u8, out: *mut u8, out_length: usize) -> usize;
+    fn pslink_fault_remedy_nonnull(fault: u8, out: *mut u8, out_length: usize) -> usize;
     fn pslink_release_nonnull(out: *mut u8, out_length: usize) -> usize;
     fn pslink_release_number() -> u32;
     fn pslink_version() -> u32;
@@ -290,6 +292,16 @@ pub fn fault_text(answer: &Answer, out: &mut [u8]) -> usize {
 pub fn fault_name(number: u8, out: &mut [u8]) -> usize {
     // SAFETY: as in `of_libraries`.
     unsafe { pslink_fault_name_nonnull(number, out.as_mut_ptr(), out.len()) }
+}
+
+pub fn fault_meaning(number: u8, out: &mut [u8]) -> usize {
+    // SAFETY: as in `of_libraries`.
+    unsafe { pslink_fault_meaning_nonnull(number, out.as_mut_ptr(), out.len()) }
+}
+
+pub fn fault_remedy(number: u8, out: &mut [u8]) -> usize {
+    // SAFETY: as in `of_libraries`.
+    unsafe { pslink_fault_remedy_nonnull(number, out.as_mut_ptr(), out.len()) }
 }
 
 pub fn release(out: &mut [u8]) -> usize {

@@ -116,6 +116,19 @@ impl Reason {
         self as u8
     }
 
+    /// What it means, in a sentence of the library. Since 0.2.0.
+    #[must_use]
+    pub fn meaning(self) -> String {
+        crate::fault_meaning(self.number())
+    }
+
+    /// What to do about it, in sentences in which `the file` is the one at fault;
+    /// [`check`](crate::check) says more of the files at hand. Since 0.2.0.
+    #[must_use]
+    pub fn remedy(self) -> String {
+        crate::fault_remedy(self.number())
+    }
+
     /// The reason of this number; `None` where none has it.
     #[must_use]
     pub fn of_number(number: u8) -> Option<Reason> {

@@ -1,6 +1,6 @@
 //! The calls over samples, which lie beside this file: the crate can be copied by itself.
 
-use pslink::{Error, Fault, Form, Reason, Summary, Text, NO_LIBRARIES};
+use pslink::{Error, Fault, Form, Look, Reason, Summary, Text, Weight, NO_LIBRARIES};
 use std::collections::HashSet;
 
 fn sample(name: &str) -> Vec<u8> {
@@ -154,6 +154,7 @@ fn a_text_is_what_the_program_prints() {
         Text::Show,
         Text::Check,
         Text::List,
+        Text::Looks,
     ];
     for what in documents {
         let document = text(what, Form::Json);
@@ -168,6 +169,66 @@ fn a_text_is_what_the_program_prints() {
     );
     let alone = pslink::text(Text::Map, Form::Lines, ("HOST", &host), &files[..0]);
     assert_eq!(refused(alone).number(), 13);
+}
+
+#[test]
+fn what_looks_wrong_is_told_one_by_one() {
+    let (host, mut library) = (sample("host.code"), sample("library.code"));
+    let none = pslink::looks(("HOST", &host), &[("LIB1", &library)]).unwrap();
+    assert_eq!(none, []);
+    // A procedure of another number, an operand without its bit 7, and padding.
+    library[530] = 3;
+    library[513] = 0;
+    library.extend([0x1A; 2]);
+    let path = "a \"path\" \\ \u{1}\n\u{1F4BE}";
+    let looks = pslink::looks(("HOST", &host), &[(path, &library)]).unwrap();
+    let parts = |look: &Look| (look.weight, look.segment, look.record, look.text.clone());
+    let util = Some(*b"UTIL    ");
+    assert_eq!(
+        looks.iter().map(parts).collect::<Vec<_>>(),
+        [
+            (
+                Weight::Damaged,
+                util,
+                None,
+                "the attribute table of procedure 1 says that it is procedure 3".to_owned()
+            ),
+            (
+                Weight::Harmless,
+                None,
+                None,
+                "its last 2 bytes are 1A: it was padded, as by CP/M".to_owned()
+            ),
+            (
+                Weight::Note,
+                util,
+                Some(0),
+                "the operand at byte 1 may be damaged: its bit 7 is clear, and a compiler sets it"
+                    .to_owned()
+            ),
+        ]
+    );
+    assert!(looks.iter().all(|look| look.path == path));
+    assert_eq!(Weight::Damaged.to_string(), "damaged");
+}
+
+#[test]
+fn each_reason_has_its_sentences() {
+    assert_eq!(
+        Reason::TwoHosts.meaning(),
+        "A second segment is a host program."
+    );
+    assert_eq!(Reason::TwoHosts.remedy(), "Keep one of them in the file.");
+    let sentences = Reason::ALL
+        .iter()
+        .flat_map(|one| [one.meaning(), one.remedy()]);
+    assert!(sentences
+        .into_iter()
+        .all(|sentence| sentence.ends_with('.')));
+    for number in [0, 36, 255] {
+        assert_eq!(pslink::fault_meaning(number), "");
+        assert_eq!(pslink::fault_remedy(number), "");
+    }
 }
 
 #[test]

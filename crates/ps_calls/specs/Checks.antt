@@ -1,12 +1,9 @@
 -- What a check finds and leaves in the caller's room, and why it leaves nothing.
 -- Source: this project's profile.
-use Rattle.std.specs.Prelude.{◌≡◌, ℕ, ◌+◌, ◌<◌, ⊤, All, Bool, IsUtf8, List, length, sum, Option, None}
-use Rattle.ps_named.specs.FaultNames.{fault_name}
+use Rattle.std.specs.Prelude.{◌≡◌, ℕ, ◌+◌, ◌<◌, ⊤, All, Bool, IsUtf8, List, length, sum}
 use Rattle.ps_report.specs.Reports.{IsReport}
-use Rattle.ps_report.specs.Verdicts.{check_status}
+use Rattle.ps_report.specs.Verdicts.{check_status, verdict_name}
 use Rattle.ps_report.specs.declared.verdict.Verdict.{Verdict}
-use Rattle.ps_report.specs.declared.verdict.Verdict.TheVariants as verdict
-use Rattle.ps_report.specs.declared.verdict.Verdict.TheVariants.{Links}
 use Rattle.ps_calls.specs.Libraries.{split}
 use Rattle.ps_calls.specs.Rooms.{RoomBeginsWith}
 use Rattle.ps_calls.specs.declared.checking.Found.{Found}
@@ -29,11 +26,6 @@ abbrev pub IsCheckable : List ℕ → List ℕ → List ℕ → List ℕ → Typ
 IsCheckable libs lengths names name_lengths =
     (sum lengths ≡ length libs) × (length name_lengths ≡ 1 + length lengths)
     × AreNames names name_lengths
-
--- the name of what the fault of a verdict on these files is about
-abbrev pub verdict_name : List ℕ → List (List ℕ) → Verdict → Option (List ℕ)
-verdict_name host libs (Links summary) = None
-verdict_name host libs (verdict.Refused fault) = fault_name host libs fault
 
 -- the room begins with the text of a report of these files, which has their names, and what is found
 -- has the verdict of that report, how many lines of it begin with `warning: `, its length, the

@@ -7,7 +7,7 @@ use Rattle.ps_calls.specs.declared.kinds.TextForm.{TextForm}
 use Rattle.ps_calls.specs.declared.kinds.TextForm.TheVariants as form
 use Rattle.ps_calls.specs.declared.kinds.TextKind.{TextKind}
 use Rattle.ps_calls.specs.declared.kinds.TextKind.TheVariants as kind
-use Rattle.ps_calls.specs.declared.kinds.TheConstants.{JSON, LINES, TEXT_CHECK, TEXT_LIST, TEXT_MAP, TEXT_REFERENCES, TEXT_SHOW, TEXT_UNITS, UNITS_HAD, UNITS_WANTED}
+use Rattle.ps_calls.specs.declared.kinds.TheConstants.{JSON, LINES, TEXT_CHECK, TEXT_LIST, TEXT_LOOKS, TEXT_MAP, TEXT_REFERENCES, TEXT_SHOW, TEXT_UNITS, UNITS_HAD, UNITS_WANTED}
 
 -- the form of this number
 abbrev pub form_of : ℕ → Option TextForm
@@ -34,6 +34,7 @@ kind_in what how =
     else if what == TEXT_CHECK then Some (kind.Check how)
     else if what == TEXT_LIST then Some (kind.List (list_in how))
     else if what == TEXT_UNITS then units_in how
+    else if what == TEXT_LOOKS then Some (kind.Looks how)
     else None
 
 -- the text of this number, in the form of this one
@@ -52,6 +53,7 @@ needs_names (kind.Map how) = false
 needs_names (kind.References how) = false
 needs_names (kind.Show how) = false
 needs_names (kind.Check how) = true
+needs_names (kind.Looks how) = true
 needs_names (kind.List how) = true
 needs_names kind.Wanted = false
 needs_names kind.Had = false

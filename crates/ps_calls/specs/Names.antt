@@ -1,6 +1,7 @@
--- The names of faults, what statuses say, and the release.
+-- The names of faults and the sentences on them, what statuses say, and the release.
 -- Source: this project's profile.
 use Rattle.std.specs.Prelude.{ℕ, ◌==◌, if◌then◌else◌, List, [], ◌∷◌, ◌++◌, codes, Option, Some, None}
+use Rattle.ps_explained.specs.Sentences.{meaning_of, remedy_of}
 use Rattle.ps_words.specs.FaultText.{name_of}
 use Rattle.ps_words.specs.declared.fault.Reason.{Reason}
 use Rattle.ps_calls.specs.Answers.{reason_of}
@@ -19,6 +20,14 @@ name_or_nothing (Some why) = name_of why
 -- the name of the fault of this number
 abbrev pub fault_name : ℕ → List ℕ
 fault_name number = name_or_nothing (reason_of number 0)
+
+-- what is wrong, where files are refused for the fault of this number
+abbrev pub fault_meaning : ℕ → List ℕ
+fault_meaning number = meaning_of number
+
+-- and what to do about it
+abbrev pub fault_remedy : ℕ → List ℕ
+fault_remedy number = remedy_of number
 
 -- what a status says
 abbrev pub status_text : ℕ → List ℕ

@@ -16,7 +16,8 @@ use Rattle.ps_linkfile.specs.ShowText.{show_fault, show_of}
 use Rattle.ps_listing.specs.ListJson.{list_json_of}
 use Rattle.ps_listing.specs.ListText.{list_of}
 use Rattle.ps_listing.specs.LoneText.{lone_text, lone_units}
-use Rattle.ps_report.specs.Reports.{IsPrintedText, IsReport}
+use Rattle.ps_report.specs.Reports.{ArePrintedLooks, IsPrintedText, IsReport}
+use Rattle.ps_report.specs.Verdicts.{verdict_name}
 use Rattle.ps_report.specs.declared.verdict.Verdict.{Verdict}
 use Rattle.ps_calls.specs.Kinds.{needs_names}
 use Rattle.ps_calls.specs.Libraries.{split}
@@ -84,7 +85,16 @@ abbrev pub IsPrintedReport : TextForm → List (List ℕ) → List ℕ → List 
 IsPrintedReport how names host libs text =
     (verdict : Verdict) × (warnings : ℕ) × (report : List ℕ)
     × IsReport names host libs verdict warnings report
-    × IsPrintedText (is_json how) verdict warnings report text
+    × IsPrintedText (is_json how) verdict (verdict_name host libs verdict) warnings report text
+
+-- What looks wrong, one by one, as it is printed, of a report of these files: as many warnings as
+-- that has.
+abbrev pub IsPrintedLooks : TextForm → List (List ℕ) → List ℕ → List (List ℕ) → List ℕ
+    → Type 0
+IsPrintedLooks how names host libs text =
+    (verdict : Verdict) × (warnings : ℕ) × (report : List ℕ)
+    × IsReport names host libs verdict warnings report
+    × ArePrintedLooks (is_json how) warnings text
 
 -- This is what is made of a host and these libraries, of which a report and a list have the names.
 abbrev pub IsTextOf : TextKind → List (List ℕ) → List ℕ → List (List ℕ) → List ℕ
@@ -94,6 +104,7 @@ IsTextOf (kind.References how) names host libs text =
     NoneStands host libs × IsReferenceMap how host libs text
 IsTextOf (kind.Show how) names host libs text = (show_fault host ≡ None) × IsShow how host text
 IsTextOf (kind.Check how) names host libs text = IsPrintedReport how names host libs text
+IsTextOf (kind.Looks how) names host libs text = IsPrintedLooks how names host libs text
 IsTextOf (kind.List how) names host libs text = IsList how names (host ∷ libs) text
 IsTextOf kind.Wanted names host libs text =
     (h : HostFiles) × (opened_host host libs ≡ Ok h) × (text ≡ units_wanted h)
@@ -110,6 +121,7 @@ CanRefuse (kind.Map how) host libs r = IsRefusedFor host libs r
 CanRefuse (kind.References how) host libs r = IsRefusedFor host libs r
 CanRefuse (kind.Show how) host libs r = IsUnshownFor host r
 CanRefuse (kind.Check how) host libs r = ⊥
+CanRefuse (kind.Looks how) host libs r = ⊥
 CanRefuse (kind.List how) host libs r = ⊥
 CanRefuse kind.Wanted host libs r =
     (why : Reason) × (opened_host host libs ≡ Err why) × (r ≡ unopened why)

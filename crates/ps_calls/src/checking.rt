@@ -3,13 +3,12 @@ ghost use Rattle.std.specs.Prelude.{◌≡◌, ◌<◌, ◌+◌, ◌↔◌, IfOk
 ghost use Rattle.ps_resolve.specs.Sources.{contents};
 ghost use Rattle.ps_report.specs.Verdicts.{check_status};
 ghost use Rattle.ps_calls.specs.Libraries.{split as split_spec};
-ghost use Rattle.ps_calls.specs.Checks.{IsFound, IsCheckable, StopsCheck, StopsReport, verdict_name as verdict_name_spec};
+ghost use Rattle.ps_calls.specs.Checks.{IsFound, IsCheckable, StopsCheck, StopsReport};
 
 use crate::file_names::file_names;
 use crate::libraries::{LIBRARIES_IN_PLACE, split};
 use crate::outcome::Stop;
 use crate::texts::put;
-use ps_named::fault_name;
 use ps_report::{Report, Verdict};
 use ps_words::Name;
 use std::alloc::Global;
@@ -37,32 +36,21 @@ pub(crate) fn is_one_each(names: usize, libs: usize) -> bool
     libs < names && names - libs == 1
 }
 
-/// The name of what the fault of a verdict on these files is about.
-#[inline(never)]
-fn verdict_name(host: &[u8], libs: &[&[u8]], verdict: Verdict) -> Option<Name>
-    ensures { result ≡ verdict_name_spec host.now (contents libs.now) verdict }
-{
-    match verdict {
-        Verdict::Links(_) => None,
-        Verdict::Refused(fault) => fault_name(host, libs, fault),
-    }
-}
-
-/// What a report says of its files, with this name of what its fault is about.
-fn found_in(report: &Report<'_, Global>, strict: bool, name: Option<Name>) -> Found
+/// What a report says of its files.
+fn found_in(report: &Report<'_, Global>, strict: bool) -> Found
     ensures verdict { result.verdict ≡ report.now.verdict }
     ensures warnings { result.warnings ≡ vec_len report.now.warnings }
     ensures ends_with { result.ends_with
         ≡ check_status strict (vec_len report.now.warnings) report.now.verdict }
     ensures size { result.size ≡ length (string_bytes report.now.text) }
-    ensures name { result.name ≡ name }
+    ensures name { result.name ≡ report.now.name }
 {
     Found {
         verdict: report.verdict,
         warnings: report.warnings.len(),
         ends_with: report.status(strict),
         size: report.text.len(),
-        name,
+        name: report.name,
     }
 }
 
@@ -87,8 +75,7 @@ fn check_all(
         return Err(Stop::NoMemory);
     };
     put(report.text.as_bytes(), room)?;
-    let name = verdict_name(host, libs, report.verdict);
-    Ok(found_in(&report, strict, name))
+    Ok(found_in(&report, strict))
 }
 
 /// Checks a host and the libraries that are one after another in `libs`, and puts the report in the

@@ -26,6 +26,10 @@ pub const TEXT_LIST: u32 = 4;
 /// Source: this project's profile.
 pub const TEXT_UNITS: u32 = 5;
 
+/// That of what looks wrong, one by one.
+/// Source: this project's profile.
+pub const TEXT_LOOKS: u32 = 6;
+
 /// The number of the form of lines.
 /// Source: this project's profile.
 pub const LINES: u32 = 0;
@@ -76,6 +80,8 @@ pub enum TextKind {
     Show(TextForm),
     /// The report of a check.
     Check(TextForm),
+    /// What looks wrong, one by one: the warnings of that report, what is harmless, and the notes.
+    Looks(TextForm),
     /// The list of each file.
     List(ListForm),
     /// The names of the units that a link wants from libraries.
@@ -91,7 +97,7 @@ impl TextKind {
         ensures { result ≡ needs_names_spec self }
     {
         match self {
-            TextKind::Check(_) | TextKind::List(_) => true,
+            TextKind::Check(_) | TextKind::Looks(_) | TextKind::List(_) => true,
             TextKind::Map(_)
             | TextKind::References(_)
             | TextKind::Show(_)
@@ -143,6 +149,7 @@ fn kind_in(what: u32, form: TextForm) -> Option<TextKind>
         TEXT_CHECK => Some(TextKind::Check(form)),
         TEXT_LIST => Some(TextKind::List(list_in(form))),
         TEXT_UNITS => units_in(form),
+        TEXT_LOOKS => Some(TextKind::Looks(form)),
         _ => None,
     }
 }

@@ -14,6 +14,7 @@ mod kinds;
 mod libraries;
 mod linking;
 mod lists;
+mod looks;
 mod making;
 mod names;
 mod outcome;
@@ -21,6 +22,7 @@ mod printing;
 mod reasons;
 mod refusal_law;
 mod room;
+mod sentences;
 mod texts;
 
 pub use answer::{
@@ -30,8 +32,8 @@ pub use check_answer::CheckAnswer;
 pub use checking::{Found, check};
 pub use fault_text::{FAULT_TEXT_MAX, put_fault};
 pub use kinds::{
-    JSON, LINES, ListForm, TEXT_CHECK, TEXT_LIST, TEXT_MAP, TEXT_REFERENCES, TEXT_SHOW, TEXT_UNITS,
-    TextForm, TextKind, UNITS_HAD, UNITS_WANTED, text_kind, units_kind,
+    JSON, LINES, ListForm, TEXT_CHECK, TEXT_LIST, TEXT_LOOKS, TEXT_MAP, TEXT_REFERENCES, TEXT_SHOW,
+    TEXT_UNITS, TextForm, TextKind, UNITS_HAD, UNITS_WANTED, text_kind, units_kind,
 };
 pub use libraries::LIBRARIES_IN_PLACE;
 pub use linking::{LINKED_MAX, link};
@@ -39,4 +41,5 @@ pub use names::{RELEASE_NUMBER, put_fault_name, put_release, put_status_text};
 pub use outcome::{Done, Refusal, Stop};
 pub use printing::text;
 pub use refusal_law::refusals_tell_their_faults;
+pub use sentences::{SENTENCE_MAX, put_fault_meaning, put_fault_remedy};
 pub use texts::{map, show};

@@ -10,6 +10,7 @@ ghost use Rattle.ps_calls.specs.declared.outcome.Stop.TheVariants.{NoMemory};
 
 use crate::kinds::{TextForm, TextKind};
 use crate::lists::list_files;
+use crate::looks::make_looks;
 use crate::outcome::{Refusal, Stop, stop_for};
 use ps_codefile::Dict;
 use ps_linkfile::{
@@ -180,7 +181,7 @@ fn make_show(alloc: Global, form: TextForm, file: &[u8]) -> Result<Vec<u8>, Stop
 }
 
 /// The bytes of a text.
-fn copied(alloc: Global, text: &[u8]) -> Result<Vec<u8>, AllocError>
+pub(crate) fn copied(alloc: Global, text: &[u8]) -> Result<Vec<u8>, AllocError>
     ensures { IfOk result (λ bytes. bytes.items ≡ text.now) }
 {
     let mut bytes = Vec::new(alloc);
@@ -190,7 +191,7 @@ fn copied(alloc: Global, text: &[u8]) -> Result<Vec<u8>, AllocError>
 
 /// A report as one JSON document.
 fn printed_document(alloc: Global, report: &Report<'_, Global>) -> Result<Vec<u8>, AllocError>
-    ensures { IfOk result (λ text. IsPrintedText true report.now.verdict
+    ensures { IfOk result (λ text. IsPrintedText true report.now.verdict report.now.name
         (vec_len report.now.warnings) (string_bytes report.now.text) text.items) }
 {
     let document = report.json(alloc)?;
@@ -203,7 +204,7 @@ fn printed(
     form: TextForm,
     report: &Report<'_, Global>,
 ) -> Result<Vec<u8>, AllocError>
-    ensures { IfOk result (λ text. IsPrintedText (is_json form) report.now.verdict
+    ensures { IfOk result (λ text. IsPrintedText (is_json form) report.now.verdict report.now.name
         (vec_len report.now.warnings) (string_bytes report.now.text) text.items) }
 {
     match form {
@@ -294,6 +295,9 @@ pub(crate) fn make(
         TextKind::Show(form) => make_show(alloc, form, host),
         TextKind::Check(form) => {
             if_memory(make_report(alloc, form, host_name, names, host, libs))
+        }
+        TextKind::Looks(form) => {
+            if_memory(make_looks(alloc, form, host_name, names, host, libs))
         }
         TextKind::List(how) => if_memory(list_files(alloc, how, host_name, names, host, libs)),
         TextKind::Wanted => make_wanted(alloc, host, libs),

@@ -20,7 +20,7 @@ use Rattle.ps_listing.specs.ListText.{is_refused, list_of}
 use Rattle.ps_listing.specs.LoneText.{has_no_sound, lone_text, lone_units}
 use Rattle.ps_listing.specs.declared.lone.LoneUnit.{LoneUnit}
 use Rattle.ps_report.specs.Reports.{IsPrintedText, IsReport}
-use Rattle.ps_report.specs.Verdicts.{check_status}
+use Rattle.ps_report.specs.Verdicts.{check_status, verdict_name}
 use Rattle.ps_report.specs.WarningLines.{warnings_in}
 use Rattle.ps_report.specs.declared.verdict.Verdict.{Verdict}
 use Rattle.ps_command.specs.declared.lists.Form.{Form}
@@ -79,7 +79,7 @@ IsPrintedReport paths host libs strict json status text =
     (verdict : Verdict) × (warnings : ℕ) × (report : List ℕ)
     × IsReport paths host libs verdict warnings report
     × (status ≡ check_status strict (warnings_in report) verdict)
-    × IsPrintedText json verdict warnings report text
+    × IsPrintedText json verdict (verdict_name host libs verdict) warnings report text
 
 -- by the text of a check of the files at these paths, which ends with this status
 abbrev pub PrintsReport : (Text → List ℕ → Type 0) → Text → List Text → Bool → Bool

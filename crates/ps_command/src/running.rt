@@ -461,7 +461,7 @@ fn print_report<A: Allocator + Copy, O: Write>(
     out: &mut O,
 ) -> Result<(), CommandError<'static>>
     ensures ok { OnOk result ((text : List ℕ) × IsPrintedText json report.now.verdict
-        (vec_len report.now.warnings) (string_bytes report.now.text) text
+        report.now.name (vec_len report.now.warnings) (string_bytes report.now.text) text
         × Appends (O.contents out.old) (O.contents out.new) text) }
     ensures err { IfErr result (λ e. status_of e ≢ 3 → out.new ≡ out.old) }
     ensures usage { IfErr result (λ e. status_of e ≢ 2) }

@@ -13,3 +13,4 @@ mod sentences;
 pub use cases::Case;
 pub use explain::Explanation;
 pub use orders::OrderOf;
+pub use sentences::{SENTENCE_LEN, meaning_of, remedy_of};

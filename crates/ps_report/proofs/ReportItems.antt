@@ -1,11 +1,11 @@
 -- The items of warnings, one after another.
-use Rattle.std.proofs.Common.{◌≡◌, ◌∙◌, ◌<◌, ◌+◌, ◌++◌, ◌∷◌, [], ℕ, Bool, List, ap, false, true, codes, get_or, drop, length, refl, sym, subst, append-nil}
+use Rattle.std.proofs.Common.{◌≡◌, ◌∙◌, ◌<◌, ◌+◌, ◌++◌, ◌∷◌, [], ℕ, Bool, List, Option, ap, false, true, codes, get_or, drop, length, refl, sym, subst, append-nil}
 use Rattle.std.proofs.lemmas.List.{append_assoc, drop_more}
 use Rattle.ps_linkfile.specs.JsonText.{comma_unless}
 use Rattle.ps_warnings.specs.declared.warnings.Warning.{Warning}
 use Rattle.ps_warnings.specs.declared.weight.Weight.{Weight}
 use Rattle.ps_report.specs.JsonStrings.{json_text}
-use Rattle.ps_report.specs.ReportJson.{AreItems, BeginsWith, IsDocument, report_json, warning_json}
+use Rattle.ps_report.specs.ReportJson.{AreItems, AreLooks, BeginsWith, IsDocument, lists_json, looks_json, report_json, warning_json}
 use Rattle.ps_report.specs.declared.verdict.Verdict.{Verdict}
 
 -- the items of these warnings are still to be added
@@ -46,23 +46,32 @@ items_all all first left now none so_far =
     (so_far.rest [] (subst (λ (ws : List Warning). AreItems first ws []) (sym none) refl))
 
 -- a document of these items, by the texts that they stand in
-pub whole_document : (verdict : Verdict) (warnings harmless notes : List Warning)
+pub whole_document : (verdict : Verdict) (name : Option (List ℕ))
+    (warnings harmless notes : List Warning)
     (items calm guesses report items' calm' guesses' report' text : List ℕ)
     → AreItems true warnings items → AreItems true harmless calm → AreItems true notes guesses
     → items' ≡ items → calm' ≡ calm → guesses' ≡ guesses → report' ≡ report
-    → text ≡ report_json verdict items' calm' guesses' report'
-    → IsDocument verdict warnings harmless notes report text
-whole_document verdict warnings harmless notes items calm guesses report items' calm' guesses'
+    → text ≡ report_json verdict name items' calm' guesses' report'
+    → IsDocument verdict name warnings harmless notes report text
+whole_document verdict name warnings harmless notes items calm guesses report items' calm' guesses'
     report' text ws hs ns a b c d is =
     (items, calm, guesses, ws, hs, ns, rw (a, b, c, d) at is)
 
+-- a document of the items alone
+pub whole_looks : (warnings harmless notes : List Warning)
+    (items calm guesses items' calm' guesses' text : List ℕ)
+    → AreItems true warnings items → AreItems true harmless calm → AreItems true notes guesses
+    → items' ≡ items → calm' ≡ calm → guesses' ≡ guesses
+    → text ≡ looks_json items' calm' guesses' → AreLooks warnings harmless notes text
+whole_looks warnings harmless notes items calm guesses items' calm' guesses' text ws hs ns a b c
+    is = (items, calm, guesses, ws, hs, ns, rw (a, b, c) at is)
+
 -- a document begins with its verdict
-pub begins : (verdict : Verdict) (items calm guesses report text : List ℕ)
-    → text ≡ report_json verdict items calm guesses report → BeginsWith text verdict
+pub begins : (verdict : Verdict) (name : Option (List ℕ)) (items calm guesses report text : List ℕ)
+    → text ≡ report_json verdict name items calm guesses report → BeginsWith text verdict name
 unfolding report_json
-begins verdict items calm guesses report text is = (
-  codes ",\"warnings\":[" ++ (items
-      ++ (codes "\n],\"harmless\":[" ++ (calm ++ (codes "\n],\"notes\":[" ++ (guesses
-      ++ (codes "\n],\"report\":\"" ++ (json_text report ++ codes "\"}\n"))))))),
+begins verdict name items calm guesses report text is = (
+  codes "," ++ (lists_json items calm guesses
+      ++ (codes ",\"report\":\"" ++ (json_text report ++ codes "\"}\n"))),
   is,
 )

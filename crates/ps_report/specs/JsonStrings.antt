@@ -33,9 +33,17 @@ json_char c = elim (escape_letter c) [
 unfoldable pub json_text : List ℕ → List ℕ
 json_text text = flat_map json_char (chars text)
 
+-- `"name":"UTIL    ","name_hex":"5554494C20202020"`
+abbrev pub named : List ℕ → List ℕ
+named name = codes "\"name\":\"" ++ (flat_map json_byte name
+    ++ (codes "\",\"name_hex\":\"" ++ (flat_map hex_byte name ++ codes "\"")))
+
 -- `{"name":"UTIL    ","name_hex":"5554494C20202020"}`, or `null` where there is no name
 abbrev pub name_or_null : Option (List ℕ) → List ℕ
 name_or_null None = codes "null"
-name_or_null (Some name) =
-    codes "{\"name\":\"" ++ (flat_map json_byte name
-    ++ (codes "\",\"name_hex\":\"" ++ (flat_map hex_byte name ++ codes "\"}")))
+name_or_null (Some name) = codes "{" ++ (named name ++ codes "}")
+
+-- the same two members, or both `null` where there is no name
+abbrev pub name_members : Option (List ℕ) → List ℕ
+name_members None = codes "\"name\":null,\"name_hex\":null"
+name_members (Some name) = named name

@@ -8,7 +8,7 @@ use Rattle.ps_warnings.specs.declared.weight.Weight.{Weight}
 use Rattle.ps_words.specs.FaultText.{kind_of, name_of, number_of}
 use Rattle.ps_words.specs.declared.fault.Fault.{Fault}
 use Rattle.ps_words.specs.declared.fault.Reason.{Reason}
-use Rattle.ps_report.specs.JsonStrings.{json_text, name_or_null}
+use Rattle.ps_report.specs.JsonStrings.{json_text, name_members, name_or_null}
 use Rattle.ps_report.specs.declared.verdict.Verdict.{Verdict}
 use Rattle.ps_report.specs.declared.verdict.Verdict.TheVariants.{Links, Refused}
 
@@ -32,19 +32,20 @@ place_members f =
     ++ (codes ",\"record\":" ++ (number_or_null f.rec
     ++ (codes ",\"reference\":" ++ number_or_null f.reference))))))
 
--- `{"number":13,"reason":"MissingUnit","kind":null,"file":0,"slot":7,"record":null,"reference":null}`
-abbrev pub fault_json : Fault → List ℕ
-fault_json f = codes "{" ++ (reason_members f.reason
-    ++ (codes "," ++ (place_members f ++ codes "}")))
+-- `{"number":13,"reason":"MissingUnit","kind":null,"file":0,"slot":7,"record":null,"reference":null,
+-- "name":"UTIL    ","name_hex":"5554494C20202020"}`: a fault, with the name of what it is about
+abbrev pub fault_json : Option (List ℕ) → Fault → List ℕ
+fault_json name f = codes "{" ++ (reason_members f.reason
+    ++ (codes "," ++ (place_members f ++ (codes "," ++ (name_members name ++ codes "}")))))
 
 -- `{"links":true,"segments":2,"private_words":4,"blocks":3,"fault":null`, or of files that are
--- refused `{"links":false,"fault":` and the fault
-abbrev pub verdict_json : Verdict → List ℕ
-verdict_json (Links s) =
+-- refused `{"links":false,"fault":` and the fault, with the name of what it is about
+abbrev pub verdict_json : Option (List ℕ) → Verdict → List ℕ
+verdict_json name (Links s) =
     codes "{\"links\":true,\"segments\":"
     ++ (decimal s.segments ++ (codes ",\"private_words\":" ++ (decimal s.private_words
     ++ (codes ",\"blocks\":" ++ (decimal s.blocks ++ codes ",\"fault\":null")))))
-verdict_json (Refused f) = codes "{\"links\":false,\"fault\":" ++ fault_json f
+verdict_json name (Refused f) = codes "{\"links\":false,\"fault\":" ++ fault_json name f
 
 -- `{"weight":"look","path":"UTIL.CODE","segment":{"name":"UTIL    ",
 -- "name_hex":"5554494C20202020"},"record":1,"text":".."}` on a line of its own: the item of what
@@ -64,27 +65,50 @@ AreItems first (w ∷ warnings) items =
     (weight : Weight) × (words : List ℕ) × (rest : List ℕ) × AreItems false warnings rest
     × (items ≡ (comma_unless first ++ warning_json w weight words) ++ rest)
 
--- the document of these items, of warnings, of what is harmless and of notes, and of this text
-unfoldable pub report_json : Verdict → List ℕ → List ℕ → List ℕ → List ℕ → List ℕ
-report_json verdict items harmless notes report =
-    verdict_json verdict ++ (codes ",\"warnings\":[" ++ (items
-    ++ (codes "\n],\"harmless\":[" ++ (harmless ++ (codes "\n],\"notes\":[" ++ (notes
-    ++ (codes "\n],\"report\":\"" ++ (json_text report ++ codes "\"}\n"))))))))
+-- the lists of these items, of warnings, of what is harmless and of notes
+abbrev pub lists_json : List ℕ → List ℕ → List ℕ → List ℕ
+lists_json items harmless notes =
+    codes "\"warnings\":[" ++ (items ++ (codes "\n],\"harmless\":[" ++ (harmless
+    ++ (codes "\n],\"notes\":[" ++ (notes ++ codes "\n]")))))
 
--- the document of this verdict, of what looks wrong, by its weight, and of this text
-abbrev pub IsDocument : Verdict → List Warning → List Warning → List Warning → List ℕ
-    → List ℕ → Type 0
-IsDocument verdict warnings harmless notes report text =
+-- the document of a verdict with the name of what its fault is about, of these items and this text
+unfoldable pub report_json : Verdict → Option (List ℕ) → List ℕ → List ℕ → List ℕ → List ℕ
+    → List ℕ
+report_json verdict name items harmless notes report =
+    verdict_json name verdict ++ (codes "," ++ (lists_json items harmless notes
+    ++ (codes ",\"report\":\"" ++ (json_text report ++ codes "\"}\n"))))
+
+-- the document of this verdict and this name, of what looks wrong, by its weight, and of this text
+abbrev pub IsDocument : Verdict → Option (List ℕ) → List Warning → List Warning → List Warning
+    → List ℕ → List ℕ → Type 0
+IsDocument verdict name warnings harmless notes report text =
     (items : List ℕ) × (calm : List ℕ) × (guesses : List ℕ) × AreItems true warnings items
     × AreItems true harmless calm × AreItems true notes guesses
-    × (text ≡ report_json verdict items calm guesses report)
+    × (text ≡ report_json verdict name items calm guesses report)
 
--- the document of this verdict, these warnings and this text, whatever is harmless or noted
-abbrev pub IsReportJson : Verdict → List Warning → List ℕ → List ℕ → Type 0
-IsReportJson verdict warnings report text =
+-- the document of this verdict and this name, these warnings and this text, whatever is harmless or
+-- noted
+abbrev pub IsReportJson : Verdict → Option (List ℕ) → List Warning → List ℕ → List ℕ → Type 0
+IsReportJson verdict name warnings report text =
     (harmless : List Warning) × (notes : List Warning)
-    × IsDocument verdict warnings harmless notes report text
+    × IsDocument verdict name warnings harmless notes report text
 
--- the document begins with the verdict
-abbrev pub BeginsWith : List ℕ → Verdict → Type 0
-BeginsWith text verdict = (rest : List ℕ) × (text ≡ verdict_json verdict ++ rest)
+-- the document begins with the verdict and the name
+abbrev pub BeginsWith : List ℕ → Verdict → Option (List ℕ) → Type 0
+BeginsWith text verdict name = (rest : List ℕ) × (text ≡ verdict_json name verdict ++ rest)
+
+-- the document of these items alone
+unfoldable pub looks_json : List ℕ → List ℕ → List ℕ → List ℕ
+looks_json items harmless notes = codes "{" ++ (lists_json items harmless notes ++ codes "}\n")
+
+-- the document of what looks wrong alone, by its weight
+abbrev pub AreLooks : List Warning → List Warning → List Warning → List ℕ → Type 0
+AreLooks warnings harmless notes text =
+    (items : List ℕ) × (calm : List ℕ) × (guesses : List ℕ) × AreItems true warnings items
+    × AreItems true harmless calm × AreItems true notes guesses
+    × (text ≡ looks_json items calm guesses)
+
+-- the document of these warnings alone, whatever is harmless or noted
+abbrev pub AreLooksOf : List Warning → List ℕ → Type 0
+AreLooksOf warnings text = (harmless : List Warning) × (notes : List Warning)
+    × AreLooks warnings harmless notes text

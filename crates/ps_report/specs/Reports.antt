@@ -1,12 +1,12 @@
 -- The report of a check of files at these paths, the host's first.
 -- Source: this project's profile.
-use Rattle.std.specs.Prelude.{◌≡◌, ℕ, Bool, true, false, List, ◌∷◌, length}
+use Rattle.std.specs.Prelude.{◌≡◌, ℕ, Bool, true, false, List, ◌∷◌, Option, length}
 use Rattle.ps_resolve.specs.Standing.{NoneStands}
 use Rattle.ps_report.specs.SegmentLines.{segment_lines}
 use Rattle.ps_report.specs.SlotLines.{slot_lines}
 use Rattle.ps_warnings.specs.declared.warnings.Warning.{Warning}
 use Rattle.ps_report.specs.Lists.{HasLists, lacks_host}
-use Rattle.ps_report.specs.ReportJson.{IsReportJson}
+use Rattle.ps_report.specs.ReportJson.{AreLooksOf, IsReportJson}
 use Rattle.ps_report.specs.Verdicts.{IsVerdict, Tells}
 use Rattle.ps_report.specs.WarningLines.{warnings_in}
 use Rattle.ps_report.specs.declared.verdict.Verdict.{Verdict}
@@ -22,9 +22,16 @@ pub record IsReport (paths : List (List ℕ)) (host : List ℕ) (libs : List (Li
   pub segments : NoneStands host libs → slot_lines text ≡ segment_lines paths host libs
   pub lists : lacks_host verdict libs ≡ true → HasLists paths (host ∷ libs) text
 
--- A report as it is printed: its text, or the JSON document that has the verdict, so many warnings
--- and the text.
-abbrev pub IsPrintedText : Bool → Verdict → ℕ → List ℕ → List ℕ → Type 0
-IsPrintedText false verdict warnings report text = text ≡ report
-IsPrintedText true verdict warnings report text = (items : List Warning)
-    × (length items ≡ warnings) × IsReportJson verdict items report text
+-- A report as it is printed: its text, or the JSON document that has the verdict with the name of
+-- what its fault is about, so many warnings and the text.
+abbrev pub IsPrintedText : Bool → Verdict → Option (List ℕ) → ℕ → List ℕ → List ℕ → Type 0
+IsPrintedText false verdict name warnings report text = text ≡ report
+IsPrintedText true verdict name warnings report text = (items : List Warning)
+    × (length items ≡ warnings) × IsReportJson verdict name items report text
+
+-- What looks wrong, one by one, as it is printed: lines of which so many begin with `warning: `, or
+-- the JSON document that has so many warnings.
+abbrev pub ArePrintedLooks : Bool → ℕ → List ℕ → Type 0
+ArePrintedLooks false warnings text = warnings_in text ≡ warnings
+ArePrintedLooks true warnings text = (items : List Warning)
+    × (length items ≡ warnings) × AreLooksOf items text

@@ -2,6 +2,7 @@
 -- Source: this project's profile.
 use Rattle.std.specs.Prelude.{◌≡◌, ℕ, ◌==◌, ◌&&◌, not, if◌then◌else◌, Bool, List, ◌++◌, Option, Some, None, Result, Ok, codes, decimal}
 use Rattle.std.specs.Result.{IsErr}
+use Rattle.ps_named.specs.FaultNames.{fault_name}
 use Rattle.ps_resolve.specs.Parts.{HasItsParts}
 use Rattle.ps_resolve.specs.Sources.{order_of}
 use Rattle.ps_words.specs.FaultText.{fault_text}
@@ -38,6 +39,11 @@ IsRefusal (link.Write why) found = IsErr found
 abbrev pub fault_of : Verdict → Option Fault
 fault_of (Links s) = None
 fault_of (Refused f) = Some f
+
+-- the name of what the fault of a verdict on these files is about
+abbrev pub verdict_name : List ℕ → List (List ℕ) → Verdict → Option (List ℕ)
+verdict_name host libs (Links s) = None
+verdict_name host libs (Refused f) = fault_name host libs f
 
 -- a fault is the first of all
 abbrev pub IsRefused : List ℕ → List (List ℕ) → Type 0

@@ -2,14 +2,14 @@
 ghost use Rattle.std.specs.Prelude.{◌≡◌, ◌++◌, ℕ, IfOk, List, OnOk, Some, string_bytes, true};
 ghost use Rattle.ps_linkfile.specs.JsonText.{comma_unless};
 ghost use Rattle.ps_words.specs.FaultText.{kind_of as kind_of_spec};
-ghost use Rattle.ps_report.specs.ReportJson.{AreItems, BeginsWith, IsDocument, IsReportJson, fault_json, number_or_null, place_members, reason_members, report_json, verdict_json, warning_json};
+ghost use Rattle.ps_report.specs.ReportJson.{AreItems, AreLooks, BeginsWith, IsDocument, IsReportJson, fault_json, lists_json, looks_json, number_or_null, place_members, reason_members, report_json, verdict_json, warning_json};
 
-use crate::json_strings::{JsonText, NameOrNull};
+use crate::json_strings::{JsonText, NameMembers, NameOrNull};
 use crate::report::Report;
 use crate::verdict::Verdict;
 use ps_linkfile::Summary;
 use ps_warnings::{Place, Warning, Weight};
-use ps_words::{Fault, Reason};
+use ps_words::{Fault, Name, Reason};
 use std::alloc::{AllocError, Allocator};
 use std::fmt::{self, Formatter, Write as _};
 
@@ -85,26 +85,27 @@ impl fmt::Display for JsonPlace {
     }
 }
 
-/// A fault with its parts.
+/// A fault with its parts and the name of what it is about.
 #[derive(Clone, Copy)]
-struct JsonFault(Fault);
+struct JsonFault(Fault, Option<Name>);
 
 impl fmt::Display for JsonFault {
-    ghost output = { λ fault. Some (fault_json fault.0) };
+    ghost output = { λ fault. Some (fault_json fault.1 fault.0) };
 
     fn fmt<W: fmt::Write>(&self, f: &mut Formatter<W>) -> fmt::Result {
         let reason = JsonReason(self.0.reason);
         let place = JsonPlace(self.0);
-        write!(f, "{{{reason},{place}}}")
+        let name = NameMembers(self.1);
+        write!(f, "{{{reason},{place},{name}}}")
     }
 }
 
-/// What a document begins with: the verdict.
+/// What a document begins with: the verdict, with the name of what its fault is about.
 #[derive(Clone, Copy)]
-struct JsonVerdict(Verdict);
+struct JsonVerdict(Verdict, Option<Name>);
 
 impl fmt::Display for JsonVerdict {
-    ghost output = { λ verdict. Some (verdict_json verdict.0) };
+    ghost output = { λ verdict. Some (verdict_json verdict.1 verdict.0) };
 
     fn fmt<W: fmt::Write>(&self, f: &mut Formatter<W>) -> fmt::Result {
         match self.0 {
@@ -120,7 +121,7 @@ impl fmt::Display for JsonVerdict {
                 )
             }
             Verdict::Refused(fault) => {
-                let fault = JsonFault(fault);
+                let fault = JsonFault(fault, self.1);
                 write!(f, "{{\"links\":false,\"fault\":{fault}")
             }
         }
@@ -192,29 +193,75 @@ fn warning_items<A: Allocator + Copy>(
     Ok(text)
 }
 
+/// The items of what looks wrong, by its weight.
+#[derive(Drop)]
+struct ItemTexts<A: Allocator> {
+    warnings: String<A>,
+    harmless: String<A>,
+    notes: String<A>,
+}
+
+/// The items of what looks wrong in a report.
+fn items_of<A: Allocator + Copy>(
+    alloc: A,
+    report: &Report<'_, A>,
+) -> Result<ItemTexts<A>, AllocError>
+    ensures warnings { IfOk result (λ items. AreItems true report.now.warnings.items
+        (string_bytes items.warnings)) }
+    ensures harmless { IfOk result (λ items. AreItems true report.now.harmless.items
+        (string_bytes items.harmless)) }
+    ensures notes { IfOk result (λ items. AreItems true report.now.notes.items
+        (string_bytes items.notes)) }
+{
+    let warnings = warning_items(alloc, report.warnings.as_slice())?;
+    let harmless = warning_items(alloc, report.harmless.as_slice())?;
+    let notes = warning_items(alloc, report.notes.as_slice())?;
+    Ok(ItemTexts {
+        warnings,
+        harmless,
+        notes,
+    })
+}
+
 impl<A: Allocator + Copy> Report<'_, A> {
     /// The report as one JSON document: whether the files are linked, with the summary or with the
-    /// fault and its parts; the warnings, what is harmless, and the notes, each with its weight, the
-    /// path, the segment and the record where something looks wrong, and what; and the text for a
-    /// person. Returns an error where memory was refused.
+    /// fault, its parts and the name of what it is about; the warnings, what is harmless, and the
+    /// notes, each with its weight, the path, the segment and the record where something looks wrong,
+    /// and what; and the text for a person. Returns an error where memory was refused.
     /// Source: RFC 8259; the document is this project's profile.
     pub fn json(&self, alloc: A) -> Result<String<A>, AllocError>
-        ensures verdict { IfOk result (λ text. BeginsWith (string_bytes text) self.now.verdict) }
-        ensures document { IfOk result (λ text. IsReportJson self.now.verdict
+        ensures verdict { IfOk result (λ text. BeginsWith (string_bytes text) self.now.verdict
+            self.now.name) }
+        ensures document { IfOk result (λ text. IsReportJson self.now.verdict self.now.name
             self.now.warnings.items (string_bytes self.now.text) (string_bytes text)) }
-        ensures whole { IfOk result (λ text. IsDocument self.now.verdict
+        ensures whole { IfOk result (λ text. IsDocument self.now.verdict self.now.name
             self.now.warnings.items self.now.harmless.items self.now.notes.items
             (string_bytes self.now.text) (string_bytes text)) }
     {
-        let items = warning_items(alloc, self.warnings.as_slice())?;
-        let harmless = warning_items(alloc, self.harmless.as_slice())?;
-        let notes = warning_items(alloc, self.notes.as_slice())?;
+        let texts = items_of(alloc, self)?;
         let items = Items {
-            warnings: items.as_str(),
-            harmless: harmless.as_str(),
-            notes: notes.as_str(),
+            warnings: texts.warnings.as_str(),
+            harmless: texts.harmless.as_str(),
+            notes: texts.notes.as_str(),
         };
-        document(alloc, self.verdict, items, self.text.as_str())
+        let verdict = JsonVerdict(self.verdict, self.name);
+        document(alloc, verdict, items, self.text.as_str())
+    }
+
+    /// What looks wrong, one by one, as one JSON document: the lists of warnings, of what is harmless
+    /// and of notes that `json` has. Returns an error where memory was refused.
+    /// Source: RFC 8259; the document is this project's profile.
+    pub fn looks_json(&self, alloc: A) -> Result<String<A>, AllocError>
+        ensures { IfOk result (λ text. AreLooks self.now.warnings.items self.now.harmless.items
+            self.now.notes.items (string_bytes text)) }
+    {
+        let texts = items_of(alloc, self)?;
+        let items = Items {
+            warnings: texts.warnings.as_str(),
+            harmless: texts.harmless.as_str(),
+            notes: texts.notes.as_str(),
+        };
+        looks_document(alloc, items)
     }
 }
 
@@ -226,26 +273,44 @@ struct Items<'t> {
     notes: &'t str,
 }
 
-/// A document of these items and this text.
+impl fmt::Display for Items<'_> {
+    ghost output = { λ items. Some (lists_json items.warnings.now items.harmless.now
+        items.notes.now) };
+
+    fn fmt<W: fmt::Write>(&self, f: &mut Formatter<W>) -> fmt::Result {
+        let Items {
+            warnings,
+            harmless,
+            notes,
+        } = *self;
+        write!(
+            f,
+            "\"warnings\":[{warnings}\n],\"harmless\":[{harmless}\n],\"notes\":[{notes}\n]"
+        )
+    }
+}
+
+/// A document of this verdict, these items and this text.
 #[tactic(auto, unfolding(crate::specs::ReportJson::report_json))]
 fn document<A: Allocator>(
     alloc: A,
-    verdict: Verdict,
+    verdict: JsonVerdict,
     items: Items<'_>,
     report: &str,
 ) -> Result<String<A>, AllocError>
-    ensures { IfOk result (λ text. string_bytes text ≡ report_json verdict
+    ensures { IfOk result (λ text. string_bytes text ≡ report_json verdict.0 verdict.1
         items.entry.warnings.now items.entry.harmless.now items.entry.notes.now
         report.now) }
 {
-    let Items {
-        warnings,
-        harmless,
-        notes,
-    } = items;
-    let verdict = JsonVerdict(verdict);
     let report = JsonText(report);
-    format!(in alloc;
-        "{verdict},\"warnings\":[{warnings}\n],\"harmless\":[{harmless}\n],\"notes\":[{notes}\n],\"report\":\"{report}\"}}\n"
-    )
+    format!(in alloc; "{verdict},{items},\"report\":\"{report}\"}}\n")
+}
+
+/// A document of these items alone.
+#[tactic(auto, unfolding(crate::specs::ReportJson::looks_json))]
+fn looks_document<A: Allocator>(alloc: A, items: Items<'_>) -> Result<String<A>, AllocError>
+    ensures { IfOk result (λ text. string_bytes text ≡ looks_json items.entry.warnings.now
+        items.entry.harmless.now items.entry.notes.now) }
+{
+    format!(in alloc; "{{{items}}}\n")
 }

@@ -4,7 +4,7 @@ ghost use Rattle.std.specs.Fmt.{WritesOnOk, digit_glyph};
 ghost use Rattle.std.specs.List.{flat_map};
 ghost use Rattle.ps_linkfile.specs.JsonText.{json_byte};
 ghost use Rattle.ps_linkfile.specs.Lines.{hex_byte, hex_digit as capital_digit_spec};
-ghost use Rattle.ps_report.specs.JsonStrings.{control_escape, escape_letter as escape_letter_spec, json_char, json_text, name_or_null, other_char};
+ghost use Rattle.ps_report.specs.JsonStrings.{control_escape, escape_letter as escape_letter_spec, json_char, json_text, name_members, name_or_null, named, other_char};
 
 use ps_words::Name;
 use std::fmt::{self, Formatter, Write as _};
@@ -188,17 +188,48 @@ impl fmt::Display for HexBytes {
     }
 }
 
+/// The members of a name: as map and show print it, and all its bytes.
+#[derive(Clone, Copy)]
+struct NamePair(Name);
+
+impl fmt::Display for NamePair {
+    ghost output = { λ name. Some (named name.0) };
+
+    fn fmt<W: fmt::Write>(&self, f: &mut Formatter<W>) -> fmt::Result {
+        let shown = NameBytes(self.0);
+        let hex = HexBytes(self.0);
+        write!(f, "\"name\":\"{shown}\",\"name_hex\":\"{hex}\"")
+    }
+}
+
 impl fmt::Display for NameOrNull {
     ghost output = { λ name. Some (name_or_null name.0) };
 
     fn fmt<W: fmt::Write>(&self, f: &mut Formatter<W>) -> fmt::Result {
         match self.0 {
             Some(name) => {
-                let shown = NameBytes(name);
-                let hex = HexBytes(name);
-                write!(f, "{{\"name\":\"{shown}\",\"name_hex\":\"{hex}\"}}")
+                let members = NamePair(name);
+                write!(f, "{{{members}}}")
             }
             None => f.write_str("null"),
+        }
+    }
+}
+
+/// The members of a name, both `null` where there is none.
+#[derive(Clone, Copy)]
+pub(crate) struct NameMembers(pub(crate) Option<Name>);
+
+impl fmt::Display for NameMembers {
+    ghost output = { λ name. Some (name_members name.0) };
+
+    fn fmt<W: fmt::Write>(&self, f: &mut Formatter<W>) -> fmt::Result {
+        match self.0 {
+            Some(name) => {
+                let members = NamePair(name);
+                write!(f, "{members}")
+            }
+            None => f.write_str("\"name\":null,\"name_hex\":null"),
         }
     }
 }

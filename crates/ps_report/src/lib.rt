@@ -7,6 +7,8 @@ mod findings;
 mod json;
 mod json_strings;
 mod lines;
+mod looks;
+mod names;
 mod overview;
 mod report;
 mod slot_lines;

@@ -5,15 +5,17 @@ ghost use Rattle.ps_resolve.specs.Standing.{NoneStands};
 ghost use Rattle.ps_report.specs.SegmentLines.{segment_lines};
 ghost use Rattle.ps_report.specs.SlotLines.{AddsSlotLines, slot_lines};
 ghost use Rattle.ps_report.specs.Lists.{HasLists, lacks_host};
-ghost use Rattle.ps_report.specs.Verdicts.{IsRefused, IsVerdict, Tells, check_status, verdict_line};
+ghost use Rattle.ps_report.specs.Verdicts.{IsRefused, IsVerdict, Tells, check_status, verdict_line, verdict_name as verdict_name_spec};
 ghost use Rattle.ps_report.specs.WarningLines.{AddsWarnings, HasWarning, other_lines, warnings_in};
 
 use crate::alone::lists_without_host;
 use crate::findings::{Findings, findings_of};
 use crate::lines::{add_looks, add_other_lines};
+use crate::names::verdict_name;
 use crate::verdict::{Verdict, verdict_of};
 use ps_laws::first_of_all;
 use ps_warnings::{Looks, Warning};
+use ps_words::Name;
 use std::alloc::{AllocError, Allocator};
 use std::fmt::Write as _;
 
@@ -24,6 +26,8 @@ use std::fmt::Write as _;
 pub struct Report<'a, A: Allocator> {
     /// Whether the files are linked.
     pub verdict: Verdict,
+    /// The name of what the fault is about, where the files are refused and it has one.
+    pub name: Option<Name>,
     /// What looks wrong and is no fault, and is not harmless.
     pub warnings: Vec<Warning<'a>, A>,
     /// What looks wrong and is harmless.
@@ -74,6 +78,8 @@ pub fn check<'a, A: Allocator + Copy>(
         ↔ IsRefused host.now (contents libs.now)) }
     ensures warned { IfOk result (λ r. (check_status true (vec_len r.warnings) r.verdict ≡ 1)
         ↔ (HasWarning (string_bytes r.text) ⊎ IsRefused host.now (contents libs.now))) }
+    ensures name { IfOk result (λ r. r.name
+        ≡ verdict_name_spec host.now (contents libs.now) r.verdict) }
 
     // Each warning has its line, and no other line begins with `warning: `.
     ensures counted { IfOk result (λ r. warnings_in (string_bytes r.text) ≡ vec_len r.warnings) }
@@ -93,6 +99,7 @@ pub fn check<'a, A: Allocator + Copy>(
 {
     first_of_all();
     let verdict = verdict_of(alloc, host, libs)?;
+    let name = verdict_name(host, libs, verdict);
     let fault = verdict.fault();
     let findings = findings_of(alloc, host_path, paths, host, libs, fault)?;
     let Findings {
@@ -121,6 +128,7 @@ pub fn check<'a, A: Allocator + Copy>(
     )?;
     Ok(Report {
         verdict,
+        name,
         warnings,
         harmless,
         notes,

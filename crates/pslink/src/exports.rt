@@ -7,15 +7,16 @@ ghost use Rattle.ps_calls.specs.Libraries.{split};
 ghost use Rattle.ps_calls.specs.Answers.{bare, closed_text, refusal_fault, IsStatus, IsTextStatus};
 ghost use Rattle.ps_calls.specs.Checks.{HasItsLengths, IsCheckable};
 ghost use Rattle.ps_calls.specs.CheckAnswers.{bare_check, IsCheckStatus};
-ghost use Rattle.ps_calls.specs.Names.{closed, fault_name, release, status_text};
+ghost use Rattle.ps_calls.specs.Names.{closed, fault_meaning, fault_name, fault_remedy, release, status_text};
 ghost use Rattle.ps_calls.specs.Rooms.{RoomBeginsWith};
 ghost use Rattle.ps_calls.specs.Kinds.{text_kind as text_kind_spec, units_kind as units_kind_spec};
 ghost use Rattle.ps_calls.specs.Calls.{IsAnswered, Links, LinkNeeds, Maps, MapNeeds, Refuses, RefusesToShow, Reports, ReportNeeds, Shows, ShowNeeds};
 
 use ps_calls::{
     Answer, CheckAnswer, DONE, FAULT_TEXT_MAX, LIBRARIES_IN_PLACE, LINKED_MAX, NO_MEMORY, REFUSED,
-    RELEASE_NUMBER, TOO_SMALL, WRONG_LENGTHS, WRONG_NAMES, check, link, map, put_fault,
-    put_fault_name, put_release, put_status_text, show, text, text_kind, units_kind,
+    RELEASE_NUMBER, SENTENCE_MAX, TOO_SMALL, WRONG_LENGTHS, WRONG_NAMES, check, link, map,
+    put_fault, put_fault_meaning, put_fault_name, put_fault_remedy, put_release, put_status_text,
+    show, text, text_kind, units_kind,
 };
 use std::alloc::Global;
 
@@ -196,7 +197,7 @@ pub extern "C" fn pslink_check_nonnull(
 /// Puts a text of a host and its libraries in `out`, as the program prints it, and answers how it
 /// went.
 ///
-/// `what` is the number of the text, `TEXT_MAP` to `TEXT_UNITS`, and `form` that of its form, `LINES`
+/// `what` is the number of the text, `TEXT_MAP` to `TEXT_LOOKS`, and `form` that of its form, `LINES`
 /// or `JSON`. The other inputs are those of `pslink_check_nonnull`; of a text in which the files have
 /// no names, `names` and `name_lengths` are not looked at. Answers `DONE`, and `out` then begins with
 /// the text; `WRONG_TEXT` where there is no such text, or it has no such form; `WRONG_LENGTHS` and
@@ -292,6 +293,35 @@ pub extern "C" fn pslink_fault_name_nonnull(fault: u8, out: &mut [u8]) -> usize
     ensures short { length out.old < result → out.new ≡ out.old }
 {
     put_fault_name(fault, out)
+}
+
+/// Puts what is wrong, where files are refused for the fault of this number, in `out`, as
+/// `pslink_fault_name_nonnull` a name: a sentence of ASCII, of at most `SENTENCE_MAX` bytes with the
+/// closing 0.
+/// Source: this project's profile.
+#[unsafe(no_mangle)]
+pub extern "C" fn pslink_fault_meaning_nonnull(fault: u8, out: &mut [u8]) -> usize
+    ensures size { result ≡ length (closed (fault_meaning fault)) }
+    ensures most { result ≤ SENTENCE_MAX }
+    ensures text { result ≤ length out.old
+        → RoomBeginsWith (closed (fault_meaning fault)) out.old out.new }
+    ensures short { length out.old < result → out.new ≡ out.old }
+{
+    put_fault_meaning(fault, out)
+}
+
+/// Puts what to do about the fault of this number in `out`, as `pslink_fault_meaning_nonnull` what is
+/// wrong: sentences in which `the file` is the file at fault.
+/// Source: this project's profile.
+#[unsafe(no_mangle)]
+pub extern "C" fn pslink_fault_remedy_nonnull(fault: u8, out: &mut [u8]) -> usize
+    ensures size { result ≡ length (closed (fault_remedy fault)) }
+    ensures most { result ≤ SENTENCE_MAX }
+    ensures text { result ≤ length out.old
+        → RoomBeginsWith (closed (fault_remedy fault)) out.old out.new }
+    ensures short { length out.old < result → out.new ≡ out.old }
+{
+    put_fault_remedy(fault, out)
 }
 
 /// Puts what a status says in `out`, as `pslink_fault_name_nonnull` a name. Returns 0, and writes

@@ -9,14 +9,14 @@
 mod exports;
 
 pub use exports::{
-    pslink_check_nonnull, pslink_fault_name_nonnull, pslink_fault_text_nonnull,
-    pslink_link_nonnull, pslink_map_nonnull, pslink_release_nonnull, pslink_release_number,
-    pslink_show_nonnull, pslink_status_text_nonnull, pslink_text_nonnull, pslink_units_nonnull,
-    pslink_version,
+    pslink_check_nonnull, pslink_fault_meaning_nonnull, pslink_fault_name_nonnull,
+    pslink_fault_remedy_nonnull, pslink_fault_text_nonnull, pslink_link_nonnull,
+    pslink_map_nonnull, pslink_release_nonnull, pslink_release_number, pslink_show_nonnull,
+    pslink_status_text_nonnull, pslink_text_nonnull, pslink_units_nonnull, pslink_version,
 };
 pub use ps_calls::{
     Answer, CheckAnswer, DONE, FAULT_TEXT_MAX, JSON, LIBRARIES_IN_PLACE, LINES, LINKED_MAX,
-    NO_MEMORY, REFUSED, RELEASE_NUMBER, TEXT_CHECK, TEXT_LIST, TEXT_MAP, TEXT_REFERENCES,
-    TEXT_SHOW, TEXT_UNITS, TOO_SMALL, UNITS_HAD, UNITS_WANTED, WRONG_LENGTHS, WRONG_NAMES,
-    WRONG_TEXT, refusals_tell_their_faults,
+    NO_MEMORY, REFUSED, RELEASE_NUMBER, SENTENCE_MAX, TEXT_CHECK, TEXT_LIST, TEXT_LOOKS, TEXT_MAP,
+    TEXT_REFERENCES, TEXT_SHOW, TEXT_UNITS, TOO_SMALL, UNITS_HAD, UNITS_WANTED, WRONG_LENGTHS,
+    WRONG_NAMES, WRONG_TEXT, refusals_tell_their_faults,
 };

@@ -1,7 +1,7 @@
 //! What a fault is in these files, and what to do about it: the sentences of the fault, or others
 //! where the files say more.
 use crate::cases::Case;
-use crate::sentences::{remedy_of, wrong_of};
+use crate::sentences::{meaning_of, remedy_of};
 use ps_codefile::kinds::{FIRST_INTRINSIC, LAST_INTRINSIC, LINKED};
 use ps_filetype::{FileType, Remedy, ShownPath, is_swapped};
 use ps_warnings::{Inputs, dead_look};
@@ -13,7 +13,7 @@ pub(super) fn wrong_in(case: &Case<'_, '_>) -> &'static str {
     match case.fault.reason {
         Reason::MissingUnit => wrong_where_missing(case),
         Reason::NativeProcedure => wrong_where_native(case),
-        reason => wrong_of(reason),
+        reason => meaning_of(reason.number()),
     }
 }
 
@@ -33,7 +33,7 @@ fn wrong_where_native(case: &Case<'_, '_>) -> &'static str {
     } else if is_exchanged(case) {
         "The bytes of the code are exchanged in pairs."
     } else {
-        wrong_of(Reason::NativeProcedure)
+        meaning_of(Reason::NativeProcedure.number())
     }
 }
 
@@ -53,7 +53,7 @@ fn is_exchanged(case: &Case<'_, '_>) -> bool {
 /// What to do. Its text is a line.
 #[derive(Clone, Copy)]
 pub(super) enum Advice<'a> {
-    /// A sentence, in which an `@` stands for the path.
+    /// Sentences, in which the path has the place of `the file`.
     Sentence { text: &'static str, path: &'a str },
     /// What to do with the file that is no code file.
     OfType(Remedy<'a>),
@@ -74,16 +74,7 @@ impl<'a> Advice<'a> {
 impl fmt::Display for Advice<'_> {
     fn fmt<W: fmt::Write>(&self, f: &mut Formatter<W>) -> fmt::Result {
         match *self {
-            Advice::Sentence { text, path } => {
-                for c in text.chars() {
-                    if c == '@' {
-                        write!(f, "{}", ShownPath(path))?;
-                    } else {
-                        f.write_char(c)?;
-                    }
-                }
-                Ok(())
-            }
+            Advice::Sentence { text, path } => write_of_file(f, text, path),
             Advice::OfType(remedy) => write!(f, "{remedy}"),
             Advice::Exchange { host, library } => {
                 let host = ShownPath(host);
@@ -97,6 +88,25 @@ impl fmt::Display for Advice<'_> {
     }
 }
 
+/// Writes sentences with the path in place of `the file`.
+fn write_of_file<W: fmt::Write>(f: &mut Formatter<W>, text: &str, path: &str) -> fmt::Result {
+    let path = ShownPath(path);
+    let mut rest = text;
+    if let Some(after) = text.strip_prefix("The file") {
+        write!(f, "{path}")?;
+        rest = after;
+    }
+    let mut first = true;
+    for part in rest.split("the file") {
+        if !first {
+            write!(f, "{path}")?;
+        }
+        f.write_str(part)?;
+        first = false;
+    }
+    Ok(())
+}
+
 /// What to do about the fault.
 pub(super) fn remedy_in<'a>(case: &Case<'_, 'a>) -> Advice<'a> {
     let text = match case.fault.reason {
@@ -106,7 +116,7 @@ pub(super) fn remedy_in<'a>(case: &Case<'_, 'a>) -> Advice<'a> {
         Reason::MissingUnit => return remedy_of_missing(case),
         Reason::NativeProcedure => return remedy_of_native(case),
         Reason::NotAUnit { kind } => remedy_of_kind(kind),
-        reason => remedy_of(reason),
+        reason => remedy_of(reason.number()),
     };
     let path = case.inputs.path(case.fault.file);
     Advice::Sentence { text, path }
@@ -116,24 +126,24 @@ pub(super) fn remedy_in<'a>(case: &Case<'_, 'a>) -> Advice<'a> {
 fn remedy_of_native<'a>(case: &Case<'_, 'a>) -> Advice<'a> {
     let path = case.inputs.path(case.fault.file);
     if is_dead(case) {
-        let text = remedy_of(Reason::Truncated);
+        let text = remedy_of(Reason::Truncated.number());
         return Advice::Sentence { text, path };
     }
     if is_exchanged(case) {
         let file_type = FileType::Swapped;
         return Advice::OfType(Remedy { file_type, path });
     }
-    let text = remedy_of(Reason::NativeProcedure);
+    let text = remedy_of(Reason::NativeProcedure.number());
     Advice::Sentence { text, path }
 }
 
 /// What to do about a segment of this kind that is no unit.
 fn remedy_of_kind(kind: u16) -> &'static str {
     match kind {
-        LINKED => "@ is linked already: leave it out.",
+        LINKED => "The file is linked already: leave it out.",
         FIRST_INTRINSIC..=LAST_INTRINSIC =>
-            "Compile it as a regular unit of II.0, or give the library of such a unit before @.",
-        _ => "Give the unit's library before @, or remove that segment from @.",
+            "Compile it as a regular unit of II.0, or give the library of such a unit before the file.",
+        _ => "Give the unit's library before the file, or remove that segment from the file.",
     }
 }
 
@@ -164,7 +174,7 @@ fn remedy_of_order<'a>(case: &Case<'_, 'a>) -> Advice<'a> {
     match case.inputs.file_type(0) {
         FileType::Swapped => Advice::of_file(case.inputs, 0),
         _ => Advice::Sentence {
-            text: "Compile @ for the machine of the host.",
+            text: "Compile the file for the machine of the host.",
             path: case.inputs.path(case.fault.file),
         },
     }
@@ -179,7 +189,7 @@ fn remedy_of_missing<'a>(case: &Case<'_, 'a>) -> Advice<'a> {
         }
     }
     Advice::Sentence {
-        text: "Give a library that has it, after @.",
+        text: "Give a library that has it, after the file.",
         path: inputs.path(0),
     }
 }

@@ -41,5 +41,5 @@ returns-clause-found c =
       c.in_ok-put.ensures.text.0,
       found.size ∙ ap length (sym same),
       rw (found.verdict, found.warnings) found.ends_with,
-      rw found.verdict (found.name ∙ c.verdict_name-name.ensures),
+      rw found.verdict (found.name ∙ told.name),
     )

@@ -4,10 +4,10 @@ use Rattle.ps_calls.proofs.making.make_report.Goals as goal
 pub returns : goal.returns
 returns c =
     let told = c.in_ok-report.ensures in
-    report_printed c.args.form _ _ _ _ _ _ c.printed.result record {
+    report_printed c.args.form _ _ _ _ _ _ _ c.printed.result record {
       right = told.verdict;
       line = told.line;
       counted = told.counted;
       segments = told.segments;
       lists = told.lists;
-    } c.printed.ensures
+    } told.name c.printed.ensures

@@ -1,6 +1,6 @@
-use Rattle.std.proofs.Common.{◌≤◌, ◌∙◌, ◌∷◌, ◌==◌, ◌&&◌, ℕ, Bool, List, Bor, true, false, ap, arith, map, not, string_bytes, subst, sym, vec_len}
+use Rattle.std.proofs.Common.{◌≤◌, ◌∙◌, ◌∷◌, ◌==◌, ◌&&◌, ℕ, Bool, List, Option, Bor, true, false, ap, arith, map, not, string_bytes, subst, sym, vec_len}
 use Rattle.std.specs.Prelude.{if◌then◌else◌}
-use Rattle.ps_report.specs.Reports.{IsReport}
+use Rattle.ps_report.specs.Reports.{IsPrintedText, IsReport}
 use Rattle.ps_report.specs.Verdicts.{check_status}
 use Rattle.ps_report.specs.declared.verdict.Verdict.{Verdict}
 use Rattle.ps_report.specs.declared.verdict.Verdict.TheVariants.{Links, Refused}
@@ -54,7 +54,8 @@ returns-clause-ok g c =
             named is,
         c.status.ensures ∙ ap (λ (n : ℕ). check_status c.args.strict n r.verdict)
             (sym told.counted),
-        printed.1,
+        subst (λ (name : Option (List ℕ)). IsPrintedText c.args.json r.verdict name n report printed.0)
+            told.name printed.1,
       ),
       printed.2,
     )

@@ -1,0 +1,160 @@
+//! What looks wrong in files, read back from the document of the library.
+
+use crate::Name;
+use std::fmt;
+
+/// How much a [`Look`] weighs. Its text is the word that the report has. Since 0.2.0.
+#[derive(Clone, Copy, Debug, PartialEq, Eq, Hash)]
+#[non_exhaustive]
+pub enum Weight {
+    /// A warning: it looks wrong.
+    Look,
+    /// A warning: the file looks damaged.
+    Damaged,
+    /// It looks wrong and is harmless.
+    Harmless,
+    /// The P-code makes one guess.
+    Note,
+}
+
+impl Weight {
+    const ALL: [Weight; 4] = [
+        Weight::Look,
+        Weight::Damaged,
+        Weight::Harmless,
+        Weight::Note,
+    ];
+
+    fn word(self) -> &'static str {
+        match self {
+            Weight::Look => "look",
+            Weight::Damaged => "damaged",
+            Weight::Harmless => "harmless",
+            Weight::Note => "note",
+        }
+    }
+}
+
+impl fmt::Display for Weight {
+    fn fmt(&self, f: &mut fmt::Formatter<'_>) -> fmt::Result {
+        f.write_str(self.word())
+    }
+}
+
+/// What looks wrong in a file and is no fault. Since 0.2.0.
+#[derive(Clone, Debug, PartialEq, Eq)]
+#[non_exhaustive]
+pub struct Look {
+    /// How much it weighs.
+    pub weight: Weight,
+    /// What the report calls the file.
+    pub path: String,
+    /// The name of the segment that it is in, eight bytes as the file has them.
+    pub segment: Option<Name>,
+    /// The index of the record in the segment's link information, from 0.
+    pub record: Option<usize>,
+    /// What is said of it.
+    pub text: String,
+}
+
+/// What is left of a line of the document.
+struct Line<'t>(&'t str);
+
+impl Line<'_> {
+    /// Goes past these characters, if they come next.
+    fn skip(&mut self, text: &str) -> Option<()> {
+        self.0 = self.0.strip_prefix(text)?;
+        Some(())
+    }
+
+    fn next(&mut self) -> Option<char> {
+        let mut chars = self.0.chars();
+        let c = chars.next()?;
+        self.0 = chars.as_str();
+        Some(c)
+    }
+
+    /// The rest of a string, whose first quote is read.
+    fn text(&mut self) -> Option<String> {
+        let mut text = String::new();
+        loop {
+            match self.next()? {
+                '"' => return Some(text),
+                '\\' => text.push(self.escaped()?),
+                c => text.push(c),
+            }
+        }
+    }
+
+    /// The character after a backslash.
+    fn escaped(&mut self) -> Option<char> {
+        match self.next()? {
+            'n' => Some('\n'),
+            'u' => {
+                let digits = self.0.get(..4)?;
+                self.0 = self.0.get(4..)?;
+                char::from_u32(u32::from_str_radix(digits, 16).ok()?)
+            }
+            c => Some(c),
+        }
+    }
+
+    /// A number, or `None` in place of `null`.
+    fn number(&mut self) -> Option<Option<usize>> {
+        if self.skip("null").is_some() {
+            return Some(None);
+        }
+        let end = self.0.find(|c: char| !c.is_ascii_digit())?;
+        let number = self.0.get(..end)?.parse().ok()?;
+        self.0 = self.0.get(end..)?;
+        Some(Some(number))
+    }
+
+    /// The bytes of a name, or `None` in place of `null`.
+    fn name(&mut self) -> Option<Option<Name>> {
+        if self.skip("null").is_some() {
+            return Some(None);
+        }
+        self.skip("{\"name\":\"")?;
+        self.text()?;
+        self.skip(",\"name_hex\":\"")?;
+        let digits = self.text()?;
+        self.skip("}")?;
+        let mut name = [0; 8];
+        for (index, byte) in name.iter_mut().enumerate() {
+            *byte = u8::from_str_radix(digits.get(2 * index..2 * index + 2)?, 16).ok()?;
+        }
+        Some(Some(name))
+    }
+
+    fn look(mut self) -> Option<Look> {
+        self.skip("{\"weight\":\"")?;
+        let word = self.text()?;
+        let weight = Weight::ALL.into_iter().find(|one| one.word() == word)?;
+        self.skip(",\"path\":\"")?;
+        let path = self.text()?;
+        self.skip(",\"segment\":")?;
+        let segment = self.name()?;
+        self.skip(",\"record\":")?;
+        let record = self.number()?;
+        self.skip(",\"text\":\"")?;
+        let text = self.text()?;
+        self.skip("}")?;
+        Some(Look {
+            weight,
+            path,
+            segment,
+            record,
+            text,
+        })
+    }
+}
+
+/// The items of a document, each in a line of its own; `None` where one is none.
+pub(crate) fn looks_in(document: &str) -> Option<Vec<Look>> {
+    document
+        .lines()
+        .filter(|line| line.starts_with("{\"weight\":"))
+        .map(|line| Line(line).look())
+        .collect()
+}

@@ -1,0 +1,39 @@
+//! What a fault is and what to do about it, by its number: sentences that no file decides.
+ghost use Rattle.std.specs.Prelude.{◌≡◌, ◌≤◌, ◌<◌, length};
+ghost use Rattle.ps_calls.specs.Names.{closed, fault_meaning, fault_remedy};
+ghost use Rattle.ps_calls.specs.Rooms.{RoomBeginsWith};
+
+use crate::names::put_closed;
+use ps_explained::{meaning_of, remedy_of};
+
+/// How many bytes a sentence of a fault has at most, the closing 0 counted.
+/// Source: this project's profile.
+pub const SENTENCE_MAX: usize = 256;
+
+/// Puts what is wrong, where files are refused for the fault of this number, in the room where it
+/// fits, with a closing 0, and writes nothing where it does not: a sentence of ASCII. Returns how
+/// many bytes it has, the closing 0 counted, at most `SENTENCE_MAX`; 0 where there is no such fault,
+/// and then writes nothing.
+/// Source: this project's profile.
+pub fn put_fault_meaning(number: u8, room: &mut [u8]) -> usize
+    ensures size { result ≡ length (closed (fault_meaning number)) }
+    ensures most { result ≤ SENTENCE_MAX }
+    ensures text { result ≤ length room.old
+        → RoomBeginsWith (closed (fault_meaning number)) room.old room.new }
+    ensures short { length room.old < result → room.new ≡ room.old }
+{
+    put_closed::<SENTENCE_MAX>(meaning_of(number), room)
+}
+
+/// Puts what to do about the fault of this number in the room, as `put_fault_meaning` what is wrong:
+/// sentences in which `the file` is the file at fault.
+/// Source: this project's profile.
+pub fn put_fault_remedy(number: u8, room: &mut [u8]) -> usize
+    ensures size { result ≡ length (closed (fault_remedy number)) }
+    ensures most { result ≤ SENTENCE_MAX }
+    ensures text { result ≤ length room.old
+        → RoomBeginsWith (closed (fault_remedy number)) room.old room.new }
+    ensures short { length room.old < result → room.new ≡ room.old }
+{
+    put_closed::<SENTENCE_MAX>(remedy_of(number), room)
+}
