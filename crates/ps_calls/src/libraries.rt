@@ -12,7 +12,8 @@ use std::alloc::{AllocError, Global};
 /// Source: this project's profile.
 pub const LIBRARIES_IN_PLACE: usize = 256;
 
-/// How many libraries are few: a call with no more of them has a smaller table of them.
+/// How many libraries are few: a call with no more of them has a smaller table of them, and one with
+/// a single library has the smallest.
 pub(crate) const FEW_LIBRARIES: usize = 16;
 
 /// The libraries of a call, each as a slice, of which so many have a place on the stack.

@@ -29,6 +29,7 @@ impl<'a> Model for Dict<'a> {
     ghost invariant = { λ d. 512 ≤ length d.file.now };
 }
 
+#[inline(always)]
 fn name_of(file: &[u8], slot: usize) -> Name
     requires in_range { slot < 16 }
     requires whole { 512 ≤ length file.now }
@@ -128,8 +129,10 @@ impl<'a> Dict<'a> {
         self.order
     }
 
-    /// What the dictionary says of a slot.
+    /// What the dictionary says of a slot. It stands in the body of its caller, so that only what is
+    /// looked at is read.
     /// Source: UCSD Pascal II.0 manual, code file format.
+    #[inline(always)]
     pub fn entry(&self, slot: u8) -> Entry
         requires { slot < 16 }
         ensures { result ≡ entry_at self.now.order self.now.file slot }
@@ -172,6 +175,7 @@ impl<'a> Dict<'a> {
     /// 1 `Host`, 3 `Unit`. Refuses `SegmentProcedure` for kind 2, `NativeSegment` for 4,
     /// `Intrinsic` for 5 to 7 and `UnknownKind` above.
     /// Source: this project's profile.
+    #[inline(always)]
     pub fn role(&self, slot: u8) -> Result<Role, Reason>
         requires { slot < 16 }
         ensures { result ≡ role_of (entry_at self.now.order self.now.file slot) }
@@ -183,6 +187,7 @@ impl<'a> Dict<'a> {
     /// address where its kind is 3. Whether its code can be read is another question, which
     /// `code` answers.
     /// Source: this project's profile.
+    #[inline(always)]
     pub fn filled(&self, slot: u8) -> bool
         requires { slot < 16 }
         ensures { result ≡ is_filled (entry_at self.now.order self.now.file slot) }

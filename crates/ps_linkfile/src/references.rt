@@ -18,13 +18,13 @@ use crate::cause::{Cause, ReferenceKind};
 use crate::counts::Counts;
 use crate::error::{LinkError, WriteFault};
 use crate::json::separator;
-use crate::linked::{Linked, prepare};
+use crate::linked::Linked;
 use crate::listing::{Listing, list_segments};
 use crate::rows::{Form, Part, add_by_form, add_parts, by_form};
 use crate::stream::write_text;
 use crate::text_writer::{Text, TextWriter};
-use ps_laws::first_of_all;
-use ps_resolve::read;
+use ps_laws::{bytes_are_linked, first_of_all};
+use ps_resolve::{resolve_with_segments, slot_names_are_whole};
 use ps_words::{BLOCK_SIZE, Name};
 use std::alloc::{Allocator, Global};
 use std::io::Write;
@@ -295,8 +295,14 @@ pub fn prepare_references<'a, A: Allocator + Copy>(
     ensures used { IfErr result HasUsedNumber }
 {
     first_of_all();
-    let linked = prepare(alloc, host, libs)?;
-    let reading = read(host, libs);
-    let listings = list_segments(alloc, linked.plan(), reading.segments())?;
-    Ok(ReferenceMap { linked, listings })
+    match resolve_with_segments(alloc, host, libs) {
+        Err(stop) => Err(LinkError::from(stop)),
+        Ok((plan, segments)) => {
+            bytes_are_linked();
+            slot_names_are_whole();
+            let linked = Linked::of(plan);
+            let listings = list_segments(alloc, linked.plan(), segments.as_slice())?;
+            Ok(ReferenceMap { linked, listings })
+        }
+    }
 }

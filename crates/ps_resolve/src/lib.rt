@@ -29,5 +29,5 @@ pub use reading::added::UnitReference;
 pub use reading::request::{Request, Requester};
 pub use reading::segment::Segment;
 pub use reading::{HostReading, Reading, read};
-pub use resolving::resolve;
+pub use resolving::{resolve, resolve_with_segments};
 pub use slot_name_law::slot_names_are_whole;

@@ -1,4 +1,4 @@
-ghost use Rattle.std.specs.Prelude.{◌≡◌, IfOk, IfErr, None, Ok, All};
+ghost use Rattle.std.specs.Prelude.{◌≡◌, [], IfOk, IfErr, None, Ok, All};
 ghost use Rattle.ps_codefile.specs.Dictionary.{opened_alone};
 ghost use Rattle.ps_resolve.specs.Sources.{contents, opened};
 ghost use Rattle.ps_resolve.specs.LinkedBytes.{segments_of};
@@ -42,15 +42,40 @@ pub fn resolve<'a, A: Allocator + Copy>(
 {
     match Dict::read(host) {
         Err(reason) => Err(Stop::Refused(Fault::in_file(HOST_FILE, reason))),
-        Ok(dict) => link_opened(alloc, host, dict, libs),
+        Ok(dict) => link_alone(alloc, host, dict, libs),
     }
 }
 
-/// Plans the link of a host that was opened. Its own slots are read first, and units are added only
-/// where these have no fault. All segments are in one table, which is here. A function by itself, so
-/// that a host that cannot be opened needs no room for it.
+/// Plans a link as `resolve` does, and gives its segments beside the plan, by slot ascending: those
+/// of which the plan has the sources, with their records, as the files have them.
+///
+/// Refuses what `resolve` refuses. Source: this project's profile.
+pub fn resolve_with_segments<'a, A: Allocator + Copy>(
+    alloc: A,
+    host: &'a [u8],
+    libs: &'a [&'a [u8]],
+) -> Result<(Plan<'a, A>, ArrayVec<Segment<'a>, 16>), Stop>
+    ensures plan { IfOk result (λ found. IsPlan host.now (contents libs.now) found.0) }
+    ensures segments { IfOk result (λ found. found.1.items
+        ≡ segments_of host.now (contents libs.now)) }
+    ensures sound { IfOk result (λ _. first_fault host.now (contents libs.now) ≡ None) }
+    ensures known { IfOk result (λ found. AreOfLink host.now (contents libs.now) found.1.items) }
+    ensures stop { IfErr result (IsStopped host.now (contents libs.now)) }
+{
+    let mut segments = ArrayVec::new();
+    match Dict::read(host) {
+        Err(reason) => Err(Stop::Refused(Fault::in_file(HOST_FILE, reason))),
+        Ok(dict) => match link_opened(alloc, host, dict, libs, &mut segments) {
+            Err(stop) => Err(stop),
+            Ok(plan) => Ok((plan, segments)),
+        },
+    }
+}
+
+/// Plans the link of a host that was opened, whose segments nobody else looks at: their table is
+/// here. A function by itself, so that a host that cannot be opened needs no room for it.
 #[inline(never)]
-fn link_opened<'a, A: Allocator + Copy>(
+fn link_alone<'a, A: Allocator + Copy>(
     alloc: A,
     host: &'a [u8],
     dict: Dict<'a>,
@@ -63,11 +88,35 @@ fn link_opened<'a, A: Allocator + Copy>(
         (segments_of host.now (contents libs.now))) }
     ensures stop { IfErr result (IsStopped host.now (contents libs.now)) }
 {
-    let slots = HostSlots::of(dict);
     let mut segments = ArrayVec::new();
-    match read_own(&slots, libs, &mut segments) {
+    link_opened(alloc, host, dict, libs, &mut segments)
+}
+
+/// Plans the link of a host that was opened, and fills the table with its segments. Its own slots
+/// are read first, and units are added only where these have no fault. It stands in the body of its
+/// caller, so that the plan is handed up once less.
+#[inline(always)]
+fn link_opened<'a, A: Allocator + Copy>(
+    alloc: A,
+    host: &'a [u8],
+    dict: Dict<'a>,
+    libs: &'a [&'a [u8]],
+    segments: &mut ArrayVec<Segment<'a>, 16>,
+) -> Result<Plan<'a, A>, Stop>
+    requires opened { Ok dict ≡ opened_alone host.now }
+    requires empty { segments.old.items ≡ [] }
+    ensures plan { IfOk result (IsPlan host.now (contents libs.now)) }
+    ensures segments { IfOk result (λ _. segments.new.items
+        ≡ segments_of host.now (contents libs.now)) }
+    ensures sound { IfOk result (λ _. first_fault host.now (contents libs.now) ≡ None) }
+    ensures known { IfOk result (λ _. AreOfLink host.now (contents libs.now)
+        (segments_of host.now (contents libs.now))) }
+    ensures stop { IfErr result (IsStopped host.now (contents libs.now)) }
+{
+    let slots = HostSlots::of(dict);
+    match read_own(&slots, libs, segments) {
         Some(fault) => Err(Stop::Refused(fault)),
-        None => link_units(alloc, host, libs, &slots, &mut segments),
+        None => link_units(alloc, host, libs, &slots, segments),
     }
 }
 
@@ -89,6 +138,8 @@ fn link_units<'a, A: Allocator + Copy>(
     requires faultless { own_reading_fault slots.now.order slots.now.file (contents libs.now)
         ≡ None }
     ensures plan { IfOk result (IsPlan host.now (contents libs.now)) }
+    ensures segments { IfOk result (λ _. segments.new.items
+        ≡ segments_of host.now (contents libs.now)) }
     ensures sound { IfOk result (λ _. first_fault host.now (contents libs.now) ≡ None) }
     ensures known { IfOk result (λ _. AreOfLink host.now (contents libs.now)
         (segments_of host.now (contents libs.now))) }

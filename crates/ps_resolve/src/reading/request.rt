@@ -86,6 +86,7 @@ pub(crate) fn unit_named<'a>(
 }
 
 /// The segment, as it is requested: one that a record requests is added.
+#[inline(always)]
 fn as_requested<'a>(segment: Segment<'a>, requester: Requester) -> Segment<'a>
     ensures { result ≡ as_requested_spec requester segment.entry }
 {

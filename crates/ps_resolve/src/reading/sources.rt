@@ -18,7 +18,9 @@ use ps_codefile::dictionary_layout::SLOTS;
 use ps_words::Fault;
 
 /// The segment of a slot, or None where the slot is empty or has a kind that was refused. `earlier`
-/// are segments that were read before.
+/// are segments that were read before. It stands in the body of its caller, so that the segment is
+/// handed up once less.
+#[inline(always)]
 pub(crate) fn read_slot<'a>(
     host: &HostSlots<'a>,
     libs: &'a [&'a [u8]],
@@ -58,6 +60,7 @@ pub(crate) fn read_slot<'a>(
 }
 
 /// Adds the segment of a slot, where it has one, or keeps its fault, if it is the first.
+#[inline(always)]
 fn keep<'a>(
     segments: &mut ArrayVec<Segment<'a>, 16>,
     first: &mut Option<Fault>,

@@ -1,53 +1,75 @@
-use Rattle.std.proofs.Common.{arith, ◌≡◌, ◌∙◌, ◌++◌, ℕ, List, None, ap}
-use Rattle.ps_linkfile.proofs.Words.{IsPlan, Listed, Planned, Segment, edited_segments, listings_in, listings_of, order_of, references_in}
-use Rattle.ps_resolve.specs.Added.{segments}
-use Rattle.ps_resolve.specs.AllFaults.{first_fault, reading_fault}
-use Rattle.ps_resolve.specs.Readings.{ReadFiles}
+use Rattle.std.proofs.Common.{◌≡◌, ◌≤◌, ◌∙◌, ◌++◌, ℕ, List, length, ap, subst, sym}
+use Rattle.ps_linkfile.proofs.Words.{err_from_is_err_and, IsPlan, Listed, Planned, Segment, edited_segments, linked_file, listings_in, listings_of, references_in}
+use Rattle.ps_codefile.specs.Dictionary.{block_len}
+use Rattle.ps_resolve.specs.LinkedBytes.{segments_of}
 use Rattle.ps_resolve.specs.Sources.{contents}
-use Rattle.ps_linkfile.specs.MapText.{members_of}
+use Rattle.ps_linkfile.specs.MapText.{map_in, members_in, members_of}
 use Rattle.ps_linkfile.specs.declared.rows.Form.TheVariants.{Json}
 use Rattle.ps_linkfile.proofs.Listings.{as_plan, joined, listings_are}
-use Rattle.ps_linkfile.proofs.Maps.{members_are}
-use Rattle.ps_linkfile.proofs.Whole.{none_found, reading_first}
+use Rattle.ps_linkfile.proofs.Maps.{members_are, plan_text}
+use Rattle.ps_linkfile.proofs.Plans.{plan_ready}
+use Rattle.ps_linkfile.proofs.Whole.{long_host, names_first, reading_first, there}
 use Rattle.ps_linkfile.proofs.references.prepare_references.Goals as goal
 
-module _ (host : List ℕ) (libs : List (List ℕ)) (files : ReadFiles) (ss : List Segment) where
-  -- the segments of a reading of these files, in which no fault applies
-  seen : first_fault host libs ≡ None → files ≡ record { host = host; libs = libs }
-      → (reading_fault files.host files.libs ≡ None → ss ≡ segments
-      (order_of files.host) files.host files.libs) → ss ≡ segments (order_of host) host libs
-  seen none same h = grind (arith, reading_first)
+-- what is listed of the segments of a link by a plan of it is what the link stores
+stored : (host : List ℕ) (libs : List (List ℕ)) (p q : Planned) (ss : List Segment)
+    (ls : List Listed) → IsPlan host libs p → q ≡ p → ss ≡ segments_of host libs
+    → ls ≡ listings_in q.order q.origins (edited_segments q.order ss)
+    → ls ≡ listings_of host libs
+stored host libs p q ss ls plan same is listed =
+    listed ∙ listings_are host libs p q ss plan same is
 
-  -- what is listed of them by a plan of their link is what the link stores
-  stored : (p q : Planned) (ls : List Listed) → first_fault host libs ≡ None
-      → files ≡ record { host = host; libs = libs }
-      → (reading_fault files.host files.libs ≡ None → ss ≡ segments
-      (order_of files.host) files.host files.libs) → IsPlan host libs p → q ≡ p
-      → ls ≡ listings_in q.order q.origins (edited_segments q.order ss)
-      → ls ≡ listings_of host libs
-  stored p q ls none same h plan is listed =
-      listed ∙ listings_are host libs p q ss plan is (seen none same h)
+pub of-linked-requires : goal.of-linked-requires
+of-linked-requires g c = plan_ready _ _ _ c.in-Ok.ensures.plan
+    (subst (λ (h : List ℕ). block_len ≤ length h) (sym c.in-Ok.ensures.plan.of_host)
+    (long_host _ _ c.in-Ok.ensures.sound))
 
 pub list_segments-requires-clause-plan : goal.list_segments-requires-clause-plan
-list_segments-requires-clause-plan g c = as_plan _ _ _ _ _ c.in_ok-linked.ensures.plan
-    c.plan.ensures.plan (seen _ _ c.read-reading.result _ (none_found c.first_of_all.ensures.some
-    _ _ c.in_ok-linked.ensures.accepted) c.read-reading.ensures c.segments.ensures.all)
+list_segments-requires-clause-plan g c = as_plan _ _ _ _ _ c.in-Ok.ensures.plan
+    (c.plan.ensures.plan ∙ c.of-linked.ensures)
+    (c.as_slice.ensures.value ∙ c.in-Ok.ensures.segments)
 
-pub returns-clause-text : goal.returns-clause-text
-returns-clause-text g c = joined _ _ _ _ _ c.in_ok-linked.ensures.map
-    (stored _ _ c.read-reading.result _ _ _ _ (none_found c.first_of_all.ensures.some _ _
-    c.in_ok-linked.ensures.accepted) c.read-reading.ensures c.segments.ensures.all
-    c.in_ok-linked.ensures.plan c.plan.ensures.plan c.in_ok-listings.ensures)
+pub returns-in-Err-clause-first : goal.returns-in-Err-clause-first
+returns-in-Err-clause-first g c =
+    rw (c.from.ensures) (names_first c.first_of_all.ensures.some c.first_of_all.ensures.parts
+    c.first_of_all.ensures.read _ _ _ c.in-Err.ensures.stop)
 
-pub returns-clause-json : goal.returns-clause-json
-returns-clause-json g c =
+pub returns-in_ok-listings-in-Ok-clause-text : goal.returns-in_ok-listings-in-Ok-clause-text
+returns-in_ok-listings-in-Ok-clause-text g c = joined _ _ _ _ _
+    (ap map_in c.of-linked.ensures ∙ plan_text _ _ _ c.in-Ok.ensures.plan)
+    (stored _ _ _ _ _ _ c.in-Ok.ensures.plan (c.plan.ensures.plan ∙ c.of-linked.ensures)
+    (c.as_slice.ensures.value ∙ c.in-Ok.ensures.segments) c.in_ok-listings.ensures)
+
+pub returns-in_ok-listings-in-Ok-clause-json : goal.returns-in_ok-listings-in-Ok-clause-json
+returns-in_ok-listings-in-Ok-clause-json g c =
     let listings = c.in_ok-listings.listings.items in
     let listed : listings ≡ listings_of c.args.host.now (contents c.args.libs.now) =
-    stored _ _ c.read-reading.result _ _ _ _ (none_found
-    c.first_of_all.ensures.some _ _ c.in_ok-linked.ensures.accepted) c.read-reading.ensures
-    c.segments.ensures.all c.in_ok-linked.ensures.plan c.plan.ensures.plan
-    c.in_ok-listings.ensures in
+    stored _ _ _ _ _ _ c.in-Ok.ensures.plan (c.plan.ensures.plan ∙ c.of-linked.ensures)
+    (c.as_slice.ensures.value ∙ c.in-Ok.ensures.segments) c.in_ok-listings.ensures in
     ap (λ (bs : List ℕ). bs ++ references_in Json listings)
-    (members_are _ _ c.in_ok-linked.linked c.in_ok-linked.ensures.plan)
+    (ap members_in c.of-linked.ensures ∙ members_are _ _ _ c.in-Ok.ensures.plan)
     ∙ ap (λ (ls : List Listed). members_of c.args.host.now (contents c.args.libs.now)
     ++ references_in Json ls) listed
+
+pub returns-in_ok-listings-in-Ok-clause-accepted : goal.returns-in_ok-listings-in-Ok-clause-accepted
+returns-in_ok-listings-in-Ok-clause-accepted g c = c.first_of_all.ensures.none _ _ c.in-Ok.ensures.sound
+
+pub returns-in_ok-listings-in-Ok-clause-linked : goal.returns-in_ok-listings-in-Ok-clause-linked
+returns-in_ok-listings-in-Ok-clause-linked g c =
+    let host = c.args.host.now in
+    let libs = contents c.args.libs.now in (
+      linked_file host libs,
+      there host libs c.slot_names_are_whole.ensures c.first_of_all.ensures.none
+          c.bytes_are_linked.ensures.made c.in-Ok.ensures.sound,
+    )
+
+pub returns-in_err-listings-in-Ok-clause-error : goal.returns-in_err-listings-in-Ok-clause-error
+returns-in_err-listings-in-Ok-clause-error g c =
+    let p = err_from_is_err_and c.from_residual.result c.from_residual.ensures.1 in
+    rw (p.1, p.2) (reading_first _ _ c.in-Ok.ensures.sound)
+
+pub returns-in_err-listings-in-Ok-clause-first : goal.returns-in_err-listings-in-Ok-clause-first
+returns-in_err-listings-in-Ok-clause-first g c =
+    let p = err_from_is_err_and c.from_residual.result c.from_residual.ensures.1 in
+    rw (p.1, p.2)
+    (c.first_of_all.ensures.read _ _ (reading_first _ _ c.in-Ok.ensures.sound))

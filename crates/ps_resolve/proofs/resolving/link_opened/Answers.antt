@@ -24,13 +24,13 @@ returns-in-Some-clause-stop g c =
     let found : own_reading_fault v.order v.file v.libs ≡ Some fault =
     sym c.read_own.ensures.first ∙ c.in-Some.is in
     let opened : opened_alone host ≡ Ok slots =
-    sym (ap (λ (o : OpenedFile). Ok o) c.of-slots.ensures ∙ c.requires) in
+    sym (ap (λ (o : OpenedFile). Ok o) c.of-slots.ensures ∙ c.requires.opened) in
     first_read host libs fault (sym (fault_of_host host libs v (opened_is host libs slots opened))
     ∙ first_own v.order v.file v.libs fault found)
 
 pub link_units-requires : goal.link_units-requires
 link_units-requires g c = record {
-  opened = ap (λ (o : OpenedFile). Ok o) c.of-slots.ensures ∙ c.requires;
+  opened = ap (λ (o : OpenedFile). Ok o) c.of-slots.ensures ∙ c.requires.opened;
   own = c.read_own.ensures.segments;
   read = c.read_own.ensures.read;
   faultless = sym c.read_own.ensures.first ∙ c.in-None.is;

@@ -145,6 +145,8 @@ returns-in-Some-host_of g c =
       sound = IfOk-weaker c.link_segments.result (λ _. linking_fault order given ≡ None)
           (λ _. first_fault host libs ≡ None)
           (λ _ h. first_linked host libs t.0 ∙ sym same ∙ h) c.link_segments.ensures.sound;
+      segments = IfOk-weaker c.link_segments.result (λ _. linking_fault order given ≡ None)
+          (λ _. given ≡ all) (λ _ h. t.1) c.link_segments.ensures.sound;
       known = IfOk-weaker c.link_segments.result (λ _. linking_fault order given ≡ None)
           (λ _. AreOfLink host libs all)
           (λ _ h. of_link host libs t.0) c.link_segments.ensures.sound;
