@@ -1,2 +1,3 @@
 pub mod CodeFiles
 pub mod Shown
+pub mod CodeTypes

@@ -1,10 +1,14 @@
 //! Which code file a file is.
-ghost use Rattle.std.specs.Prelude.{◌≡◌, ◌<◌, ◌≤◌};
+ghost use Rattle.std.specs.Prelude.{◌≡◌, ◌+◌, ◌-◌, ◌*◌, ◌<◌, ◌≤◌, length};
 ghost use Rattle.std.specs.List.{list_all, list_any, range_with_len};
 ghost use Rattle.std.specs.Result.{is_ok};
 ghost use Rattle.ps_codefile.specs.Dictionary.{code_of, entry_at, role_of};
 ghost use Rattle.ps_filetype.specs.CodeFiles.{code_file, code_file_word, has_code as has_code_spec, has_code_beside, has_kind as has_kind_spec, has_kinds as has_kinds_spec, has_other as has_other_spec, has_other_kind as has_other_kind_spec, has_shown_code as has_shown_code_spec, is_code_file as is_code_file_spec, is_kind as is_kind_spec, is_letter as is_letter_spec, is_other as is_other_spec, is_readable as is_readable_spec, is_whole as is_whole_spec, opened, order_by_codes as order_by_codes_spec, purpose_of as purpose_of_spec, shows_code as shows_code_spec, tells as tells_spec, wants_unit as wants_unit_spec};
+ghost use Rattle.ps_filetype.specs.CodeTypes.{distance as distance_spec, has_number as has_number_spec, has_numbers as has_numbers_spec, has_table as has_table_spec, has_word as has_word_spec, is_code_type as is_code_type_spec, is_for_something as is_for_something_spec, is_linkable as is_linkable_spec, is_number_at as is_number_at_spec, is_swapped as is_swapped_spec, is_swapped_code as is_swapped_code_spec, is_swapped_file as is_swapped_file_spec, is_swapped_in as is_swapped_in_spec, is_swapped_slot as is_swapped_slot_spec, word_place};
 
+use crate::bytes::is_one_byte;
+use crate::release::is_later;
+use ps_codefile::code_layout::NUMBERS;
 use ps_codefile::dictionary_layout::SLOTS;
 use ps_codefile::kinds::{HOSTSEG, LAST_INTRINSIC, LINKED, UNITSEG};
 use ps_codefile::{Dict, Entry, Role, is_nameless};
@@ -309,6 +313,29 @@ pub(crate) fn code_file_of(bytes: &[u8]) -> Option<CodeFile> {
     CodeFile::of(&open(bytes).ok()?)
 }
 
+/// The file is a code file as far as its entries say.
+fn is_for_something(bytes: &[u8]) -> bool
+    ensures { result ≡ is_for_something_spec (opened bytes.now) }
+{
+    match open(bytes) {
+        Ok(dict) => CodeFile::of(&dict).is_some(),
+        Err(_) => false,
+    }
+}
+
+/// The file is a code file as it ought to be.
+///
+/// Its entries say what it is for, as for [`CodeFile::of`]; it is no file of release III.0 or IV.0,
+/// it is not one byte throughout, and its bytes are not exchanged in pairs: so are those of a file
+/// of which each code that is to be linked has its numbers right where they are exchanged, and not
+/// as they are. Source: this project's profile.
+#[tactic(auto, unfolding(crate::specs::CodeTypes::is_code_type))]
+pub fn is_code_type(bytes: &[u8]) -> bool
+    ensures { result ≡ is_code_type_spec bytes.now }
+{
+    !is_one_byte(bytes) && !is_later(bytes) && is_for_something(bytes) && !is_swapped_file(bytes)
+}
+
 /// The file is a code file, and an entry with a name that can be read has its code whole in it.
 pub(crate) fn has_readable_code(bytes: &[u8]) -> bool {
     let Ok(dict) = open(bytes) else {
@@ -319,53 +346,169 @@ pub(crate) fn has_readable_code(bytes: &[u8]) -> bool {
     has_code && is_code_file(&dict)
 }
 
+/// The word of a procedure is in the code.
+fn has_word(code: &[u8], number: usize) -> bool
+    requires { number ≤ 255 }
+    ensures { result ≡ has_word_spec code.now number }
+{
+    NUMBERS + WORD_LEN * number <= code.len()
+}
+
+/// The distance from the word of a procedure to its table; 0 where it has none.
+fn distance(order: Order, code: &[u8], number: usize) -> usize
+    requires { 2 + 2 * number ≤ length code.now }
+    ensures { result ≡ distance_spec order code.now number }
+{
+    usize::from(get(order, code, code.len() - (NUMBERS + WORD_LEN * number)))
+}
+
+/// A procedure has a table.
+fn has_table(order: Order, code: &[u8], number: usize) -> bool
+    requires { number ≤ 255 }
+    ensures { result ≡ has_table_spec order code.now number }
+{
+    has_word(code, number) && distance(order, code, number) != 0
+}
+
+/// The byte at a place of a code, if there is one, is this number.
+fn is_number_at(code: &[u8], place: usize, number: usize) -> bool
+    ensures { result ≡ is_number_at_spec code.now place number }
+{
+    match code.get(place) {
+        Some(byte) => usize::from(*byte) == number,
+        None => false,
+    }
+}
+
+/// The table of a procedure has its number so many bytes after the byte that its word names.
+fn has_number_behind(order: Order, code: &[u8], after: usize, number: usize) -> bool
+    requires fits { 2 + 2 * number ≤ length code.now }
+    requires near { after ≤ 1 }
+    ensures { result ≡ is_number_at_spec code.now
+        (word_place code.now number - distance_spec order code.now number + after) number }
+{
+    let place = code.len() - (NUMBERS + WORD_LEN * number);
+    let table = place.saturating_sub(distance(order, code, number)) + after;
+    is_number_at(code, table, number)
+}
+
+/// The word of a procedure is in the code, and its table, if it has one, has its number so many bytes
+/// after the byte that its word names.
+fn has_number(order: Order, code: &[u8], after: usize, number: usize) -> bool
+    requires few { number ≤ 255 }
+    requires near { after ≤ 1 }
+    ensures { result ≡ has_number_spec order code.now after number }
+{
+    has_word(code, number)
+        && (!has_table(order, code, number) || has_number_behind(order, code, after, number))
+}
+
+/// So it is with each of so many procedures, from 1 on.
+fn have_numbers(order: Order, code: &[u8], count: usize, after: usize) -> bool
+    requires few { count ≤ 255 }
+    requires near { after ≤ 1 }
+    ensures { result ≡ list_all (λ k. has_number_spec order code.now after (k + 1))
+        (range_with_len 0 count) }
+{
+    (0..count).all(|k| has_number(order, code, after, k + 1))
+}
+
+/// One of so many procedures has a table.
+fn has_tables(order: Order, code: &[u8], count: usize) -> bool
+    requires { count ≤ 255 }
+    ensures { result ≡ list_any (λ k. has_table_spec order code.now (k + 1))
+        (range_with_len 0 count) }
+{
+    (0..count).any(|k| has_table(order, code, k + 1))
+}
+
 /// Each table of a code of so many procedures has its number so many bytes after the byte that its
 /// pointer names, and there is one.
-fn has_numbers_at(order: Order, code: &[u8], count: u8, after: usize) -> bool {
-    let mut is_found = false;
-    for number in 1..=count {
-        let behind = WORD_LEN + WORD_LEN * usize::from(number);
-        let Some(place) = code.len().checked_sub(behind) else {
-            return false;
-        };
-        let distance = usize::from(get(order, code, place));
-        if distance != 0 {
-            let table = place.saturating_sub(distance).saturating_add(after);
-            if code.get(table).copied() != Some(number) {
-                return false;
-            }
-            is_found = true;
-        }
-    }
-    is_found
+#[tactic(auto, unfolding(crate::specs::CodeTypes::has_numbers))]
+fn has_numbers(order: Order, code: &[u8], count: u8, after: usize) -> bool
+    requires { after ≤ 1 }
+    ensures { result ≡ has_numbers_spec order code.now count after }
+{
+    let count = usize::from(count);
+    have_numbers(order, code, count, after) && has_tables(order, code, count)
 }
 
 /// The bytes of a code are exchanged in pairs: its numbers are as they ought to be where the other
 /// byte of each pair is read.
-pub fn is_swapped(order: Order, code: &[u8]) -> bool {
-    match code {
-        [.., count, last] => {
-            has_numbers_at(order, code, *count, 1) && !has_numbers_at(order, code, *last, 0)
-        }
-        _ => false,
+/// Source: this project's profile.
+#[tactic(auto, unfolding(crate::specs::CodeTypes::is_swapped))]
+pub fn is_swapped(order: Order, code: &[u8]) -> bool
+    ensures { result ≡ is_swapped_spec order code.now }
+{
+    if code.len() < NUMBERS {
+        return false;
     }
+    let (count, last) = (code[code.len() - 2], code[code.len() - 1]);
+    has_numbers(order, code, count, 1) && !has_numbers(order, code, last, 0)
+}
+
+/// A slot is filled with a code of which a link resolves the references.
+fn is_linkable(dict: &Dict<'_>, slot: u8) -> bool
+    requires { slot < 16 }
+    ensures { result ≡ is_linkable_spec dict.now.order dict.now.file slot }
+{
+    let kind = dict.entry(slot).kind;
+    (kind == HOSTSEG || kind == UNITSEG) && dict.filled(slot) && is_in_file(dict, slot)
+}
+
+/// The bytes of the code of a slot are exchanged in pairs.
+fn is_swapped_code(dict: &Dict<'_>, slot: u8) -> bool
+    requires { slot < 16 }
+    ensures { result ≡ is_swapped_code_spec dict.now.order (code_of dict.now.file
+        (entry_at dict.now.order dict.now.file slot)) }
+{
+    match dict.code(slot) {
+        Ok(code) => is_swapped(dict.order(), code),
+        Err(_) => false,
+    }
+}
+
+/// So are those of a slot, if it is to be linked.
+fn is_swapped_slot(dict: &Dict<'_>, slot: u8) -> bool
+    requires { slot < 16 }
+    ensures { result ≡ is_swapped_slot_spec dict.now.order dict.now.file slot }
+{
+    !is_linkable(dict, slot) || is_swapped_code(dict, slot)
+}
+
+/// So are those of each of the slots below `end`.
+fn are_swapped(dict: &Dict<'_>, end: u8) -> bool
+    requires { end ≤ 16 }
+    ensures { result ≡ list_all (is_swapped_slot_spec dict.now.order dict.now.file)
+        (range_with_len 0 end) }
+{
+    (0..end).all(|slot| is_swapped_slot(dict, slot))
+}
+
+/// One of the slots below `end` is to be linked.
+fn has_linkable(dict: &Dict<'_>, end: u8) -> bool
+    requires { end ≤ 16 }
+    ensures { result ≡ list_any (is_linkable_spec dict.now.order dict.now.file)
+        (range_with_len 0 end) }
+{
+    (0..end).any(|slot| is_linkable(dict, slot))
+}
+
+/// The bytes of each code that is to be linked are exchanged in pairs, and there is one.
+#[tactic(auto, unfolding(crate::specs::CodeTypes::is_swapped_in))]
+fn is_swapped_in(dict: &Dict<'_>) -> bool
+    ensures { result ≡ is_swapped_in_spec dict.now.order dict.now.file }
+{
+    are_swapped(dict, SLOTS) && has_linkable(dict, SLOTS)
 }
 
 /// The bytes of a code file are exchanged in pairs: so are those of each code that is to be linked,
 /// and there is one. An assembled entry says nothing, since it has a native procedure by right.
-pub(crate) fn is_swapped_file(bytes: &[u8]) -> bool {
-    let Ok(dict) = open(bytes) else {
-        return false;
-    };
-    let mut is_found = false;
-    for slot in 0..SLOTS {
-        let needs_linking = matches!(dict.entry(slot).kind, HOSTSEG | UNITSEG);
-        if let (true, true, Ok(code)) = (needs_linking, dict.filled(slot), dict.code(slot)) {
-            if !is_swapped(dict.order(), code) {
-                return false;
-            }
-            is_found = true;
-        }
+pub(crate) fn is_swapped_file(bytes: &[u8]) -> bool
+    ensures { result ≡ is_swapped_file_spec (opened bytes.now) }
+{
+    match open(bytes) {
+        Ok(dict) => is_swapped_in(&dict),
+        Err(_) => false,
     }
-    is_found
 }

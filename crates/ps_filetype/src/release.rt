@@ -1,7 +1,13 @@
 //! Code files of later releases of the p-System.
+ghost use Rattle.std.specs.Prelude.{◌≡◌, ◌<◌, ◌≤◌, ◌==◌, length};
+ghost use Rattle.std.specs.List.{list_all, list_any, range_with_len};
+ghost use Rattle.ps_codefile.specs.Dictionary.{name_at};
+ghost use Rattle.ps_filetype.specs.CodeFiles.{is_letter};
+ghost use Rattle.ps_filetype.specs.CodeTypes.{has_version as has_version_spec, has_versions as has_versions_spec, information as information_spec, is_four as is_four_spec, is_later as is_later_spec, is_later_in as is_later_in_spec, is_of_version as is_of_version_spec, is_used as is_used_spec};
+
 use crate::code_file::are_letters;
-use ps_codefile::dictionary_layout::SLOTS;
-use ps_words::{BLOCK_SIZE, Order, WORD_LEN, get};
+use ps_codefile::dictionary_layout::{PAIR, SLOTS};
+use ps_words::{BLOCK_SIZE, NAME_LEN, Order, WORD_LEN, get};
 use std::fmt::{self, Formatter};
 
 /// Where the names of the segments begin, in all releases.
@@ -17,6 +23,14 @@ const BYTE_SEX: usize = BLOCK_SIZE - 2;
 const VERSION_III: u16 = 3;
 
 const VERSION_IV: u16 = 4;
+
+/// The last version that a segment may have.
+const LAST_VERSION: u16 = 7;
+
+/// A version begins at bit 13 of its word, and the number is the low byte.
+const VERSION: u16 = 8192;
+
+const NUMBER: u16 = 256;
 
 /// A release whose code files are not those of II.0.
 ///
@@ -38,50 +52,132 @@ impl fmt::Display for Release {
     }
 }
 
-/// The word at a place of the dictionary.
-fn word_at(order: Order, block: &[u8], place: usize) -> u16 {
-    match block.get(place..) {
-        Some(rest) if WORD_LEN <= rest.len() => get(order, rest, 0),
-        _ => 0,
+/// The later release whose dictionary a file begins with.
+pub(crate) fn later_release(bytes: &[u8]) -> Option<Release> {
+    if bytes.len() < BLOCK_SIZE {
+        return None;
+    }
+    let block = &bytes[..BLOCK_SIZE];
+    release_in(Order::Little, block).or(release_in(Order::Big, block))
+}
+
+/// The later release whose dictionary the block is, with words in this order.
+fn release_in(order: Order, block: &[u8]) -> Option<Release>
+    requires { 512 ≤ length block.now }
+{
+    if is_four(order, block) {
+        Some(Release::Four)
+    } else if has_versions(order, block, VERSION_III, VERSION_III) {
+        Some(Release::Three)
+    } else {
+        None
     }
 }
 
-/// The later release whose dictionary a file begins with.
-pub(crate) fn later_release(bytes: &[u8]) -> Option<Release> {
-    let block = bytes.get(..BLOCK_SIZE)?;
-    for order in [Order::Little, Order::Big] {
-        if word_at(order, block, BYTE_SEX) == 1 && has_versions(order, block, VERSION_IV, 7) {
-            return Some(Release::Four);
-        }
-        if has_versions(order, block, VERSION_III, VERSION_III) {
-            return Some(Release::Three);
-        }
+/// A file begins with the dictionary of a later release.
+#[tactic(auto, unfolding(crate::specs::CodeTypes::is_later))]
+pub(crate) fn is_later(bytes: &[u8]) -> bool
+    ensures { result ≡ is_later_spec bytes.now }
+{
+    if bytes.len() < BLOCK_SIZE {
+        return false;
     }
-    None
+    let block = &bytes[..BLOCK_SIZE];
+    is_later_in(Order::Little, block) || is_later_in(Order::Big, block)
+}
+
+/// The block is the dictionary of a later release, with words in this order.
+fn is_later_in(order: Order, block: &[u8]) -> bool
+    requires { 512 ≤ length block.now }
+    ensures { result ≡ is_later_in_spec order block.now }
+{
+    is_four(order, block) || has_versions(order, block, VERSION_III, VERSION_III)
+}
+
+/// The block is the dictionary of release IV.0, or of one after it.
+fn is_four(order: Order, block: &[u8]) -> bool
+    requires { 512 ≤ length block.now }
+    ensures { result ≡ is_four_spec order block.now }
+{
+    get(order, block, BYTE_SEX) == 1 && has_versions(order, block, VERSION_IV, LAST_VERSION)
+}
+
+/// The slot has a segment: neither its address nor its length is 0.
+fn is_used(order: Order, block: &[u8], slot: u8) -> bool
+    requires in_range { slot < 16 }
+    requires whole { 512 ≤ length block.now }
+    ensures { result ≡ is_used_spec order block.now slot }
+{
+    let at = PAIR * usize::from(slot);
+    get(order, block, at) != 0 && get(order, block, at + WORD_LEN) != 0
+}
+
+/// The version and the number of a slot.
+fn information(order: Order, block: &[u8], slot: u8) -> u16
+    requires in_range { slot < 16 }
+    requires whole { 512 ≤ length block.now }
+    ensures { result ≡ information_spec order block.now slot }
+{
+    get(order, block, SEGMENT_INFORMATION + WORD_LEN * usize::from(slot))
 }
 
 /// The name of a slot is one that a person can read.
-fn has_name(block: &[u8], slot: u8) -> bool {
-    let name = block.get(NAMES + 8 * usize::from(slot)..).unwrap_or(&[]);
-    are_letters(name.get(..8).unwrap_or(&[0]))
+fn has_name(block: &[u8], slot: u8) -> bool
+    requires in_range { slot < 16 }
+    requires whole { 512 ≤ length block.now }
+    ensures { result ≡ list_all is_letter (name_at block.now slot) }
+{
+    let at = NAMES + NAME_LEN * usize::from(slot);
+    are_letters(&block[at..at + NAME_LEN])
+}
+
+/// The word has a version from `first` to `last`, and a number.
+fn has_version(first: u16, last: u16, word: u16) -> bool
+    ensures { result ≡ has_version_spec first last word }
+{
+    first <= word / VERSION && word / VERSION <= last && word % NUMBER != 0
+}
+
+/// The slot has a segment with a name, a number and a version from `first` to `last`, or none of
+/// these.
+fn is_of_version(order: Order, block: &[u8], first: u16, last: u16, slot: u8) -> bool
+    requires in_range { slot < 16 }
+    requires whole { 512 ≤ length block.now }
+    ensures { result ≡ is_of_version_spec order block.now first last slot }
+{
+    let word = information(order, block, slot);
+    if is_used(order, block, slot) {
+        has_version(first, last, word) && has_name(block, slot)
+    } else {
+        word == 0
+    }
+}
+
+/// So is each of the slots below `end`.
+fn are_of_version(order: Order, block: &[u8], first: u16, last: u16, end: u8) -> bool
+    requires in_range { end ≤ 16 }
+    requires whole { 512 ≤ length block.now }
+    ensures { result ≡ list_all (is_of_version_spec order block.now first last)
+        (range_with_len 0 end) }
+{
+    (0..end).all(|slot| is_of_version(order, block, first, last, slot))
+}
+
+/// One of the slots below `end` has a segment.
+fn has_segment(order: Order, block: &[u8], end: u8) -> bool
+    requires in_range { end ≤ 16 }
+    requires whole { 512 ≤ length block.now }
+    ensures { result ≡ list_any (is_used_spec order block.now) (range_with_len 0 end) }
+{
+    (0..end).any(|slot| is_used(order, block, slot))
 }
 
 /// Each segment has a name, a number and a version from `first` to `last`, each other slot has
 /// neither, and there is a segment.
-fn has_versions(order: Order, block: &[u8], first: u16, last: u16) -> bool {
-    let mut is_found = false;
-    for slot in 0..SLOTS {
-        let at = usize::from(slot);
-        let is_used = word_at(order, block, 4 * at) != 0 && word_at(order, block, 4 * at + 2) != 0;
-        let information = word_at(order, block, SEGMENT_INFORMATION + 2 * at);
-        let has_version = (first..=last).contains(&(information >> 13)) && information & 0xFF != 0;
-        if is_used && !(has_version && has_name(block, slot)) {
-            return false;
-        }
-        if !is_used && information != 0 {
-            return false;
-        }
-        is_found = is_found || is_used;
-    }
-    is_found
+#[tactic(auto, unfolding(crate::specs::CodeTypes::has_versions))]
+fn has_versions(order: Order, block: &[u8], first: u16, last: u16) -> bool
+    requires { 512 ≤ length block.now }
+    ensures { result ≡ has_versions_spec order block.now first last }
+{
+    are_of_version(order, block, first, last, SLOTS) && has_segment(order, block, SLOTS)
 }
