@@ -10,4 +10,5 @@ mod memory;
 mod outcome;
 mod printing;
 mod texts;
+mod wanted;
 mod writers;

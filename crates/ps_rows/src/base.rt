@@ -1,6 +1,5 @@
 //! The base pair: a host that wants one unit, the library that has it, and the file that the two
 //! are linked to.
-use crate::code_file::Changes;
 use crate::information::Name;
 use ps_words::Order;
 
@@ -53,24 +52,3 @@ pub fn util_code(order: Order, number: u8) -> [u8; 24] {
         ],
     }
 }
-
-/// The base host.
-pub const HOST: Changes<'static> = "slot 1 name DEMO kind 1 address 1 length 18; \
-slot 7 name UTIL kind 3; at 300 2A; demo-code 1; \
-records 2; PUBLDEF COUNT value 3; EOFMARK next 8";
-
-/// The base library.
-pub const LIBRARY: Changes<'static> = "slot 2 name UTIL kind 3 address 1 length 24; \
-util-code 1 2; \
-records 2; PUBLREF COUNT at 1; PRIVREF STATE words 4 at 4; EOFMARK next 0";
-
-/// What a host with the base host's segments is linked to where no operand and no size changes: the
-/// two codes are as they were, but for the unit's segment number.
-pub const LINKED_SEGMENTS: Changes<'static> = "slot 1 name DEMO kind 0 address 1 length 18; \
-slot 7 name UTIL kind 0 address 2 length 24; at 300 2A; demo-code 1; util-code 2 7";
-
-/// The data size and the operands of what the base pair is linked to.
-pub const LINKED_OPERANDS: Changes<'static> = "word 1 4 18; code 2 1 8003; code 2 4 800A";
-
-/// What the base pair is linked to.
-pub const LINKED_PAIR: &[Changes<'static>] = &[LINKED_SEGMENTS, LINKED_OPERANDS];

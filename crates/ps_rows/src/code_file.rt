@@ -17,8 +17,9 @@
 //! Each statement changes a byte or the length; of a list of records one does. Where none does, where a
 //! byte would lie past the file's end, and where a record is behind no `records`, the test stops.
 use crate::base::{BASE_LENGTH, demo_code, util_code};
+use crate::file_texts::text_named;
 use crate::information::{Information, bytes_of, put};
-use crate::notation::{byte, ends, name, name_of, number, word};
+use crate::notation::{byte, ends, holds, name, name_of, number, word};
 use ps_words::{BLOCK_SIZE, Order};
 use std::process::Abort;
 use std::str::SplitWhitespace;
@@ -50,9 +51,9 @@ pub struct CodeFile {
 }
 
 impl CodeFile {
-    /// A file of three blocks, all 0 but for the names, which are blank, with these changes, one
-    /// text after the other.
-    pub fn new(rt: &(impl Abort + AllocGlobal), order: Order, texts: &[Changes<'_>]) -> CodeFile {
+    /// A file of three blocks, all 0 but for the names, which are blank, with the texts of these
+    /// names, one after the other.
+    pub fn new(rt: &(impl Abort + AllocGlobal), order: Order, names: &str) -> CodeFile {
         let mut file = CodeFile {
             order,
             bytes: Vec::from_elem(rt.alloc(), 0, BASE_LENGTH).expect(rt, "no memory"),
@@ -60,8 +61,8 @@ impl CodeFile {
             has_changed: false,
         };
         file.put(rt, NAMES, &[b' '; KINDS - NAMES]);
-        for changes in texts {
-            file.change(rt, *changes);
+        for name in names.split_whitespace() {
+            file.change(rt, text_named(rt, name));
         }
         file
     }
@@ -103,9 +104,9 @@ impl CodeFile {
         self.settle(rt, "the end")
     }
 
-    /// Checks that what is before this statement changed the file.
+    /// Checks that what is before this statement changed the file; it is printed where nothing did.
     fn settle(&mut self, rt: &impl Abort, statement: &str) {
-        assert!(rt; self.has_changed, "nothing changes before {statement}");
+        holds(rt, self.has_changed, statement);
         self.has_changed = false;
         self.record = None
     }
@@ -134,10 +135,10 @@ impl CodeFile {
         match kind {
             "slot" => self.slot(rt, words),
             "size" => self.size(rt, number(rt, words)),
-            "records" => self.record = Some(code_place(word(rt, words), 0)),
+            "records" => self.records(word(rt, words)),
             "at" | "fill" | "names" => self.at_place(rt, kind, words),
             "code" | "word" | "demo-code" | "util-code" => self.in_code(rt, kind, words),
-            _ => assert!(rt; false, "{kind}"),
+            _ => holds(rt, false, kind),
         }
     }
 
@@ -146,19 +147,42 @@ impl CodeFile {
         self.bytes.resize(size, 0).expect(rt, "no memory")
     }
 
+    fn records(&mut self, block: u16) {
+        self.record = Some(code_place(block, 0))
+    }
+
     fn slot(&mut self, rt: &impl Abort, words: &mut SplitWhitespace<'_>) {
-        let slot = usize::from(word(rt, words));
-        assert!(rt; slot < 16, "slot {slot}");
+        let slot = word(rt, words);
+        holds(rt, slot < 16, "a slot above 15");
         for _ in 0..4 {
             match words.next() {
                 None => return,
-                Some("name") => self.put(rt, NAMES + NAME_SIZE * slot, &name(rt, words)),
-                Some("kind") => self.word(rt, KINDS + WORD_SIZE * slot, word(rt, words)),
-                Some("address") => self.word(rt, PAIR_SIZE * slot, word(rt, words)),
-                Some("length") => self.word(rt, PAIR_SIZE * slot + WORD_SIZE, word(rt, words)),
-                Some(part) => assert!(rt; false, "{part}"),
+                Some(part) => self.slot_part(rt, slot, part, words),
             }
         }
+    }
+
+    /// A part of a slot.
+    fn slot_part(
+        &mut self,
+        rt: &impl Abort,
+        slot: u16,
+        part: &str,
+        words: &mut SplitWhitespace<'_>,
+    ) {
+        let slot = usize::from(slot);
+        match part {
+            "name" => self.name(rt, NAMES + NAME_SIZE * slot, words),
+            "kind" => self.word(rt, KINDS + WORD_SIZE * slot, word(rt, words)),
+            "address" => self.word(rt, PAIR_SIZE * slot, word(rt, words)),
+            "length" => self.word(rt, PAIR_SIZE * slot + WORD_SIZE, word(rt, words)),
+            _ => holds(rt, false, part),
+        }
+    }
+
+    fn name(&mut self, rt: &impl Abort, place: usize, words: &mut SplitWhitespace<'_>) {
+        let name = name(rt, words);
+        self.put(rt, place, &name)
     }
 
     /// A change from a place of the file on.
@@ -175,14 +199,27 @@ impl CodeFile {
     fn in_code(&mut self, rt: &impl Abort, kind: &str, words: &mut SplitWhitespace<'_>) {
         let block = word(rt, words);
         match kind {
-            "demo-code" => self.put(rt, code_place(block, 0), &demo_code(self.order)),
-            "util-code" => {
-                let number = u8::try_from(word(rt, words)).expect(rt, "no segment number");
-                self.put(rt, code_place(block, 0), &util_code(self.order, number))
-            }
-            "word" => self.word(rt, code_place(block, number(rt, words)), word(rt, words)),
+            "demo-code" => self.demo(rt, block),
+            "util-code" => self.util(rt, block, words),
+            "word" => self.word_at(rt, block, words),
             _ => self.hex(rt, code_place(block, number(rt, words)), words),
         }
+    }
+
+    fn demo(&mut self, rt: &impl Abort, block: u16) {
+        let code = demo_code(self.order);
+        self.put(rt, code_place(block, 0), &code)
+    }
+
+    fn util(&mut self, rt: &impl Abort, block: u16, words: &mut SplitWhitespace<'_>) {
+        let number = u8::try_from(word(rt, words)).expect(rt, "no segment number");
+        let code = util_code(self.order, number);
+        self.put(rt, code_place(block, 0), &code)
+    }
+
+    fn word_at(&mut self, rt: &impl Abort, block: u16, words: &mut SplitWhitespace<'_>) {
+        let place = code_place(block, number(rt, words));
+        self.word(rt, place, word(rt, words))
     }
 
     /// Bytes in two hexadecimal digits each.
@@ -207,11 +244,13 @@ impl CodeFile {
 
     fn names(&mut self, rt: &impl Abort, place: usize, words: &mut SplitWhitespace<'_>) {
         for k in 0..16 {
-            let Some(word) = words.next() else {
-                return;
-            };
-            let name = name_of(rt, word);
-            self.put(rt, place.saturating_add(NAME_SIZE * k), &name)
+            match words.next() {
+                None => return,
+                Some(word) => {
+                    let name = name_of(rt, word);
+                    self.put(rt, place.saturating_add(NAME_SIZE * k), &name)
+                }
+            }
         }
     }
 
@@ -224,9 +263,14 @@ impl CodeFile {
     ) {
         let mut information = Information::empty(rt, self.order);
         information.record(rt, kind, words);
+        self.add(rt, information.as_slice())
+    }
+
+    /// Writes the bytes of a record behind those of the one before it.
+    fn add(&mut self, rt: &impl Abort, bytes: &[u8]) {
         let place = self.record.expect(rt, "a record that is behind no records");
-        self.put(rt, place, information.as_slice());
-        self.record = Some(place.saturating_add(information.as_slice().len()))
+        self.put(rt, place, bytes);
+        self.record = Some(place.saturating_add(bytes.len()))
     }
 
     fn word(&mut self, rt: &impl Abort, place: usize, word: u16) {

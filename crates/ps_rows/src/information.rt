@@ -1,6 +1,6 @@
 //! Link information that tests write as `show` does: `PUBLREF COUNT at 1 4; PRIVREF STATE words 4
 //! at 7; EOFMARK next 0`.
-use crate::notation::{ends, name, value, word, word_of};
+use crate::notation::{ends, holds, holds_of, name, value, word, word_of};
 use ps_words::Order;
 use std::process::Abort;
 use std::str::SplitWhitespace;
@@ -87,7 +87,7 @@ impl Information {
             "CONSTDEF" => self.definition(rt, CONSTANT_DEFINITION, words),
             "EOFMARK" => self.head(rt, &NO_NAME, END_MARK, [value(rt, words, "next"), 0, 0]),
             "TYPE" => self.other(rt, words),
-            _ => assert!(rt; false, "{kind}"),
+            _ => holds(rt, false, kind),
         }
     }
 
@@ -136,18 +136,24 @@ impl Information {
     /// The references of a record, and how many they are.
     fn list(&mut self, rt: &impl Abort, words: &mut SplitWhitespace<'_>) {
         let place = self.bytes.len().saturating_sub(HEAD_SIZE - COUNT_PLACE);
-        assert!(rt; words.next() == Some("at"), "at");
-        let mut count = 0u16;
-        for _ in 0..u16::MAX {
-            let Some(reference) = words.next() else {
-                break;
-            };
-            self.word(rt, word_of(rt, reference));
-            count = count.saturating_add(1);
-        }
+        holds(rt, words.next() == Some("at"), "at");
+        let count = self.all_references(rt, words);
         self.fill_up(rt, count);
         let count = bytes_of(self.order, count);
         put(rt, self.bytes.as_mut_slice(), place, &count);
+    }
+
+    /// The references alone. Returns how many they are.
+    fn all_references(&mut self, rt: &impl Abort, words: &mut SplitWhitespace<'_>) -> u16 {
+        let mut count = 0u16;
+        for _ in 0..u16::MAX {
+            match words.next() {
+                None => return count,
+                Some(reference) => self.word(rt, word_of(rt, reference)),
+            }
+            count = count.saturating_add(1);
+        }
+        count
     }
 
     /// Fills up the last piece of a list of so many references with zeros.
@@ -177,10 +183,17 @@ pub(crate) fn bytes_of(order: Order, word: u16) -> [u8; 2] {
 /// Puts bytes at a place that has room for them. Returns whether one of them was another before.
 pub(crate) fn put(rt: &impl Abort, all: &mut [u8], place: usize, bytes: &[u8]) -> bool {
     let end = place.saturating_add(bytes.len());
-    let Some(part) = all.get_mut(place..end) else {
-        assert!(rt; false, "no room at {place}");
-        return false;
-    };
+    match all.get_mut(place..end) {
+        Some(part) => change(part, bytes),
+        None => {
+            holds_of(rt, false, &(place, end));
+            false
+        }
+    }
+}
+
+/// Puts bytes in place of others. Returns whether one of them was another before.
+fn change(part: &mut [u8], bytes: &[u8]) -> bool {
     let mut has_changed = false;
     for (to, from) in part.iter_mut().zip(bytes) {
         has_changed = has_changed || *to != *from;

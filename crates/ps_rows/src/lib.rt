@@ -7,10 +7,12 @@ mod base;
 #[cfg(test)]
 mod code_file;
 #[cfg(test)]
+mod file_texts;
+#[cfg(test)]
 mod information;
+#[cfg(test)]
+mod line;
 #[cfg(test)]
 mod notation;
 #[cfg(test)]
 mod tests;
-#[cfg(test)]
-mod units;

@@ -1,7 +1,18 @@
 //! The words of the texts by which tests describe files and records.
 use crate::information::{Name, put};
+use std::fmt::Debug;
 use std::process::Abort;
 use std::str::SplitWhitespace;
+
+/// Checks what has to be right of this, which is printed where it is not.
+pub fn holds(rt: &impl Abort, is_right: bool, what: &str) {
+    assert!(rt; is_right, "{what}");
+}
+
+/// The same of a value.
+pub fn holds_of<D: Debug>(rt: &impl Abort, is_right: bool, value: &D) {
+    assert!(rt; is_right, "{value:?}");
+}
 
 /// The next word as a number.
 pub fn number(rt: &impl Abort, words: &mut SplitWhitespace<'_>) -> usize {
@@ -21,13 +32,13 @@ pub fn word_of(rt: &impl Abort, word: &str) -> u16 {
 
 /// A byte in two hexadecimal digits.
 pub fn byte(rt: &impl Abort, digits: &str) -> u8 {
-    assert!(rt; digits.len() == 2, "{digits}");
+    holds(rt, digits.len() == 2, digits);
     u8::from_str_radix(digits, 16).expect(rt, digits)
 }
 
 /// The number behind a word that says what it is.
 pub fn value(rt: &impl Abort, words: &mut SplitWhitespace<'_>, what: &str) -> u16 {
-    assert!(rt; words.next() == Some(what), "{what}");
+    holds(rt, words.next() == Some(what), what);
     word(rt, words)
 }
 
@@ -47,5 +58,5 @@ pub fn name_of(rt: &impl Abort, word: &str) -> Name {
 
 /// Checks that no word of a text is left.
 pub fn ends(rt: &impl Abort, words: &mut SplitWhitespace<'_>, text: &str) {
-    assert!(rt; words.next().is_none(), "{text}");
+    holds(rt, words.next().is_none(), text);
 }

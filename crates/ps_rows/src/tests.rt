@@ -25,6 +25,7 @@ mod record_kinds;
 mod record_walk;
 mod records;
 mod refusals;
+mod rows;
 mod tables;
 mod texts;
 mod two_units;

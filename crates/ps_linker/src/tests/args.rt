@@ -1,5 +1,10 @@
 //! The arguments of the command line: help, version and wrong usage.
 use super::outcome::done;
+use super::wanted::Text;
+use super::wanted::Text::{
+    CheckHelp, Help, LinkHelp, MapHelp, NoArgs, NoCheckedHost, NoCommand, NoFile, NoHost, NoOut,
+    NotThere, NotThereToCheck, Nothing, OutIsLibrary, ShowHelp, TwoFiles, Version,
+};
 
 pub const VERSION: &str = "pslink 0.2.0\n";
 
@@ -32,7 +37,7 @@ Exit status:
 A name that begins with a dash is given as ./-name, or after --. See pslink(1).
 ";
 
-const LINK_HELP: &str = "Links a host with the units that it uses, and writes the linked file
+pub const LINK_HELP: &str = "Links a host with the units that it uses, and writes the linked file
 
 Usage: pslink link <HOST> <OUT> [LIB]...
 
@@ -66,7 +71,7 @@ Exit status:
 A name that begins with a dash is given as ./-name, or after --. See pslink(1).
 ";
 
-const MAP_HELP: &str =
+pub const MAP_HELP: &str =
     "Prints where a link would put each segment and private variable, and writes no file
 
 Usage: pslink map [OPTIONS] <HOST> [LIB]...
@@ -97,7 +102,7 @@ Exit status:
 A name that begins with a dash is given as ./-name, or after --. See pslink(1).
 ";
 
-const SHOW_HELP: &str = "Prints the segments of one code file and the link information of each
+pub const SHOW_HELP: &str = "Prints the segments of one code file and the link information of each
 
 Usage: pslink show [OPTIONS] <FILE>
 
@@ -123,7 +128,7 @@ Exit status:
 A name that begins with a dash is given as ./-name, or after --. See pslink(1).
 ";
 
-const CHECK_HELP: &str = "Says in words what is wrong with the files and what only looks right
+pub const CHECK_HELP: &str = "Says in words what is wrong with the files and what only looks right
 
 Usage: pslink check [OPTIONS] <HOST> [LIB]...
 
@@ -162,7 +167,7 @@ Exit status:
 A name that begins with a dash is given as ./-name, or after --. See pslink(1).
 ";
 
-const NO_ARGS: &str = "error: 'pslink' requires a subcommand but one was not provided
+pub const NO_ARGS: &str = "error: 'pslink' requires a subcommand but one was not provided
   [subcommands: link, map, show, check, list, help]
 
 Usage: pslink <COMMAND>
@@ -170,14 +175,14 @@ Usage: pslink <COMMAND>
 For more information, try '--help'.
 ";
 
-const NO_COMMAND: &str = "error: unrecognized subcommand 'frob'
+pub const NO_COMMAND: &str = "error: unrecognized subcommand 'frob'
 
 Usage: pslink <COMMAND>
 
 For more information, try '--help'.
 ";
 
-const NO_OUT: &str = "error: the following required arguments were not provided:
+pub const NO_OUT: &str = "error: the following required arguments were not provided:
   <OUT>
 
 Usage: pslink link <HOST> <OUT> [LIB]...
@@ -185,7 +190,7 @@ Usage: pslink link <HOST> <OUT> [LIB]...
 For more information, try '--help'.
 ";
 
-const NO_HOST: &str = "error: the following required arguments were not provided:
+pub const NO_HOST: &str = "error: the following required arguments were not provided:
   <HOST>
 
 Usage: pslink map <HOST> [LIB]...
@@ -193,7 +198,7 @@ Usage: pslink map <HOST> [LIB]...
 For more information, try '--help'.
 ";
 
-const NO_CHECKED_HOST: &str = "error: the following required arguments were not provided:
+pub const NO_CHECKED_HOST: &str = "error: the following required arguments were not provided:
   <HOST>
 
 Usage: pslink check --strict <HOST> [LIB]...
@@ -201,7 +206,7 @@ Usage: pslink check --strict <HOST> [LIB]...
 For more information, try '--help'.
 ";
 
-const NO_FILE: &str = "error: the following required arguments were not provided:
+pub const NO_FILE: &str = "error: the following required arguments were not provided:
   <FILE>
 
 Usage: pslink show <FILE>
@@ -209,90 +214,65 @@ Usage: pslink show <FILE>
 For more information, try '--help'.
 ";
 
-const TWO_FILES: &str = "error: unexpected argument 'b' found
+pub const TWO_FILES: &str = "error: unexpected argument 'b' found
 
 Usage: pslink show [OPTIONS] <FILE>
 
 For more information, try '--help'.
 ";
 
-const OUT_IS_LIBRARY: &str = "error: invalid value 'b' for '<OUT>': it is named as a library too
+pub const OUT_IS_LIBRARY: &str = "error: invalid value 'b' for '<OUT>': it is named as a library too
 
 Usage: pslink link <HOST> <OUT> [LIB]...
 
 For more information, try '--help'.
 ";
 
-const NOT_THERE: &str = "pslink: cannot read not-there\n";
+pub const NOT_THERE: &str = "pslink: cannot read not-there\n";
 
-const NOT_THERE_TO_CHECK: &str = "pslink: cannot read not-there (no such file)\n";
+pub const NOT_THERE_TO_CHECK: &str = "pslink: cannot read not-there (no such file)\n";
 
 /// Args, and the status and the two texts that they give. HOST may be OUT or a library, and no file
 /// of these is there.
-static ROWS: [(&[&str], u8, &str, &str); 28] = [
-    (&["pslink", "--help"], 0, HELP, ""),
-    (&["pslink", "-h"], 0, HELP, ""),
-    (&["pslink", "link", "--help"], 0, LINK_HELP, ""),
-    (&["pslink", "map", "--help"], 0, MAP_HELP, ""),
-    (&["pslink", "show", "--help"], 0, SHOW_HELP, ""),
-    (&["pslink", "check", "--help"], 0, CHECK_HELP, ""),
-    (&["pslink", "--version"], 0, VERSION, ""),
-    (&["pslink", "help"], 0, HELP, ""),
-    (&["pslink", "help", "link"], 0, LINK_HELP, ""),
-    (&["pslink", "help", "map"], 0, MAP_HELP, ""),
-    (&["pslink", "help", "show"], 0, SHOW_HELP, ""),
-    (&["pslink", "help", "check"], 0, CHECK_HELP, ""),
-    (&["pslink", "help", "frob"], 2, "", NO_COMMAND),
-    (&["pslink"], 2, "", NO_ARGS),
-    (&[], 2, "", NO_ARGS),
-    (&["pslink", "frob"], 2, "", NO_COMMAND),
-    (&["pslink", "link", "host"], 2, "", NO_OUT),
-    (&["pslink", "map"], 2, "", NO_HOST),
-    (&["pslink", "show"], 2, "", NO_FILE),
-    (&["pslink", "check", "--strict"], 2, "", NO_CHECKED_HOST),
+static ROWS: [(&str, u8, Text, Text); 28] = [
+    ("pslink --help", 0, Help, Nothing),
+    ("pslink -h", 0, Help, Nothing),
+    ("pslink link --help", 0, LinkHelp, Nothing),
+    ("pslink map --help", 0, MapHelp, Nothing),
+    ("pslink show --help", 0, ShowHelp, Nothing),
+    ("pslink check --help", 0, CheckHelp, Nothing),
+    ("pslink --version", 0, Version, Nothing),
+    ("pslink help", 0, Help, Nothing),
+    ("pslink help link", 0, LinkHelp, Nothing),
+    ("pslink help map", 0, MapHelp, Nothing),
+    ("pslink help show", 0, ShowHelp, Nothing),
+    ("pslink help check", 0, CheckHelp, Nothing),
+    ("pslink help frob", 2, Nothing, NoCommand),
+    ("pslink", 2, Nothing, NoArgs),
+    ("", 2, Nothing, NoArgs),
+    ("pslink frob", 2, Nothing, NoCommand),
+    ("pslink link host", 2, Nothing, NoOut),
+    ("pslink map", 2, Nothing, NoHost),
+    ("pslink show", 2, Nothing, NoFile),
+    ("pslink check --strict", 2, Nothing, NoCheckedHost),
     (
-        &["pslink", "check", "not-there", "--strict"],
+        "pslink check not-there --strict",
         3,
-        "",
-        NOT_THERE_TO_CHECK,
+        Nothing,
+        NotThereToCheck,
     ),
-    (&["pslink", "show", "a", "b"], 2, "", TWO_FILES),
-    (&["pslink", "link", "a", "b", "b"], 2, "", OUT_IS_LIBRARY),
-    (
-        &["pslink", "link", "a", "b", "c", "d", "b"],
-        2,
-        "",
-        OUT_IS_LIBRARY,
-    ),
-    (
-        &["pslink", "link", "b", "b", "c", "b", "c"],
-        2,
-        "",
-        OUT_IS_LIBRARY,
-    ),
-    (
-        &["pslink", "link", "not-there", "not-there", "b"],
-        3,
-        "",
-        NOT_THERE,
-    ),
-    (
-        &["pslink", "link", "not-there", "b", "not-there"],
-        3,
-        "",
-        NOT_THERE,
-    ),
-    (
-        &["pslink", "link", "not-there", "b", "./b", "B", "bb"],
-        3,
-        "",
-        NOT_THERE,
-    ),
+    ("pslink show a b", 2, Nothing, TwoFiles),
+    ("pslink link a b b", 2, Nothing, OutIsLibrary),
+    ("pslink link a b c d b", 2, Nothing, OutIsLibrary),
+    ("pslink link b b c b c", 2, Nothing, OutIsLibrary),
+    ("pslink link not-there not-there b", 3, Nothing, NotThere),
+    ("pslink link not-there b not-there", 3, Nothing, NotThere),
+    ("pslink link not-there b ./b B bb", 3, Nothing, NotThere),
 ];
 
 #[test]
 fn args_are_taken_or_are_wrong_usage(rt: HostRuntime) {
     for (args, status, out, err) in ROWS.iter() {
-        done(&rt, *args).is(&rt, *args, *status, *out, *err);
+        done(&rt, *args).is(&rt, *args, *status, out.text(), err.text());
     }
 }

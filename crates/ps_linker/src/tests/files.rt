@@ -1,17 +1,18 @@
 //! Files that cannot be opened, read or written.
 use super::faulty::Faulty;
 use super::inputs::{
-    HOST, HOST_IN_PLACE, Image, LIBRARY, LINKED_HOST_IN_PLACE, LINKED_PAIR, MAP_OF_PAIR,
-    SHOWN_LIBRARY, SUMMARY_IN_PLACE, SUMMARY_OF_PAIR, save_all,
+    HOST, HOST_IN_PLACE, Image, LIBRARY, LINKED_HOST_IN_PLACE, LINKED_PAIR, SUMMARY_IN_PLACE,
+    SUMMARY_OF_PAIR, save_all,
 };
 use super::outcome::{clean, done, holds};
+use super::wanted::Text;
 use std::fs;
 use std::process::Abort;
 use std::rt::Files;
 
 /// Runs these args: what is said is that a file cannot be opened, and so many are opened to be
 /// written.
-fn complains<R: Files + AllocGlobal + Abort>(rt: &R, args: &[&str], complaint: &str, created: u64) {
+fn complains<R: Files + AllocGlobal + Abort>(rt: &R, args: &str, complaint: &str, created: u64) {
     let files = Faulty::counting(rt);
     done(&files, args).is(rt, args, 3, "", complaint);
     assert!(rt; files.created() == created, "{args:?}");
@@ -26,50 +27,28 @@ const NOT_READ: &str = "pslink: cannot read opened-folder\n";
 const NOT_WRITTEN: &str = "pslink: cannot write opened-folder\n";
 
 /// The args, what is said, and how many files are opened to be written.
-static UNOPENED: [(&[&str], &str, u64); 6] = [
+static UNOPENED: [(&str, &str, u64); 6] = [
+    ("pslink link opened-missing opened-out", MISSING, 0),
     (
-        &["pslink", "link", "opened-missing", "opened-out"],
+        "pslink link opened-host opened-out opened-missing",
         MISSING,
         0,
     ),
-    (
-        &[
-            "pslink",
-            "link",
-            "opened-host",
-            "opened-out",
-            "opened-missing",
-        ],
-        MISSING,
-        0,
-    ),
-    (
-        &["pslink", "map", "opened-host", "opened-missing"],
-        MISSING,
-        0,
-    ),
-    (&["pslink", "show", "opened-missing"], MISSING, 0),
-    (
-        &["pslink", "link", "opened-host", "opened-folder"],
-        NOT_WRITTEN,
-        1,
-    ),
-    (
-        &["pslink", "link", "opened-folder", "opened-out"],
-        NOT_READ,
-        0,
-    ),
+    ("pslink map opened-host opened-missing", MISSING, 0),
+    ("pslink show opened-missing", MISSING, 0),
+    ("pslink link opened-host opened-folder", NOT_WRITTEN, 1),
+    ("pslink link opened-folder opened-out", NOT_READ, 0),
 ];
 
 #[test]
 fn files_that_cannot_be_opened(rt: HostRuntime) {
-    clean(&rt, &["opened-missing", "opened-out"]);
+    clean(&rt, "opened-missing opened-out");
     let _ = fs::create_dir(&rt, "opened-folder");
     save_all(&rt, OPENED.as_slice());
     for (args, complaint, created) in &UNOPENED {
         complains(&rt, *args, *complaint, *created);
     }
-    clean(&rt, &["opened-host"]);
+    clean(&rt, "opened-host");
     let _ = fs::remove_dir(&rt, "opened-folder");
 }
 
@@ -77,7 +56,7 @@ fn files_that_cannot_be_opened(rt: HostRuntime) {
 /// failed: then nothing is printed, and the program tries to open no file to be written.
 fn fails_to_read<R: Files + AllocGlobal + Abort>(
     rt: &R,
-    args: &[&str],
+    args: &str,
     (nth, reads): (u64, u64),
     complaint: &str,
     wanted: &str,
@@ -96,7 +75,7 @@ fn fails_to_read<R: Files + AllocGlobal + Abort>(
 /// Has each read of that file fail in turn, until none fails: how many failed.
 fn failing_reads<R: Files + AllocGlobal + Abort>(
     rt: &R,
-    args: &[&str],
+    args: &str,
     nth: u64,
     complaint: &str,
     wanted: &str,
@@ -113,20 +92,20 @@ const NO_HOST: &str = "pslink: cannot read reads-host\n";
 
 const NO_LIBRARY: &str = "pslink: cannot read reads-library\n";
 
-const LINK: &[&str] = &["pslink", "link", "reads-host", "reads-out", "reads-library"];
+const LINK: &str = "pslink link reads-host reads-out reads-library";
 
-const MAP: &[&str] = &["pslink", "map", "reads-host", "reads-library"];
+const MAP: &str = "pslink map reads-host reads-library";
 
-const SHOW: &[&str] = &["pslink", "show", "reads-library"];
+const SHOW: &str = "pslink show reads-library";
 
 /// The args, which of the files that are opened fails, what is then said, and what is printed where
 /// no read fails.
-static READS: [(&[&str], u64, &str, &str); 5] = [
-    (LINK, 1, NO_HOST, SUMMARY_OF_PAIR),
-    (LINK, 2, NO_LIBRARY, SUMMARY_OF_PAIR),
-    (MAP, 1, NO_HOST, MAP_OF_PAIR),
-    (MAP, 2, NO_LIBRARY, MAP_OF_PAIR),
-    (SHOW, 1, NO_LIBRARY, SHOWN_LIBRARY),
+static READS: [(&str, u64, &str, Text); 5] = [
+    (LINK, 1, NO_HOST, Text::SummaryOfPair),
+    (LINK, 2, NO_LIBRARY, Text::SummaryOfPair),
+    (MAP, 1, NO_HOST, Text::MapOfPair),
+    (MAP, 2, NO_LIBRARY, Text::MapOfPair),
+    (SHOW, 1, NO_LIBRARY, Text::ShownLibrary),
 ];
 
 static READ: [(&str, &Image); 2] = [("reads-host", &HOST), ("reads-library", &LIBRARY)];
@@ -135,10 +114,10 @@ static READ: [(&str, &Image); 2] = [("reads-host", &HOST), ("reads-library", &LI
 fn each_read_fails(rt: HostRuntime) {
     save_all(&rt, READ.as_slice());
     for (args, nth, complained, wanted) in READS.iter() {
-        let failed = failing_reads(&rt, *args, *nth, *complained, *wanted);
+        let failed = failing_reads(&rt, *args, *nth, *complained, wanted.text());
         assert!(rt; failed == 5, "{args:?} {nth}");
     }
-    clean(&rt, &["reads-host", "reads-out", "reads-library"]);
+    clean(&rt, "reads-host reads-out reads-library");
 }
 
 /// How long a file's whole blocks are that are written, and how much of the next block, with one
@@ -173,7 +152,7 @@ fn is_started<R: Files + AllocGlobal + Abort>(
 /// opened, and a write takes so many bytes at most.
 fn fails_to_write<R: Files + AllocGlobal + Abort>(
     rt: &R,
-    args: &[&str],
+    args: &str,
     (nth, most, needed): (u64, usize, u64),
     (writes, length): (u64, (u64, u64)),
     printed: &str,
@@ -195,7 +174,7 @@ fn fails_to_write<R: Files + AllocGlobal + Abort>(
 /// Has each write of OUT fail in turn, until none fails after so many as are needed.
 fn failing_writes<R: Files + AllocGlobal + Abort>(
     rt: &R,
-    args: &[&str],
+    args: &str,
     faults: (u64, usize, u64),
     printed: &str,
     linked: &[u8],
@@ -216,21 +195,15 @@ static WRITTEN: [(&str, &Image); 3] = [
 
 /// The args, as which file OUT is opened, how much a write takes, in how many writes, what is
 /// printed, and the linked file.
-static WRITES: [(&[&str], (u64, usize, u64), &str, &Image); 2] = [
+static WRITES: [(&str, (u64, usize, u64), &str, &Image); 2] = [
     (
-        &["pslink", "link", "writes-in-place", "writes-out"],
+        "pslink link writes-in-place writes-out",
         (2, 3, 513),
         SUMMARY_IN_PLACE,
         &LINKED_HOST_IN_PLACE,
     ),
     (
-        &[
-            "pslink",
-            "link",
-            "writes-host",
-            "writes-out",
-            "writes-library",
-        ],
+        "pslink link writes-host writes-out writes-library",
         (3, usize::MAX, 3),
         SUMMARY_OF_PAIR,
         &LINKED_PAIR,
@@ -239,16 +212,16 @@ static WRITES: [(&[&str], (u64, usize, u64), &str, &Image); 2] = [
 
 static STALLS: [(&str, &Image); 1] = [("stalls-host", &HOST_IN_PLACE)];
 
-static STALLED: [&str; 4] = ["pslink", "link", "stalls-host", "stalls-out"];
+static STALLED: &str = "pslink link stalls-host stalls-out";
 
 #[test]
 fn a_file_that_takes_no_bytes(rt: HostRuntime) {
     save_all(&rt, STALLS.as_slice());
     let files = Faulty::taking(&rt, 0, 0, 0);
-    let run = done(&files, STALLED.as_slice());
+    let run = done(&files, STALLED);
     run.is(&rt, "stalls", 3, "", "pslink: cannot write stalls-out\n");
-    holds(&rt, "stalls-out", &[], STALLED.as_slice());
-    clean(&rt, &["stalls-host", "stalls-out"]);
+    holds(&rt, "stalls-out", &[], STALLED);
+    clean(&rt, "stalls-host stalls-out");
 }
 
 #[test]
@@ -258,7 +231,7 @@ fn each_write_of_a_link_fails(rt: HostRuntime) {
         failing_writes(&rt, *args, *faults, *printed, image.bytes(&rt).as_slice());
     }
     for (path, _) in &WRITTEN {
-        clean(&rt, &[*path]);
+        clean(&rt, *path);
     }
-    clean(&rt, &["writes-out"]);
+    clean(&rt, "writes-out");
 }

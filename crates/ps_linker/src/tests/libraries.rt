@@ -7,17 +7,17 @@ use super::outcome::{clean, done, holds_image};
 use std::process::Abort;
 use std::rt::Files;
 
-/// The arguments of a link before its libraries, and how many arguments it has with forty of them.
-const LINK: [&str; 4] = ["pslink", "link", "forty-host", "forty-out"];
+/// The arguments of a link before its libraries.
+const LINK: &str = "pslink link forty-host forty-out";
 
-const ARGS: usize = 44;
+/// How many libraries it has, and where the first is among them, the seventeenth and the last.
+const LIBRARIES: usize = 40;
 
-/// Where the first library is among the arguments, the seventeenth and the last.
-const FIRST: usize = 4;
+const FIRST: usize = 0;
 
-const SEVENTEENTH: usize = 20;
+const SEVENTEENTH: usize = 16;
 
-const LAST: usize = 43;
+const LAST: usize = 39;
 
 const REFUSED: &str = "pslink: refused 13 MissingUnit file 0 slot 7\n";
 
@@ -32,7 +32,7 @@ static FILES: [(&str, &Image); 4] = [
     ("forty-without", &LIBRARY_WITHOUT_UNIT),
 ];
 
-/// Where another library is among the arguments, its name, the status and the two texts, and what
+/// Where another library is among the forty, its name, the status and the two texts, and what
 /// OUT then has. It stays there in the rows below.
 static ROWS: [(usize, &str, u8, &str, &str, &Image); 5] = [
     (LAST, "forty-library", 0, SUMMARY_OF_PAIR, "", &LINKED_PAIR),
@@ -56,13 +56,26 @@ static ROWS: [(usize, &str, u8, &str, &str, &Image); 5] = [
     ),
 ];
 
+/// The arguments with these libraries.
+fn args_with<R: AllocGlobal + Abort>(rt: &R, libraries: &[&str; LIBRARIES]) -> String {
+    let mut args = String::from_str(rt.alloc(), LINK).expect(rt, "no memory");
+    for library in libraries {
+        args.push_str(" ").expect(rt, "no memory");
+        args.push_str(*library).expect(rt, "no memory");
+    }
+    args
+}
+
 /// Links with forty libraries, of which all but those of the rows so far have no unit.
-fn links_each_row<R: Files + AllocGlobal + Abort>(rt: &R, args: &mut [&'static str; ARGS]) {
+fn links_each_row<R: Files + AllocGlobal + Abort>(
+    rt: &R,
+    libraries: &mut [&'static str; LIBRARIES],
+) {
     for (place, library, status, printed, complained, wanted) in ROWS.iter() {
-        args[*place] = *library;
-        let row = (*place, *library);
-        done(rt, args.as_slice()).is(rt, row, *status, *printed, *complained);
-        holds_image(rt, "forty-out", *wanted, &[*library]);
+        libraries[*place] = *library;
+        let args = args_with(rt, libraries);
+        done(rt, args.as_str()).is(rt, *library, *status, *printed, *complained);
+        holds_image(rt, "forty-out", *wanted, *library);
     }
 }
 
@@ -71,12 +84,12 @@ fn forty_libraries(rt: HostRuntime) {
     save_all(&rt, FILES.as_slice());
     save_text(&rt, "forty-short", "a library under 512 bytes");
     save_text(&rt, "forty-out", "as before");
-    let mut args = ["forty-without"; ARGS];
-    args[..FIRST].copy_from_slice(&LINK);
-    done(&rt, args.as_slice()).is(&rt, "none", 1, "", REFUSED);
-    links_each_row(&rt, &mut args);
+    let mut libraries = ["forty-without"; LIBRARIES];
+    let args = args_with(&rt, &libraries);
+    done(&rt, args.as_str()).is(&rt, "none", 1, "", REFUSED);
+    links_each_row(&rt, &mut libraries);
     for (path, _) in FILES.iter() {
-        clean(&rt, &[*path]);
+        clean(&rt, *path);
     }
-    clean(&rt, &["forty-out", "forty-short"]);
+    clean(&rt, "forty-out forty-short");
 }

@@ -27,43 +27,34 @@ static FILES: [(&str, &Image); 7] = [
 ];
 
 /// The arguments of a link that is refused, and what is said. OUT stays as before.
-static REFUSED: [(&[&str], &str); 3] = [
-    (&["pslink", "link", "link-host", "link-out"], MISSING),
-    (&["pslink", "link", "link-short", "link-out"], SHORT),
-    (
-        &["pslink", "link", "link-ending-host", "link-out", "link-cut"],
-        NO_END,
-    ),
+static REFUSED: [(&str, &str); 3] = [
+    ("pslink link link-host link-out", MISSING),
+    ("pslink link link-short link-out", SHORT),
+    ("pslink link link-ending-host link-out link-cut", NO_END),
 ];
 
 /// The arguments of a link, what is printed, OUT, and what OUT then has.
-static LINKED: [(&[&str], &str, &str, &Image); 4] = [
+static LINKED: [(&str, &str, &str, &Image); 4] = [
     (
-        &["pslink", "link", "link-in-place", "link-new"],
+        "pslink link link-in-place link-new",
         SUMMARY_IN_PLACE,
         "link-new",
         &LINKED_HOST_IN_PLACE,
     ),
     (
-        &["pslink", "link", "link-same", "link-same"],
+        "pslink link link-same link-same",
         SUMMARY_IN_PLACE,
         "link-same",
         &LINKED_HOST_IN_PLACE,
     ),
     (
-        &["pslink", "link", "link-host", "link-out", "link-library"],
+        "pslink link link-host link-out link-library",
         SUMMARY_OF_PAIR,
         "link-out",
         &LINKED_PAIR,
     ),
     (
-        &[
-            "pslink",
-            "link",
-            "link-ending-host",
-            "link-ended",
-            "link-ending",
-        ],
+        "pslink link link-ending-host link-ended link-ending",
         SUMMARY_OF_PAIR,
         "link-ended",
         &LINKED_PAIR,
@@ -75,7 +66,7 @@ fn links_and_leaves_out_where_it_refuses(rt: HostRuntime) {
     save_all(&rt, FILES.as_slice());
     save_text(&rt, "link-short", "a host under 512 bytes");
     save_text(&rt, "link-out", "as before");
-    clean(&rt, &["link-new"]);
+    clean(&rt, "link-new");
     for (args, complained) in REFUSED.iter() {
         done(&rt, *args).is(&rt, *args, 1, "", *complained);
         holds(&rt, "link-out", b"as before", *args);
@@ -85,20 +76,13 @@ fn links_and_leaves_out_where_it_refuses(rt: HostRuntime) {
         holds_image(&rt, *out, *image, *args);
     }
     for (path, _) in FILES.iter() {
-        clean(&rt, &[*path]);
+        clean(&rt, *path);
     }
-    clean(&rt, &["link-new", "link-ended", "link-short", "link-out"]);
+    clean(&rt, "link-new link-ended link-short link-out");
 }
 
 /// A link whose OUT leads to its second library, and what is said of it.
-static LED: [&str; 6] = [
-    "pslink",
-    "link",
-    "led-host",
-    "led-out",
-    "led-other",
-    "led-library",
-];
+static LED: &str = "pslink link led-host led-out led-other led-library";
 
 static LED_FILES: [(&str, &Image); 3] = [
     ("led-host", &HOST),
@@ -119,22 +103,22 @@ For more information, try '--help'.
 /// The link is wrong usage, and no file is opened to be written.
 fn overwrites_no_library<R: Files + AllocGlobal + Abort>(rt: &R, row: &str) {
     let files = Faulty::counting(rt);
-    done(&files, LED.as_slice()).is(rt, row, 2, "", LEADS_TO_LIBRARY);
+    done(&files, LED).is(rt, row, 2, "", LEADS_TO_LIBRARY);
     assert!(rt; files.created() == 0, "{row}");
-    holds_image(rt, "led-library", &LIBRARY, &[row]);
-    clean(rt, &["led-out"]);
+    holds_image(rt, "led-library", &LIBRARY, row);
+    clean(rt, "led-out");
 }
 
 #[test]
 fn a_path_that_leads_to_a_library_is_no_out(rt: HostRuntime) {
-    clean(&rt, &["led-out"]);
+    clean(&rt, "led-out");
     save_all(&rt, LED_FILES.as_slice());
     let _ = fs::hard_link(&rt, "led-library", "led-out");
     overwrites_no_library(&rt, "a hard link");
     let _ = symlink(&rt, "led-library", "led-out");
     overwrites_no_library(&rt, "a symbolic link");
     save_all(&rt, LED_OUT.as_slice());
-    done(&rt, LED.as_slice()).is(&rt, "a copy", 0, SUMMARY_OF_PAIR, "");
-    holds_image(&rt, "led-out", &LINKED_PAIR, &["a copy"]);
-    clean(&rt, &["led-host", "led-library", "led-other", "led-out"]);
+    done(&rt, LED).is(&rt, "a copy", 0, SUMMARY_OF_PAIR, "");
+    holds_image(&rt, "led-out", &LINKED_PAIR, "a copy");
+    clean(&rt, "led-host led-library led-other led-out");
 }

@@ -2,11 +2,10 @@
 use super::args::HELP;
 use super::faulty::Faulty;
 use super::inputs::{
-    HOST, HOST_IN_PLACE, Image, JSON_OF_PAIR, LIBRARY, LINKED_HOST_IN_PLACE, LINKED_PAIR,
-    MAP_OF_PAIR, REFERENCES_OF_PAIR, SHOWN_LIBRARY, SUMMARY_IN_PLACE, SUMMARY_OF_PAIR, save_all,
-    save_text,
+    HOST, HOST_IN_PLACE, Image, LIBRARY, LINKED_HOST_IN_PLACE, LINKED_PAIR, save_all, save_text,
 };
 use super::outcome::{clean, done_with, holds, holds_image};
+use super::wanted::Text;
 use refusing::Refusing;
 use std::process::Abort;
 use std::rt::Files;
@@ -14,7 +13,7 @@ use std::rt::Files;
 const NO_MEMORY: &str = "pslink: out of memory\n";
 
 /// The report of a check of the pair.
-const REPORT: &str = "file 0 memory-host: 1536 bytes, little-endian
+pub const REPORT: &str = "file 0 memory-host: 1536 bytes, little-endian
 file 1 memory-library: 1536 bytes, little-endian
 slot 01 DEMO: the host program, from memory-host entry 01, 18 bytes
 slot 07 UTIL: a unit that the host wants, from memory-library entry 02, 24 bytes
@@ -23,7 +22,7 @@ links: segments 2 private words 4 blocks 3
 ";
 
 /// The same as JSON.
-const JSON_REPORT: &str =
+pub const JSON_REPORT: &str =
     "{\"links\":true,\"segments\":2,\"private_words\":4,\"blocks\":3,\"fault\":null,\"warnings\":[
 ],\"harmless\":[
 ],\"notes\":[
@@ -35,7 +34,7 @@ const OUT: &str = "memory-out";
 
 /// Has OUT as it is before a run.
 fn put_out<R: Files + AllocGlobal + Abort>(rt: &R, is_there: bool) {
-    clean(rt, &[OUT]);
+    clean(rt, OUT);
     if is_there {
         save_text(rt, OUT, "as before");
     }
@@ -47,7 +46,7 @@ fn put_out<R: Files + AllocGlobal + Abort>(rt: &R, is_there: bool) {
 fn is_refused<R: Files + AllocGlobal + Abort>(
     rt: &R,
     number: u64,
-    args: &[&str],
+    args: &str,
     was_there: bool,
     printed: &str,
     linked: Option<&Image>,
@@ -67,7 +66,7 @@ fn is_refused<R: Files + AllocGlobal + Abort>(
     false
 }
 
-fn is_as_before<R: Files + AllocGlobal + Abort>(rt: &R, was_there: bool, args: &[&str]) {
+fn is_as_before<R: Files + AllocGlobal + Abort>(rt: &R, was_there: bool, args: &str) {
     if was_there {
         holds(rt, OUT, b"as before", args);
     }
@@ -77,7 +76,7 @@ fn has_linked<R: Files + AllocGlobal + Abort>(
     rt: &R,
     linked: Option<&Image>,
     created: u64,
-    args: &[&str],
+    args: &str,
 ) {
     match linked {
         Some(image) => holds_image(rt, OUT, image, args),
@@ -88,7 +87,7 @@ fn has_linked<R: Files + AllocGlobal + Abort>(
 /// Has each allocation of the args' run refused in turn, until none is: how many were.
 fn refused_allocations<R: Files + AllocGlobal + Abort>(
     rt: &R,
-    args: &[&str],
+    args: &str,
     was_there: bool,
     printed: &str,
     linked: Option<&Image>,
@@ -107,77 +106,64 @@ static FILES: [(&str, &Image); 3] = [
     ("memory-library", &LIBRARY),
 ];
 
-const LINK_IN_PLACE: &[&str] = &["pslink", "link", "memory-in-place", OUT];
+const LINK_IN_PLACE: &str = "pslink link memory-in-place memory-out";
 
 /// The args, whether OUT is there before, what is printed, what OUT then has, and how many
 /// allocations are refused at least.
-static ROWS: [(&[&str], bool, &str, Option<&Image>, u64); 8] = [
+static ROWS: [(&str, bool, Text, Option<&Image>, u64); 8] = [
     (
         LINK_IN_PLACE,
         false,
-        SUMMARY_IN_PLACE,
+        Text::SummaryInPlace,
         Some(&LINKED_HOST_IN_PLACE),
         5,
     ),
     (
-        &["pslink", "link", "memory-host", OUT, "memory-library"],
+        "pslink link memory-host memory-out memory-library",
         true,
-        SUMMARY_OF_PAIR,
+        Text::SummaryOfPair,
         Some(&LINKED_PAIR),
         5,
     ),
     (
-        &["pslink", "map", "memory-host", "memory-library"],
+        "pslink map memory-host memory-library",
         false,
-        MAP_OF_PAIR,
+        Text::MapOfPair,
         None,
         5,
     ),
     (
-        &[
-            "pslink",
-            "map",
-            "--references",
-            "memory-host",
-            "memory-library",
-        ],
+        "pslink map --references memory-host memory-library",
         false,
-        REFERENCES_OF_PAIR,
+        Text::ReferencesOfPair,
         None,
         10,
     ),
     (
-        &[
-            "pslink",
-            "map",
-            "--json",
-            "--references",
-            "memory-host",
-            "memory-library",
-        ],
+        "pslink map --json --references memory-host memory-library",
         false,
-        JSON_OF_PAIR,
+        Text::JsonOfPair,
         None,
         10,
     ),
     (
-        &["pslink", "show", "memory-library"],
+        "pslink show memory-library",
         false,
-        SHOWN_LIBRARY,
+        Text::ShownLibrary,
         None,
         1,
     ),
     (
-        &["pslink", "check", "memory-host", "memory-library"],
+        "pslink check memory-host memory-library",
         false,
-        REPORT,
+        Text::ReportOfPair,
         None,
         8,
     ),
     (
-        &["pslink", "check", "--json", "memory-host", "memory-library"],
+        "pslink check --json memory-host memory-library",
         false,
-        JSON_REPORT,
+        Text::JsonReportOfPair,
         None,
         9,
     ),
@@ -187,17 +173,16 @@ static ROWS: [(&[&str], bool, &str, Option<&Image>, u64); 8] = [
 fn each_allocation_is_refused(rt: HostRuntime) {
     save_all(&rt, FILES.as_slice());
     for (args, was_there, printed, linked, least) in ROWS.iter() {
-        let refused = refused_allocations(&rt, *args, *was_there, *printed, *linked);
+        let refused = refused_allocations(&rt, *args, *was_there, printed.text(), *linked);
         assert!(rt; (*least..1000).contains(&refused), "{args:?} {refused}");
     }
-    let files = ["memory-in-place", "memory-host", "memory-library", OUT];
-    clean(&rt, files.as_slice());
+    clean(&rt, "memory-in-place memory-host memory-library memory-out");
 }
 
 #[test]
 fn help_without_memory(rt: HostRuntime) {
     let heap = Refusing::from(rt.alloc(), 1);
-    let help = done_with(&rt, &heap, &["pslink", "--help"]);
+    let help = done_with(&rt, &heap, "pslink --help");
     help.is(&rt, "help", 0, HELP, "");
     assert!(rt; heap.allocations() == 0);
 }

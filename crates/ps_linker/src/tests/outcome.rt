@@ -18,7 +18,7 @@ pub struct Outcome {
 }
 
 /// Runs the arguments with ample memory.
-pub fn done<R: CodeFiles + AllocGlobal>(rt: &R, args: &[&str]) -> Outcome {
+pub fn done<R: CodeFiles + AllocGlobal>(rt: &R, args: &str) -> Outcome {
     done_with(rt, rt.alloc(), args)
 }
 
@@ -26,7 +26,7 @@ pub fn done<R: CodeFiles + AllocGlobal>(rt: &R, args: &[&str]) -> Outcome {
 pub fn done_with<R: CodeFiles + AllocGlobal, A: Allocator + Copy>(
     rt: &R,
     alloc: A,
-    args: &[&str],
+    args: &str,
 ) -> Outcome {
     let heap: Global = rt.alloc();
     let mut out = Vec::new(heap);
@@ -35,15 +35,19 @@ pub fn done_with<R: CodeFiles + AllocGlobal, A: Allocator + Copy>(
     Outcome { status, out, err }
 }
 
-/// Runs the arguments with these writers.
+/// Runs the arguments, which are words, with these writers.
 pub fn status_of<R: CodeFiles + AllocGlobal, A: Allocator + Copy, O: Write, E: Write>(
     rt: &R,
     alloc: A,
-    args: &[&str],
+    args: &str,
     out: &mut O,
     err: &mut E,
 ) -> u8 {
-    run(rt, alloc, args, out, err)
+    let mut words = Vec::new(rt.alloc());
+    for word in args.split_whitespace() {
+        let _ = words.push(word);
+    }
+    run(rt, alloc, words.as_slice(), out, err)
 }
 
 impl Outcome {
@@ -69,7 +73,7 @@ pub fn text(bytes: &[u8]) -> &str {
 }
 
 /// Checks that a file is there with these bytes.
-pub fn holds<R: Files + AllocGlobal + Abort>(rt: &R, path: &str, bytes: &[u8], row: &[&str]) {
+pub fn holds<R: Files + AllocGlobal + Abort>(rt: &R, path: &str, bytes: &[u8], row: &str) {
     let is_held = match fs::read(rt, path) {
         Ok(file) => file.as_slice() == bytes,
         Err(_) => false,
@@ -78,18 +82,13 @@ pub fn holds<R: Files + AllocGlobal + Abort>(rt: &R, path: &str, bytes: &[u8], r
 }
 
 /// Checks that a file is there with the bytes of this image.
-pub fn holds_image<R: Files + AllocGlobal + Abort>(
-    rt: &R,
-    path: &str,
-    image: &Image,
-    row: &[&str],
-) {
+pub fn holds_image<R: Files + AllocGlobal + Abort>(rt: &R, path: &str, image: &Image, row: &str) {
     holds(rt, path, image.bytes(rt).as_slice(), row)
 }
 
-/// Removes files of a test.
-pub fn clean<R: Files>(rt: &R, paths: &[&str]) {
-    for path in paths {
-        let _ = fs::remove_file(rt, *path);
+/// Removes files of a test, whose paths are words.
+pub fn clean<R: Files>(rt: &R, paths: &str) {
+    for path in paths.split_whitespace() {
+        let _ = fs::remove_file(rt, path);
     }
 }

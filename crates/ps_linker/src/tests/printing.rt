@@ -1,10 +1,7 @@
 //! Standard output and standard error that fail, or take little at a time.
-use super::args::{HELP, VERSION};
-use super::inputs::{
-    HOST, HOST_IN_PLACE, Image, LIBRARY, LINKED_HOST_IN_PLACE, MAP_OF_PAIR, SHOWN_LIBRARY,
-    SUMMARY_IN_PLACE, save_all,
-};
+use super::inputs::{HOST, HOST_IN_PLACE, Image, LIBRARY, LINKED_HOST_IN_PLACE, save_all};
 use super::outcome::{clean, holds_image, status_of, text};
+use super::wanted::Text;
 use super::writers::{Limited, Stuck};
 use std::fs;
 use std::process::Abort;
@@ -13,7 +10,7 @@ use std::rt::Files;
 const NO_OUTPUT: &str = "pslink: cannot write standard output\n";
 
 /// The report of a check of a host that has its unit.
-const REPORT: &str = "file 0 prints-in-place: 2560 bytes, little-endian
+pub const REPORT: &str = "file 0 prints-in-place: 2560 bytes, little-endian
 slot 01 DEMO: the host program, from prints-in-place entry 01, 18 bytes
 slot 07 UTIL: a unit in the host file, from prints-in-place entry 07, 24 bytes
 slots without a segment: 00 02 03 04 05 06 08 09 10 11 12 13 14 15
@@ -26,25 +23,19 @@ static STUCK: [(&str, &Image); 3] = [
     ("stuck-library", &LIBRARY),
 ];
 
-const STUCK_LINK: &[&str] = &["pslink", "link", "stuck-in-place", "stuck-out"];
+const STUCK_LINK: &str = "pslink link stuck-in-place stuck-out";
 
-static STUCK_COMMANDS: [&[&str]; 6] = [
+static STUCK_COMMANDS: [&str; 6] = [
     STUCK_LINK,
-    &["pslink", "map", "stuck-host", "stuck-library"],
-    &[
-        "pslink",
-        "map",
-        "--references",
-        "stuck-host",
-        "stuck-library",
-    ],
-    &["pslink", "show", "stuck-library"],
-    &["pslink", "check", "stuck-host"],
-    &["pslink", "--help"],
+    "pslink map stuck-host stuck-library",
+    "pslink map --references stuck-host stuck-library",
+    "pslink show stuck-library",
+    "pslink check stuck-host",
+    "pslink --help",
 ];
 
 /// Runs the args with a standard output that does not take what it is given.
-fn cannot_print<R: Files + AllocGlobal + Abort>(rt: &R, args: &[&str], stuck: Stuck) {
+fn cannot_print<R: Files + AllocGlobal + Abort>(rt: &R, args: &str, stuck: Stuck) {
     let mut out = stuck;
     let mut err = Vec::new(rt.alloc());
     let status = status_of(rt, rt.alloc(), args, &mut out, &mut err);
@@ -63,9 +54,9 @@ fn standard_output_that_fails(rt: HostRuntime) {
     // The linked file was written before the line that tells of it.
     holds_image(&rt, "stuck-out", &LINKED_HOST_IN_PLACE, STUCK_LINK);
     for (path, _) in STUCK.iter() {
-        clean(&rt, &[*path]);
+        clean(&rt, *path);
     }
-    clean(&rt, &["stuck-out"]);
+    clean(&rt, "stuck-out");
 }
 
 /// Has a write of the args' text fail after so many, of which each takes `most` bytes. Returns
@@ -73,7 +64,7 @@ fn standard_output_that_fails(rt: HostRuntime) {
 /// is 0.
 fn fails_to_print<R: Files + AllocGlobal + Abort>(
     rt: &R,
-    args: &[&str],
+    args: &str,
     (most, writes): (usize, u64),
     wanted: &str,
 ) -> bool {
@@ -98,7 +89,7 @@ fn is_prefix(text: &str, whole: &str) -> bool {
 /// Has each write of the args' text fail in turn, until none fails: how many failed.
 fn failing_prints<R: Files + AllocGlobal + Abort>(
     rt: &R,
-    args: &[&str],
+    args: &str,
     most: usize,
     wanted: &str,
 ) -> u64 {
@@ -117,52 +108,45 @@ static PRINTED: [(&str, &Image); 3] = [
 ];
 
 /// The args, and what they print.
-static TEXTS: [(&[&str], &str); 6] = [
+static TEXTS: [(&str, Text); 6] = [
     (
-        &["pslink", "link", "prints-in-place", "prints-out"],
-        SUMMARY_IN_PLACE,
+        "pslink link prints-in-place prints-out",
+        Text::SummaryInPlace,
     ),
-    (
-        &["pslink", "map", "prints-host", "prints-library"],
-        MAP_OF_PAIR,
-    ),
-    (&["pslink", "show", "prints-library"], SHOWN_LIBRARY),
-    (&["pslink", "check", "prints-in-place"], REPORT),
-    (&["pslink", "--help"], HELP),
-    (&["pslink", "--version"], VERSION),
+    ("pslink map prints-host prints-library", Text::MapOfPair),
+    ("pslink show prints-library", Text::ShownLibrary),
+    ("pslink check prints-in-place", Text::ReportInPlace),
+    ("pslink --help", Text::Help),
+    ("pslink --version", Text::Version),
 ];
 
 #[test]
 fn each_write_of_a_text_fails(rt: HostRuntime) {
     save_all(&rt, PRINTED.as_slice());
-    for (args, wanted) in TEXTS.iter() {
+    for (args, text) in TEXTS.iter() {
+        let wanted = text.text();
         for most in [1, 7, 4096] {
-            let failed = failing_prints(&rt, *args, most, *wanted);
+            let failed = failing_prints(&rt, *args, most, wanted);
             let writes = wanted.len().div_ceil(most) as u64;
             assert!(rt; failed == writes, "{args:?} by {most}");
         }
     }
     for (path, _) in PRINTED.iter() {
-        clean(&rt, &[*path]);
+        clean(&rt, *path);
     }
-    clean(&rt, &["prints-out"]);
+    clean(&rt, "prints-out");
 }
 
 /// The args, and the status that they end with.
-static SILENT: [(&[&str], u8); 4] = [
-    (&["pslink", "link", "silent-host", "silent-out"], 3),
-    (&["pslink", "map", "silent-host"], 3),
-    (&["pslink", "show", "silent-host"], 3),
-    (&["pslink", "frob"], 2),
+static SILENT: [(&str, u8); 4] = [
+    ("pslink link silent-host silent-out", 3),
+    ("pslink map silent-host", 3),
+    ("pslink show silent-host", 3),
+    ("pslink frob", 2),
 ];
 
 /// Runs the args with a standard error that does not take what it is given.
-fn cannot_complain<R: Files + AllocGlobal + Abort>(
-    rt: &R,
-    args: &[&str],
-    stuck: Stuck,
-    wanted: u8,
-) {
+fn cannot_complain<R: Files + AllocGlobal + Abort>(rt: &R, args: &str, stuck: Stuck, wanted: u8) {
     let mut out = Vec::new(rt.alloc());
     let mut err = stuck;
     let status = status_of(rt, rt.alloc(), args, &mut out, &mut err);

@@ -1,19 +1,18 @@
 //! `map` and `show`: their texts, and what they refuse.
 use super::inputs::{
     BIG_ENDIAN_LIBRARY, CUT_LIBRARY, HOST, HOST_SLOTS, HOST_WITH_CONSTANT, Image, LIBRARY,
-    LIBRARY_CUT_IN_CODE, LIBRARY_OF_BOTH, LIBRARY_SLOTS, LINKED_PAIR, MAP_OF_AN_ADDED_UNIT,
-    MAP_OF_PAIR, MAP_WITH_CONSTANT, MIXED_FILE, NAMING_LIBRARY, REFERENCES_OF_PAIR, SHORT_FILE,
-    SHOW_OF_BOTH_UNITS, SHOWN_BIG_ENDIAN, SHOWN_LIBRARY, SHOWN_LINKED, SHOWN_ZEROS, USING_LIBRARY,
-    save, save_all,
+    LIBRARY_CUT_IN_CODE, LIBRARY_OF_BOTH, LINKED_PAIR, MIXED_FILE, NAMING_LIBRARY, SHORT_FILE,
+    USING_LIBRARY, save, save_all,
 };
 use super::outcome::{Outcome, clean, done, done_with, holds_image};
+use super::wanted::Text;
 use refusing::Refusing;
 use std::fs;
 use std::process::Abort;
 use std::rt::Files;
 
 /// The args of a map, the status and the two texts.
-type Mapped<'a> = (&'a [&'a str], u8, &'a str, &'a str);
+type Mapped<'a> = (&'a str, u8, Text, &'a str);
 
 static MAP_FILES: [(&str, &Image); 5] = [
     ("map-host", &HOST),
@@ -30,52 +29,47 @@ const NO_HOST: &str = "pslink: refused 4 NoHost file 0\n";
 const LINKED: &str = "pslink: refused 14 NotAUnit kind 0 file 1 slot 7\n";
 
 static MAPS: [Mapped<'static>; 7] = [
+    ("pslink map map-host map-library", 0, Text::MapOfPair, ""),
     (
-        &["pslink", "map", "map-host", "map-library"],
+        "pslink map map-host map-library --references",
         0,
-        MAP_OF_PAIR,
+        Text::ReferencesOfPair,
         "",
     ),
     (
-        &["pslink", "map", "map-host", "map-library", "--references"],
+        "pslink map map-constant map-library",
         0,
-        REFERENCES_OF_PAIR,
-        "",
-    ),
-    (
-        &["pslink", "map", "map-constant", "map-library"],
-        0,
-        MAP_WITH_CONSTANT,
+        Text::MapWithConstant,
         "",
     ),
     // a unit that only a unit names
     (
-        &["pslink", "map", "map-host", "map-both"],
+        "pslink map map-host map-both",
         0,
-        MAP_OF_AN_ADDED_UNIT,
+        Text::MapOfAnAddedUnit,
         "",
     ),
-    (&["pslink", "map", "map-host"], 1, "", NO_UNIT),
-    (&["pslink", "map", "map-linked", "map-host"], 1, "", NO_HOST),
-    (&["pslink", "map", "map-host", "map-linked"], 1, "", LINKED),
+    ("pslink map map-host", 1, Text::Nothing, NO_UNIT),
+    ("pslink map map-linked map-host", 1, Text::Nothing, NO_HOST),
+    ("pslink map map-host map-linked", 1, Text::Nothing, LINKED),
 ];
 
 #[test]
 fn maps_a_host_with_its_libraries(rt: HostRuntime) {
     save_all(&rt, MAP_FILES.as_slice());
     for (args, status, printed, complained) in &MAPS {
-        done(&rt, *args).is(&rt, *args, *status, *printed, *complained);
+        done(&rt, *args).is(&rt, *args, *status, printed.text(), *complained);
     }
-    holds_image(&rt, "map-host", &HOST, &["map"]);
+    holds_image(&rt, "map-host", &HOST, "map");
     for (path, _) in &MAP_FILES {
-        clean(&rt, &[*path]);
+        clean(&rt, *path);
     }
 }
 
 /// Shows a file of these bytes.
 fn shown<R: Files + AllocGlobal + Abort>(rt: &R, image: &Image) -> Outcome {
     save_all(rt, &[("show-file", image)]);
-    done(rt, &["pslink", "show", "show-file"])
+    done(rt, "pslink show show-file")
 }
 
 const CUT: &str =
@@ -86,43 +80,43 @@ const UNLISTED: &str = "links 02\n0 UNITREF AUX      at 2 unlisted\n1 EOFMARK ne
 const NOWHERE: &str = "links 02\n0 UNITREF AUX      at unlisted\n1 EOFMARK next 0\n";
 
 /// Files, and the two parts of their show.
-static SHOWS: [(&str, &Image, &str, &str); 8] = [
-    ("a library", &LIBRARY, SHOWN_LIBRARY, ""),
+static SHOWS: [(&str, &Image, Text, &str); 8] = [
+    ("a library", &LIBRARY, Text::ShownLibrary, ""),
     (
         "a big-endian library",
         &BIG_ENDIAN_LIBRARY,
-        SHOWN_BIG_ENDIAN,
+        Text::ShownBigEndian,
         "",
     ),
-    ("a linked file", &LINKED_PAIR, SHOWN_LINKED, ""),
+    ("a linked file", &LINKED_PAIR, Text::ShownLinked, ""),
     (
         "a library without its last byte",
         &CUT_LIBRARY,
-        LIBRARY_SLOTS,
+        Text::LibrarySlots,
         CUT,
     ),
     (
         "a library that is cut in its code",
         &LIBRARY_CUT_IN_CODE,
-        LIBRARY_SLOTS,
+        Text::LibrarySlots,
         "links 02\nfault 16 Truncated\n",
     ),
     (
         "a unit that is there",
         &LIBRARY_OF_BOTH,
-        SHOW_OF_BOTH_UNITS,
+        Text::ShowOfBothUnits,
         "",
     ),
     (
         "a unit that is not there",
         &USING_LIBRARY,
-        LIBRARY_SLOTS,
+        Text::LibrarySlots,
         UNLISTED,
     ),
     (
         "a unit that is not there, at no place",
         &NAMING_LIBRARY,
-        LIBRARY_SLOTS,
+        Text::LibrarySlots,
         NOWHERE,
     ),
 ];
@@ -144,12 +138,12 @@ static UNSHOWN: [(&str, &Image, &str); 2] = [
 #[test]
 fn shows_what_a_file_has(rt: HostRuntime) {
     for (what, image, slots, links) in &SHOWS {
-        shown(&rt, *image).prints(&rt, *what, *slots, *links);
+        shown(&rt, *image).prints(&rt, *what, slots.text(), *links);
     }
     for (what, image, complained) in &UNSHOWN {
         shown(&rt, *image).is(&rt, *what, 1, "", *complained);
     }
-    clean(&rt, &["show-file"]);
+    clean(&rt, "show-file");
 }
 
 /// What the show of the host has after its slots, where the host is truncated to a length of 512 or
@@ -168,7 +162,7 @@ fn shows_cut<R: Files + AllocGlobal + Abort>(rt: &R, host: &[u8], length: usize)
     let cut = host.get(..length).unwrap_or(&[]);
     assert!(rt; cut.len() == length);
     save(rt, "show-host", cut);
-    let shown = done(rt, &["pslink", "show", "show-host"]);
+    let shown = done(rt, "pslink show show-host");
     if length < 512 {
         shown.is(rt, length, 1, "", "pslink: refused 1 ShortFile file 0\n");
     } else {
@@ -182,16 +176,16 @@ fn shows_a_host_cut_to_each_length(rt: HostRuntime) {
     for length in 0..=whole.len() {
         shows_cut(&rt, whole.as_slice(), length);
     }
-    clean(&rt, &["show-host"]);
+    clean(&rt, "show-host");
 }
 
 const TOO_LONG: &str = "pslink: long-file is longer than 67108864 bytes\n";
 
 /// Lengths of a file of zeros; the status of its show and the two texts, and the status of its link
 /// and what is said of it.
-static LONG: [(u64, u8, &str, &str, u8, &str); 2] = [
-    (67_108_864, 0, SHOWN_ZEROS, "", 1, NO_HOST),
-    (67_108_865, 3, "", TOO_LONG, 3, TOO_LONG),
+static LONG: [(u64, u8, Text, &str, u8, &str); 2] = [
+    (67_108_864, 0, Text::ShownZeros, "", 1, NO_HOST),
+    (67_108_865, 3, Text::Nothing, TOO_LONG, 3, TOO_LONG),
 ];
 
 /// Shows the long file. There is room for the whole file from the start, and for no more than is
@@ -204,7 +198,7 @@ fn shows_long<R: Files + AllocGlobal + Abort>(
     complained: &str,
 ) {
     let heap = Refusing::once(rt.alloc(), 0);
-    let run = done_with(rt, &heap, &["pslink", "show", "long-file"]);
+    let run = done_with(rt, &heap, "pslink show long-file");
     run.is(rt, length, status, shown, complained);
     assert!(rt; (heap.allocations(), heap.bytes()) == (1, 67_108_864));
 }
@@ -214,9 +208,9 @@ fn the_longest_file_is_read_and_none_longer(rt: HostRuntime) {
     let long = fs::create(&rt, "long-file").expect(&rt, "no file");
     for (length, status, shown, complained, link_status, refused) in &LONG {
         fs::OpenFile::set_len(&long, *length).expect(&rt, "no length");
-        shows_long(&rt, *length, *status, *shown, *complained);
-        let run = done(&rt, &["pslink", "link", "long-file", "long-out"]);
+        shows_long(&rt, *length, *status, shown.text(), *complained);
+        let run = done(&rt, "pslink link long-file long-out");
         run.is(&rt, *length, *link_status, "", *refused);
     }
-    clean(&rt, &["long-file"]);
+    clean(&rt, "long-file");
 }

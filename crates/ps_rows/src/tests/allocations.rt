@@ -1,5 +1,6 @@
 //! Calls where memory is wanting.
 use super::answers::{OUT_OF_MEMORY, is};
+use crate::notation::holds;
 use refusing::Refusing;
 use std::alloc::{AllocError, Allocator, Global};
 use std::process::Abort;
@@ -21,19 +22,37 @@ pub(crate) fn refused_allocations(
     call: &impl Allocating,
     answer: &str,
 ) -> u64 {
-    let alloc = rt.alloc();
     for allocation in 1..MANY {
-        let heap = Refusing::once(alloc, allocation);
-        let text = call.answer(alloc, &heap);
-        if !heap.has_refused() {
-            is(rt, what, text, answer);
+        if !is_refused(rt, what, call, answer, allocation) {
             return allocation - 1;
         }
-        is(rt, what, text, OUT_OF_MEMORY);
+    }
+    holds(rt, false, what);
+    MANY
+}
+
+/// Makes a call with the allocation of this number refused. Returns whether there was one.
+fn is_refused(
+    rt: &(impl Abort + AllocGlobal),
+    what: &str,
+    call: &impl Allocating,
+    answer: &str,
+    allocation: u64,
+) -> bool {
+    let alloc = rt.alloc();
+    let heap = Refusing::once(alloc, allocation);
+    let text = call.answer(alloc, &heap);
+    let has_refused = heap.has_refused();
+    is(
+        rt,
+        what,
+        text,
+        if has_refused { OUT_OF_MEMORY } else { answer },
+    );
+    if has_refused {
         is(rt, what, call.answer(alloc, &heap), answer);
     }
-    assert!(rt; false, "{what}: each allocation was refused");
-    MANY
+    has_refused
 }
 
 /// The same, of a call that does grow.
@@ -44,7 +63,7 @@ pub(crate) fn refuses_each_allocation(
     answer: &str,
 ) {
     let refused = refused_allocations(rt, what, call, answer);
-    assert!(rt; refused > 0, "{what}: no allocation at all");
+    holds(rt, refused > 0, what)
 }
 
 /// Checks the answer of a call that has no memory and requests none.
@@ -57,5 +76,5 @@ pub(crate) fn makes_no_allocation(
     let alloc = rt.alloc();
     let heap = Refusing::from(alloc, 1);
     is(rt, what, call.answer(alloc, &heap), answer);
-    assert!(rt; heap.allocations() == 0, "{what}");
+    holds(rt, heap.allocations() == 0, what)
 }

@@ -1,7 +1,9 @@
 //! Answers as text.
 use super::link_allocations::Link;
+use crate::line::Line;
+use crate::notation::holds;
 use ps_linkfile::{LinkError, Summary, WriteFault, link};
-use ps_words::Order;
+use ps_words::{Fault, Order};
 use std::alloc::{AllocError, Global};
 use std::process::Abort;
 
@@ -23,16 +25,30 @@ pub(crate) fn text_of(
     answer: Result<Summary, LinkError>,
 ) -> Result<String, AllocError> {
     match answer {
-        Ok(
-            Summary {
-                segments,
-                private_words,
-                blocks,
-            },
-        ) => {
-            format!(in alloc; "segments {segments} private words {private_words} blocks {blocks}")
-        }
+        Ok(summary) => text_of_summary(alloc, summary),
         Err(error) => text_of_error(alloc, error),
+    }
+}
+
+/// The program's line for a Summary.
+fn text_of_summary(alloc: Global, summary: Summary) -> Result<String, AllocError> {
+    let Summary {
+        segments,
+        private_words,
+        blocks,
+    } = summary;
+    let mut line = Line::new(alloc);
+    line.number("segments ", segments.into());
+    line.number(" private words ", private_words.into());
+    line.number(" blocks ", blocks.into());
+    line.text()
+}
+
+/// A fault, if there is one.
+pub(crate) fn text_of_fault(alloc: Global, fault: Option<Fault>) -> Result<String, AllocError> {
+    match fault {
+        None => String::from_str(alloc, "no fault"),
+        Some(fault) => format!(in alloc; "{fault}"),
     }
 }
 
@@ -55,5 +71,5 @@ pub(crate) fn links(rt: &(impl Abort + AllocGlobal), what: &str, files: &Link<'_
     let mut out = Vec::new(alloc);
     let answered = link(alloc, files.host, files.libraries, &mut out);
     is(rt, what, text_of(alloc, answered), answer);
-    assert!(rt; out.as_slice() == files.linked, "{what}");
+    holds(rt, out.as_slice() == files.linked, what)
 }

@@ -56,7 +56,7 @@ fn answer(alloc: Global, wanted: Wanted) -> Result<String, AllocError> {
 /// The file that is written where the byte at a place of the host's dictionary is this one, empty
 /// where nothing is.
 fn written(rt: &(impl Abort + AllocGlobal), wanted: &Wanted, place: usize, byte: u8) -> CodeFile {
-    let mut linked = CodeFile::new(rt, LITTLE, &LINKED_TEXTS);
+    let mut linked = CodeFile::new(rt, LITTLE, LINKED_TEXTS);
     match wanted {
         Pair => (),
         PairWithByte => linked.put(rt, place, &[byte]),
@@ -70,7 +70,7 @@ fn written(rt: &(impl Abort + AllocGlobal), wanted: &Wanted, place: usize, byte:
 fn check(rt: &(impl Abort + AllocGlobal), library: &[u8], place: usize, byte: u8) {
     let wanted = expected(place, byte);
     let linked = written(rt, &wanted, place, byte);
-    let mut host = CodeFile::new(rt, LITTLE, &HOST_TEXTS);
+    let mut host = CodeFile::new(rt, LITTLE, HOST_TEXTS);
     host.put(rt, place, &[byte]);
     let files = Link {
         host: host.as_slice(),
@@ -95,8 +95,8 @@ fn answers(
 
 #[test]
 fn each_byte_of_the_dictionary(rt: HostRuntime) {
-    let host = CodeFile::new(&rt, LITTLE, &HOST_TEXTS);
-    let library = CodeFile::new(&rt, LITTLE, &LIBRARY_TEXTS);
+    let host = CodeFile::new(&rt, LITTLE, HOST_TEXTS);
+    let library = CodeFile::new(&rt, LITTLE, LIBRARY_TEXTS);
     for place in 0..512 {
         for byte in [0x00, 0x01, 0x7F, 0x80, 0xFF] {
             if host.as_slice().get(place) != Some(&byte) {

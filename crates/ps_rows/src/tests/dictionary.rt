@@ -2,13 +2,11 @@
 ghost use Rattle.std.specs.Prelude.{◌<◌};
 
 use super::answers::is;
-use super::tables::{HOST_TEXTS, LIBRARY_TEXTS};
-use crate::base::{
-    HOST, HOST_RECORDS, LIBRARY, LINKED_PAIR, UTIL, UTIL_ENTRY, demo_code, util_code,
-};
-use crate::code_file::{Changes, CodeFile};
+use super::tables::{HOST_TEXTS, LIBRARY_TEXTS, LINKED_TEXTS};
+use crate::base::{HOST_RECORDS, UTIL, UTIL_ENTRY, demo_code, util_code};
+use crate::code_file::CodeFile;
 use crate::information::Information;
-use crate::units::HAS_UNIT;
+use crate::line::Line;
 use ps_codefile::{Dict, Entry, Role};
 use ps_words::{Order, Reason};
 use std::alloc::{AllocError, Global};
@@ -18,29 +16,32 @@ use std::process::Abort;
 const ORDERS: [(Order, Order); 2] = [(Order::Little, Order::Big), (Order::Big, Order::Little)];
 
 /// Adds a slot to the text unless it is empty.
-fn add_slot(text: &mut String, dictionary: &Dict<'_>, slot: u8) -> Result<(), AllocError>
+fn add_slot(line: &mut Line, dictionary: &Dict<'_>, slot: u8)
     requires { slot < 16 }
 {
     let role = dictionary.role(slot);
     if role != Ok(Role::Empty) {
         let entry = dictionary.entry(slot);
-        let name = str::from_utf8(&entry.name).unwrap_or("no text");
-        write!(text, "slot {slot} {name} {role:?} kind {} ", entry.kind)?;
-        write!(text, "address {} length {}", entry.address, entry.length)?;
+        line.number("slot ", slot.into());
+        line.word(" ");
+        line.name(&entry.name);
+        line.value(" ", &role);
+        line.number(" kind ", entry.kind.into());
+        line.number(" address ", entry.address.into());
+        line.number(" length ", entry.length.into())
     }
-    add_code(text, dictionary, slot)
+    add_code(line, dictionary, slot)
 }
 
 /// Adds how long a slot's code is, and what follows it.
-fn add_code(text: &mut String, dictionary: &Dict<'_>, slot: u8) -> Result<(), AllocError>
+fn add_code(line: &mut Line, dictionary: &Dict<'_>, slot: u8)
     requires { slot < 16 }
 {
     if dictionary.filled(slot) {
-        let code = dictionary.code(slot).map(|code| code.len());
-        let after = dictionary.after(slot).len();
-        write!(text, " code {code:?} after {after}; ")?;
+        line.value(" code ", &dictionary.code(slot).map(|code| code.len()));
+        line.number(" after ", dictionary.after(slot).len());
+        line.word("; ")
     }
-    Ok(())
 }
 
 /// The slots of a dictionary that are not empty, or why there is none, as text.
@@ -49,19 +50,19 @@ fn describe(
     answer: Result<Dict<'_>, Reason>,
     order: Order,
 ) -> Result<String, AllocError> {
+    let mut line = Line::new(alloc);
     match answer {
         Ok(dictionary) => {
-            let mut text = String::new(alloc);
             if dictionary.order() != order {
-                text.push_str("another order ")?;
+                line.word("another order ");
             }
             for slot in 0..16 {
-                add_slot(&mut text, &dictionary, slot)?;
+                add_slot(&mut line, &dictionary, slot);
             }
-            Ok(text)
         }
-        Err(reason) => format!(in alloc; "{reason:?}"),
+        Err(reason) => line.value("", &reason),
     }
+    line.text()
 }
 
 /// The slots of the base host, of the host with its unit in place, of the base library and of the
@@ -82,16 +83,16 @@ const LINKED: &str = "slot 1 DEMO     Ok(Plain) kind 0 address 1 length 18 code 
 
 /// Files, whether they are read as hosts, or beside a host, whether their words are in the other
 /// byte order than the host's, and their slots, or why they are not read.
-static FILES: [(&[Changes<'static>], bool, bool, &str); 9] = [
-    (&[HOST], true, false, HOST_TEXT),
-    (&[HOST, HAS_UNIT], true, false, IN_PLACE),
-    (&[LIBRARY], false, false, LIBRARY_TEXT),
-    (&[LIBRARY], false, true, "OrderMismatch"),
-    (&[LIBRARY, "size 511"], false, false, "ShortFile"),
-    (&[LIBRARY, "size 511"], false, true, "ShortFile"),
-    (&["fill 64 128 00; size 512"], false, false, ""),
-    (LINKED_PAIR, false, false, LINKED),
-    (LINKED_PAIR, true, false, "NoHost"),
+static FILES: [(&str, bool, bool, &str); 9] = [
+    ("HOST", true, false, HOST_TEXT),
+    ("HOST HAS_UNIT", true, false, IN_PLACE),
+    ("LIBRARY", false, false, LIBRARY_TEXT),
+    ("LIBRARY", false, true, "OrderMismatch"),
+    ("LIBRARY SHORT", false, false, "ShortFile"),
+    ("LIBRARY SHORT", false, true, "ShortFile"),
+    ("NO_NAMES", false, false, ""),
+    (LINKED_TEXTS, false, false, LINKED),
+    (LINKED_TEXTS, true, false, "NoHost"),
 ];
 
 #[test]
@@ -133,13 +134,13 @@ fn gives_the_host_s_parts(rt: &impl Abort, dictionary: &Dict<'_>, information: &
 #[test]
 fn parts_of_the_base_files(rt: HostRuntime) {
     for (order, _) in ORDERS {
-        let host = CodeFile::new(&rt, order, &HOST_TEXTS);
+        let host = CodeFile::new(&rt, order, HOST_TEXTS);
         let information = Information::new(&rt, order, HOST_RECORDS);
         match Dict::read(host.as_slice()) {
             Ok(host) => gives_the_host_s_parts(&rt, &host, information.as_slice()),
             Err(_) => assert!(rt; false, "no dictionary"),
         }
-        let library = CodeFile::new(&rt, order, &LIBRARY_TEXTS);
+        let library = CodeFile::new(&rt, order, LIBRARY_TEXTS);
         let library = Dict::read_beside(library.as_slice(), order);
         let code = library.and_then(|library| library.code(2));
         assert!(rt; code == Ok(util_code(order, UTIL_ENTRY).as_slice()));

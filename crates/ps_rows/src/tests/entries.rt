@@ -2,6 +2,7 @@
 //! follows it.
 use crate::base::UTIL;
 use crate::information::Name;
+use crate::notation::holds_of;
 use ps_codefile::dictionary_layout::{KINDS, NAMES, PAIR, TEXTS};
 use ps_codefile::{Dict, Entry, Role};
 use ps_words::{NAME_LEN, Order, Reason, WORD_LEN, put};
@@ -61,9 +62,9 @@ fn has_role(
                 dictionary.role(8),
                 dictionary.filled(8),
             );
-            assert!(rt; found == (entry, role, is_filled), "{entry:?}");
+            holds_of(rt, found == (entry, role, is_filled), &entry)
         }
-        Err(reason) => assert!(rt; false, "{entry:?}: {reason:?}"),
+        Err(reason) => holds_of(rt, false, &reason),
     }
 }
 
@@ -133,9 +134,9 @@ fn has_code(
                 dictionary.code(8).map(measured),
                 measured(dictionary.after(8)),
             );
-            assert!(rt; found == (code, after), "{entry:?} of {file_len} bytes");
+            holds_of(rt, found == (code, after), &(*entry, file_len))
         }
-        Err(reason) => assert!(rt; false, "{entry:?}: {reason:?}"),
+        Err(reason) => holds_of(rt, false, &reason),
     }
 }
 

@@ -4,6 +4,8 @@ use super::answers::is;
 use super::records::describe;
 use crate::base::{COUNT, LIBRARY_RECORDS, STATE};
 use crate::information::{Information, Name};
+use crate::line::Line;
+use crate::notation::holds;
 use ps_linkinfo::{LinkInformation, ReadFault};
 use ps_words::Order;
 use std::alloc::{AllocError, Global};
@@ -35,16 +37,18 @@ fn digest_of(names: &[Name]) -> u64 {
 
 /// What link information comes to, and each record with its index, as text.
 fn describe_all(alloc: Global, information: &LinkInformation<'_>) -> Result<String, AllocError> {
-    let mut text = format!(in alloc; "{:?}", counts(information))?;
+    let mut line = Line::new(alloc);
+    line.value("", &counts(information));
     if information.is_empty() {
-        text.push_str(" empty")?;
+        line.word(" empty");
     }
     for (index, record) in information.records() {
-        write!(text, " {index} ")?;
-        describe(&mut text, &record)?;
-        text.push_str(";")?;
+        line.number(" ", index);
+        line.word(" ");
+        describe(&mut line, &record);
+        line.word(";");
     }
-    Ok(text)
+    line.text()
 }
 
 /// Checks what link information is read as, and which names are hashed, or why it is not read.
@@ -63,14 +67,16 @@ fn reads(
                 describe_all(alloc, &information),
                 wanted,
             );
-            assert!(rt;
+            holds(
+                rt,
                 information.digest().finish() == digest_of(names),
-                "{wanted}"
-            );
+                wanted,
+            )
         }
         Err(fault) => {
-            let text = format!(in alloc; "{fault:?}");
-            is(rt, "link information", text, wanted);
+            let mut line = Line::new(alloc);
+            line.value("", &fault);
+            is(rt, "link information", line.text(), wanted)
         }
     }
 }

@@ -1,94 +1,39 @@
 //! A unit by itself: what refuses it in a link with a host that would define each name.
 ghost use Rattle.std.specs.Prelude.{◌<◌};
 
-use super::answers::{LITTLE, is};
+use super::answers::{LITTLE, is, text_of_fault};
+use super::rows::{changes, field};
 use super::tables::{HOST_TEXTS, LIBRARY_TEXTS};
-use crate::code_file::{Changes, CodeFile};
+use crate::code_file::CodeFile;
 use ps_resolve::{lone_fault, read};
 use ps_words::Order;
 use std::process::Abort;
 
-/// The base library with changes, and the first fault of its unit, which is in slot 2.
-struct Row {
-    what: &'static str,
-    changes: Changes<'static>,
-    wanted: &'static str,
-}
-
-static ROWS: [Row; 14] = [
-    Row {
-        what: "the unit of the base library",
-        changes: "",
-        wanted: "no fault",
-    },
-    Row {
-        what: "a unit that no one has",
-        changes: "records 2; UNITREF NOBODY at 2; EOFMARK next 0",
-        wanted: "no fault",
-    },
-    Row {
-        what: "a code that is cut",
-        changes: "slot 2 length 17",
-        wanted: "refused 11 BadLength file 0 slot 2",
-    },
-    Row {
-        what: "an operand that ends behind the code",
-        changes: "records 2; PUBLREF COUNT at 1 23; EOFMARK next 0",
-        wanted: "refused 31 OutsideCode file 0 slot 2 record 0 reference 1",
-    },
-    Row {
-        what: "an operand in the procedure dictionary",
-        changes: "records 2; UNITREF NOBODY at 22; EOFMARK next 0",
-        wanted: "refused 32 ReservedPlace file 0 slot 2 record 0 reference 0",
-    },
-    Row {
-        what: "an operand that begins in another",
-        changes: "records 2; PUBLREF COUNT at 1; PRIVREF STATE words 4 at 4 2; EOFMARK next 0",
-        wanted: "refused 33 Overlap file 0 slot 2 record 1 reference 1",
-    },
-    Row {
-        what: "the greatest displacement of a public",
-        changes: "code 1 1 FFFE",
-        wanted: "no fault",
-    },
-    Row {
-        what: "a displacement of a public above it",
-        changes: "code 1 1 FFFF",
-        wanted: "refused 34 OperandTooLarge file 0 slot 2 record 0 reference 0",
-    },
-    Row {
-        what: "the greatest displacement of a private",
-        changes: "code 1 4 FFFE",
-        wanted: "no fault",
-    },
-    Row {
-        what: "a displacement of a private above it",
-        changes: "code 1 4 FFFF",
-        wanted: "refused 34 OperandTooLarge file 0 slot 2 record 1 reference 0",
-    },
-    Row {
-        what: "a private after another",
-        changes: "code 1 4 FFFE; records 2; PRIVREF COUNT words 1 at 1; \
-PRIVREF STATE words 4 at 4; EOFMARK next 0",
-        wanted: "refused 34 OperandTooLarge file 0 slot 2 record 1 reference 0",
-    },
-    Row {
-        what: "two privates of one name",
-        changes: "records 2; PRIVREF STATE words 4 at 24; PRIVREF STATE words 4 at 4; \
-EOFMARK next 0",
-        wanted: "refused 25 DoubledPrivate file 0 slot 2 record 1",
-    },
-    Row {
-        what: "the largest private",
-        changes: "records 2; PRIVREF STATE words 32766 at 4; EOFMARK next 0",
-        wanted: "no fault",
-    },
-    Row {
-        what: "a private that is larger",
-        changes: "records 2; PRIVREF STATE words 32767 at 4; EOFMARK next 0",
-        wanted: "refused 26 NoRoom file 0 slot 2 record 0",
-    },
-];
+/// What a row shows, the changes of the base library, and the first fault of its unit, in slot 2.
+static ROWS: &str = "the unit of the base library | - | no fault
+a unit that no one has | records 2; UNITREF NOBODY at 2; EOFMARK next 0 | no fault
+a code that is cut | slot 2 length 17 | refused 11 BadLength file 0 slot 2
+an operand that ends behind the code | records 2; PUBLREF COUNT at 1 23; EOFMARK next 0 \
+| refused 31 OutsideCode file 0 slot 2 record 0 reference 1
+an operand in the procedure dictionary | records 2; UNITREF NOBODY at 22; EOFMARK next 0 \
+| refused 32 ReservedPlace file 0 slot 2 record 0 reference 0
+an operand that begins in another | records 2; PUBLREF COUNT at 1; \
+PRIVREF STATE words 4 at 4 2; EOFMARK next 0 \
+| refused 33 Overlap file 0 slot 2 record 1 reference 1
+the greatest displacement of a public | code 1 1 FFFE | no fault
+a displacement of a public above it | code 1 1 FFFF \
+| refused 34 OperandTooLarge file 0 slot 2 record 0 reference 0
+the greatest displacement of a private | code 1 4 FFFE | no fault
+a displacement of a private above it | code 1 4 FFFF \
+| refused 34 OperandTooLarge file 0 slot 2 record 1 reference 0
+a private after another | code 1 4 FFFE; records 2; PRIVREF COUNT words 1 at 1; \
+PRIVREF STATE words 4 at 4; EOFMARK next 0 \
+| refused 34 OperandTooLarge file 0 slot 2 record 1 reference 0
+two privates of one name | records 2; PRIVREF STATE words 4 at 24; PRIVREF STATE words 4 at 4; \
+EOFMARK next 0 | refused 25 DoubledPrivate file 0 slot 2 record 1
+the largest private | records 2; PRIVREF STATE words 32766 at 4; EOFMARK next 0 | no fault
+a private that is larger | records 2; PRIVREF STATE words 32767 at 4; EOFMARK next 0 \
+| refused 26 NoRoom file 0 slot 2 record 0";
 
 /// Checks the first fault of the segment in a slot of a file.
 fn has_fault(rt: &(impl Abort + AllocGlobal), file: &[u8], slot: u8, what: &str, wanted: &str)
@@ -97,26 +42,29 @@ fn has_fault(rt: &(impl Abort + AllocGlobal), file: &[u8], slot: u8, what: &str,
     let alloc = rt.alloc();
     let reading = read(file, &[]);
     let host = reading.host().expect(rt, "the file cannot be opened");
-    let text = match lone_fault(alloc, host, slot).expect(rt, "no memory") {
-        None => String::from_str(alloc, "no fault"),
-        Some(fault) => format!(in alloc; "{fault}"),
-    };
-    is(rt, what, text, wanted)
+    let found = lone_fault(alloc, host, slot).expect(rt, "no memory");
+    is(rt, what, text_of_fault(alloc, found), wanted)
+}
+
+/// Checks a row in a byte order.
+fn is_right(rt: &(impl Abort + AllocGlobal), order: Order, row: &str) {
+    let (what, rest) = field(rt, row);
+    let (changes, wanted) = changes(rt, rest);
+    let file = CodeFile::new(rt, order, LIBRARY_TEXTS).with(rt, changes);
+    has_fault(rt, file.as_slice(), 2, what, wanted)
 }
 
 #[test]
 fn units_by_themselves(rt: HostRuntime) {
-    for order in [Order::Little, Order::Big] {
-        for row in &ROWS {
-            let file = CodeFile::new(&rt, order, &LIBRARY_TEXTS).with(&rt, row.changes);
-            has_fault(&rt, file.as_slice(), 2, row.what, row.wanted);
-        }
+    for row in ROWS.lines() {
+        is_right(&rt, Order::Little, row);
+        is_right(&rt, Order::Big, row);
     }
 }
 
 #[test]
 fn segments_that_are_no_units_of_the_file(rt: HostRuntime) {
-    let file = CodeFile::new(&rt, LITTLE, &HOST_TEXTS);
+    let file = CodeFile::new(&rt, LITTLE, HOST_TEXTS);
     let file = file.as_slice();
     has_fault(&rt, file, 0, "an empty slot", "no fault");
     has_fault(&rt, file, 1, "a host", "no fault");

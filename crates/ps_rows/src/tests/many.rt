@@ -111,8 +111,8 @@ fn maps(rt: &(impl Abort + AllocGlobal), host: &[u8], libraries: &[&[u8]], wante
 
 #[test]
 fn libraries_past_the_number_of_a_word(rt: HostRuntime) {
-    let host = CodeFile::new(&rt, LITTLE, &HOST_TEXTS);
-    let library = CodeFile::new(&rt, LITTLE, &LIBRARY_TEXTS);
+    let host = CodeFile::new(&rt, LITTLE, HOST_TEXTS);
+    let library = CodeFile::new(&rt, LITTLE, LIBRARY_TEXTS);
     let zeros = [0; 512];
     let libraries = Vec::from_elem(rt.alloc(), zeros.as_slice(), 65_536);
     let mut libraries = libraries.expect(&rt, "no memory");

@@ -6,6 +6,7 @@ use super::tables::{BIG_IN_PLACE, BIG_PAIR, Base, Check, IN_PLACE, PAIR, USED_UN
 use crate::base::{COUNT, DEMO_SLOT, HOST_RECORDS, LIBRARY_RECORDS, STATE, UTIL_SLOT};
 use crate::code_file::Changes;
 use crate::information::{Information, Name};
+use crate::line::Line;
 use ps_resolve::{Allotment, Def, Definitions, Linkage, Plan, Private, Source, Stop, resolve};
 use ps_words::{Edit, Order};
 use std::alloc::{AllocError, Allocator, Global};
@@ -29,24 +30,28 @@ fn describe_definitions<A: Allocator + Copy>(
     alloc: Global,
     definitions: &Definitions<A>,
 ) -> Result<String, AllocError> {
-    let mut text = String::new(alloc);
+    let mut line = Line::new(alloc);
     for i in 0..definitions.len() {
-        let (name, Def { kind, value }) = definitions.at(i);
-        let name = str::from_utf8(&name).unwrap_or("no text");
-        write!(text, "{name} {kind:?} {value}; ")?;
+        let (name, definition) = definitions.at(i);
+        line.name(&name);
+        line.word(" ");
+        add_definition(&mut line, definition);
+        line.word("; ");
     }
     for name in &[COUNT, STATE, LIMIT] {
-        add_definition(&mut text, definitions.look(name))?;
+        match definitions.look(name) {
+            Some(definition) => add_definition(&mut line, definition),
+            None => line.word("none"),
+        }
+        line.word(", ");
     }
-    Ok(text)
+    line.text()
 }
 
-/// Adds a definition that was looked up.
-fn add_definition(text: &mut String, found: Option<Def>) -> Result<(), AllocError> {
-    match found {
-        Some(Def { kind, value }) => write!(text, "{kind:?} {value}, "),
-        None => text.push_str("none, "),
-    }
+fn add_definition(line: &mut Line, definition: Def) {
+    let Def { kind, value } = definition;
+    line.value("", &kind);
+    line.number(" ", value.into())
 }
 
 /// The slots and records of which the offset is looked up.
@@ -57,22 +62,27 @@ fn describe_allotment<A: Allocator + Copy>(
     alloc: Global,
     allotment: &Allotment<A>,
 ) -> Result<String, AllocError> {
-    let mut text = String::new(alloc);
+    let mut line = Line::new(alloc);
     for private in allotment.privates() {
-        add_private(&mut text, private)?;
+        add_private(&mut line, private);
     }
     for (slot, rec) in &PLACES {
-        write!(text, "{:?} ", allotment.offset(*slot, *rec))?;
+        line.value("", &allotment.offset(*slot, *rec));
+        line.word(" ");
     }
-    let (words, next) = (allotment.words(), allotment.next_free());
-    write!(text, "words {words} next {next}")?;
-    Ok(text)
+    line.number("words ", allotment.words().into());
+    line.number(" next ", allotment.next_free().into());
+    line.text()
 }
 
-fn add_private(text: &mut String, private: &Private) -> Result<(), AllocError> {
-    let name = str::from_utf8(&private.name).unwrap_or("no text");
-    write!(text, "slot {} record {} {name} ", private.slot, private.rec)?;
-    write!(text, "offset {} words {}; ", private.offset, private.words)
+fn add_private(line: &mut Line, private: &Private) {
+    line.number("slot ", private.slot.into());
+    line.number(" record ", private.rec);
+    line.word(" ");
+    line.name(&private.name);
+    line.number(" offset ", private.offset.into());
+    line.number(" words ", private.words.into());
+    line.word("; ")
 }
 
 /// A call that builds from the link information of one segment.
@@ -165,36 +175,49 @@ fn definitions_and_private_variables(rt: HostRuntime) {
 }
 
 /// Adds an edit: its kind, its place and its value.
-fn describe_edit(text: &mut String, edit: Edit) -> Result<(), AllocError> {
-    let (kind, place, value) = match edit {
-        Edit::Big { place, value } => ("big", place, value),
-        Edit::Byte { place, value } => ("byte", place, u16::from(value)),
-        Edit::Word { place, value } => ("word", place, value),
-    };
-    write!(text, " {kind} at {place}: {value}")
+fn describe_edit(line: &mut Line, edit: Edit) {
+    match edit {
+        Edit::Big { place, value } => add_edit(line, " big at ", place, value),
+        Edit::Byte { place, value } => add_edit(line, " byte at ", place, value.into()),
+        Edit::Word { place, value } => add_edit(line, " word at ", place, value),
+    }
+}
+
+fn add_edit(line: &mut Line, kind: &str, place: usize, value: u16) {
+    line.number(kind, place);
+    line.number(": ", value.into())
+}
+
+/// Whether a segment was linked already, or was added.
+fn mark_of(source: &Source<'_>) -> &'static str {
+    match (source.linked, source.added) {
+        (false, _) => " plain",
+        (true, true) => " added",
+        (true, false) => "",
+    }
 }
 
 /// Adds a segment of a plan with its edits, or how many they are where they are many.
-fn describe_segment(
-    text: &mut String,
-    source: &Source<'_>,
-    edits: &[Edit],
-) -> Result<(), AllocError> {
-    let mark = match (source.linked, source.added) {
-        (false, _) => "plain ",
-        (true, true) => "added ",
-        (true, false) => "",
-    };
-    write!(text, "slot {} {mark}file {} ", source.slot, source.file)?;
-    write!(text, "entry {} length {}:", source.index, source.code.len())?;
+fn describe_segment(line: &mut Line, source: &Source<'_>, edits: &[Edit]) {
+    line.number("slot ", source.slot.into());
+    line.word(mark_of(source));
+    line.number(" file ", source.file);
+    line.number(" entry ", source.index.into());
+    line.number(" length ", source.code.len());
+    line.word(":");
+    add_edits(line, edits);
+    line.word("; ")
+}
+
+fn add_edits(line: &mut Line, edits: &[Edit]) {
     if edits.len() > 9 {
-        write!(text, " {} edits", edits.len())?;
+        line.number(" ", edits.len());
+        line.word(" edits")
     } else {
         for edit in edits {
-            describe_edit(text, *edit)?;
+            describe_edit(line, *edit);
         }
     }
-    text.push_str("; ")
 }
 
 /// The segments of a plan with their edits, and the numbers of the linked file, as text.
@@ -202,25 +225,21 @@ pub(crate) fn describe<A: Allocator + Copy>(
     alloc: Global,
     plan: &Plan<'_, A>,
 ) -> Result<String, AllocError> {
-    let mut text = String::new(alloc);
+    let mut line = Line::new(alloc);
     for (k, source) in plan.sources().iter().enumerate() {
-        describe_segment(&mut text, source, plan.edits(k))?;
+        describe_segment(&mut line, source, plan.edits(k));
     }
-    add_numbers(&mut text, plan)?;
-    Ok(text)
+    add_numbers(&mut line, plan);
+    line.text()
 }
 
 /// Adds the numbers of the linked file.
-fn add_numbers<A: Allocator + Copy>(
-    text: &mut String,
-    plan: &Plan<'_, A>,
-) -> Result<(), AllocError> {
-    let definitions = plan.definitions().len();
-    let privates = plan.allotment().privates().len();
-    let words = plan.private_words();
-    let (next, data) = (plan.next_free(), plan.data_size());
-    write!(text, "definitions {definitions} privates {privates} ")?;
-    write!(text, "words {words} next {next} data {data}")
+fn add_numbers<A: Allocator + Copy>(line: &mut Line, plan: &Plan<'_, A>) {
+    line.number("definitions ", plan.definitions().len());
+    line.number(" privates ", plan.allotment().privates().len());
+    line.number(" words ", plan.private_words().into());
+    line.number(" next ", plan.next_free().into());
+    line.number(" data ", plan.data_size().into())
 }
 
 /// Files, changes of the host, and the plan of their link.

@@ -1,6 +1,7 @@
 //! The procedure dictionary and the attribute tables of a code.
 use super::answers::{LITTLE, is};
 use crate::base::{UTIL_ENTRY, demo_code, util_code};
+use crate::line::Line;
 use ps_codefile::Procs;
 use ps_words::Order;
 use std::alloc::{AllocError, Global};
@@ -12,36 +13,39 @@ const BIG: Order = Order::Big;
 /// where, and the places from which on bytes are reserved and are not, in turn; or why they are
 /// refused.
 fn describe(alloc: Global, order: Order, code: &[u8], is_host: bool) -> Result<String, AllocError> {
-    let mut text = String::new(alloc);
-    if code.len() < 2 {
-        return Ok(text);
-    }
-    match Procs::read(order, code, is_host) {
-        Ok(procedures) => {
-            write!(text, "{} from {}", procedures.count(), procedures.start())?;
-            for p in 1..=procedures.count() {
-                if let Some(table) = procedures.table(p) {
-                    write!(text, ", {p} at {table}")?;
-                }
-            }
-            text.push_str(";")?;
-            add_reserved(&mut text, &procedures, code.len())?;
+    let mut line = Line::new(alloc);
+    if code.len() >= 2 {
+        match Procs::read(order, code, is_host) {
+            Ok(procedures) => add_procedures(&mut line, &procedures, code.len()),
+            Err(reason) => line.value("", &reason),
         }
-        Err(reason) => write!(text, "{reason:?}")?,
     }
-    Ok(text)
+    line.text()
+}
+
+/// Adds the procedures of a code of this length.
+fn add_procedures(line: &mut Line, procedures: &Procs<'_>, len: usize) {
+    line.number("", procedures.count());
+    line.number(" from ", procedures.start());
+    for p in 1..=procedures.count() {
+        if let Some(table) = procedures.table(p) {
+            line.number(", ", p);
+            line.number(" at ", table);
+        }
+    }
+    line.word(";");
+    add_reserved(line, procedures, len)
 }
 
 /// Adds the places from which on bytes of a code are reserved, and are not.
-fn add_reserved(text: &mut String, procedures: &Procs<'_>, len: usize) -> Result<(), AllocError> {
+fn add_reserved(line: &mut Line, procedures: &Procs<'_>, len: usize) {
     let mut is_reserved = false;
     for place in 0..len.saturating_add(9) {
         if procedures.is_reserved(place) != is_reserved {
             is_reserved = !is_reserved;
-            write!(text, " {place}")?;
+            line.number(" ", place);
         }
     }
-    Ok(())
 }
 
 /// Checks a code's procedures, of the host segment or of another one.

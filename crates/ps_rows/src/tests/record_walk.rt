@@ -3,6 +3,7 @@ use super::answers::is;
 use super::records::describe;
 use crate::base::LIBRARY_RECORDS;
 use crate::information::Information;
+use crate::line::Line;
 use ps_linkinfo::Records;
 use ps_words::Order;
 use std::alloc::{AllocError, Global};
@@ -11,25 +12,26 @@ use std::alloc::{AllocError, Global};
 /// a fault takes none, and is given once.
 fn walk(alloc: Global, order: Order, bytes: &[u8]) -> Result<String, AllocError> {
     let mut records = Records::new(order, bytes);
-    let mut text = format!(in alloc; "{}", records.used())?;
+    let mut line = Line::new(alloc);
+    line.number("", records.used());
     for _ in 0..5 {
-        step(&mut text, &mut records)?;
+        step(&mut line, &mut records);
     }
-    Ok(text)
+    line.text()
 }
 
 /// Adds the next item.
-fn step(text: &mut String, records: &mut Records<'_>) -> Result<(), AllocError> {
-    text.push_str("; ")?;
+fn step(line: &mut Line, records: &mut Records<'_>) {
+    line.word("; ");
     match records.next() {
         Some(Ok(record)) => {
-            describe(text, &record)?;
-            write!(text, " of {}", record.size())?;
+            describe(line, &record);
+            line.number(" of ", record.size())
         }
-        Some(Err(reason)) => write!(text, "{reason:?}")?,
-        None => text.push_str("none")?,
+        Some(Err(reason)) => line.value("", &reason),
+        None => line.word("none"),
     }
-    write!(text, ", {}", records.used())
+    line.number(", ", records.used())
 }
 
 /// Records, how many of their bytes are walked, and the walk.

@@ -3,6 +3,7 @@ use super::allocations::{Allocating, makes_no_allocation, refuses_each_allocatio
 use super::answers::{LITTLE, OUT_OF_MEMORY, is};
 use crate::base::LIBRARY_RECORDS;
 use crate::information::Information;
+use crate::line::Line;
 use ps_linkinfo::{Body, LinkRecord, ReadStop, Refs, read_records};
 use ps_words::Order;
 use std::alloc::{AllocError, Allocator, Global};
@@ -12,35 +13,45 @@ use std::process::Abort;
 pub(crate) const BASE_RECORDS: &str =
     "PUBLREF COUNT    at 1; PRIVREF STATE    words 4 at 4; EOFMARK next 0; ";
 
-fn list(text: &mut String, references: &Refs<'_>) -> Result<(), AllocError> {
-    text.push_str(" at")?;
+fn list(line: &mut Line, references: &Refs<'_>) {
+    line.word(" at");
     for i in 0..references.len() {
-        let reference = references.get(i);
-        write!(text, " {reference}")?;
+        line.number(" ", references.get(i).into());
     }
-    Ok(())
 }
 
 /// Adds a record as text.
-pub(crate) fn describe(text: &mut String, record: &LinkRecord<'_>) -> Result<(), AllocError> {
-    let name = str::from_utf8(&record.name).unwrap_or("no text");
+pub(crate) fn describe(line: &mut Line, record: &LinkRecord<'_>) {
     match &record.body {
         Body::UnitRef(references) => {
-            write!(text, "UNITREF {name}")?;
-            list(text, references)
+            named(line, "UNITREF ", record);
+            list(line, references)
         }
         Body::PublRef(references) => {
-            write!(text, "PUBLREF {name}")?;
-            list(text, references)
+            named(line, "PUBLREF ", record);
+            list(line, references)
         }
         Body::PrivRef { words, refs } => {
-            write!(text, "PRIVREF {name} words {words}")?;
-            list(text, refs)
+            named(line, "PRIVREF ", record);
+            line.number(" words ", (*words).into());
+            list(line, refs)
         }
-        Body::PublDef(value) => write!(text, "PUBLDEF {name} value {value}"),
-        Body::ConstDef(value) => write!(text, "CONSTDEF {name} value {value}"),
-        Body::Eof(next) => write!(text, "EOFMARK next {next}"),
+        Body::PublDef(value) => defined(line, "PUBLDEF ", record, *value),
+        Body::ConstDef(value) => defined(line, "CONSTDEF ", record, *value),
+        Body::Eof(next) => line.number("EOFMARK next ", (*next).into()),
     }
+}
+
+/// Adds the kind of a record, and its name.
+fn named(line: &mut Line, kind: &str, record: &LinkRecord<'_>) {
+    line.word(kind);
+    line.name(&record.name)
+}
+
+/// The same of a definition, with its value.
+fn defined(line: &mut Line, kind: &str, record: &LinkRecord<'_>, value: u16) {
+    named(line, kind, record);
+    line.number(" value ", value.into())
 }
 
 /// The records, or why there are none, as text made on `alloc`; the list itself grows on `heap`.
@@ -50,20 +61,21 @@ pub(crate) fn read<A: Allocator + Copy>(
     order: Order,
     bytes: &[u8],
 ) -> Result<String, AllocError> {
+    let mut line = Line::new(alloc);
     match read_records(heap, order, bytes) {
         Ok(records) => {
-            let mut text = String::new(alloc);
             for record in records.iter() {
-                describe(&mut text, record)?;
-                text.push_str("; ")?;
+                describe(&mut line, record);
+                line.word("; ");
             }
-            Ok(text)
         }
         Err(ReadStop::Refused { rec, reason }) => {
-            format!(in alloc; "{reason:?} at record {rec}")
+            line.value("", &reason);
+            line.number(" at record ", rec)
         }
-        Err(ReadStop::Memory) => String::from_str(alloc, OUT_OF_MEMORY),
+        Err(ReadStop::Memory) => line.word(OUT_OF_MEMORY),
     }
+    line.text()
 }
 
 /// Checks what these records are read as in either byte order, where they are truncated to this
@@ -137,20 +149,23 @@ pub(crate) fn every_reference(
     before: &str,
     behind: &str,
 ) -> Result<String, AllocError> {
-    let mut text = String::from_str(alloc, before)?;
-    text.push_str("PUBLREF COUNT    at")?;
+    let mut line = Line::new(alloc);
+    line.word(before);
+    line.word("PUBLREF COUNT    at");
     for reference in 0..65_535 {
-        write!(text, " {reference}")?;
+        line.number(" ", reference);
     }
-    text.push_str(behind)?;
-    Ok(text)
+    line.word(behind);
+    line.text()
 }
 
 /// Checks how long the first record is that is read of this little-endian link information.
 fn has_size(rt: &(impl Abort + AllocGlobal), bytes: &[u8], size: usize) {
-    let records = read_records(rt.alloc(), LITTLE, bytes);
-    let records = records.unwrap_or(Vec::new(rt.alloc()));
-    assert!(rt; records.first().map(|record| record.size()) == Some(size));
+    let records = read_records(rt.alloc(), LITTLE, bytes).expect(rt, "no records");
+    match records.first() {
+        Some(record) => assert!(rt; record.size() == size),
+        None => assert!(rt; false),
+    }
 }
 
 #[test]

@@ -1,67 +1,31 @@
-//! Tables of links, each of changed base files.
-use super::allocations::{makes_no_allocation, refuses_each_allocation};
-use super::answers::{LITTLE, links};
+//! The files that tables of links change.
+use super::answers::LITTLE;
 use super::link_allocations::Link;
-use crate::base::{HOST, LIBRARY, LINKED_OPERANDS, LINKED_PAIR, LINKED_SEGMENTS};
 use crate::code_file::{Changes, CodeFile};
-use crate::units::{
-    HAS_AUX, HAS_UNIT, LIKE_LIBRARY, LINKED_REFERENCE, LINKED_SECOND, LINKED_USER, LONG_LIBRARY,
-    LONG_UNIT, NINE_LIBRARY, NINE_UNIT, USES_AUX, WANTS_AUX,
-};
+use crate::notation::holds;
 use ps_words::Order;
-use std::alloc::{AllocError, Global};
 use std::process::Abort;
 
-/// A link that succeeds.
-#[derive(Clone, Copy)]
-pub(crate) struct Row<'a> {
-    /// What it shows.
-    pub what: &'a str,
-    /// The changes of the host, of the first library and of what they are linked to.
-    pub host: Changes<'a>,
-    pub library: Changes<'a>,
-    pub linked: Changes<'a>,
-    /// The line that the program prints.
-    pub summary: &'a str,
-}
-
-/// What a refusal shows, the changes of the host and of the first library, and the fault.
-pub(crate) type Refusal<'a> = (&'a str, Changes<'a>, Changes<'a>, &'a str);
-
-/// The memory that a link is given beside as much as it requests.
-#[derive(Clone, Copy)]
-pub(crate) enum Memory {
-    /// No other.
-    Ample,
-    /// None, and it requests none.
-    NoAllocation,
-    /// Each allocation is refused in turn, and the link is made again with ample memory.
-    EachAllocationRefused,
-}
-
-/// The files that entries of a table change, each made by texts of changes.
+/// The files that rows change, each made by the texts of these names, one after the other.
 #[derive(Clone, Copy)]
 pub(crate) struct Base<'a> {
     /// The byte order of the host and of the linked file.
     pub order: Order,
-    /// The host, whose changes make it from blank slots and zeros.
-    pub host: &'a [Changes<'a>],
-    /// The libraries, and whether their words are in the other byte order.
-    pub libraries: &'a [(bool, &'a [Changes<'a>])],
+    /// The host.
+    pub host: &'a str,
+    /// The libraries, with semicolons between them. The words of one that begins with `turned` are
+    /// in the other byte order.
+    pub libraries: &'a str,
     /// What they are linked to.
-    pub linked: &'a [Changes<'a>],
+    pub linked: &'a str,
 }
-
-/// A table of links or of refusals, the files that its entries change, and the memory that each
-/// is tried with.
-pub(crate) type Table<'a, Entry> = (Base<'a>, Memory, &'a [Entry]);
 
 /// The base pair.
 pub(crate) const PAIR: Base<'static> = Base {
     order: LITTLE,
-    host: &[HOST],
-    libraries: &[(false, &[LIBRARY])],
-    linked: LINKED_PAIR,
+    host: "HOST",
+    libraries: "LIBRARY",
+    linked: "LINKED_SEGMENTS LINKED_OPERANDS",
 };
 
 pub(crate) const BIG_PAIR: Base<'static> = Base {
@@ -69,29 +33,12 @@ pub(crate) const BIG_PAIR: Base<'static> = Base {
     ..PAIR
 };
 
-/// The base host with a base library of the other byte order, big-endian or little-endian.
-pub(crate) const BIG_LIBRARY: Base<'static> = Base {
-    libraries: &[(true, &[LIBRARY])],
-    ..PAIR
-};
-
-pub(crate) const LITTLE_LIBRARY: Base<'static> = Base {
-    order: Order::Big,
-    ..BIG_LIBRARY
-};
-
-/// The base host, and no library.
-pub(crate) const HOST_ALONE: Base<'static> = Base {
-    libraries: &[],
-    ..PAIR
-};
-
 /// The host with its unit in place, and no library.
 pub(crate) const IN_PLACE: Base<'static> = Base {
     order: LITTLE,
-    host: &[HOST, HAS_UNIT],
-    libraries: &[],
-    linked: &[LINKED_SEGMENTS, LINKED_REFERENCE],
+    host: "HOST HAS_UNIT",
+    libraries: "",
+    linked: "LINKED_SEGMENTS LINKED_REFERENCE",
 };
 
 pub(crate) const BIG_IN_PLACE: Base<'static> = Base {
@@ -99,69 +46,138 @@ pub(crate) const BIG_IN_PLACE: Base<'static> = Base {
     ..IN_PLACE
 };
 
-/// The same, whose unit has the code and the link information of the base library's.
-pub(crate) const LIKE_THE_LIBRARY_S: Base<'static> = Base {
-    host: &[HOST, HAS_UNIT, LIKE_LIBRARY],
-    linked: LINKED_PAIR,
-    ..IN_PLACE
-};
-
-pub(crate) const BIG_LIKE_THE_LIBRARY_S: Base<'static> = Base {
-    order: Order::Big,
-    ..LIKE_THE_LIBRARY_S
-};
-
 /// The host and the library of two units.
 pub(crate) const TWO_UNITS: Base<'static> = Base {
     order: LITTLE,
-    host: &[HOST, WANTS_AUX],
-    libraries: &[(false, &[LIBRARY, HAS_AUX])],
-    linked: &[LINKED_SEGMENTS, LINKED_OPERANDS, LINKED_SECOND],
+    host: "HOST WANTS_AUX",
+    libraries: "LIBRARY HAS_AUX",
+    linked: "LINKED_SEGMENTS LINKED_OPERANDS LINKED_SECOND",
 };
 
 /// The base host, and the library whose unit uses another one.
 pub(crate) const USED_UNIT: Base<'static> = Base {
     order: LITTLE,
-    host: &[HOST],
-    libraries: &[(false, &[LIBRARY, HAS_AUX, USES_AUX])],
-    linked: &[LINKED_SEGMENTS, LINKED_SECOND, LINKED_USER],
-};
-
-pub(crate) const BIG_USED_UNIT: Base<'static> = Base {
-    order: Order::Big,
-    ..USED_UNIT
-};
-
-/// The base host, and the library whose unit has a record of nine references.
-pub(crate) const NINE_REFERENCES: Base<'static> = Base {
-    libraries: &[(false, &[NINE_LIBRARY])],
-    linked: &[LINKED_SEGMENTS, NINE_UNIT],
-    ..PAIR
+    host: "HOST",
+    libraries: "LIBRARY HAS_AUX USES_AUX",
+    linked: "LINKED_SEGMENTS LINKED_SECOND LINKED_USER",
 };
 
 /// The base host, and the library whose unit has an operand that lies in two blocks.
 pub(crate) const LONG_UNIT_PAIR: Base<'static> = Base {
-    libraries: &[(false, &[LONG_LIBRARY])],
-    linked: &[LINKED_SEGMENTS, LONG_UNIT],
+    libraries: "LONG_LIBRARY",
+    linked: "LINKED_SEGMENTS LONG_UNIT",
     ..PAIR
 };
 
+/// Other files, each a line: their name, and of what the host, the libraries and the linked file are
+/// made. A line that begins with a number sign says what the next ones are for.
+static FILES: &str = "# the base host, and no library
+host-alone | HOST | | LINKED_SEGMENTS LINKED_OPERANDS
+turned-library | HOST | turned LIBRARY |
+# the unit has the code and the link information of the base library's
+like-the-library | HOST HAS_UNIT LIKE_LIBRARY | | LINKED_SEGMENTS LINKED_OPERANDS
+nine-references | HOST | NINE_LIBRARY | LINKED_SEGMENTS NINE_UNIT
+# the linked base pair as a second library
+before-a-linked-file | HOST | LIBRARY; LINKED_SEGMENTS LINKED_OPERANDS \
+| LINKED_SEGMENTS LINKED_OPERANDS
+# a library whose unit has zeros at bytes 6 and 7, as the second and as the first
+before-another | HOST | LIBRARY; LIBRARY ZEROS_IN_THE_CODE | LINKED_SEGMENTS LINKED_OPERANDS
+behind-another | HOST | LIBRARY ZEROS_IN_THE_CODE; LIBRARY \
+| LINKED_SEGMENTS LINKED_OPERANDS ZEROS_IN_THE_LINKED_CODE
+# linked files as hosts
+linked-host | LINKED_SEGMENTS LINKED_OPERANDS | LIBRARY |
+linked-host-alone | LINKED_SEGMENTS LINKED_OPERANDS | |
+linked-in-place | LINKED_SEGMENTS LINKED_REFERENCE | |
+# libraries with faults, of which the first is reported: a length and then an order, the first that
+# has the name, and a linked file that has it
+short-and-turned | HOST | LIBRARY; LIBRARY SHORT; turned LIBRARY |
+other-kind-second | HOST | LIBRARY NO_CODE; LIBRARY KIND_5; LIBRARY |
+linked-first | HOST | LINKED_SEGMENTS LINKED_OPERANDS; LIBRARY |
+turned-second | HOST | LIBRARY; turned LIBRARY |
+two-libraries | HOST | LIBRARY USES_AUX; LIBRARY NAMES_NOBODY |
+filled | HOST FILLED_TO_14 | LIBRARY HAS_AUX USES_AUX | LINKED_SEGMENTS LINKED_SECOND LINKED_USER
+# what they are linked to where nine units are named
+eleven | HOST NAMES_ELEVEN | FIVE_UNITS SIX_MORE | LINKED_NINE";
+
+/// The files of this name, in the other byte order behind the word `big`.
+pub(crate) fn base_named(rt: &impl Abort, name: &str) -> Base<'static> {
+    match name.strip_prefix("big ") {
+        None => base_in(rt, name),
+        Some(name) => Base {
+            order: Order::Big,
+            ..base_in(rt, name)
+        },
+    }
+}
+
+fn base_in(rt: &impl Abort, name: &str) -> Base<'static> {
+    match name {
+        "pair" => PAIR,
+        "in-place" => IN_PLACE,
+        "two-units" => TWO_UNITS,
+        "used-unit" => USED_UNIT,
+        "long-unit" => LONG_UNIT_PAIR,
+        _ => base_of(rt, line_of(rt, name)),
+    }
+}
+
+/// What `FILES` has behind this name.
+fn line_of(rt: &impl Abort, name: &str) -> &'static str {
+    for line in FILES.lines() {
+        if let Some((found, parts)) = line.split_once(" | ") {
+            if found == name {
+                return parts;
+            }
+        }
+    }
+    holds(rt, false, name);
+    ""
+}
+
+/// The files of a line behind its name.
+fn base_of(rt: &impl Abort, parts: &'static str) -> Base<'static> {
+    let (host, parts) = parts.split_once(" |").expect(rt, parts);
+    let (libraries, linked) = parts.split_once(" |").expect(rt, parts);
+    Base {
+        order: LITTLE,
+        host,
+        libraries,
+        linked,
+    }
+}
+
 /// The base library alone.
-pub(crate) static LIBRARY_TEXTS: [Changes<'static>; 1] = [LIBRARY];
+pub(crate) const LIBRARY_TEXTS: &str = "LIBRARY";
 
 /// What the base pair is linked to.
-pub(crate) static LINKED_TEXTS: [Changes<'static>; 2] = [LINKED_SEGMENTS, LINKED_OPERANDS];
+pub(crate) const LINKED_TEXTS: &str = "LINKED_SEGMENTS LINKED_OPERANDS";
 
 /// The base host alone, and the host with its unit in place.
-pub(crate) static HOST_TEXTS: [Changes<'static>; 1] = [HOST];
+pub(crate) const HOST_TEXTS: &str = "HOST";
 
-pub(crate) static IN_PLACE_TEXTS: [Changes<'static>; 2] = [HOST, HAS_UNIT];
+pub(crate) const IN_PLACE_TEXTS: &str = "HOST HAS_UNIT";
 
-/// The other byte order.
-fn turned(order: Order) -> Order {
-    match order {
-        Order::Little => Order::Big,
-        Order::Big => Order::Little,
+/// A file of the texts of these names, one after the other, with changes.
+fn file_of(
+    rt: &(impl Abort + AllocGlobal),
+    order: Order,
+    names: &str,
+    changes: Changes<'_>,
+) -> CodeFile {
+    CodeFile::new(rt, order, names).with(rt, changes)
+}
+
+/// A library; the words of one that begins with `turned` are in the other byte order.
+fn library_of(
+    rt: &(impl Abort + AllocGlobal),
+    order: Order,
+    names: &str,
+    changes: Changes<'_>,
+) -> CodeFile {
+    match (names.split_once("turned "), order) {
+        (None, _) => file_of(rt, order, names, changes),
+        (Some((_, names)), Order::Little) => file_of(rt, Order::Big, names, changes),
+        (Some((_, names)), Order::Big) => file_of(rt, Order::Little, names, changes),
     }
 }
 
@@ -173,28 +189,30 @@ pub(crate) trait Check {
 impl Base<'_> {
     /// The host with changes.
     pub(crate) fn host(&self, rt: &(impl Abort + AllocGlobal), changes: Changes<'_>) -> CodeFile {
-        CodeFile::new(rt, self.order, self.host).with(rt, changes)
+        file_of(rt, self.order, self.host, changes)
     }
 
     /// The libraries, the first of them with changes.
     fn libraries(&self, rt: &(impl Abort + AllocGlobal), changes: Changes<'_>) -> Vec<CodeFile> {
         let mut libraries = Vec::new(rt.alloc());
-        for (k, (is_turned, texts)) in self.libraries.iter().enumerate() {
-            let order = if *is_turned {
-                turned(self.order)
-            } else {
-                self.order
-            };
-            let changes = if k == 0 { changes } else { "" };
-            let library = CodeFile::new(rt, order, *texts).with(rt, changes);
+        let mut changes = changes;
+        let mut rest = self.libraries;
+        for _ in 0..self.libraries.len() {
+            let (names, others) = rest.split_once(';').unwrap_or((rest, ""));
+            let library = library_of(rt, self.order, names, changes);
             libraries.push(library).expect(rt, "no memory");
+            if others.is_empty() {
+                break;
+            }
+            rest = others;
+            changes = "";
         }
         libraries
     }
 
     /// What they are linked to, with changes.
     pub(crate) fn linked(&self, rt: &(impl Abort + AllocGlobal), changes: Changes<'_>) -> CodeFile {
-        CodeFile::new(rt, self.order, self.linked).with(rt, changes)
+        file_of(rt, self.order, self.linked, changes)
     }
 
     /// Checks the link of the files, with changes of the host, of the first library and of what
@@ -208,7 +226,7 @@ impl Base<'_> {
         let host = self.host(rt, host);
         let linked = self.linked(rt, linked);
         let libraries = self.libraries(rt, library);
-        let libraries = bytes_of(rt.alloc(), libraries.as_slice()).expect(rt, "no memory");
+        let libraries = bytes_of(rt, libraries.as_slice());
         let link = Link {
             host: host.as_slice(),
             libraries: libraries.as_slice(),
@@ -219,69 +237,10 @@ impl Base<'_> {
 }
 
 /// The bytes of each file.
-fn bytes_of<'a>(alloc: Global, files: &'a [CodeFile]) -> Result<Vec<&'a [u8]>, AllocError> {
-    let mut bytes = Vec::new(alloc);
+fn bytes_of<'a>(rt: &(impl Abort + AllocGlobal), files: &'a [CodeFile]) -> Vec<&'a [u8]> {
+    let mut bytes = Vec::new(rt.alloc());
     for file in files {
-        bytes.push(file.as_slice())?;
+        bytes.push(file.as_slice()).expect(rt, "no memory");
     }
-    Ok(bytes)
-}
-
-/// What a link shows, the memory that it is tried with, and its answer.
-#[derive(Clone, Copy)]
-struct Answer<'a> {
-    what: &'a str,
-    memory: Memory,
-    answer: &'a str,
-}
-
-impl<'a> Check for Answer<'a> {
-    fn check<R: Abort + AllocGlobal>(&self, rt: &R, link: &Link<'_>) {
-        links(rt, self.what, link, self.answer);
-        match self.memory {
-            Memory::Ample => (),
-            Memory::NoAllocation => makes_no_allocation(rt, self.what, link, self.answer),
-            Memory::EachAllocationRefused => {
-                refuses_each_allocation(rt, self.what, link, self.answer)
-            }
-        }
-    }
-}
-
-/// Checks each link of these tables.
-pub(crate) fn link_tables(rt: &(impl Abort + AllocGlobal), tables: &[Table<'_, Row<'_>>]) {
-    for (base, memory, rows) in tables {
-        for row in *rows {
-            let answer = Answer {
-                what: row.what,
-                memory: *memory,
-                answer: row.summary,
-            };
-            base.check(rt, (row.host, row.library, row.linked), &answer);
-        }
-    }
-}
-
-/// Checks each refusal of these tables, and that nothing is written.
-pub(crate) fn refuse_tables(rt: &(impl Abort + AllocGlobal), tables: &[Table<'_, Refusal<'_>>]) {
-    for (base, memory, refusals) in tables {
-        refuse_each(rt, base, *memory, *refusals);
-    }
-}
-
-/// The same of one table.
-pub(crate) fn refuse_each(
-    rt: &(impl Abort + AllocGlobal),
-    base: &Base<'_>,
-    memory: Memory,
-    refusals: &[Refusal<'_>],
-) {
-    for (what, host, library, fault) in refusals {
-        let answer = Answer {
-            what: *what,
-            memory,
-            answer: *fault,
-        };
-        base.check(rt, (*host, *library, "size 0"), &answer);
-    }
+    bytes
 }

@@ -8,6 +8,7 @@ use super::writers::Full;
 use super::writing::{NO_WRITE, Writing, writes, writes_long_text, writes_text};
 use crate::base::BASE_LENGTH;
 use crate::code_file::{Changes, CodeFile};
+use crate::line::Line;
 use ps_linkfile::{LinkError, map_text, show_text};
 use std::alloc::{AllocError, Allocator, Global};
 use std::process::Abort;
@@ -45,34 +46,26 @@ private 08 STATE    offset 12 words 4
 next 16 data 26 blocks 4
 ";
 
-/// The show of a library of this byte order with a unit in slot 2: what it says of slot 3, and the
-/// lines after those of the slots.
-macro_rules! show_of {
-    ($order:literal, $third:literal, $($line:literal),*) => {
-        show_of!($order, "00" "01", $third, "04" "05" "06" "07" "08" "09" "10" "11" "12" "13" "14" "15", $($line),*)
-    };
-    ($order:literal, $($low:literal)*, $third:literal, $($high:literal)*, $($line:literal),*) => {
-        concat!(
-            "order ",
-            $order,
-            "\n",
-            $("slot ", $low, "          kind 0 address 0 length 0 text 0\n",)*
-            "slot 02 UTIL     kind 3 address 1 length 24 text 0\nslot 03 ",
-            $third,
-            "\n",
-            $("slot ", $high, "          kind 0 address 0 length 0 text 0\n",)*
-            $($line, "\n"),*
-        )
-    };
-}
+/// What a show of the base library says of its slots before slot 3 and behind it.
+pub(crate) const SLOTS_BEFORE: &str = "slot 00          kind 0 address 0 length 0 text 0
+slot 01          kind 0 address 0 length 0 text 0
+slot 02 UTIL     kind 3 address 1 length 24 text 0
+";
 
-pub(crate) use show_of;
-
-/// What a show of the base library begins with: its byte order and its slots.
-static SLOTS_OF_THE_LIBRARY: &str = show_of!(
-    "little",
-    "         kind 0 address 0 length 0 text 0",
-);
+pub(crate) const SLOTS_BEHIND: &str = "
+slot 04          kind 0 address 0 length 0 text 0
+slot 05          kind 0 address 0 length 0 text 0
+slot 06          kind 0 address 0 length 0 text 0
+slot 07          kind 0 address 0 length 0 text 0
+slot 08          kind 0 address 0 length 0 text 0
+slot 09          kind 0 address 0 length 0 text 0
+slot 10          kind 0 address 0 length 0 text 0
+slot 11          kind 0 address 0 length 0 text 0
+slot 12          kind 0 address 0 length 0 text 0
+slot 13          kind 0 address 0 length 0 text 0
+slot 14          kind 0 address 0 length 0 text 0
+slot 15          kind 0 address 0 length 0 text 0
+";
 
 /// An answer as text: the text itself, or the error's.
 fn text_of<A: Allocator + Copy>(
@@ -170,11 +163,23 @@ static SHOWS: [(usize, &str); 3] = [
     (535, "links 02\nfault 16 Truncated\n"),
 ];
 
+/// What a show of the base library begins with, and this text.
+fn text_behind_slots(alloc: Global, text: &str) -> Result<String, AllocError> {
+    let mut line = Line::new(alloc);
+    line.word("order little\n");
+    line.word(SLOTS_BEFORE);
+    line.word("slot 03          kind 0 address 0 length 0 text 0");
+    line.word(SLOTS_BEHIND);
+    line.word(text);
+    line.text()
+}
+
 #[test]
 fn shows_of_a_library(rt: HostRuntime) {
-    let library = CodeFile::new(&rt, LITTLE, &LIBRARY_TEXTS);
+    let alloc = rt.alloc();
+    let library = CodeFile::new(&rt, LITTLE, LIBRARY_TEXTS);
     for (length, last) in &SHOWS {
-        let text = format!(in rt.alloc(); "{SLOTS_OF_THE_LIBRARY}{last}").expect(&rt, "no memory");
+        let text = text_behind_slots(alloc, *last).expect(&rt, "no memory");
         let cut = library.as_slice().get(..*length).unwrap_or(&[]);
         shows(&rt, *last, cut, text.as_str());
     }
@@ -191,8 +196,8 @@ fn a_long_show(rt: HostRuntime) {
     let alloc = rt.alloc();
     let changes = every_reference(alloc, "size 132128; records 2; ", "; EOFMARK next 0");
     let changes = changes.expect(&rt, "no memory");
-    let library = CodeFile::new(&rt, LITTLE, &LIBRARY_TEXTS).with(&rt, changes.as_str());
-    let before = format!(in alloc; "{SLOTS_OF_THE_LIBRARY}{LINKS}").expect(&rt, "no memory");
+    let library = CodeFile::new(&rt, LITTLE, LIBRARY_TEXTS).with(&rt, changes.as_str());
+    let before = text_behind_slots(alloc, LINKS).expect(&rt, "no memory");
     let text = every_reference(alloc, before.as_str(), LAST_LINK).expect(&rt, "no memory");
     let call = Show {
         file: library.as_slice(),
@@ -209,13 +214,13 @@ fn refuses_text<T: Allocating + Writing>(rt: &(impl Abort + AllocGlobal), call: 
 
 #[test]
 fn maps_and_shows_that_are_refused(rt: HostRuntime) {
-    let host = CodeFile::new(&rt, LITTLE, &HOST_TEXTS);
+    let host = CodeFile::new(&rt, LITTLE, HOST_TEXTS);
     let call = Map {
         host: host.as_slice(),
         libraries: &[],
     };
     refuses_text(&rt, &call, "refused 13 MissingUnit file 0 slot 7");
-    let mixed = CodeFile::new(&rt, LITTLE, &[]).with(&rt, "size 512; at 192 0101");
+    let mixed = CodeFile::new(&rt, LITTLE, "").with(&rt, "size 512; at 192 0101");
     let file = mixed.as_slice();
     refuses_text(&rt, &Show { file }, "refused 2 NoOrder file 0");
     let file = file.get(..511).unwrap_or(&[]);

@@ -396,7 +396,7 @@ fn counts_of_a_show(
 
 #[test]
 fn failures_of_a_map_and_a_show_are_counted(rt: HostRuntime) {
-    let host = CodeFile::new(&rt, LITTLE, &IN_PLACE_TEXTS);
+    let host = CodeFile::new(&rt, LITTLE, IN_PLACE_TEXTS);
     let host = host.as_slice();
     let linked = prepare(rt.alloc(), host, &[]).expect(&rt, "unexpected error");
     for (room, full, wanted) in &FAILURES {
@@ -483,7 +483,7 @@ fn tells_error(rt: &(impl Abort + AllocGlobal), linked: &Linked<'_>, way: Broken
 
 #[test]
 fn the_error_of_the_write_comes_back(rt: HostRuntime) {
-    let host = CodeFile::new(&rt, LITTLE, &IN_PLACE_TEXTS);
+    let host = CodeFile::new(&rt, LITTLE, IN_PLACE_TEXTS);
     let files = Link {
         host: host.as_slice(),
         libraries: &[],
@@ -513,7 +513,7 @@ fn texts_of_write_faults(rt: HostRuntime) {
 #[test]
 fn a_list_that_cannot_grow(rt: HostRuntime) {
     let alloc = rt.alloc();
-    let host = CodeFile::new(&rt, LITTLE, &IN_PLACE_TEXTS);
+    let host = CodeFile::new(&rt, LITTLE, IN_PLACE_TEXTS);
     let heap = Refusing::once(alloc, 1);
     let mut list = Vec::new(&heap);
     let answer = link(alloc, host.as_slice(), &[], &mut list);

@@ -1,0 +1,81 @@
+//! The texts that are wanted of a run, so that a table names them and does not hold them.
+use super::{args, inputs, memory, printing};
+
+/// A text that is wanted.
+#[derive(Clone, Copy)]
+pub enum Text {
+    Nothing,
+    Version,
+    Help,
+    LinkHelp,
+    MapHelp,
+    ShowHelp,
+    CheckHelp,
+    NoArgs,
+    NoCommand,
+    NoOut,
+    NoHost,
+    NoCheckedHost,
+    NoFile,
+    TwoFiles,
+    OutIsLibrary,
+    NotThere,
+    NotThereToCheck,
+    SummaryInPlace,
+    SummaryOfPair,
+    MapOfPair,
+    ReferencesOfPair,
+    JsonOfPair,
+    MapWithConstant,
+    MapOfAnAddedUnit,
+    LibrarySlots,
+    ShownLibrary,
+    ShownBigEndian,
+    ShownLinked,
+    ShownZeros,
+    ShowOfBothUnits,
+    ReportOfPair,
+    JsonReportOfPair,
+    ReportInPlace,
+}
+
+impl Text {
+    /// The text itself.
+    pub fn text(self) -> &'static str {
+        match self {
+            Text::Nothing => "",
+            Text::Version => args::VERSION,
+            Text::Help => args::HELP,
+            Text::LinkHelp => args::LINK_HELP,
+            Text::MapHelp => args::MAP_HELP,
+            Text::ShowHelp => args::SHOW_HELP,
+            Text::CheckHelp => args::CHECK_HELP,
+            Text::NoArgs => args::NO_ARGS,
+            Text::NoCommand => args::NO_COMMAND,
+            Text::NoOut => args::NO_OUT,
+            Text::NoHost => args::NO_HOST,
+            Text::NoCheckedHost => args::NO_CHECKED_HOST,
+            Text::NoFile => args::NO_FILE,
+            Text::TwoFiles => args::TWO_FILES,
+            Text::OutIsLibrary => args::OUT_IS_LIBRARY,
+            Text::NotThere => args::NOT_THERE,
+            Text::NotThereToCheck => args::NOT_THERE_TO_CHECK,
+            Text::SummaryInPlace => inputs::SUMMARY_IN_PLACE,
+            Text::SummaryOfPair => inputs::SUMMARY_OF_PAIR,
+            Text::MapOfPair => inputs::MAP_OF_PAIR,
+            Text::ReferencesOfPair => inputs::REFERENCES_OF_PAIR,
+            Text::JsonOfPair => inputs::JSON_OF_PAIR,
+            Text::MapWithConstant => inputs::MAP_WITH_CONSTANT,
+            Text::MapOfAnAddedUnit => inputs::MAP_OF_AN_ADDED_UNIT,
+            Text::LibrarySlots => inputs::LIBRARY_SLOTS,
+            Text::ShownLibrary => inputs::SHOWN_LIBRARY,
+            Text::ShownBigEndian => inputs::SHOWN_BIG_ENDIAN,
+            Text::ShownLinked => inputs::SHOWN_LINKED,
+            Text::ShownZeros => inputs::SHOWN_ZEROS,
+            Text::ShowOfBothUnits => inputs::SHOW_OF_BOTH_UNITS,
+            Text::ReportOfPair => memory::REPORT,
+            Text::JsonReportOfPair => memory::JSON_REPORT,
+            Text::ReportInPlace => printing::REPORT,
+        }
+    }
+}

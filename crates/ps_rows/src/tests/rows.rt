@@ -1,0 +1,135 @@
+//! Links as rows of a text, each with the changes of its files and its answer.
+//!
+//! | Line | What it says |
+//! |---|---|
+//! | `files pair, ample memory` | the files that the rows below change, and the memory that each is tried with |
+//! | `what \| host \| library \| fault` | a refusal: what it shows, the changes of the host and of the first library, and the fault |
+//! | `what \| host \| library \| linked \| summary` | a link: also the changes of what they are linked to, and the line that the program prints |
+//! | `# sizes` | nothing: what the rows below are about |
+//!
+//! The files are `BASES` of `tables.rt`, in the other byte order behind the word `big`. A dash stands
+//! for no changes.
+use super::allocations::{makes_no_allocation, refuses_each_allocation};
+use super::answers::links;
+use super::link_allocations::Link;
+use super::tables::{Base, Check, base_named};
+use crate::code_file::Changes;
+use crate::notation::holds;
+use std::process::Abort;
+
+/// The memory that a link is given beside as much as it requests.
+#[derive(Clone, Copy)]
+enum Memory {
+    /// No other.
+    Ample,
+    /// None, and it requests none.
+    NoAllocation,
+    /// Each allocation is refused in turn, and the link is made again with ample memory.
+    EachAllocationRefused,
+}
+
+/// The files that rows change, and the memory that each is tried with.
+#[derive(Clone, Copy)]
+struct Tried {
+    base: Base<'static>,
+    memory: Memory,
+}
+
+/// What a link shows, the memory that it is tried with, and its answer.
+#[derive(Clone, Copy)]
+struct Answer<'a> {
+    what: &'a str,
+    memory: Memory,
+    answer: &'a str,
+}
+
+impl<'a> Check for Answer<'a> {
+    fn check<R: Abort + AllocGlobal>(&self, rt: &R, link: &Link<'_>) {
+        links(rt, self.what, link, self.answer);
+        match self.memory {
+            Memory::Ample => (),
+            Memory::NoAllocation => makes_no_allocation(rt, self.what, link, self.answer),
+            Memory::EachAllocationRefused => {
+                refuses_each_allocation(rt, self.what, link, self.answer)
+            }
+        }
+    }
+}
+
+fn memory_named(rt: &impl Abort, name: &str) -> Memory {
+    match name {
+        "no allocation" => Memory::NoAllocation,
+        "each allocation refused" => Memory::EachAllocationRefused,
+        _ => {
+            holds(rt, name == "ample memory", name);
+            Memory::Ample
+        }
+    }
+}
+
+/// What a line says behind `files `.
+fn tried_with(rt: &impl Abort, files: &str) -> Tried {
+    let (name, memory) = files.split_once(", ").expect(rt, files);
+    Tried {
+        base: base_named(rt, name),
+        memory: memory_named(rt, memory),
+    }
+}
+
+/// The field before the next bar, and what is behind it.
+pub(crate) fn field<'a>(rt: &impl Abort, row: &'a str) -> (&'a str, &'a str) {
+    row.split_once(" | ").expect(rt, row)
+}
+
+/// The same where the field is of changes.
+pub(crate) fn changes<'a>(rt: &impl Abort, row: &'a str) -> (Changes<'a>, &'a str) {
+    match field(rt, row) {
+        ("-", rest) => ("", rest),
+        found => found,
+    }
+}
+
+/// What is linked, and the answer: nothing is, where there is one field alone.
+fn outcome(row: &str) -> (Changes<'_>, &str) {
+    match row.split_once(" | ") {
+        None => ("size 0", row),
+        Some(("-", answer)) => ("", answer),
+        Some(found) => found,
+    }
+}
+
+fn check_row(rt: &(impl Abort + AllocGlobal), tried: &Tried, row: &str) {
+    if row.starts_with('#') {
+        return;
+    }
+    let (what, rest) = field(rt, row);
+    let (host, rest) = changes(rt, rest);
+    let (library, rest) = changes(rt, rest);
+    let (linked, answer) = outcome(rest);
+    let memory = tried.memory;
+    let check = Answer {
+        what,
+        memory,
+        answer,
+    };
+    tried.base.check(rt, (host, library, linked), &check)
+}
+
+/// Checks each of these rows with the files and the memory that this says.
+pub(crate) fn check_each(rt: &(impl Abort + AllocGlobal), files: &str, rows: &str) {
+    let tried = tried_with(rt, files);
+    for row in rows.lines() {
+        check_row(rt, &tried, row);
+    }
+}
+
+/// Checks each of these rows, whose first line says the files and the memory.
+pub(crate) fn check_rows(rt: &(impl Abort + AllocGlobal), rows: &str) {
+    let mut tried = None;
+    for row in rows.lines() {
+        match row.strip_prefix("files ") {
+            Some(files) => tried = Some(tried_with(rt, files)),
+            None => check_row(rt, &tried.expect(rt, "a row without files"), row),
+        }
+    }
+}
