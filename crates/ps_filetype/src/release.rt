@@ -118,7 +118,11 @@ fn information(order: Order, block: &[u8], slot: u8) -> u16
     requires whole { 512 ≤ length block.now }
     ensures { result ≡ information_spec order block.now slot }
 {
-    get(order, block, SEGMENT_INFORMATION + WORD_LEN * usize::from(slot))
+    get(
+        order,
+        block,
+        SEGMENT_INFORMATION + WORD_LEN * usize::from(slot),
+    )
 }
 
 /// The name of a slot is one that a person can read.
