@@ -16,7 +16,7 @@ use ps_words::{Fault, Reason};
 pub const FAULT_TEXT_MAX: usize = 160;
 
 /// A text with room for the longest.
-type Text = ArrayString<FAULT_TEXT_MAX>;
+pub(crate) type Text = ArrayString<FAULT_TEXT_MAX>;
 
 /// The name of a reason, which has 17 bytes at most.
 fn name(reason: Reason) -> &'static str

@@ -4,10 +4,9 @@ ghost use Rattle.ps_calls.specs.Names.{closed, fault_name, release, status_text 
 ghost use Rattle.ps_calls.specs.Rooms.{RoomBeginsWith};
 
 use crate::answer::{DONE, NO_MEMORY, REFUSED, TOO_SMALL, WRONG_LENGTHS, WRONG_NAMES, WRONG_TEXT};
-use crate::fault_text::FAULT_TEXT_MAX;
+use crate::fault_text::{FAULT_TEXT_MAX, Text};
 use crate::reasons::reason_of;
 use crate::texts::put;
-use arrayvec::ArrayString;
 
 /// The release of pslink.
 const RELEASE: &str = "0.2.0";
@@ -45,17 +44,17 @@ fn status_text(status: u32) -> &'static str
     }
 }
 
-/// Puts a text of fewer than `MOST` bytes in the room where it fits, with a closing 0, and writes
-/// nothing where it does not, nor of an empty text. Returns how many bytes it takes.
-pub(crate) fn put_closed<const MOST: usize>(text: &str, room: &mut [u8]) -> usize
-    requires { length text.now < MOST }
+/// Puts a text that is not too long in the room where it fits, with a closing 0, and writes nothing
+/// where it does not, nor of an empty text. Returns how many bytes it takes.
+fn put_closed(text: &str, room: &mut [u8]) -> usize
+    requires { length text.now < FAULT_TEXT_MAX }
     ensures size { result ≡ length (closed text.now) }
-    ensures most { result ≤ MOST }
+    ensures most { result ≤ FAULT_TEXT_MAX }
     ensures text { result ≤ length room.old
         → RoomBeginsWith (closed text.now) room.old room.new }
     ensures short { length room.old < result → room.new ≡ room.old }
 {
-    let mut closed = ArrayString::<MOST>::new();
+    let mut closed = Text::new();
     if !text.is_empty() {
         closed.push_str(text);
         closed.push_str("\0");
@@ -76,7 +75,7 @@ pub fn put_fault_name(number: u8, room: &mut [u8]) -> usize
         → RoomBeginsWith (closed (fault_name number)) room.old room.new }
     ensures short { length room.old < result → room.new ≡ room.old }
 {
-    put_closed::<FAULT_TEXT_MAX>(name_of_fault(number), room)
+    put_closed(name_of_fault(number), room)
 }
 
 /// Puts what a status says in the room, as `put_fault_name` a name: 0 where no call answers it.
@@ -88,7 +87,7 @@ pub fn put_status_text(status: u32, room: &mut [u8]) -> usize
         → RoomBeginsWith (closed (status_text_spec status)) room.old room.new }
     ensures short { length room.old < result → room.new ≡ room.old }
 {
-    put_closed::<FAULT_TEXT_MAX>(status_text(status), room)
+    put_closed(status_text(status), room)
 }
 
 /// Puts the release of pslink in the room, as `put_fault_name` a name.
@@ -100,5 +99,5 @@ pub fn put_release(room: &mut [u8]) -> usize
         → RoomBeginsWith (closed release) room.old room.new }
     ensures short { length room.old < result → room.new ≡ room.old }
 {
-    put_closed::<FAULT_TEXT_MAX>(RELEASE, room)
+    put_closed(RELEASE, room)
 }

@@ -3,12 +3,32 @@ ghost use Rattle.std.specs.Prelude.{◌≡◌, ◌≤◌, ◌<◌, length};
 ghost use Rattle.ps_calls.specs.Names.{closed, fault_meaning, fault_remedy};
 ghost use Rattle.ps_calls.specs.Rooms.{RoomBeginsWith};
 
-use crate::names::put_closed;
+use crate::texts::put;
+use arrayvec::ArrayString;
 use ps_explained::{meaning_of, remedy_of};
 
 /// How many bytes a sentence of a fault has at most, the closing 0 counted.
 /// Source: this project's profile.
 pub const SENTENCE_MAX: usize = 256;
+
+/// Puts sentences in the room, as a name is put.
+fn put_sentences(text: &str, room: &mut [u8]) -> usize
+    requires { length text.now < SENTENCE_MAX }
+    ensures size { result ≡ length (closed text.now) }
+    ensures most { result ≤ SENTENCE_MAX }
+    ensures text { result ≤ length room.old
+        → RoomBeginsWith (closed text.now) room.old room.new }
+    ensures short { length room.old < result → room.new ≡ room.old }
+{
+    let mut closed = ArrayString::<SENTENCE_MAX>::new();
+    if !text.is_empty() {
+        closed.push_str(text);
+        closed.push_str("\0");
+    }
+    // Where they do not fit, nothing is put.
+    let _ = put(closed.as_bytes(), room);
+    closed.len()
+}
 
 /// Puts what is wrong, where files are refused for the fault of this number, in the room where it
 /// fits, with a closing 0, and writes nothing where it does not: a sentence of ASCII. Returns how
@@ -22,7 +42,7 @@ pub fn put_fault_meaning(number: u8, room: &mut [u8]) -> usize
         → RoomBeginsWith (closed (fault_meaning number)) room.old room.new }
     ensures short { length room.old < result → room.new ≡ room.old }
 {
-    put_closed::<SENTENCE_MAX>(meaning_of(number), room)
+    put_sentences(meaning_of(number), room)
 }
 
 /// Puts what to do about the fault of this number in the room, as `put_fault_meaning` what is wrong:
@@ -35,5 +55,5 @@ pub fn put_fault_remedy(number: u8, room: &mut [u8]) -> usize
         → RoomBeginsWith (closed (fault_remedy number)) room.old room.new }
     ensures short { length room.old < result → room.new ≡ room.old }
 {
-    put_closed::<SENTENCE_MAX>(remedy_of(number), room)
+    put_sentences(remedy_of(number), room)
 }
