@@ -38,21 +38,22 @@ pub returns-in_ok-listings-in-Ok-clause-text : goal.returns-in_ok-listings-in-Ok
 returns-in_ok-listings-in-Ok-clause-text g c = joined _ _ _ _ _
     (ap map_in c.of-linked.ensures ∙ plan_text _ _ _ c.in-Ok.ensures.plan)
     (stored _ _ _ _ _ _ c.in-Ok.ensures.plan (c.plan.ensures.plan ∙ c.of-linked.ensures)
-    (c.as_slice.ensures.value ∙ c.in-Ok.ensures.segments) c.in_ok-listings.ensures)
+    (c.as_slice.ensures.value ∙ c.in-Ok.ensures.segments) c.in_ok-listings-in-Ok.ensures)
 
 pub returns-in_ok-listings-in-Ok-clause-json : goal.returns-in_ok-listings-in-Ok-clause-json
 returns-in_ok-listings-in-Ok-clause-json g c =
-    let listings = c.in_ok-listings.listings.items in
+    let listings = c.in_ok-listings-in-Ok.listings.items in
     let listed : listings ≡ listings_of c.args.host.now (contents c.args.libs.now) =
     stored _ _ _ _ _ _ c.in-Ok.ensures.plan (c.plan.ensures.plan ∙ c.of-linked.ensures)
-    (c.as_slice.ensures.value ∙ c.in-Ok.ensures.segments) c.in_ok-listings.ensures in
+    (c.as_slice.ensures.value ∙ c.in-Ok.ensures.segments) c.in_ok-listings-in-Ok.ensures in
     ap (λ (bs : List ℕ). bs ++ references_in Json listings)
     (ap members_in c.of-linked.ensures ∙ members_are _ _ _ c.in-Ok.ensures.plan)
     ∙ ap (λ (ls : List Listed). members_of c.args.host.now (contents c.args.libs.now)
     ++ references_in Json ls) listed
 
 pub returns-in_ok-listings-in-Ok-clause-accepted : goal.returns-in_ok-listings-in-Ok-clause-accepted
-returns-in_ok-listings-in-Ok-clause-accepted g c = c.first_of_all.ensures.none _ _ c.in-Ok.ensures.sound
+returns-in_ok-listings-in-Ok-clause-accepted g c =
+    c.first_of_all.ensures.none _ _ c.in-Ok.ensures.sound
 
 pub returns-in_ok-listings-in-Ok-clause-linked : goal.returns-in_ok-listings-in-Ok-clause-linked
 returns-in_ok-listings-in-Ok-clause-linked g c =
