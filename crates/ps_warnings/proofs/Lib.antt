@@ -1,1 +1,5 @@
 pub mod Paths
+pub mod Found
+pub mod Lengths
+pub mod SeenLists
+pub mod Slots

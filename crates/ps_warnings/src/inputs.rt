@@ -1,7 +1,7 @@
 //! The files that are checked, and how they are named in a report.
 ghost use Rattle.std.specs.Prelude.{◌≡◌, ◌∷◌};
 ghost use Rattle.ps_resolve.specs.Sources.{contents};
-ghost use Rattle.ps_warnings.specs.Paths.{path_of};
+ghost use Rattle.ps_warnings.specs.Paths.{host_order, path_of};
 
 use ps_codefile::Dict;
 use ps_filetype::{FileType, ShownPath};
@@ -76,7 +76,9 @@ impl<'a> Inputs<'a> {
 
     /// The byte order of the host; little-endian where it shows none.
     /// Source: this project's profile.
-    pub fn order(&self) -> Order {
+    pub fn order(&self) -> Order
+        ensures { result ≡ host_order self.now.host.now }
+    {
         match Dict::read(self.host) {
             Ok(dict) => dict.order(),
             Err(_) => Order::Little,

@@ -1,6 +1,11 @@
 //! The segments of a link as the files have them, also where they are refused.
-ghost use Rattle.std.specs.Prelude.{◌≡◌, ◌<◌, Some};
+ghost use Rattle.std.specs.Prelude.{◌≡◌, ◌<◌, ◌==◌, ◌^◌, Some, map};
+ghost use Rattle.std.specs.List.{find};
+ghost use Rattle.std.specs.Option.{option_map};
+ghost use Rattle.ps_codefile.specs.Dictionary.{code_of, entry_at, information_of, kind_needs_linking};
+ghost use Rattle.ps_linkinfo.specs.Records.{used_by};
 ghost use Rattle.ps_warnings.specs.Parts.{is_added as is_added_spec, is_unit as is_unit_spec, part_words};
+ghost use Rattle.ps_warnings.specs.Seen.{code_in, is_host_part, part_needs_linking, seen};
 
 use crate::inputs::Inputs;
 use ps_codefile::dictionary_layout::SLOTS;
@@ -32,8 +37,23 @@ pub enum Part {
 
 impl Part {
     /// Its references are resolved.
-    fn needs_linking(self) -> bool {
-        !matches!(self, Part::Plain)
+    fn needs_linking(self) -> bool
+        ensures { result ≡ part_needs_linking self }
+    {
+        match self {
+            Part::Plain => false,
+            Part::Host | Part::Unit | Part::Wanted | Part::Added { .. } => true,
+        }
+    }
+
+    /// It is the host program.
+    fn is_host(self) -> bool
+        ensures { result ≡ is_host_part self }
+    {
+        match self {
+            Part::Host => true,
+            Part::Plain | Part::Unit | Part::Wanted | Part::Added { .. } => false,
+        }
     }
 
     /// It is a unit.
@@ -98,8 +118,17 @@ pub struct Source<'a> {
 impl Source<'_> {
     /// A link resolves its references, if it takes it.
     /// Source: the published II.0 Linker source.
-    pub fn needs_linking(&self) -> bool {
-        matches!(self.entry.kind, HOSTSEG | UNITSEG)
+    pub fn needs_linking(&self) -> bool
+        ensures { result ≡ kind_needs_linking self.now.entry.kind }
+    {
+        self.entry.kind == HOSTSEG || self.entry.kind == UNITSEG
+    }
+
+    /// Its kind is that of a host program.
+    pub(crate) fn is_host(&self) -> bool
+        ensures { result ≡ (self.now.entry.kind == 1) }
+    {
+        self.entry.kind == HOSTSEG
     }
 }
 
@@ -121,7 +150,9 @@ pub struct Segment<'a> {
 impl<'a> Segment<'a> {
     /// Its records, up to the first that cannot be read; none where they are not to be read.
     /// Source: the published II.0 Linker source.
-    pub fn records(&self) -> LinkInformation<'a> {
+    pub fn records(&self) -> LinkInformation<'a>
+        ensures { result ≡ (seen self.now).records }
+    {
         match self.source {
             Some(source) if self.part.needs_linking() && source.code.is_ok() => {
                 LinkInformation::up_to_fault(source.order, source.after)
@@ -134,7 +165,9 @@ impl<'a> Segment<'a> {
 /// How many bytes the records that can be read take.
 ///
 /// Source: the published II.0 Linker source.
-pub fn length_of(records: &LinkInformation<'_>) -> usize {
+pub fn length_of(records: &LinkInformation<'_>) -> usize
+    ensures { used_by records.now < 2 ^ 64 → result ≡ used_by records.now }
+{
     let mut length = 0usize;
     for (_, record) in records.records() {
         length = length.saturating_add(record.size());
@@ -147,6 +180,13 @@ pub fn length_of(records: &LinkInformation<'_>) -> usize {
 /// Source: UCSD Pascal II.0 manual, code file format.
 pub fn source_of<'a>(dict: &Dict<'a>, file: usize, index: u8) -> Source<'a>
     requires { index < 16 }
+    ensures file { result.file ≡ file }
+    ensures entry { result.entry ≡ entry_at dict.now.order dict.now.file index }
+    ensures order { result.order ≡ dict.now.order }
+    ensures code { code_in result
+        ≡ code_of dict.now.file (entry_at dict.now.order dict.now.file index) }
+    ensures after { result.after.now
+        ≡ information_of dict.now.file (entry_at dict.now.order dict.now.file index) }
 {
     Source {
         file,
@@ -285,9 +325,11 @@ pub fn in_slot<'a>(list: &[Segment<'a>], slot: u8) -> Option<Segment<'a>> {
 /// The segment of the host program.
 ///
 /// Source: this project's profile.
-pub fn host_of<'a>(list: &[Segment<'a>]) -> Option<Segment<'a>> {
+pub fn host_of<'a>(list: &[Segment<'a>]) -> Option<Segment<'a>>
+    ensures { option_map seen result ≡ find (λ s. is_host_part s.part) (map seen list.now) }
+{
     for segment in list {
-        if matches!(segment.part, Part::Host) {
+        if segment.part.is_host() {
             return Some(*segment);
         }
     }
