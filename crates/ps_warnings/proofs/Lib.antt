@@ -3,3 +3,4 @@ pub mod Found
 pub mod Lengths
 pub mod SeenLists
 pub mod Slots
+pub mod Origins

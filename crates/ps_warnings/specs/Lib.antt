@@ -8,3 +8,4 @@ pub mod Seen
 pub mod Found
 pub mod FileLooks
 pub mod AllLooks
+pub mod SeenSegments

@@ -1,5 +1,5 @@
 //! Entries that overlap in their file.
-ghost use Rattle.std.specs.Prelude.{◌≡◌, ◌<◌, ◌^◌, OnOk, map, nat_lt};
+ghost use Rattle.std.specs.Prelude.{◌≡◌, ◌<◌, ◌^◌, OnOk, map};
 ghost use Rattle.std.specs.List.{flat_map};
 ghost use Rattle.std.specs.Result.{is_ok};
 ghost use Rattle.ps_codefile.specs.Dictionary.{code_of, entry_at, slots};
@@ -9,7 +9,7 @@ ghost use Rattle.ps_warnings.specs.FileLooks.{extent_at as extent_at_spec, exten
 ghost use Rattle.ps_warnings.specs.Found.{Adds, link_looks};
 
 use super::Looks;
-use crate::segments::length_of;
+use crate::segments::{is_slot, length_of};
 use crate::warnings::{EntryLook, Place};
 use ps_codefile::Dict;
 use ps_codefile::dictionary_layout::SLOTS;
@@ -164,13 +164,6 @@ fn look_at_extent<'a, A: Allocator>(
         return looks.add_entry(place, found);
     }
     Ok(())
-}
-
-/// There is such a slot.
-fn is_slot(slot: u8) -> bool
-    ensures { result ≡ nat_lt slot 16 }
-{
-    slot < SLOTS
 }
 
 /// The bytes of an earlier slot are also some of this slot's.
