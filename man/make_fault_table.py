@@ -10,7 +10,7 @@ ROOT = pathlib.Path(__file__).resolve().parent.parent
 LINKING, USING = ROOT / "docs/LINKING.md", ROOT / "docs/USING.md"
 SENTENCES = next((ROOT / "crates").glob("*/src/sentences.rt"))
 WARNINGS = next((ROOT / "crates").glob("*/src/warnings.rt"))
-LOOKS = ["FileLook", "DictionaryLook", "EntryLook", "CodeLook", "ProcedureLook", "RecordLook", "LinkLook"]
+LOOKS = ["FileLook", "DictionaryLook", "SegmentLook", "EntryLook", "CodeLook", "ProcedureLook", "RecordLook", "LinkLook"]
 # A reader of LINKING and of pslink(1) has the section at hand.
 OF_THE_PAGE = " in pslink(1)"
 HEAD = "| No. | What is wrong | What to do |\n|---|---|---|\n"

@@ -4,3 +4,8 @@ pub mod RecordLooks
 pub mod EntryLooks
 pub mod Weights
 pub mod LinkLooks
+pub mod Seen
+pub mod Found
+pub mod FileLooks
+pub mod AllLooks
+pub mod SeenSegments

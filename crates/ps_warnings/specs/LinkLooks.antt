@@ -10,8 +10,8 @@ use Rattle.ps_codefile.specs.Dictionary.{entry_at}
 use Rattle.ps_codefile.specs.declared.entry.Entry.{Entry}
 use Rattle.ps_warnings.specs.Parts.{is_added, is_unit}
 use Rattle.ps_warnings.specs.declared.segments.Part.{Part}
-use Rattle.ps_warnings.specs.declared.segments.Segment.{Segment}
 use Rattle.ps_warnings.specs.EntryLooks.{has_name_or_kind}
+use Rattle.ps_warnings.specs.Seen.{Seen}
 use Rattle.ps_warnings.specs.declared.warnings.LinkLook.{LinkLook}
 use Rattle.ps_warnings.specs.declared.warnings.LinkLook.TheVariants as look
 
@@ -39,10 +39,10 @@ taken_by order host (Some slot) what = if nat_lt slot 16
     then taken_slot slot what (entry_at order host slot) else None
 
 -- the segment is a unit of nearly this name
-abbrev pub is_near_unit : List ℕ → Segment → Bool
+abbrev pub is_near_unit : List ℕ → Seen → Bool
 is_near_unit name s = is_unit s.part && is_near s.name name
 
 -- the first of the segments before a unit that is a unit of nearly its name
-abbrev pub other_spelling : List Segment → Segment → Option LinkLook
+abbrev pub other_spelling : List Seen → Seen → Option LinkLook
 other_spelling earlier s = if is_unit s.part
     then option_map (λ o. look.OtherSpelling o.name) (find (is_near_unit s.name) earlier) else None

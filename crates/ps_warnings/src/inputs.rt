@@ -1,7 +1,7 @@
 //! The files that are checked, and how they are named in a report.
 ghost use Rattle.std.specs.Prelude.{◌≡◌, ◌∷◌};
-ghost use Rattle.ps_resolve.specs.Sources.{contents};
-ghost use Rattle.ps_warnings.specs.Paths.{path_of};
+ghost use Rattle.ps_resolve.specs.Sources.{contents, file_at};
+ghost use Rattle.ps_warnings.specs.Paths.{host_order, path_of};
 
 use ps_codefile::Dict;
 use ps_filetype::{FileType, ShownPath};
@@ -27,6 +27,16 @@ fn path_at<'a>(paths: &'a [&'a str], index: usize) -> &'a str
     match paths.get(index) {
         Some(path) => *path,
         None => "",
+    }
+}
+
+/// The bytes of this index; none where there are not so many.
+fn bytes_at<'a>(files: &'a [&'a [u8]], index: usize) -> &'a [u8]
+    ensures { result.now ≡ path_of (contents files.now) index }
+{
+    match files.get(index) {
+        Some(bytes) => *bytes,
+        None => &[],
     }
 }
 
@@ -57,14 +67,13 @@ impl<'a> Inputs<'a> {
 
     /// The bytes of a file; none where there is no such file.
     /// Source: this project's profile.
-    pub fn bytes(&self, file: usize) -> &'a [u8] {
-        match file.checked_sub(1) {
-            None => self.host,
-            Some(k) => match self.libs.get(k) {
-                Some(bytes) => *bytes,
-                None => &[],
-            },
+    pub fn bytes(&self, file: usize) -> &'a [u8]
+        ensures { result.now ≡ file_at self.now.host.now (contents self.now.libs.now) file }
+    {
+        if file == 0 {
+            return self.host;
         }
+        bytes_at(self.libs, file - 1)
     }
 
     /// The dictionary of a file, whose words are read in the host's order where it shows none;
@@ -76,7 +85,9 @@ impl<'a> Inputs<'a> {
 
     /// The byte order of the host; little-endian where it shows none.
     /// Source: this project's profile.
-    pub fn order(&self) -> Order {
+    pub fn order(&self) -> Order
+        ensures { result ≡ host_order self.now.host.now }
+    {
         match Dict::read(self.host) {
             Ok(dict) => dict.order(),
             Err(_) => Order::Little,

@@ -14,7 +14,7 @@ pub use looks::names::{is_near, plain};
 pub use looks::{Looks, looks_of};
 pub use segments::{Part, Segment, Source, host_of, in_slot, length_of, segments_of, source_of};
 pub use warnings::{
-    CodeLook, DictionaryLook, EntryLook, FileLook, Guess, LinkLook, Look, Oddity, Place,
-    ProcedureLook, RecordLook, Warning,
+    CodeLook, DictionaryLook, EntryLook, FileLook, Guess, LinkLook, Look, Oddity, OtherLook, Place,
+    ProcedureLook, RecordLook, SegmentLook, Warning,
 };
 pub use weight::Weight;

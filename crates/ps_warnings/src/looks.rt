@@ -1,4 +1,13 @@
 //! The search for what looks wrong.
+ghost use Rattle.std.specs.Prelude.{◌≡◌, ◌∷◌, ◌++◌, [], IfOk, OnOk, map};
+ghost use Rattle.std.specs.List.{enumerate_from, flat_map};
+ghost use Rattle.std.specs.Option.{option_map};
+ghost use Rattle.ps_resolve.specs.Sources.{contents};
+ghost use Rattle.ps_warnings.specs.AllLooks.{all_looks, link_looks_of, looks_of_file, looks_of_files};
+ghost use Rattle.ps_warnings.specs.Found.{Adds, found_at, found_in_record, link_looks, look_at, sorted};
+ghost use Rattle.ps_warnings.specs.Paths.{host_order};
+ghost use Rattle.ps_warnings.specs.Seen.{host_records, seen};
+
 pub(crate) mod codes;
 mod doubled;
 mod entries;
@@ -12,10 +21,10 @@ mod records;
 
 use crate::inputs::Inputs;
 use crate::segments::{Segment, Source, host_of, in_slot};
-use crate::warnings::{Guess, Look, Place, RecordLook, Warning};
+use crate::warnings::{EntryLook, Guess, LinkLook, Look, OtherLook, Place, RecordLook, Warning};
 use crate::weight::Weight;
 use ps_linkinfo::LinkInformation;
-use ps_words::{Fault, Name, Reason};
+use ps_words::{Fault, Reason};
 use std::alloc::{AllocError, Allocator};
 
 /// What is looked at, and what a report says of it already.
@@ -39,23 +48,7 @@ fn refused_entry(list: &[Segment<'_>], fault: Option<Fault>) -> Option<(usize, u
     Some((source.file, source.index))
 }
 
-impl<'c, 'a> Sight<'c, 'a> {
-    fn new(
-        inputs: &'c Inputs<'a>,
-        list: &'c [Segment<'a>],
-        host: Option<&'c LinkInformation<'a>>,
-        fault: Option<Fault>,
-    ) -> Self {
-        Sight {
-            inputs,
-            list,
-            fault,
-            refused: refused_entry(list, fault),
-            are_small: names::are_small(inputs),
-            host,
-        }
-    }
-
+impl Sight<'_, '_> {
     /// The fault's explanation says what the file is.
     fn is_type_told(&self, file: usize) -> bool {
         let Some(fault) = self.fault else {
@@ -92,26 +85,66 @@ pub struct Looks<'a, A: Allocator> {
     pub notes: Vec<Warning<'a>, A>,
 }
 
+/// Adds a warning to others, after them.
+fn add_to<'a, A: Allocator>(
+    list: &mut Vec<Warning<'a>, A>,
+    warning: Warning<'a>,
+) -> Result<(), AllocError>
+    ensures { OnOk result (list.new.items ≡ list.old.items ++ warning.entry ∷ []) }
+{
+    Ok(list.push(warning)?)
+}
+
 impl<'a, A: Allocator> Looks<'a, A> {
-    /// Adds what looks wrong, if anything does, by its weight.
-    fn add(&mut self, place: Place<'a>, look: Option<Look>) -> Result<(), AllocError> {
-        let Some(look) = look else {
-            return Ok(());
-        };
-        let warning = Warning { place, look };
-        match look.weight() {
-            Weight::Note => Ok(self.notes.push(warning)?),
-            Weight::Harmless => Ok(self.harmless.push(warning)?),
-            Weight::Look | Weight::Damaged => Ok(self.warnings.push(warning)?),
+    /// Adds what looks wrong by its weight.
+    fn push(&mut self, warning: Warning<'a>) -> Result<(), AllocError>
+        ensures { OnOk result (Adds (link_looks self.old.warnings.items self.old.harmless.items)
+            (look_at warning.entry.place.path.now warning.entry.place.segment
+            warning.entry.place.rec warning.entry.look)
+            (link_looks self.new.warnings.items self.new.harmless.items)) }
+    {
+        match warning.look.weight() {
+            Weight::Note => add_to(&mut self.notes, warning),
+            Weight::Harmless => add_to(&mut self.harmless, warning),
+            Weight::Look => add_to(&mut self.warnings, warning),
+            Weight::Damaged => add_to(&mut self.warnings, warning),
         }
     }
 
-    /// Adds each of these that looks wrong, in their order.
-    fn add_each(&mut self, place: Place<'a>, looks: &[Option<Look>]) -> Result<(), AllocError> {
-        for look in looks {
-            self.add(place, *look)?;
+    /// Adds what looks wrong in an entry, if anything does.
+    fn add_entry(&mut self, place: Place<'a>, found: Option<EntryLook>) -> Result<(), AllocError>
+        ensures { OnOk result (Adds (link_looks self.old.warnings.items self.old.harmless.items)
+            (found_at place.entry.path.now place.entry.segment place.entry.rec
+            (option_map Look.Entry found))
+            (link_looks self.new.warnings.items self.new.harmless.items)) }
+    {
+        match found {
+            None => Ok(()),
+            Some(found) => self.push(Warning {
+                place,
+                look: Look::Entry(found),
+            }),
         }
-        Ok(())
+    }
+
+    /// Adds what looks wrong in the records of a segment as a whole, if anything does.
+    fn add_of_records(
+        &mut self,
+        place: Place<'a>,
+        found: Option<RecordLook>,
+    ) -> Result<(), AllocError>
+        ensures { OnOk result (Adds (link_looks self.old.warnings.items self.old.harmless.items)
+            (found_at place.entry.path.now place.entry.segment place.entry.rec
+            (option_map Look.Record found))
+            (link_looks self.new.warnings.items self.new.harmless.items)) }
+    {
+        match found {
+            None => Ok(()),
+            Some(found) => self.push(Warning {
+                place,
+                look: Look::Record(found),
+            }),
+        }
     }
 
     /// Adds what looks wrong in a record of a segment, if anything does.
@@ -119,20 +152,74 @@ impl<'a, A: Allocator> Looks<'a, A> {
         &mut self,
         place: Place<'a>,
         found: Option<(usize, RecordLook)>,
-    ) -> Result<(), AllocError> {
+    ) -> Result<(), AllocError>
+        ensures { OnOk result (Adds (link_looks self.old.warnings.items self.old.harmless.items)
+            (found_in_record place.entry.path.now place.entry.segment found)
+            (link_looks self.new.warnings.items self.new.harmless.items)) }
+    {
         match found {
-            Some((rec, look)) => {
-                let rec = Some(rec);
-                let place = Place { rec, ..place };
-                self.add(place, Some(Look::Record(look)))
-            }
             None => Ok(()),
+            Some((rec, found)) => {
+                let rec = Some(rec);
+                self.push(Warning {
+                    place: Place { rec, ..place },
+                    look: Look::Record(found),
+                })
+            }
         }
     }
 
+    /// Adds what looks wrong in the link as a whole, if anything does.
+    fn add_of_link(&mut self, place: Place<'a>, found: Option<LinkLook>) -> Result<(), AllocError>
+        ensures { OnOk result (Adds (link_looks self.old.warnings.items self.old.harmless.items)
+            (found_at place.entry.path.now place.entry.segment place.entry.rec
+            (option_map Look.Link found))
+            (link_looks self.new.warnings.items self.new.harmless.items)) }
+    {
+        match found {
+            None => Ok(()),
+            Some(found) => self.push(Warning {
+                place,
+                look: Look::Link(found),
+            }),
+        }
+    }
+
+    /// Adds what looks wrong and is no look about the link, if anything does.
+    fn add_other(&mut self, place: Place<'a>, found: Option<OtherLook>) -> Result<(), AllocError>
+        ensures { OnOk result (Adds (link_looks self.old.warnings.items self.old.harmless.items)
+            [] (link_looks self.new.warnings.items self.new.harmless.items)) }
+    {
+        match found {
+            None => Ok(()),
+            Some(found) => self.push(Warning {
+                place,
+                look: Look::Other(found),
+            }),
+        }
+    }
+
+    /// Adds each of these that looks wrong, in their order.
+    fn add_others(
+        &mut self,
+        place: Place<'a>,
+        found: &[Option<OtherLook>],
+    ) -> Result<(), AllocError>
+        ensures { OnOk result (Adds (link_looks self.old.warnings.items self.old.harmless.items)
+            [] (link_looks self.new.warnings.items self.new.harmless.items)) }
+    {
+        for look in found {
+            self.add_other(place, *look)?;
+        }
+        Ok(())
+    }
+
     /// Notes a guess, if there is one.
-    fn note(&mut self, place: Place<'a>, guess: Option<Guess>) -> Result<(), AllocError> {
-        self.add(place, guess.map(Look::Guess))
+    fn note(&mut self, place: Place<'a>, guess: Option<Guess>) -> Result<(), AllocError>
+        ensures { OnOk result (Adds (link_looks self.old.warnings.items self.old.harmless.items)
+            [] (link_looks self.new.warnings.items self.new.harmless.items)) }
+    {
+        self.add_other(place, guess.map(OtherLook::Guess))
     }
 
     /// Notes a guess about a record of a segment, if there is one.
@@ -140,14 +227,16 @@ impl<'a, A: Allocator> Looks<'a, A> {
         &mut self,
         place: Place<'a>,
         found: Option<(usize, Guess)>,
-    ) -> Result<(), AllocError> {
+    ) -> Result<(), AllocError>
+        ensures { OnOk result (Adds (link_looks self.old.warnings.items self.old.harmless.items)
+            [] (link_looks self.new.warnings.items self.new.harmless.items)) }
+    {
         match found {
+            None => Ok(()),
             Some((rec, guess)) => {
                 let rec = Some(rec);
-                let place = Place { rec, ..place };
-                self.note(place, Some(guess))
+                self.note(Place { rec, ..place }, Some(guess))
             }
-            None => Ok(()),
         }
     }
 }
@@ -161,49 +250,100 @@ fn in_file(path: &str) -> Place<'_> {
     }
 }
 
-/// A place that is a segment of a file.
-fn in_segment(path: &str, name: Name) -> Place<'_> {
-    Place {
-        path,
-        segment: Some(name),
-        rec: None,
-    }
-}
-
 /// What looks wrong in the files and is no fault: in the files in their order, each with its
 /// entries, then in the link.
 ///
 /// `list` has the segments of the link, and `fault` is the fault that the report explains, if any:
-/// what the explanation says is said once. Returns an error where memory was refused.
+/// what the explanation says is said once. The looks about the link are exactly those that their
+/// definitions give, in their order, whatever the fault is. Returns an error where memory was
+/// refused.
 /// Source: this project's profile.
 pub fn looks_of<'a, A: Allocator + Copy>(
     alloc: A,
     inputs: &Inputs<'a>,
     list: &[Segment<'a>],
     fault: Option<Fault>,
-) -> Result<Looks<'a, A>, AllocError> {
+) -> Result<Looks<'a, A>, AllocError>
+    ensures { IfOk result (λ looks. link_looks looks.warnings.items looks.harmless.items
+        ≡ sorted (link_looks_of (inputs.now.host_path.now ∷ contents inputs.now.paths.now)
+        inputs.now.host.now (contents inputs.now.libs.now) (map seen list.now))) }
+{
     let mut looks = Looks {
         warnings: Vec::new(alloc),
         harmless: Vec::new(alloc),
         notes: Vec::new(alloc),
     };
     let host = records_of_host(list);
-    add_looks(&mut looks, &Sight::new(inputs, list, host.as_ref(), fault))?;
+    add_looks(&mut looks, inputs, list, host.as_ref(), fault)?;
     Ok(looks)
 }
 
 /// The records of the host program of a link, if it has one.
-fn records_of_host<'a>(list: &[Segment<'a>]) -> Option<LinkInformation<'a>> {
-    Some(host_of(list)?.records())
+fn records_of_host<'a>(list: &[Segment<'a>]) -> Option<LinkInformation<'a>>
+    ensures { result ≡ host_records (map seen list.now) }
+{
+    match host_of(list) {
+        None => None,
+        Some(host) => Some(host.records()),
+    }
 }
 
-/// Adds all that looks wrong.
+/// Adds all that looks wrong, where the host program of the link has these records.
 fn add_looks<'a, A: Allocator>(
     looks: &mut Looks<'a, A>,
+    inputs: &Inputs<'a>,
+    list: &[Segment<'a>],
+    host: Option<&LinkInformation<'a>>,
+    fault: Option<Fault>,
+) -> Result<(), AllocError>
+    ensures { OnOk result (Adds (link_looks looks.old.warnings.items looks.old.harmless.items)
+        (all_looks (inputs.now.host_path.now ∷ contents inputs.now.paths.now)
+        (option_map (λ h. h.now) host.entry) inputs.now.host.now (contents inputs.now.libs.now)
+        (map seen list.now))
+        (link_looks looks.new.warnings.items looks.new.harmless.items)) }
+{
+    let sight = Sight {
+        inputs,
+        list,
+        fault,
+        refused: refused_entry(list, fault),
+        are_small: names::are_small(inputs),
+        host,
+    };
+    add_of_files(looks, &sight)?;
+    links::look_at(looks, &sight)
+}
+
+/// Adds what looks wrong in the files.
+fn add_of_files<'a, A: Allocator>(
+    looks: &mut Looks<'a, A>,
     sight: &Sight<'_, 'a>,
-) -> Result<(), AllocError> {
-    for file in 0..=sight.inputs.libs.len() {
-        files::look_at(looks, sight, file)?;
+) -> Result<(), AllocError>
+    ensures { OnOk result (Adds (link_looks looks.old.warnings.items looks.old.harmless.items)
+        (looks_of_files (sight.now.inputs.now.host_path.now ∷ contents sight.now.inputs.now.paths.now)
+        (option_map (λ h. h.now) sight.now.host) (map seen sight.now.list.now)
+        (host_order sight.now.inputs.now.host.now)
+        (sight.now.inputs.now.host.now ∷ contents sight.now.inputs.now.libs.now))
+        (link_looks looks.new.warnings.items looks.new.harmless.items)) }
+{
+    files::look_at(looks, sight, 0, sight.inputs.host)?;
+    add_of_libraries(looks, sight)
+}
+
+/// Adds what looks wrong in the libraries.
+fn add_of_libraries<'a, A: Allocator>(
+    looks: &mut Looks<'a, A>,
+    sight: &Sight<'_, 'a>,
+) -> Result<(), AllocError>
+    ensures { OnOk result (Adds (link_looks looks.old.warnings.items looks.old.harmless.items)
+        (flat_map (looks_of_file (sight.now.inputs.now.host_path.now ∷ contents sight.now.inputs.now.paths.now)
+        (option_map (λ h. h.now) sight.now.host) (map seen sight.now.list.now)
+        (host_order sight.now.inputs.now.host.now))
+        (enumerate_from 1 (contents sight.now.inputs.now.libs.now)))
+        (link_looks looks.new.warnings.items looks.new.harmless.items)) }
+{
+    for (library, lib) in sight.inputs.libs.iter().enumerate() {
+        files::look_at(looks, sight, library + 1, lib)?;
     }
-    links::look_at(looks, sight)
+    Ok(())
 }

@@ -1,6 +1,15 @@
 //! The segments of a link as the files have them, also where they are refused.
-ghost use Rattle.std.specs.Prelude.{◌≡◌, ◌<◌, Some};
+ghost use Rattle.std.specs.Prelude.{◌≡◌, ◌<◌, ◌≤◌, ◌==◌, ◌^◌, ◌++◌, ◌∷◌, [], IfOk, OnOk, Some, filter_map, is_some, map, nat_lt, option_and_then, slice_get};
+ghost use Rattle.std.specs.List.{cons_option, find, list_any, range_with_len};
+ghost use Rattle.std.specs.Option.{option_map};
+ghost use Rattle.ps_codefile.specs.Dictionary.{code_of, entry_at, information_of, kind_needs_linking, opened_beside, slots};
+ghost use Rattle.ps_linkinfo.specs.Records.{used_by};
+ghost use Rattle.ps_resolve.specs.Readings.{opened_host, read_requests};
+ghost use Rattle.ps_resolve.specs.Sources.{contents, file_at, opened_files};
+ghost use Rattle.ps_warnings.specs.Paths.{host_order};
 ghost use Rattle.ps_warnings.specs.Parts.{is_added as is_added_spec, is_unit as is_unit_spec, part_words};
+ghost use Rattle.ps_warnings.specs.Seen.{code_in, is_host_part, part_needs_linking, seen};
+ghost use Rattle.ps_warnings.specs.SeenSegments.{entry_in, is_by_record as is_by_record_spec, is_for_unit as is_for_unit_spec, is_of_host as is_of_host_spec, is_unit_of as is_unit_of_spec, name_by as name_by_spec, name_in as name_in_spec, origin_as, origin_in, origin_of, part_by, part_in as part_in_spec, part_of_role, reading_in, request_in, role_in, seen_by, seen_in, seen_of, seen_unit, slot_origin, taken_of, takes_slot as takes_slot_spec};
 
 use crate::inputs::Inputs;
 use ps_codefile::dictionary_layout::SLOTS;
@@ -8,7 +17,7 @@ use ps_codefile::kinds::{HOSTSEG, UNITSEG};
 use ps_codefile::{Dict, Entry, Role};
 use ps_filetype::ShownName;
 use ps_linkinfo::LinkInformation;
-use ps_resolve::{EntryPlace, HostReading, Reading, Request, Requester};
+use ps_resolve::{EntryPlace, HostReading, Reading, Request, Requester, UnitReference};
 use ps_words::{Name, Order, Reason};
 use std::alloc::{AllocError, Allocator};
 use std::fmt::{self, Formatter};
@@ -32,8 +41,23 @@ pub enum Part {
 
 impl Part {
     /// Its references are resolved.
-    fn needs_linking(self) -> bool {
-        !matches!(self, Part::Plain)
+    fn needs_linking(self) -> bool
+        ensures { result ≡ part_needs_linking self }
+    {
+        match self {
+            Part::Plain => false,
+            Part::Host | Part::Unit | Part::Wanted | Part::Added { .. } => true,
+        }
+    }
+
+    /// It is the host program.
+    fn is_host(self) -> bool
+        ensures { result ≡ is_host_part self }
+    {
+        match self {
+            Part::Host => true,
+            Part::Plain | Part::Unit | Part::Wanted | Part::Added { .. } => false,
+        }
     }
 
     /// It is a unit.
@@ -98,8 +122,17 @@ pub struct Source<'a> {
 impl Source<'_> {
     /// A link resolves its references, if it takes it.
     /// Source: the published II.0 Linker source.
-    pub fn needs_linking(&self) -> bool {
-        matches!(self.entry.kind, HOSTSEG | UNITSEG)
+    pub fn needs_linking(&self) -> bool
+        ensures { result ≡ kind_needs_linking self.now.entry.kind }
+    {
+        self.entry.kind == HOSTSEG || self.entry.kind == UNITSEG
+    }
+
+    /// Its kind is that of a host program.
+    pub(crate) fn is_host(&self) -> bool
+        ensures { result ≡ (self.now.entry.kind == 1) }
+    {
+        self.entry.kind == HOSTSEG
     }
 }
 
@@ -121,7 +154,9 @@ pub struct Segment<'a> {
 impl<'a> Segment<'a> {
     /// Its records, up to the first that cannot be read; none where they are not to be read.
     /// Source: the published II.0 Linker source.
-    pub fn records(&self) -> LinkInformation<'a> {
+    pub fn records(&self) -> LinkInformation<'a>
+        ensures { result ≡ (seen self.now).records }
+    {
         match self.source {
             Some(source) if self.part.needs_linking() && source.code.is_ok() => {
                 LinkInformation::up_to_fault(source.order, source.after)
@@ -134,7 +169,9 @@ impl<'a> Segment<'a> {
 /// How many bytes the records that can be read take.
 ///
 /// Source: the published II.0 Linker source.
-pub fn length_of(records: &LinkInformation<'_>) -> usize {
+pub fn length_of(records: &LinkInformation<'_>) -> usize
+    ensures { used_by records.now < 2 ^ 64 → result ≡ used_by records.now }
+{
     let mut length = 0usize;
     for (_, record) in records.records() {
         length = length.saturating_add(record.size());
@@ -147,6 +184,13 @@ pub fn length_of(records: &LinkInformation<'_>) -> usize {
 /// Source: UCSD Pascal II.0 manual, code file format.
 pub fn source_of<'a>(dict: &Dict<'a>, file: usize, index: u8) -> Source<'a>
     requires { index < 16 }
+    ensures file { result.file ≡ file }
+    ensures entry { result.entry ≡ entry_at dict.now.order dict.now.file index }
+    ensures order { result.order ≡ dict.now.order }
+    ensures code { code_in result
+        ≡ code_of dict.now.file (entry_at dict.now.order dict.now.file index) }
+    ensures after { result.after.now
+        ≡ information_of dict.now.file (entry_at dict.now.order dict.now.file index) }
 {
     Source {
         file,
@@ -158,116 +202,261 @@ pub fn source_of<'a>(dict: &Dict<'a>, file: usize, index: u8) -> Source<'a>
     }
 }
 
-/// Where the segment of a slot that was read comes from, also where it is refused; none where no
-/// library has the unit.
+/// An entry of a file; none where the file cannot be read, or has no such entry.
+#[tactic(auto, unfolding(crate::specs::SeenSegments::origin_of))]
+fn source_at<'a>(inputs: &Inputs<'a>, file: usize, index: u8) -> Option<Source<'a>>
+    ensures { option_map origin_as result
+        ≡ origin_of inputs.now.host.now (contents inputs.now.libs.now) (file, index) }
+{
+    if index < SLOTS {
+        source_from(inputs, file, index)
+    } else {
+        None
+    }
+}
+
+/// An entry of a file; none where the file cannot be read.
+fn source_from<'a>(inputs: &Inputs<'a>, file: usize, index: u8) -> Option<Source<'a>>
+    requires { index < 16 }
+    ensures { option_map origin_as result ≡ origin_in file index
+        (opened_beside (host_order inputs.now.host.now)
+        (file_at inputs.now.host.now (contents inputs.now.libs.now) file)) }
+{
+    match Dict::read_beside(inputs.bytes(file), inputs.order()) {
+        Ok(dict) => Some(source_of(&dict, file, index)),
+        Err(_) => None,
+    }
+}
+
+/// There is such a slot.
+pub(crate) fn is_slot(slot: u8) -> bool
+    ensures { result ≡ nat_lt slot 16 }
+{
+    slot < SLOTS
+}
+
+/// Where the segment of a slot comes from, also where it is refused; none where no library has the
+/// unit.
 fn source_in<'a>(inputs: &Inputs<'a>, host: &HostReading<'a>, slot: u8) -> Option<Source<'a>>
     requires { slot < 16 }
+    ensures { option_map origin_as result ≡ option_and_then (origin_of inputs.now.host.now
+        (contents inputs.now.libs.now)) (entry_in host.now slot) }
 {
-    let EntryPlace { file, index } = host.source(slot)?;
-    if SLOTS <= index {
-        return None;
+    match host.source(slot) {
+        None => None,
+        Some(EntryPlace { file, index }) => source_at(inputs, file, index),
     }
-    Some(source_of(&inputs.dict(file)?, file, index))
 }
 
 /// The name of the segment of a slot.
-fn name_in(host: &HostReading<'_>, slot: u8) -> Name {
-    if SLOTS <= slot {
-        return [b' '; 8];
+#[tactic(auto, unfolding(crate::specs::SeenSegments::name_in))]
+fn name_in(host: &HostReading<'_>, slot: u8) -> Name
+    ensures { result ≡ name_in_spec host.now slot }
+{
+    if slot < SLOTS {
+        name_by(host, slot)
+    } else {
+        *b"        "
     }
+}
+
+/// The same of a slot that there is.
+fn name_by(host: &HostReading<'_>, slot: u8) -> Name
+    requires { slot < 16 }
+    ensures { result ≡ name_by_spec host.now slot (request_in host.now slot) }
+{
     match host.request(slot) {
         Some(request) => request.name,
         None => host.entry(slot).name,
     }
 }
 
+/// A slot of the host has or wants a unit.
+fn is_for_unit(host: &HostReading<'_>, slot: u8) -> bool
+    requires { slot < 16 }
+    ensures { result ≡ is_for_unit_spec (role_in host.now slot) }
+{
+    match host.role(slot) {
+        Ok(Role::Unit | Role::Wanted) => true,
+        Ok(Role::Empty | Role::Plain | Role::Host) | Err(_) => false,
+    }
+}
+
+/// It is a unit of this name.
+fn is_unit_of(host: &HostReading<'_>, name: &Name, slot: u8) -> bool
+    requires { slot < 16 }
+    ensures { result ≡ is_unit_of_spec host.now name.now slot }
+{
+    is_for_unit(host, slot) && host.entry(slot).name == *name
+}
+
+/// One of the slots below `end` has or wants a unit of the name.
+fn is_of_slots(host: &HostReading<'_>, name: &Name, end: u8) -> bool
+    requires { end ≤ 16 }
+    ensures { result ≡ list_any (is_unit_of_spec host.now name.now) (range_with_len 0 end) }
+{
+    (0..end).any(|slot| is_unit_of(host, name, slot))
+}
+
 /// A slot of the host has or wants a unit of the name. Where that unit is refused, the reading takes
 /// a record's request for it as one for another unit.
-fn is_of_host(host: &HostReading<'_>, name: &Name) -> bool {
-    for slot in 0..SLOTS {
-        let is_unit = matches!(host.role(slot), Ok(Role::Unit | Role::Wanted));
-        if is_unit && host.entry(slot).name == *name {
-            return true;
-        }
-    }
-    false
+#[tactic(auto, unfolding(crate::specs::SeenSegments::is_of_host))]
+fn is_of_host(host: &HostReading<'_>, name: &Name) -> bool
+    ensures { result ≡ is_of_host_spec host.now name.now }
+{
+    is_of_slots(host, name, SLOTS)
 }
 
 /// What the unit is that is requested; none where it is one of the host's that is refused.
-fn requested_part(host: &HostReading<'_>, request: Request) -> Option<Part> {
+fn requested_part(host: &HostReading<'_>, request: Request) -> Option<Part>
+    ensures { result ≡ part_by host.now request.name request.requester }
+{
     match request.requester {
         Requester::Slot => Some(Part::Wanted),
-        Requester::Record(_) if is_of_host(host, &request.name) => None,
-        Requester::Record(place) => Some(Part::Added {
-            asker: name_in(host, place.slot),
-            rec: place.rec,
-        }),
+        Requester::Record(place) => {
+            if is_of_host(host, &request.name) {
+                None
+            } else {
+                Some(Part::Added {
+                    asker: name_in(host, place.slot),
+                    rec: place.rec,
+                })
+            }
+        }
     }
 }
 
-/// What the segment of a slot is; none where there is none.
-fn part_in(host: &HostReading<'_>, slot: u8) -> Option<Part>
+/// What the segment of a slot is that is not requested; none where there is none.
+fn own_part(host: &HostReading<'_>, slot: u8) -> Option<Part>
     requires { slot < 16 }
+    ensures { result ≡ part_of_role (role_in host.now slot) }
 {
-    if let Some(request) = host.request(slot) {
-        return requested_part(host, request);
-    }
     match host.role(slot) {
         Ok(Role::Plain) => Some(Part::Plain),
         Ok(Role::Host) => Some(Part::Host),
         Ok(Role::Unit) => Some(Part::Unit),
-        _ => None,
+        Ok(Role::Empty | Role::Wanted) | Err(_) => None,
+    }
+}
+
+/// What the segment of a slot is; none where there is none.
+#[tactic(auto, unfolding(crate::specs::SeenSegments::part_in))]
+fn part_in(host: &HostReading<'_>, slot: u8) -> Option<Part>
+    requires { slot < 16 }
+    ensures { result ≡ part_in_spec host.now slot }
+{
+    match host.request(slot) {
+        Some(request) => requested_part(host, request),
+        None => own_part(host, slot),
     }
 }
 
 /// A record requests the unit that takes the slot.
-fn is_added(host: &HostReading<'_>, slot: u8) -> bool
+#[tactic(auto, unfolding(crate::specs::SeenSegments::takes_slot))]
+fn takes_slot(host: &HostReading<'_>, slot: u8) -> bool
     requires { slot < 16 }
+    ensures { result ≡ takes_slot_spec host.now slot }
 {
     match host.request(slot) {
-        Some(request) => matches!(request.requester, Requester::Record(_)),
+        Some(request) => is_by_record(request.requester),
         None => false,
+    }
+}
+
+fn is_by_record(requester: Requester) -> bool
+    ensures { result ≡ is_by_record_spec requester }
+{
+    match requester {
+        Requester::Slot => false,
+        Requester::Record(_) => true,
+    }
+}
+
+/// A slot has a segment that was read, also where it is refused, and no library has it.
+fn state_of(host: &HostReading<'_>, slot: u8) -> (bool, bool)
+    requires { slot < 16 }
+    ensures { result.0 ≡ is_some (reading_in host.now slot) }
+{
+    match host.segment(slot) {
+        None => (false, false),
+        Some(Ok(_)) => (true, false),
+        Some(Err(fault)) => (true, fault.reason == Reason::MissingUnit),
+    }
+}
+
+/// Where the segment of a slot comes from, if it was read.
+#[tactic(auto, unfolding(crate::specs::SeenSegments::slot_origin))]
+fn slot_source<'a>(
+    inputs: &Inputs<'a>,
+    host: &HostReading<'a>,
+    slot: u8,
+    is_read: bool,
+) -> Option<Source<'a>>
+    requires { slot < 16 }
+    ensures { is_read ≡ is_some (reading_in host.now slot)
+        → option_map origin_as result ≡ slot_origin inputs.now.host.now
+        (contents inputs.now.libs.now) host.now slot }
+{
+    if is_read {
+        source_in(inputs, host, slot)
+    } else {
+        None
     }
 }
 
 /// The segment of a slot; none where there is none.
 fn segment_in<'a>(inputs: &Inputs<'a>, host: &HostReading<'a>, slot: u8) -> Option<Segment<'a>>
     requires { slot < 16 }
+    ensures { option_map seen result ≡ seen_in inputs.now.host.now
+        (contents inputs.now.libs.now) host.now slot }
 {
-    let part = part_in(host, slot)?;
-    let (source, is_missing) = match host.segment(slot) {
-        None => (None, false),
-        Some(Ok(_)) => (source_in(inputs, host, slot), false),
-        Some(Err(fault)) => (
-            source_in(inputs, host, slot),
-            fault.reason == Reason::MissingUnit,
-        ),
-    };
-    Some(Segment {
-        slot: Some(slot),
-        name: name_in(host, slot),
-        part,
-        source,
-        is_missing,
-    })
+    match part_in(host, slot) {
+        None => None,
+        Some(part) => {
+            let (is_read, is_missing) = state_of(host, slot);
+            let name = name_in(host, slot);
+            let source = slot_source(inputs, host, slot, is_read);
+            Some(Segment {
+                slot: Some(slot),
+                name,
+                part,
+                source,
+                is_missing,
+            })
+        }
+    }
 }
 
-/// The unit that is requested and for which no slot is left.
-fn unit_without_slot<'a>(host: &HostReading<'a>, added: usize) -> Option<Segment<'a>> {
-    let unit = host.requested().get(added)?;
+/// A unit that is requested and for which no slot is left.
+fn segment_of<'a>(host: &HostReading<'a>, unit: &UnitReference) -> Option<Segment<'a>>
+    ensures { option_map seen result ≡ seen_unit host.now unit.now }
+{
     if is_of_host(host, &unit.name) {
         return None;
     }
+    let asker = name_in(host, unit.slot);
     Some(Segment {
         slot: None,
         name: unit.name,
         part: Part::Added {
-            asker: name_in(host, unit.slot),
+            asker,
             rec: unit.rec,
         },
         source: None,
         is_missing: false,
     })
+}
+
+/// The unit that is requested and for which no slot is left, after so many that take one.
+fn unit_without_slot<'a>(host: &HostReading<'a>, added: usize) -> Option<Segment<'a>>
+    ensures { option_map seen result ≡ option_and_then (seen_unit host.now)
+        (slice_get (read_requests host.now.order host.now.file
+        (opened_files host.now.order host.now.libs)) added) }
+{
+    match host.requested().get(added) {
+        None => None,
+        Some(unit) => segment_of(host, unit),
+    }
 }
 
 /// The first segment of the list that has this slot of the host.
@@ -285,9 +474,11 @@ pub fn in_slot<'a>(list: &[Segment<'a>], slot: u8) -> Option<Segment<'a>> {
 /// The segment of the host program.
 ///
 /// Source: this project's profile.
-pub fn host_of<'a>(list: &[Segment<'a>]) -> Option<Segment<'a>> {
+pub fn host_of<'a>(list: &[Segment<'a>]) -> Option<Segment<'a>>
+    ensures { option_map seen result ≡ find (λ s. is_host_part s.part) (map seen list.now) }
+{
     for segment in list {
-        if matches!(segment.part, Part::Host) {
+        if segment.part.is_host() {
             return Some(*segment);
         }
     }
@@ -303,20 +494,80 @@ pub fn segments_of<'a, A: Allocator + Copy>(
     alloc: A,
     inputs: &Inputs<'a>,
     reading: &Reading<'a>,
-) -> Result<Vec<Segment<'a>, A>, AllocError> {
-    let mut list = Vec::new(alloc);
-    let Ok(host) = reading.host() else {
-        return Ok(list);
-    };
-    let mut added = 0usize;
-    for slot in 0..SLOTS {
-        if let Some(segment) = segment_in(inputs, host, slot) {
-            list.push(segment)?;
-        }
-        added = added.saturating_add(usize::from(is_added(host, slot)));
+) -> Result<Vec<Segment<'a>, A>, AllocError>
+    ensures { IfOk result (λ list. map seen list.items ≡ seen_by inputs.now.host.now
+        (contents inputs.now.libs.now) (opened_host reading.now.host reading.now.libs)) }
+{
+    match reading.host() {
+        Ok(host) => segments_in(alloc, inputs, host),
+        Err(_) => Ok(Vec::new(alloc)),
     }
-    if let Some(unit) = unit_without_slot(host, added) {
-        list.push(unit)?;
+}
+
+/// So of a host that was read.
+fn segments_in<'a, A: Allocator + Copy>(
+    alloc: A,
+    inputs: &Inputs<'a>,
+    host: &HostReading<'a>,
+) -> Result<Vec<Segment<'a>, A>, AllocError>
+    ensures { IfOk result (λ list. map seen list.items ≡ seen_of inputs.now.host.now
+        (contents inputs.now.libs.now) host.now) }
+{
+    let mut list = segments_in_slots(alloc, inputs, host)?;
+    let taken = slots_taken(host);
+    let unit = unit_without_slot(host, taken);
+    add_segment(&mut list, unit)?;
+    Ok(list)
+}
+
+/// How many slots units take that records request.
+fn slots_taken(host: &HostReading<'_>) -> usize
+    ensures { result ≡ taken_of host.now slots }
+{
+    let mut taken = 0usize;
+    for slot in 0..SLOTS {
+        taken = taken.saturating_add(usize::from(takes_slot(host, slot)));
+    }
+    taken
+}
+
+/// Adds a segment, if there is one.
+fn add_segment<'a, A: Allocator>(
+    list: &mut Vec<Segment<'a>, A>,
+    segment: Option<Segment<'a>>,
+) -> Result<(), AllocError>
+    ensures { OnOk result (map seen list.new.items
+        ≡ map seen list.old.items ++ cons_option (option_map seen segment.entry) []) }
+{
+    match segment {
+        None => Ok(()),
+        Some(segment) => push_segment(list, segment),
+    }
+}
+
+/// Adds a segment.
+fn push_segment<'a, A: Allocator>(
+    list: &mut Vec<Segment<'a>, A>,
+    segment: Segment<'a>,
+) -> Result<(), AllocError>
+    ensures { OnOk result (list.new.items ≡ list.old.items ++ segment.entry ∷ []) }
+{
+    Ok(list.push(segment)?)
+}
+
+/// The segments that have slots.
+fn segments_in_slots<'a, A: Allocator + Copy>(
+    alloc: A,
+    inputs: &Inputs<'a>,
+    host: &HostReading<'a>,
+) -> Result<Vec<Segment<'a>, A>, AllocError>
+    ensures { IfOk result (λ list. map seen list.items ≡ filter_map (seen_in inputs.now.host.now
+        (contents inputs.now.libs.now) host.now) slots) }
+{
+    let mut list = Vec::new(alloc);
+    for slot in 0..SLOTS {
+        let segment = segment_in(inputs, host, slot);
+        add_segment(&mut list, segment)?;
     }
     Ok(list)
 }

@@ -1,6 +1,9 @@
 //! What looks wrong in files and is no fault: the one home of these sentences.
 //! `man/make_fault_table.py` makes the tables of warnings and of notes in USING.md from the enums
 //! here: what each means and what to do about it is above it, and its weight is in `weight`.
+ghost use Rattle.std.specs.Prelude.{◌≡◌};
+ghost use Rattle.ps_warnings.specs.Weights.{IsWeight, entry_weight, link_weight, record_weight};
+
 use crate::weight::Weight;
 use ps_filetype::{FileType, LineEnds, ShownName, ShownPath};
 use ps_words::{Name, Reason};
@@ -152,8 +155,6 @@ impl fmt::Display for DictionaryLook {
 /// Source: this project's profile.
 #[derive(Clone, Copy)]
 pub enum EntryLook {
-    /// Names are compared byte for byte, so it may not be found. Correct what made the file.
-    OddName { name: Name, oddity: Oddity },
     /// Its kind or its length was lost, so nothing is linked into the slot. Compile the host again.
     EmptySlot { slot: u8, name: Name, kind: u16 },
     /// The length or the address of a unit's code was lost, so a library gives the unit. Compile
@@ -161,18 +162,15 @@ pub enum EntryLook {
     HalfEntry { slot: u8, address: u16, length: u16 },
     /// Both segments are taken from the same bytes. One of the entries is damaged: copy it again.
     Overlap { other: u8 },
-    /// A link that takes the segment is refused. The fault is in the table of LINKING.md.
-    Refused { reason: Reason, rec: Option<usize> },
 }
 
 impl EntryLook {
-    fn weight(self) -> Weight {
+    fn weight(self) -> Weight
+        ensures { result ≡ entry_weight self }
+    {
         match self {
-            EntryLook::OddName { .. }
-            | EntryLook::EmptySlot { .. }
-            | EntryLook::HalfEntry { .. }
-            | EntryLook::Overlap { .. }
-            | EntryLook::Refused { .. } => Weight::Look,
+            EntryLook::EmptySlot { .. } | EntryLook::HalfEntry { .. } | EntryLook::Overlap { .. } =>
+                Weight::Look,
         }
     }
 }
@@ -180,10 +178,6 @@ impl EntryLook {
 impl fmt::Display for EntryLook {
     fn fmt<W: fmt::Write>(&self, f: &mut Formatter<W>) -> fmt::Result {
         match *self {
-            EntryLook::OddName { name, oddity } => {
-                let name = ShownName(name);
-                write!(f, "the name {name} {oddity}")
-            }
             EntryLook::EmptySlot { slot, name, kind } => {
                 let name = ShownName(name);
                 write!(
@@ -204,7 +198,37 @@ impl fmt::Display for EntryLook {
             EntryLook::Overlap { other } => {
                 write!(f, "its bytes in the file overlap those of slot {other:02}")
             }
-            EntryLook::Refused { reason, rec } => {
+        }
+    }
+}
+
+/// What looks wrong in the name of a segment, or makes a link refuse it.
+///
+/// Source: this project's profile.
+#[derive(Clone, Copy)]
+pub enum SegmentLook {
+    /// Names are compared byte for byte, so it may not be found. Correct what made the file.
+    OddName { name: Name, oddity: Oddity },
+    /// A link that takes the segment is refused. The fault is in the table of LINKING.md.
+    Refused { reason: Reason, rec: Option<usize> },
+}
+
+impl SegmentLook {
+    fn weight(self) -> Weight {
+        match self {
+            SegmentLook::OddName { .. } | SegmentLook::Refused { .. } => Weight::Look,
+        }
+    }
+}
+
+impl fmt::Display for SegmentLook {
+    fn fmt<W: fmt::Write>(&self, f: &mut Formatter<W>) -> fmt::Result {
+        match *self {
+            SegmentLook::OddName { name, oddity } => {
+                let name = ShownName(name);
+                write!(f, "the name {name} {oddity}")
+            }
+            SegmentLook::Refused { reason, rec } => {
                 let refusal = Refusal { reason, rec };
                 write!(f, "a link that takes it is refused with {refusal}")
             }
@@ -384,7 +408,9 @@ pub enum RecordLook {
 }
 
 impl RecordLook {
-    fn weight(self) -> Weight {
+    fn weight(self) -> Weight
+        ensures { result ≡ record_weight self }
+    {
         match self {
             RecordLook::UnitDefinition { .. } => Weight::Harmless,
             RecordLook::PastPrivate { .. }
@@ -452,7 +478,9 @@ pub enum LinkLook {
 }
 
 impl LinkLook {
-    fn weight(self) -> Weight {
+    fn weight(self) -> Weight
+        ensures { result ≡ link_weight self }
+    {
         match self {
             LinkLook::TakenSlot { .. } | LinkLook::OtherSpelling { .. } => Weight::Look,
         }
@@ -540,34 +568,70 @@ impl fmt::Display for Guess {
     }
 }
 
-/// What looks wrong, by where it is looked for. Its text is half a sentence.
+/// What looks wrong and is no look about the link, by where it is looked for. Its text is half a
+/// sentence.
+///
+/// Source: this project's profile.
+#[derive(Clone, Copy)]
+pub enum OtherLook {
+    File(FileLook),
+    Dictionary(DictionaryLook),
+    Segment(SegmentLook),
+    Code(CodeLook),
+    Procedure(ProcedureLook),
+    Guess(Guess),
+}
+
+impl OtherLook {
+    fn weight(self) -> Weight {
+        match self {
+            OtherLook::File(look) => look.weight(),
+            OtherLook::Dictionary(look) => look.weight(),
+            OtherLook::Segment(look) => look.weight(),
+            OtherLook::Code(look) => look.weight(),
+            OtherLook::Procedure(look) => look.weight(),
+            OtherLook::Guess(guess) => guess.weight(),
+        }
+    }
+}
+
+impl fmt::Display for OtherLook {
+    fn fmt<W: fmt::Write>(&self, f: &mut Formatter<W>) -> fmt::Result {
+        match *self {
+            OtherLook::File(look) => write!(f, "{look}"),
+            OtherLook::Dictionary(look) => write!(f, "{look}"),
+            OtherLook::Segment(look) => write!(f, "{look}"),
+            OtherLook::Code(look) => write!(f, "{look}"),
+            OtherLook::Procedure(look) => write!(f, "{look}"),
+            OtherLook::Guess(guess) => write!(f, "{guess}"),
+        }
+    }
+}
+
+/// What looks wrong: a look about the link, in an entry, in a record or in the link as a whole, each
+/// of which has its definition, or another one. Its text is half a sentence.
 ///
 /// Source: this project's profile.
 #[derive(Clone, Copy)]
 pub enum Look {
-    File(FileLook),
-    Dictionary(DictionaryLook),
     Entry(EntryLook),
-    Code(CodeLook),
-    Procedure(ProcedureLook),
     Record(RecordLook),
     Link(LinkLook),
-    Guess(Guess),
+    Other(OtherLook),
 }
 
 impl Look {
-    /// How much it weighs.
+    /// How much it weighs. A look about the link is no note: a definition in a unit that has no
+    /// effect is harmless, and each other is a look.
     /// Source: this project's profile.
-    pub fn weight(&self) -> Weight {
+    pub fn weight(&self) -> Weight
+        ensures { IsWeight self.now result }
+    {
         match *self {
-            Look::File(look) => look.weight(),
-            Look::Dictionary(look) => look.weight(),
             Look::Entry(look) => look.weight(),
-            Look::Code(look) => look.weight(),
-            Look::Procedure(look) => look.weight(),
             Look::Record(look) => look.weight(),
             Look::Link(look) => look.weight(),
-            Look::Guess(guess) => guess.weight(),
+            Look::Other(look) => look.weight(),
         }
     }
 }
@@ -575,14 +639,10 @@ impl Look {
 impl fmt::Display for Look {
     fn fmt<W: fmt::Write>(&self, f: &mut Formatter<W>) -> fmt::Result {
         match *self {
-            Look::File(look) => write!(f, "{look}"),
-            Look::Dictionary(look) => write!(f, "{look}"),
             Look::Entry(look) => write!(f, "{look}"),
-            Look::Code(look) => write!(f, "{look}"),
-            Look::Procedure(look) => write!(f, "{look}"),
             Look::Record(look) => write!(f, "{look}"),
             Look::Link(look) => write!(f, "{look}"),
-            Look::Guess(guess) => write!(f, "{guess}"),
+            Look::Other(look) => write!(f, "{look}"),
         }
     }
 }

@@ -1,9 +1,12 @@
 //! Codes that look wrong.
+ghost use Rattle.std.specs.Prelude.{[], OnOk};
+ghost use Rattle.ps_warnings.specs.Found.{Adds, link_looks};
+
 use super::numbers::number_look;
 use super::records::begins_with_record;
 use super::{Looks, Sight};
 use crate::segments::Source;
-use crate::warnings::{CodeLook, Look, Place, ProcedureLook};
+use crate::warnings::{CodeLook, Look, OtherLook, Place, ProcedureLook};
 use ps_codefile::code_layout::NUMBERS;
 use ps_codefile::kinds::{LINKED, SEPRTSEG};
 use ps_codefile::{Dict, ProcedureDictionary, ProcedureFault};
@@ -33,12 +36,12 @@ pub(super) fn look_at<'a, A: Allocator>(
     dict: &Dict<'_>,
     source: &Source<'_>,
     code: &[u8],
-) -> Result<(), AllocError> {
+) -> Result<(), AllocError>
+    ensures { OnOk result (Adds (link_looks looks.old.warnings.items looks.old.harmless.items)
+        [] (link_looks looks.new.warnings.items looks.new.harmless.items)) }
+{
     if let Some(byte) = only_byte(code) {
-        if is_without_procedures(code) {
-            return Ok(());
-        }
-        return looks.add(place, Some(Look::Code(CodeLook::OneByte { byte })));
+        return looks.add_other(place, one_byte_look(code, byte));
     }
     let found = [
         unread_look(sight, source, code),
@@ -48,7 +51,16 @@ pub(super) fn look_at<'a, A: Allocator>(
         records_look(source),
         table_look(source, code),
     ];
-    looks.add_each(place, &found)
+    looks.add_others(place, &found)
+}
+
+/// A code of which each byte is this one, if it is not that of a unit without procedures.
+fn one_byte_look(code: &[u8], byte: u8) -> Option<OtherLook> {
+    if is_without_procedures(code) {
+        None
+    } else {
+        Some(OtherLook::Code(CodeLook::OneByte { byte }))
+    }
 }
 
 /// The code is that of a unit without procedures: too short for one, and so says its end.
@@ -60,7 +72,7 @@ pub(super) fn is_without_procedures(code: &[u8]) -> bool {
 }
 
 /// A part of the code that was not read, where no fault tells of it. Zeros of native code are data.
-fn unread_look(sight: &Sight<'_, '_>, source: &Source<'_>, code: &[u8]) -> Option<Look> {
+fn unread_look(sight: &Sight<'_, '_>, source: &Source<'_>, code: &[u8]) -> Option<OtherLook> {
     if sight.is_refused(source) {
         return None;
     }
@@ -107,18 +119,18 @@ fn table_place(order: Order, code: &[u8], procedure: usize) -> Option<usize> {
 }
 
 /// A code of which each byte may have lost bit 7.
-fn stripped_look(code: &[u8]) -> Option<Look> {
+fn stripped_look(code: &[u8]) -> Option<OtherLook> {
     if STRIPPED_LENGTH <= code.len() && code.is_ascii() {
-        Some(Look::Code(CodeLook::NoHighBit))
+        Some(OtherLook::Code(CodeLook::NoHighBit))
     } else {
         None
     }
 }
 
 /// A record after the code of a segment that is linked.
-fn records_look(source: &Source<'_>) -> Option<Look> {
+fn records_look(source: &Source<'_>) -> Option<OtherLook> {
     if source.entry.kind == LINKED && begins_with_record(source.order, source.after) {
-        Some(Look::Procedure(ProcedureLook::LinkedWithRecords))
+        Some(OtherLook::Procedure(ProcedureLook::LinkedWithRecords))
     } else {
         None
     }
@@ -156,9 +168,9 @@ fn dead_run(start: usize, end: usize, byte: u8) -> Option<Run> {
     }
 }
 
-fn look_of(run: Run) -> Look {
+fn look_of(run: Run) -> OtherLook {
     let Run { start, end, byte } = run;
-    Look::Code(CodeLook::DeadRun { start, end, byte })
+    OtherLook::Code(CodeLook::DeadRun { start, end, byte })
 }
 
 /// What looks wrong where a part of a code was not read: the first bytes that are as many as a
@@ -166,18 +178,18 @@ fn look_of(run: Run) -> Look {
 ///
 /// Source: this project's profile.
 pub fn dead_look(code: &[u8]) -> Option<Look> {
-    Some(look_of(first_dead(code)?))
+    Some(Look::Other(look_of(first_dead(code)?)))
 }
 
 /// A procedure dictionary that has no procedure, or that is not whole.
-fn procedures_look(source: &Source<'_>, code: &[u8]) -> Option<Look> {
+fn procedures_look(source: &Source<'_>, code: &[u8]) -> Option<OtherLook> {
     let is_lost = if source.needs_linking() {
         is_without_number(source, code)
     } else {
         source.entry.kind == LINKED && has_lost_tables(source.order, code)
     };
     if is_lost {
-        Some(Look::Procedure(ProcedureLook::LostTables))
+        Some(OtherLook::Procedure(ProcedureLook::LostTables))
     } else {
         None
     }
@@ -194,16 +206,19 @@ fn is_without_number(source: &Source<'_>, code: &[u8]) -> bool {
 
 /// The first procedure whose table has another number, or says that it is entered or left before
 /// the code.
-fn table_look(source: &Source<'_>, code: &[u8]) -> Option<Look> {
+fn table_look(source: &Source<'_>, code: &[u8]) -> Option<OtherLook> {
     let procedures = procedures_of(source.order, code)?;
     for procedure in 1..=procedures.count() {
         if let Some(place) = procedures.table(procedure) {
             let found = code.get(place).copied().unwrap_or(0);
             if usize::from(found) != procedure {
-                return Some(Look::Procedure(ProcedureLook::OtherProcedure { procedure, found }));
+                return Some(OtherLook::Procedure(ProcedureLook::OtherProcedure {
+                    procedure,
+                    found,
+                }));
             }
             if Ends::at(source.order, code, place).is_none() {
-                return Some(Look::Procedure(ProcedureLook::OutsideCode { procedure }));
+                return Some(OtherLook::Procedure(ProcedureLook::OutsideCode { procedure }));
             }
         }
     }

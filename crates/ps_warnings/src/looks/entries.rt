@@ -1,14 +1,21 @@
 //! Entries of dictionaries that look wrong.
-ghost use Rattle.std.specs.Prelude.{◌≡◌, ◌<◌};
-ghost use Rattle.ps_codefile.specs.Dictionary.{entry_at, role_of};
+ghost use Rattle.std.specs.Prelude.{◌≡◌, ◌∷◌, ◌<◌, Ok, OnOk, false, map, true};
+ghost use Rattle.std.specs.List.{flat_map, list_any};
+ghost use Rattle.std.specs.Option.{option_map};
+ghost use Rattle.ps_codefile.specs.Dictionary.{entry_at, kind_needs_linking, role_of, slots};
+ghost use Rattle.ps_resolve.specs.Sources.{contents};
 ghost use Rattle.ps_warnings.specs.EntryLooks.{empty_look as empty_look_spec, empty_slot as empty_slot_spec, half_entry as half_entry_spec, has_name_or_kind as has_name_or_kind_spec};
+ghost use Rattle.ps_warnings.specs.FileLooks.{looks_of_segment, looks_of_slot, looks_of_source};
+ghost use Rattle.ps_warnings.specs.Found.{Adds, link_looks};
+ghost use Rattle.ps_warnings.specs.Paths.{path_of};
+ghost use Rattle.ps_warnings.specs.Seen.{has_slot as has_slot_spec, seen};
 
 use super::codes::{REPEATED, SECTOR};
 use super::names::oddity_of;
 use super::numbers::{info_of, p_code_of};
-use super::{Looks, Sight, codes, in_file, in_segment, notes, records};
-use crate::segments::{Source, in_slot, source_of};
-use crate::warnings::{DictionaryLook, EntryLook, Look};
+use super::{Looks, Sight, codes, in_file, notes, records};
+use crate::segments::{Segment, Source, source_of};
+use crate::warnings::{DictionaryLook, EntryLook, OtherLook, Place, SegmentLook};
 use ps_codefile::code_layout::NUMBERS;
 use ps_codefile::dictionary_layout::{SLOTS, TAIL};
 use ps_codefile::kinds::{FIRST_INTRINSIC, HOSTSEG, LAST_INTRINSIC, LINKED, UNITSEG};
@@ -39,22 +46,54 @@ pub(super) fn look_at<'a, A: Allocator>(
     file: usize,
     dict: &Dict<'a>,
     shown: &FileCode,
-) -> Result<(), AllocError> {
+) -> Result<(), AllocError>
+    ensures { OnOk result (Adds (link_looks looks.old.warnings.items looks.old.harmless.items)
+        (flat_map (looks_of_slot (path_of (sight.now.inputs.now.host_path.now
+        ∷ contents sight.now.inputs.now.paths.now) file) (option_map (λ h. h.now) sight.now.host)
+        (map seen sight.now.list.now) dict.now.order dict.now.file file) slots)
+        (link_looks looks.new.warnings.items looks.new.harmless.items)) }
+{
     let place = in_file(sight.inputs.path(file));
-    looks.add_each(
-        place,
-        &[no_names(dict), dead_tail(dict).or(full_tail(dict))],
-    )?;
+    let found = [no_names(dict), dead_tail(dict).or(full_tail(dict))];
+    looks.add_others(place, &found)?;
     for slot in 0..SLOTS {
-        looks.add(place, name_look(sight, dict, slot))?;
-        if dict.filled(slot) {
-            look_at_entry(looks, sight, dict, shown, &source_of(dict, file, slot))?;
-        } else if file == 0 {
-            let is_taken = in_slot(sight.list, slot).is_some();
-            looks.add(place, empty_look(dict, slot, is_taken).map(Look::Entry))?;
-        }
+        looks.add_other(place, name_look(sight, dict, slot))?;
+        look_at_slot(looks, sight, file, dict, shown, slot)?;
     }
     Ok(())
+}
+
+/// Looks at a slot: at its segment, or, in the host, at an entry that is not filled.
+fn look_at_slot<'a, A: Allocator>(
+    looks: &mut Looks<'a, A>,
+    sight: &Sight<'_, 'a>,
+    file: usize,
+    dict: &Dict<'a>,
+    shown: &FileCode,
+    slot: u8,
+) -> Result<(), AllocError>
+    requires { slot < 16 }
+    ensures { OnOk result (Adds (link_looks looks.old.warnings.items looks.old.harmless.items)
+        (looks_of_slot (path_of (sight.now.inputs.now.host_path.now
+        ∷ contents sight.now.inputs.now.paths.now) file) (option_map (λ h. h.now) sight.now.host)
+        (map seen sight.now.list.now) dict.now.order dict.now.file file slot)
+        (link_looks looks.new.warnings.items looks.new.harmless.items)) }
+{
+    if dict.filled(slot) {
+        return look_at_entry(looks, sight, dict, shown, &source_of(dict, file, slot));
+    }
+    if file != 0 {
+        return Ok(());
+    }
+    let path = sight.inputs.path(file);
+    let place = Place {
+        path,
+        segment: None,
+        rec: None,
+    };
+    let taken = is_taken(sight.list, slot);
+    let found = empty_look(dict, slot, taken);
+    looks.add_entry(place, found)
 }
 
 /// Looks at an entry that is filled, and at its segment.
@@ -64,13 +103,19 @@ fn look_at_entry<'a, A: Allocator>(
     dict: &Dict<'a>,
     shown: &FileCode,
     source: &Source<'a>,
-) -> Result<(), AllocError> {
+) -> Result<(), AllocError>
+    ensures { OnOk result (Adds (link_looks looks.old.warnings.items looks.old.harmless.items)
+        (looks_of_source (path_of (sight.now.inputs.now.host_path.now
+        ∷ contents sight.now.inputs.now.paths.now) source.now.file)
+        (option_map (λ h. h.now) sight.now.host) source.now)
+        (link_looks looks.new.warnings.items looks.new.harmless.items)) }
+{
     let found = [
         nameless_look(dict, source),
         intrinsic_look(sight, source),
         machine_look(dict, source),
     ];
-    looks.add_each(in_file(sight.inputs.path(source.file)), &found)?;
+    looks.add_others(in_file(sight.inputs.path(source.file)), &found)?;
     if is_intrinsic(source) {
         return Ok(());
     }
@@ -78,7 +123,7 @@ fn look_at_entry<'a, A: Allocator>(
 }
 
 /// An odd name of an entry that is filled, or of a unit that may be wanted.
-fn name_look(sight: &Sight<'_, '_>, dict: &Dict<'_>, slot: u8) -> Option<Look>
+fn name_look(sight: &Sight<'_, '_>, dict: &Dict<'_>, slot: u8) -> Option<OtherLook>
     requires { slot < 16 }
 {
     let Entry { name, kind, .. } = dict.entry(slot);
@@ -86,7 +131,7 @@ fn name_look(sight: &Sight<'_, '_>, dict: &Dict<'_>, slot: u8) -> Option<Look>
         return None;
     }
     let oddity = oddity_of(&name, sight.are_small)?;
-    Some(Look::Entry(EntryLook::OddName { name, oddity }))
+    Some(OtherLook::Segment(SegmentLook::OddName { name, oddity }))
 }
 
 /// Looks at the code and at the link information of an entry.
@@ -96,45 +141,79 @@ fn look_at_segment<'a, A: Allocator>(
     dict: &Dict<'a>,
     shown: &FileCode,
     source: &Source<'a>,
-) -> Result<(), AllocError> {
-    let place = in_segment(sight.inputs.path(source.file), source.entry.name);
-    looks.add(place, refused_look(sight, source))?;
-    let Ok(code) = source.code else {
-        return Ok(());
+) -> Result<(), AllocError>
+    ensures { OnOk result (Adds (link_looks looks.old.warnings.items looks.old.harmless.items)
+        (looks_of_source (path_of (sight.now.inputs.now.host_path.now
+        ∷ contents sight.now.inputs.now.paths.now) source.now.file)
+        (option_map (λ h. h.now) sight.now.host) source.now)
+        (link_looks looks.new.warnings.items looks.new.harmless.items)) }
+{
+    let path = sight.inputs.path(source.file);
+    let place = Place {
+        path,
+        segment: Some(source.entry.name),
+        rec: None,
+    };
+    looks.add_other(place, refused_look(sight, source))?;
+    match source.code {
+        Ok(code) => look_at_code(looks, sight, path, dict, shown, source, code),
+        Err(_) => Ok(()),
+    }
+}
+
+/// Looks at the code of an entry, and at its link information.
+fn look_at_code<'a, A: Allocator>(
+    looks: &mut Looks<'a, A>,
+    sight: &Sight<'_, 'a>,
+    path: &'a str,
+    dict: &Dict<'a>,
+    shown: &FileCode,
+    source: &Source<'a>,
+    code: &'a [u8],
+) -> Result<(), AllocError>
+    ensures { OnOk result (Adds (link_looks looks.old.warnings.items looks.old.harmless.items)
+        (looks_of_segment path.now (option_map (λ h. h.now) sight.now.host) source.now.order
+        source.now.entry (Ok code.now) source.now.after.now)
+        (link_looks looks.new.warnings.items looks.new.harmless.items)) }
+{
+    let place = Place {
+        path,
+        segment: Some(source.entry.name),
+        rec: None,
     };
     codes::look_at(looks, sight, place, dict, source, code)?;
     notes::of_code(looks, place, shown, source.index)?;
     if source.needs_linking() {
-        records::look_at(looks, sight, place, shown, source, code)?;
+        return records::look_at(looks, sight, path, shown, source, code);
     }
     Ok(())
 }
 
 /// Why a link that takes the segment is refused, where no fault tells of it.
-fn refused_look(sight: &Sight<'_, '_>, source: &Source<'_>) -> Option<Look> {
+fn refused_look(sight: &Sight<'_, '_>, source: &Source<'_>) -> Option<OtherLook> {
     if sight.is_refused(source) {
         None
     } else {
-        refusal_of(source).map(Look::Entry)
+        refusal_of(source).map(OtherLook::Segment)
     }
 }
 
 /// Why a link that takes the segment is refused, by the segment alone.
-fn refusal_of(source: &Source<'_>) -> Option<EntryLook> {
+fn refusal_of(source: &Source<'_>) -> Option<SegmentLook> {
     let code = match source.code {
         Ok(code) => code,
-        Err(reason) => return Some(EntryLook::Refused { reason, rec: None }),
+        Err(reason) => return Some(SegmentLook::Refused { reason, rec: None }),
     };
     if !source.needs_linking() || code.len() < NUMBERS {
         return None;
     }
     let is_host = source.entry.kind == HOSTSEG;
     if let Err(reason) = ProcedureDictionary::read(source.order, code, is_host) {
-        return Some(EntryLook::Refused { reason, rec: None });
+        return Some(SegmentLook::Refused { reason, rec: None });
     }
     match LinkInformation::read(source.order, source.after) {
         Ok(_) => None,
-        Err(fault) => Some(EntryLook::Refused {
+        Err(fault) => Some(SegmentLook::Refused {
             reason: fault.reason,
             rec: Some(fault.rec),
         }),
@@ -142,29 +221,31 @@ fn refusal_of(source: &Source<'_>) -> Option<EntryLook> {
 }
 
 /// A filled slot without a name, where others have one.
-fn nameless_look(dict: &Dict<'_>, source: &Source<'_>) -> Option<Look> {
+fn nameless_look(dict: &Dict<'_>, source: &Source<'_>) -> Option<OtherLook> {
     let slot = source.index;
     if is_nameless(&source.entry.name) && !are_nameless(dict) {
-        Some(Look::Dictionary(DictionaryLook::NoName { slot }))
+        Some(OtherLook::Dictionary(DictionaryLook::NoName { slot }))
     } else {
         None
     }
 }
 
 /// An entry of a library that Apple Pascal has, where no fault tells of it.
-fn intrinsic_look(sight: &Sight<'_, '_>, source: &Source<'_>) -> Option<Look> {
+fn intrinsic_look(sight: &Sight<'_, '_>, source: &Source<'_>) -> Option<OtherLook> {
     let (slot, kind) = (source.index, source.entry.kind);
     if sight.is_refused(source) {
         None
     } else if source.file != 0 && is_intrinsic(source) {
-        Some(Look::Dictionary(DictionaryLook::IntrinsicKind { slot, kind }))
+        Some(OtherLook::Dictionary(DictionaryLook::IntrinsicKind { slot, kind }))
     } else {
         None
     }
 }
 
-/// The entry is of Apple Pascal: an intrinsic unit, or its data.
-fn is_intrinsic(source: &Source<'_>) -> bool {
+/// The entry is of Apple Pascal: an intrinsic unit, or its data. No link reads its records.
+fn is_intrinsic(source: &Source<'_>) -> bool
+    ensures { result ≡ true → kind_needs_linking source.now.entry.kind ≡ false }
+{
     matches!(source.entry.kind, FIRST_INTRINSIC..=LAST_INTRINSIC)
 }
 
@@ -179,9 +260,9 @@ fn are_nameless(dict: &Dict<'_>) -> bool {
 }
 
 /// A dictionary without a name.
-fn no_names(dict: &Dict<'_>) -> Option<Look> {
+fn no_names(dict: &Dict<'_>) -> Option<OtherLook> {
     if are_nameless(dict) {
-        Some(Look::Dictionary(DictionaryLook::NoNames))
+        Some(OtherLook::Dictionary(DictionaryLook::NoNames))
     } else {
         None
     }
@@ -199,13 +280,13 @@ fn unread_byte(sector: &[u8]) -> Option<u8> {
 }
 
 /// Sectors of the second half of the dictionary that were not read. Most files have zeros there.
-fn dead_tail(dict: &Dict<'_>) -> Option<Look> {
+fn dead_tail(dict: &Dict<'_>) -> Option<OtherLook> {
     let mut start = TAIL;
     for sector in dict.tail().chunks(SECTOR) {
         let next = start.saturating_add(SECTOR);
         if let Some(byte) = unread_byte(sector) {
             let end = next.saturating_sub(1);
-            return Some(Look::Dictionary(DictionaryLook::DeadTail { start, end, byte }));
+            return Some(OtherLook::Dictionary(DictionaryLook::DeadTail { start, end, byte }));
         }
         start = next;
     }
@@ -214,7 +295,7 @@ fn dead_tail(dict: &Dict<'_>) -> Option<Look> {
 
 /// More bytes that are not zero than a comment has, or many that no text has, where no release is
 /// known to have any.
-fn full_tail(dict: &Dict<'_>) -> Option<Look> {
+fn full_tail(dict: &Dict<'_>) -> Option<OtherLook> {
     let (mut bytes, mut others) = (0usize, 0usize);
     let free = dict.tail().get(FIRST_FREE..COMMENT).unwrap_or(&[]);
     for byte in free {
@@ -222,7 +303,7 @@ fn full_tail(dict: &Dict<'_>) -> Option<Look> {
         others = others.saturating_add(usize::from(is_control(*byte)));
     }
     if FULL <= bytes || MANY_OTHERS <= others {
-        Some(Look::Dictionary(DictionaryLook::FullTail { bytes }))
+        Some(OtherLook::Dictionary(DictionaryLook::FullTail { bytes }))
     } else {
         None
     }
@@ -234,7 +315,7 @@ fn is_control(byte: u8) -> bool {
 }
 
 /// A machine type that is not P-code's, of the host program or of a unit.
-fn machine_look(dict: &Dict<'_>, source: &Source<'_>) -> Option<Look> {
+fn machine_look(dict: &Dict<'_>, source: &Source<'_>) -> Option<OtherLook> {
     if !source.needs_linking() {
         return None;
     }
@@ -243,7 +324,7 @@ fn machine_look(dict: &Dict<'_>, source: &Source<'_>) -> Option<Look> {
     if machine == 0 || machine == p_code_of(dict.order()) {
         return None;
     }
-    Some(Look::Dictionary(DictionaryLook::MachineType {
+    Some(OtherLook::Dictionary(DictionaryLook::MachineType {
         slot,
         machine,
         version,
@@ -286,6 +367,28 @@ fn empty_slot(slot: u8, is_taken: bool, entry: &Entry) -> Option<EntryLook>
     } else {
         None
     }
+}
+
+/// The segment has this slot of the host.
+fn has_slot(segment: &Segment<'_>, slot: u8) -> bool
+    ensures { result ≡ has_slot_spec slot (seen segment.now) }
+{
+    match segment.slot {
+        Some(other) => other == slot,
+        None => false,
+    }
+}
+
+/// A segment of the link takes the slot.
+fn is_taken(list: &[Segment<'_>], slot: u8) -> bool
+    ensures { result ≡ list_any (has_slot_spec slot) (map seen list.now) }
+{
+    for segment in list {
+        if has_slot(segment, slot) {
+            return true;
+        }
+    }
+    false
 }
 
 /// What looks wrong in a slot of the host that is not filled, which a unit takes or not.

@@ -1,15 +1,21 @@
 //! Entries that overlap in their file.
-ghost use Rattle.std.specs.Prelude.{◌≡◌, ◌<◌};
+ghost use Rattle.std.specs.Prelude.{◌≡◌, ◌<◌, ◌^◌, OnOk, map};
+ghost use Rattle.std.specs.List.{flat_map};
+ghost use Rattle.std.specs.Result.{is_ok};
+ghost use Rattle.ps_codefile.specs.Dictionary.{code_of, entry_at, slots};
+ghost use Rattle.ps_linkinfo.specs.Records.{reading, used_by};
 ghost use Rattle.ps_warnings.specs.EntryLooks.{overlap, shares as shares_spec};
+ghost use Rattle.ps_warnings.specs.FileLooks.{extent_at as extent_at_spec, extent_of_kind as extent_of_kind_spec, information_end as information_end_spec, overlap_look};
+ghost use Rattle.ps_warnings.specs.Found.{Adds, link_looks};
 
 use super::Looks;
-use crate::segments::{length_of, source_of};
-use crate::warnings::{EntryLook, Look, Place};
+use crate::segments::{is_slot, length_of};
+use crate::warnings::{EntryLook, Place};
 use ps_codefile::Dict;
 use ps_codefile::dictionary_layout::SLOTS;
 use ps_codefile::kinds::{HOSTSEG, LINKED, UNITSEG};
 use ps_linkinfo::LinkInformation;
-use ps_words::{BLOCK_SIZE, blocks_of};
+use ps_words::{BLOCK_SIZE, Order, blocks_of};
 use std::alloc::{AllocError, Allocator};
 
 /// The bytes of a file that an entry has, from `start` on and before `end`.
@@ -40,36 +46,80 @@ impl Extent {
     };
 }
 
-/// The bytes that an entry has: its code, and the link information after it if that is read.
-fn extent_of(dict: &Dict<'_>, file: usize, slot: u8) -> Option<Extent>
-    requires { slot < 16 }
+/// How many bytes the records take that bytes begin with, up to the first that cannot be read.
+fn information_len(order: Order, bytes: &[u8]) -> usize
+    ensures used { result ≡ used_by (reading order bytes.now).0 }
+    ensures fits { result < 2 ^ 63 }
 {
-    if !dict.filled(slot) {
-        return None;
+    let records = LinkInformation::up_to_fault(order, bytes);
+    length_of(&records)
+}
+
+/// Where the link information of an entry ends, up to the first record that cannot be read.
+fn information_end(dict: &Dict<'_>, slot: u8) -> usize
+    requires { slot < 16 }
+    ensures { result ≡ information_end_spec dict.now.order dict.now.file
+        (entry_at dict.now.order dict.now.file slot) }
+{
+    let entry = dict.entry(slot);
+    let blocks = usize::from(entry.address) + blocks_of(usize::from(entry.length));
+    let start = BLOCK_SIZE * blocks;
+    let length = information_len(dict.order(), dict.after(slot));
+    start.saturating_add(length)
+}
+
+/// The bytes that an entry of this kind has: its code, and the link information after it if that is
+/// read.
+fn extent_of_kind(dict: &Dict<'_>, slot: u8) -> Extent
+    requires { slot < 16 }
+    ensures { result ≡ extent_of_kind_spec dict.now.order dict.now.file slot
+        (entry_at dict.now.order dict.now.file slot) }
+{
+    let entry = dict.entry(slot);
+    let start = BLOCK_SIZE * usize::from(entry.address);
+    if entry.kind == LINKED {
+        let end = start + usize::from(entry.length);
+        return Extent { slot, start, end };
     }
-    let source = source_of(dict, file, slot);
-    source.code.ok()?;
-    let start = BLOCK_SIZE * usize::from(source.entry.address);
-    let length = usize::from(source.entry.length);
-    let end = match source.entry.kind {
-        LINKED => start + length,
-        HOSTSEG | UNITSEG => {
-            let records = LinkInformation::up_to_fault(source.order, source.after);
-            let information = start + BLOCK_SIZE * blocks_of(length);
-            information.saturating_add(length_of(&records))
-        }
-        _ => return None,
-    };
-    Some(Extent { slot, start, end })
+    if entry.kind == HOSTSEG || entry.kind == UNITSEG {
+        let end = information_end(dict, slot);
+        return Extent { slot, start, end };
+    }
+    Extent::EMPTY
+}
+
+/// The bytes that an entry has; none where it is not filled or has no code.
+#[tactic(auto, unfolding(crate::specs::FileLooks::extent_at))]
+fn extent_at(dict: &Dict<'_>, slot: u8) -> Extent
+    requires { slot < 16 }
+    ensures { result ≡ extent_at_spec dict.now.order dict.now.file slot }
+{
+    if dict.filled(slot) && has_code(dict, slot) {
+        extent_of_kind(dict, slot)
+    } else {
+        Extent::EMPTY
+    }
+}
+
+/// The entry has a code.
+fn has_code(dict: &Dict<'_>, slot: u8) -> bool
+    requires { slot < 16 }
+    ensures { result ≡ is_ok (code_of dict.now.file
+        (entry_at dict.now.order dict.now.file slot)) }
+{
+    match dict.code(slot) {
+        Ok(_) => true,
+        Err(_) => false,
+    }
 }
 
 /// What each entry has of its file, by slot; no bytes where it has none.
-pub(super) fn extents_of(dict: &Dict<'_>, file: usize) -> [Extent; SLOTS as usize] {
+pub(super) fn extents_of(dict: &Dict<'_>) -> [Extent; SLOTS as usize]
+    ensures { result ≡ map (extent_at_spec dict.now.order dict.now.file) slots }
+{
     let mut extents = [Extent::EMPTY; SLOTS as usize];
     for slot in 0..SLOTS {
-        if let Some(extent) = extent_of(dict, file, slot) {
-            extents[usize::from(slot)] = extent;
-        }
+        extents[slot as usize] = extent_at(dict, slot);
     }
     extents
 }
@@ -77,16 +127,41 @@ pub(super) fn extents_of(dict: &Dict<'_>, file: usize) -> [Extent; SLOTS as usiz
 /// Looks whether entries have bytes in common.
 pub(super) fn look_at<'a, A: Allocator>(
     looks: &mut Looks<'a, A>,
-    place: Place<'a>,
+    path: &'a str,
     dict: &Dict<'_>,
     extents: &[Extent],
-) -> Result<(), AllocError> {
+) -> Result<(), AllocError>
+    ensures { OnOk result (Adds (link_looks looks.old.warnings.items looks.old.harmless.items)
+        (flat_map (overlap_look path.now dict.now.order dict.now.file extents.now) extents.now)
+        (link_looks looks.new.warnings.items looks.new.harmless.items)) }
+{
     for extent in extents {
-        if extent.slot < SLOTS {
-            let segment = Some(dict.entry(extent.slot).name);
-            let look = first_shared_extent(extents, *extent);
-            looks.add(Place { segment, ..place }, look.map(Look::Entry))?;
-        }
+        look_at_extent(looks, path, dict, extents, *extent)?;
+    }
+    Ok(())
+}
+
+/// Looks whether an entry has bytes in common with an earlier one.
+fn look_at_extent<'a, A: Allocator>(
+    looks: &mut Looks<'a, A>,
+    path: &'a str,
+    dict: &Dict<'_>,
+    extents: &[Extent],
+    extent: Extent,
+) -> Result<(), AllocError>
+    ensures { OnOk result (Adds (link_looks looks.old.warnings.items looks.old.harmless.items)
+        (overlap_look path.now dict.now.order dict.now.file extents.now extent)
+        (link_looks looks.new.warnings.items looks.new.harmless.items)) }
+{
+    if is_slot(extent.slot) {
+        let entry = dict.entry(extent.slot);
+        let place = Place {
+            path,
+            segment: Some(entry.name),
+            rec: None,
+        };
+        let found = first_shared_extent(extents, extent);
+        return looks.add_entry(place, found);
     }
     Ok(())
 }

@@ -1,11 +1,20 @@
 //! Files that look wrong.
+ghost use Rattle.std.specs.Prelude.{◌≡◌, ◌∷◌, OnOk, map};
+ghost use Rattle.std.specs.Option.{option_map};
+ghost use Rattle.ps_resolve.specs.Sources.{contents};
+ghost use Rattle.ps_warnings.specs.AllLooks.{looks_of_file};
+ghost use Rattle.ps_warnings.specs.FileLooks.{looks_of_code_file, looks_of_entries};
+ghost use Rattle.ps_warnings.specs.Found.{Adds, link_looks};
+ghost use Rattle.ps_warnings.specs.Paths.{host_order, path_of};
+ghost use Rattle.ps_warnings.specs.Seen.{seen};
+
 use super::doubled::doubled_block;
 use super::extents::{Extent, extents_of};
 use super::{Looks, Sight, entries, extents, in_file};
-use crate::warnings::{FileLook, Look};
+use crate::warnings::{FileLook, OtherLook};
 use ps_codefile::Dict;
 use ps_codefile::dictionary_layout::SLOTS;
-use ps_filetype::{FileType, LineEnds};
+use ps_filetype::{FileType, LineEnds, is_code_type};
 use ps_pcode::FileCode;
 use std::alloc::{AllocError, Allocator};
 
@@ -20,27 +29,71 @@ pub(super) fn look_at<'a, A: Allocator>(
     looks: &mut Looks<'a, A>,
     sight: &Sight<'_, 'a>,
     file: usize,
-) -> Result<(), AllocError> {
-    let place = in_file(sight.inputs.path(file));
-    let bytes = sight.inputs.bytes(file);
-    let file_type = FileType::of(bytes);
-    if !file_type.is_code() {
-        let look = match sight.is_type_told(file) {
-            true => None,
-            false => Some(Look::File(FileLook::NoCodeFile { file_type })),
-        };
-        return looks.add(place, look);
+    bytes: &'a [u8],
+) -> Result<(), AllocError>
+    ensures { OnOk result (Adds (link_looks looks.old.warnings.items looks.old.harmless.items)
+        (looks_of_file (sight.now.inputs.now.host_path.now
+        ∷ contents sight.now.inputs.now.paths.now) (option_map (λ h. h.now) sight.now.host)
+        (map seen sight.now.list.now) (host_order sight.now.inputs.now.host.now) (file, bytes.now))
+        (link_looks looks.new.warnings.items looks.new.harmless.items)) }
+{
+    if is_code_type(bytes) {
+        return look_at_code_file(looks, sight, file, bytes);
     }
-    looks.add(place, padding_of(bytes).map(Look::File))?;
-    let Some(dict) = sight.inputs.dict(file) else {
-        return looks.add(place, converted(bytes).map(Look::File));
+    let file_type = FileType::of(bytes);
+    let look = match sight.is_type_told(file) {
+        true => None,
+        false => Some(OtherLook::File(FileLook::NoCodeFile { file_type })),
     };
-    let extents = extents_of(&dict, file);
-    looks.add(place, converted_in(bytes, &dict, &extents).map(Look::File))?;
-    looks.add(place, doubled_block(bytes, &extents).map(Look::File))?;
+    looks.add_other(in_file(sight.inputs.path(file)), look)
+}
+
+/// Looks at a code file.
+fn look_at_code_file<'a, A: Allocator>(
+    looks: &mut Looks<'a, A>,
+    sight: &Sight<'_, 'a>,
+    file: usize,
+    bytes: &'a [u8],
+) -> Result<(), AllocError>
+    ensures { OnOk result (Adds (link_looks looks.old.warnings.items looks.old.harmless.items)
+        (looks_of_code_file (path_of (sight.now.inputs.now.host_path.now
+        ∷ contents sight.now.inputs.now.paths.now) file) (option_map (λ h. h.now) sight.now.host)
+        (map seen sight.now.list.now)
+        (host_order sight.now.inputs.now.host.now) bytes.now file)
+        (link_looks looks.new.warnings.items looks.new.harmless.items)) }
+{
+    let place = in_file(sight.inputs.path(file));
+    looks.add_other(place, padding_of(bytes).map(OtherLook::File))?;
+    match Dict::read_beside(bytes, sight.inputs.order()) {
+        Ok(dict) => look_at_dictionary(looks, sight, file, bytes, &dict),
+        Err(_) => looks.add_other(place, converted(bytes).map(OtherLook::File)),
+    }
+}
+
+/// Looks at a code file whose dictionary can be read.
+fn look_at_dictionary<'a, A: Allocator>(
+    looks: &mut Looks<'a, A>,
+    sight: &Sight<'_, 'a>,
+    file: usize,
+    bytes: &'a [u8],
+    dict: &Dict<'a>,
+) -> Result<(), AllocError>
+    ensures { OnOk result (Adds (link_looks looks.old.warnings.items looks.old.harmless.items)
+        (looks_of_entries (path_of (sight.now.inputs.now.host_path.now
+        ∷ contents sight.now.inputs.now.paths.now) file) (option_map (λ h. h.now) sight.now.host)
+        (map seen sight.now.list.now)
+        dict.now.order dict.now.file file)
+        (link_looks looks.new.warnings.items looks.new.harmless.items)) }
+{
+    let path = sight.inputs.path(file);
+    let place = in_file(path);
+    let extents = extents_of(dict);
+    let converted = converted_in(bytes, dict, &extents);
+    looks.add_other(place, converted.map(OtherLook::File))?;
+    looks.add_other(place, doubled_block(bytes, &extents).map(OtherLook::File))?;
     let shown = FileCode::of(dict.order(), bytes);
-    entries::look_at(looks, sight, file, &dict, &shown)?;
-    extents::look_at(looks, place, &dict, &extents)
+    entries::look_at(looks, sight, file, dict, &shown)?;
+    extents::look_at(looks, path, dict, &extents)
 }
 
 /// How the line ends of many lines were converted, if bytes look so.

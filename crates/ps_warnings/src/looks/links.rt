@@ -1,13 +1,17 @@
 //! What looks wrong in the link as a whole.
-ghost use Rattle.std.specs.Prelude.{◌≡◌, ◌<◌};
+ghost use Rattle.std.specs.Prelude.{◌≡◌, ◌∷◌, ◌<◌, ◌≤◌, OnOk, length, map, take, unwrap_or};
 ghost use Rattle.ps_codefile.specs.Dictionary.{entry_at};
+ghost use Rattle.ps_resolve.specs.Sources.{contents};
+ghost use Rattle.ps_warnings.specs.AllLooks.{looks_of_unit, looks_of_units, looks_of_link};
+ghost use Rattle.ps_warnings.specs.Found.{Adds, link_looks};
 ghost use Rattle.ps_warnings.specs.LinkLooks.{is_near_unit as is_near_unit_spec, other_spelling as other_spelling_spec, taken_by as taken_by_spec, taken_slot as taken_slot_spec};
+ghost use Rattle.ps_warnings.specs.Seen.{seen};
 
 use super::entries::has_name_or_kind;
 use super::names::is_near;
-use super::{Looks, Sight, in_segment};
+use super::{Looks, Sight};
 use crate::segments::{Part, Segment};
-use crate::warnings::{LinkLook, Look};
+use crate::warnings::{LinkLook, Place};
 use ps_codefile::Dict;
 use ps_codefile::dictionary_layout::SLOTS;
 use ps_words::Name;
@@ -17,19 +21,79 @@ use std::alloc::{AllocError, Allocator};
 pub(super) fn look_at<'a, A: Allocator>(
     looks: &mut Looks<'a, A>,
     sight: &Sight<'_, 'a>,
-) -> Result<(), AllocError> {
-    let Ok(host) = Dict::read(sight.inputs.host) else {
-        return Ok(());
-    };
+) -> Result<(), AllocError>
+    ensures { OnOk result (Adds (link_looks looks.old.warnings.items looks.old.harmless.items)
+        (looks_of_link (sight.now.inputs.now.host_path.now ∷ contents sight.now.inputs.now.paths.now)
+        sight.now.inputs.now.host.now (map seen sight.now.list.now))
+        (link_looks looks.new.warnings.items looks.new.harmless.items)) }
+{
+    match Dict::read(sight.inputs.host) {
+        Ok(host) => look_at_units(looks, sight, &host),
+        Err(_) => Ok(()),
+    }
+}
+
+/// Looks at each of the segments.
+fn look_at_units<'a, A: Allocator>(
+    looks: &mut Looks<'a, A>,
+    sight: &Sight<'_, 'a>,
+    host: &Dict<'a>,
+) -> Result<(), AllocError>
+    ensures { OnOk result (Adds (link_looks looks.old.warnings.items looks.old.harmless.items)
+        (looks_of_units (sight.now.inputs.now.host_path.now ∷ contents sight.now.inputs.now.paths.now)
+        host.now.order host.now.file (map seen sight.now.list.now))
+        (link_looks looks.new.warnings.items looks.new.harmless.items)) }
+{
     for (index, segment) in sight.list.iter().enumerate() {
-        let file = segment.source.map_or(0, |source| source.file);
-        let place = in_segment(sight.inputs.path(file), segment.name);
-        let taken = taken_by(&host, segment.slot, segment.part);
-        looks.add(place, taken.map(Look::Link))?;
-        let other = other_spelling(&sight.list[..index], segment);
-        looks.add(place, other.map(Look::Link))?;
+        look_at_unit(looks, sight, host, index, segment)?;
     }
     Ok(())
+}
+
+/// Looks at a segment, before which there are so many.
+fn look_at_unit<'a, A: Allocator>(
+    looks: &mut Looks<'a, A>,
+    sight: &Sight<'_, 'a>,
+    host: &Dict<'a>,
+    index: usize,
+    segment: &Segment<'a>,
+) -> Result<(), AllocError>
+    requires { index ≤ length sight.now.list.now }
+    ensures { OnOk result (Adds (link_looks looks.old.warnings.items looks.old.harmless.items)
+        (looks_of_unit (sight.now.inputs.now.host_path.now ∷ contents sight.now.inputs.now.paths.now)
+        host.now.order host.now.file (map seen sight.now.list.now) (index, seen segment.now))
+        (link_looks looks.new.warnings.items looks.new.harmless.items)) }
+{
+    let file = file_of(segment);
+    let path = sight.inputs.path(file);
+    let place = Place {
+        path,
+        segment: Some(segment.name),
+        rec: None,
+    };
+    let taken = taken_by(host, segment.slot, segment.part);
+    looks.add_of_link(place, taken)?;
+    let earlier = before(sight.list, index);
+    let other = other_spelling(earlier, segment);
+    looks.add_of_link(place, other)
+}
+
+/// The segments before the one of this index.
+fn before<'s, 'a>(list: &'s [Segment<'a>], index: usize) -> &'s [Segment<'a>]
+    requires { index ≤ length list.now }
+    ensures { result.now ≡ take index list.now }
+{
+    &list[..index]
+}
+
+/// The file of a segment: the host's, where it comes from none.
+fn file_of(segment: &Segment<'_>) -> usize
+    ensures { result ≡ unwrap_or (seen segment.now).file 0 }
+{
+    match segment.source {
+        Some(source) => source.file,
+        None => 0,
+    }
 }
 
 /// The slot of an added unit that has a name or a kind in the host.
@@ -58,14 +122,14 @@ fn taken_by(host: &Dict<'_>, slot: Option<u8>, part: Part) -> Option<LinkLook>
 
 /// The segment is a unit of nearly this name.
 fn is_near_unit(segment: &Segment<'_>, name: &Name) -> bool
-    ensures { result ≡ is_near_unit_spec name.now segment.now }
+    ensures { result ≡ is_near_unit_spec name.now (seen segment.now) }
 {
     segment.part.is_unit() && is_near(&segment.name, name)
 }
 
 /// An earlier unit whose name differs in small letters, high bits or padding alone.
 fn other_spelling(earlier: &[Segment<'_>], segment: &Segment<'_>) -> Option<LinkLook>
-    ensures { result ≡ other_spelling_spec earlier.now segment.now }
+    ensures { result ≡ other_spelling_spec (map seen earlier.now) (seen segment.now) }
 {
     if !segment.part.is_unit() {
         return None;

@@ -1,4 +1,7 @@
 //! What the P-code of a segment makes one guess.
+ghost use Rattle.std.specs.Prelude.{[], OnOk};
+ghost use Rattle.ps_warnings.specs.Found.{Adds, link_looks};
+
 use super::Looks;
 use crate::segments::Source;
 use crate::warnings::{Guess, Place};
@@ -13,7 +16,10 @@ pub(super) fn of_code<'a, A: Allocator>(
     place: Place<'a>,
     shown: &FileCode,
     slot: u8,
-) -> Result<(), AllocError> {
+) -> Result<(), AllocError>
+    ensures { OnOk result (Adds (link_looks looks.old.warnings.items looks.old.harmless.items)
+        [] (link_looks looks.new.warnings.items looks.new.harmless.items)) }
+{
     looks.note(place, misfit(shown, slot))
 }
 
@@ -31,16 +37,36 @@ pub(super) fn of_records<'a, A: Allocator>(
     source: &Source<'_>,
     records: &LinkInformation<'_>,
     code: &[u8],
-) -> Result<(), AllocError> {
+) -> Result<(), AllocError>
+    ensures { OnOk result (Adds (link_looks looks.old.warnings.items looks.old.harmless.items)
+        [] (link_looks looks.new.warnings.items looks.new.harmless.items)) }
+{
     looks.note_of_record(place, first_clear_mark(records, code))?;
+    looks.note_of_record(place, shown_reference(shown, records, code))?;
+    looks.note(place, lost_in(shown, source, records))
+}
+
+/// The first record with a reference that is no operand of an instruction for it, where the code is
+/// shown to be P-code.
+fn shown_reference(
+    shown: &FileCode,
+    records: &LinkInformation<'_>,
+    code: &[u8],
+) -> Option<(usize, Guess)> {
     if shown.is_shown() {
-        looks.note_of_record(place, first_odd_reference(records, code))?;
+        first_odd_reference(records, code)
+    } else {
+        None
     }
+}
+
+/// References of a unit that are fewer than the operands that a compiler leaves for them.
+fn lost_in(shown: &FileCode, source: &Source<'_>, records: &LinkInformation<'_>) -> Option<Guess> {
     if source.entry.kind == UNITSEG {
-        let operands = shown.operands_left_to_link(source.index);
-        looks.note(place, lost_references(records, operands))?;
+        lost_references(records, shown.operands_left_to_link(source.index))
+    } else {
+        None
     }
-    Ok(())
 }
 
 /// The first record with an operand whose bit 7 is clear.

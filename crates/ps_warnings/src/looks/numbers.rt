@@ -1,7 +1,7 @@
 //! The segment numbers at the ends of codes, beside those that the dictionary has.
 use super::codes::is_without_procedures;
 use crate::segments::Source;
-use crate::warnings::{CodeLook, Look};
+use crate::warnings::{CodeLook, OtherLook};
 use ps_codefile::Dict;
 use ps_codefile::dictionary_layout::SLOTS;
 use ps_codefile::kinds::{HOSTSEG, UNITSEG};
@@ -85,7 +85,7 @@ fn number_in(dict: &Dict<'_>, slot: u8) -> Option<u8> {
 }
 
 /// What looks wrong in the numbers at the end of a code.
-pub(super) fn number_look(dict: &Dict<'_>, source: &Source<'_>, code: &[u8]) -> Option<Look> {
+pub(super) fn number_look(dict: &Dict<'_>, source: &Source<'_>, code: &[u8]) -> Option<OtherLook> {
     let slot = source.index;
     let (found, procedures) = match code {
         [.., found, procedures] => (*found, *procedures),
@@ -95,10 +95,10 @@ pub(super) fn number_look(dict: &Dict<'_>, source: &Source<'_>, code: &[u8]) -> 
         return None;
     }
     if found == 0 && procedures == 0 && slot != 0 && is_linkable(source) {
-        return Some(Look::Code(CodeLook::ZeroEnd));
+        return Some(OtherLook::Code(CodeLook::ZeroEnd));
     }
     if source.entry.kind == HOSTSEG && found != slot {
-        return Some(Look::Code(CodeLook::OtherNumber { found, slot }));
+        return Some(OtherLook::Code(CodeLook::OtherNumber { found, slot }));
     }
     exchanged_look(dict, slot, found).or(info_look(dict, slot, found))
 }
@@ -109,19 +109,19 @@ fn is_linkable(source: &Source<'_>) -> bool {
 }
 
 /// Another number than that of the dictionary.
-fn info_look(dict: &Dict<'_>, slot: u8, found: u8) -> Option<Look> {
+fn info_look(dict: &Dict<'_>, slot: u8, found: u8) -> Option<OtherLook> {
     let number = info_of(dict, slot)?.number;
     if number != 0 && number != found {
-        Some(Look::Code(CodeLook::OtherInfo { found, number }))
+        Some(OtherLook::Code(CodeLook::OtherInfo { found, number }))
     } else {
         None
     }
 }
 
 /// The number of another slot, whose code has this slot's.
-fn exchanged_look(dict: &Dict<'_>, slot: u8, found: u8) -> Option<Look> {
+fn exchanged_look(dict: &Dict<'_>, slot: u8, found: u8) -> Option<OtherLook> {
     if found != slot && number_in(dict, found) == Some(slot) {
-        Some(Look::Code(CodeLook::ExchangedNumber { found, slot }))
+        Some(OtherLook::Code(CodeLook::ExchangedNumber { found, slot }))
     } else {
         None
     }

@@ -1,18 +1,22 @@
 //! Link information that looks wrong, by what a link does with it.
-ghost use Rattle.std.specs.Prelude.{◌≡◌};
+ghost use Rattle.std.specs.Prelude.{◌≡◌, [], OnOk};
 ghost use Rattle.std.specs.Option.{option_map};
 ghost use Rattle.ps_linkinfo.specs.Numbered.{numbered_records};
 ghost use Rattle.ps_linkinfo.specs.RecordCounts.{next_of};
+ghost use Rattle.ps_linkinfo.specs.Records.{reading};
 ghost use Rattle.ps_resolve.specs.Searches.{first_of};
+ghost use Rattle.ps_warnings.specs.FileLooks.{data_size as data_size_spec, definition_looks, looks_of_records};
+ghost use Rattle.ps_warnings.specs.Found.{Adds, link_looks};
 ghost use Rattle.ps_warnings.specs.RecordLooks.{at_index as at_index_spec, definition_as as definition_as_spec, definition_in as definition_in_spec, definition_of as definition_of_spec, first_definition as first_definition_spec, first_high, first_past, high_as as high_as_spec, high_in as high_in_spec, high_value as high_value_spec, is_defined as is_defined_spec, is_requested as is_requested_spec, low_below as low_below_spec, low_mark as low_mark_spec, past_as as past_as_spec, past_in as past_in_spec, past_words as past_words_spec};
 
 use super::names::oddity_of;
 use super::{Looks, Sight, notes};
 use crate::segments::Source;
-use crate::warnings::{EntryLook, Look, Place, RecordLook};
-use ps_codefile::kinds::HOSTSEG;
+use crate::warnings::{OtherLook, Place, RecordLook, SegmentLook};
+use ps_codefile::ProcedureDictionary;
+use ps_codefile::code_layout::NUMBERS;
 use ps_linkinfo::{Body, LinkInformation, LinkRecord, Refs, Sort};
-use ps_pcode::{FileCode, procedures_of};
+use ps_pcode::FileCode;
 use ps_words::{Name, Order, get_big};
 use std::alloc::{AllocError, Allocator};
 
@@ -20,41 +24,85 @@ use std::alloc::{AllocError, Allocator};
 pub(super) fn look_at<'a, A: Allocator>(
     looks: &mut Looks<'a, A>,
     sight: &Sight<'_, '_>,
-    place: Place<'a>,
+    path: &'a str,
     shown: &FileCode,
     source: &Source<'_>,
     code: &[u8],
-) -> Result<(), AllocError> {
+) -> Result<(), AllocError>
+    ensures { OnOk result (Adds (link_looks looks.old.warnings.items looks.old.harmless.items)
+        (looks_of_records path.now (option_map (λ h. h.now) sight.now.host) source.now.order
+        source.now.entry code.now (reading source.now.order source.now.after.now).0)
+        (link_looks looks.new.warnings.items looks.new.harmless.items)) }
+{
     let records = LinkInformation::up_to_fault(source.order, source.after);
+    let place = Place {
+        path,
+        segment: Some(source.entry.name),
+        rec: None,
+    };
     add_odd_name(looks, place, first_odd_name(&records, sight.are_small))?;
     looks.add_of_record(place, first_past_private(&records, code))?;
     notes::of_records(looks, place, shown, source, &records, code)?;
-    if source.entry.kind == HOSTSEG {
-        let data = data_size(source, code);
-        looks.add(place, low_mark(&records, data).map(Look::Record))?;
-        return looks.add_of_record(place, first_high_definition(&records));
+    let size = data_size(source.order, code);
+    look_at_definitions(looks, sight, path, source, size, &records)
+}
+
+/// Looks at what the records of a segment define.
+fn look_at_definitions<'a, A: Allocator>(
+    looks: &mut Looks<'a, A>,
+    sight: &Sight<'_, '_>,
+    path: &'a str,
+    source: &Source<'_>,
+    size: Option<u16>,
+    records: &LinkInformation<'_>,
+) -> Result<(), AllocError>
+    ensures { OnOk result (Adds (link_looks looks.old.warnings.items looks.old.harmless.items)
+        (definition_looks path.now (Some source.now.entry.name)
+        (option_map (λ h. h.now) sight.now.host) source.now.entry.kind size records.now)
+        (link_looks looks.new.warnings.items looks.new.harmless.items)) }
+{
+    let place = Place {
+        path,
+        segment: Some(source.entry.name),
+        rec: None,
+    };
+    if source.is_host() {
+        looks.add_of_records(place, low_mark(records, size))?;
+        return looks.add_of_record(place, first_high_definition(records));
     }
-    looks.add_of_record(place, first_definition(&records, sight.host))
+    looks.add_of_record(place, first_definition(records, sight.host))
 }
 
 /// Adds an odd name of a record.
 fn add_odd_name<'a, A: Allocator>(
     looks: &mut Looks<'a, A>,
     place: Place<'a>,
-    found: Option<(usize, EntryLook)>,
-) -> Result<(), AllocError> {
+    found: Option<(usize, SegmentLook)>,
+) -> Result<(), AllocError>
+    ensures { OnOk result (Adds (link_looks looks.old.warnings.items looks.old.harmless.items)
+        [] (link_looks looks.new.warnings.items looks.new.harmless.items)) }
+{
     match found {
         Some((rec, look)) => {
             let rec = Some(rec);
-            looks.add(Place { rec, ..place }, Some(Look::Entry(look)))
+            looks.add_other(Place { rec, ..place }, Some(OtherLook::Segment(look)))
         }
         None => Ok(()),
     }
 }
 
 /// The data size of the outer block of a code, in bytes.
-fn data_size(source: &Source<'_>, code: &[u8]) -> Option<u16> {
-    procedures_of(source.order, code)?.data_size()
+#[tactic(auto, unfolding(crate::specs::FileLooks::data_size))]
+fn data_size(order: Order, code: &[u8]) -> Option<u16>
+    ensures { result ≡ data_size_spec order code.now }
+{
+    if code.len() < NUMBERS {
+        return None;
+    }
+    match ProcedureDictionary::read(order, code, false) {
+        Ok(procedures) => procedures.data_size(),
+        Err(_) => None,
+    }
 }
 
 /// The bytes begin with a record that is no end mark and has a name that ASCII prints.
@@ -77,12 +125,12 @@ fn is_printed(name: &Name) -> bool {
 }
 
 /// The first record with an odd name.
-fn first_odd_name(records: &LinkInformation<'_>, are_small: bool) -> Option<(usize, EntryLook)> {
+fn first_odd_name(records: &LinkInformation<'_>, are_small: bool) -> Option<(usize, SegmentLook)> {
     for (rec, record) in records.records() {
         if !record.is_eof() {
             let name = record.name;
             if let Some(oddity) = oddity_of(&name, are_small) {
-                return Some((rec, EntryLook::OddName { name, oddity }));
+                return Some((rec, SegmentLook::OddName { name, oddity }));
             }
         }
     }

@@ -1,9 +1,10 @@
-use Rattle.std.proofs.Common.{◌≡◌, drop}
+use Rattle.std.proofs.Common.{◌≡◌, drop, map}
 use Rattle.std.specs.List.{find}
 use Rattle.ps_warnings.specs.LinkLooks.{is_near_unit}
+use Rattle.ps_warnings.specs.Seen.{seen}
 use Rattle.ps_warnings.proofs.looks.links.other_spelling.Given as goal
 
 -- the unit is looked for in what is left
 abbrev pub invariant-loop-other : goal.invariant-loop-other
-invariant-loop-other l = find (is_near_unit l.segment.name) l.earlier
-    ≡ find (is_near_unit l.segment.name) (drop l.other-index l.earlier)
+invariant-loop-other l = find (is_near_unit l.segment.name) (map seen l.earlier)
+    ≡ find (is_near_unit l.segment.name) (map seen (drop l.other-index l.earlier))

@@ -1,0 +1,22 @@
+use Rattle.std.proofs.Common.{◌∷◌, ◌+◌, drop, map}
+use Rattle.std.specs.List.{enumerate_from, flat_map}
+use Rattle.std.specs.Option.{option_map}
+use Rattle.ps_resolve.specs.Sources.{contents}
+use Rattle.ps_warnings.specs.AllLooks.{looks_of_file}
+use Rattle.ps_warnings.specs.Found.{link_looks}
+use Rattle.ps_warnings.specs.Paths.{host_order}
+use Rattle.ps_warnings.specs.Seen.{seen}
+use Rattle.ps_warnings.proofs.Found.{Owes}
+use Rattle.ps_warnings.proofs.looks.add_of_libraries.Given as goal
+
+-- what looks wrong in the libraries that are left is still to be added
+abbrev pub invariant-loop-library : goal.invariant-loop-library
+invariant-loop-library g l =
+    let of_file = looks_of_file (l.sight.inputs.now.host_path.now
+    ∷ contents l.sight.inputs.now.paths.now) (option_map (λ h. h.now) l.sight.host)
+    (map seen l.sight.list.now) (host_order l.sight.inputs.now.host.now) in
+    let libs = contents l.sight.inputs.now.libs.now in
+    Owes (link_looks l.fn.looks.warnings.items l.fn.looks.harmless.items)
+    (flat_map of_file (enumerate_from 1 libs))
+    (flat_map of_file (enumerate_from (l.library + 1) (drop l.library libs)))
+    (link_looks l.looks.warnings.items l.looks.harmless.items)

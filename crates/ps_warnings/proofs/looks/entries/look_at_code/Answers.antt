@@ -1,0 +1,27 @@
+use Rattle.std.proofs.Common.{◌∙◌, Bor, List, Ok, sym}
+use Rattle.std.proofs.lemmas.Result.{on_ok_weaker}
+use Rattle.std.specs.Option.{option_map}
+use Rattle.ps_linkinfo.specs.declared.record.LinkRecord.{LinkRecord as Record}
+use Rattle.ps_warnings.proofs.Found.{adds_is, none_then}
+use Rattle.ps_warnings.proofs.Slots.{linked, not_linked}
+use Rattle.ps_warnings.proofs.looks.entries.look_at_code.Goals as goal
+
+pub returns-then-needs_linking : goal.returns-then-needs_linking
+returns-then-needs_linking g c =
+    let s = c.args.source.now in
+    let all = linked c.args.path.now (option_map (λ (h : Bor
+        (List Record)). h.now) c.args.sight.now.host) s.order s.entry
+    s.after.now c.args.code.now (sym c.needs_linking.ensures ∙ c.if-needs_linking.true) in
+    let before = none_then c.in_ok-look_at.ensures c.in_ok-of_code.ensures in
+    on_ok_weaker c.look_at-then-needs_linking.result (λ more. adds_is (sym all)
+        (none_then before more))
+    c.look_at-then-needs_linking.ensures
+
+pub returns : goal.returns
+returns g c =
+    let s = c.args.source.now in
+    let none = not_linked c.args.path.now (option_map (λ (h : Bor
+        (List Record)). h.now) c.args.sight.now.host) s.order s.entry
+    s.after.now (Ok c.args.code.now)
+    (sym c.needs_linking.ensures ∙ c.if-needs_linking.false) in
+    adds_is (sym none) (none_then c.in_ok-look_at.ensures c.in_ok-of_code.ensures)

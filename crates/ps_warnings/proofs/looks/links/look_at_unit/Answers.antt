@@ -1,0 +1,23 @@
+use Rattle.std.proofs.Common.{◌∙◌, List, map, ap, sym}
+use Rattle.std.proofs.lemmas.List.{take-map}
+use Rattle.std.proofs.lemmas.Result.{on_ok_weaker}
+use Rattle.ps_warnings.specs.AllLooks.{looks_of_unit}
+use Rattle.ps_warnings.specs.LinkLooks.{other_spelling}
+use Rattle.ps_warnings.specs.Seen.{Seen, seen}
+use Rattle.ps_warnings.specs.declared.segments.Segment.{Segment}
+use Rattle.ps_warnings.proofs.Found.{adds_both}
+use Rattle.ps_warnings.proofs.looks.links.look_at_unit.Goals as goal
+
+pub returns : goal.returns
+unfolding looks_of_unit
+returns g c =
+    let s = seen c.args.segment.now in
+    let ss = c.args.sight.now.list.now in
+    let spelled = c.other_spelling-other.ensures
+    ∙ (ap (λ (l : List Segment). other_spelling (map seen l) s) c.before-earlier.ensures
+    ∙ ap (λ (l : List Seen). other_spelling l s) (sym (take-map seen c.args.index ss))) in
+    let taken = rw (c.path-path.ensures, c.file_of-file.ensures, c.taken_by-taken.ensures)
+    at c.in_ok-add_of_link.ensures in
+    let other = rw (c.path-path.ensures, c.file_of-file.ensures, spelled)
+    at c.add_of_link-2.ensures in
+    on_ok_weaker c.add_of_link-2.result (λ more. adds_both taken more) other

@@ -1,0 +1,19 @@
+use Rattle.std.proofs.Common.{◌∷◌, drop, map}
+use Rattle.std.specs.List.{enumerate_from, flat_map}
+use Rattle.ps_resolve.specs.Sources.{contents}
+use Rattle.ps_warnings.specs.AllLooks.{looks_of_unit, looks_of_units}
+use Rattle.ps_warnings.specs.Found.{link_looks}
+use Rattle.ps_warnings.specs.Seen.{seen}
+use Rattle.ps_warnings.proofs.Found.{Owes}
+use Rattle.ps_warnings.proofs.looks.links.look_at_units.Given as goal
+
+-- what looks wrong in the segments that are left is still to be added
+abbrev pub invariant-loop-index : goal.invariant-loop-index
+invariant-loop-index g l =
+    let paths = l.sight.inputs.now.host_path.now ∷ contents l.sight.inputs.now.paths.now in
+    let list = map seen l.sight.list.now in
+    Owes (link_looks l.fn.looks.warnings.items l.fn.looks.harmless.items)
+    (looks_of_units paths l.host.order l.host.file list)
+    (flat_map (looks_of_unit paths l.host.order l.host.file list)
+    (enumerate_from l.index (drop l.index list)))
+    (link_looks l.looks.warnings.items l.looks.harmless.items)

@@ -1,0 +1,70 @@
+-- The segments of a link as they were read, as far as looks about the link depend on them.
+-- Source: this project's profile.
+use Rattle.std.specs.Prelude.{ℕ, ◌==◌, ◌&&◌, if◌then◌else◌, List, [], Bool, true, false, Option, Some, None, Result, Ok, Err}
+use Rattle.std.specs.Borrow.{Bor}
+use Rattle.std.specs.List.{find}
+use Rattle.std.specs.Option.{option_map, option_map_or}
+use Rattle.std.specs.Result.{is_ok}
+use Rattle.ps_words.specs.declared.fault.Reason.{Reason}
+use Rattle.ps_linkinfo.specs.Records.{reading}
+use Rattle.ps_linkinfo.specs.declared.record.LinkRecord.{LinkRecord as Record}
+use Rattle.ps_warnings.specs.declared.segments.Part.{Part}
+use Rattle.ps_warnings.specs.declared.segments.Part.TheVariants as part
+use Rattle.ps_warnings.specs.declared.segments.Segment.{Segment}
+use Rattle.ps_warnings.specs.declared.segments.Source.{Source}
+
+-- what is seen of a segment: its slot in the host, its name, what it is, the file that it comes
+-- from, and its records, up to the first that cannot be read
+pub record Seen : Type 0 where
+  pub slot : Option ℕ
+  pub name : List ℕ
+  pub part : Part
+  pub file : Option ℕ
+  pub records : List Record
+
+-- its references are resolved
+abbrev pub part_needs_linking : Part → Bool
+part_needs_linking part.Plain = false
+part_needs_linking part.Host = true
+part_needs_linking part.Unit = true
+part_needs_linking part.Wanted = true
+part_needs_linking (part.Added asker rec) = true
+
+-- the code of a segment, or why it cannot be read
+abbrev pub code_as : Result (Bor (List ℕ)) Reason → Result (List ℕ) Reason
+code_as (Ok code) = Ok code.now
+code_as (Err why) = Err why
+
+abbrev pub code_in : Source → Result (List ℕ) Reason
+code_in s = code_as s.code
+
+-- the records of a segment: none where they are not to be read, or where it has no code
+abbrev pub records_in : Part → Option Source → List Record
+records_in what None = []
+records_in what (Some s) = if part_needs_linking what && is_ok s.code
+    then (reading s.order s.after.now).0 else []
+
+abbrev pub seen : Segment → Seen
+seen s = record {
+  slot = s.slot;
+  name = s.name;
+  part = s.part;
+  file = option_map (λ o. o.file) s.source;
+  records = records_in s.part s.source;
+}
+
+-- the segment has this slot of the host
+abbrev pub has_slot : ℕ → Seen → Bool
+has_slot slot s = option_map_or (λ k. k == slot) s.slot false
+
+-- it is the host program
+abbrev pub is_host_part : Part → Bool
+is_host_part part.Plain = false
+is_host_part part.Host = true
+is_host_part part.Unit = false
+is_host_part part.Wanted = false
+is_host_part (part.Added asker rec) = false
+
+-- the records of the host program, if the link has one
+abbrev pub host_records : List Seen → Option (List Record)
+host_records list = option_map (λ s. s.records) (find (λ s. is_host_part s.part) list)
