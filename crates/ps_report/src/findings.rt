@@ -2,6 +2,9 @@
 ghost use Rattle.std.specs.Prelude.{◌≡◌, ◌∷◌, [], IfOk, None, string_bytes};
 ghost use Rattle.ps_resolve.specs.AllFaults.{reading_fault};
 ghost use Rattle.ps_resolve.specs.Sources.{contents};
+ghost use Rattle.ps_warnings.specs.AllLooks.{link_looks_of};
+ghost use Rattle.ps_warnings.specs.Found.{link_looks, sorted};
+ghost use Rattle.ps_warnings.specs.SeenSegments.{seen_segments};
 ghost use Rattle.ps_report.specs.SegmentLines.{segment_lines};
 ghost use Rattle.ps_report.specs.SlotLines.{AddsSlotLines};
 
@@ -43,6 +46,10 @@ pub(crate) fn findings_of<'a, A: Allocator + Copy>(
         (contents libs.now)) (string_bytes findings.overview)) }
     ensures explanation { IfOk result (λ findings. fault ≡ None
         → string_bytes findings.explanation ≡ []) }
+    ensures looks { IfOk result (λ findings.
+        link_looks findings.looks.warnings.items findings.looks.harmless.items
+        ≡ sorted (link_looks_of (host_path.now ∷ contents paths.now) host.now (contents libs.now)
+        (seen_segments host.now (contents libs.now)))) }
 {
     let inputs = Inputs {
         host_path,

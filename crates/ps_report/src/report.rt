@@ -2,6 +2,9 @@
 ghost use Rattle.std.specs.Prelude.{◌≡◌, ◌↔◌, ◌⊎◌, ◌∷◌, ◌++◌, [], ℕ, IfOk, List, OnOk, codes, false, map, true, string_bytes, vec_len};
 ghost use Rattle.ps_resolve.specs.Sources.{contents};
 ghost use Rattle.ps_resolve.specs.Standing.{NoneStands};
+ghost use Rattle.ps_warnings.specs.AllLooks.{link_looks_of};
+ghost use Rattle.ps_warnings.specs.Found.{link_looks, sorted};
+ghost use Rattle.ps_warnings.specs.SeenSegments.{seen_segments};
 ghost use Rattle.ps_report.specs.SegmentLines.{segment_lines};
 ghost use Rattle.ps_report.specs.SlotLines.{AddsSlotLines, slot_lines};
 ghost use Rattle.ps_report.specs.Lists.{HasLists, lacks_host};
@@ -96,6 +99,12 @@ pub fn check<'a, A: Allocator + Copy>(
     ensures segments { IfOk result (λ r. NoneStands host.now (contents libs.now)
         → slot_lines (string_bytes r.text)
         ≡ segment_lines (host_path.now ∷ contents paths.now) host.now (contents libs.now)) }
+
+    // The looks about the link are those that their definitions give, for the segments of the link
+    // as they were read.
+    ensures looks { IfOk result (λ r. link_looks r.warnings.items r.harmless.items
+        ≡ sorted (link_looks_of (host_path.now ∷ contents paths.now) host.now (contents libs.now)
+        (seen_segments host.now (contents libs.now)))) }
 {
     first_of_all();
     let verdict = verdict_of(alloc, host, libs)?;

@@ -79,3 +79,6 @@ returns-clause-segments g c = λ none.
     (c.in_ok-text.ensures.lines silent unlisted) in
     lines_in text lines
     (adds_then_none [] before text lines told c.in_ok-add_looks.ensures.lines)
+
+pub returns-clause-looks : goal.returns-clause-looks
+returns-clause-looks g c = c.in_ok-findings.ensures.looks
