@@ -306,6 +306,7 @@ static void check_looks(void)
     pslink_answer answer;
     size_t size;
 
+    memset(&answer, 0xFF, sizeof answer);
     memset(room, FILLER, sizeof room);
     check(pslink_text_files(PSLINK_TEXT_LOOKS, PSLINK_LINES, host, &library, 1, room, sizeof room, &answer) == PSLINK_DONE &&
               answer.written == 0 && answer.needed == 0 && is_untouched(room, 0, sizeof room),
