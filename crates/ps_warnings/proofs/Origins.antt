@@ -1,5 +1,5 @@
 -- Where segments come from, and what is seen of them.
-use Rattle.std.proofs.Common.{◌≡◌, ◌∙◌, ◌+◌, ◌-◌, ◌<◌, ◌≤◌, ◌++◌, ◌∷◌, [], ℕ, suc, List, Bor, true, false, length, map, refl, sym, ap, arith}
+use Rattle.std.proofs.Common.{◌≡◌, ◌∙◌, ◌+◌, ◌-◌, ◌<◌, ◌≤◌, ◌++◌, ◌∷◌, [], ℕ, suc, List, Bor, true, false, length, refl, sym, ap, arith}
 use Rattle.std.specs.Prelude.{◌&&◌, Bool, Option, Some, None, Result, Ok, Err, filter_map, if◌then◌else◌}
 use Rattle.std.specs.List.{cons_option, range_with_len}
 use Rattle.std.specs.Option.{option_map}
@@ -11,7 +11,7 @@ use Rattle.ps_linkinfo.specs.Records.{reading}
 use Rattle.ps_linkinfo.specs.declared.record.LinkRecord.{LinkRecord as Record}
 use Rattle.ps_resolve.specs.Readings.{HostFiles}
 use Rattle.ps_warnings.specs.Seen.{Seen, code_as, code_in, part_needs_linking, records_in, seen}
-use Rattle.ps_warnings.specs.SeenSegments.{Origin, origin_as, origin_at, records_from, seen_with, taken_of, takes_slot}
+use Rattle.ps_warnings.specs.SeenSegments.{origin_as, origin_at, records_from, seen_with, taken_of, takes_slot}
 use Rattle.ps_warnings.specs.declared.segments.Part.{Part}
 use Rattle.ps_warnings.specs.declared.segments.Segment.{Segment}
 use Rattle.ps_warnings.specs.declared.segments.Source.{Source}
@@ -27,16 +27,28 @@ pub origin_is : (s : Source) (file index : ℕ) (f : OpenedFile) → s.file ≡ 
     → origin_as s ≡ origin_at file index f
 unfolding origin_at
 origin_is s file index f at order code after =
-    ap (λ (k : ℕ). record { file = k; records = if is_ok s.code
-    then (reading s.order s.after.now).0 else [] }) at
-    ∙ (ap (λ (b : Bool). record { file = file; records = if b
-    then (reading s.order s.after.now).0 else [] }) (same_ok s.code ∙ ap is_ok code)
-    ∙ (ap (λ (o : Order). record { file = file; records =
-    if is_ok (code_of f.file (entry_at f.order f.file index))
-    then (reading o s.after.now).0 else [] }) order
-    ∙ ap (λ (x : List ℕ). record { file = file; records =
-    if is_ok (code_of f.file (entry_at f.order f.file index))
-    then (reading f.order x).0 else [] }) after))
+    ap (λ (k : ℕ). record {
+      file = k;
+      records = if is_ok s.code
+          then (reading s.order s.after.now).0 else [];
+    }) at
+    ∙ (ap (λ (b : Bool). record {
+      file = file;
+      records = if b
+          then (reading s.order s.after.now).0 else [];
+    }) (same_ok s.code ∙ ap is_ok code)
+    ∙ (ap (λ (o : Order). record {
+      file = file;
+      records =
+          if is_ok (code_of f.file (entry_at f.order f.file index))
+          then (reading o s.after.now).0 else [];
+    }) order
+    ∙ ap (λ (x : List ℕ). record {
+      file = file;
+      records =
+          if is_ok (code_of f.file (entry_at f.order f.file index))
+          then (reading f.order x).0 else [];
+    }) after))
 
 both : (b c : Bool) (rs : List Record)
     → (if b then (if c then rs else []) else []) ≡ (if b && c then rs else [])
@@ -62,10 +74,20 @@ same_file (Some s) = refl
 pub seen_is : (s : Segment)
     → seen s ≡ seen_with s.slot s.name s.part (option_map origin_as s.source)
 unfolding seen_with
-seen_is s = ap (λ (k : Option ℕ). record { slot = s.slot; name = s.name; part = s.part; file = k;
-    records = records_in s.part s.source }) (same_file s.source)
-    ∙ ap (λ (rs : List Record). record { slot = s.slot; name = s.name; part = s.part;
-    file = option_map (λ x. x.file) (option_map origin_as s.source); records = rs })
+seen_is s = ap (λ (k : Option ℕ). record {
+  slot = s.slot;
+  name = s.name;
+  part = s.part;
+  file = k;
+  records = records_in s.part s.source;
+}) (same_file s.source)
+    ∙ ap (λ (rs : List Record). record {
+      slot = s.slot;
+      name = s.name;
+      part = s.part;
+      file = option_map (λ x. x.file) (option_map origin_as s.source);
+      records = rs;
+    })
     (same_records s.part s.source)
 
 -- no more slots are taken than there are

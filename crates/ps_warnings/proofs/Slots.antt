@@ -1,6 +1,6 @@
 -- What looks wrong in a slot, in a segment and in a file, by cases.
-use Rattle.std.proofs.Common.{◌≡◌, ◌∙◌, ◌++◌, ◌==◌, [], ℕ, List, true, false, sym, ap, refl}
-use Rattle.std.specs.Prelude.{Bool, Option, Some, None, Result, Ok, Err, if◌then◌else◌, nat_lt, unwrap_or}
+use Rattle.std.proofs.Common.{◌≡◌, ◌∙◌, ◌++◌, ◌==◌, [], ℕ, List, true, false, ap, refl}
+use Rattle.std.specs.Prelude.{Bool, Option, Some, None, Result, Ok, Err, if◌then◌else◌, nat_lt}
 use Rattle.std.specs.List.{list_any}
 use Rattle.std.specs.Option.{option_map, option_map_or}
 use Rattle.std.specs.Result.{result_ok}
@@ -16,7 +16,7 @@ use Rattle.ps_linkinfo.specs.declared.record.LinkRecord.{LinkRecord as Record}
 use Rattle.ps_warnings.specs.AllLooks.{looks_of_file, looks_of_link, looks_of_units}
 use Rattle.ps_warnings.specs.EntryLooks.{empty_look, overlap}
 use Rattle.ps_warnings.specs.FileLooks.{definition_looks, looks_of_code_file, looks_of_entries, looks_of_records, looks_of_segment, looks_of_slot, looks_of_source, overlap_look}
-use Rattle.ps_warnings.specs.Found.{LookAt, found_at, found_in_record}
+use Rattle.ps_warnings.specs.Found.{found_at, found_in_record}
 use Rattle.ps_warnings.specs.Paths.{path_of}
 use Rattle.ps_warnings.specs.RecordLooks.{first_definition, first_high, low_mark}
 use Rattle.ps_warnings.specs.Seen.{Seen, code_in, has_slot}
@@ -76,7 +76,7 @@ pub source_is : (paths : List (List ℕ)) (host : Option (List Record)) (s : Sou
     ≡ looks_of_segment (path_of paths file) host order e (code_of bytes e) (information_of bytes e)
 source_is paths host s order bytes file e at entry by code after =
     ap (λ (k : ℕ). looks_of_segment (path_of paths k) host s.order s.entry
-        (code_in s) s.after.now) at
+    (code_in s) s.after.now) at
     ∙ (ap (λ (o : Order). looks_of_segment (path_of paths file) host o s.entry (code_in s)
     s.after.now) by
     ∙ (ap (λ (x : Entry). looks_of_segment (path_of paths file) host order x (code_in s)

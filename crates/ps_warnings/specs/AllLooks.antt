@@ -35,7 +35,7 @@ unfoldable pub looks_of_unit : List (List ℕ) → Order → List ℕ → List S
 looks_of_unit paths order host list s =
     let path = path_of paths (unwrap_or s.1.file 0) in
     found_at path (Some s.1.name) None (option_map look.Link
-        (taken_by order host s.1.slot s.1.part))
+    (taken_by order host s.1.slot s.1.part))
     ++ found_at path (Some s.1.name) None
     (option_map look.Link (other_spelling (take s.0 list) s.1))
 

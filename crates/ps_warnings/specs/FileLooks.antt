@@ -64,7 +64,7 @@ unfoldable pub looks_of_slot : List ℕ → Option (List Record) → List Seen �
 looks_of_slot path host list order bytes file slot =
     let e = entry_at order bytes slot in
     if is_filled e then looks_of_segment path host order e (code_of bytes e)
-        (information_of bytes e)
+    (information_of bytes e)
     else (if file == 0 then found_at path None None (option_map look.Entry
     (empty_look slot (list_any (has_slot slot) list) e (role_of e))) else [])
 

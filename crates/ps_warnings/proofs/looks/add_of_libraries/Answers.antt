@@ -20,7 +20,7 @@ loop-library-preserved g c =
     owes_less (numbered_left (looks_of_file (c.args.sight.now.inputs.now.host_path.now
     ∷ contents c.args.sight.now.inputs.now.paths.now)
     (option_map (λ (h : Bor (List Record)). h.now) c.args.sight.now.host)
-        (map seen c.args.sight.now.list.now)
+    (map seen c.args.sight.now.list.now)
     (host_order c.args.sight.now.inputs.now.host.now)) (i + 1) (contents libs) i _
     (contents_left libs i _ (drop_more libs i _ c.loop-library-test.true)))
     c.loop-library.invariant c.in_ok-look_at.ensures
@@ -32,6 +32,6 @@ returns g c =
     owes_none (numbered_over (looks_of_file (c.args.sight.now.inputs.now.host_path.now
     ∷ contents c.args.sight.now.inputs.now.paths.now)
     (option_map (λ (h : Bor (List Record)). h.now) c.args.sight.now.host)
-        (map seen c.args.sight.now.list.now)
+    (map seen c.args.sight.now.list.now)
     (host_order c.args.sight.now.inputs.now.host.now)) (i + 1) (contents libs) i
     (contents_over libs i c.loop-library-test.false)) c.loop-library.invariant

@@ -1,9 +1,7 @@
-use Rattle.std.proofs.Common.{◌∙◌, List, sym, ap}
-use Rattle.std.specs.Prelude.{Option, Some}
+use Rattle.std.proofs.Common.{◌∙◌, sym, ap}
+use Rattle.std.specs.Prelude.{Some}
 use Rattle.std.specs.Option.{option_map}
-use Rattle.ps_linkinfo.specs.declared.record.LinkRecord.{LinkRecord as Record}
 use Rattle.ps_warnings.specs.Seen.{Seen, seen}
-use Rattle.ps_warnings.specs.declared.segments.Segment.{Segment}
 use Rattle.ps_warnings.proofs.looks.records_of_host.Goals as goal
 
 pub returns-in-None : goal.returns-in-None

@@ -1,4 +1,4 @@
-use Rattle.std.proofs.Common.{◌∙◌, ◌∷◌, [], List, map, ap, sym, append-nil}
+use Rattle.std.proofs.Common.{◌∙◌, ◌∷◌, [], map, ap, sym, append-nil}
 use Rattle.std.proofs.lemmas.List.{map-append}
 use Rattle.std.proofs.lemmas.Result.{on_ok_weaker}
 use Rattle.ps_warnings.specs.Seen.{seen}

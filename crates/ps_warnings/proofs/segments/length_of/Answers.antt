@@ -1,5 +1,5 @@
-use Rattle.std.proofs.Common.{◌∙◌, arith, refl, sym, zero-add}
-use Rattle.ps_warnings.proofs.Lengths.{numbered_use, used_by_numbered}
+use Rattle.std.proofs.Common.{arith}
+use Rattle.ps_warnings.proofs.Lengths.{numbered_use}
 use Rattle.ps_warnings.proofs.segments.length_of.Goals as goal
 
 pub loop-record-init : goal.loop-record-init

@@ -1,5 +1,4 @@
 use Rattle.std.proofs.Common.{◌∙◌, sym, ap}
-use Rattle.std.specs.Prelude.{Option}
 use Rattle.ps_warnings.specs.SeenSegments.{name_by}
 use Rattle.ps_warnings.proofs.segments.name_by.Goals as goal
 

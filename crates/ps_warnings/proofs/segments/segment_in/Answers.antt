@@ -25,8 +25,13 @@ returns-in-Some c =
     let h = c.args.host.now in
     let slot = c.args.slot in
     let what = c.in-Some.part in
-    let s : Segment = record { slot = Some slot; name = c.name_in-name.result; part = what;
-        source = c.slot_source-source.result; is_missing = c.state_of-is_read.result.1 } in
+    let s : Segment = record {
+      slot = Some slot;
+      name = c.name_in-name.result;
+      part = what;
+      source = c.slot_source-source.result;
+      is_missing = c.state_of-is_read.result.1;
+    } in
     ap Some (seen_is s
     ∙ (ap (λ (n : List ℕ). seen_with (Some slot) n what (option_map origin_as s.source))
     c.name_in-name.ensures

@@ -11,13 +11,13 @@ use Rattle.ps_warnings.proofs.segments.segments_in_slots.Goals as goal
 pub loop-slot-init : goal.loop-slot-init
 loop-slot-init g c =
     let f = seen_in c.args.inputs.now.host.now (contents c.args.inputs.now.libs.now)
-        c.args.host.now in
+    c.args.host.now in
     ap (λ (l : List Seen). l ++ filter_map f slots) (ap (map seen) c.new-list.ensures.items)
 
 pub loop-slot-preserved : goal.loop-slot-preserved
 loop-slot-preserved g c =
     let f = seen_in c.args.inputs.now.host.now (contents c.args.inputs.now.libs.now)
-        c.args.host.now in
+    c.args.host.now in
     let i = c.loop-slot.slot in
     let before = map seen c.loop-slot.list.items in
     let rest = filter_map f (range_with_len (i + 1) (16 - (i + 1))) in
@@ -30,7 +30,7 @@ loop-slot-preserved g c =
 pub returns : goal.returns
 returns g c =
     let f = seen_in c.args.inputs.now.host.now (contents c.args.inputs.now.libs.now)
-        c.args.host.now in
+    c.args.host.now in
     let before = map seen c.loop-slot.list.items in
     sym (append-nil before)
     ∙ (ap (λ (l : List Seen). before ++ l)

@@ -18,7 +18,7 @@ returns-in-Harmless g c =
     let w = c.args.warning in
     let is = subst (λ (k : Weight). IsWeight w.look k) c.in-Harmless.is c.weight.ensures in
     on_ok_weaker c.add_to-in-Harmless.result (λ more. rw more
-        (pushed_harmless w.place w.look c.args.self.now.warnings.items
+    (pushed_harmless w.place w.look c.args.self.now.warnings.items
     c.args.self.now.harmless.items is)) c.add_to-in-Harmless.ensures
 
 pub returns-in-Look : goal.returns-in-Look
@@ -26,7 +26,7 @@ returns-in-Look g c =
     let w = c.args.warning in
     let is = subst (λ (k : Weight). IsWeight w.look k) c.in-Look.is c.weight.ensures in
     on_ok_weaker c.add_to-in-Look.result (λ more. rw more
-        (pushed_warning w.place w.look weight.Look c.args.self.now.warnings.items
+    (pushed_warning w.place w.look weight.Look c.args.self.now.warnings.items
     c.args.self.now.harmless.items (inl refl) is)) c.add_to-in-Look.ensures
 
 pub returns-in-Damaged : goal.returns-in-Damaged
@@ -34,5 +34,5 @@ returns-in-Damaged g c =
     let w = c.args.warning in
     let is = subst (λ (k : Weight). IsWeight w.look k) c.in-Damaged.is c.weight.ensures in
     on_ok_weaker c.add_to-in-Damaged.result (λ more. rw more
-        (pushed_warning w.place w.look weight.Damaged c.args.self.now.warnings.items
+    (pushed_warning w.place w.look weight.Damaged c.args.self.now.warnings.items
     c.args.self.now.harmless.items (inr refl) is)) c.add_to-in-Damaged.ensures

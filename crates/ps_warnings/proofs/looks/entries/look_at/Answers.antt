@@ -16,7 +16,7 @@ loop-slot-preserved g c =
     ∷ contents c.args.sight.now.inputs.now.paths.now) c.args.file)
     (option_map (λ h. h.now) c.args.sight.now.host) (map seen c.args.sight.now.list.now)
     c.args.dict.now.order c.args.dict.now.file c.args.file) c.loop-slot.slot 16
-        c.loop-slot-test.true)
+    c.loop-slot-test.true)
     c.loop-slot.invariant (none_then c.in_ok-add_other.ensures c.in_ok-look_at_slot.ensures)
 
 pub returns : goal.returns
@@ -25,5 +25,5 @@ returns g c =
     ∷ contents c.args.sight.now.inputs.now.paths.now) c.args.file)
     (option_map (λ h. h.now) c.args.sight.now.host) (map seen c.args.sight.now.list.now)
     c.args.dict.now.order c.args.dict.now.file c.args.file) c.loop-slot.slot 16
-        c.loop-slot-test.false)
+    c.loop-slot-test.false)
     c.loop-slot.invariant

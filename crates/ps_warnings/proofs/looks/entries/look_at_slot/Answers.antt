@@ -19,7 +19,7 @@ returns-then-filled g c =
     ∷ contents c.args.sight.now.inputs.now.paths.now in
     let host = option_map (λ (h : Bor (List Record)). h.now) c.args.sight.now.host in
     let whole = slot_filled (path_of paths c.args.file) host
-        (map seen c.args.sight.now.list.now) d.order d.file
+    (map seen c.args.sight.now.list.now) d.order d.file
     c.args.file c.args.slot (sym c.filled.ensures ∙ c.if-filled.true) in
     let source = source_is paths host c.source_of.result d.order d.file c.args.file
     (entry_at d.order d.file c.args.slot) c.source_of.ensures.file c.source_of.ensures.entry
@@ -34,7 +34,7 @@ returns-then-file-ne0 g c =
     ∷ contents c.args.sight.now.inputs.now.paths.now in
     let other : (c.args.file == 0) ≡ false = grind (arith, nat_tests) in
     let none = slot_beside (path_of paths c.args.file) (option_map (λ (h : Bor
-        (List Record)). h.now) c.args.sight.now.host)
+    (List Record)). h.now) c.args.sight.now.host)
     (map seen c.args.sight.now.list.now) d.order d.file c.args.file c.args.slot
     (sym c.filled.ensures ∙ c.if-filled.false) other in
     adds_is (sym none) (adds_none (link_looks c.args.looks.now.warnings.items
@@ -47,7 +47,7 @@ returns g c =
     ∷ contents c.args.sight.now.inputs.now.paths.now in
     let host : (c.args.file == 0) ≡ true = grind (arith, nat_tests) in
     let empty = slot_empty (path_of paths c.args.file) (option_map (λ (h : Bor
-        (List Record)). h.now) c.args.sight.now.host)
+    (List Record)). h.now) c.args.sight.now.host)
     (map seen c.args.sight.now.list.now) d.order d.file c.args.file c.args.slot
     (sym c.filled.ensures ∙ c.if-filled.false) host in
     let found = rw (c.path-path.ensures, c.empty_look-found.ensures, c.is_taken-taken.ensures)

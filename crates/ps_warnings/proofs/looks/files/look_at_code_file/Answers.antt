@@ -19,7 +19,7 @@ returns-in-Ok g c =
     ∙ (sym c.read_beside.ensures ∙ c.in-Ok.is) in
     let all = can_read (path_of (c.args.sight.now.inputs.now.host_path.now
     ∷ contents c.args.sight.now.inputs.now.paths.now) c.args.file) (option_map (λ (h : Bor
-        (List Record)). h.now) c.args.sight.now.host)
+    (List Record)). h.now) c.args.sight.now.host)
     (map seen c.args.sight.now.list.now) order bytes c.args.file c.in-Ok.dict is in
     on_ok_weaker c.look_at_dictionary.result
     (λ more. adds_is (sym all) (none_then c.in_ok-add_other.ensures more))
@@ -33,8 +33,8 @@ returns-in-Err g c =
     ∙ (sym c.read_beside.ensures ∙ c.in-Err.is) in
     let none = cannot_read (path_of (c.args.sight.now.inputs.now.host_path.now
     ∷ contents c.args.sight.now.inputs.now.paths.now) c.args.file) (option_map (λ (h : Bor
-        (List Record)). h.now) c.args.sight.now.host)
+    (List Record)). h.now) c.args.sight.now.host)
     (map seen c.args.sight.now.list.now) order bytes c.args.file _ is in
     on_ok_weaker c.add_other-in-Err.result
     (λ more. adds_is (sym none) (none_then c.in_ok-add_other.ensures more))
-        c.add_other-in-Err.ensures
+    c.add_other-in-Err.ensures

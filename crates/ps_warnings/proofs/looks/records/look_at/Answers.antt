@@ -11,5 +11,5 @@ returns g c =
     let defined = rw (c.data_size-size.ensures, c.up_to_fault-records.ensures)
     at c.look_at_definitions.ensures in
     let before = none_then c.in_ok-add_odd_name.ensures
-        (then_none past c.in_ok-of_records.ensures) in
+    (then_none past c.in_ok-of_records.ensures) in
     on_ok_weaker c.look_at_definitions.result (λ more. adds_both before more) defined
