@@ -60,48 +60,31 @@ impl Room {
     }
 }
 
-impl Room {
-    /// How many of these bytes the next write takes.
-    fn next_count(&self, buf: &[u8]) -> usize {
-        let left = self.bytes.len().saturating_sub(self.taken);
-        buf.len().min(self.per_write).min(left)
-    }
-
-    /// A write for which there is no room.
-    fn refuse(&mut self) -> io::Result<usize> {
-        match self.full {
-            Full::Stalls => {
-                self.stalls = self.stalls.saturating_add(1);
-                self.shorts = self.shorts.saturating_add(1);
-                Ok(0)
-            }
-            Full::Fails => {
-                self.failures = self.failures.saturating_add(1);
-                Err(io::Error::from(io::ErrorKind::Interrupted))
-            }
-        }
-    }
-
-    /// Takes these bytes.
-    fn take(&mut self, bytes: &[u8]) {
-        for (to, from) in self.bytes.iter_mut().skip(self.taken).zip(bytes) {
-            *to = *from;
-        }
-        self.taken = self.taken.saturating_add(bytes.len())
-    }
-}
-
 impl Write for Room {
     fn write(&mut self, buf: &[u8]) -> io::Result<usize> {
         self.writes = self.writes.saturating_add(1);
-        let count = self.next_count(buf);
+        let left = self.bytes.len().saturating_sub(self.taken);
+        let count = buf.len().min(self.per_write).min(left);
         if count == 0 && !buf.is_empty() {
-            return self.refuse();
+            return match self.full {
+                Full::Stalls => {
+                    self.stalls = self.stalls.saturating_add(1);
+                    self.shorts = self.shorts.saturating_add(1);
+                    Ok(0)
+                }
+                Full::Fails => {
+                    self.failures = self.failures.saturating_add(1);
+                    Err(io::Error::from(io::ErrorKind::Interrupted))
+                }
+            };
         }
         if count < buf.len() {
             self.shorts = self.shorts.saturating_add(1);
         }
-        self.take(buf.get(..count).unwrap_or(&[]));
+        for (to, from) in self.bytes.iter_mut().skip(self.taken).zip(buf) {
+            *to = *from;
+        }
+        self.taken = self.taken.saturating_add(count);
         Ok(count)
     }
 
