@@ -13,7 +13,8 @@ one_more_is n lt = omega arith
 
 -- where each count can, each that applies rises by one
 pub none_saturated : {E : Type 0} (c : Counts) (size : ℕ) (result : Result ℕ E)
-    → AreBelow c 18446744073709551615 → saturated_after c size result ≡ counts_after c size result
+    → AreBelow c 18446744073709551615
+    → saturated_after c size result ≡ counts_after c size result
 none_saturated c size (Ok taken) low = rw (
   one_more_is c.writes low.writes,
   one_more_is c.stalls low.stalls,
@@ -58,8 +59,9 @@ room_here needed old mid size i room h lt =
     room_left needed old mid size i 1 room h.by_bytes h.shorts h.none (omega (arith, lt))
 
 -- after some pieces there is room for those that are left
-pub room_then : (needed : Bool) (old new : Counts) (n size pieces left : ℕ) → HasRoom needed old n
-    → Rises old new size pieces → NoneFailed old new → size + left ≤ n → HasRoom needed new left
+pub room_then : (needed : Bool) (old new : Counts) (n size pieces left : ℕ)
+    → HasRoom needed old n → Rises old new size pieces → NoneFailed old new → size + left ≤ n
+    → HasRoom needed new left
 room_then needed old new n size pieces left room h none le =
     room_left needed old new n size left room h.by_bytes h.shorts none le
 

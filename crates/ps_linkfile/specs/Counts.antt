@@ -9,9 +9,10 @@ use Rattle.ps_linkfile.specs.declared.error.WriteFault.TheVariants.{Device, Stal
 abbrev pub no_counts : Counts
 no_counts = record { writes = 0; errors = 0; stalls = 0; shorts = 0 }
 
--- the counts after a write of so many bytes that gave this result, where `next` says what becomes of
--- each that applies
-abbrev pub counted_by : {E : Type 0} → (ℕ → ℕ) → Counts → ℕ → Result ℕ E → Counts
+-- the counts after a write of so many bytes that gave this result, where `next` says what becomes
+-- of each that applies
+abbrev pub counted_by : {E : Type 0} → (ℕ → ℕ) → Counts → ℕ → Result ℕ E
+    → Counts
 counted_by next old size (Ok taken) = record {
   writes = next old.writes;
   errors = old.errors;

@@ -35,14 +35,15 @@ pub trait ToldWriter: Write {
 
     /// Writes `bytes` as `write` does, and adds one to each count that applies to what it returns.
     ///
-    /// Each count is below `u64::MAX` before. Returns how many of the bytes, from the first on, were
-    /// taken, or the error of the write.
+    /// Each count is below `u64::MAX` before. Returns how many of the bytes, from the first on,
+    /// were taken, or the error of the write.
     fn told_write(&mut self, bytes: &[u8]) -> io::Result<usize>
         requires { AreBelow (counts self.old) 18446744073709551615 }
         ensures bound { WritesAtMost result bytes.now }
         ensures bytes { WriteAppends (Self.contents self.old) (Self.contents self.new) result
             bytes.now }
-        ensures counts { counts self.new ≡ counts_after (counts self.old) (length bytes.now) result };
+        ensures counts { counts self.new
+            ≡ counts_after (counts self.old) (length bytes.now) result };
 }
 
 /// Any writer, made to count. Its plain `write` and `flush` are the writer's, and count nothing.
