@@ -35,17 +35,17 @@ fn link_all(alloc: Global, host: &[u8], libs: &[&[u8]], room: &mut [u8]) -> Resu
     Ok(Done::Linked { summary, size })
 }
 
-/// Links as `link` does, with so many libraries in place. A function by itself, so that a call takes
-/// no more of the stack than its libraries need.
+/// Links as `link` does, with one library or none. A function by itself, so that
+/// it takes no more of the stack than one library needs.
 #[inline(never)]
-fn link_with<const N: usize>(
+fn link_one(
     alloc: Global,
     host: &[u8],
     libs: &[u8],
     lengths: &[usize],
     room: &mut [u8],
 ) -> Result<Done, Stop>
-    requires { length lengths.now ≤ LIBRARIES_IN_PLACE → length lengths.now ≤ N }
+    requires { length lengths.now ≤ 1 }
     ensures right { IfOk result (λ _. sum lengths.now ≡ length libs.now) }
     ensures linked { IfOk result (IsLinked host.now (split_spec libs.now lengths.now)
         room.old room.new) }
@@ -53,7 +53,50 @@ fn link_with<const N: usize>(
         libs.now lengths.now) }
     ensures untouched { OnErr result (room.new ≡ room.old) }
 {
-    let libs = split::<N>(alloc, libs, lengths)?;
+    let libs = split::<1>(alloc, libs, lengths)?;
+    link_all(alloc, host, libs.as_slice(), room)
+}
+
+/// Links as `link` does, with few libraries. A function by itself, so that it takes no more of the
+/// stack than few libraries need.
+#[inline(never)]
+fn link_few(
+    alloc: Global,
+    host: &[u8],
+    libs: &[u8],
+    lengths: &[usize],
+    room: &mut [u8],
+) -> Result<Done, Stop>
+    requires { length lengths.now ≤ FEW_LIBRARIES }
+    ensures right { IfOk result (λ _. sum lengths.now ≡ length libs.now) }
+    ensures linked { IfOk result (IsLinked host.now (split_spec libs.now lengths.now)
+        room.old room.new) }
+    ensures stopped { IfErr result (StopsCall (StopsLink room.old host.now)
+        libs.now lengths.now) }
+    ensures untouched { OnErr result (room.new ≡ room.old) }
+{
+    let libs = split::<FEW_LIBRARIES>(alloc, libs, lengths)?;
+    link_all(alloc, host, libs.as_slice(), room)
+}
+
+/// Links as `link` does, with any number of libraries. A function by itself, so
+/// that only a link with many takes so much of the stack.
+#[inline(never)]
+fn link_many(
+    alloc: Global,
+    host: &[u8],
+    libs: &[u8],
+    lengths: &[usize],
+    room: &mut [u8],
+) -> Result<Done, Stop>
+    ensures right { IfOk result (λ _. sum lengths.now ≡ length libs.now) }
+    ensures linked { IfOk result (IsLinked host.now (split_spec libs.now lengths.now)
+        room.old room.new) }
+    ensures stopped { IfErr result (StopsCall (StopsLink room.old host.now)
+        libs.now lengths.now) }
+    ensures untouched { OnErr result (room.new ≡ room.old) }
+{
+    let libs = split::<LIBRARIES_IN_PLACE>(alloc, libs, lengths)?;
     link_all(alloc, host, libs.as_slice(), room)
 }
 
@@ -82,10 +125,10 @@ pub fn link(
     ensures untouched { OnErr result (room.new ≡ room.old) }
 {
     if lengths.len() <= 1 {
-        link_with::<1>(alloc, host, libs, lengths, room)
+        link_one(alloc, host, libs, lengths, room)
     } else if lengths.len() <= FEW_LIBRARIES {
-        link_with::<FEW_LIBRARIES>(alloc, host, libs, lengths, room)
+        link_few(alloc, host, libs, lengths, room)
     } else {
-        link_with::<LIBRARIES_IN_PLACE>(alloc, host, libs, lengths, room)
+        link_many(alloc, host, libs, lengths, room)
     }
 }

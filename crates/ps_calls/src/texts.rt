@@ -40,17 +40,17 @@ fn map_all(alloc: Global, host: &[u8], libs: &[&[u8]], room: &mut [u8]) -> Resul
     }
 }
 
-/// Puts the map of a link in the room as `map` does, with so many libraries in place. A function by
-/// itself, so that a call takes no more of the stack than its libraries need.
+/// Puts the map of a link in the room as `map` does, with one library or none. A function by
+/// itself, so that it takes no more of the stack than one library needs.
 #[inline(never)]
-fn map_with<const N: usize>(
+fn map_one(
     alloc: Global,
     host: &[u8],
     libs: &[u8],
     lengths: &[usize],
     room: &mut [u8],
 ) -> Result<Done, Stop>
-    requires { length lengths.now ≤ LIBRARIES_IN_PLACE → length lengths.now ≤ N }
+    requires { length lengths.now ≤ 1 }
     ensures right { IfOk result (λ _. sum lengths.now ≡ length libs.now) }
     ensures accepted { IfOk result (λ _. NoneStands host.now (split_spec libs.now lengths.now)) }
     ensures text { IfOk result (IsText (map_of host.now (split_spec libs.now lengths.now))
@@ -59,7 +59,52 @@ fn map_with<const N: usize>(
         libs.now lengths.now) }
     ensures untouched { OnErr result (room.new ≡ room.old) }
 {
-    let libs = split::<N>(alloc, libs, lengths)?;
+    let libs = split::<1>(alloc, libs, lengths)?;
+    map_all(alloc, host, libs.as_slice(), room)
+}
+
+/// Puts the map of a link in the room as `map` does, with few libraries. A function by itself, so
+/// that it takes no more of the stack than few libraries need.
+#[inline(never)]
+fn map_few(
+    alloc: Global,
+    host: &[u8],
+    libs: &[u8],
+    lengths: &[usize],
+    room: &mut [u8],
+) -> Result<Done, Stop>
+    requires { length lengths.now ≤ FEW_LIBRARIES }
+    ensures right { IfOk result (λ _. sum lengths.now ≡ length libs.now) }
+    ensures accepted { IfOk result (λ _. NoneStands host.now (split_spec libs.now lengths.now)) }
+    ensures text { IfOk result (IsText (map_of host.now (split_spec libs.now lengths.now))
+        room.old room.new) }
+    ensures stopped { IfErr result (StopsCall (StopsMap room.old host.now)
+        libs.now lengths.now) }
+    ensures untouched { OnErr result (room.new ≡ room.old) }
+{
+    let libs = split::<FEW_LIBRARIES>(alloc, libs, lengths)?;
+    map_all(alloc, host, libs.as_slice(), room)
+}
+
+/// Puts the map of a link in the room as `map` does, with any number of libraries. A function by
+/// itself, so that only a link with many takes so much of the stack.
+#[inline(never)]
+fn map_many(
+    alloc: Global,
+    host: &[u8],
+    libs: &[u8],
+    lengths: &[usize],
+    room: &mut [u8],
+) -> Result<Done, Stop>
+    ensures right { IfOk result (λ _. sum lengths.now ≡ length libs.now) }
+    ensures accepted { IfOk result (λ _. NoneStands host.now (split_spec libs.now lengths.now)) }
+    ensures text { IfOk result (IsText (map_of host.now (split_spec libs.now lengths.now))
+        room.old room.new) }
+    ensures stopped { IfErr result (StopsCall (StopsMap room.old host.now)
+        libs.now lengths.now) }
+    ensures untouched { OnErr result (room.new ≡ room.old) }
+{
+    let libs = split::<LIBRARIES_IN_PLACE>(alloc, libs, lengths)?;
     map_all(alloc, host, libs.as_slice(), room)
 }
 
@@ -82,11 +127,11 @@ pub fn map(
     ensures untouched { OnErr result (room.new ≡ room.old) }
 {
     if lengths.len() <= 1 {
-        map_with::<1>(alloc, host, libs, lengths, room)
+        map_one(alloc, host, libs, lengths, room)
     } else if lengths.len() <= FEW_LIBRARIES {
-        map_with::<FEW_LIBRARIES>(alloc, host, libs, lengths, room)
+        map_few(alloc, host, libs, lengths, room)
     } else {
-        map_with::<LIBRARIES_IN_PLACE>(alloc, host, libs, lengths, room)
+        map_many(alloc, host, libs, lengths, room)
     }
 }
 
