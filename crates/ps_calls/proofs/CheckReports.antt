@@ -7,9 +7,9 @@ use Rattle.ps_resolve.specs.Sources.{contents}
 use Rattle.ps_report.specs.Reports.{IsReport}
 use Rattle.ps_report.specs.declared.verdict.Verdict.{Verdict}
 use Rattle.ps_calls.specs.Checks.{StopsReport}
-use Rattle.ps_calls.specs.Stops.{IsOnlyAbove}
-use Rattle.ps_calls.specs.declared.outcome.Stop.{Stop}
-use Rattle.ps_calls.specs.declared.outcome.Stop.TheVariants.{Refused, WrongLengths, NoMemory, TooSmall, WrongNames, NoSuchText}
+use Rattle.ps_calls.specs.NotDone.{IsOnlyAbove}
+use Rattle.ps_calls.specs.declared.outcome.NotDone.{NotDone}
+use Rattle.ps_calls.specs.declared.outcome.NotDone.TheVariants.{Refused, WrongLengths, NoMemory, TooSmall, WrongNames, NoSuchText}
 
 -- the name of the host, and those of the libraries, are all the names
 pub host_first : (names : List (Bor (List ℕ))) (d : Bor (List ℕ)) → 0 < length names
@@ -29,7 +29,7 @@ report_of names d host libs verdict warnings text bytes some same is =
 -- the text of a report that is longer than the room
 pub long_report : {X : Type 0} (room : List ℕ) (names : List (List ℕ)) (host : List ℕ)
     (libs : List (List ℕ)) (verdict : Verdict) (warnings : ℕ) (text : List ℕ)
-    (r : Result X Stop) → IsReport names host libs verdict warnings text
+    (r : Result X NotDone) → IsReport names host libs verdict warnings text
     → IfErr r (IsOnlyAbove text room) → IfErr r (StopsReport room names host libs)
 long_report room names host libs verdict warnings text (Ok x) is h = tt
 long_report room names host libs verdict warnings text (Err (Refused r)) is h = h

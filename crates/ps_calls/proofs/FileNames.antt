@@ -7,8 +7,8 @@ use Rattle.std.proofs.lemmas.List.Elements.{All-get_or, All-map}
 use Rattle.ps_resolve.specs.Sources.{contents}
 use Rattle.ps_calls.specs.Checks.{IsMisnamed, IsUnreadable}
 use Rattle.ps_calls.specs.Libraries.{split}
-use Rattle.ps_calls.specs.declared.outcome.Stop.{Stop}
-use Rattle.ps_calls.specs.declared.outcome.Stop.TheVariants.{Refused, WrongLengths, NoMemory, TooSmall, WrongNames, NoSuchText}
+use Rattle.ps_calls.specs.declared.outcome.NotDone.{NotDone}
+use Rattle.ps_calls.specs.declared.outcome.NotDone.TheVariants.{Refused, WrongLengths, NoMemory, TooSmall, WrongNames, NoSuchText}
 
 -- there is a part for each length
 length-split : (bytes ns : List ℕ) → length (split bytes ns) ≡ length ns
@@ -50,7 +50,7 @@ all_texts names i end all = All-map IsUtf8 (λ (name : Bor (List ℕ)). name.now
     (take_all i names end) all)
 
 pub misnamed : {X : Type 0} (names lengths : List ℕ) (parts : List (Bor (List ℕ)))
-    (r : Result X Stop) → sum lengths ≡ length names → contents parts ≡ split names lengths
+    (r : Result X NotDone) → sum lengths ≡ length names → contents parts ≡ split names lengths
     → IfErr r (IsUnreadable (contents parts)) → IfErr r (IsMisnamed names lengths)
 misnamed names lengths parts (Ok x) whole e h = tt
 misnamed names lengths parts (Err (Refused r)) whole e h = h

@@ -1,5 +1,5 @@
 pub mod Refusals
 pub mod CheckReports
 pub mod FileNames
-pub mod Listed
+pub mod FilesListed
 pub mod PutTexts

@@ -12,13 +12,13 @@ use Rattle.ps_calls.specs.Dones.{IsText}
 use Rattle.ps_calls.specs.Kinds.{needs_names}
 use Rattle.ps_calls.specs.Libraries.{split}
 use Rattle.ps_calls.specs.Printed.{HasInputs, IsPrinted, IsPrintedLooks, IsPrintedReport, is_json, IsPut, IsTextOf, LacksNames, StopsKind, StopsMaking, StopsPutting}
-use Rattle.ps_calls.specs.Stops.{IsOnlyAbove, IsUnsplit}
+use Rattle.ps_calls.specs.NotDone.{IsOnlyAbove, IsUnsplit}
 use Rattle.ps_calls.specs.declared.kinds.TextForm.{TextForm}
 use Rattle.ps_calls.specs.declared.kinds.TextKind.{TextKind}
 use Rattle.ps_calls.specs.declared.kinds.TextKind.TheVariants as kind
 use Rattle.ps_calls.specs.declared.outcome.Done.{Done}
-use Rattle.ps_calls.specs.declared.outcome.Stop.{Stop}
-use Rattle.ps_calls.specs.declared.outcome.Stop.TheVariants.{Refused, WrongLengths, NoMemory, TooSmall, WrongNames, NoSuchText}
+use Rattle.ps_calls.specs.declared.outcome.NotDone.{NotDone}
+use Rattle.ps_calls.specs.declared.outcome.NotDone.TheVariants.{Refused, WrongLengths, NoMemory, TooSmall, WrongNames, NoSuchText}
 
 -- a text with other names, where it looks at none
 pub renamed : (k : TextKind) (ns ms : List (List ℕ)) (host : List ℕ) (libs : List (List ℕ))
@@ -99,13 +99,13 @@ looks_printed how names host libs verdict warnings report (Err error) is made = 
 module _ (k : TextKind) (names : List (List ℕ)) (host : List ℕ) (libs : List (List ℕ))
     (old : List ℕ) where
   -- a text that was made is put
-  pub put_text : (new text : List ℕ) (r : Result Done Stop) → IsTextOf k names host libs text
+  pub put_text : (new text : List ℕ) (r : Result Done NotDone) → IsTextOf k names host libs text
       → IfOk r (IsText text old new) → IfOk r (IsPut k names host libs old new)
   put_text new text (Ok d) is h = (text, is, h.0, h.1)
   put_text new text (Err stop) is h = tt
 
   -- or is too long
-  pub long_text : (text : List ℕ) (r : Result Done Stop) → IsTextOf k names host libs text
+  pub long_text : (text : List ℕ) (r : Result Done NotDone) → IsTextOf k names host libs text
       → IfErr r (IsOnlyAbove text old) → IfErr r (StopsPutting k names host libs old)
   long_text text (Ok d) is h = tt
   long_text text (Err (Refused r)) is h = absurd h
@@ -116,7 +116,7 @@ module _ (k : TextKind) (names : List (List ℕ)) (host : List ℕ) (libs : List
   long_text text (Err (TooSmall size)) is h = (text, is, h)
 
   -- or was not made
-  pub not_made : (stop : Stop) → StopsMaking k host libs stop
+  pub not_made : (stop : NotDone) → StopsMaking k host libs stop
       → StopsPutting k names host libs old stop
   not_made (Refused r) h = h
   not_made WrongLengths h = h
@@ -127,7 +127,7 @@ module _ (k : TextKind) (names : List (List ℕ)) (host : List ℕ) (libs : List
 
 module _ (k : TextKind) (host libs lengths names name_lengths old : List ℕ) where
   -- the libraries are not taken apart
-  pub unsplit_kind : (stop : Stop) → IsUnsplit libs lengths stop
+  pub unsplit_kind : (stop : NotDone) → IsUnsplit libs lengths stop
       → StopsKind k old host libs lengths names name_lengths stop
   unsplit_kind (Refused r) h = absurd h
   unsplit_kind WrongLengths h = λ right. h right.0
@@ -137,7 +137,7 @@ module _ (k : TextKind) (host libs lengths names name_lengths old : List ℕ) wh
   unsplit_kind (TooSmall size) h = absurd h
 
   -- the names are not
-  pub unnamed_kind : (stop : Stop) → sum lengths ≡ length libs
+  pub unnamed_kind : (stop : NotDone) → sum lengths ≡ length libs
       → LacksNames (needs_names k) (length lengths) names name_lengths stop
       → StopsKind k old host libs lengths names name_lengths stop
   unnamed_kind (Refused r) right h = absurd h
@@ -148,7 +148,7 @@ module _ (k : TextKind) (host libs lengths names name_lengths old : List ℕ) wh
   unnamed_kind (TooSmall size) right h = absurd h
 
   -- a text of files with these names is put, or why it is not
-  pub printed_kind : (ns : List (List ℕ)) (new : List ℕ) (r : Result Done Stop)
+  pub printed_kind : (ns : List (List ℕ)) (new : List ℕ) (r : Result Done NotDone)
       → (needs_names k ≡ true → ns ≡ split names name_lengths)
       → HasInputs (needs_names k) libs lengths names name_lengths
       → IfOk r (IsPut k ns host (split libs lengths) old new)
@@ -159,7 +159,7 @@ module _ (k : TextKind) (host libs lengths names name_lengths old : List ℕ) wh
   )
   printed_kind ns new (Err stop) same inputs h = tt
 
-  pub stopped_kind : (ns : List (List ℕ)) (r : Result Done Stop)
+  pub stopped_kind : (ns : List (List ℕ)) (r : Result Done NotDone)
       → (needs_names k ≡ true → ns ≡ split names name_lengths)
       → HasInputs (needs_names k) libs lengths names name_lengths
       → IfErr r (StopsPutting k ns host (split libs lengths) old)

@@ -2,7 +2,7 @@
 -- Source: this project's profile.
 use Rattle.std.specs.Prelude.{◌≡◌, ℕ, ◌<◌, Bool, List, [], length, Option, Some, None, Result, IfErr, IfOk}
 use Rattle.ps_named.specs.FaultNames.{fault_name}
-use Rattle.ps_resolve.specs.Parts.{HasItsParts}
+use Rattle.ps_resolve.specs.FaultParts.{HasItsParts}
 use Rattle.ps_resolve.specs.Sources.{order_of}
 use Rattle.ps_words.specs.declared.fault.Fault.{Fault}
 use Rattle.ps_resolve.specs.Standing.{IsFirst, NoneStands}
@@ -20,7 +20,7 @@ use Rattle.ps_calls.specs.declared.check_answer.CheckAnswer.{CheckAnswer}
 use Rattle.ps_calls.specs.declared.checking.Found.{Found}
 use Rattle.ps_calls.specs.declared.kinds.TextKind.{TextKind}
 use Rattle.ps_calls.specs.declared.outcome.Done.{Done}
-use Rattle.ps_calls.specs.declared.outcome.Stop.{Stop}
+use Rattle.ps_calls.specs.declared.outcome.NotDone.{NotDone}
 
 -- the room begins with the linked file, and the answer has its summary and its length
 pub record Links (host : List ℕ) (libs : List (List ℕ)) (old new : List ℕ)
@@ -97,7 +97,7 @@ pub record ReportNeeds (names : List (List ℕ)) (host : List ℕ) (libs : List 
 -- room begins with the text, or which says why it does not.
 pub record IsAnswered (k : Option TextKind) (host libs lengths names name_lengths old new : List ℕ)
     (answer : Answer) : Type 0 where
-  pub outcome : Result Done Stop
+  pub outcome : Result Done NotDone
   pub told : answer ≡ answer_of outcome
   pub printed : IfOk outcome (IsPrinted k host libs lengths names name_lengths old new)
   pub stopped : IfErr outcome (StopsText k old host libs lengths names name_lengths)

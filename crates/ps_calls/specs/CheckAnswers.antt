@@ -8,8 +8,8 @@ use Rattle.ps_calls.specs.declared.answer.Answer.{Answer}
 use Rattle.ps_calls.specs.declared.answer.TheConstants.{DONE, WRONG_LENGTHS, NO_MEMORY, TOO_SMALL, WRONG_NAMES}
 use Rattle.ps_calls.specs.declared.checking.Found.{Found}
 use Rattle.ps_calls.specs.declared.check_answer.CheckAnswer.{CheckAnswer}
-use Rattle.ps_calls.specs.declared.outcome.Stop.{Stop}
-use Rattle.ps_calls.specs.declared.outcome.Stop.TheVariants.{Refused, WrongLengths, NoMemory, TooSmall, WrongNames, NoSuchText}
+use Rattle.ps_calls.specs.declared.outcome.NotDone.{NotDone}
+use Rattle.ps_calls.specs.declared.outcome.NotDone.TheVariants.{Refused, WrongLengths, NoMemory, TooSmall, WrongNames, NoSuchText}
 
 -- a status, and nothing else
 abbrev pub bare_check : ℕ → CheckAnswer
@@ -44,7 +44,7 @@ abbrev pub small_check_answer : ℕ → CheckAnswer
 small_check_answer size = record (bare_check TOO_SMALL) { needed = size }
 
 -- why none was written
-abbrev pub check_stop_answer : Stop → CheckAnswer
+abbrev pub check_stop_answer : NotDone → CheckAnswer
 check_stop_answer (Refused r) = bare_check WRONG_LENGTHS
 check_stop_answer WrongLengths = bare_check WRONG_LENGTHS
 check_stop_answer WrongNames = bare_check WRONG_NAMES
@@ -53,7 +53,7 @@ check_stop_answer NoMemory = bare_check NO_MEMORY
 check_stop_answer (TooSmall size) = small_check_answer size
 
 -- the answer of a check
-abbrev pub check_answer_of : Result Found Stop → CheckAnswer
+abbrev pub check_answer_of : Result Found NotDone → CheckAnswer
 check_answer_of (Ok found) = found_answer found
 check_answer_of (Err stop) = check_stop_answer stop
 

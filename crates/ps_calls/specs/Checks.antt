@@ -7,8 +7,8 @@ use Rattle.ps_report.specs.declared.verdict.Verdict.{Verdict}
 use Rattle.ps_calls.specs.Libraries.{split}
 use Rattle.ps_calls.specs.Rooms.{RoomBeginsWith}
 use Rattle.ps_calls.specs.declared.checking.Found.{Found}
-use Rattle.ps_calls.specs.declared.outcome.Stop.{Stop}
-use Rattle.ps_calls.specs.declared.outcome.Stop.TheVariants.{Refused, WrongLengths, NoMemory, TooSmall, WrongNames, NoSuchText}
+use Rattle.ps_calls.specs.declared.outcome.NotDone.{NotDone}
+use Rattle.ps_calls.specs.declared.outcome.NotDone.TheVariants.{Refused, WrongLengths, NoMemory, TooSmall, WrongNames, NoSuchText}
 
 -- names of these lengths add up to what is given, and each is UTF-8
 abbrev pub AreNames : List ℕ → List ℕ → Type 0
@@ -48,7 +48,7 @@ IsLongReport room names host libs size =
     × (size ≡ length text) × (length room < size)
 
 -- no report of these files is put into this room
-abbrev pub StopsReport : List ℕ → List (List ℕ) → List ℕ → List (List ℕ) → Stop
+abbrev pub StopsReport : List ℕ → List (List ℕ) → List ℕ → List (List ℕ) → NotDone
     → Type 0
 StopsReport room names host libs (Refused r) = ⊥
 StopsReport room names host libs WrongLengths = ⊥
@@ -59,7 +59,7 @@ StopsReport room names host libs (TooSmall size) = IsLongReport room names host 
 
 -- the same of a call whose names and libraries are one after another
 abbrev pub StopsCheck : List ℕ → List ℕ → List ℕ → List ℕ → List ℕ → List ℕ
-    → Stop → Type 0
+    → NotDone → Type 0
 StopsCheck room host libs lengths names name_lengths (Refused r) = ⊥
 StopsCheck room host libs lengths names name_lengths WrongLengths =
     (HasItsLengths libs lengths names name_lengths → ⊥)
@@ -73,7 +73,7 @@ StopsCheck room host libs lengths names name_lengths (TooSmall size) =
     × IsLongReport room (split names name_lengths) host (split libs lengths) size
 
 -- why names are no texts
-abbrev pub IsUnreadable : List (List ℕ) → Stop → Type 0
+abbrev pub IsUnreadable : List (List ℕ) → NotDone → Type 0
 IsUnreadable names (Refused r) = ⊥
 IsUnreadable names WrongLengths = ⊥
 IsUnreadable names WrongNames = (All IsUtf8 names → ⊥)
@@ -82,7 +82,7 @@ IsUnreadable names NoMemory = ⊤
 IsUnreadable names (TooSmall size) = ⊥
 
 -- why names that are one after another are not taken apart
-abbrev pub IsMisnamed : List ℕ → List ℕ → Stop → Type 0
+abbrev pub IsMisnamed : List ℕ → List ℕ → NotDone → Type 0
 IsMisnamed names lengths (Refused r) = ⊥
 IsMisnamed names lengths WrongLengths = (sum lengths ≡ length names → ⊥)
 IsMisnamed names lengths WrongNames =

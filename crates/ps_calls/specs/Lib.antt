@@ -2,7 +2,7 @@ pub mod Libraries
 pub mod Rooms
 pub mod Answers
 pub mod Names
-pub mod Stops
+pub mod NotDone
 pub mod Dones
 pub mod Outcomes
 pub mod Checks

@@ -6,8 +6,8 @@ use Rattle.ps_calls.specs.declared.answer.TheConstants.{WRONG_LENGTHS, NO_MEMORY
 use Rattle.ps_calls.specs.declared.answer.Answer.{Answer}
 use Rattle.ps_calls.specs.declared.outcome.Done.{Done}
 use Rattle.ps_calls.specs.declared.outcome.Done.TheVariants.{Linked, Text}
-use Rattle.ps_calls.specs.declared.outcome.Stop.{Stop}
-use Rattle.ps_calls.specs.declared.outcome.Stop.TheVariants.{Refused, WrongLengths, NoMemory, TooSmall, WrongNames, NoSuchText}
+use Rattle.ps_calls.specs.declared.outcome.NotDone.{NotDone}
+use Rattle.ps_calls.specs.declared.outcome.NotDone.TheVariants.{Refused, WrongLengths, NoMemory, TooSmall, WrongNames, NoSuchText}
 
 -- the answer of a call that was done
 abbrev pub done_answer : Done → Answer
@@ -15,7 +15,7 @@ done_answer (Linked summary size) = linked_answer summary size
 done_answer (Text size) = text_answer size
 
 -- the answer of a call that was not done
-abbrev pub stop_answer : Stop → Answer
+abbrev pub stop_answer : NotDone → Answer
 stop_answer (Refused r) = refusal r.fault r.name
 stop_answer WrongLengths = bare WRONG_LENGTHS
 stop_answer WrongNames = bare WRONG_NAMES
@@ -24,6 +24,6 @@ stop_answer NoMemory = bare NO_MEMORY
 stop_answer (TooSmall size) = small_answer size
 
 -- the answer of a call
-abbrev pub answer_of : Result Done Stop → Answer
+abbrev pub answer_of : Result Done NotDone → Answer
 answer_of (Ok done) = done_answer done
 answer_of (Err stop) = stop_answer stop

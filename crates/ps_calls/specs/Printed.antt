@@ -22,7 +22,7 @@ use Rattle.ps_report.specs.declared.verdict.Verdict.{Verdict}
 use Rattle.ps_calls.specs.Kinds.{needs_names}
 use Rattle.ps_calls.specs.Libraries.{split}
 use Rattle.ps_calls.specs.Rooms.{RoomBeginsWith}
-use Rattle.ps_calls.specs.Stops.{IsAbove, IsRefusedFor, IsUnshownFor}
+use Rattle.ps_calls.specs.NotDone.{IsAbove, IsRefusedFor, IsUnshownFor}
 use Rattle.ps_calls.specs.declared.kinds.ListForm.{ListForm}
 use Rattle.ps_calls.specs.declared.kinds.ListForm.TheVariants as list
 use Rattle.ps_calls.specs.declared.kinds.TextForm.{TextForm}
@@ -32,8 +32,8 @@ use Rattle.ps_calls.specs.declared.kinds.TextKind.TheVariants as kind
 use Rattle.ps_calls.specs.declared.outcome.Done.{Done}
 use Rattle.ps_calls.specs.declared.outcome.Done.TheVariants as done
 use Rattle.ps_calls.specs.declared.outcome.Refusal.{Refusal}
-use Rattle.ps_calls.specs.declared.outcome.Stop.{Stop}
-use Rattle.ps_calls.specs.declared.outcome.Stop.TheVariants.{Refused, WrongLengths, NoMemory, TooSmall, WrongNames, NoSuchText}
+use Rattle.ps_calls.specs.declared.outcome.NotDone.{NotDone}
+use Rattle.ps_calls.specs.declared.outcome.NotDone.TheVariants.{Refused, WrongLengths, NoMemory, TooSmall, WrongNames, NoSuchText}
 
 -- what is listed of a file with this name and this phrase for what it is; of a document it is an
 -- item, the first or another
@@ -129,7 +129,7 @@ CanRefuse kind.Had host libs r =
     (why : Reason) × (opened_alone host ≡ Err why) × (r ≡ unopened why)
 
 -- why it is not made
-abbrev pub StopsMaking : TextKind → List ℕ → List (List ℕ) → Stop → Type 0
+abbrev pub StopsMaking : TextKind → List ℕ → List (List ℕ) → NotDone → Type 0
 StopsMaking k host libs (Refused r) = CanRefuse k host libs r
 StopsMaking k host libs WrongLengths = ⊥
 StopsMaking k host libs WrongNames = ⊥
@@ -150,7 +150,7 @@ IsLong k names host libs room size = (text : List ℕ) × IsTextOf k names host 
     × IsAbove size text room
 
 -- why it is not put into this room
-abbrev pub StopsPutting : TextKind → List (List ℕ) → List ℕ → List (List ℕ) → List ℕ → Stop
+abbrev pub StopsPutting : TextKind → List (List ℕ) → List ℕ → List (List ℕ) → List ℕ → NotDone
     → Type 0
 StopsPutting k names host libs room (Refused r) = CanRefuse k host libs r
 StopsPutting k names host libs room WrongLengths = ⊥
@@ -172,7 +172,7 @@ HasNames true names name_lengths = All IsUtf8 (split names name_lengths)
 HasNames false names name_lengths = ⊤
 
 -- why there are no names for it
-abbrev pub LacksNames : Bool → ℕ → List ℕ → List ℕ → Stop → Type 0
+abbrev pub LacksNames : Bool → ℕ → List ℕ → List ℕ → NotDone → Type 0
 LacksNames named count names name_lengths (Refused r) = ⊥
 LacksNames named count names name_lengths WrongLengths =
     (HasNameLengths named count names name_lengths → ⊥)
@@ -194,7 +194,7 @@ HasInputs named libs lengths names name_lengths =
 
 -- why a call for it leaves the room as it was
 abbrev pub StopsKind : TextKind → List ℕ → List ℕ → List ℕ → List ℕ → List ℕ → List ℕ
-    → Stop → Type 0
+    → NotDone → Type 0
 StopsKind k room host libs lengths names name_lengths (Refused r) =
     HasInputs (needs_names k) libs lengths names name_lengths
     × CanRefuse k host (split libs lengths) r
@@ -211,7 +211,7 @@ StopsKind k room host libs lengths names name_lengths (TooSmall size) =
 
 -- the same of a text that there may not be
 abbrev pub StopsText : Option TextKind → List ℕ → List ℕ → List ℕ → List ℕ → List ℕ
-    → List ℕ → Stop → Type 0
+    → List ℕ → NotDone → Type 0
 StopsText None room host libs lengths names name_lengths stop = stop ≡ NoSuchText
 StopsText (Some k) room host libs lengths names name_lengths stop =
     StopsKind k room host libs lengths names name_lengths stop

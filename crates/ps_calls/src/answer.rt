@@ -1,7 +1,7 @@
 //! What a call answers.
 ghost use Rattle.std.specs.Prelude.{◌≡◌};
 
-use crate::outcome::{Done, Stop};
+use crate::outcome::{Done, NotDone};
 use crate::reasons::{kind_of, reason_of};
 use ps_words::{Fault, Name};
 
@@ -115,7 +115,7 @@ impl Answer {
 
     /// The answer of a call: its status, and what goes with that status.
     /// Source: this project's profile.
-    pub fn of(outcome: Result<Done, Stop>) -> Answer
+    pub fn of(outcome: Result<Done, NotDone>) -> Answer
         ensures { result ≡ answer_of outcome }
     {
         match outcome {
@@ -132,12 +132,12 @@ impl Answer {
                 needed: size,
                 ..Answer::bare(DONE)
             },
-            Err(Stop::Refused(refusal)) => Answer::refusal(refusal.fault, refusal.name),
-            Err(Stop::WrongLengths) => Answer::bare(WRONG_LENGTHS),
-            Err(Stop::WrongNames) => Answer::bare(WRONG_NAMES),
-            Err(Stop::NoSuchText) => Answer::bare(WRONG_TEXT),
-            Err(Stop::NoMemory) => Answer::bare(NO_MEMORY),
-            Err(Stop::TooSmall(size)) => Answer {
+            Err(NotDone::Refused(refusal)) => Answer::refusal(refusal.fault, refusal.name),
+            Err(NotDone::WrongLengths) => Answer::bare(WRONG_LENGTHS),
+            Err(NotDone::WrongNames) => Answer::bare(WRONG_NAMES),
+            Err(NotDone::NoSuchText) => Answer::bare(WRONG_TEXT),
+            Err(NotDone::NoMemory) => Answer::bare(NO_MEMORY),
+            Err(NotDone::TooSmall(size)) => Answer {
                 needed: size,
                 ..Answer::bare(TOO_SMALL)
             },

@@ -4,7 +4,7 @@ ghost use Rattle.ps_calls.specs.CheckAnswers.{verdict_answer as verdict_answer_s
 
 use crate::answer::{Answer, DONE, NO_MEMORY, TOO_SMALL, WRONG_LENGTHS, WRONG_NAMES};
 use crate::checking::Found;
-use crate::outcome::Stop;
+use crate::outcome::NotDone;
 use ps_report::Verdict;
 use ps_words::Name;
 
@@ -53,7 +53,7 @@ impl CheckAnswer {
 
     /// The answer of a check: its status, and what goes with that status.
     /// Source: this project's profile.
-    pub fn of(outcome: Result<Found, Stop>) -> CheckAnswer
+    pub fn of(outcome: Result<Found, NotDone>) -> CheckAnswer
         ensures { result ≡ check_answer_of outcome }
     {
         match outcome {
@@ -65,14 +65,14 @@ impl CheckAnswer {
                 verdict: verdict_answer(found.verdict, found.name),
                 ..CheckAnswer::bare(DONE)
             },
-            Err(Stop::TooSmall(size)) => CheckAnswer {
+            Err(NotDone::TooSmall(size)) => CheckAnswer {
                 needed: size,
                 ..CheckAnswer::bare(TOO_SMALL)
             },
-            Err(Stop::NoMemory) => CheckAnswer::bare(NO_MEMORY),
-            Err(Stop::WrongNames) => CheckAnswer::bare(WRONG_NAMES),
+            Err(NotDone::NoMemory) => CheckAnswer::bare(NO_MEMORY),
+            Err(NotDone::WrongNames) => CheckAnswer::bare(WRONG_NAMES),
             // A check refuses no files: what it finds has the fault. And it is a text that there is.
-            Err(Stop::WrongLengths | Stop::NoSuchText | Stop::Refused(_)) => {
+            Err(NotDone::WrongLengths | NotDone::NoSuchText | NotDone::Refused(_)) => {
                 CheckAnswer::bare(WRONG_LENGTHS)
             }
         }

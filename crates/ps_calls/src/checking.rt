@@ -7,7 +7,7 @@ ghost use Rattle.ps_calls.specs.Checks.{IsFound, IsCheckable, StopsCheck, StopsR
 
 use crate::file_names::file_names;
 use crate::libraries::{LIBRARIES_IN_PLACE, split};
-use crate::outcome::Stop;
+use crate::outcome::NotDone;
 use crate::texts::put;
 use ps_report::{Report, Verdict};
 use ps_words::Name;
@@ -63,7 +63,7 @@ fn check_all(
     names: &[&str],
     strict: bool,
     room: &mut [u8],
-) -> Result<Found, Stop>
+) -> Result<Found, NotDone>
     requires { 0 < length names.now }
     ensures found { IfOk result (IsFound (contents names.now) host.now (contents libs.now) strict
         room.old room.new) }
@@ -72,7 +72,7 @@ fn check_all(
     ensures untouched { OnErr result (room.new ≡ room.old) }
 {
     let Ok(report) = ps_report::check(alloc, names[0], &names[1..], host, libs) else {
-        return Err(Stop::NoMemory);
+        return Err(NotDone::NoMemory);
     };
     put(report.text.as_bytes(), room)?;
     Ok(found_in(&report, strict))
@@ -99,7 +99,7 @@ pub fn check(
     name_lengths: &[usize],
     strict: bool,
     room: &mut [u8],
-) -> Result<Found, Stop>
+) -> Result<Found, NotDone>
     ensures right { IfOk result (λ _. IsCheckable libs.now lengths.now names.now name_lengths.now) }
     ensures found { IfOk result (IsFound (split_spec names.now name_lengths.now) host.now
         (split_spec libs.now lengths.now) strict room.old room.new) }
@@ -108,7 +108,7 @@ pub fn check(
     ensures untouched { OnErr result (room.new ≡ room.old) }
 {
     if !is_one_each(name_lengths.len(), lengths.len()) {
-        return Err(Stop::WrongLengths);
+        return Err(NotDone::WrongLengths);
     }
     let libs = split::<LIBRARIES_IN_PLACE>(alloc, libs, lengths)?;
     let names = file_names(alloc, names, name_lengths)?;

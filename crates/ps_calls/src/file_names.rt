@@ -6,11 +6,11 @@ ghost use Rattle.ps_calls.specs.Checks.{IsMisnamed, IsUnreadable};
 ghost use Rattle.ps_calls.specs.Libraries.{split as split_spec};
 
 use crate::libraries::{LIBRARIES_IN_PLACE, split};
-use crate::outcome::Stop;
+use crate::outcome::NotDone;
 use std::alloc::Global;
 
 /// These names as text, one for one; refuses `WrongNames` where one of them is no UTF-8.
-fn texts<'a>(alloc: Global, names: &[&'a [u8]]) -> Result<Vec<&'a str>, Stop>
+fn texts<'a>(alloc: Global, names: &[&'a [u8]]) -> Result<Vec<&'a str>, NotDone>
     ensures same { IfOk result (λ texts. contents texts.items ≡ contents names.now) }
     ensures utf8 { IfOk result (λ _. All IsUtf8 (contents names.now)) }
     ensures err { IfErr result (IsUnreadable (contents names.now)) }
@@ -18,10 +18,10 @@ fn texts<'a>(alloc: Global, names: &[&'a [u8]]) -> Result<Vec<&'a str>, Stop>
     let mut texts = Vec::new(alloc);
     for name in names {
         let Ok(text) = str::from_utf8(name) else {
-            return Err(Stop::WrongNames);
+            return Err(NotDone::WrongNames);
         };
         if texts.push(text).is_err() {
-            return Err(Stop::NoMemory);
+            return Err(NotDone::NoMemory);
         }
     }
     Ok(texts)
@@ -32,7 +32,7 @@ pub(crate) fn file_names<'a>(
     alloc: Global,
     names: &'a [u8],
     lengths: &[usize],
-) -> Result<Vec<&'a str>, Stop>
+) -> Result<Vec<&'a str>, NotDone>
     ensures cut { IfOk result (λ texts. contents texts.items
         ≡ split_spec names.now lengths.now) }
     ensures right { IfOk result (λ _. sum lengths.now ≡ length names.now) }

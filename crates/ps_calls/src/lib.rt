@@ -38,7 +38,7 @@ pub use kinds::{
 pub use libraries::LIBRARIES_IN_PLACE;
 pub use linking::{LINKED_MAX, link};
 pub use names::{RELEASE_NUMBER, put_fault_name, put_release, put_status_text};
-pub use outcome::{Done, Refusal, Stop};
+pub use outcome::{Done, NotDone, Refusal};
 pub use printing::text;
 pub use refusal_law::refusals_tell_their_faults;
 pub use sentences::{SENTENCE_MAX, put_fault_meaning, put_fault_remedy};

@@ -2,9 +2,9 @@
 ghost use Rattle.std.specs.Prelude.{◌≡◌, ◌≤◌, ◌<◌, ◌↔◌, length, sum, IfOk, IfErr, IsOk, IsTrue, OnErr};
 ghost use Rattle.ps_resolve.specs.Sources.{contents};
 ghost use Rattle.ps_calls.specs.Libraries.{split as split_spec};
-ghost use Rattle.ps_calls.specs.Stops.{IsUnsplit};
+ghost use Rattle.ps_calls.specs.NotDone.{IsUnsplit};
 
-use crate::outcome::Stop;
+use crate::outcome::NotDone;
 use smallvec::SmallVec;
 use std::alloc::{AllocError, Global};
 
@@ -60,7 +60,7 @@ pub(crate) fn split<'a, const N: usize>(
     alloc: Global,
     libs: &'a [u8],
     lengths: &[usize],
-) -> Result<Libraries<'a, N>, Stop>
+) -> Result<Libraries<'a, N>, NotDone>
     requires { length lengths.now ≤ LIBRARIES_IN_PLACE → length lengths.now ≤ N }
     ensures ok { IfOk result (λ views. contents views.items
         ≡ split_spec libs.now lengths.now) }
@@ -68,10 +68,10 @@ pub(crate) fn split<'a, const N: usize>(
     ensures err { IfErr result (IsUnsplit libs.now lengths.now) }
 {
     if !add_up(lengths, libs.len()) {
-        return Err(Stop::WrongLengths);
+        return Err(NotDone::WrongLengths);
     }
     match parts(alloc, libs, lengths) {
         Ok(parts) => Ok(parts),
-        Err(_) => Err(Stop::NoMemory),
+        Err(_) => Err(NotDone::NoMemory),
     }
 }

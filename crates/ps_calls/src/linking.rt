@@ -3,10 +3,10 @@ ghost use Rattle.std.specs.Prelude.{◌≡◌, ◌≤◌, length, sum, IfOk, IfE
 ghost use Rattle.ps_resolve.specs.Sources.{contents};
 ghost use Rattle.ps_calls.specs.Libraries.{split as split_spec};
 ghost use Rattle.ps_calls.specs.Dones.{IsLinked};
-ghost use Rattle.ps_calls.specs.Stops.{StopsCall, StopsLink};
+ghost use Rattle.ps_calls.specs.NotDone.{StopsCall, StopsLink};
 
 use crate::libraries::{FEW_LIBRARIES, LIBRARIES_IN_PLACE, split};
-use crate::outcome::{Done, Stop, stop_for};
+use crate::outcome::{Done, NotDone, not_done_for};
 use crate::room::fill;
 use ps_linkfile::{MAX_FILE_BLOCKS, prepare};
 use ps_words::BLOCK_SIZE;
@@ -17,19 +17,19 @@ use std::alloc::Global;
 pub const LINKED_MAX: usize = BLOCK_SIZE * MAX_FILE_BLOCKS;
 
 /// Links a host and these libraries into the room.
-fn link_all(alloc: Global, host: &[u8], libs: &[&[u8]], room: &mut [u8]) -> Result<Done, Stop>
+fn link_all(alloc: Global, host: &[u8], libs: &[&[u8]], room: &mut [u8]) -> Result<Done, NotDone>
     ensures linked { IfOk result (IsLinked host.now (contents libs.now) room.old room.new) }
     ensures stopped { IfErr result (StopsLink room.old host.now (contents libs.now)) }
     ensures untouched { OnErr result (room.new ≡ room.old) }
 {
     let linked = match prepare(alloc, host, libs) {
         Ok(linked) => linked,
-        Err(error) => return Err(stop_for(host, libs, error)),
+        Err(error) => return Err(not_done_for(host, libs, error)),
     };
     let summary = linked.summary();
     let size = BLOCK_SIZE * summary.blocks;
     if room.len() < size {
-        return Err(Stop::TooSmall(size));
+        return Err(NotDone::TooSmall(size));
     }
     fill(&linked, &mut room[..size]);
     Ok(Done::Linked { summary, size })
@@ -44,7 +44,7 @@ fn link_one(
     libs: &[u8],
     lengths: &[usize],
     room: &mut [u8],
-) -> Result<Done, Stop>
+) -> Result<Done, NotDone>
     requires { length lengths.now ≤ 1 }
     ensures right { IfOk result (λ _. sum lengths.now ≡ length libs.now) }
     ensures linked { IfOk result (IsLinked host.now (split_spec libs.now lengths.now)
@@ -66,7 +66,7 @@ fn link_few(
     libs: &[u8],
     lengths: &[usize],
     room: &mut [u8],
-) -> Result<Done, Stop>
+) -> Result<Done, NotDone>
     requires { length lengths.now ≤ FEW_LIBRARIES }
     ensures right { IfOk result (λ _. sum lengths.now ≡ length libs.now) }
     ensures linked { IfOk result (IsLinked host.now (split_spec libs.now lengths.now)
@@ -88,7 +88,7 @@ fn link_many(
     libs: &[u8],
     lengths: &[usize],
     room: &mut [u8],
-) -> Result<Done, Stop>
+) -> Result<Done, NotDone>
     ensures right { IfOk result (λ _. sum lengths.now ≡ length libs.now) }
     ensures linked { IfOk result (IsLinked host.now (split_spec libs.now lengths.now)
         room.old room.new) }
@@ -116,7 +116,7 @@ pub fn link(
     libs: &[u8],
     lengths: &[usize],
     room: &mut [u8],
-) -> Result<Done, Stop>
+) -> Result<Done, NotDone>
     ensures right { IfOk result (λ _. sum lengths.now ≡ length libs.now) }
     ensures linked { IfOk result (IsLinked host.now (split_spec libs.now lengths.now)
         room.old room.new) }

@@ -6,12 +6,12 @@ ghost use Rattle.ps_report.specs.Reports.{IsPrintedText};
 ghost use Rattle.ps_resolve.specs.Sources.{contents};
 ghost use Rattle.ps_calls.specs.Printed.{IsPrintedReport, IsTextOf, StopsMaking, is_json, unopened as unopened_spec};
 ghost use Rattle.ps_calls.specs.declared.kinds.TextKind.TheVariants.{Had, Map, References, Show, Wanted};
-ghost use Rattle.ps_calls.specs.declared.outcome.Stop.TheVariants.{NoMemory};
+ghost use Rattle.ps_calls.specs.declared.outcome.NotDone.TheVariants.{NoMemory};
 
 use crate::kinds::{TextForm, TextKind};
 use crate::lists::list_files;
 use crate::looks::make_looks;
-use crate::outcome::{Refusal, Stop, stop_for};
+use crate::outcome::{NotDone, Refusal, not_done_for};
 use ps_codefile::Dict;
 use ps_linkfile::{
     Counts, Linked, ReferenceMap, map_text, prepare, prepare_references, show_text, write_show_json,
@@ -59,18 +59,18 @@ fn reference_document(alloc: Global, map: &ReferenceMap<'_>) -> Result<Vec<u8>, 
 }
 
 /// A text that was made, or that memory was refused.
-fn if_memory(made: Result<Vec<u8>, AllocError>) -> Result<Vec<u8>, Stop>
+fn if_memory(made: Result<Vec<u8>, AllocError>) -> Result<Vec<u8>, NotDone>
     ensures ok { IfOk result (λ text. made ≡ Ok text) }
     ensures memory { IfErr result (λ stop. stop ≡ NoMemory) }
 {
     match made {
         Ok(text) => Ok(text),
-        Err(_) => Err(Stop::NoMemory),
+        Err(_) => Err(NotDone::NoMemory),
     }
 }
 
 /// The map of a link as a document.
-fn map_json(alloc: Global, host: &[u8], libs: &[&[u8]]) -> Result<Vec<u8>, Stop>
+fn map_json(alloc: Global, host: &[u8], libs: &[&[u8]]) -> Result<Vec<u8>, NotDone>
     ensures made { IfOk result (λ text. IsTextOf (Map TextForm.Json) [] host.now
         (contents libs.now) text.items) }
     ensures stopped { IfErr result (StopsMaking (Map TextForm.Json) host.now
@@ -78,12 +78,12 @@ fn map_json(alloc: Global, host: &[u8], libs: &[&[u8]]) -> Result<Vec<u8>, Stop>
 {
     match prepare(alloc, host, libs) {
         Ok(linked) => if_memory(map_document(alloc, &linked)),
-        Err(error) => Err(stop_for(host, libs, error)),
+        Err(error) => Err(not_done_for(host, libs, error)),
     }
 }
 
 /// The map of a link as lines.
-fn map_lines(alloc: Global, host: &[u8], libs: &[&[u8]]) -> Result<Vec<u8>, Stop>
+fn map_lines(alloc: Global, host: &[u8], libs: &[&[u8]]) -> Result<Vec<u8>, NotDone>
     ensures made { IfOk result (λ text. IsTextOf (Map TextForm.Lines) [] host.now
         (contents libs.now) text.items) }
     ensures stopped { IfErr result (StopsMaking (Map TextForm.Lines) host.now
@@ -91,13 +91,13 @@ fn map_lines(alloc: Global, host: &[u8], libs: &[&[u8]]) -> Result<Vec<u8>, Stop
 {
     match map_text(alloc, host, libs) {
         Ok(text) => Ok(text),
-        Err(error) => Err(stop_for(host, libs, error)),
+        Err(error) => Err(not_done_for(host, libs, error)),
     }
 }
 
 /// The map of a link.
 #[inline(never)]
-fn make_map(alloc: Global, form: TextForm, host: &[u8], libs: &[&[u8]]) -> Result<Vec<u8>, Stop>
+fn make_map(alloc: Global, form: TextForm, host: &[u8], libs: &[&[u8]]) -> Result<Vec<u8>, NotDone>
     ensures made { IfOk result (λ text. IsTextOf (Map form) [] host.now (contents libs.now)
         text.items) }
     ensures stopped { IfErr result (StopsMaking (Map form) host.now (contents libs.now)) }
@@ -132,7 +132,7 @@ fn make_references(
     form: TextForm,
     host: &[u8],
     libs: &[&[u8]],
-) -> Result<Vec<u8>, Stop>
+) -> Result<Vec<u8>, NotDone>
     ensures made { IfOk result (λ text. IsTextOf (References form) [] host.now
         (contents libs.now) text.items) }
     ensures stopped { IfErr result (StopsMaking (References form) host.now
@@ -140,37 +140,37 @@ fn make_references(
 {
     match prepare_references(alloc, host, libs) {
         Ok(map) => if_memory(reference_text(alloc, form, &map)),
-        Err(error) => Err(stop_for(host, libs, error)),
+        Err(error) => Err(not_done_for(host, libs, error)),
     }
 }
 
 /// What a file has, as a document.
 #[inline(never)]
-fn show_json(alloc: Global, file: &[u8]) -> Result<Vec<u8>, Stop>
+fn show_json(alloc: Global, file: &[u8]) -> Result<Vec<u8>, NotDone>
     ensures made { IfOk result (λ text. IsTextOf (Show TextForm.Json) [] file.now [] text.items) }
     ensures stopped { IfErr result (StopsMaking (Show TextForm.Json) file.now []) }
 {
     let mut text = Vec::new(alloc);
     match write_show_json(file, &mut text, &mut Counts::new()) {
         Ok(()) => Ok(text),
-        Err(error) => Err(stop_for(file, &[], error)),
+        Err(error) => Err(not_done_for(file, &[], error)),
     }
 }
 
 /// What a file has, as lines.
-fn show_lines(alloc: Global, file: &[u8]) -> Result<Vec<u8>, Stop>
+fn show_lines(alloc: Global, file: &[u8]) -> Result<Vec<u8>, NotDone>
     ensures made { IfOk result (λ text. IsTextOf (Show TextForm.Lines) [] file.now [] text.items) }
     ensures stopped { IfErr result (StopsMaking (Show TextForm.Lines) file.now []) }
 {
     match show_text(alloc, file) {
         Ok(text) => Ok(text),
-        Err(error) => Err(stop_for(file, &[], error)),
+        Err(error) => Err(not_done_for(file, &[], error)),
     }
 }
 
 /// What a file has.
 #[inline(never)]
-fn make_show(alloc: Global, form: TextForm, file: &[u8]) -> Result<Vec<u8>, Stop>
+fn make_show(alloc: Global, form: TextForm, file: &[u8]) -> Result<Vec<u8>, NotDone>
     ensures made { IfOk result (λ text. IsTextOf (Show form) [] file.now [] text.items) }
     ensures stopped { IfErr result (StopsMaking (Show form) file.now []) }
 {
@@ -241,20 +241,20 @@ fn unopened(reason: Reason) -> Refusal
 }
 
 /// The names of the units that what was read wants from libraries.
-fn wanted_in(alloc: Global, reading: &Reading<'_>) -> Result<Vec<u8>, Stop>
+fn wanted_in(alloc: Global, reading: &Reading<'_>) -> Result<Vec<u8>, NotDone>
     ensures made { IfOk result (λ text. IsTextOf Wanted [] reading.now.host reading.now.libs
         text.items) }
     ensures stopped { IfErr result (StopsMaking Wanted reading.now.host reading.now.libs) }
 {
     match reading.host() {
-        Err(reason) => Err(Stop::Refused(unopened(reason))),
+        Err(reason) => Err(NotDone::Refused(unopened(reason))),
         Ok(host) => if_memory(units_wanted(alloc, host)),
     }
 }
 
 /// The names of the units that a link wants from libraries.
 #[inline(never)]
-fn make_wanted(alloc: Global, host: &[u8], libs: &[&[u8]]) -> Result<Vec<u8>, Stop>
+fn make_wanted(alloc: Global, host: &[u8], libs: &[&[u8]]) -> Result<Vec<u8>, NotDone>
     ensures made { IfOk result (λ text. IsTextOf Wanted [] host.now (contents libs.now)
         text.items) }
     ensures stopped { IfErr result (StopsMaking Wanted host.now (contents libs.now)) }
@@ -264,12 +264,12 @@ fn make_wanted(alloc: Global, host: &[u8], libs: &[&[u8]]) -> Result<Vec<u8>, St
 }
 
 /// The names of the units whose code a file has.
-fn make_had(alloc: Global, file: &[u8]) -> Result<Vec<u8>, Stop>
+fn make_had(alloc: Global, file: &[u8]) -> Result<Vec<u8>, NotDone>
     ensures made { IfOk result (λ text. IsTextOf Had [] file.now [] text.items) }
     ensures stopped { IfErr result (StopsMaking Had file.now []) }
 {
     match Dict::read(file) {
-        Err(reason) => Err(Stop::Refused(unopened(reason))),
+        Err(reason) => Err(NotDone::Refused(unopened(reason))),
         Ok(dict) => if_memory(units_had(alloc, &dict)),
     }
 }
@@ -284,7 +284,7 @@ pub(crate) fn make(
     names: &[&str],
     host: &[u8],
     libs: &[&[u8]],
-) -> Result<Vec<u8>, Stop>
+) -> Result<Vec<u8>, NotDone>
     ensures made { IfOk result (λ text. IsTextOf kind (host_name.now ∷ contents names.now)
         host.now (contents libs.now) text.items) }
     ensures stopped { IfErr result (StopsMaking kind host.now (contents libs.now)) }

@@ -1,7 +1,7 @@
 //! What becomes of a call.
 ghost use Rattle.std.specs.Prelude.{◌≡◌};
 ghost use Rattle.ps_resolve.specs.Sources.{contents};
-ghost use Rattle.ps_calls.specs.Stops.{refusal_of, stop_of};
+ghost use Rattle.ps_calls.specs.NotDone.{refusal_of, not_done_of};
 
 use ps_linkfile::{LinkError, Summary};
 use ps_named::fault_name;
@@ -30,7 +30,7 @@ pub struct Refusal {
 /// Why nothing was put there.
 /// Source: this project's profile.
 #[derive(Clone, Copy)]
-pub enum Stop {
+pub enum NotDone {
     /// The files are refused for this.
     Refused(Refusal),
     /// The lengths do not add up to what is given, or there is not one name for each file.
@@ -58,12 +58,12 @@ pub(crate) fn refusal_for(host: &[u8], libs: &[&[u8]], fault: Fault) -> Refusal
 /// Why a step with these files, which writes nothing, was not done. A function by itself, so that
 /// only a call that is refused has what it needs of the stack.
 #[inline(never)]
-pub(crate) fn stop_for(host: &[u8], libs: &[&[u8]], error: LinkError) -> Stop
-    ensures { result ≡ stop_of host.now (contents libs.now) error }
+pub(crate) fn not_done_for(host: &[u8], libs: &[&[u8]], error: LinkError) -> NotDone
+    ensures { result ≡ not_done_of host.now (contents libs.now) error }
 {
     match error {
-        LinkError::Refused(fault) => Stop::Refused(refusal_for(host, libs, fault)),
+        LinkError::Refused(fault) => NotDone::Refused(refusal_for(host, libs, fault)),
         // Where nothing is written, no write fails.
-        LinkError::Memory | LinkError::Write(_) => Stop::NoMemory,
+        LinkError::Memory | LinkError::Write(_) => NotDone::NoMemory,
     }
 }

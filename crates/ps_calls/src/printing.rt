@@ -11,7 +11,7 @@ use crate::file_names::file_names;
 use crate::kinds::TextKind;
 use crate::libraries::{LIBRARIES_IN_PLACE, split};
 use crate::making::make;
-use crate::outcome::{Done, Stop};
+use crate::outcome::{Done, NotDone};
 use crate::texts::put;
 use std::alloc::Global;
 
@@ -24,7 +24,7 @@ fn put_made(
     host: &[u8],
     libs: &[&[u8]],
     room: &mut [u8],
-) -> Result<Done, Stop>
+) -> Result<Done, NotDone>
     ensures put { IfOk result (IsPut kind (host_name.now ∷ contents names.now) host.now
         (contents libs.now) room.old room.new) }
     ensures stopped { IfErr result (StopsPutting kind (host_name.now ∷ contents names.now)
@@ -45,7 +45,7 @@ fn put_named(
     host: &[u8],
     libs: &[&[u8]],
     room: &mut [u8],
-) -> Result<Done, Stop>
+) -> Result<Done, NotDone>
     requires { 0 < length names.now }
     ensures put { IfOk result (IsPut kind (contents names.now) host.now
         (contents libs.now) room.old room.new) }
@@ -57,14 +57,14 @@ fn put_named(
 }
 
 /// The one name of a text that has no names.
-fn no_names<'a>(alloc: Global) -> Result<Vec<&'a str>, Stop>
+fn no_names<'a>(alloc: Global) -> Result<Vec<&'a str>, NotDone>
     ensures some { IfOk result (λ names. 0 < length names.items) }
-    ensures err { IfErr result (λ stop. stop ≡ Stop.NoMemory) }
+    ensures err { IfErr result (λ stop. stop ≡ NotDone.NoMemory) }
 {
     let mut names = Vec::new(alloc);
     match names.push("") {
         Ok(()) => Ok(names),
-        Err(_) => Err(Stop::NoMemory),
+        Err(_) => Err(NotDone::NoMemory),
     }
 }
 
@@ -74,7 +74,7 @@ fn given_names<'a>(
     count: usize,
     names: &'a [u8],
     name_lengths: &[usize],
-) -> Result<Vec<&'a str>, Stop>
+) -> Result<Vec<&'a str>, NotDone>
     ensures some { IfOk result (λ texts. 0 < length texts.items) }
     ensures cut { IfOk result (λ texts. contents texts.items
         ≡ split_spec names.now name_lengths.now) }
@@ -83,7 +83,7 @@ fn given_names<'a>(
     ensures err { IfErr result (LacksNames true count names.now name_lengths.now) }
 {
     if !is_one_each(name_lengths.len(), count) {
-        return Err(Stop::WrongLengths);
+        return Err(NotDone::WrongLengths);
     }
     file_names(alloc, names, name_lengths)
 }
@@ -95,7 +95,7 @@ fn names_for<'a>(
     count: usize,
     names: &'a [u8],
     name_lengths: &[usize],
-) -> Result<Vec<&'a str>, Stop>
+) -> Result<Vec<&'a str>, NotDone>
     ensures some { IfOk result (λ texts. 0 < length texts.items) }
     ensures cut { named ≡ true → IfOk result (λ texts. contents texts.items
         ≡ split_spec names.now name_lengths.now) }
@@ -120,7 +120,7 @@ fn put_kind(
     names: &[u8],
     name_lengths: &[usize],
     room: &mut [u8],
-) -> Result<Done, Stop>
+) -> Result<Done, NotDone>
     ensures printed { IfOk result (IsPrinted (Some kind) host.now libs.now lengths.now names.now
         name_lengths.now room.old room.new) }
     ensures stopped { IfErr result (StopsKind kind room.old host.now libs.now lengths.now
@@ -154,7 +154,7 @@ pub fn text(
     names: &[u8],
     name_lengths: &[usize],
     room: &mut [u8],
-) -> Result<Done, Stop>
+) -> Result<Done, NotDone>
     ensures printed { IfOk result (IsPrinted kind host.now libs.now lengths.now names.now
         name_lengths.now room.old room.new) }
     ensures stopped { IfErr result (StopsText kind room.old host.now libs.now lengths.now
@@ -162,7 +162,7 @@ pub fn text(
     ensures untouched { OnErr result (room.new ≡ room.old) }
 {
     match kind {
-        None => Err(Stop::NoSuchText),
+        None => Err(NotDone::NoSuchText),
         Some(kind) => put_kind(alloc, kind, host, libs, lengths, names, name_lengths, room),
     }
 }

@@ -6,29 +6,29 @@ ghost use Rattle.ps_linkfile.specs.MapText.{map_of};
 ghost use Rattle.ps_linkfile.specs.ShowText.{show_of, show_fault};
 ghost use Rattle.ps_calls.specs.Libraries.{split as split_spec};
 ghost use Rattle.ps_calls.specs.Dones.{IsText};
-ghost use Rattle.ps_calls.specs.Stops.{IsOnlyAbove, StopsCall, StopsMap, StopsShow};
+ghost use Rattle.ps_calls.specs.NotDone.{IsOnlyAbove, StopsCall, StopsMap, StopsShow};
 
 use crate::libraries::{FEW_LIBRARIES, LIBRARIES_IN_PLACE, split};
-use crate::outcome::{Done, Stop, stop_for};
+use crate::outcome::{Done, NotDone, not_done_for};
 use ps_linkfile::{map_text, show_text};
 use std::alloc::Global;
 
 /// Puts the text in the room.
-pub(crate) fn put(text: &[u8], room: &mut [u8]) -> Result<Done, Stop>
+pub(crate) fn put(text: &[u8], room: &mut [u8]) -> Result<Done, NotDone>
     ensures text { IfOk result (IsText text.now room.old room.new) }
     ensures stopped { IfErr result (IsOnlyAbove text.now room.old) }
     ensures untouched { OnErr result (room.new ≡ room.old) }
 {
     let size = text.len();
     if room.len() < size {
-        return Err(Stop::TooSmall(size));
+        return Err(NotDone::TooSmall(size));
     }
     room[..size].copy_from_slice(text);
     Ok(Done::Text(size))
 }
 
 /// Puts the map of a link of a host and these libraries in the room.
-fn map_all(alloc: Global, host: &[u8], libs: &[&[u8]], room: &mut [u8]) -> Result<Done, Stop>
+fn map_all(alloc: Global, host: &[u8], libs: &[&[u8]], room: &mut [u8]) -> Result<Done, NotDone>
     ensures accepted { IfOk result (λ _. NoneStands host.now (contents libs.now)) }
     ensures text { IfOk result (IsText (map_of host.now (contents libs.now)) room.old room.new) }
     ensures stopped { IfErr result (StopsMap room.old host.now (contents libs.now)) }
@@ -36,7 +36,7 @@ fn map_all(alloc: Global, host: &[u8], libs: &[&[u8]], room: &mut [u8]) -> Resul
 {
     match map_text(alloc, host, libs) {
         Ok(text) => put(text.as_slice(), room),
-        Err(error) => Err(stop_for(host, libs, error)),
+        Err(error) => Err(not_done_for(host, libs, error)),
     }
 }
 
@@ -49,7 +49,7 @@ fn map_one(
     libs: &[u8],
     lengths: &[usize],
     room: &mut [u8],
-) -> Result<Done, Stop>
+) -> Result<Done, NotDone>
     requires { length lengths.now ≤ 1 }
     ensures right { IfOk result (λ _. sum lengths.now ≡ length libs.now) }
     ensures accepted { IfOk result (λ _. NoneStands host.now (split_spec libs.now lengths.now)) }
@@ -72,7 +72,7 @@ fn map_few(
     libs: &[u8],
     lengths: &[usize],
     room: &mut [u8],
-) -> Result<Done, Stop>
+) -> Result<Done, NotDone>
     requires { length lengths.now ≤ FEW_LIBRARIES }
     ensures right { IfOk result (λ _. sum lengths.now ≡ length libs.now) }
     ensures accepted { IfOk result (λ _. NoneStands host.now (split_spec libs.now lengths.now)) }
@@ -95,7 +95,7 @@ fn map_many(
     libs: &[u8],
     lengths: &[usize],
     room: &mut [u8],
-) -> Result<Done, Stop>
+) -> Result<Done, NotDone>
     ensures right { IfOk result (λ _. sum lengths.now ≡ length libs.now) }
     ensures accepted { IfOk result (λ _. NoneStands host.now (split_spec libs.now lengths.now)) }
     ensures text { IfOk result (IsText (map_of host.now (split_spec libs.now lengths.now))
@@ -117,7 +117,7 @@ pub fn map(
     libs: &[u8],
     lengths: &[usize],
     room: &mut [u8],
-) -> Result<Done, Stop>
+) -> Result<Done, NotDone>
     ensures right { IfOk result (λ _. sum lengths.now ≡ length libs.now) }
     ensures accepted { IfOk result (λ _. NoneStands host.now (split_spec libs.now lengths.now)) }
     ensures text { IfOk result (IsText (map_of host.now (split_spec libs.now lengths.now))
@@ -141,7 +141,7 @@ pub fn map(
 /// file 0, also where there is no memory; `NoMemory`; and `TooSmall` where the text is longer than
 /// the room. Never refuses `WrongLengths`.
 /// Source: UCSD Pascal II.0 manual, code file format; the text is this project's profile.
-pub fn show(alloc: Global, file: &[u8], room: &mut [u8]) -> Result<Done, Stop>
+pub fn show(alloc: Global, file: &[u8], room: &mut [u8]) -> Result<Done, NotDone>
     ensures sound { IfOk result (λ _. show_fault file.now ≡ None) }
     ensures text { IfOk result (IsText (show_of file.now) room.old room.new) }
     ensures stopped { IfErr result (StopsShow room.old file.now) }
@@ -149,6 +149,6 @@ pub fn show(alloc: Global, file: &[u8], room: &mut [u8]) -> Result<Done, Stop>
 {
     match show_text(alloc, file) {
         Ok(text) => put(text.as_slice(), room),
-        Err(error) => Err(stop_for(file, &[], error)),
+        Err(error) => Err(not_done_for(file, &[], error)),
     }
 }

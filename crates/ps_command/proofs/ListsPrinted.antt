@@ -9,7 +9,7 @@ module _ (Read : Text → List ℕ → Type 0) (how : Form) (all : List Text)
     (old : Option (List ℕ)) where
   -- the files before this index have this status, and what is printed of those that are left is
   -- added to it
-  pub record Listing (i : ℕ) (left : List Text) (status : ℕ) (now : Option (List ℕ)) : Type 0
+  pub record ListsLeft (i : ℕ) (left : List Text) (status : ℕ) (now : Option (List ℕ)) : Type 0
     where
       pub rest : (more : ℕ) (new : Option (List ℕ)) → PrintsFiles Read how i left more now new
           → PrintsFiles Read how 0 all (max status more) old new
@@ -17,8 +17,8 @@ module _ (Read : Text → List ℕ → Type 0) (how : Form) (all : List Text)
   pub listed_more : (i j : ℕ) (path : Text) (left : List Text) (status first : ℕ)
       (before between : Option (List ℕ)) → j ≡ i
       → IsListed Read how j path first before between
-      → Listing i (path ∷ left) status before
-      → Listing (i + 1) left (max status first) between
+      → ListsLeft i (path ∷ left) status before
+      → ListsLeft (i + 1) left (max status first) between
   listed_more i j path left status first before between same listed so_far = record {
     rest = λ more new printed.
         let worst : max status (max first more) ≡ max (max status first) more = omega arith in

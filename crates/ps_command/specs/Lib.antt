@@ -3,5 +3,5 @@ pub mod Requests
 pub mod Statuses
 pub mod SummaryLine
 pub mod Printed
-pub mod Reading
+pub mod FilesRead
 pub mod Causes

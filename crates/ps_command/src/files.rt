@@ -1,7 +1,7 @@
 //! Files that are read whole.
 ghost use Rattle.std.specs.Prelude.{◌≡◌, ◌≢◌, ◌≤◌, ℕ, List, length, map, Any, IfErr, IfOk, IfSome, OnOk, true, ⊤};
 ghost use Rattle.std.specs.List.{AllZip};
-ghost use Rattle.ps_command.specs.Reading.{IsReadError, IsTooLong, Reads, read_error};
+ghost use Rattle.ps_command.specs.FilesRead.{IsReadError, IsTooLong, Reads, read_error};
 ghost use Rattle.ps_command.specs.Statuses.{status_of};
 ghost use Rattle.ps_command.specs.declared.files.FileFault.TheVariants.{Memory};
 

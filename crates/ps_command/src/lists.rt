@@ -2,7 +2,7 @@
 ghost use Rattle.std.specs.Prelude.{◌≡◌, ◌≢◌, ◌≤◌, IfErr, IfOk, OnOk, if◌then◌else◌, map, max};
 ghost use Rattle.std.specs.Io.KnownBytes.{Appends};
 ghost use Rattle.ps_command.specs.Printed.{IsListed, PrintsFiles, PrintsLists, PrintsUnread, is_refused_in, listed_text, listed_units};
-ghost use Rattle.ps_command.specs.Reading.{IsReadError, Reads};
+ghost use Rattle.ps_command.specs.FilesRead.{IsReadError, Reads};
 
 use crate::error::CommandError;
 use crate::files::{self, CodeFiles};

@@ -3,7 +3,7 @@ ghost use Rattle.std.specs.Prelude.{◌≡◌, ◌≢◌, ◌≤◌, ◌⊎◌, 
 ghost use Rattle.std.specs.Process.{exit_status};
 ghost use Rattle.ps_command.specs.CommandLine.{AreAccepted, named_in};
 ghost use Rattle.ps_command.specs.Printed.{Prints};
-ghost use Rattle.ps_command.specs.Reading.{Reads, Writes};
+ghost use Rattle.ps_command.specs.FilesRead.{Reads, Writes};
 ghost use Rattle.ps_command.specs.Requests.{NamesCheck, NamesList, OverwritesLibrary, WritesLibrary};
 
 use crate::error::{CommandError, WrongArgument};

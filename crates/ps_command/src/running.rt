@@ -6,7 +6,7 @@ ghost use Rattle.ps_linkfile.specs.LinkedFile.{LinkedFile, summary_of};
 ghost use Rattle.ps_linkfile.specs.Writing.{file_in, summary_in};
 ghost use Rattle.ps_command.specs.CommandLine.{AreAccepted, AskForText, faults_in, named_in, texts};
 ghost use Rattle.ps_command.specs.Printed.{Prints, PrintsLine, PrintsLines, PrintsLists, PrintsMap, PrintsReport, PrintsShow, PrintsText, IsPrintedMap, list_form as list_form_spec, printed_show, version_line};
-ghost use Rattle.ps_command.specs.Reading.{Reads, Writes};
+ghost use Rattle.ps_command.specs.FilesRead.{Reads, Writes};
 ghost use Rattle.ps_report.specs.Reports.{IsPrintedText};
 ghost use Rattle.ps_command.specs.Requests.{IsNamedCommand, NamesCheck, NamesList, OverwritesLibrary, WritesLibrary};
 ghost use Rattle.ps_command.specs.Statuses.{status_of};

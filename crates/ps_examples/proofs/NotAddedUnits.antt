@@ -5,9 +5,9 @@ use Rattle.ps_examples.specs.Segments.{demo_segment, util_segment, using_segment
 use Rattle.ps_examples.proofs.NotLinked.{same}
 use Rattle.ps_examples.proofs.NotOrigins.{no_name, count_aux, state_aux, blank_aux}
 use Rattle.ps_examples.proofs.SegmentOrigins.{no_slot_has}
-use Rattle.ps_resolve.specs.Origins.{AsksFor}
+use Rattle.ps_resolve.specs.Origins.{RequestsName}
 use Rattle.ps_resolve.specs.Sources.{Segment, own_segments}
-use Rattle.ps_resolve.specs.RequestedUnits.{Asks, AddedUnits}
+use Rattle.ps_resolve.specs.RequestedUnits.{RequestsAt, AddedUnits}
 use Rattle.ps_resolve.specs.declared.reading.added.UnitReference.{UnitReference}
 use Rattle.ps_words.specs.declared.order.Order.TheVariants.{Little}
 
@@ -28,26 +28,26 @@ pub its_own_record_alone : (g : UnitReference) (s : Segment) → g.name ≡ aux
 its_own_record_alone g s name h =
     let t = (h.requested 0 g refl).0 in
     go t.0 (subst (λ (own : List Segment). t.0 < length own + 0) own_of_itself t.1)
-    (subst (λ (own : List Segment). Asks (own ++ s ∷ []) t.0 g.rec g.name) own_of_itself
+    (subst (λ (own : List Segment). RequestsAt (own ++ s ∷ []) t.0 g.rec g.name) own_of_itself
     t.2.1)
   where
-    go : (i : ℕ) → i < 2 → Asks (demo_segment ∷ util_segment ∷ s ∷ []) i g.rec g.name
+    go : (i : ℕ) → i < 2 → RequestsAt (demo_segment ∷ util_segment ∷ s ∷ []) i g.rec g.name
         → ⊥
     go zero l a = no_name demo_segment aux (count_aux, (blank_aux, tt))
-        (subst (λ (q : Segment). AsksFor q aux) (sym (same demo_segment a.0 a.1))
+        (subst (λ (q : Segment). RequestsName q aux) (sym (same demo_segment a.0 a.1))
         (g.rec, a.2, a.3, (a.4, a.5 ∙ name)))
     go (suc zero) l a = no_name util_segment aux (count_aux, (state_aux, (blank_aux, tt)))
-        (subst (λ (q : Segment). AsksFor q aux) (sym (same util_segment a.0 a.1))
+        (subst (λ (q : Segment). RequestsName q aux) (sym (same util_segment a.0 a.1))
         (g.rec, a.2, a.3, (a.4, a.5 ∙ name)))
     go (suc (suc i)) l a = omega (arith, l)
 
 -- the queue is not empty where UTIL requests AUX
 pub no_name_is_requested : AddedUnits Little host
     (library_of_used (util_information Little) ∷ []) [] [] → ⊥
-no_name_is_requested h = elim (h.complete 1 0 aux asks)
+no_name_is_requested h = elim (h.complete 1 0 aux requests)
     [ inl has ↦ no_slot_has host aux refl has | inr t ↦ (let e = t.2 in cc) ]
   where
-    asks : Asks (own_segments Little host (library_of_used (util_information Little) ∷ []) ++ [])
+    requests : RequestsAt (own_segments Little host (library_of_used (util_information Little) ∷ []) ++ [])
         1 0 aux
-    asks = subst (λ (own : List Segment). Asks (own ++ []) 1 0 aux) (sym own_of_used)
+    requests = subst (λ (own : List Segment). RequestsAt (own ++ []) 1 0 aux) (sym own_of_used)
         (using_segment, refl, aux_reference, refl, refl, refl)

@@ -7,7 +7,7 @@ use Rattle.ps_linkinfo.specs.RecordCounts.{is_unit_reference}
 use Rattle.ps_examples.specs.Segments.{count_reference, state_reference, end_mark, demo_segment, util_segment, using_segment, aux_segment, self_segment, nobody_segment, count_segment, past_segment}
 use Rattle.ps_linkinfo.specs.declared.record.LinkRecord.{LinkRecord as Record}
 use Rattle.ps_resolve.specs.Sources.{Segment}
-use Rattle.ps_resolve.specs.Origins.{HasOne, AsksFor, IsAddedUnit, IsUnitOf, IsReadFrom}
+use Rattle.ps_resolve.specs.Origins.{HasOne, RequestsName, IsAddedUnit, IsUnitOf, IsReadFrom}
 use Rattle.ps_examples.proofs.NotLinked.{same, heads}
 use Rattle.ps_words.specs.declared.fault.Reason.{Reason}
 use Rattle.ps_words.specs.declared.fault.Reason.TheVariants as reason
@@ -65,7 +65,7 @@ not_past_slot_7 u = let t = u.next 7 (omega arith) (omega arith) refl in
 
 -- no record of the segment has the name
 pub no_name : (s : Segment) (name : List ℕ)
-    → AllByRecursion (λ (r : Record). r.name ≡ name → ⊥) s.records → AsksFor s name
+    → AllByRecursion (λ (r : Record). r.name ≡ name → ⊥) s.records → RequestsName s name
     → ⊥
 no_name s name all t = none_passes (λ (r : Record). r.name ≡ name) s.records all t.0 t.1 t.2
     t.3.1
@@ -80,14 +80,14 @@ pub blank_aux : blank_name ≡ aux → ⊥
 blank_aux e = let h : 32 ≡ 65 = heads _ _ _ _ e in omega (arith, h)
 
 -- no unit is added where its own UNITREF record is the only one of its name
-pub not_asked_for_by_itself_alone : IsAddedUnit Little host
+pub not_requested_by_itself_alone : IsAddedUnit Little host
     (util_segment ∷ self_segment ∷ []) self_segment → ⊥
-not_asked_for_by_itself_alone u = let t = u.asked in go t.0 t.1 t.2 t.3.0 t.3.1
+not_requested_by_itself_alone u = let t = u.requested in go t.0 t.1 t.2 t.3.0 t.3.1
   where
     go : (k : ℕ) (q : Segment) → slice_get (util_segment ∷ self_segment ∷ []) k ≡ Some q
-        → (q.added ≡ false) ⊎ (q.slot < 8) → AsksFor q aux → ⊥
+        → (q.added ≡ false) ⊎ (q.slot < 8) → RequestsName q aux → ⊥
     go zero q e b t = no_name util_segment aux (count_aux, (state_aux, (blank_aux, tt)))
-        (subst (λ (x : Segment). AsksFor x aux) (sym (same util_segment q e)) t)
+        (subst (λ (x : Segment). RequestsName x aux) (sym (same util_segment q e)) t)
     go (suc zero) q e (inl h) t = let s = same self_segment q e in
         false≢true (sym (ap (λ (x : Segment). x.added) s ∙ h))
     go (suc zero) q e (inr h) t = let s : 8 ≡ q.slot =
@@ -107,24 +107,24 @@ blank_nobody : blank_name ≡ nobody → ⊥
 blank_nobody e = let h : 32 ≡ 78 = heads _ _ _ _ e in omega (arith, h)
 
 -- no unit is added where UNITREF records request one of another name only
-pub not_asked_for_by_another_name : IsAddedUnit Little host
+pub not_requested_by_another_name : IsAddedUnit Little host
     (using_segment ∷ nobody_segment ∷ []) nobody_segment → ⊥
-not_asked_for_by_another_name u = let t = u.asked in
-    none_passes (λ (q : Segment). AsksFor q nobody) (using_segment ∷ nobody_segment ∷ [])
+not_requested_by_another_name u = let t = u.requested in
+    none_passes (λ (q : Segment). RequestsName q nobody) (using_segment ∷ nobody_segment ∷ [])
     (of_using, (of_itself, tt)) t.0 t.1 t.2 t.3.1
   where
-    of_using : AsksFor using_segment nobody → ⊥
+    of_using : RequestsName using_segment nobody → ⊥
     of_using t = no_name using_segment nobody (aux_nobody, (blank_nobody, tt)) t
 
-    of_itself : AsksFor nobody_segment nobody → ⊥
+    of_itself : RequestsName nobody_segment nobody → ⊥
     of_itself t = no_name nobody_segment nobody (count_nobody, (state_nobody, (blank_nobody, tt))) t
 
 -- no unit is added for a PUBLREF record of its name
-pub not_asked_for_by_a_publ_ref : IsAddedUnit Little host
+pub not_requested_by_a_publ_ref : IsAddedUnit Little host
     (util_segment ∷ count_segment ∷ []) count_segment → ⊥
-not_asked_for_by_a_publ_ref u = let t = u.asked in go t.0 t.1 t.2 t.3.1
+not_requested_by_a_publ_ref u = let t = u.requested in go t.0 t.1 t.2 t.3.1
   where
-    of_util : AsksFor util_segment count → ⊥
+    of_util : RequestsName util_segment count → ⊥
     of_util t = at t.0 t.1 t.2 t.3.0 t.3.1
       where
         at : (k : ℕ) (r : Record) → slice_get util_segment.records k ≡ Some r
@@ -139,10 +139,10 @@ not_asked_for_by_a_publ_ref u = let t = u.asked in go t.0 t.1 t.2 t.3.1
         at (suc (suc (suc k))) r e b n = cc
 
     go : (k : ℕ) (q : Segment) → slice_get (util_segment ∷ count_segment ∷ []) k ≡ Some q
-        → AsksFor q count → ⊥
-    go zero q e t = of_util (subst (λ (x : Segment). AsksFor x count)
+        → RequestsName q count → ⊥
+    go zero q e t = of_util (subst (λ (x : Segment). RequestsName x count)
         (sym (same util_segment q e)) t)
-    go (suc zero) q e t = let a = subst (λ (x : Segment). AsksFor x count)
+    go (suc zero) q e t = let a = subst (λ (x : Segment). RequestsName x count)
         (sym (same count_segment q e)) t in let h = a.2 in cc
     go (suc (suc k)) q e t = cc
 

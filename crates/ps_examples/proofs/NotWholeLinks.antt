@@ -9,7 +9,7 @@ use Rattle.ps_examples.specs.Files.{host, library, host_in, library_of_used, lib
 use Rattle.ps_examples.specs.Segments.{demo_segment, util_segment, using_segment, aux_segment, past_segment}
 use Rattle.ps_examples.proofs.NotOrigins.{none_passes, no_name, count_aux, state_aux, blank_aux}
 use Rattle.ps_resolve.specs.Added.{empty_slots, rounds, segments, added_segments}
-use Rattle.ps_resolve.specs.Origins.{HasOne, AsksFor, HaveOneEach, AreAdded, AreOfRounds}
+use Rattle.ps_resolve.specs.Origins.{HasOne, RequestsName, HaveOneEach, AreAdded, AreOfRounds}
 use Rattle.ps_resolve.specs.OfLink.{IsOfLink}
 use Rattle.ps_resolve.specs.Sources.{Segment, own_segments, tables_of}
 use Rattle.ps_resolve.specs.Standing.Phrases.{SomeItem}
@@ -39,15 +39,15 @@ other_role e = cc
 -- AUX is no added unit where no segment has a UNITREF record of that name
 pub one_is_added_that_nothing_names : AreAdded host
     (demo_segment ∷ util_segment ∷ aux_segment ∷ []) → ⊥
-one_is_added_that_nothing_names h = let u = h 2 demo_segment (omega arith) refl in let t = u.asked
-    in none_passes (λ (q : Segment). AsksFor q aux)
+one_is_added_that_nothing_names h = let u = h 2 demo_segment (omega arith) refl in let t = u.requested
+    in none_passes (λ (q : Segment). RequestsName q aux)
     (demo_segment ∷ util_segment ∷ aux_segment ∷ [])
     (of_demo, (of_unit util_segment refl, (of_unit aux_segment refl, tt))) t.0 t.1 t.2 t.3.1
   where
-    of_demo : AsksFor demo_segment aux → ⊥
+    of_demo : RequestsName demo_segment aux → ⊥
     of_demo t = no_name demo_segment aux (count_aux, (blank_aux, tt)) t
 
-    of_unit : (s : Segment) → util_segment.records ≡ s.records → AsksFor s aux → ⊥
+    of_unit : (s : Segment) → util_segment.records ≡ s.records → RequestsName s aux → ⊥
     of_unit s e t = no_name util_segment aux (count_aux, (state_aux, (blank_aux, tt)))
         (t.0, t.1, ap (λ rs. slice_get rs t.0) e ∙ t.2, t.3)
 

@@ -87,7 +87,7 @@ no_slot_has file name all t = false≢true
     (sym (fails 16 (λ k. bytes_eq (entry_at Little file k).name name) all t.0 t.1)
     ∙ (bytes_eq-Decides (entry_at Little file t.0).name name).1 t.2.1)
 
--- TOOLS is an added unit in slot 9, for which AUX asks, which is added in slot 8
+-- TOOLS is an added unit in slot 9, which AUX requests, and which is added in slot 8
 pub a_unit_that_an_added_one_names : IsAddedUnit Little host
     (using_segment ∷ naming_segment ∷ named_segment ∷ []) named_segment
 a_unit_that_an_added_one_names = record {
@@ -95,7 +95,7 @@ a_unit_that_an_added_one_names = record {
   low = omega arith;
   next = taken;
   role = refl;
-  asked = (1, naming_segment, refl, (inr (omega arith), (0, _, refl, (refl, refl))));
+  requested = (1, naming_segment, refl, (inr (omega arith), (0, _, refl, (refl, refl))));
   named = refl;
   free = no_slot_has host tools refl;
 }
@@ -120,7 +120,7 @@ an_added_unit_in_slot_7 = record {
   low = omega arith;
   next = λ slot low lt has. absurd (omega (arith, low, lt));
   role = refl;
-  asked = (0, record using_segment { slot = 9 }, refl, (inl refl, (0, _, refl, (refl, refl))));
+  requested = (0, record using_segment { slot = 9 }, refl, (inl refl, (0, _, refl, (refl, refl))));
   named = refl;
   free = no_slot_has host_without_7 aux refl;
 }

@@ -3,7 +3,7 @@ ghost use Rattle.ps_examples.specs.Files.{state};
 ghost use Rattle.ps_examples.specs.Owners.{defined_once, defined_again, util_owner, aux_owner, duplicate_owner, plain_owner, first_private, second_private, third_private};
 ghost use Rattle.ps_examples.specs.Segments.{count_reference};
 ghost use Rattle.ps_linkinfo.specs.RecordCounts.{is_definition};
-ghost use Rattle.ps_resolve.specs.Builders.{HaveNoNamesakes, StopsDefinitions, offset_at, HaveDistinctPrivates, HaveRoom, StopsPrivates, all_asked, asked_of, AreByRecord, words_of_all};
+ghost use Rattle.ps_resolve.specs.Builders.{HaveNoNamesakes, StopsDefinitions, offset_at, HaveDistinctPrivates, HaveRoom, StopsPrivates, all_requested, requested_of, AreByRecord, words_of_all};
 ghost use Rattle.ps_resolve.specs.Offsets.{FollowOn};
 ghost use Rattle.ps_resolve.specs.declared.linkage.Stop.TheVariants.{Refused, Memory};
 ghost use Rattle.ps_words.specs.FaultPlaces.{in_record};
@@ -27,9 +27,9 @@ pub fn facts_of_builders()
     ensures a_second_private_of_a_name { StopsPrivates 32763 (duplicate_owner ∷ [])
         (Refused (in_record 1 7 2 reason.DoubledPrivate)) }
     ensures no_memory_for_a_private { StopsPrivates 8 (util_owner ∷ []) Memory }
-    ensures what_a_private_asked_for { asked_of third_private
+    ensures what_a_private_requested { requested_of third_private
         ≡ (record { slot = 8; rec = 0; name = state; words = 5 }) }
-    ensures all_that_is_asked_for { all_asked (util_owner ∷ aux_owner ∷ [])
+    ensures all_that_is_requested { all_requested (util_owner ∷ aux_owner ∷ [])
         ≡ (record { slot = 7; rec = 1; name = state; words = 4 })
         ∷ (record { slot = 8; rec = 1; name = state; words = 4 }) ∷ [] }
     ensures privates_by_record { AreByRecord

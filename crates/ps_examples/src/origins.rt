@@ -65,11 +65,11 @@ pub fn segments_of_no_link()
         ((record using_segment { slot = 9 }) ∷ aux_segment ∷ []) aux_segment → ⊥ }
     ensures not_of_another_role_than_wanted { (segs : List Segment)
         → IsAddedUnit Little host segs (record aux_segment { role = role.Unit }) → ⊥ }
-    ensures not_asked_for_by_itself_alone { IsAddedUnit Little host
+    ensures not_requested_by_itself_alone { IsAddedUnit Little host
         (util_segment ∷ self_segment ∷ []) self_segment → ⊥ }
-    ensures not_asked_for_by_another_name { IsAddedUnit Little host
+    ensures not_requested_by_another_name { IsAddedUnit Little host
         (using_segment ∷ nobody_segment ∷ []) nobody_segment → ⊥ }
-    ensures not_asked_for_by_a_publ_ref { IsAddedUnit Little host
+    ensures not_requested_by_a_publ_ref { IsAddedUnit Little host
         (util_segment ∷ count_segment ∷ []) count_segment → ⊥ }
     ensures not_of_a_name_of_blanks { (segs : List Segment)
         → IsAddedUnit Little host segs (record aux_segment { name = blank_name }) → ⊥ }

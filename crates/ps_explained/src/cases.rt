@@ -6,7 +6,7 @@ use ps_codefile::{Dict, Entry, ProcedureDictionary, ProcedureFault, Role};
 use ps_filetype::{CodeFile, FileType, ShownName};
 use ps_linkinfo::{LinkRecord, Operand};
 use ps_resolve::Reading;
-use ps_warnings::{Inputs, Part, Segment, Source, in_slot};
+use ps_warnings::{Inputs, Segment, SegmentPart, Source, in_slot};
 use ps_words::{Fault, Name, Reason};
 
 /// A fault, and what of the files it is about.
@@ -131,7 +131,7 @@ impl<'c, 'a> Case<'c, 'a> {
         if code.len() < NUMBERS {
             return None;
         }
-        let is_host = matches!(segment.part, Part::Host);
+        let is_host = matches!(segment.part, SegmentPart::Host);
         ProcedureDictionary::read_or_fault(source.order, code, is_host).err()
     }
 }

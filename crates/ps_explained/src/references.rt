@@ -2,7 +2,7 @@
 use crate::cases::Case;
 use ps_linkinfo::{Body, LinkRecord, Operand, Sort};
 use ps_pcode::procedures_of;
-use ps_resolve::{ReferencePlace, covering_reference};
+use ps_resolve::{ReferenceAt, covering_reference};
 use ps_warnings::host_of;
 use ps_words::{Name, get_big};
 
@@ -36,10 +36,10 @@ impl<'a> Case<'_, 'a> {
 
     /// The earlier reference that covers a byte of this one, and its record.
     /// Source: this project's profile.
-    pub fn earlier_reference(&self) -> Option<(ReferencePlace, LinkRecord<'a>)> {
+    pub fn earlier_reference(&self) -> Option<(ReferenceAt, LinkRecord<'a>)> {
         let (rec, reference) = (self.fault.rec?, self.fault.reference?);
         let records = self.segment?.records();
-        let place = ReferencePlace { rec, reference };
+        let place = ReferenceAt { rec, reference };
         let earlier = covering_reference(&records, place, self.operand()?)?;
         Some((earlier, records.record(earlier.rec)?))
     }

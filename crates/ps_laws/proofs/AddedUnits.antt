@@ -1,6 +1,6 @@
 -- The units that are added are those that are requested, as they are said plainly.
 use Rattle.std.proofs.Common.{rules, ◌≡◌, ℕ, zero, suc, ◌+◌, ◌-◌, ◌<◌, ◌≤◌, List, [], ◌∷◌, ◌++◌, length, map, Option, Some, None, Ok, true, false, refl, sym, ap, subst, ◌∙◌, inl, inr, arith, is_some, length-append, length-take, take}
-use Rattle.ps_laws.proofs.Words.{◌⊎◌, ◌≢◌, slice_get, AddedUnits, if◌then◌else◌, is_unit_reference, all_unit_references, Order, bytes_eq, cases_lt, entry_at, SomeItem, source_of, Asks, lookup, Record, Before, IsGiver, Reason, option_map, IsUnitSlot, Role, role_fault, code_fault, own_segment, bytes_eq-Decides, information_of, unit_references, cases_order, false≢true, added_fault, unit_source, UnitReference, code_of, IsOfFile, HasRole, reading, is_unit, Segment, enumerate_from, nat_lt, requested_from, added_segments, request_by_slot, needs_linking}
+use Rattle.ps_laws.proofs.Vocabulary.{◌⊎◌, ◌≢◌, slice_get, AddedUnits, if◌then◌else◌, is_unit_reference, all_unit_references, Order, bytes_eq, cases_lt, entry_at, SomeItem, source_of, RequestsAt, lookup, Record, Before, IsGiver, Reason, option_map, IsUnitSlot, Role, role_fault, code_fault, own_segment, bytes_eq-Decides, information_of, unit_references, cases_order, false≢true, added_fault, unit_source, UnitReference, code_of, IsOfFile, HasRole, reading, is_unit, Segment, enumerate_from, nat_lt, requested_from, added_segments, request_by_slot, needs_linking}
 use Rattle.std.proofs.lemmas.Bool.{or_cases, or_left, lt-ltb}
 use Rattle.std.proofs.lemmas.Option.{slice_get_within, slice_get-map}
 use Rattle.ps_resolve.specs.Added.{is_already_known, requested_units}
@@ -19,8 +19,8 @@ use Rattle.ps_resolve.proofs.OfLink.{role_none, round_known}
 use Rattle.ps_laws.proofs.UnitPlaces.{unit_place}
 use Rattle.ps_laws.proofs.OneQueue.{giver_of_front}
 use Rattle.ps_resolve.proofs.OfRounds.{in_empty, name_placed, queue_of, round_at, segment_named}
-use Rattle.ps_resolve.proofs.Requesting.{grown}
-use Rattle.ps_laws.proofs.Asked.{is_had_there, reference_of, all_known, own_in, own_at, units_named, reference_in, references_are}
+use Rattle.ps_resolve.proofs.KnownNames.{grown}
+use Rattle.ps_laws.proofs.RequestedUnits.{is_had_there, reference_of, all_known, own_in, own_at, units_named, reference_in, references_are}
 
 -- 1. the references of a sequence of segments
 -- an item of a mapped list is what the function makes of the item at the same place
@@ -96,18 +96,18 @@ of_place (s ∷ ss) p g e = elim (split_at (references_of s) (all_unit_reference
 ]
 
 -- a record that requests a name has its unit reference among those of all
-asks_at : (segs : List Segment) (j rec : ℕ) (name : List ℕ) → Asks segs j rec name
+requests_at : (segs : List Segment) (j rec : ℕ) (name : List ℕ) → RequestsAt segs j rec name
     → (p : ℕ) × (h : UnitReference) × (owner segs p ≡ j)
     × (slice_get (all_unit_references segs) p ≡ Some h) × (h.name ≡ name) × (h.rec ≡ rec)
-asks_at [] j rec name t = absurd (let e = t.1 in cc)
-asks_at (q ∷ ss) zero rec name t =
+requests_at [] j rec name t = absurd (let e = t.1 in cc)
+requests_at (q ∷ ss) zero rec name t =
     let there : slice_get q.records rec ≡ Some t.2 = (let a = t.1 in let b = t.3 in cc) in
     let r = reference_of q.file q.slot 0 q.records rec t.2 there t.4 in
     let at = at_left (references_of q) (all_unit_references ss) r.0 r.1 r.2 in
     let number : r.1.rec ≡ rec = (let h = r.4 in omega (arith, h)) in
     (r.0, r.1, owner_first q ss r.0 r.1 r.2, at, r.3 ∙ t.5, number)
-asks_at (q ∷ ss) (suc j) rec name t =
-    let r = asks_at ss j rec name t in
+requests_at (q ∷ ss) (suc j) rec name t =
+    let r = requests_at ss j rec name t in
     let own = owner_later q ss r.0 ∙ ap suc r.2 in
     let at = right_at (references_of q) (all_unit_references ss) r.0 ∙ r.3 in
     (length (references_of q) + r.0, r.1, own, at, r.4, r.5)
@@ -188,19 +188,19 @@ module _ (units : List (List ℕ × ℕ)) where
 -- the earliest reference of a name is of the first record of all that requests it
 giver : (units : List (List ℕ × ℕ)) (segs : List Segment) (k p : ℕ) (g : UnitReference)
     → IsEarliest units [] (all_unit_references segs) k p g → IsGiver segs (owner segs p) g
-giver units segs k p g t = ((of.0, of.1, of.3.5, of.3.6), asked, first)
+giver units segs k p g t = ((of.0, of.1, of.3.5, of.3.6), requested, first)
   where
     of : (s : Segment) × (slice_get segs (owner segs p) ≡ Some s) × (d : ℕ)
         × IsOf s.file s.slot 0 s.records g d
     of = of_place segs p g t.0
 
-    asked : Asks segs (owner segs p) g.rec g.name
-    asked = (of.0, of.1, of.3.0, (let a = of.3.4 in let b = of.3.1 in grind arith), of.3.2, of.3.3)
+    requested : RequestsAt segs (owner segs p) g.rec g.name
+    requested = (of.0, of.1, of.3.0, (let a = of.3.4 in let b = of.3.1 in grind arith), of.3.2, of.3.3)
 
     first : (j k : ℕ) → Before (j ∷ k ∷ []) (owner segs p ∷ g.rec ∷ [])
-        → Asks segs j k g.name → ⊥
-    first j n b asks =
-        let a = asks_at segs j n g.name asks in
+        → RequestsAt segs j k g.name → ⊥
+    first j n b requests =
+        let a = requests_at segs j n g.name requests in
         let before : Before (owner segs a.0 ∷ a.1.rec ∷ []) (owner segs p ∷ g.rec ∷ []) =
         rw (a.2, a.5) b in
         elim (cases_order a.0 p) [
@@ -369,10 +369,10 @@ module _ (order : Order) (host : List ℕ) (libs : List (List ℕ))
         let giver = giver_of_front own segs k p.0 g below p.1 in
         ((p.0, below, giver), not_slot _ g.name (earliest k g e).1.2)
 
-    is_complete : (i rec : ℕ) (name : List ℕ) → Asks all i rec name
+    is_complete : (i rec : ℕ) (name : List ℕ) → RequestsAt all i rec name
         → HasSlot order host name ⊎ SomeItem queue (λ k g. g.name ≡ name)
-    is_complete i rec name asks =
-        let a = asks_at all i rec name asks in
+    is_complete i rec name requests =
+        let a = requests_at all i rec name requests in
         elim (or_cases _ _ (rw a.4 at (is_had_there order host libs a.1 (a.0, a.3)))) [
           | inl e ↦ inl (slot_of_unit order host libs name e)
           | inr e ↦ inr ((any_of_items (λ (g : UnitReference). bytes_eq g.name name)
@@ -392,7 +392,7 @@ module _ (order : Order) (host : List ℕ) (libs : List (List ℕ))
     apart : (j k : ℕ) (g h : UnitReference) → j < k → slice_get queue j ≡ Some g
         → slice_get queue k ≡ Some h → g.name ≡ h.name → ⊥
     apart j k g h l e u same = let t = are_given j k g h l e u in
-        t.3.2 t.0 g.rec t.4 (subst (λ (n : List ℕ). Asks all t.0 g.rec n) same t.2.1)
+        t.3.2 t.0 g.rec t.4 (subst (λ (n : List ℕ). RequestsAt all t.0 g.rec n) same t.2.1)
 
     is_once : (j k : ℕ) (g h : UnitReference) → slice_get queue j ≡ Some g
         → slice_get queue k ≡ Some h → g.name ≡ h.name → j ≡ k

@@ -1,6 +1,6 @@
 -- The byte that the edits of a segment make is its linked byte, and no other byte is.
 use Rattle.std.proofs.Common.{rules, ◌≡◌, ℕ, ◌+◌, ◌-◌, ◌≤◌, List, [], ◌∷◌, length, Option, Some, None, Ok, true, false, refl, sym, ap, ◌∙◌, inl, inr, arith}
-use Rattle.ps_laws.proofs.Words.{◌⊎◌, if◌then◌else◌, slice_get, find, lookup, option_map_or, bytes_eq, table_of, private_offset, next_of, IsReference, Reaches, IsSizePlace, IsOnePlace, summed_edits, summed_segment, refs_of, Body, Record, needs_linking, is_host, is_unit, Segment, host_records, units_of, target_in, target_of, known_of, grown_data_size, Target, Order, Edit}
+use Rattle.ps_laws.proofs.Vocabulary.{◌⊎◌, if◌then◌else◌, slice_get, find, lookup, option_map_or, bytes_eq, table_of, private_offset, next_of, IsReference, Reaches, IsSizePlace, IsOnePlace, summed_edits, summed_segment, refs_of, Body, Record, needs_linking, is_host, is_unit, Segment, host_records, units_of, target_in, target_of, known_of, grown_data_size, Target, Order, Edit}
 use Rattle.std.specs.Prelude.{slice_index}
 use Rattle.ps_resolve.specs.Standing.Privates.{words_before}
 use Rattle.ps_resolve.specs.LinkedBytes.{IsSlotOf, IsPublic, IsBase, all_private_words, Becomes, IsNumberPlace, IsLinkedByte}

@@ -1,6 +1,6 @@
 -- The first fault of the definitions, and that of the host's data size, is the smallest that is.
 use Rattle.std.proofs.Common.{◌≡◌, ℕ, List, [], refl, sym, subst, inl, inr, arith}
-use Rattle.ps_laws.proofs.Words.{option_map, Record, fault_if, SomeItem, OfDefinitions, in_record, Order, nat_lt, option_and_then, Decides-ltb, total_words, OfDataSize, grown_data_size}
+use Rattle.ps_laws.proofs.Vocabulary.{option_map, Record, fault_if, SomeItem, OfDefinitions, in_record, Order, nat_lt, option_and_then, Decides-ltb, total_words, OfDataSize, grown_data_size}
 use Rattle.ps_resolve.specs.Added.{segments}
 use Rattle.ps_resolve.specs.Standing.Definitions.{HasEarlierNamesake, InDefinitions}
 use Rattle.ps_linkinfo.specs.RecordCounts.{is_definition}

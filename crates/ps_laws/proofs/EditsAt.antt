@@ -1,6 +1,6 @@
 -- The edits of a segment of a link: what each is, and which of them covers a place.
 use Rattle.std.proofs.Common.{rules, ◌≡◌, ℕ, zero, suc, ◌+◌, ◌-◌, ◌<◌, ◌≤◌, List, [], ◌∷◌, ◌++◌, length, map, Some, Result, Ok, Err, Bool, true, refl, sym, ap, subst, ◌∙◌, inl, inr, arith}
-use Rattle.ps_laws.proofs.Words.{same_Some, ◌⊎◌, if◌then◌else◌, ◌&&◌, nat_le, nat_lt, enumerate_from, slice_get, flat_map, table_of, total_words, private_offset, Reaches, IsSizePlace, summed_edits, refs_of, Body, Record, needs_linking, is_host, Segment, target_in, target_of, known_of, grown_data_size, Target, Order, Edit, Byte, Reason}
+use Rattle.ps_laws.proofs.Vocabulary.{same_Some, ◌⊎◌, if◌then◌else◌, ◌&&◌, nat_le, nat_lt, enumerate_from, slice_get, flat_map, table_of, total_words, private_offset, Reaches, IsSizePlace, summed_edits, refs_of, Body, Record, needs_linking, is_host, Segment, target_in, target_of, known_of, grown_data_size, Target, Order, Edit, Byte, Reason}
 use Rattle.std.proofs.lemmas.Bool.Decides.{nat_tests}
 use Rattle.ps_linkinfo.specs.Operands.{operand_width}
 use Rattle.ps_resolve.specs.LinkedBytes.{IsNumberPlace}

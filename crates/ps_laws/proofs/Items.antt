@@ -1,6 +1,6 @@
 -- What is in a list, by its place there.
 use Rattle.std.proofs.Common.{rules, ◌≡◌, ℕ, zero, suc, ◌+◌, ◌<◌, ◌≤◌, List, [], ◌∷◌, ◌++◌, length, take, Option, Some, None, Bool, true, false, refl, ap, ◌∙◌, inl, inr, arith}
-use Rattle.ps_laws.proofs.Words.{◌⊎◌, if◌then◌else◌, range_with_len, slice_get, filter_map, enumerate_from, flat_map, cons_option, find, cases_lt, cases_order}
+use Rattle.ps_laws.proofs.Vocabulary.{◌⊎◌, if◌then◌else◌, range_with_len, slice_get, filter_map, enumerate_from, flat_map, cons_option, find, cases_lt, cases_order}
 use Rattle.std.specs.List.{filter}
 use Rattle.ps_resolve.proofs.EachSegment.{find_has}
 pub use Rattle.ps_resolve.proofs.Items.{In, of_all, all_items, all_in, at_left, right_at, first_right, some_before, find_passes}

@@ -1,6 +1,6 @@
 -- The smallest of what applies, part by part.
 use Rattle.std.proofs.Common.{◌≡◌, ℕ, zero, suc, ◌+◌, ◌<◌, ◌≤◌, List, [], ◌∷◌, Option, Some, None, Bool, true, false, refl, sym, ap, subst, ◌∙◌, inl, inr, arith}
-use Rattle.ps_laws.proofs.Words.{◌⊎◌, if◌then◌else◌, Decides, range_with_len, enumerate_from, slice_get, filter_map, option_or, option_map, option_and_then, cases_lt, false≢true, Fault, Before, first_of, fault_if, Step, key, SomeBelow, SomeItem}
+use Rattle.ps_laws.proofs.Vocabulary.{◌⊎◌, if◌then◌else◌, Decides, range_with_len, enumerate_from, slice_get, filter_map, option_or, option_map, option_and_then, cases_lt, false≢true, Fault, Before, first_of, fault_if, Step, key, SomeBelow, SomeItem}
 
 -- nothing applies, or this one does, and it is before each other one that applies
 pub data Least {X : Type 0} (IsBefore : X → X → Type 0) (Stands : X → Type 0) : Option X

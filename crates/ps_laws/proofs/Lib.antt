@@ -1,14 +1,14 @@
-pub mod Words
+pub mod Vocabulary
 pub mod Least
 pub mod Looking
 pub mod Items
-pub mod Parts
+pub mod FaultParts
 pub mod Steps
 pub mod Segments
 pub mod Sources
 pub mod Definitions
 pub mod Rounds
-pub mod Asked
+pub mod RequestedUnits
 pub mod OfLink
 pub mod UnitPlaces
 pub mod PrivateOffsets

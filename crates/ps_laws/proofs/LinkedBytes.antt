@@ -1,6 +1,6 @@
 -- Where no fault applies, the edits of a link make the linked bytes, and each place has one.
 use Rattle.std.proofs.Common.{◌≡◌, ℕ, ◌<◌, ◌≤◌, List, length, Some, None, Result, Ok, Err, true, refl, inl}
-use Rattle.ps_laws.proofs.Words.{table_of, OfReferences, IsSegment, IsOfFile, private_offset, IsReference, IsOnePlace, segments_of, summed_segment, NoneStands, Record, needs_linking, is_host, Segment, order_of, target_of, known_of, Target, in_record, Reason}
+use Rattle.ps_laws.proofs.Vocabulary.{table_of, OfReferences, IsSegment, IsOfFile, private_offset, IsReference, IsOnePlace, segments_of, summed_segment, NoneStands, Record, needs_linking, is_host, Segment, order_of, target_of, known_of, Target, in_record, Reason}
 use Rattle.std.proofs.lemmas.List.Elements.{All-same, All-map}
 use Rattle.ps_resolve.specs.Standing.References.{RecordHas}
 use Rattle.ps_resolve.specs.LinkedBytes.{IsLinkedByte, HaveLinkedBytes, HaveOneLinkedByte, HaveApartPlaces}
@@ -10,7 +10,7 @@ use Rattle.ps_words.specs.declared.edit.Edit.{Edit}
 use Rattle.ps_laws.proofs.Least.{Least, this}
 use Rattle.ps_laws.proofs.Steps.{Ranked}
 use Rattle.ps_laws.proofs.Sources.{OneStop}
-use Rattle.ps_laws.proofs.Asked.{asked_is_there}
+use Rattle.ps_laws.proofs.RequestedUnits.{requested_is_there}
 use Rattle.ps_laws.proofs.Items.{all_items}
 use Rattle.ps_resolve.proofs.OfLink.{rounds_fine}
 use Rattle.ps_laws.proofs.OfLink.{of_link}
@@ -61,7 +61,7 @@ module _ (law : OneStop) (host : List ℕ) (libs : List (List ℕ)) (none : None
       targets rec i x r u = target_there (target_of (known_of (segments_of host libs))
           (private_offset (segments_of host libs) s.slot rec) r) (λ why e. bad why (rw e at
           (record_rows (segments_of host libs) (private_offset (segments_of host libs) s.slot rec)
-          r.name r.body (asked_is_there (order_of host) host libs (rounds_fine host libs read) s is
+          r.name r.body (requested_is_there (order_of host) host libs (rounds_fine host libs read) s is
           rec r u.0))))
         where
           bad : (why : Reason) → Least Ranked (RecordHas (segments_of host libs) r.name r.body)

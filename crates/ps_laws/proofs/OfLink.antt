@@ -6,7 +6,7 @@ use Rattle.ps_resolve.specs.OfLink.{IsOfLink}
 use Rattle.ps_resolve.specs.Sources.{Segment, order_of}
 use Rattle.ps_resolve.specs.Standing.Segments.{IsSegment}
 use Rattle.ps_resolve.proofs.OfLink.{of_link as all_of_link}
-use Rattle.ps_laws.proofs.Asked.{in_segments}
+use Rattle.ps_laws.proofs.RequestedUnits.{in_segments}
 use Rattle.ps_laws.proofs.Items.{of_all}
 
 pub of_link : (host : List ℕ) (libs : List (List ℕ)) → reading_fault host libs ≡ None

@@ -3,7 +3,7 @@
 use Rattle.std.proofs.Common.{◌≡◌, ℕ, zero, suc, ◌+◌, ◌<◌, List, [], ◌∷◌, length, Some, None, Bool, true, false, refl, sym, ap, ◌∙◌, is_some, arith}
 use Rattle.ps_resolve.specs.Standing.Definitions.{HasEarlierNamesake}
 use Rattle.ps_laws.proofs.Looking.{is_there}
-use Rattle.ps_laws.proofs.Words.{same_Some, cons_option, option_map_or, false≢true, next_of, Body, Record, segments_of, is_host, Segment, order_of, host_of, host_records, NoneStands, OfDefinitions, in_record}
+use Rattle.ps_laws.proofs.Vocabulary.{same_Some, cons_option, option_map_or, false≢true, next_of, Body, Record, segments_of, is_host, Segment, order_of, host_of, host_records, NoneStands, OfDefinitions, in_record}
 use Rattle.std.specs.Prelude.{filter_map, slice_get, unwrap_or}
 use Rattle.ps_linkinfo.specs.RecordCounts.{is_definition, next_in}
 use Rattle.ps_linkinfo.specs.Records.{EndsOnce, is_end, is_eof}

@@ -1,7 +1,7 @@
 -- Where no fault applies, no two units of a link have a name in common.
 use Rattle.std.proofs.Common.{rules, ◌≡◌, ℕ, ◌<◌, List, Some, None, true, refl, sym, ap, ◌∙◌, inl, inr}
 use Rattle.ps_resolve.specs.Standing.Slots.{SlotHas}
-use Rattle.ps_laws.proofs.Words.{◌⊎◌, slice_get, same_Some, entry_at, is_unit, added_segments, segments_of, IsOfRound, AddedUnits, Segment, order_of, NoneStands, OfSlots, IsSegment, IsUnitSlot, UnitReference, Order}
+use Rattle.ps_laws.proofs.Vocabulary.{◌⊎◌, slice_get, same_Some, entry_at, is_unit, added_segments, segments_of, IsOfRound, AddedUnits, Segment, order_of, NoneStands, OfSlots, IsSegment, IsUnitSlot, UnitReference, Order}
 use Rattle.ps_resolve.specs.Added.{segments}
 use Rattle.ps_resolve.specs.AllFaults.{reading_fault}
 use Rattle.ps_resolve.specs.LinkedBytes.{IsSlotOf}

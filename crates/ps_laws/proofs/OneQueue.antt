@@ -1,6 +1,6 @@
 -- Just one queue of names and one list of segments have what is said of the units that are added.
 use Rattle.std.proofs.Common.{rules, ◌≡◌, ℕ, zero, suc, ◌+◌, ◌<◌, List, [], ◌∷◌, ◌++◌, length, take, Option, Some, None, Bool, refl, sym, ap, subst, ◌∙◌, inl, inr, arith}
-use Rattle.ps_laws.proofs.Words.{slice_get, cases_order, same_Some, Role, Record, IsNamed, HasEntry, Before, Segment, Asks, IsGiver, AddedUnits, UnitReference, Order}
+use Rattle.ps_laws.proofs.Vocabulary.{slice_get, cases_order, same_Some, Role, Record, IsNamed, HasEntry, Before, Segment, RequestsAt, IsGiver, AddedUnits, UnitReference, Order}
 use Rattle.ps_codefile.specs.Procedures.{ProcedureTables}
 use Rattle.ps_resolve.specs.Sources.{own_segments}
 use Rattle.ps_resolve.specs.RequestedUnits.{IsOfFirstLibrary}
@@ -25,17 +25,17 @@ front_agrees (suc k) (x ∷ xs) zero l = refl
 front_agrees (suc k) (x ∷ xs) (suc j) l = front_agrees k xs j (omega (arith, l))
 
 -- 2. givers in lists that are the same up to a place
-asks_moves : (xs ys : List Segment) (i rec : ℕ) (name : List ℕ)
-    → slice_get xs i ≡ slice_get ys i → Asks xs i rec name → Asks ys i rec name
-asks_moves xs ys i rec name same t = (t.0, sym same ∙ t.1, t.2, t.3, t.4, t.5)
+requests_moves : (xs ys : List Segment) (i rec : ℕ) (name : List ℕ)
+    → slice_get xs i ≡ slice_get ys i → RequestsAt xs i rec name → RequestsAt ys i rec name
+requests_moves xs ys i rec name same t = (t.0, sym same ∙ t.1, t.2, t.3, t.4, t.5)
 
 pub giver_moves : (xs ys : List Segment) (n i : ℕ) (g : UnitReference) → Agree n xs ys → i < n
     → IsGiver xs i g → IsGiver ys i g
 giver_moves xs ys n i g same l t = (
   (t.0.0, sym (same i l) ∙ t.0.1, t.0.2, t.0.3),
-  asks_moves xs ys i g.rec g.name (same i l) t.1,
-  λ j rec b asks. t.2 j rec b (asks_moves ys xs j rec g.name
-      (sym (same j (below j rec b))) asks),
+  requests_moves xs ys i g.rec g.name (same i l) t.1,
+  λ j rec b requests. t.2 j rec b (requests_moves ys xs j rec g.name
+      (sym (same j (below j rec b))) requests),
 )
   where
     below : (j rec : ℕ) → Before (j ∷ rec ∷ []) (i ∷ g.rec ∷ []) → j < n
@@ -57,10 +57,10 @@ same_place segs i j g h a b same = (
 )
   where
     earlier : Before (i ∷ g.rec ∷ []) (j ∷ h.rec ∷ []) → ⊥
-    earlier l = b.2 i g.rec l (subst (λ n. Asks segs i g.rec n) same a.1)
+    earlier l = b.2 i g.rec l (subst (λ n. RequestsAt segs i g.rec n) same a.1)
 
     later : Before (j ∷ h.rec ∷ []) (i ∷ g.rec ∷ []) → ⊥
-    later l = a.2 j h.rec l (subst (λ n. Asks segs j h.rec n) (sym same) b.1)
+    later l = a.2 j h.rec l (subst (λ n. RequestsAt segs j h.rec n) (sym same) b.1)
 
     at : i ≡ j
     at = not_apart i j (λ l. earlier (inl l)) (λ l. later (inl l))

@@ -1,7 +1,7 @@
 -- The offset of a private is the base offset of the host's end mark, and the words of all segments
 -- before and of the records before its own.
 use Rattle.std.proofs.Common.{rules, ◌≡◌, ℕ, ◌+◌, ◌<◌, ◌≤◌, List, [], ◌∷◌, take, refl, ap, arith}
-use Rattle.ps_laws.proofs.Words.{flat_map, Record, Segment, host_records, private_words, total_words, next_of, private_offset, words_taken}
+use Rattle.ps_laws.proofs.Vocabulary.{flat_map, Record, Segment, host_records, private_words, total_words, next_of, private_offset, words_taken}
 use Rattle.std.specs.Prelude.{sum_by}
 use Rattle.std.proofs.lemmas.Bool.{lt-ltb}
 use Rattle.std.proofs.lemmas.List.Sums.{sum_by-append, sum_by-cons}

@@ -1,6 +1,6 @@
 -- The first fault of the privates is the smallest that is.
 use Rattle.std.proofs.Common.{◌≡◌, ℕ, List, [], map, Option, refl, sym, subst, arith}
-use Rattle.ps_laws.proofs.Words.{◌⊎◌, enumerate_from, Decides-and, Decides-ltb, Record, first_of, Segment, host_records, next_of, owner_of, OfPrivates, private_offset, in_record, Order, Reason, Fault}
+use Rattle.ps_laws.proofs.Vocabulary.{◌⊎◌, enumerate_from, Decides-and, Decides-ltb, Record, first_of, Segment, host_records, next_of, owner_of, OfPrivates, private_offset, in_record, Order, Reason, Fault}
 use Rattle.ps_resolve.specs.Added.{segments}
 use Rattle.ps_linkinfo.specs.RecordCounts.{is_private_reference}
 use Rattle.ps_resolve.specs.Privates.{first_private_fault}

@@ -1,6 +1,6 @@
 -- The first fault of the references is the smallest that is.
 use Rattle.std.proofs.Common.{◌≡◌, ℕ, ◌+◌, ◌<◌, ◌≤◌, List, [], ◌∷◌, ◌++◌, length, take, map, Option, Some, None, Result, Ok, Err, Bool, true, refl, sym, ap, ◌∙◌, inl, inr, arith, append_assoc, append-nil, is_some, unwrap_or}
-use Rattle.ps_laws.proofs.Words.{◌≢◌, ◌⊎◌, nat_le, nat_lt, Decides, range_with_len, enumerate_from, find, slice_get, list_any, flat_map, lookup, option_map, option_or, result_err, bytes_eq, false≢true, Decides-ltb, Decides-and, Decides-or, Decides-like, flat_map-append, bytes_eq-Decides, is_reserved, is_unit_reference, next_of, added_fault, private_words, Because, SomeBelow, SomeItem, OfReferences, part, private_offset, refs_of, Body, Record, Before, first_of, fault_if, Segment, host_records, units_of, target_in, target_of, words_taken, known_of, Target, in_record, Order, Reason, Fault}
+use Rattle.ps_laws.proofs.Vocabulary.{◌≢◌, ◌⊎◌, nat_le, nat_lt, Decides, range_with_len, enumerate_from, find, slice_get, list_any, flat_map, lookup, option_map, option_or, result_err, bytes_eq, false≢true, Decides-ltb, Decides-and, Decides-or, Decides-like, flat_map-append, bytes_eq-Decides, is_reserved, is_unit_reference, next_of, added_fault, private_words, Because, SomeBelow, SomeItem, OfReferences, part, private_offset, refs_of, Body, Record, Before, first_of, fault_if, Segment, host_records, units_of, target_in, target_of, words_taken, known_of, Target, in_record, Order, Reason, Fault}
 use Rattle.std.proofs.lemmas.List.{map-append}
 use Rattle.std.proofs.lemmas.List.Folds.{list_any-append}
 use Rattle.ps_resolve.specs.Added.{segments}
@@ -16,7 +16,7 @@ use Rattle.ps_resolve.specs.declared.definitions.DefKind.{DefKind}
 use Rattle.ps_resolve.specs.declared.definitions.DefKind.TheVariants.{Public, Constant}
 use Rattle.ps_resolve.specs.declared.references.Target.TheVariants.{Base}
 use Rattle.ps_laws.proofs.Least.{Least, nothing, this, Precedes, least_same, least_or, least_if, least_items}
-use Rattle.ps_laws.proofs.Asked.{HasUnit, units_named, asked_is_there}
+use Rattle.ps_laws.proofs.RequestedUnits.{HasUnit, units_named, requested_is_there}
 use Rattle.ps_laws.proofs.Steps.{Ranked, because, because_apart, any_of_range}
 use Rattle.ps_resolve.proofs.FirstSlots.{none_mapped, some_mapped}
 use Rattle.ps_laws.proofs.Looking.{is_there, of_test, any_of_take, any_of_items, find_none, find_some}
@@ -413,7 +413,7 @@ step_10 order host libs fine =
     rw e (over_segments
     {S = λ s f. SomeItem s.records (λ rec r. RecordFaults order segs s rec r f)} order host libs _
     (λ s is. least_items _ s.records (λ rec r e. of_record order segs s rec r e
-    (asked_is_there order host libs fine s is rec r e)) (λ i j a b x y h m n.
+    (requested_is_there order host libs fine s is rec r e)) (λ i j a b x y h m n.
     (let p = at_record order segs s i a x m in let q = at_record order segs s j b y n in
     grind (arith, p, q)))) (λ s t x y h m n. (let p = at_record order segs s m.0 m.1 x m.3 in
     let q = at_record order segs t n.0 n.1 y n.3 in grind (arith, p, q))))

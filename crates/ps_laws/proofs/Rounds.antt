@@ -1,6 +1,6 @@
 -- The first fault of the units that are added is the smallest that is.
 use Rattle.std.proofs.Common.{◌≡◌, ◌≤◌, ◌∷◌, ◌∙◌, append-nil, length-append, ℕ, ◌+◌, length, Option, subst, arith, unwrap_or, List, [], take, Some, None, Bool, refl, inl, inr}
-use Rattle.ps_laws.proofs.Words.{◌⊎◌, if◌then◌else◌, Decides, slice_get, option_or, option_map, option_and_then, cases_lt, Decides-or, RoundsOutcome, after, added_segments, added_fault, Step, OfSources, OfAdded, rank, part, key, InRound, entry_fault, code_fault, Before, Segment, unit_source, UnitReference, in_record, Order, Fault}
+use Rattle.ps_laws.proofs.Vocabulary.{◌⊎◌, if◌then◌else◌, Decides, slice_get, option_or, option_map, option_and_then, cases_lt, Decides-or, RoundsOutcome, after, added_segments, added_fault, Step, OfSources, OfAdded, rank, part, key, InRound, entry_fault, code_fault, Before, Segment, unit_source, UnitReference, in_record, Order, Fault}
 use Rattle.ps_resolve.specs.Added.{is_missing, requested_units, rounds}
 use Rattle.ps_resolve.specs.Standing.Keys.{record_read}
 use Rattle.ps_resolve.specs.Standing.Rounds.{IsMissing, PlacedFault}

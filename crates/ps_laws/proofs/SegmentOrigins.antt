@@ -1,6 +1,6 @@
 -- Where no fault applies, the segments of a link have the origins that are said plainly.
 use Rattle.std.proofs.Common.{◌≡◌, ℕ, zero, suc, ◌+◌, ◌<◌, ◌≤◌, List, [], ◌∷◌, ◌++◌, take, Some, None, Result, Ok, true, false, refl, sym, ap, subst, ◌∙◌, inl, inr, arith}
-use Rattle.ps_laws.proofs.Words.{◌≢◌, false≢true, request_fault, UnitReference, ◌⊎◌, slice_get, or_parts, request_of, NoneStands, role_fault, range_with_len, option_map_or, added_segments, request_by_slot, option_map, result_err, added_fault, segments_of, unit_source, option_or, result_ok, IsOfRound, IsSegment, source_of, entry_at, role_of, code_of, SomeItem, IsOfFile, is_empty, order_of, Request, HasRole, reading, Segment, file_at, is_role, IsGiver, Entry, Role, Record, IsFile, Asks, in_slot, Order, Reason}
+use Rattle.ps_laws.proofs.Vocabulary.{◌≢◌, false≢true, request_fault, UnitReference, ◌⊎◌, slice_get, or_parts, request_of, NoneStands, role_fault, range_with_len, option_map_or, added_segments, request_by_slot, option_map, result_err, added_fault, segments_of, unit_source, option_or, result_ok, IsOfRound, IsSegment, source_of, entry_at, role_of, code_of, SomeItem, IsOfFile, is_empty, order_of, Request, HasRole, reading, Segment, file_at, is_role, IsGiver, Entry, Role, Record, IsFile, RequestsAt, in_slot, Order, Reason}
 use Rattle.std.specs.Prelude.{◌↔◌, All}
 use Rattle.std.proofs.Math.Dec.{ltb}
 use Rattle.std.proofs.lemmas.Bool.{ltb-false}
@@ -13,7 +13,7 @@ use Rattle.ps_codefile.specs.declared.entry.Role.TheVariants as role
 use Rattle.ps_linkinfo.specs.Records.{Spells}
 use Rattle.ps_resolve.specs.Sources.{own_segments}
 use Rattle.ps_resolve.specs.Faults.{slot_reason, slots_fault, sources_fault}
-use Rattle.ps_resolve.specs.Origins.{IsOwn, IsAddedUnit, IsInPlace, IsUnitOf, IsSliceOf, IsReadFrom, HaveOneEach, AreBySlot, AreOwn, AreAdded, AreInPlace, AreOfLibraries, AreRead, AreOfRounds, IsTaken, AsksFor}
+use Rattle.ps_resolve.specs.Origins.{IsOwn, IsAddedUnit, IsInPlace, IsUnitOf, IsSliceOf, IsReadFrom, HaveOneEach, AreBySlot, AreOwn, AreAdded, AreInPlace, AreOfLibraries, AreRead, AreOfRounds, IsTaken, RequestsName}
 use Rattle.ps_resolve.specs.RequestedUnits.{HasSlot}
 use Rattle.ps_resolve.proofs.FirstSlots.{none_mapped as map_none}
 use Rattle.ps_laws.proofs.Items.{In, all_items, in_range, in_filter, of_take, some_before}
@@ -26,7 +26,7 @@ use Rattle.ps_laws.proofs.Sources.{OneStop}
 use Rattle.ps_laws.proofs.Looking.{is_there}
 use Rattle.ps_laws.proofs.Segments.{own_in_slot, Ascends, ascend}
 use Rattle.ps_resolve.proofs.OfRounds.{in_empty}
-use Rattle.ps_laws.proofs.Asked.{empty_slot, empty_ascend, found_added, in_segments, own_at}
+use Rattle.ps_laws.proofs.RequestedUnits.{empty_slot, empty_ascend, found_added, in_segments, own_at}
 use Rattle.ps_laws.proofs.AddedUnits.{both_none, has_own, given, units_are, split_at}
 use Rattle.ps_laws.proofs.Whole.{unread}
 use Rattle.ps_laws.proofs.OneName.{of_segments}
@@ -193,37 +193,37 @@ module _ (law : OneStop) (spells : OneSpelling) (host : List ℕ) (libs : List (
         (l.0, q.0, l.1, (let u = in_empty order host libs i.0 q.0 q.1 in let v = i.1 in cc))
 
     -- what requests it was there in its round
-    asked_before : (g : UnitReference)
+    requested_before : (g : UnitReference)
         → slice_get (requested_units order host libs (take j (added_segments order host libs))) j
         ≡ Some g → s.name ≡ g.name → SomeItem (segments order host libs)
-        (λ k q. ((q.added ≡ false) ⊎ (q.slot < s.slot)) × AsksFor q s.name)
-    asked_before g earlier name =
+        (λ k q. ((q.added ≡ false) ⊎ (q.slot < s.slot)) × RequestsName q s.name)
+    requested_before g earlier name =
         elim (split_at (own_segments order host libs)
-        (take j (added_segments order host libs)) giver.0 asks.0 asks.1) [
+        (take j (added_segments order host libs)) giver.0 requests.0 requests.1) [
           | inl h ↦
-              let o = own_at order host libs asks.0 (giver.0, h) in
-              let l = own_listed giver.0 asks.0 h in
-              let mark = (own_known order host libs fine.0 o.0 asks.0 o.1 o.2).1.not_added in
-              (l.0, asks.0, l.1, (inl mark, asking))
+              let o = own_at order host libs requests.0 (giver.0, h) in
+              let l = own_listed giver.0 requests.0 h in
+              let mark = (own_known order host libs fine.0 o.0 requests.0 o.1 o.2).1.not_added in
+              (l.0, requests.0, l.1, (inl mark, requesting))
           | inr t ↦
-              let u = of_take j (added_segments order host libs) t.0 asks.0 t.2 in
-              let l = added_listed t.0 asks.0 u.1 in
-              let a = in_empty order host libs t.0 asks.0 u.1 in
+              let u = of_take j (added_segments order host libs) t.0 requests.0 t.2 in
+              let l = added_listed t.0 requests.0 u.1 in
+              let a = in_empty order host libs t.0 requests.0 u.1 in
               let b = in_empty order host libs j s in_round in
-              let less = empty_ascend order host t.0 j asks.0.slot s.slot u.0 a b in
-              (l.0, asks.0, l.1, (inr less, asking))
+              let less = empty_ascend order host t.0 j requests.0.slot s.slot u.0 a b in
+              (l.0, requests.0, l.1, (inr less, requesting))
         ]
       where
         giver : (i : ℕ)
             × IsGiver (own_segments order host libs ++ take j (added_segments order host libs)) i g
         giver = given order host libs (take j (added_segments order host libs)) j g earlier
 
-        asks : Asks (own_segments order host libs ++ take j (added_segments order host libs))
+        requests : RequestsAt (own_segments order host libs ++ take j (added_segments order host libs))
             giver.0 g.rec g.name
-        asks = giver.1.1
+        requests = giver.1.1
 
-        asking : AsksFor asks.0 s.name
-        asking = (g.rec, asks.2, asks.3, (asks.4, asks.5 ∙ sym name))
+        requesting : RequestsName requests.0 s.name
+        requesting = (g.rec, requests.2, requests.3, (requests.4, requests.5 ∙ sym name))
 
     -- the name that is looked up in that round
     of_round : (g : UnitReference) → IsOfRound order host libs j g s
@@ -249,7 +249,7 @@ module _ (law : OneStop) (spells : OneSpelling) (host : List ℕ) (libs : List (
               low = at.0;
               next = none_left;
               role = known.role;
-              asked = asked_before g known.earlier known.name;
+              requested = requested_before g known.earlier known.name;
               named = ap is_nameless known.name ∙ (or_parts (is_nameless g.name) _ parts.0).0;
               free = λ h. (units.requested j g known.requested).1
                   (subst (λ (n : List ℕ). HasSlot order host n) known.name h);
@@ -259,7 +259,7 @@ module _ (law : OneStop) (spells : OneSpelling) (host : List ℕ) (libs : List (
   known : (s : Segment) → IsSegment order host libs s → HasOrigin order host libs s
   known s t =
       let link = of_link host libs no_fault s t in
-      elim link.asked [
+      elim link.requested [
         | inl own ↦ of_slot s link.file link.slot own
         | inr r ↦ of_round r.0 s r.2.there r.1 r.2
       ]

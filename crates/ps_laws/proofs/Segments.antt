@@ -1,6 +1,6 @@
 -- The segments of a link, one slot after another.
 use Rattle.std.proofs.Common.{◌≡◌, ℕ, ◌<◌, List, map, Option, Some, sym, subst, arith}
-use Rattle.ps_laws.proofs.Words.{SomeBelow, ◌==◌, slice_get, find, Decides-eqb, slots, SomeItem, IsSegment, first_of, Segment, own_segment, Order, Fault}
+use Rattle.ps_laws.proofs.Vocabulary.{SomeBelow, ◌==◌, slice_get, find, Decides-eqb, slots, SomeItem, IsSegment, first_of, Segment, own_segment, Order, Fault}
 use Rattle.ps_resolve.specs.Added.{segments, segment_at}
 use Rattle.ps_resolve.specs.Standing.Segments.{SomeSegment}
 use Rattle.ps_resolve.specs.Linkable.{AscendFrom}

@@ -2,7 +2,7 @@
 -- number and the data size lie apart, at reserved places.
 use Rattle.std.proofs.Common.{◌≡◌, ℕ, ◌+◌, ◌<◌, ◌≤◌, List, length, Some, None, Bool, true, false, arith}
 use Rattle.std.proofs.lemmas.Bool.{eqb-false}
-use Rattle.ps_laws.proofs.Words.{table_of, is_reserved, needs_linking, IsOfFile, Segment, Order, ◌==◌, ◌&&◌, ◌||◌, or_parts}
+use Rattle.ps_laws.proofs.Vocabulary.{table_of, is_reserved, needs_linking, IsOfFile, Segment, Order, ◌==◌, ◌&&◌, ◌||◌, or_parts}
 use Rattle.ps_codefile.specs.Places.{HasTables}
 use Rattle.ps_codefile.specs.Procedures.{procedures, dictionary_start, content_of, tables_fault}
 use Rattle.ps_codefile.proofs.Tables.{whole_table}

@@ -1,6 +1,6 @@
 -- The first fault of each step is the smallest that is.
 use Rattle.std.proofs.Common.{rules, ◌≡◌, ℕ, zero, suc, ◌+◌, ◌<◌, ◌≤◌, List, length, Option, Result, Ok, Err, Bool, false, refl, subst, inl, inr, arith}
-use Rattle.ps_laws.proofs.Words.{◌⊎◌, if◌then◌else◌, ◌&&◌, Decides, range_with_len, list_any, option_map, option_map_or, result_ok, result_err, bytes_eq, cases_lt, false≢true, Decides-ltb, Decides-and, Decides-like, bytes_eq-Decides, entry_at, role_of, Because, SomeBelow, HasRole, IsUnitSlot, Step, OfHost, OfSlots, OfNoHost, OfLibraries, rank, Role, is_role, is_host, is_unit, Order, Reason, Fault}
+use Rattle.ps_laws.proofs.Vocabulary.{◌⊎◌, if◌then◌else◌, ◌&&◌, Decides, range_with_len, list_any, option_map, option_map_or, result_ok, result_err, bytes_eq, cases_lt, false≢true, Decides-ltb, Decides-and, Decides-like, bytes_eq-Decides, entry_at, role_of, Because, SomeBelow, HasRole, IsUnitSlot, Step, OfHost, OfSlots, OfNoHost, OfLibraries, rank, Role, is_role, is_host, is_unit, Order, Reason, Fault}
 use Rattle.std.proofs.lemmas.Bool.Decides.{Decides-not}
 use Rattle.ps_codefile.specs.Dictionary.{FileOrder, file_order, opened_alone, opened_as, opened_beside_as, same_order}
 use Rattle.ps_resolve.specs.Standing.Hosts.{HostHas, InHost}

@@ -1,6 +1,6 @@
 -- The place of a unit: the first library that has an entry of its name, and the first such entry.
 use Rattle.std.proofs.Common.{◌≡◌, ℕ, zero, suc, ◌+◌, ◌<◌, List, [], Some, sym, ap, subst, arith, unwrap_or, refl, ◌≤◌, None}
-use Rattle.ps_laws.proofs.Words.{slice_get, option_map, slots, EntryFault, ◌≢◌, find, IsFile, Order, Request, in_slot, Fault, is_named, chosen_library, unit_source, request_fault, file_at, IsNamed, HasEntry, entry_at}
+use Rattle.ps_laws.proofs.Vocabulary.{slice_get, option_map, slots, EntryFault, ◌≢◌, find, IsFile, Order, Request, in_slot, Fault, is_named, chosen_library, unit_source, request_fault, file_at, IsNamed, HasEntry, entry_at}
 use Rattle.std.proofs.lemmas.Option.{option_and_then_some}
 use Rattle.ps_resolve.specs.Sources.{library_file}
 use Rattle.ps_resolve.specs.Standing.Sources.{EntriesHave}

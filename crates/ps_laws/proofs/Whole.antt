@@ -1,6 +1,6 @@
 -- The first fault of all is the smallest that is.
 use Rattle.std.proofs.Common.{◌≡◌, ℕ, ◌+◌, ◌<◌, ◌≤◌, List, [], ◌∷◌, Option, Some, None, true, refl, sym, ap, subst, ◌∙◌, inl, inr, arith}
-use Rattle.ps_laws.proofs.Words.{◌⊎◌, ◌≢◌, slice_get, cases_lt, option_or, option_map, order_of, added_fault, Step, OfHost, OfSlots, OfNoHost, OfLibraries, OfSources, OfAdded, OfDefinitions, OfPrivates, OfDataSize, OfReferences, key, InRound, Order, Fault}
+use Rattle.ps_laws.proofs.Vocabulary.{◌⊎◌, ◌≢◌, slice_get, cases_lt, option_or, option_map, order_of, added_fault, Step, OfHost, OfSlots, OfNoHost, OfLibraries, OfSources, OfAdded, OfDefinitions, OfPrivates, OfDataSize, OfReferences, key, InRound, Order, Fault}
 use Rattle.ps_resolve.specs.Faults.{slots_fault, sources_fault, linking_fault}
 use Rattle.ps_resolve.specs.AllFaults.{first_fault, reading_fault}
 use Rattle.ps_resolve.specs.Added.{segments}

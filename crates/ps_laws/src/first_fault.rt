@@ -1,6 +1,6 @@
 ghost use Rattle.std.specs.Prelude.{◌≡◌, ◌≢◌, ℕ, List, Some, None};
 ghost use Rattle.ps_resolve.specs.AllFaults.{first_fault, reading_fault};
-ghost use Rattle.ps_resolve.specs.Parts.{HasItsParts};
+ghost use Rattle.ps_resolve.specs.FaultParts.{HasItsParts};
 ghost use Rattle.ps_resolve.specs.Sources.{order_of};
 ghost use Rattle.ps_resolve.specs.Standing.{IsFirst, FaultAt, NoneStandsInReading};
 ghost use Rattle.ps_resolve.specs.Standing.Keys.{Step};

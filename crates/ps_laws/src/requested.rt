@@ -1,6 +1,6 @@
 ghost use Rattle.std.specs.Prelude.{◌≡◌, ℕ, List, None};
 ghost use Rattle.ps_resolve.specs.AllFaults.{reading_fault};
-ghost use Rattle.ps_resolve.specs.RequestedUnits.{AreAddedUnits, AreOnlyUnits, HasAllAsked};
+ghost use Rattle.ps_resolve.specs.RequestedUnits.{AreAddedUnits, AreOnlyUnits, HasAllRequested};
 
 /// Where the files are read without a fault, the units that are added are those that are requested,
 /// as this is said plainly.
@@ -19,5 +19,5 @@ pub fn added_units()
     ensures one { (host : List ℕ) (libs : List (List ℕ)) → reading_fault host libs ≡ None
         → AreOnlyUnits host libs }
     ensures there { (host : List ℕ) (libs : List (List ℕ)) → reading_fault host libs ≡ None
-        → HasAllAsked host libs }
+        → HasAllRequested host libs }
 {}

@@ -1,6 +1,6 @@
 -- The blocks of codes whose slots ascend.
 use Rattle.std.proofs.Common.{◌≡◌, ◌≤◌, ◌==◌, ◌∷◌, length-append, ◌∙◌, ℕ, List, map, take, drop, None, refl, ◌+◌, ◌*◌, ◌<◌, [], ◌++◌, length, arith}
-use Rattle.ps_linkfile.proofs.Words.{nat_lt, filter, find, blocks, Order, Origin, pair_of, Ascend, All, All-nil, All-cons, All-head, All-tail, MAX_WORD, block_of, nat_tests, word_bytes, all_blocks, starts_of}
+use Rattle.ps_linkfile.proofs.Vocabulary.{nat_lt, filter, find, blocks, Order, Origin, pair_of, Ascend, All, All-nil, All-cons, All-head, All-tail, MAX_WORD, block_of, nat_tests, word_bytes, all_blocks, starts_of}
 use Rattle.std.proofs.lemmas.Bool.{eq-eqb}
 use Rattle.std.proofs.lemmas.List.{map-append, take_all}
 use Rattle.std.proofs.lemmas.List.Sums.{sum_by-cons, sum_by_push}

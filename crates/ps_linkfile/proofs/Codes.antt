@@ -1,6 +1,6 @@
 -- The codes of a plan's sources, one after another.
 use Rattle.std.proofs.Common.{◌≡◌, ℕ, ◌+◌, ◌*◌, List, [], ◌∷◌, ◌++◌, length, drop, Option, ◌∙◌, append_assoc, arith, length-append}
-use Rattle.ps_linkfile.proofs.Words.{length-map-range_with_len, Appends, blocks, Order, Edit, Origin, patched_or_zero, all_blocks, padded_code, padded_codes, HaveEdits, AppendsPrefix}
+use Rattle.ps_linkfile.proofs.Vocabulary.{length-map-range_with_len, Appends, blocks, Order, Edit, Origin, patched_or_zero, all_blocks, padded_code, padded_codes, HaveEdits, AppendsPrefix}
 use Rattle.ps_linkfile.proofs.Blocks.{all_blocks-cons}
 use Rattle.ps_linkfile.proofs.Prefixes.{appends_twice, prefix_more}
 

@@ -1,4 +1,4 @@
-pub mod Words
+pub mod Vocabulary
 pub mod Prefixes
 pub mod Blocks
 pub mod Rising
@@ -16,6 +16,6 @@ pub mod ReferenceText
 pub mod Written
 pub mod Sending
 pub mod ShownNames
-pub mod Filling
-pub mod Listings
+pub mod FilledPlaces
+pub mod StoredPlaces
 pub mod Numbered

@@ -1,6 +1,6 @@
 -- The map of a plan is the map of its link, and the row of a source.
 use Rattle.std.proofs.Common.{◌≡◌, ℕ, zero, suc, ◌+◌, ◌≤◌, ◌<◌, List, [], ◌∷◌, ◌++◌, length, map, get_or, Some, refl, sym, ◌∙◌, ap, arith}
-use Rattle.ps_linkfile.proofs.Words.{find, order_of, get_or-map-range_with_len, Segment, Planned, Origin, origin_of, origin_of_source, IsPlan, nat_tests, Source, block_of, starts_of, Ascend}
+use Rattle.ps_linkfile.proofs.Vocabulary.{find, order_of, get_or-map-range_with_len, Segment, Planned, Origin, origin_of, origin_of_source, IsPlan, nat_tests, Source, block_of, starts_of, Ascend}
 use Rattle.std.specs.Prelude.{◌==◌, slice_get}
 use Rattle.std.proofs.lemmas.Option.{unwrap_or-slice_get}
 use Rattle.ps_resolve.specs.Added.{segments, slot_name, slot_names}

@@ -1,6 +1,6 @@
 -- The sixteen pairs of a segment dictionary, byte by byte.
 use Rattle.std.proofs.Common.{◌≡◌, ◌≢◌, ℕ, zero, suc, ◌+◌, ◌*◌, ◌/◌, ◌%◌, ◌≤◌, ◌<◌, List, [], ◌∷◌, ◌++◌, length, get_or, drop, replicate, sym, ◌∙◌, ap, subst, inl, inr, arith, length-append}
-use Rattle.ps_linkfile.proofs.Words.{flat_map, range_with_len, cases_lt, word_bytes, blocks, Order, Origin, slots, Ascend, get_or-replicate, length-replicate, get_or_append_left, ext_get_or, drop_all}
+use Rattle.ps_linkfile.proofs.Vocabulary.{flat_map, range_with_len, cases_lt, word_bytes, blocks, Order, Origin, slots, Ascend, get_or-replicate, length-replicate, get_or_append_left, ext_get_or, drop_all}
 use Rattle.std.proofs.lemmas.List.{get_or-append_right}
 use Rattle.ps_linkfile.specs.LinkedFile.{block_of, pair_of, all_pairs}
 use Rattle.ps_linkfile.proofs.Blocks.{Left, left_start, left_more, first_block, first_pair, no_pair}

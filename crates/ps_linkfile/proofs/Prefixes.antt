@@ -1,6 +1,6 @@
 -- Prefixes of what is to be written, and lists that are a function of their places.
 use Rattle.std.proofs.Common.{◌≡◌, ℕ, zero, suc, ◌+◌, ◌-◌, ◌<◌, List, [], ◌∷◌, ◌++◌, length, take, drop, map, get_or, Option, Some, None, Result, Ok, Err, OnErr, refl, sym, ◌∙◌, ap, subst, append_assoc, arith, length-drop}
-use Rattle.ps_linkfile.proofs.Words.{length-map-range_with_len, get_or-map-range_with_len, Appends, range_with_len, AppendsPrefix}
+use Rattle.ps_linkfile.proofs.Vocabulary.{length-map-range_with_len, get_or-map-range_with_len, Appends, range_with_len, AppendsPrefix}
 use Rattle.std.proofs.lemmas.List.{append-nil, take_all, take-append-drop, ext_get_or}
 use Rattle.std.proofs.Math.Seq.{take-append_seam, take-add}
 

@@ -1,6 +1,6 @@
 -- How the counts of a writer rise while a file is written.
 use Rattle.std.proofs.Common.{rules, ◌≡◌, ◌≢◌, ◌∙◌, ℕ, ◌+◌, ◌*◌, ◌-◌, ◌≤◌, ◌<◌, List, [], ◌∷◌, length, drop, Bool, true, false, Result, Ok, Err, ap, refl, arith, ◌^◌}
-use Rattle.ps_linkfile.proofs.Words.{All, min, blocks, MAX_CODE_LEN, Origin, Counts, WriteFault, NoneFailed, OneFailed, Rises, all_blocks, Ascend}
+use Rattle.ps_linkfile.proofs.Vocabulary.{All, min, blocks, MAX_CODE_LEN, Origin, Counts, WriteFault, NoneFailed, OneFailed, Rises, all_blocks, Ascend}
 use Rattle.std.specs.declared.io.Error.{Error}
 use Rattle.ps_linkfile.specs.declared.block_layout.TheConstants.{MAX_FILE_BLOCKS}
 use Rattle.ps_linkfile.specs.declared.error.WriteFault.TheVariants.{Device, Stalled}

@@ -1,6 +1,6 @@
 -- Text that is gathered in front of a writer, and sent to it.
 use Rattle.std.proofs.Common.{arith, ◌≡◌, ℕ, List, [], ◌++◌, true, false, Option, Some, None, append_assoc, append-nil, sym, ◌∙◌, ap}
-use Rattle.ps_linkfile.proofs.Words.{is_some, Appends, AppendsPrefix, WriteFault}
+use Rattle.ps_linkfile.proofs.Vocabulary.{is_some, Appends, AppendsPrefix, WriteFault}
 use Rattle.ps_linkfile.specs.Counts.{Failures, failures_with}
 use Rattle.std.proofs.lemmas.Bool.{false≢true}
 use Rattle.ps_linkfile.specs.Adding.{IsCounted, IsSent, IsKept}

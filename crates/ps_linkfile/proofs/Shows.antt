@@ -1,6 +1,6 @@
 -- The order of a file that is shown, and its lines.
 use Rattle.std.proofs.Common.{◌≡◌, ℕ, suc, ◌+◌, ◌-◌, ◌<◌, ◌≤◌, List, [], ◌∷◌, ◌++◌, length, length-append, map, append_assoc, append-nil, Bool, true, if◌then◌else◌, Some, None, Ok, Err, refl, sym, ◌∙◌, ap, arith}
-use Rattle.ps_linkfile.proofs.Words.{filter, range_with_len, in_file, Order, Reason, reading, known_order, OpenedFile, FileOrder, Ordered, file_order, opened_as, entry_at, code_of, information_of}
+use Rattle.ps_linkfile.proofs.Vocabulary.{filter, range_with_len, in_file, Order, Reason, reading, known_order, OpenedFile, FileOrder, Ordered, file_order, opened_as, entry_at, code_of, information_of}
 use Rattle.std.specs.Prelude.{codes}
 use Rattle.ps_words.specs.declared.order.Order.TheVariants.{Little}
 use Rattle.ps_words.specs.declared.fault.Reason.TheVariants as reason

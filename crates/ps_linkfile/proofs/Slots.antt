@@ -1,6 +1,6 @@
 -- The segments of a link are by slot, and no code is longer than MAX_CODE_LEN bytes.
 use Rattle.std.proofs.Common.{ℕ, ◌+◌, ◌<◌, ◌≤◌, List, [], ◌∷◌, length, map, sym, subst, inl, inr, arith}
-use Rattle.ps_linkfile.proofs.Words.{All, Order, entry_at, MAX_CODE_LEN, Origin, Ascend, origin_of}
+use Rattle.ps_linkfile.proofs.Vocabulary.{All, Order, entry_at, MAX_CODE_LEN, Origin, Ascend, origin_of}
 use Rattle.std.proofs.lemmas.List.Elements.{All-map, All-tail}
 use Rattle.ps_codefile.specs.declared.entry.Role.{Role}
 use Rattle.ps_codefile.specs.declared.entry.Role.TheVariants.{Wanted}

@@ -1,6 +1,6 @@
 -- The linked file is one list: where its facts hold, each byte is that of the list.
 use Rattle.std.proofs.Common.{◌≡◌, ℕ, suc, List, ◌+◌, ◌-◌, ◌*◌, ◌/◌, ◌≤◌, ◌<◌, [], ◌∷◌, ◌++◌, length, map, get_or, take, drop, replicate, Option, Some, None, Result, Err, Bool, true, false, cond, refl, sym, ◌∙◌, ap, subst, inl, inr, arith, append_assoc, length-append, length-take, length-drop}
-use Rattle.ps_linkfile.proofs.Words.{flat_map, length-map-range_with_len, get_or-map-range_with_len, nat_tests, file_order, ext_get_or, all_blocks, LinkedFile, All-nil, in_file, Segment, drop_all, block_of, All-cons, opened_as, order_of, drop-drop, blocks, get_or_append_left, get_or-replicate, Order, Fault, Origin, pair_of, origins, Reason, origin_of, Edit, padded_segment, linked_file, OpenedFile, patched_or_zero, linked_segments}
+use Rattle.ps_linkfile.proofs.Vocabulary.{flat_map, length-map-range_with_len, get_or-map-range_with_len, nat_tests, file_order, ext_get_or, all_blocks, LinkedFile, All-nil, in_file, Segment, drop_all, block_of, All-cons, opened_as, order_of, drop-drop, blocks, get_or_append_left, get_or-replicate, Order, Fault, Origin, pair_of, origins, Reason, origin_of, Edit, padded_segment, linked_file, OpenedFile, patched_or_zero, linked_segments}
 use Rattle.std.specs.Prelude.{All, nat_lt, slice_range}
 use Rattle.std.specs.Option.{option_map}
 use Rattle.std.specs.Result.{result_err}
@@ -12,7 +12,7 @@ use Rattle.ps_words.specs.declared.fault.Reason.TheVariants as reason
 use Rattle.ps_resolve.specs.LinkedBytes.{IsLinkedByte, segments_of, HaveLinkedBytes, HaveOneLinkedByte}
 use Rattle.ps_resolve.specs.Standing.{NoneStands, NoneStandsInReading, FaultAt, IsFirst}
 use Rattle.ps_resolve.specs.Standing.Keys.{Step}
-use Rattle.ps_resolve.specs.Parts.{HasItsParts}
+use Rattle.ps_resolve.specs.FaultParts.{HasItsParts}
 use Rattle.ps_resolve.specs.Plans.{IsStopped}
 use Rattle.ps_resolve.specs.declared.linkage.Stop.{Stop}
 use Rattle.ps_resolve.specs.Added.{segments, slot_names}

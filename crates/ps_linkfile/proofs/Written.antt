@@ -1,6 +1,6 @@
 -- Text that is added piece by piece: what was added so far, and what is left of all.
 use Rattle.std.proofs.Common.{◌≡◌, ℕ, suc, ◌+◌, ◌-◌, ◌<◌, ◌≤◌, List, [], ◌∷◌, ◌++◌, length, drop, append_assoc, append-nil, sym, subst, ◌∙◌, ap, arith}
-use Rattle.ps_linkfile.proofs.Words.{flat_map, range_with_len, drop_all}
+use Rattle.ps_linkfile.proofs.Vocabulary.{flat_map, range_with_len, drop_all}
 use Rattle.ps_linkfile.specs.Adding.{Adds}
 
 infixl 30 ◌⨾◌

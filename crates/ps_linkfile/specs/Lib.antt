@@ -12,5 +12,5 @@ pub mod MapText
 pub mod ShowText
 pub mod Adding
 pub mod ReferencesText
-pub mod Listing
+pub mod FilledPlaces
 pub mod ReferencesJson

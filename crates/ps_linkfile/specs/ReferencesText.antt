@@ -70,7 +70,7 @@ cause_at size edits records p = option_or (number_at size p)
 
 -- a segment's code before and after a link, and why the link stores what begins at each place; in
 -- the linked file the code begins in this block
-pub record Listed : Type 0 where
+pub record StoredIn : Type 0 where
   pub slot : ℕ
   pub name : List ℕ
   pub block : ℕ
@@ -79,8 +79,8 @@ pub record Listed : Type 0 where
   pub causes : List (Option Cause)
 
 -- that of a segment with these edits
-abbrev pub listed_in : Order → ℕ → Segment → List Edit → Listed
-listed_in order block s edits = record {
+abbrev pub stored_in : Order → ℕ → Segment → List Edit → StoredIn
+stored_in order block s edits = record {
   slot = s.slot;
   name = s.name;
   block = block;
@@ -120,7 +120,7 @@ bytes_at code p width = take width (drop p code)
 -- the row of a place, as `number 07 UTIL     at 22 file 1046 was 02 is 07`: the slot and the name of
 -- the segment, the place in its code and in the linked file, and the bytes there before and after
 -- the link
-abbrev pub place_row : Form → Listed → ℕ → Cause → List Value
+abbrev pub place_row : Form → StoredIn → ℕ → Cause → List Value
 place_row form s p cause =
     Stored (cause_word cause) s.slot s.name ∷ Number (codes "at") p
     ∷ Number (by_form form (codes "file") (codes "offset")) (block_len * s.block + p)
@@ -145,33 +145,33 @@ item_end DataSize = codes "},\n"
 item_end (Reference kind name rec) = codes "},\n"
 
 -- the row of a place with its record, if a link stores what begins there
-abbrev pub place_in : Form → Listed → ℕ × Option Cause → List ℕ
+abbrev pub place_in : Form → StoredIn → ℕ × Option Cause → List ℕ
 place_in form s (p, None) = []
 place_in form s (p, Some cause) = values_in form (place_row form s p cause)
     ++ record_in form cause ++ by_form form (codes "\n") (item_end cause)
 
 -- the rows of a segment, by place
-abbrev pub listing_in : Form → ℕ × Listed → List ℕ
-listing_in form s = by_form form [] (separator s.0)
+abbrev pub stored_rows : Form → ℕ × StoredIn → List ℕ
+stored_rows form s = by_form form [] (separator s.0)
     ++ flat_map (place_in form s.1) (enumerate_from 0 s.1.causes)
 
 -- those of all segments, by slot; in a document they are after the members of the map
-abbrev pub references_in : Form → List Listed → List ℕ
-references_in form listings = by_form form [] (codes ",\"references\":[")
-    ++ flat_map (listing_in form) (enumerate_from 0 listings)
+abbrev pub references_in : Form → List StoredIn → List ℕ
+references_in form all_stored = by_form form [] (codes ",\"references\":[")
+    ++ flat_map (stored_rows form) (enumerate_from 0 all_stored)
     ++ by_form form [] (codes "\n]}\n")
 
 -- what a link stores in each of these segments with their edits, by slot, where the codes are of
 -- these origins; nothing is stored in one that is linked already
-abbrev pub listings_in : Order → List Origin → List (Segment × List Edit) → List Listed
-listings_in order origins es =
-    map (λ e. listed_in order (block_of origins e.0.slot) e.0 e.1)
+abbrev pub all_stored_in : Order → List Origin → List (Segment × List Edit) → List StoredIn
+all_stored_in order origins es =
+    map (λ e. stored_in order (block_of origins e.0.slot) e.0 e.1)
     (filter (λ e. needs_linking e.0.role) es)
 
 -- what a link of a host and its libraries stores, by slot
-unfoldable pub listings_of : List ℕ → List (List ℕ) → List Listed
-listings_of host libs = listings_in (order_of host) (origins host libs) (linked_segments host libs)
+unfoldable pub all_stored_of : List ℕ → List (List ℕ) → List StoredIn
+all_stored_of host libs = all_stored_in (order_of host) (origins host libs) (linked_segments host libs)
 
 -- the lines of that
 unfoldable pub references_of : List ℕ → List (List ℕ) → List ℕ
-references_of host libs = references_in Lines (listings_of host libs)
+references_of host libs = references_in Lines (all_stored_of host libs)

@@ -8,8 +8,8 @@ use Rattle.ps_linkfile.specs.JsonText.{json_bool, json_name, json_reason, member
 use Rattle.ps_linkfile.specs.Lines.{fault_words, hex_byte, references, shown_name, two_digits}
 use Rattle.ps_linkfile.specs.declared.rows.Form.{Form}
 use Rattle.ps_linkfile.specs.declared.rows.Form.TheVariants.{Lines, Json}
-use Rattle.ps_linkfile.specs.declared.rows.Part.{Part}
-use Rattle.ps_linkfile.specs.declared.rows.Part.TheVariants as part
+use Rattle.ps_linkfile.specs.declared.rows.RowPart.{RowPart}
+use Rattle.ps_linkfile.specs.declared.rows.RowPart.TheVariants as part
 
 -- A value of a row: the slot and the name, or the kind, that a row begins with; the number that the
 -- last row begins with; a number; a number that a line has in two digits; whether the word holds; of
@@ -32,7 +32,7 @@ pub data Value : Type 0 where
   Bytes : List ℕ → List ℕ → Value
 
 -- that of a part of a row in the code
-abbrev pub value_of : Part → Value
+abbrev pub value_of : RowPart → Value
 value_of (part.InSlot word slot name) = InSlot word.now slot name
 value_of (part.OfKind kind) = OfKind kind.now
 value_of (part.Total word n) = Total word.now n

@@ -13,7 +13,7 @@ use crate::block_layout::lay_out;
 use crate::error::LinkError;
 use crate::in_memory::in_memory;
 use crate::linked::{Linked, prepare};
-use crate::rows::{Form, Part, add_by_form, add_parts, add_row};
+use crate::rows::{Form, RowPart, add_by_form, add_parts, add_row};
 use crate::text_writer::{Text, TextWriter};
 use ps_laws::first_of_all;
 use ps_resolve::{Def, DefKind, Definitions, Plan, Private, Source};
@@ -34,12 +34,12 @@ fn add_segment<S: TextWriter>(
         (length source.now.code.now) source.now.added)) text.new }
 {
     let parts = [
-        Part::InSlot(b"segment ", source.slot, name),
-        Part::Number(b"file", source.file),
-        Part::Short(b"entry", source.index),
-        Part::Number(b"block", block as usize),
-        Part::Number(b"length", source.code.len()),
-        Part::Flag(b"added", source.added),
+        RowPart::InSlot(b"segment ", source.slot, name),
+        RowPart::Number(b"file", source.file),
+        RowPart::Short(b"entry", source.index),
+        RowPart::Number(b"block", block as usize),
+        RowPart::Number(b"length", source.code.len()),
+        RowPart::Flag(b"added", source.added),
     ];
     add_row(text, form, index, &parts);
 }
@@ -84,9 +84,9 @@ fn add_definition<S: TextWriter>(text: &mut S, form: Form, index: usize, name: N
     ensures { Adds S.added text.old (row_in form index (definition_row (name, def))) text.new }
 {
     let parts = [
-        Part::OfKind(kind_word(def.kind)),
-        Part::Named(name),
-        Part::Number(b"value", def.value as usize),
+        RowPart::OfKind(kind_word(def.kind)),
+        RowPart::Named(name),
+        RowPart::Number(b"value", def.value as usize),
     ];
     add_row(text, form, index, &parts);
 }
@@ -113,9 +113,9 @@ fn add_private<S: TextWriter>(text: &mut S, form: Form, index: usize, private: &
     ensures { Adds S.added text.old (row_in form index (private_row private.now)) text.new }
 {
     let parts = [
-        Part::InSlot(b"private ", private.slot, private.name),
-        Part::Number(b"offset", private.offset as usize),
-        Part::Number(b"words", private.words as usize),
+        RowPart::InSlot(b"private ", private.slot, private.name),
+        RowPart::Number(b"offset", private.offset as usize),
+        RowPart::Number(b"words", private.words as usize),
     ];
     add_row(text, form, index, &parts);
 }
@@ -143,9 +143,9 @@ fn add_last<A: Allocator + Copy, S: TextWriter>(
         (values_in form (last_row plan.now.next_free plan.now.data_size blocks)) text.new }
 {
     let parts = [
-        Part::Total(b"next", plan.next_free() as usize),
-        Part::Number(b"data", plan.data_size() as usize),
-        Part::Number(b"blocks", blocks),
+        RowPart::Total(b"next", plan.next_free() as usize),
+        RowPart::Number(b"data", plan.data_size() as usize),
+        RowPart::Number(b"blocks", blocks),
     ];
     add_parts(text, form, &parts);
 }

@@ -12,15 +12,15 @@ ghost use Rattle.ps_linkfile.specs.MapText.{map_of};
 ghost use Rattle.ps_linkfile.specs.Outcomes.{AppendsPrefix, HasUsedNumber, IsUnprepared, NamesFirst};
 ghost use Rattle.ps_linkfile.specs.ReferencesJson.{IsReferencesJson, referenced_json, references_text};
 ghost use Rattle.ps_linkfile.specs.declared.cause.Cause.TheVariants.{Reference};
-ghost use Rattle.ps_linkfile.specs.ReferencesText.{bytes_at as bytes_at_spec, item_end as item_end_spec, listing_in, place_in, record_in, references_in, references_of};
+ghost use Rattle.ps_linkfile.specs.ReferencesText.{bytes_at as bytes_at_spec, item_end as item_end_spec, stored_rows, place_in, record_in, references_in, references_of};
 
 use crate::cause::{Cause, ReferenceKind};
 use crate::counts::Counts;
 use crate::error::{LinkError, WriteFault};
 use crate::json::separator;
 use crate::linked::Linked;
-use crate::listing::{Listing, list_segments};
-use crate::rows::{Form, Part, add_by_form, add_parts, by_form};
+use crate::rows::{Form, RowPart, add_by_form, add_parts, by_form};
+use crate::stored_places::{StoredPlaces, stored_in_segments};
 use crate::stream::write_text;
 use crate::text_writer::{Text, TextWriter};
 use ps_laws::{bytes_are_linked, first_of_all};
@@ -97,8 +97,8 @@ fn add_reference<S: TextWriter>(
     ensures { Adds S.added text.old (record_in form (Reference kind name index)) text.new }
 {
     let parts = [
-        Part::Named(name),
-        Part::Number(by_form(form, b"record", b"index"), index),
+        RowPart::Named(name),
+        RowPart::Number(by_form(form, b"record", b"index"), index),
     ];
     add_by_form(text, form, b" ", b",\"record\":{\"kind\":\"");
     text.add(kind.word());
@@ -123,23 +123,23 @@ fn add_record<S: TextWriter>(text: &mut S, form: Form, cause: Cause)
 fn add_place<S: TextWriter, A: Allocator>(
     text: &mut S,
     form: Form,
-    listing: &Listing<'_, A>,
+    stored: &StoredPlaces<'_, A>,
     place: usize,
     cause: Cause,
 )
-    requires { place < length listing.now.causes }
-    ensures { Adds S.added text.old (place_in form listing.now (place, Some cause)) text.new }
+    requires { place < length stored.now.causes }
+    ensures { Adds S.added text.old (place_in form stored.now (place, Some cause)) text.new }
 {
     let width = cause.width();
     let parts = [
-        Part::Stored(cause.word(), listing.slot, listing.name),
-        Part::Number(b"at", place),
-        Part::Number(
+        RowPart::Stored(cause.word(), stored.slot, stored.name),
+        RowPart::Number(b"at", place),
+        RowPart::Number(
             by_form(form, b"file", b"offset"),
-            file_offset(listing.block, place),
+            file_offset(stored.block, place),
         ),
-        Part::Bytes(b"was", bytes_at(listing.code, place, width)),
-        Part::Bytes(b"is", bytes_at(listing.linked.as_slice(), place, width)),
+        RowPart::Bytes(b"was", bytes_at(stored.code, place, width)),
+        RowPart::Bytes(b"is", bytes_at(stored.linked.as_slice(), place, width)),
     ];
     add_parts(text, form, &parts);
     add_record(text, form, cause);
@@ -147,36 +147,40 @@ fn add_place<S: TextWriter, A: Allocator>(
 }
 
 /// Adds a row for each place of a code at which a link stores bytes, as those of this index.
-fn add_listing<S: TextWriter, A: Allocator>(
+fn add_stored_segment<S: TextWriter, A: Allocator>(
     text: &mut S,
     form: Form,
     index: usize,
-    listing: &Listing<'_, A>,
+    stored: &StoredPlaces<'_, A>,
 )
-    ensures { Adds S.added text.old (listing_in form (index, listing.now)) text.new }
+    ensures { Adds S.added text.old (stored_rows form (index, stored.now)) text.new }
 {
     add_by_form(text, form, b"", separator(index == 0));
-    for (place, cause) in listing.causes.iter().enumerate() {
+    for (place, cause) in stored.causes.iter().enumerate() {
         if text.has_failed() {
             return;
         }
         if let Some(cause) = cause {
-            add_place(text, form, listing, place, *cause);
+            add_place(text, form, stored, place, *cause);
         }
     }
 }
 
 /// Adds the rows of all segments, by slot.
-fn add_listings<S: TextWriter, A: Allocator>(text: &mut S, form: Form, listings: &[Listing<'_, A>])
+fn add_stored_segments<S: TextWriter, A: Allocator>(
+    text: &mut S,
+    form: Form,
+    all_stored: &[StoredPlaces<'_, A>],
+)
     ensures { Adds S.added text.old
-        (flat_map (listing_in form) (enumerate_from 0 listings.now)) text.new }
+        (flat_map (stored_rows form) (enumerate_from 0 all_stored.now)) text.new }
 {
     let mut index = 0;
-    for listing in listings {
+    for stored in all_stored {
         if text.has_failed() {
             return;
         }
-        add_listing(text, form, index, listing);
+        add_stored_segment(text, form, index, stored);
         index += 1;
     }
 }
@@ -185,12 +189,12 @@ fn add_listings<S: TextWriter, A: Allocator>(text: &mut S, form: Form, listings:
 fn add_references<S: TextWriter, A: Allocator>(
     text: &mut S,
     form: Form,
-    listings: &[Listing<'_, A>],
+    all_stored: &[StoredPlaces<'_, A>],
 )
-    ensures { Adds S.added text.old (references_in form listings.now) text.new }
+    ensures { Adds S.added text.old (references_in form all_stored.now) text.new }
 {
     add_by_form(text, form, b"", b",\"references\":[");
-    add_listings(text, form, listings);
+    add_stored_segments(text, form, all_stored);
     add_by_form(text, form, b"", b"\n]}\n");
 }
 
@@ -200,7 +204,7 @@ fn add_references<S: TextWriter, A: Allocator>(
 #[derive(Drop)]
 pub struct ReferenceMap<'a, A: Allocator + Copy = Global> {
     linked: Linked<'a, A>,
-    listings: Vec<Listing<'a, A>, A>,
+    all_stored: Vec<StoredPlaces<'a, A>, A>,
 }
 
 impl<'a, A: Allocator + Copy> Model for ReferenceMap<'a, A> {
@@ -208,7 +212,7 @@ impl<'a, A: Allocator + Copy> Model for ReferenceMap<'a, A> {
 
     ghost Value = { Referenced };
 
-    ghost view = { λ m. record { plan = m.linked; listings = m.listings.items } };
+    ghost view = { λ m. record { plan = m.linked; all_stored = m.all_stored.items } };
 }
 
 /// The map with its references, in this form.
@@ -223,7 +227,7 @@ impl<A: Allocator + Copy> Text for Referenced<'_, '_, A> {
     fn add_to<S: TextWriter>(&self, text: &mut S) {
         let map = self.1;
         map.linked.add_map(text, self.0);
-        add_references(text, self.0, map.listings.as_slice());
+        add_references(text, self.0, map.all_stored.as_slice());
     }
 }
 
@@ -301,8 +305,8 @@ pub fn prepare_references<'a, A: Allocator + Copy>(
             bytes_are_linked();
             slot_names_are_whole();
             let linked = Linked::of(plan);
-            let listings = list_segments(alloc, linked.plan(), segments.as_slice())?;
-            Ok(ReferenceMap { linked, listings })
+            let all_stored = stored_in_segments(alloc, linked.plan(), segments.as_slice())?;
+            Ok(ReferenceMap { linked, all_stored })
         }
     }
 }

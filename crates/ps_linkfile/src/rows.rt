@@ -26,7 +26,7 @@ pub(crate) enum Form {
 
 /// A value of a row, with its word.
 #[derive(Clone, Copy)]
-pub(crate) enum Part<'w> {
+pub(crate) enum RowPart<'w> {
     /// What a row begins with: a slot and a name, in a line after the word and a blank.
     InSlot(&'w [u8], u8, Name),
     /// What a row begins with: a kind.
@@ -73,38 +73,38 @@ fn add_flag<S: TextWriter>(text: &mut S, word: &[u8], holds: bool)
 }
 
 /// Adds a value as a line has it.
-fn add_in_line<S: TextWriter>(text: &mut S, part: Part)
+fn add_in_line<S: TextWriter>(text: &mut S, part: RowPart)
     ensures { Adds S.added text.old (in_line (value_of part.entry)) text.new }
 {
     match part {
-        Part::InSlot(word, slot, name) => add_slot_name(text, word, slot, name),
-        Part::OfKind(kind) => text.add(kind),
-        Part::Total(word, number) => {
+        RowPart::InSlot(word, slot, name) => add_slot_name(text, word, slot, name),
+        RowPart::OfKind(kind) => text.add(kind),
+        RowPart::Total(word, number) => {
             text.add(word);
             add_number(text, b" ", number);
         }
-        Part::Number(word, number) => {
+        RowPart::Number(word, number) => {
             add_word(text, word);
             add_number(text, b" ", number);
         }
-        Part::Short(word, number) => {
+        RowPart::Short(word, number) => {
             add_word(text, word);
             add_word(text, &two_digits(number));
         }
-        Part::Flag(word, holds) => add_flag(text, word, holds),
-        Part::Record(index) => add_number(text, b"", index),
-        Part::Kind(kind) => add_word(text, kind),
-        Part::Named(name) => add_word(text, &shown_codes(name)),
-        Part::References(refs) => pieces::add_references(text, refs),
-        Part::Fault(reason) => {
+        RowPart::Flag(word, holds) => add_flag(text, word, holds),
+        RowPart::Record(index) => add_number(text, b"", index),
+        RowPart::Kind(kind) => add_word(text, kind),
+        RowPart::Named(name) => add_word(text, &shown_codes(name)),
+        RowPart::References(refs) => pieces::add_references(text, refs),
+        RowPart::Fault(reason) => {
             text.add(b" ");
             add_fault(text, reason);
         }
-        Part::Stored(word, slot, name) => {
+        RowPart::Stored(word, slot, name) => {
             text.add(word);
             add_slot_name(text, b" ", slot, name);
         }
-        Part::Bytes(word, bytes) => {
+        RowPart::Bytes(word, bytes) => {
             add_word(text, word);
             add_hex_after(text, b" ", bytes);
         }
@@ -187,37 +187,37 @@ fn add_name<S: TextWriter>(text: &mut S, name: Name)
 }
 
 /// Adds a value as an item has it.
-fn add_in_item<S: TextWriter>(text: &mut S, part: Part)
+fn add_in_item<S: TextWriter>(text: &mut S, part: RowPart)
     ensures { Adds S.added text.old (in_item (value_of part.entry)) text.new }
 {
     match part {
-        Part::InSlot(_, slot, name) => {
+        RowPart::InSlot(_, slot, name) => {
             add_number(text, b"{\"slot\":", slot);
             add_name(text, name);
         }
-        Part::OfKind(kind) => add_kind(text, b"{\"kind\":\"", kind),
-        Part::Total(word, number) => add_member(text, word, number),
-        Part::Number(word, number) => add_member(text, word, number),
-        Part::Short(word, number) => add_member(text, word, number as usize),
-        Part::Flag(word, holds) => add_flag_member(text, word, holds),
-        Part::Record(index) => add_number(text, b"{\"record\":", index),
-        Part::Kind(kind) => add_kind(text, b",\"kind\":\"", kind),
-        Part::Named(name) => add_name(text, name),
-        Part::References(refs) => json::add_references(text, refs),
-        Part::Fault(reason) => {
+        RowPart::OfKind(kind) => add_kind(text, b"{\"kind\":\"", kind),
+        RowPart::Total(word, number) => add_member(text, word, number),
+        RowPart::Number(word, number) => add_member(text, word, number),
+        RowPart::Short(word, number) => add_member(text, word, number as usize),
+        RowPart::Flag(word, holds) => add_flag_member(text, word, holds),
+        RowPart::Record(index) => add_number(text, b"{\"record\":", index),
+        RowPart::Kind(kind) => add_kind(text, b",\"kind\":\"", kind),
+        RowPart::Named(name) => add_name(text, name),
+        RowPart::References(refs) => json::add_references(text, refs),
+        RowPart::Fault(reason) => {
             text.add(b",\"kind\":\"fault\",\"fault\":");
             add_json_reason(text, reason);
         }
-        Part::Stored(word, slot, name) => {
+        RowPart::Stored(word, slot, name) => {
             add_stored(text, word, slot);
             add_name(text, name);
         }
-        Part::Bytes(word, bytes) => add_bytes_member(text, word, bytes),
+        RowPart::Bytes(word, bytes) => add_bytes_member(text, word, bytes),
     }
 }
 
 /// Adds a value.
-fn add_part<S: TextWriter>(text: &mut S, form: Form, part: Part)
+fn add_part<S: TextWriter>(text: &mut S, form: Form, part: RowPart)
     ensures { Adds S.added text.old (value_in form (value_of part.entry)) text.new }
 {
     match form {
@@ -227,7 +227,7 @@ fn add_part<S: TextWriter>(text: &mut S, form: Form, part: Part)
 }
 
 /// Adds the values of a row.
-pub(crate) fn add_parts<S: TextWriter>(text: &mut S, form: Form, parts: &[Part])
+pub(crate) fn add_parts<S: TextWriter>(text: &mut S, form: Form, parts: &[RowPart])
     ensures { Adds S.added text.old (values_in form (map value_of parts.now)) text.new }
 {
     for part in parts {
@@ -263,7 +263,7 @@ pub(crate) fn add_reason<S: TextWriter>(text: &mut S, form: Form, reason: Reason
 }
 
 /// Adds the row of this index.
-pub(crate) fn add_row<S: TextWriter>(text: &mut S, form: Form, index: usize, parts: &[Part])
+pub(crate) fn add_row<S: TextWriter>(text: &mut S, form: Form, index: usize, parts: &[RowPart])
     ensures { Adds S.added text.old (row_in form index (map value_of parts.now)) text.new }
 {
     add_by_form(text, form, b"", separator(index == 0));

@@ -22,7 +22,7 @@ use crate::error::LinkError;
 use crate::in_memory::in_memory;
 use crate::json::separator;
 use crate::lines::two_digits;
-use crate::rows::{Form, Part, add_by_form, add_parts, add_reason, add_row};
+use crate::rows::{Form, RowPart, add_by_form, add_parts, add_reason, add_row};
 use crate::stream::write_text;
 use crate::text_writer::{Text, TextWriter};
 use arrayvec::ArrayVec;
@@ -97,11 +97,11 @@ pub(crate) fn add_entry<S: TextWriter>(text: &mut S, form: Form, slot: u8, entry
     ensures { Adds S.added text.old (entry_in form slot entry) text.new }
 {
     let parts = [
-        Part::InSlot(b"slot ", slot, entry.name),
-        Part::Number(b"kind", entry.kind as usize),
-        Part::Number(b"address", entry.address as usize),
-        Part::Number(b"length", entry.length as usize),
-        Part::Number(b"text", entry.text as usize),
+        RowPart::InSlot(b"slot ", slot, entry.name),
+        RowPart::Number(b"kind", entry.kind as usize),
+        RowPart::Number(b"address", entry.address as usize),
+        RowPart::Number(b"length", entry.length as usize),
+        RowPart::Number(b"text", entry.text as usize),
     ];
     add_by_form(text, form, b"", separator(slot == 0));
     add_parts(text, form, &parts);
@@ -180,10 +180,10 @@ fn add_valued<S: TextWriter>(
         ∷ Number (codes "value") value ∷ [])) text.new }
 {
     let parts = [
-        Part::Record(rec),
-        Part::Kind(kind),
-        Part::Named(name),
-        Part::Number(b"value", value as usize),
+        RowPart::Record(rec),
+        RowPart::Kind(kind),
+        RowPart::Named(name),
+        RowPart::Number(b"value", value as usize),
     ];
     add_row(text, form, rec, &parts);
 }
@@ -203,30 +203,30 @@ fn add_record<S: TextWriter>(
     match &entry.body {
         Body::UnitRef(refs) => {
             let parts = [
-                Part::Record(rec),
-                Part::Kind(b"UNITREF"),
-                Part::Named(name),
-                Part::References(refs),
-                Part::Flag(b"unlisted", !is_listed(units, name)),
+                RowPart::Record(rec),
+                RowPart::Kind(b"UNITREF"),
+                RowPart::Named(name),
+                RowPart::References(refs),
+                RowPart::Flag(b"unlisted", !is_listed(units, name)),
             ];
             add_row(text, form, rec, &parts);
         }
         Body::PublRef(refs) => {
             let parts = [
-                Part::Record(rec),
-                Part::Kind(b"PUBLREF"),
-                Part::Named(name),
-                Part::References(refs),
+                RowPart::Record(rec),
+                RowPart::Kind(b"PUBLREF"),
+                RowPart::Named(name),
+                RowPart::References(refs),
             ];
             add_row(text, form, rec, &parts);
         }
         Body::PrivRef { words, refs } => {
             let parts = [
-                Part::Record(rec),
-                Part::Kind(b"PRIVREF"),
-                Part::Named(name),
-                Part::Number(b"words", *words as usize),
-                Part::References(refs),
+                RowPart::Record(rec),
+                RowPart::Kind(b"PRIVREF"),
+                RowPart::Named(name),
+                RowPart::Number(b"words", *words as usize),
+                RowPart::References(refs),
             ];
             add_row(text, form, rec, &parts);
         }
@@ -234,9 +234,9 @@ fn add_record<S: TextWriter>(
         Body::ConstDef(value) => add_valued(text, form, rec, b"CONSTDEF", name, *value),
         Body::Eof(next) => {
             let parts = [
-                Part::Record(rec),
-                Part::Kind(b"EOFMARK"),
-                Part::Number(b"next", *next as usize),
+                RowPart::Record(rec),
+                RowPart::Kind(b"EOFMARK"),
+                RowPart::Number(b"next", *next as usize),
             ];
             add_row(text, form, rec, &parts);
         }
@@ -247,7 +247,12 @@ fn add_record<S: TextWriter>(
 fn add_record_fault<S: TextWriter>(text: &mut S, form: Form, rec: usize, reason: Reason)
     ensures { Adds S.added text.old (fault_in form rec (Some reason)) text.new }
 {
-    add_row(text, form, rec, &[Part::Record(rec), Part::Fault(reason)]);
+    add_row(
+        text,
+        form,
+        rec,
+        &[RowPart::Record(rec), RowPart::Fault(reason)],
+    );
 }
 
 /// Adds the rows of link information in a file with these units: of each record up to its end, or

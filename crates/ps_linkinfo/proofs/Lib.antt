@@ -1,6 +1,6 @@
 pub mod Words
 pub mod Spelled
-pub mod Readings
+pub mod OneReading
 pub mod Steps
 pub mod Stands
 pub mod Walks

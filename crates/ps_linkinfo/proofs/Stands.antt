@@ -8,7 +8,7 @@ use Rattle.ps_words.specs.declared.fault.Reason.{Reason}
 use Rattle.ps_linkinfo.specs.Records.{AreSpelled, BeginsWith, IsBody, EndsOnce, Spells, Stops, is_eof, size_of, used_by, body_at, record_at, refs_at, refs_of, bad, bad_format, list_len, reading, read_from}
 use Rattle.ps_linkinfo.proofs.Words.{refs_len}
 use Rattle.ps_linkinfo.proofs.Spelled.{behind_cons}
-use Rattle.ps_linkinfo.proofs.Readings.{record_is, no_fault}
+use Rattle.ps_linkinfo.proofs.OneReading.{record_is, no_fault}
 use Rattle.ps_linkinfo.proofs.Steps.{read_end, read_last, read_more, long_enough, size_least}
 use Rattle.ps_linkinfo.specs.declared.record.Body.{Body}
 use Rattle.ps_linkinfo.specs.declared.record.Body.TheVariants.{UnitRef, PublRef, PrivRef, PublDef, ConstDef, Eof}

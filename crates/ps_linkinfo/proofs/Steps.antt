@@ -6,7 +6,7 @@ use Rattle.ps_words.specs.declared.fault.Reason.{Reason}
 use Rattle.ps_linkinfo.specs.Records.{reading, read_from, record_at, size_of, is_eof, bad, BeginsWith}
 use Rattle.ps_linkinfo.specs.Left.{items_of, items_at, items_left}
 use Rattle.ps_linkinfo.specs.Walk.{Walk}
-use Rattle.ps_linkinfo.proofs.Readings.{no_fault, record_is}
+use Rattle.ps_linkinfo.proofs.OneReading.{no_fault, record_is}
 use Rattle.std.proofs.lemmas.List.{drop-drop}
 use Rattle.ps_linkinfo.specs.declared.record.LinkRecord.{LinkRecord as Record}
 

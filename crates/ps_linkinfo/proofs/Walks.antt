@@ -8,7 +8,7 @@ use Rattle.ps_linkinfo.specs.Records.{AreSpelled, BeginsWith, reading, read_from
 use Rattle.ps_linkinfo.specs.Walk.{Walk, Advances, HasGiven, left_of, whole_walk}
 use Rattle.ps_linkinfo.specs.Left.{items_of, items_at, items_left, records_left, fault_in, fault_left}
 use Rattle.ps_linkinfo.proofs.Spelled.{spelled_fit, spelled_more, used_more, used_cons}
-use Rattle.ps_linkinfo.proofs.Readings.{record_is}
+use Rattle.ps_linkinfo.proofs.OneReading.{record_is}
 use Rattle.ps_linkinfo.proofs.Steps.{long_enough, read_end, size_least}
 use Rattle.ps_linkinfo.proofs.Stands.{begins_at, reading_spelled}
 use Rattle.std.proofs.lemmas.List.{append-nil}

@@ -2,7 +2,7 @@
 //! begins with the path. And the same values as JSON, and the units of a file by themselves.
 #![tactic(auto)]
 
-mod alone;
+mod by_itself;
 mod file_json;
 mod json;
 mod listed_file;

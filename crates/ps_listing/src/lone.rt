@@ -72,7 +72,7 @@ fn units_of<A: Allocator + Copy>(
 
 /// The units whose code a file has, by slot ascending, each with its first fault by itself: of its
 /// code, its tables and its records, and then of its privates and references, in a link with a host
-/// that would define each name that it asks for.
+/// that would define each name that it requests.
 ///
 /// `file` is a whole file, of any contents; one that cannot be opened has no units. What such a host
 /// is, and which faults are found, `ps_resolve::lone_fault` says.

@@ -5,7 +5,7 @@ ghost use Rattle.ps_codefile.specs.Dictionary.{entry_at, role_of, slots};
 ghost use Rattle.ps_linkfile.specs.Adding.{Adds};
 ghost use Rattle.ps_listing.specs.ListText.{fault_alone, found_line, found_words, has_refused as has_refused_spec, is_refused_role as is_refused_role_spec, is_refused_slot as is_refused_slot_spec, refused_line, role_line, slot_head, slot_line};
 
-use crate::alone::read_alone;
+use crate::by_itself::read_by_itself;
 use crate::words::{add_path, add_refusal, add_size, add_uses};
 use ps_codefile::dictionary_layout::SLOTS;
 use ps_codefile::{Dict, Role};
@@ -54,7 +54,7 @@ fn add_found<S: TextWriter>(text: &mut S, dict: &Dict, slot: u8, role: Role)
     ensures { Adds S.added text.old (found_words dict.now.order dict.now.file slot role)
         text.new }
 {
-    match read_alone(dict, slot, role) {
+    match read_by_itself(dict, slot, role) {
         Err(fault) => add_refusal(text, fault.reason, fault.rec),
         Ok(records) => add_uses(text, &records),
     }
@@ -145,7 +145,7 @@ fn fault_of(dict: &Dict, slot: u8, role: Role) -> Option<Fault>
     requires role { role_of (entry_at dict.now.order dict.now.file slot) ≡ Ok role }
     ensures { result ≡ fault_alone dict.now.order dict.now.file slot role }
 {
-    read_alone(dict, slot, role).err()
+    read_by_itself(dict, slot, role).err()
 }
 
 /// A slot of this role is refused.

@@ -4,7 +4,7 @@ ghost use Rattle.ps_codefile.specs.Dictionary.{entry_at, role_of, slots};
 ghost use Rattle.ps_linkfile.specs.Adding.{Adds};
 ghost use Rattle.ps_listing.specs.ListJson.{fault_members, found_item, found_members, is_first_after, is_first_after_role, is_first_after_slot, length_member, refused_item, role_item, slot_item, slot_items, slot_members, use_item, use_items, uses_member};
 
-use crate::alone::read_alone;
+use crate::by_itself::read_by_itself;
 use crate::json::add_fault;
 use crate::slots::{kind_of, name_of, size_of};
 use ps_codefile::dictionary_layout::SLOTS;
@@ -74,7 +74,7 @@ fn add_found<S: TextWriter>(text: &mut S, dict: &Dict, slot: u8, role: Role)
     ensures { Adds S.added text.old (found_members dict.now.order dict.now.file slot role)
         text.new }
 {
-    match read_alone(dict, slot, role) {
+    match read_by_itself(dict, slot, role) {
         Err(fault) => add_fault_members(text, fault.reason, fault.rec),
         Ok(records) => add_uses_member(text, &records),
     }

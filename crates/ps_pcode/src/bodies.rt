@@ -1,6 +1,6 @@
 //! The code of a procedure of P-code.
 use crate::places::MOST;
-use crate::rules::{Reading, Rule};
+use crate::rules::{Rule, ShownRules};
 use crate::table::Release;
 use crate::tables::Ends;
 use crate::walks::Walk;
@@ -47,7 +47,7 @@ impl<'c> Body<'c> {
 
     /// What it shows of the rules by the table of instructions of the release by which it keeps to
     /// more of them.
-    pub(crate) fn reading(self, walk: &mut Walk) -> Reading {
+    pub(crate) fn shown_rules(self, walk: &mut Walk) -> ShownRules {
         let later = walk.over(self, Release::Later);
         if later.rules_kept() == Rule::ALL.len() {
             return later;

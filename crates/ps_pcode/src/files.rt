@@ -1,7 +1,7 @@
 //! What the procedures of a file show of its P-code, and the one that breaks a rule which the others
 //! keep: damage hits one procedure, and a compiler's habit many.
 use crate::bodies::Body;
-use crate::rules::{Reading, Rule, Shown};
+use crate::rules::{Rule, Shown, ShownRules};
 use crate::tables::procedures_of;
 use crate::walks::Walk;
 use ps_codefile::Dict;
@@ -125,17 +125,17 @@ impl FileCode {
                         return;
                     }
                     left = left.saturating_sub(body.len());
-                    self.add(slot, procedure, body.len(), body.reading(walk));
+                    self.add(slot, procedure, body.len(), body.shown_rules(walk));
                 }
             }
         }
     }
 
     /// Adds a procedure of so many bytes, and what it shows.
-    fn add(&mut self, slot: u8, procedure: usize, length: usize, reading: Reading) {
+    fn add(&mut self, slot: u8, procedure: usize, length: usize, shown_rules: ShownRules) {
         let (place, is_long) = ((slot, procedure), LONG <= length);
-        let is_read = 0 < reading.rules_kept();
-        for (index, shown) in reading.shown.iter().enumerate() {
+        let is_read = 0 < shown_rules.rules_kept();
+        for (index, shown) in shown_rules.shown.iter().enumerate() {
             // (of instructions that are not read no other rule is known)
             if let Some(tally) = self.tallies.get_mut(index) {
                 if index == 0 || is_read {
@@ -143,9 +143,9 @@ impl FileCode {
                 }
             }
         }
-        self.is_lengthened = self.is_lengthened || reading.is_lengthened;
+        self.is_lengthened = self.is_lengthened || shown_rules.is_lengthened;
         if let Some(operands) = self.left_to_link.get_mut(usize::from(slot)) {
-            *operands = operands.saturating_add(reading.left_to_link);
+            *operands = operands.saturating_add(shown_rules.left_to_link);
         }
     }
 

@@ -47,7 +47,7 @@ impl Shown {
 
 /// What a procedure shows of each rule, in their order, and of operands that are longer than need be.
 #[derive(Clone, Copy)]
-pub(crate) struct Reading {
+pub(crate) struct ShownRules {
     pub(crate) shown: [Shown; 4],
     /// How many operands a compiler has left to a link.
     pub(crate) left_to_link: usize,
@@ -55,7 +55,7 @@ pub(crate) struct Reading {
     pub(crate) is_lengthened: bool,
 }
 
-impl Reading {
+impl ShownRules {
     /// How many rules there are before the first that it breaks.
     pub(crate) fn rules_kept(self) -> usize {
         let mut kept = 0usize;

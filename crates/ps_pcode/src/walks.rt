@@ -2,7 +2,7 @@
 use crate::bodies::{Body, Target};
 use crate::instructions::{Instruction, is_case_at};
 use crate::places::Places;
-use crate::rules::{Reading, Shown};
+use crate::rules::{Shown, ShownRules};
 use crate::stacks::Stack;
 use crate::table::Release;
 
@@ -69,20 +69,20 @@ impl Walk {
     }
 
     /// Goes over a procedure: what its instructions show, by the table of a release.
-    pub(crate) fn over(&mut self, body: Body<'_>, release: Release) -> Reading {
+    pub(crate) fn over(&mut self, body: Body<'_>, release: Release) -> ShownRules {
         self.restart();
         for _ in 0..body.len() {
             let place = body.ends.enter.saturating_add(self.place);
             if self.is_whole {
-                return self.reading();
+                return self.shown_rules();
             }
             self.arrive(body, place);
             match Instruction::at(body.order, release, body.code, place) {
                 Some(instruction) => self.pass(body, place, instruction),
-                None => return self.reading(),
+                None => return self.shown_rules(),
             }
         }
-        self.reading()
+        self.shown_rules()
     }
 
     /// Notes what is at a place where an instruction begins.
@@ -141,7 +141,7 @@ impl Walk {
 
     /// What was shown. What comes after the first case tells of `Cases`, and of the evaluation stack
     /// where `Cases` is kept.
-    fn reading(&self) -> Reading {
+    fn shown_rules(&self) -> ShownRules {
         let limit = self.first_case.unwrap_or(usize::MAX);
         let odd_short = self.short.first_beside(&self.starts);
         let odd_by_table = self.by_table.first_beside(&self.starts);
@@ -150,7 +150,7 @@ impl Walk {
         let is_all_read = self.is_whole && odd_short.is_none() && odd_by_table.is_none();
         let is_table_kept = !self.leads_outside && !is_before(odd_by_table, limit);
         let last = if is_all_read { usize::MAX } else { limit };
-        Reading {
+        ShownRules {
             shown: [
                 Shown::by(true, is_read),
                 Shown::by(is_read && has_case, is_all_read),

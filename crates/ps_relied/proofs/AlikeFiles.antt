@@ -1,7 +1,7 @@
 -- Files that are read alike link to the same bytes, or have the same first fault.
 use Rattle.std.proofs.Common.{◌≡◌, ℕ, ◌+◌, List, [], ◌∷◌, map, Option, Some, None, Result, Bool, true, false, refl, sym, ◌∙◌, inl}
 use Rattle.std.specs.Prelude.{⊤}
-use Rattle.ps_relied.proofs.Words.{if◌then◌else◌, ◌&&◌, not, slots, find, first_of, fault_if, list_any, range_with_len, enumerate_from, option_map, option_map_or, option_or, result_ok, result_err, bytes_eq, in_file, in_slot, Fault, Role, Reason, Order, order_of, entry_at, is_host, is_unit, needs_linking, file_at, chosen_library, library_file}
+use Rattle.ps_relied.proofs.Vocabulary.{if◌then◌else◌, ◌&&◌, not, slots, find, first_of, fault_if, list_any, range_with_len, enumerate_from, option_map, option_map_or, option_or, result_ok, result_err, bytes_eq, in_file, in_slot, Fault, Role, Reason, Order, order_of, entry_at, is_host, is_unit, needs_linking, file_at, chosen_library, library_file}
 use Rattle.ps_relied.proofs.Entries.{same_entry}
 use Rattle.ps_relied.proofs.Moved.{refiled_by, renewed_by, Found, IsMovedChoice, AreMoved, linking_moved, rest_moved, segments_moved, same_roles}
 use Rattle.ps_relied.proofs.SameFile.{file_of, same_head, file_moved}

@@ -1,6 +1,6 @@
 -- What a link stores in its segments does not depend on the files that they come from.
 use Rattle.std.proofs.Common.{◌≡◌, ℕ, ◌+◌, List, [], ◌∷◌, map, Option, Some, None, refl, ◌∙◌}
-use Rattle.ps_relied.proofs.Words.{if◌then◌else◌, find, cons_option, option_map, option_map_or, Edit, Order, is_host, is_unit, next_of, known_of, Known, edited_from, edited_segments, total_words, private_words, Segment, host_of, host_records, units_of, ◌==◌, slots}
+use Rattle.ps_relied.proofs.Vocabulary.{if◌then◌else◌, find, cons_option, option_map, option_map_or, Edit, Order, is_host, is_unit, next_of, known_of, Known, edited_from, edited_segments, total_words, private_words, Segment, host_of, host_records, units_of, ◌==◌, slots}
 use Rattle.ps_resolve.specs.Added.{slot_name, slot_names}
 use Rattle.ps_relied.proofs.Lists.{find_mapped}
 use Rattle.ps_resolve.specs.References.{known_by}

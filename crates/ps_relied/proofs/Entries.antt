@@ -1,6 +1,6 @@
 -- What is looked up in the entries of two libraries that are read alike.
 use Rattle.std.proofs.Common.{◌≡◌, ℕ, ◌<◌, List, Option, Some, None, Bool, true, false, refl, sym, ◌∙◌}
-use Rattle.ps_relied.proofs.Words.{◌&&◌, ◌==◌, not, if◌then◌else◌, slots, find, list_any, range_with_len, option_and_then, bytes_eq, Order, Reason, is_named, is_filled, entry_at, fault_if}
+use Rattle.ps_relied.proofs.Vocabulary.{◌&&◌, ◌==◌, not, if◌then◌else◌, slots, find, list_any, range_with_len, option_and_then, bytes_eq, Order, Reason, is_named, is_filled, entry_at, fault_if}
 use Rattle.ps_relied.proofs.Slots.{in_slots, clipped, same_clipped}
 use Rattle.ps_relied.specs.Alike.{IsReadAlike}
 use Rattle.ps_laws.proofs.Items.{find_in, find_passes}

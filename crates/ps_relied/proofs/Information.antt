@@ -2,7 +2,7 @@
 use Rattle.std.proofs.Common.{◌≡◌, ℕ, zero, suc, ◌+◌, ◌*◌, ◌/◌, ◌<◌, ◌≤◌, List, [], ◌∷◌, ◌++◌, length, map, drop, None, refl, sym, ap, ◌∙◌, arith}
 use Rattle.std.specs.Prelude.{◌↔◌, slice_index}
 use Rattle.std.proofs.lemmas.List.{take-append-le, drop-append-le, length-append}
-use Rattle.ps_relied.proofs.Words.{range_with_len, Order, reading, refs_of, Body, Record}
+use Rattle.ps_relied.proofs.Vocabulary.{range_with_len, Order, reading, refs_of, Body, Record}
 use Rattle.ps_words.specs.Words.{word_at, word}
 use Rattle.ps_linkinfo.specs.Records.{Spells, AreSpelled, IsBody, refs_at, size_of}
 use Rattle.ps_linkinfo.specs.declared.record.Body.TheVariants.{UnitRef, PublRef, PrivRef, PublDef, ConstDef, Eof}

@@ -1,4 +1,4 @@
-pub mod Words
+pub mod Vocabulary
 pub mod Lists
 pub mod Slots
 pub mod Elsewhere

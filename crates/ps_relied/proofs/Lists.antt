@@ -1,6 +1,6 @@
 -- Lists whose items are changed one by one, and searches by tests that agree.
 use Rattle.std.proofs.Common.{◌≡◌, zero, suc, List, [], ◌∷◌, map, Option, Some, None, Bool, refl, sym, ◌∙◌, arith}
-use Rattle.ps_relied.proofs.Words.{if◌then◌else◌, find, list_any, filter_map, cons_option, option_map, option_or, first_of}
+use Rattle.ps_relied.proofs.Vocabulary.{if◌then◌else◌, find, list_any, filter_map, cons_option, option_map, option_or, first_of}
 use Rattle.ps_laws.proofs.Items.{In}
 use Rattle.ps_resolve.proofs.FirstSlots.{or_none}
 

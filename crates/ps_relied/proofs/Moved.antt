@@ -6,7 +6,7 @@ use Rattle.std.specs.Map.{lookup}
 use Rattle.std.proofs.lemmas.List.{map-append}
 use Rattle.std.proofs.lemmas.Option.{slice_get-map}
 use Rattle.std.proofs.lemmas.List.Elements.{All-head, All-tail}
-use Rattle.ps_relied.proofs.Words.{◌⊎◌, ◌||◌, ◌==◌, All, if◌then◌else◌, slots, find, slice_get, range_with_len, filter, option_and_then, option_map, option_or, result_ok, option_map_or, bytes_eq, fault_if, nat_lt, in_record, in_slot, Fault, Reason, Order, Role, Record, Segment, Request, UnitReference, code_of, entry_at, information_of, role_of, needs_linking, is_host, is_empty, reading, code_fault, request_fault, role_fault, file_at, is_named, is_role, chosen_library, library_file, own_segment, source_of, unit_source, units_of, RoundsOutcome, after, request_of, unit_references, all_unit_references, requested_from, is_unit_reference, host_of, host_records, known_of, Known, next_of, owner_of, private_words, total_words, added_segments, as_added}
+use Rattle.ps_relied.proofs.Vocabulary.{◌⊎◌, ◌||◌, ◌==◌, All, if◌then◌else◌, slots, find, slice_get, range_with_len, filter, option_and_then, option_map, option_or, result_ok, option_map_or, bytes_eq, fault_if, nat_lt, in_record, in_slot, Fault, Reason, Order, Role, Record, Segment, Request, UnitReference, code_of, entry_at, information_of, role_of, needs_linking, is_host, is_empty, reading, code_fault, request_fault, role_fault, file_at, is_named, is_role, chosen_library, library_file, own_segment, source_of, unit_source, units_of, RoundsOutcome, after, request_of, unit_references, all_unit_references, requested_from, is_unit_reference, host_of, host_records, known_of, Known, next_of, owner_of, private_words, total_words, added_segments, as_added}
 use Rattle.ps_relied.proofs.Lists.{any_mapped, or_moved, find_mapped, first_mapped, all_mapped, none_of}
 use Rattle.ps_relied.proofs.Elsewhere.{host_moved, records_moved, units_moved, known_moved, words_moved}
 use Rattle.ps_relied.proofs.Slots.{in_slots, clipped, same_clipped}
@@ -293,11 +293,11 @@ module _ (number : ℕ → ℕ) (same_host : number 0 ≡ 0) (block : Role → �
     Found name = IsMovedChoice (chosen_library order name libs) (chosen_library order name others)
 
     -- who requests, where the number of the file is another
-    abbrev asked_from : Requester → Requester
-    asked_from Slot = Slot
-    asked_from (OfRecord place) = OfRecord (record place { file = number place.file })
+    abbrev requester_moved : Requester → Requester
+    requester_moved Slot = Slot
+    requester_moved (OfRecord place) = OfRecord (record place { file = number place.file })
 
-    missing_moved : (slot : ℕ) (by : Requester) → missing_at slot (asked_from by)
+    missing_moved : (slot : ℕ) (by : Requester) → missing_at slot (requester_moved by)
         ≡ refiled (missing_at slot by)
     missing_moved slot Slot = λ i. in_slot (sym same_host i) slot reason.MissingUnit
     missing_moved slot (OfRecord place) = refl
@@ -341,7 +341,7 @@ module _ (number : ℕ → ℕ) (same_host : number 0 ≡ 0) (block : Role → �
             → entries_reason order q.name a.1 ≡ why → find (is_named order q.name a.1) slots
             ≡ i
             → Moves (fault_in host libs q.requester (library_file a.0) (nameless || false) why i)
-            (fault_in other others (asked_from q.requester) (number (library_file a.0))
+            (fault_in other others (requester_moved q.requester) (number (library_file a.0))
             (nameless || false) why i) (segment_in host libs (library_file a.0) i)
             (segment_in other others (number (library_file a.0)) i)
         by_entry true why i e f = (
@@ -359,7 +359,7 @@ module _ (number : ℕ → ℕ) (same_host : number 0 ≡ 0) (block : Role → �
             )
 
       none_chosen : (b : Bool) (x y : Option Fault)
-          → (if b || true then Some (missing_at q.slot (asked_from q.requester)) else x)
+          → (if b || true then Some (missing_at q.slot (requester_moved q.requester)) else x)
           ≡ option_map refiled (if b || true then Some (missing_at q.slot q.requester) else y)
       none_chosen true x y = λ j. Some (missing_moved q.slot q.requester j)
       none_chosen false x y = λ j. Some (missing_moved q.slot q.requester j)
@@ -369,7 +369,7 @@ module _ (number : ℕ → ℕ) (same_host : number 0 ≡ 0) (block : Role → �
           (unit_source order q.name l)
 
       request_moved : Found q.name → Moves (request_fault order host libs q)
-          (request_fault order other others (record q { requester = asked_from q.requester }))
+          (request_fault order other others (record q { requester = requester_moved q.requester }))
           (brought_in host libs) (brought_in other others)
       request_moved t = go (chosen_library order q.name libs) refl
           (chosen_library order q.name others) refl t
@@ -377,7 +377,7 @@ module _ (number : ℕ → ℕ) (same_host : number 0 ≡ 0) (block : Role → �
           go : (o : Option (ℕ × List ℕ)) → chosen_library order q.name libs ≡ o
               → (p : Option (ℕ × List ℕ)) → chosen_library order q.name others ≡ p
               → IsMovedChoice o p → Moves (request_fault order host libs q)
-              (request_fault order other others (record q { requester = asked_from q.requester }))
+              (request_fault order other others (record q { requester = requester_moved q.requester }))
               (brought_in host libs) (brought_in other others)
           go None e None f t = rw (e, f) (none_chosen (is_nameless q.name) _ _, λ n. refl)
           go None e (Some b) f t = absurd t
@@ -388,7 +388,7 @@ module _ (number : ℕ → ℕ) (same_host : number 0 ≡ 0) (block : Role → �
               (entries_reason order q.name a.1) (find (is_named order q.name a.1) slots)
               refl refl in
               rw (e, f) (
-                (λ j. fault_in other others (asked_from q.requester) (t.file j)
+                (λ j. fault_in other others (requester_moved q.requester) (t.file j)
                     (is_nameless q.name || false) (same_reasons order a.1 b.1 t.like q.name j)
                     (same_index order a.1 b.1 t.like q.name j)) ∙ m.0,
                 λ n. (λ j. segment_in other others (t.file j)

@@ -1,6 +1,6 @@
 -- Linked files of different inputs that are one list.
 use Rattle.std.proofs.Common.{◌≡◌, ℕ, List, Option, Some, None, refl, sym, subst, ◌∙◌}
-use Rattle.ps_relied.proofs.Words.{Fault}
+use Rattle.ps_relied.proofs.Vocabulary.{Fault}
 use Rattle.ps_resolve.specs.AllFaults.{first_fault}
 use Rattle.ps_resolve.specs.Standing.{NoneStands, IsFirst}
 use Rattle.ps_linkfile.specs.LinkedFile.{LinkedFile, linked_file}

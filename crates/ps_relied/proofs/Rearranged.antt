@@ -2,13 +2,13 @@
 use Rattle.std.proofs.Common.{◌≡◌, ℕ, ◌+◌, ◌<◌, ◌≤◌, List, [], ◌∷◌, ◌++◌, length, map, Option, Some, None, Result, Ok, Bool, true, false, refl, sym, ap, subst, ◌∙◌, inl, inr, arith}
 use Rattle.std.specs.Prelude.{⊤}
 use Rattle.std.proofs.lemmas.Bool.Decides.{nat_tests}
-use Rattle.ps_relied.proofs.Words.{◌≢◌, All, if◌then◌else◌, slots, find, first_of, enumerate_from, option_map, option_and_then, option_or, result_ok, Order, Segment, Role, Reason, order_of, is_named, role_of, entry_at, chosen_library, unit_source, library_file, source_of, in_file}
+use Rattle.ps_relied.proofs.Vocabulary.{◌≢◌, All, if◌then◌else◌, slots, find, first_of, enumerate_from, option_map, option_and_then, option_or, result_ok, Order, Segment, Role, Reason, order_of, is_named, role_of, entry_at, chosen_library, unit_source, library_file, source_of, in_file}
 use Rattle.ps_relied.proofs.Moved.{refiled_by, renewed_by, Found, IsMovedChoice, AreMoved, Fits, linking_moved, rest_moved, segments_moved}
 use Rattle.ps_relied.proofs.SameFile.{file_of, file_moved}
 use Rattle.ps_relied.specs.Numbered.{renumbered, without, exchanged, HaveNoNameInCommon}
-use Rattle.ps_laws.proofs.Words.{same_Some}
+use Rattle.ps_laws.proofs.Vocabulary.{same_Some}
 use Rattle.ps_laws.proofs.Items.{In, of_all}
-use Rattle.ps_laws.proofs.Asked.{empty_slot, found_added, in_segments}
+use Rattle.ps_laws.proofs.RequestedUnits.{empty_slot, found_added, in_segments}
 use Rattle.ps_laws.proofs.AddedUnits.{has_own}
 use Rattle.ps_laws.proofs.Sources.{has}
 use Rattle.ps_codefile.specs.Dictionary.{name_at}

@@ -2,7 +2,7 @@
 use Rattle.std.proofs.Common.{◌≡◌, ℕ, ◌+◌, List, [], ◌∷◌, ◌++◌, length, map, Bool, true, false, refl, sym, ◌∙◌, arith}
 use Rattle.std.specs.Prelude.{nat_lt, slice_range, replicate}
 use Rattle.std.proofs.lemmas.List.Sums.{sum_by-cons}
-use Rattle.ps_relied.proofs.Words.{if◌then◌else◌, ◌==◌, slots, find, filter, flat_map, option_map_or, Edit, Order, Segment, edited_segments}
+use Rattle.ps_relied.proofs.Vocabulary.{if◌then◌else◌, ◌==◌, slots, find, filter, flat_map, option_map_or, Edit, Order, Segment, edited_segments}
 use Rattle.ps_resolve.specs.Added.{slot_names}
 use Rattle.ps_relied.proofs.Elsewhere.{moved, moved_edits, edited_moved, names_moved}
 use Rattle.ps_relied.proofs.Slots.{same_clipped}

@@ -1,7 +1,7 @@
 -- Functions of the slots of a dictionary.
 use Rattle.std.proofs.Common.{◌≡◌, ℕ, ◌<◌, Bool, true, false, refl, arith}
 use Rattle.std.proofs.lemmas.Bool.Decides.{nat_tests}
-use Rattle.ps_relied.proofs.Words.{if◌then◌else◌, nat_lt, slots}
+use Rattle.ps_relied.proofs.Vocabulary.{if◌then◌else◌, nat_lt, slots}
 use Rattle.ps_laws.proofs.Items.{In, of_range}
 
 -- a slot is below 16

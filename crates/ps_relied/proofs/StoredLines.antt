@@ -3,8 +3,8 @@ use Rattle.std.proofs.Common.{◌≡◌, ℕ, zero, suc, ◌+◌, ◌*◌, ◌-�
 use Rattle.std.specs.Prelude.{slice_index}
 use Rattle.std.proofs.lemmas.List.{length-take, get_or-take, get_or-drop}
 use Rattle.std.proofs.lemmas.Bool.Decides.{nat_tests, Decides-eqb}
-use Rattle.ps_relied.proofs.Words.{if◌then◌else◌, slice_get, filter, list_any, range_with_len, option_or, Edit, Order, Segment, Record, Body, is_host, needs_linking, refs_of, order_of, edited_segments}
-use Rattle.ps_relied.specs.StoredLines.{listings, IsLine, IsMadeByLines, AreMadeByLines}
+use Rattle.ps_relied.proofs.Vocabulary.{if◌then◌else◌, slice_get, filter, list_any, range_with_len, option_or, Edit, Order, Segment, Record, Body, is_host, needs_linking, refs_of, order_of, edited_segments}
+use Rattle.ps_relied.specs.StoredLines.{all_stored, IsLine, IsMadeByLines, AreMadeByLines}
 use Rattle.ps_laws.proofs.AddedUnits.{map_at, mapped}
 use Rattle.ps_laws.proofs.EditsAt.{what_covers, size_covers}
 use Rattle.ps_laws.proofs.Items.{In, of_all, all_items, not_apart, in_filter}
@@ -29,15 +29,15 @@ use Rattle.ps_resolve.specs.Plans.{Origin}
 use Rattle.ps_resolve.specs.declared.references.Target.{Target}
 use Rattle.ps_resolve.specs.declared.references.Target.TheVariants.{Slot, Base}
 use Rattle.ps_linkfile.specs.LinkedFile.{LinkedFile, block_of, origins}
-use Rattle.ps_linkfile.specs.ReferencesText.{Listed, listed_in, cause_at, cause_in, cause_width, number_at, size_at, is_word_at, record_at, records_at}
+use Rattle.ps_linkfile.specs.ReferencesText.{StoredIn, stored_in, cause_at, cause_in, cause_width, number_at, size_at, is_word_at, record_at, records_at}
 use Rattle.ps_linkfile.specs.declared.cause.Cause.{Cause}
 use Rattle.ps_linkfile.specs.declared.cause.Cause.TheVariants.{Number, DataSize}
 use Rattle.ps_words.specs.Edits.{covers, patched_byte}
 use Rattle.ps_words.specs.declared.edit.Edit.TheVariants.{Big, Byte, Word}
 
 -- 1. what is listed of a segment
-abbrev list_of : Order → List Origin → Segment × List Edit → Listed
-list_of order os e = listed_in order (block_of os e.0.slot) e.0 e.1
+abbrev list_of : Order → List Origin → Segment × List Edit → StoredIn
+list_of order os e = stored_in order (block_of os e.0.slot) e.0 e.1
 
 abbrev is_listed : Segment × List Edit → Bool
 is_listed e = needs_linking e.0.role
@@ -181,15 +181,15 @@ module _ (host : List ℕ) (libs : List (List ℕ)) (file : List ℕ)
   abbrev with_edits : Segment → Segment × List Edit
   with_edits s = summed_segment (order_of host) segs s
 
-  abbrev mine : Segment → Listed
+  abbrev mine : Segment → StoredIn
   mine s = list_of (order_of host) os (with_edits s)
 
-  lists_are : listings host libs ≡ map (list_of (order_of host) os)
+  lists_are : all_stored host libs ≡ map (list_of (order_of host) os)
       (filter is_listed (map with_edits segs))
   lists_are = ap (λ es. map (list_of (order_of host) os) (filter is_listed es)) summed
 
   -- what is listed is of a segment, and each segment that is to be linked is listed
-  of_lists : (l : Listed) → In l (listings host libs) → (s : Segment) × In s segs × (l
+  of_lists : (l : StoredIn) → In l (all_stored host libs) → (s : Segment) × In s segs × (l
       ≡ mine s)
   of_lists l t =
       let e = mapped (list_of (order_of host) os) (filter is_listed (map with_edits segs)) t.0 l
@@ -199,7 +199,7 @@ module _ (host : List ℕ) (libs : List (List ℕ)) (file : List ℕ)
       (q.0, (u.0, q.1), sym e.2 ∙ ap (list_of (order_of host) os) (sym q.2))
 
   in_lists : (s : Segment) → In s segs → needs_linking s.role ≡ true
-      → In (mine s) (listings host libs)
+      → In (mine s) (all_stored host libs)
   in_lists s t linked =
       let u = in_filter is_listed (map with_edits segs) (with_edits s)
       (t.0, map_at with_edits segs t.0 s t.1) linked in (
@@ -245,22 +245,22 @@ module _ (host : List ℕ) (libs : List (List ℕ)) (file : List ℕ)
         (slice_index file (start + p)) (patched_byte (order_of host) s.code edits p)
         (linked_file_byte p h) (patched p h)
 
-    listed_is : (l : Listed) → In l (listings host libs) → l.slot ≡ s.slot → l ≡ mine s
+    listed_is : (l : StoredIn) → In l (all_stored host libs) → l.slot ≡ s.slot → l ≡ mine s
     listed_is l t e =
         let q = of_lists l t in
-        let slots = sym (ap (λ (x : Listed). x.slot) q.2) ∙ e in
+        let slots = sym (ap (λ (x : StoredIn). x.slot) q.2) ∙ e in
         q.2 ∙ ap mine (one_slot q.0 s q.1 there slots)
 
     abbrev linked : List ℕ
     linked = map (patched_byte (order_of host) s.code edits) (range_with_len 0 (length s.code))
 
-    named : (at j : ℕ) (new : List ℕ) → IsLine (listings host libs) s.slot at new
+    named : (at j : ℕ) (new : List ℕ) → IsLine (all_stored host libs) s.slot at new
         → j < length new
         → (at + j < length s.code) × (slice_index file (start + (at + j)) ≡ slice_index new j)
     named at j new (k, l, get, (slot, (c, cause, now))) h =
         let same = listed_is l (k, get) slot in
         let bytes : new ≡ take (cause_width c) (drop at linked) =
-        now ∙ ap (λ (x : Listed). take (cause_width c) (drop at x.linked)) same in
+        now ∙ ap (λ (x : StoredIn). take (cause_width c) (drop at x.linked)) same in
         let w = part_within (cause_width c) at linked j
         (subst (λ xs. j < length xs) bytes h) in
         let len = ranged_length (patched_byte (order_of host) s.code edits) 0 (length s.code) in
@@ -298,7 +298,7 @@ module _ (host : List ℕ) (libs : List (List ℕ)) (file : List ℕ)
         (fact_of_file.tables (host_linked s.role h)) table
 
     module _ (p : ℕ) (inside : p < length s.code) (free : (at : ℕ) (new : List ℕ)
-        → IsLine (listings host libs) s.slot at new → at ≤ p → p < at + length new
+        → IsLine (all_stored host libs) s.slot at new → at ≤ p → p < at + length new
         → ⊥) where
       no_cause : needs_linking s.role ≡ true → (at : ℕ) (c : Cause) → cause at ≡ Some c
           → at ≤ p → p < at + cause_width c → ⊥
@@ -417,14 +417,14 @@ module _ (host : List ℕ) (libs : List (List ℕ)) (file : List ℕ)
       kept : slice_index file (start + p) ≡ slice_index s.code p
       kept = (linked_file_byte p inside).kept no_number no_size no_reference
 
-    pub segment_made : IsMadeByLines (listings host libs) s file (block_of os s.slot)
+    pub segment_made : IsMadeByLines (all_stored host libs) s file (block_of os s.slot)
     segment_made = record {
       before = λ k l get slot. let same = listed_is l (k, get) slot in
-          (ap (λ (x : Listed). x.code) same, ap (λ (x : Listed). x.block) same);
+          (ap (λ (x : StoredIn). x.code) same, ap (λ (x : StoredIn). x.block) same);
       named = named;
       kept = λ p inside free. kept p inside free;
     }
 
   pub made_by_lines : AreMadeByLines host libs file
-  made_by_lines = all_items (λ (s : Segment). IsMadeByLines (listings host libs) s file
+  made_by_lines = all_items (λ (s : Segment). IsMadeByLines (all_stored host libs) s file
       (block_of os s.slot)) segs (λ k s e. segment_made s (k, e))

@@ -9,26 +9,26 @@ use Rattle.ps_resolve.specs.LinkedBytes.{segments_of}
 use Rattle.ps_resolve.specs.Sources.{Segment, order_of}
 use Rattle.ps_resolve.specs.Standing.Phrases.{SomeItem}
 use Rattle.ps_linkfile.specs.LinkedFile.{block_of, linked_segments, origins}
-use Rattle.ps_linkfile.specs.ReferencesText.{Listed, listed_in, cause_width}
+use Rattle.ps_linkfile.specs.ReferencesText.{StoredIn, stored_in, cause_width}
 use Rattle.ps_linkfile.specs.declared.cause.Cause.{Cause}
 
 -- what is listed of the segments of a link whose references are resolved, by slot
-abbrev pub listings : List ℕ → List (List ℕ) → List Listed
-listings host libs = map (λ (e : Segment × List Edit). listed_in (order_of host)
+abbrev pub all_stored : List ℕ → List (List ℕ) → List StoredIn
+all_stored host libs = map (λ (e : Segment × List Edit). stored_in (order_of host)
     (block_of (origins host libs) e.0.slot) e.0 e.1)
     (filter (λ (e : Segment × List Edit). needs_linking e.0.role) (linked_segments host libs))
 
 -- a line of the segment in this slot says that these bytes are at this place of its code
-abbrev pub IsLine : List Listed → ℕ → ℕ → List ℕ → Type 0
+abbrev pub IsLine : List StoredIn → ℕ → ℕ → List ℕ → Type 0
 IsLine lists slot at new = SomeItem lists (λ k l. (l.slot ≡ slot)
     × ((c : Cause) × (slice_get l.causes at ≡ Some (Some c))
     × (new ≡ take (cause_width c) (drop at l.linked))))
 
 -- the code of a segment in the linked file, where it begins in this block, is made by the lines
-pub record IsMadeByLines (lists : List Listed) (s : Segment) (file : List ℕ)
+pub record IsMadeByLines (lists : List StoredIn) (s : Segment) (file : List ℕ)
     (block : ℕ) : Type 0 where
   -- what they say was there is of the input's code, and the block is this one
-  pub before : (k : ℕ) (l : Listed) → slice_get lists k ≡ Some l → l.slot ≡ s.slot
+  pub before : (k : ℕ) (l : StoredIn) → slice_get lists k ≡ Some l → l.slot ≡ s.slot
       → (l.code ≡ s.code) × (l.block ≡ block)
   -- the bytes that a line says are there now, are there
   pub named : (at j : ℕ) (new : List ℕ) → IsLine lists s.slot at new → j < length new
@@ -41,5 +41,5 @@ pub record IsMadeByLines (lists : List Listed) (s : Segment) (file : List ℕ)
 
 -- so it is with all segments of a link
 abbrev pub AreMadeByLines : List ℕ → List (List ℕ) → List ℕ → Type 0
-AreMadeByLines host libs file = All (λ s. IsMadeByLines (listings host libs) s file
+AreMadeByLines host libs file = All (λ s. IsMadeByLines (all_stored host libs) s file
     (block_of (origins host libs) s.slot)) (segments_of host libs)

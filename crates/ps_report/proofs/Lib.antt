@@ -3,7 +3,7 @@ pub mod SlotLines
 pub mod LineOfSegment
 pub mod LinesOfSegments
 pub mod Verdicts
-pub mod Listing
+pub mod FilesListed
 pub mod Texts
 pub mod SegmentTexts
 pub mod WarningLines

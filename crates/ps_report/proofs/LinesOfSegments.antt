@@ -9,18 +9,18 @@ use Rattle.ps_resolve.proofs.ReadingSlots.{host_of_files}
 use Rattle.ps_warnings.specs.Paths.{path_of}
 use Rattle.ps_report.specs.SegmentLines.{from_words, head_words, lines_of_segments, part_as, segment_line, segment_lines}
 use Rattle.ps_report.specs.SlotLines.{AddsSlotLines}
-use Rattle.ps_warnings.specs.declared.segments.Part.{Part}
+use Rattle.ps_warnings.specs.declared.segments.SegmentPart.{SegmentPart}
 use Rattle.ps_report.proofs.SlotLines.{adds_then}
 
 -- the line of a segment that is this
 pub line_is : (paths : List (List ℕ)) (segs : List Segment) (requests : List UnitReference)
-    (s : Segment) (what : Part) → what ≡ part_as segs requests s s.role
+    (s : Segment) (what : SegmentPart) → what ≡ part_as segs requests s s.role
     → head_words (Some s.slot) s.name what
     ++ from_words (path_of paths s.file) s.index (length s.code)
     ≡ segment_line paths segs requests s
 unfolding segment_line
 line_is paths segs requests s what is = ap
-    (λ (p : Part). head_words (Some s.slot) s.name p
+    (λ (p : SegmentPart). head_words (Some s.slot) s.name p
     ++ from_words (path_of paths s.file) s.index (length s.code)) is
 
 -- one more segment
@@ -49,7 +49,7 @@ lines_are paths host libs v segs requests opened are requested =
     (segments (order_of host) host libs) rs) same
 
 -- the line of a segment, by values that are the same
-pub same_line : (what : Part) (slot slot' : ℕ) (name name' path path' : List ℕ)
+pub same_line : (what : SegmentPart) (slot slot' : ℕ) (name name' path path' : List ℕ)
     (index index' size size' : ℕ) → slot ≡ slot' → name ≡ name' → path ≡ path'
     → index ≡ index' → size ≡ size'
     → head_words (Some slot) name what ++ from_words path index size

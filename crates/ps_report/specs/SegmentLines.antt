@@ -12,10 +12,10 @@ use Rattle.ps_resolve.specs.Added.{segments}
 use Rattle.ps_resolve.specs.Readings.{read_requests}
 use Rattle.ps_resolve.specs.declared.reading.added.UnitReference.{UnitReference}
 use Rattle.ps_filetype.specs.Shown.{shown_name, shown_path}
-use Rattle.ps_warnings.specs.Parts.{part_words}
+use Rattle.ps_warnings.specs.SegmentParts.{part_words}
 use Rattle.ps_warnings.specs.Paths.{path_of}
-use Rattle.ps_warnings.specs.declared.segments.Part.{Part}
-use Rattle.ps_warnings.specs.declared.segments.Part.TheVariants as part
+use Rattle.ps_warnings.specs.declared.segments.SegmentPart.{SegmentPart}
+use Rattle.ps_warnings.specs.declared.segments.SegmentPart.TheVariants as part
 
 -- the number of a slot or an entry, of two digits
 abbrev pub two_digits : ℕ → List ℕ
@@ -27,22 +27,22 @@ name_in segs slot = option_map_or (λ s. s.name) (find (λ s. s.slot == slot) se
     (codes "        ")
 
 -- a unit that is added for this record, the first that requests its name
-abbrev pub part_added : List Segment → Option UnitReference → Part
+abbrev pub part_added : List Segment → Option UnitReference → SegmentPart
 part_added segs None = part.Wanted
-part_added segs (Some asker) = part.Added (name_in segs asker.slot) asker.rec
+part_added segs (Some requester) = part.Added (name_in segs requester.slot) requester.rec
 
 -- the first record that requests a unit of this name, among those of all names that are requested
-abbrev pub asker_of : List UnitReference → List ℕ → Option UnitReference
-asker_of requests name = find (λ g. bytes_eq g.name name) requests
+abbrev pub requester_of : List UnitReference → List ℕ → Option UnitReference
+requester_of requests name = find (λ g. bytes_eq g.name name) requests
 
 -- what a segment of this role is, among all segments; one that was added is a unit that the first
 -- record requests which has its name
-abbrev pub part_as : List Segment → List UnitReference → Segment → Role → Part
+abbrev pub part_as : List Segment → List UnitReference → Segment → Role → SegmentPart
 part_as segs requests s role.Plain = part.Plain
 part_as segs requests s role.Host = part.Host
 part_as segs requests s role.Unit = part.Unit
 part_as segs requests s role.Empty = part.Wanted
-part_as segs requests s role.Wanted = if s.added then part_added segs (asker_of requests s.name)
+part_as segs requests s role.Wanted = if s.added then part_added segs (requester_of requests s.name)
     else part.Wanted
 
 -- `slot 08 UTIL: a unit that record 0 of MAIN requests`, or `no slot UTIL: ..`
@@ -50,7 +50,7 @@ abbrev pub slot_words : Option ℕ → List ℕ
 slot_words None = codes "no slot"
 slot_words (Some slot) = codes "slot " ++ two_digits slot
 
-abbrev pub head_words : Option ℕ → List ℕ → Part → List ℕ
+abbrev pub head_words : Option ℕ → List ℕ → SegmentPart → List ℕ
 head_words slot name what = slot_words slot
     ++ (32 ∷ (shown_name name ++ (codes ": " ++ part_words what)))
 

@@ -8,7 +8,7 @@ use crate::json_strings::{JsonText, NameMembers, NameOrNull};
 use crate::report::Report;
 use crate::verdict::Verdict;
 use ps_linkfile::Summary;
-use ps_warnings::{Place, Warning, Weight};
+use ps_warnings::{Warning, WarningAt, Weight};
 use ps_words::{Fault, Name, Reason};
 use std::alloc::{AllocError, Allocator};
 use std::fmt::{self, Formatter, Write as _};
@@ -138,7 +138,7 @@ fn push_warning<A: Allocator>(
     ensures { OnOk result (string_bytes text.new
         ≡ string_bytes text.old ++ warning_json warning.now weight words.now) }
 {
-    let Place { path, segment, rec } = warning.place;
+    let WarningAt { path, segment, rec } = warning.place;
     let path = JsonText(path);
     let segment = NameOrNull(segment);
     let rec = NumberOrNull(rec);

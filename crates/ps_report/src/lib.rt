@@ -2,7 +2,6 @@
 //! words: the files, the segments with where each comes from, and the explanation of a fault.
 #![tactic(auto)]
 
-mod alone;
 mod findings;
 mod json;
 mod json_strings;
@@ -13,7 +12,8 @@ mod overview;
 mod report;
 mod slot_lines;
 mod verdict;
+mod without_host;
 
-pub use ps_warnings::{Look, Oddity, Place, Warning};
+pub use ps_warnings::{Look, Oddity, Warning, WarningAt};
 pub use report::{Report, check};
 pub use verdict::{Verdict, verdict_of};

@@ -3,7 +3,7 @@ ghost use Rattle.std.specs.Prelude.{◌≡◌, ◌∷◌, ◌++◌, [], None, On
 ghost use Rattle.ps_resolve.specs.AllFaults.{reading_fault};
 ghost use Rattle.ps_resolve.specs.Sources.{contents};
 ghost use Rattle.ps_warnings.specs.Paths.{path_of};
-ghost use Rattle.ps_report.specs.SegmentLines.{asker_of as asker_of_spec, from_words, head_words, lines_of_segments, name_in as name_in_spec, part_added as part_added_spec, part_as, segment_lines, slot_words, two_digits};
+ghost use Rattle.ps_report.specs.SegmentLines.{requester_of as requester_of_spec, from_words, head_words, lines_of_segments, name_in as name_in_spec, part_added as part_added_spec, part_as, segment_lines, slot_words, two_digits};
 ghost use Rattle.ps_report.specs.SlotLines.{AddsSlotLines};
 
 use crate::slot_lines::add_other_lines;
@@ -12,7 +12,7 @@ use ps_codefile::dictionary_layout::SLOTS;
 use ps_explained::OrderOf;
 use ps_filetype::{ShownName, ShownPath};
 use ps_resolve::{HostReading, Reading, Segment as LinkedSegment, UnitReference};
-use ps_warnings::{Inputs, Part, Segment, in_slot};
+use ps_warnings::{Inputs, Segment, SegmentPart, in_slot};
 use ps_words::Name;
 use std::alloc::{AllocError, Allocator};
 use std::fmt::{self, Formatter, Write as _};
@@ -54,7 +54,7 @@ impl fmt::Display for SlotOf {
 struct Head {
     slot: Option<u8>,
     name: Name,
-    part: Part,
+    part: SegmentPart,
 }
 
 impl fmt::Display for Head {
@@ -183,7 +183,7 @@ fn add_linked_segment<A: Allocator>(
     text: &mut String<A>,
     inputs: &Inputs<'_>,
     segment: &LinkedSegment<'_>,
-    part: Part,
+    part: SegmentPart,
 ) -> Result<(), AllocError>
     ensures { OnOk result (AddsSlotLines (string_bytes text.old)
         ((head_words (Some segment.now.slot) segment.now.name part
@@ -243,8 +243,8 @@ fn name_in(segments: &[LinkedSegment<'_>], slot: u8) -> Name
 }
 
 /// The first record that requests a unit of this name.
-fn asker_of(requests: &[UnitReference], name: Name) -> Option<UnitReference>
-    ensures { result ≡ asker_of_spec requests.now name }
+fn requester_of(requests: &[UnitReference], name: Name) -> Option<UnitReference>
+    ensures { result ≡ requester_of_spec requests.now name }
 {
     for request in requests {
         if request.name == name {
@@ -255,14 +255,14 @@ fn asker_of(requests: &[UnitReference], name: Name) -> Option<UnitReference>
 }
 
 /// What a unit is that is added for this record.
-fn part_added(segments: &[LinkedSegment<'_>], asker: Option<UnitReference>) -> Part
-    ensures { result ≡ part_added_spec segments.now asker }
+fn part_added(segments: &[LinkedSegment<'_>], requester: Option<UnitReference>) -> SegmentPart
+    ensures { result ≡ part_added_spec segments.now requester }
 {
-    match asker {
-        None => Part::Wanted,
-        Some(asker) => Part::Added {
-            asker: name_in(segments, asker.slot),
-            rec: asker.rec,
+    match requester {
+        None => SegmentPart::Wanted,
+        Some(requester) => SegmentPart::Added {
+            requester: name_in(segments, requester.slot),
+            rec: requester.rec,
         },
     }
 }
@@ -272,17 +272,17 @@ fn part_of(
     segments: &[LinkedSegment<'_>],
     requests: &[UnitReference],
     segment: &LinkedSegment<'_>,
-) -> Part
+) -> SegmentPart
     ensures { result ≡ part_as segments.now requests.now segment.now segment.now.role }
 {
     match segment.role() {
-        Role::Plain => Part::Plain,
-        Role::Host => Part::Host,
-        Role::Unit => Part::Unit,
+        Role::Plain => SegmentPart::Plain,
+        Role::Host => SegmentPart::Host,
+        Role::Unit => SegmentPart::Unit,
         Role::Wanted if segment.added() => {
-            part_added(segments, asker_of(requests, segment.name()))
+            part_added(segments, requester_of(requests, segment.name()))
         }
-        Role::Empty | Role::Wanted => Part::Wanted,
+        Role::Empty | Role::Wanted => SegmentPart::Wanted,
     }
 }
 

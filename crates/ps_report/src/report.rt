@@ -11,11 +11,11 @@ ghost use Rattle.ps_report.specs.Lists.{HasLists, lacks_host};
 ghost use Rattle.ps_report.specs.Verdicts.{IsRefused, IsVerdict, Tells, check_status, verdict_line, verdict_name as verdict_name_spec};
 ghost use Rattle.ps_report.specs.WarningLines.{AddsWarnings, HasWarning, other_lines, warnings_in};
 
-use crate::alone::lists_without_host;
 use crate::findings::{Findings, findings_of};
 use crate::lines::{add_looks, add_other_lines};
 use crate::names::verdict_name;
 use crate::verdict::{Verdict, verdict_of};
+use crate::without_host::lists_without_host;
 use ps_laws::first_of_all;
 use ps_warnings::{Looks, Warning};
 use ps_words::Name;
@@ -122,7 +122,7 @@ pub fn check<'a, A: Allocator + Copy>(
         notes,
     } = looks;
     let lists = lists_without_host(alloc, verdict, host_path, paths, host, libs)?;
-    let parts = Parts {
+    let parts = Sections {
         overview: overview.as_str(),
         explanation: explanation.as_str(),
         lists: lists.as_str(),
@@ -147,7 +147,7 @@ pub fn check<'a, A: Allocator + Copy>(
 
 /// What a report has before and after the line of its verdict, in lines, but for its warnings.
 #[derive(Clone, Copy)]
-struct Parts<'t> {
+struct Sections<'t> {
     overview: &'t str,
     explanation: &'t str,
     lists: &'t str,
@@ -193,7 +193,7 @@ fn add_verdict<A: Allocator>(text: &mut String<A>, verdict: Verdict) -> Result<(
 fn with_verdict<A: Allocator>(
     alloc: A,
     verdict: Verdict,
-    parts: Parts<'_>,
+    parts: Sections<'_>,
 ) -> Result<String<A>, AllocError>
     ensures parts { IfOk result (λ text. (before : List ℕ)
         × (string_bytes text ≡ before ++ (codes "\n" ++ verdict_line verdict)

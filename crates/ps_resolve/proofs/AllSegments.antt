@@ -14,7 +14,7 @@ use Rattle.ps_resolve.specs.Faults.{segment_fault, references_fault_from}
 use Rattle.ps_resolve.specs.Plans.{LinksSegment, LinkSegments}
 use Rattle.ps_resolve.specs.declared.linkage.Stop.{Stop}
 use Rattle.std.proofs.lemmas.List.{drop_all}
-use Rattle.ps_resolve.proofs.Segs.{drop_at}
+use Rattle.ps_resolve.proofs.NextItems.{drop_at}
 use Rattle.ps_words.specs.declared.words.TheConstants.{MAX_WORD}
 
 module _ (order : Order) (known : Known) (ss : List Segment) (i : ℕ) (v : Segment)

@@ -24,16 +24,16 @@ use Rattle.ps_resolve.specs.Standing.Definitions.{HasEarlierNamesake}
 use Rattle.ps_linkinfo.specs.RecordCounts.{is_definition, is_private_reference}
 use Rattle.ps_resolve.specs.References.{words_taken, words_taken_by}
 use Rattle.ps_resolve.specs.Stops.{IsStop, duplicate_fault}
-use Rattle.ps_resolve.specs.Builders.{HaveNoNamesakes, StopsDefinitions, offset_at, HaveDistinctPrivates, HaveRoom, IsUnfit, IsFirstUnfit, StopsPrivates, asked_in, all_asked, asked_of, AreByRecord, words_of_all}
+use Rattle.ps_resolve.specs.Builders.{HaveNoNamesakes, StopsDefinitions, offset_at, HaveDistinctPrivates, HaveRoom, IsUnfit, IsFirstUnfit, StopsPrivates, requested_in, all_requested, requested_of, AreByRecord, words_of_all}
 use Rattle.ps_resolve.specs.declared.allotment.Private.{Private}
-use Rattle.ps_resolve.specs.declared.linkage.SegmentPlace.{SegmentPlace}
+use Rattle.ps_resolve.specs.declared.linkage.SegmentAt.{SegmentAt}
 use Rattle.ps_resolve.specs.declared.linkage.Stop.{Stop}
 use Rattle.ps_resolve.specs.declared.linkage.Stop.TheVariants.{Refused, Memory}
 use Rattle.ps_resolve.proofs.LookingBack.{is_again, again, take_prefix, longer, definitions_carried, words_before, reason_at, record_fault, privates_carried}
-use Rattle.ps_resolve.proofs.Allots.{privates_counted}
+use Rattle.ps_resolve.proofs.AllottedPrivates.{privates_counted}
 use Rattle.ps_resolve.proofs.Duplicates.{definitions_counted}
 use Rattle.ps_resolve.proofs.FirstSlots.{some_mapped}
-use Rattle.ps_resolve.proofs.Rises.{behind}
+use Rattle.ps_resolve.proofs.PrivatesRise.{behind}
 use Rattle.ps_resolve.specs.declared.allotment.TheConstants.{MAX_NEXT_FREE}
 
 -- the first that f gives of a list's items and their numbers
@@ -260,14 +260,14 @@ module _ (base : ℕ) (ss : List Owner) where
             → IsUnfit base ss k rs rec r why
         go b c d f h = search rules
 
-  none_in : (k : ℕ) (place : SegmentPlace) (rs : List Record)
+  none_in : (k : ℕ) (place : SegmentAt) (rs : List Record)
       → segment_fault (k, (place, rs)) ≡ None → (rec : ℕ) (r : Record)
       → slice_get rs rec ≡ Some r → (why : Reason) → IsUnfit base ss k rs rec r why → ⊥
   none_in k place rs e rec r there =
       grind (arith, fits, none_given (record_faults (k, (place, rs))) 0 rs e rec rec r)
 
   none_unfit : first_private_fault base ss ≡ None
-      → (k : ℕ) (place : SegmentPlace) (rs : List Record) (rec : ℕ) (r : Record)
+      → (k : ℕ) (place : SegmentAt) (rs : List Record) (rec : ℕ) (r : Record)
       → slice_get ss k ≡ Some (place, rs) → slice_get rs rec ≡ Some r → (why : Reason)
       → IsUnfit base ss k rs rec r why → ⊥
   none_unfit e k place rs rec r of there = none_in k place rs
@@ -279,11 +279,11 @@ module _ (base : ℕ) (ss : List Owner) where
       none_unfit e k place rs rec r of there reason.DoubledPrivate is
 
   pub room : first_private_fault base ss ≡ None → HaveRoom base ss
-  room e k rec place rs r of there asks =
+  room e k rec place rs r of there requests =
       elim (cases_lt MAX_NEXT_FREE (offset_at base ss k rs rec + words_taken r.body)) [
         | inl lt ↦ absurd (none_unfit e k place rs rec r of there reason.NoRoom (
           grind (arith, distinct_names),
-          asks,
+          requests,
           lt,
         ))
         | inr le ↦ le
@@ -325,7 +325,7 @@ module _ (base : ℕ) (ss : List Owner) where
       same_segment : (k : ℕ) (s : Owner) (rec : ℕ)
           → slice_get ss k ≡ Some s → ((j i : ℕ) (b : Record) → j < rec → i ≡ 0 + j
           → slice_get s.1 j ≡ Some b → record_faults (k, s) (i, b) ≡ None)
-          → (j n : ℕ) (q : SegmentPlace) (rs : List Record) (r : Record) (other : Reason)
+          → (j n : ℕ) (q : SegmentAt) (rs : List Record) (r : Record) (other : Reason)
           → slice_get ss j ≡ Some (q, rs) → slice_get rs n ≡ Some r
           → IsUnfit base ss j rs n r other → j ≡ k → n < rec → ⊥
       same_segment k s rec at_k before j n q rs r other of there u h lt =
@@ -396,16 +396,16 @@ summed next (s ∷ ss) =
     grind (arith, sum_by-append, words_allotted, summed (next + private_words s.1) ss)
 
 -- the privates of a segment, without their offsets
-asked_allotted : (place : SegmentPlace) (rec next : ℕ) (rs : List Record)
-    → map asked_of (allotted_privates place.slot rec next rs)
-    ≡ filter_map (asked_in place) (enumerate_from rec rs)
-asked_allotted place rec next [] = refl
-asked_allotted place rec next (r ∷ rs) =
-    let rest = λ (n : ℕ). asked_allotted place (rec + 1) n rs in
+requested_allotted : (place : SegmentAt) (rec next : ℕ) (rs : List Record)
+    → map requested_of (allotted_privates place.slot rec next rs)
+    ≡ filter_map (requested_in place) (enumerate_from rec rs)
+requested_allotted place rec next [] = refl
+requested_allotted place rec next (r ∷ rs) =
+    let rest = λ (n : ℕ). requested_allotted place (rec + 1) n rs in
     grind arith
 
 -- and those of all segments, which are what all records request
-pub asked : (next : ℕ) (ss : List Owner) → map asked_of (all_allotted next ss) ≡ all_asked ss
-asked next [] = refl
-asked next (s ∷ ss) =
-    grind (arith, map-append, asked_allotted, asked (next + private_words s.1) ss)
+pub requested : (next : ℕ) (ss : List Owner) → map requested_of (all_allotted next ss) ≡ all_requested ss
+requested next [] = refl
+requested next (s ∷ ss) =
+    grind (arith, map-append, requested_allotted, requested (next + private_words s.1) ss)

@@ -23,7 +23,7 @@ use Rattle.ps_resolve.proofs.EachSegment.{added_made}
 use Rattle.ps_resolve.proofs.InSlots.{InPlace, found_there, same_kept}
 use Rattle.ps_resolve.proofs.Items.{find_passes}
 use Rattle.ps_resolve.proofs.ReadingKnown.{own_parts}
-use Rattle.ps_resolve.proofs.Segs.{drop_at}
+use Rattle.ps_resolve.proofs.NextItems.{drop_at}
 
 -- 1. where a segment goes
 -- a segment goes before one of a later slot, and after one of another

@@ -4,7 +4,7 @@ use Rattle.ps_resolve.specs.Symbols.{def_in, definitions, definition_of, first_d
 use Rattle.ps_resolve.specs.declared.definitions.Def.{Def}
 use Rattle.ps_linkinfo.specs.RecordCounts.{is_definition, definitions_in}
 use Rattle.ps_linkinfo.specs.declared.record.LinkRecord.{LinkRecord as Record}
-use Rattle.ps_resolve.proofs.Apart.{one_more}
+use Rattle.ps_resolve.proofs.RecordCounts.{one_more}
 use Rattle.std.proofs.lemmas.List.{nil_from_length}
 
 pub none_is : {X : Type 0} (o : Option X) → is_some o ≡ false → o ≡ None

@@ -16,7 +16,7 @@ use Rattle.ps_resolve.specs.Requests.{missing_at}
 use Rattle.ps_resolve.specs.Sources.{Segment, is_named, has_entry, chosen_library, unit_source, segment_from, own_segments, units_of}
 use Rattle.ps_resolve.specs.declared.reading.added.UnitReference.{UnitReference}
 use Rattle.ps_resolve.specs.declared.reading.request.Request.{Request}
-use Rattle.ps_resolve.proofs.Adding.{no_name_left, requested-append, round_adds, round_refused}
+use Rattle.ps_resolve.proofs.RequestQueue.{no_name_left, requested-append, round_adds, round_refused}
 use Rattle.ps_resolve.proofs.FirstSlots.{any_found, neither_first}
 use Rattle.ps_resolve.proofs.Items.{find_passes, first_right}
 use Rattle.ps_resolve.proofs.LookingBack.{longer, take_prefix}

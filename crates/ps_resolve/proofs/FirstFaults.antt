@@ -7,7 +7,7 @@ use Rattle.ps_resolve.specs.Faults.{linking_fault}
 use Rattle.ps_resolve.specs.AllFaults.{first_fault, reading_fault}
 use Rattle.ps_resolve.specs.Plans.{AreStopped, IsStopped}
 use Rattle.ps_resolve.specs.declared.linkage.Stop.{Stop}
-use Rattle.ps_resolve.proofs.Stages.{skip, keep}
+use Rattle.ps_resolve.proofs.LinkingFaults.{skip, keep}
 
 module _ (host : List ℕ) (libs : List (List ℕ)) where
   pub first_read : (fault : Fault) → reading_fault host libs ≡ Some fault

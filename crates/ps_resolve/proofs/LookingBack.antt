@@ -111,8 +111,8 @@ definitions_carried h prefix (r ∷ rs) rec e =
     )
 
 -- a record requests a private where that takes words
-pub asks_is : (b : Body) → is_private_reference b ≡ is_some (words_in b)
-asks_is b = grind arith
+pub requests_is : (b : Body) → is_private_reference b ≡ is_some (words_in b)
+requests_is b = grind arith
 
 -- the names of the records of a kind
 abbrev pub names_of : (Body → Bool) → List Record → List (List ℕ)
@@ -174,7 +174,7 @@ privates_carried h offset base prefix (r ∷ rs) rec e offsets = grind (
   more_names is_private_reference prefix r,
   append-nil (names prefix),
   seen_is is_private_reference r.name prefix,
-  asks_is r.body,
+  requests_is r.body,
   privates_carried h offset base (prefix ++ r ∷ []) rs (rec + 1)
       (omega (arith, longer prefix r, e)),
 )

@@ -4,7 +4,7 @@ use Rattle.std.specs.Prelude.{IsPermutation}
 use Rattle.std.specs.Option.{option_map, option_or}
 use Rattle.std.proofs.lemmas.List.Sorted.{IsPermutation-trans, IsPermutation-append_left}
 use Rattle.ps_linkinfo.specs.Records.{refs_of}
-use Rattle.ps_linkinfo.specs.RecordCounts.{is_private_reference, is_public_reference, is_unit_reference, privates_in, publics_in, units_in as units_asked}
+use Rattle.ps_linkinfo.specs.RecordCounts.{is_private_reference, is_public_reference, is_unit_reference, privates_in, publics_in, units_in as units_requested}
 use Rattle.ps_resolve.specs.Privates.{private_words}
 use Rattle.ps_linkinfo.specs.declared.record.Body.{Body}
 use Rattle.ps_linkinfo.specs.declared.record.Body.TheVariants.{UnitRef, PublRef, PrivRef}
@@ -22,7 +22,7 @@ use Rattle.ps_resolve.specs.Stops.{IsStop}
 use Rattle.ps_resolve.specs.References.{Known, words_taken, target_in, target_of, records_fault, records_edits}
 use Rattle.ps_resolve.specs.declared.references.Target.{Target}
 use Rattle.ps_resolve.specs.declared.references.Target.TheVariants.{Slot}
-use Rattle.ps_resolve.proofs.Apart.{one_private, one_public, one_unit}
+use Rattle.ps_resolve.proofs.RecordCounts.{one_private, one_public, one_unit}
 use Rattle.ps_resolve.proofs.LookingBack.{words_before}
 use Rattle.ps_resolve.specs.declared.linkage.Stop.{Stop}
 
@@ -107,13 +107,13 @@ module _ (known : Known) (R : ℕ → Bool) (code : List ℕ) where
       let next = rest (n + 1) (off + words_taken r.body) (os ++ operands (Slot 0) (refs_of r.body))
       in grind (arith, edits_more, words_before)
 
-  pub no_links : (rs : List Record) (n off : ℕ) (os : List (ℕ × ℕ)) → units_asked rs ≡ 0
+  pub no_links : (rs : List Record) (n off : ℕ) (os : List (ℕ × ℕ)) → units_requested rs ≡ 0
       → publics_in rs ≡ 0 → privates_in rs ≡ 0 → NoLinks known R code n off os rs
   no_links [] n off os u p q = grind arith
   no_links (r ∷ rs) n off os u p q = at
       (λ uu pp qq m free ps. no_links rs m free ps uu pp qq) r.body refl
     where
-      skips : (units_asked rs ≡ 0 → publics_in rs ≡ 0 → privates_in rs ≡ 0
+      skips : (units_requested rs ≡ 0 → publics_in rs ≡ 0 → privates_in rs ≡ 0
           → (m free : ℕ) (ps : List (ℕ × ℕ)) → NoLinks known R code m free ps rs)
           → is_unit_reference r.body ≡ false → is_public_reference r.body ≡ false
           → is_private_reference r.body ≡ false
@@ -125,7 +125,7 @@ module _ (known : Known) (R : ℕ → Bool) (code : List ℕ) where
           let z = one_private r rs false c in
           passed n off os r rs t none words (rest (omega arith) (omega arith) (omega arith))
 
-      at : (units_asked rs ≡ 0 → publics_in rs ≡ 0 → privates_in rs ≡ 0
+      at : (units_requested rs ≡ 0 → publics_in rs ≡ 0 → privates_in rs ≡ 0
           → (m free : ℕ) (ps : List (ℕ × ℕ)) → NoLinks known R code m free ps rs)
           → (b : Body) → r.body ≡ b → NoLinks known R code n off os (r ∷ rs)
       at rest (UnitRef refs) e = let x = one_unit r rs true (ap is_unit_reference e) in

@@ -125,5 +125,5 @@ module _ (host : List ℕ) (libs : List (List ℕ)) (read : reading_fault host l
         there = at.1;
         file = k.0;
         one_host = one_host order host libs parts.0 i d lt;
-        asked = k.1;
+        requested = k.1;
       }

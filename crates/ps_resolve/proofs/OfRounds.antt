@@ -16,7 +16,7 @@ use Rattle.ps_resolve.specs.declared.reading.added.UnitReference.{UnitReference}
 use Rattle.ps_resolve.proofs.EachRound.{IsTurn, all_rounds, own_units, requested_rest, segments_before}
 use Rattle.ps_resolve.proofs.EachSegment.{added_made}
 use Rattle.ps_resolve.proofs.Items.{at_left, first_right, some_before}
-use Rattle.ps_resolve.proofs.Requesting.{grown}
+use Rattle.ps_resolve.proofs.KnownNames.{grown}
 
 module _ (order : Order) (host : List ℕ) (libs : List (List ℕ)) where
   abbrev pub queue_of : List UnitReference

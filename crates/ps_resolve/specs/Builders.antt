@@ -15,7 +15,7 @@ use Rattle.ps_resolve.specs.Standing.Definitions.{HasEarlierNamesake}
 use Rattle.ps_linkinfo.specs.RecordCounts.{is_definition, is_private_reference}
 use Rattle.ps_resolve.specs.References.{words_taken, words_taken_by}
 use Rattle.ps_resolve.specs.declared.allotment.Private.{Private}
-use Rattle.ps_resolve.specs.declared.linkage.SegmentPlace.{SegmentPlace}
+use Rattle.ps_resolve.specs.declared.linkage.SegmentAt.{SegmentAt}
 use Rattle.ps_resolve.specs.declared.linkage.Stop.{Stop}
 use Rattle.ps_resolve.specs.declared.linkage.Stop.TheVariants.{Refused, Memory}
 use Rattle.ps_words.specs.FaultPlaces.{in_record}
@@ -66,13 +66,13 @@ offset_at base ss k rs rec = base + words_taken_by
 
 -- in no segment has a private the name of an earlier private of that segment
 abbrev pub HaveDistinctPrivates : List Owner → Type 0
-HaveDistinctPrivates ss = (k : ℕ) (place : SegmentPlace) (rs : List Record)
+HaveDistinctPrivates ss = (k : ℕ) (place : SegmentAt) (rs : List Record)
     → slice_get ss k ≡ Some (place, rs) → HaveNoNamesakes is_private_reference rs
 
 -- every private ends at MAX_NEXT_FREE at most
 abbrev pub HaveRoom : ℕ → List Owner → Type 0
 HaveRoom base ss =
-    (k rec : ℕ) (place : SegmentPlace) (rs : List Record) (r : Record)
+    (k rec : ℕ) (place : SegmentAt) (rs : List Record) (r : Record)
     → slice_get ss k ≡ Some (place, rs) → slice_get rs rec ≡ Some r
     → is_private_reference r.body ≡ true
     → offset_at base ss k rs rec + words_taken r.body ≤ MAX_NEXT_FREE
@@ -92,7 +92,7 @@ IsUnfit base ss k rs rec r other = ⊥
 pub record IsFirstUnfit (base : ℕ) (ss : List Owner) (fault : Fault) : Type 0 where
   pub segment : ℕ
   pub rec : ℕ
-  pub place : SegmentPlace
+  pub place : SegmentAt
   pub records : List Record
   pub item : Record
   pub why : Reason
@@ -100,7 +100,7 @@ pub record IsFirstUnfit (base : ℕ) (ss : List Owner) (fault : Fault) : Type 0 
   pub there : slice_get records rec ≡ Some item
   pub unfit : IsUnfit base ss segment records rec item why
   pub told : fault ≡ in_record place.file place.slot rec why
-  pub first : (k n : ℕ) (q : SegmentPlace) (rs : List Record) (r : Record) (other : Reason)
+  pub first : (k n : ℕ) (q : SegmentAt) (rs : List Record) (r : Record) (other : Reason)
       → slice_get ss k ≡ Some (q, rs) → slice_get rs n ≡ Some r
       → IsUnfit base ss k rs n r other
       → Before (k ∷ n ∷ []) (segment ∷ rec ∷ []) → ⊥
@@ -114,25 +114,25 @@ StopsPrivates base ss Memory = SomeItem ss
 
 -- 3. what is allotted
 -- a private before it has an offset: its slot, its record, its name and its words
-pub record Asked : Type 0 where
+pub record RequestedPrivate : Type 0 where
   pub slot : ℕ
   pub rec : ℕ
   pub name : List ℕ
   pub words : ℕ
 
 -- what a record of a segment, with its index, requests: a PRIVREF record for a private
-abbrev pub asked_in : SegmentPlace → ℕ × Record → Option Asked
-asked_in place r = option_map
+abbrev pub requested_in : SegmentAt → ℕ × Record → Option RequestedPrivate
+requested_in place r = option_map
     (λ words. record { slot = place.slot; rec = r.0; name = r.1.name; words = words })
     (words_in r.1.body)
 
 -- what all records of the segments request, by segment and then by record
-abbrev pub all_asked : List Owner → List Asked
-all_asked ss = flat_map (λ (s : Owner). filter_map (asked_in s.0) (enumerate_from 0 s.1)) ss
+abbrev pub all_requested : List Owner → List RequestedPrivate
+all_requested ss = flat_map (λ (s : Owner). filter_map (requested_in s.0) (enumerate_from 0 s.1)) ss
 
 -- a private without its offset
-abbrev pub asked_of : Private → Asked
-asked_of p = record { slot = p.slot; rec = p.rec; name = p.name; words = p.words }
+abbrev pub requested_of : Private → RequestedPrivate
+requested_of p = record { slot = p.slot; rec = p.rec; name = p.name; words = p.words }
 
 -- the privates are by slot and, of one slot, by record
 abbrev pub AreByRecord : List Private → Type 0

@@ -14,7 +14,7 @@ use Rattle.ps_resolve.specs.References.{Known}
 use Rattle.ps_resolve.specs.Faults.{references_fault_from, size_fault}
 use Rattle.ps_resolve.specs.Operands.{reference_reason, refs_fault}
 use Rattle.ps_resolve.specs.Stops.{IsStop}
-use Rattle.ps_resolve.specs.declared.linkage.RecordPlace.{RecordPlace}
+use Rattle.ps_resolve.specs.declared.linkage.RecordAt.{RecordAt}
 use Rattle.ps_resolve.specs.declared.linkage.Stop.{Stop}
 use Rattle.ps_resolve.specs.declared.references.Target.{Target}
 
@@ -24,7 +24,7 @@ reason_in tables taken target x = reference_reason
     (is_reserved tables.order tables.code) tables.code taken target x
 
 -- the first fault of the references of a record that is there, where these operands are taken
-abbrev pub refs_fault_at : RecordPlace → ProcedureTables → Target → List (ℕ × ℕ)
+abbrev pub refs_fault_at : RecordAt → ProcedureTables → Target → List (ℕ × ℕ)
     → List ℕ → Option Fault
 refs_fault_at place tables target taken refs =
     option_map (λ f. in_reference place.file place.slot place.rec f.0 f.1)

@@ -19,7 +19,7 @@ pub mod Plans
 pub mod KnownSegments
 pub mod First
 pub mod Standing
-pub mod Parts
+pub mod FaultParts
 pub mod RequestedUnits
 pub mod Linkable
 pub mod EditTables

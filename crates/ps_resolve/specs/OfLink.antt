@@ -64,7 +64,7 @@ pub record IsOfLink (order : Order) (host : List ℕ) (libs : List (List ℕ))
   pub there : segment_at order host libs s.slot ≡ Some s
   pub file : IsOfFile order host libs s
   pub one_host : is_host s.role ≡ true → host_of (segments order host libs) ≡ Some s
-  pub asked : IsOfSlot order host libs s
+  pub requested : IsOfSlot order host libs s
       ⊎ ((j : ℕ) × (g : UnitReference) × IsOfRound order host libs j g s)
 
 -- So it is with all of these segments, which are those of a link.

@@ -38,8 +38,8 @@ pub record IsOwn (order : Order) (host : List ℕ) (s : Segment) : Type 0 where
   pub name : s.name ≡ (entry_at order host s.slot).name
 
 -- a record of the segment is a UNITREF of this name
-abbrev pub AsksFor : Segment → List ℕ → Type 0
-AsksFor s name = SomeItem s.records (λ rec r. (is_unit_reference r.body ≡ true)
+abbrev pub RequestsName : Segment → List ℕ → Type 0
+RequestsName s name = SomeItem s.records (λ rec r. (is_unit_reference r.body ≡ true)
     × (r.name ≡ name))
 
 -- a segment that was added for a UNITREF; `segs` are all segments of the link
@@ -54,8 +54,8 @@ pub record IsAddedUnit (order : Order) (host : List ℕ) (segs : List Segment)
   pub role : s.role ≡ Wanted
   -- its name is requested by one of the host's own segments, or by one that was added in a smaller
   -- slot
-  pub asked : SomeItem segs (λ k q. ((q.added ≡ false) ⊎ (q.slot < s.slot))
-      × AsksFor q s.name)
+  pub requested : SomeItem segs (λ k q. ((q.added ≡ false) ⊎ (q.slot < s.slot))
+      × RequestsName q s.name)
   -- the name is not eight blanks or eight zero bytes, and no slot of role Unit or Wanted of the
   -- host has it
   pub named : is_nameless s.name ≡ false

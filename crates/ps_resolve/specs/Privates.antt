@@ -9,7 +9,7 @@ use Rattle.std.specs.Option.{option_map, option_or}
 use Rattle.ps_linkinfo.specs.Records.{reading}
 use Rattle.ps_resolve.specs.Sources.{Segment}
 use Rattle.ps_resolve.specs.declared.linkage.Linkage.{Linkage}
-use Rattle.ps_resolve.specs.declared.linkage.SegmentPlace.{SegmentPlace}
+use Rattle.ps_resolve.specs.declared.linkage.SegmentAt.{SegmentAt}
 use Rattle.ps_words.specs.declared.fault.Reason.{Reason}
 use Rattle.ps_words.specs.declared.fault.Reason.TheVariants as reason
 use Rattle.ps_words.specs.declared.fault.Fault.{Fault}
@@ -72,7 +72,7 @@ unallotted_fault file slot next rs = option_map (λ f. in_record file slot f.0 f
 
 -- an owner of privates is the place of a segment, and its records
 abbrev pub Owner : Type 0
-Owner = SegmentPlace × List Record
+Owner = SegmentAt × List Record
 
 -- the owner that a linkage stands for
 abbrev pub owner_of_linkage : Linkage → Owner

@@ -19,8 +19,8 @@ use Rattle.ps_resolve.specs.Sources.{Segment, information_block, library_file, o
 use Rattle.ps_resolve.specs.declared.reading.added.UnitReference.{UnitReference}
 
 -- record `rec` of the i-th segment is a UNITREF of this name
-abbrev pub Asks : List Segment → ℕ → ℕ → List ℕ → Type 0
-Asks segs i rec name =
+abbrev pub RequestsAt : List Segment → ℕ → ℕ → List ℕ → Type 0
+RequestsAt segs i rec name =
     (s : Segment) × (slice_get segs i ≡ Some s) × (r : Record)
     × (slice_get s.records rec ≡ Some r) × (is_unit_reference r.body ≡ true)
     × (r.name ≡ name)
@@ -34,8 +34,8 @@ HasSlot order host name =
 abbrev pub IsGiver : List Segment → ℕ → UnitReference → Type 0
 IsGiver segs i g =
     ((s : Segment) × (slice_get segs i ≡ Some s) × (g.file ≡ s.file) × (g.slot ≡ s.slot))
-    × Asks segs i g.rec g.name
-    × ((j rec : ℕ) → Before (j ∷ rec ∷ []) (i ∷ g.rec ∷ []) → Asks segs j rec g.name
+    × RequestsAt segs i g.rec g.name
+    × ((j rec : ℕ) → Before (j ∷ rec ∷ []) (i ∷ g.rec ∷ []) → RequestsAt segs j rec g.name
     → ⊥)
 
 -- both are givers of their names, g before h
@@ -69,7 +69,7 @@ pub record AddedUnits (order : Order) (host : List ℕ) (libs : List (List ℕ))
       × (HasSlot order host g.name → ⊥)
   -- each name that is requested is in the queue, unless a slot of the host has it
   pub complete : (i rec : ℕ) (name : List ℕ)
-      → Asks (own_segments order host libs ++ segs) i rec name
+      → RequestsAt (own_segments order host libs ++ segs) i rec name
       → HasSlot order host name ⊎ SomeItem queue (λ k g. g.name ≡ name)
   -- none is there twice
   pub once : (j k : ℕ) (g h : UnitReference) → slice_get queue j ≡ Some g
@@ -104,8 +104,8 @@ AreOnlyUnits host libs =
     → (queue ≡ requested_units order host libs segs) × (others ≡ segs)
 
 -- each unit that a record of a segment of the link requests is a segment of the link
-abbrev pub HasAllAsked : List ℕ → List (List ℕ) → Type 0
-HasAllAsked host libs =
+abbrev pub HasAllRequested : List ℕ → List (List ℕ) → Type 0
+HasAllRequested host libs =
     let order = order_of host in
     (s : Segment) → IsSegment order host libs s → (rec : ℕ) (r : Record)
     → slice_get s.records rec ≡ Some r → is_unit_reference r.body ≡ true

@@ -4,9 +4,9 @@ ghost use Rattle.ps_resolve.specs.Offsets.{FollowOn, offset_listed};
 ghost use Rattle.ps_resolve.specs.declared.linkage.Stop.TheVariants.{Memory};
 ghost use Rattle.ps_resolve.specs.Privates.{words_in, allotted_privates, private_words, private_fault, all_allotted, all_words, first_private_fault, owner_of, owner_of_linkage, allotment_of, unallotted_fault, Owner};
 ghost use Rattle.ps_resolve.specs.Stops.{IsStop};
-ghost use Rattle.ps_resolve.specs.Builders.{HaveDistinctPrivates, HaveRoom, StopsPrivates, asked_of, all_asked, AreByRecord, words_of_all};
+ghost use Rattle.ps_resolve.specs.Builders.{HaveDistinctPrivates, HaveRoom, StopsPrivates, requested_of, all_requested, AreByRecord, words_of_all};
 
-use crate::linkage::{Linkage, SegmentPlace, Stop};
+use crate::linkage::{Linkage, SegmentAt, Stop};
 use crate::namesakes::first_duplicate_private;
 use crate::reading::segment::Segment;
 use ps_linkinfo::{Body, LinkInformation};
@@ -51,7 +51,7 @@ fn words_of_private(body: &Body) -> Option<u16>
 /// Allots the privates of a segment from `next` on, and returns the next free offset.
 pub(crate) fn allot<A: Allocator + Copy>(
     alloc: A,
-    place: SegmentPlace,
+    place: SegmentAt,
     records: &LinkInformation,
     next: u16,
     privates: &mut Vec<Private, A>,
@@ -113,12 +113,12 @@ impl<A: Allocator> Model for Allotment<A> {
 }
 
 /// A segment that privates are allotted to.
-pub(crate) trait AsksForPrivates {
+pub(crate) trait RequestsPrivates {
     /// Its place, and its records.
     ghost owner: { Self → Owner };
 
     /// Where it is.
-    fn place(&self) -> SegmentPlace
+    fn place(&self) -> SegmentAt
         ensures { result ≡ (owner self.now).0 };
 
     /// Its link information; `None` where it is linked already, so that it has no records.
@@ -126,10 +126,10 @@ pub(crate) trait AsksForPrivates {
         ensures { unwrap_or result [] ≡ (owner self.now).1 };
 }
 
-impl<'a> AsksForPrivates for Linkage<'a> {
+impl<'a> RequestsPrivates for Linkage<'a> {
     ghost owner = { owner_of_linkage };
 
-    fn place(&self) -> SegmentPlace {
+    fn place(&self) -> SegmentAt {
         self.place()
     }
 
@@ -138,10 +138,10 @@ impl<'a> AsksForPrivates for Linkage<'a> {
     }
 }
 
-impl<'a> AsksForPrivates for Segment<'a> {
+impl<'a> RequestsPrivates for Segment<'a> {
     ghost owner = { owner_of };
 
-    fn place(&self) -> SegmentPlace {
+    fn place(&self) -> SegmentAt {
         self.place()
     }
 
@@ -152,7 +152,7 @@ impl<'a> AsksForPrivates for Segment<'a> {
 }
 
 /// The privates of all segments, and the next free offset.
-fn allot_all<A: Allocator + Copy, S: AsksForPrivates>(
+fn allot_all<A: Allocator + Copy, S: RequestsPrivates>(
     alloc: A,
     next: u16,
     segments: &[S],
@@ -192,8 +192,8 @@ impl<A: Allocator + Copy> Allotment<A> {
             (map owner_of_linkage segments.now)) }
         ensures room { IfOk result (λ _. HaveRoom next (map owner_of_linkage segments.now)) }
         ensures refused { IfErr result (StopsPrivates next (map owner_of_linkage segments.now)) }
-        ensures asked { IfOk result (λ a. map asked_of a.privates
-            ≡ all_asked (map owner_of_linkage segments.now)) }
+        ensures requested { IfOk result (λ a. map requested_of a.privates
+            ≡ all_requested (map owner_of_linkage segments.now)) }
         ensures rising { IfOk result (λ a. AreByRecord a.privates) }
         ensures follow { IfOk result (λ a. FollowOn next a.privates) }
         ensures total { IfOk result (λ a. a.words ≡ words_of_all a.privates) }
@@ -210,7 +210,7 @@ impl<A: Allocator + Copy> Allotment<A> {
     }
 
     /// The privates of these segments, for `build`.
-    pub(crate) fn of_segments<S: AsksForPrivates>(
+    pub(crate) fn of_segments<S: RequestsPrivates>(
         alloc: A,
         next: u16,
         segments: &[S],

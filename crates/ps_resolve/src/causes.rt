@@ -11,7 +11,7 @@ use ps_linkinfo::{LinkInformation, LinkRecord, Operand};
 /// Where a reference is in the link information of a segment.
 /// Source: this project's profile.
 #[derive(Clone, Copy, Debug, PartialEq, Eq)]
-pub struct ReferencePlace {
+pub struct ReferenceAt {
     /// The index of its record, from 0.
     pub rec: usize,
     /// Its index in the record's list, from 0.
@@ -49,7 +49,7 @@ fn first_covering(operand: Operand, count: usize, entry: &LinkRecord<'_>) -> Opt
 }
 
 /// Of a record with this index so many references are before this place.
-fn references_before(place: ReferencePlace, rec: usize, entry: &LinkRecord<'_>) -> usize
+fn references_before(place: ReferenceAt, rec: usize, entry: &LinkRecord<'_>) -> usize
     ensures { result ≡ references_before_spec place (rec, entry.now) }
 {
     if rec < place.rec {
@@ -63,17 +63,17 @@ fn references_before(place: ReferencePlace, rec: usize, entry: &LinkRecord<'_>) 
 
 /// That reference, as a place.
 fn covering_in(
-    place: ReferencePlace,
+    place: ReferenceAt,
     operand: Operand,
     rec: usize,
     entry: &LinkRecord<'_>,
-) -> Option<ReferencePlace>
+) -> Option<ReferenceAt>
     ensures { result ≡ covering_in_spec place operand (rec, entry.now) }
 {
     let count = references_before(place, rec, entry);
     match first_covering(operand, count, entry) {
         None => None,
-        Some(reference) => Some(ReferencePlace { rec, reference }),
+        Some(reference) => Some(ReferenceAt { rec, reference }),
     }
 }
 
@@ -84,9 +84,9 @@ fn covering_in(
 /// Source: this project's profile.
 pub fn covering_reference(
     records: &LinkInformation<'_>,
-    place: ReferencePlace,
+    place: ReferenceAt,
     operand: Operand,
-) -> Option<ReferencePlace>
+) -> Option<ReferenceAt>
     ensures { result ≡ first_before place operand (numbered_records 0 records.now) }
 {
     for (rec, record) in records.records() {

@@ -6,7 +6,7 @@ ghost use Rattle.ps_resolve.specs.Symbols.{definitions, definition_of, def_in, f
 ghost use Rattle.ps_resolve.specs.Stops.{IsStop, duplicate_fault};
 ghost use Rattle.ps_resolve.specs.Builders.{HaveNoNamesakes, StopsDefinitions};
 
-use crate::linkage::{Linkage, SegmentPlace, Stop};
+use crate::linkage::{Linkage, SegmentAt, Stop};
 use crate::name_hasher::{NameHasher, NameKey};
 use indexmap::IndexMap;
 use ps_linkinfo::{Body, LinkInformation, LinkRecord};
@@ -75,7 +75,7 @@ fn def_of(entry: &LinkRecord) -> Option<Def>
 /// its exact size.
 fn table_of<A: Allocator + Copy>(
     alloc: A,
-    place: SegmentPlace,
+    place: SegmentAt,
     records: &LinkInformation,
 ) -> Result<IndexMap<NameKey, Def, NameHasher, A>, Stop>
     ensures entries { IfOk result (λ m. m.entries ≡ definitions records.now) }
@@ -131,7 +131,7 @@ impl<A: Allocator + Copy> Definitions<A> {
     /// The definitions of the records of a segment, for `build`.
     pub(crate) fn of_records(
         alloc: A,
-        place: SegmentPlace,
+        place: SegmentAt,
         records: &LinkInformation,
     ) -> Result<Self, Stop>
         ensures found { IfOk result (λ d. d ≡ definitions records.now) }

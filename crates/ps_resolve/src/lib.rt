@@ -19,10 +19,10 @@ mod resolving;
 mod slot_name_law;
 
 pub use allotment::{Allotment, MAX_NEXT_FREE, Private};
-pub use causes::{ReferencePlace, covering_reference, words_before};
+pub use causes::{ReferenceAt, covering_reference, words_before};
 pub use definitions::{Def, DefKind, Definitions};
 pub use edits::data_size::MAX_DATA_SIZE;
-pub use linkage::{EntryPlace, Linkage, RecordPlace, Stop};
+pub use linkage::{EntryAt, Linkage, RecordAt, Stop};
 pub use lone::lone_fault;
 pub use plan::{Plan, Source};
 pub use reading::added::UnitReference;

@@ -21,10 +21,10 @@ pub struct Linkage<'a> {
 
 impl<'a> Linkage<'a> {
     /// Where its segment is.
-    pub(crate) fn place(&self) -> SegmentPlace
+    pub(crate) fn place(&self) -> SegmentAt
         ensures { result ≡ record { file = self.now.file; slot = self.now.slot } }
     {
-        SegmentPlace {
+        SegmentAt {
             file: self.file,
             slot: self.slot,
         }
@@ -33,19 +33,19 @@ impl<'a> Linkage<'a> {
 
 /// Where a segment is.
 #[derive(Clone, Copy)]
-pub(crate) struct SegmentPlace {
+pub(crate) struct SegmentAt {
     /// The file that it comes from: 0 is the host file, k the k-th library, from 1.
     pub(crate) file: usize,
     /// Its slot in the host's segment dictionary, 0 to 15.
     pub(crate) slot: u8,
 }
 
-impl SegmentPlace {
+impl SegmentAt {
     /// Where the record of this index, from 0, of the segment's link information is.
-    pub(crate) fn record(self, rec: usize) -> RecordPlace
+    pub(crate) fn record(self, rec: usize) -> RecordAt
         ensures { result ≡ record { file = self.file; slot = self.slot; rec = rec } }
     {
-        RecordPlace {
+        RecordAt {
             file: self.file,
             slot: self.slot,
             rec,
@@ -56,7 +56,7 @@ impl SegmentPlace {
 /// Where the segment of a slot comes from.
 /// Source: this project's profile.
 #[derive(Clone, Copy, Debug, PartialEq, Eq)]
-pub struct EntryPlace {
+pub struct EntryAt {
     /// The file: 0 is the host file, k the k-th library, from 1.
     pub file: usize,
     /// The slot of its entry in the segment dictionary of that file, 0 to 15.
@@ -66,7 +66,7 @@ pub struct EntryPlace {
 /// Where a record is.
 /// Source: this project's profile.
 #[derive(Clone, Copy)]
-pub struct RecordPlace {
+pub struct RecordAt {
     /// The file that its segment comes from: 0 is the host file, k the k-th library, from 1.
     pub file: usize,
     /// The segment's slot in the host's segment dictionary, 0 to 15.
@@ -75,7 +75,7 @@ pub struct RecordPlace {
     pub rec: usize,
 }
 
-impl RecordPlace {
+impl RecordAt {
     /// The record has this fault.
     pub(crate) fn stop_for(self, reason: Reason) -> Stop
         ensures { result ≡ Refused (in_record self.file self.slot self.rec reason) }

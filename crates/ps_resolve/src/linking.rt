@@ -10,7 +10,7 @@ use crate::allotment::Allotment;
 use crate::definitions::Definitions;
 use crate::edits::data_size::grown_data_size;
 use crate::edits::segment_edits;
-use crate::linkage::{SegmentPlace, Stop};
+use crate::linkage::{SegmentAt, Stop};
 use crate::plan::{Plan, Source};
 use crate::reading::Segments;
 use crate::reading::segment::Segment;
@@ -87,7 +87,7 @@ pub(crate) fn link_segments<'a, A: Allocator + Copy>(
     let order = segments.order;
     let all = segments.items.as_slice();
     let own = &segments.own;
-    let place = SegmentPlace {
+    let place = SegmentAt {
         file: HOST_FILE,
         slot: own.segment.slot(),
     };

@@ -71,7 +71,7 @@ fn placing_fault<A: Allocator + Copy>(
 
 /// The first fault of the segment in a slot, 0 to 15, of a file that was read, by itself: of its
 /// code, its tables and its records, and of a unit then of its privates and references, in a link
-/// with a host that would define each name that it asks for. `None` where it has none, or where the
+/// with a host that would define each name that it requests. `None` where it has none, or where the
 /// slot has no segment.
 ///
 /// Such a host defines each name as a public with the base offset 1, has each unit that is named,

@@ -22,7 +22,7 @@ pub(crate) mod sources;
 pub(crate) mod unit_slots;
 pub(crate) mod units;
 
-use crate::linkage::EntryPlace;
+use crate::linkage::EntryAt;
 use crate::reading::added::{UnitReference, add_units, empty_slots, requested_by, slot_at};
 use crate::reading::host::HostSegment;
 use crate::reading::libraries::libraries_fault;
@@ -86,7 +86,7 @@ fn files_fault(host: &HostSlots, libs: &[&[u8]]) -> Option<Fault>
     libraries_fault(host.order(), libs)
 }
 
-/// What was asked for in the rounds that add units to the own segments of a host.
+/// What was requested in the rounds that add units to the own segments of a host.
 #[derive(Drop)]
 pub(crate) struct AddedUnits {
     /// The empty slots that a unit may be added in, ascending.
@@ -336,7 +336,7 @@ impl<'a> HostReading<'a> {
     }
 
     /// The entry that has the unit of a name.
-    fn entry_of_unit(&self, name: Name) -> Option<EntryPlace>
+    fn entry_of_unit(&self, name: Name) -> Option<EntryAt>
         ensures { option_map (λ p. (p.file, p.index)) result
             ≡ named_entry self.now.order (opened_files self.now.order self.now.libs) name }
     {
@@ -349,7 +349,7 @@ impl<'a> HostReading<'a> {
     /// Where the segment of a slot, 0 to 15, comes from, also where it is refused: `None` where it
     /// has none, or where no library has the unit that it wants or that is requested.
     /// Source: this project's profile.
-    pub fn source(&self, slot: u8) -> Option<EntryPlace>
+    pub fn source(&self, slot: u8) -> Option<EntryAt>
         requires { slot < 16 }
         ensures { option_map (λ p. (p.file, p.index)) result ≡ slot_entry self.now.order
             self.now.file (opened_files self.now.order self.now.libs) slot }
@@ -358,7 +358,7 @@ impl<'a> HostReading<'a> {
             return self.entry_of_unit(request.name);
         }
         match self.role(slot) {
-            Ok(Role::Plain | Role::Host | Role::Unit) => Some(EntryPlace {
+            Ok(Role::Plain | Role::Host | Role::Unit) => Some(EntryAt {
                 file: HOST_FILE,
                 index: slot,
             }),

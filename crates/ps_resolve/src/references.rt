@@ -15,7 +15,7 @@ pub(crate) mod names;
 pub(crate) mod records;
 
 use crate::edit_table::EditTable;
-use crate::linkage::{RecordPlace, Stop};
+use crate::linkage::{RecordAt, Stop};
 use ps_codefile::Procs;
 use ps_linkinfo::{Body, Refs};
 use ps_words::{Edit, MAX_OPERAND, MAX_WORD, Reason, get_big};
@@ -145,7 +145,7 @@ impl<A: Allocator + Copy> ReferenceEdits<'_, A> {
     #[inline(never)]
     pub(crate) fn add_record(
         &mut self,
-        place: RecordPlace,
+        place: RecordAt,
         target: Target,
         body: &Body,
     ) -> Result<(), Stop>

@@ -9,7 +9,7 @@ use Rattle.ps_warnings.specs.Weights.{IsWeight}
 use Rattle.ps_warnings.specs.declared.warnings.Look.{Look}
 use Rattle.ps_warnings.specs.declared.warnings.Look.TheVariants as which
 use Rattle.ps_warnings.specs.declared.warnings.RecordLook.TheVariants as said
-use Rattle.ps_warnings.specs.declared.warnings.Place.{Place}
+use Rattle.ps_warnings.specs.declared.warnings.WarningAt.{WarningAt}
 use Rattle.ps_warnings.specs.declared.warnings.Warning.{Warning}
 use Rattle.ps_warnings.specs.declared.weight.Weight.{Weight}
 use Rattle.ps_warnings.specs.declared.weight.Weight.TheVariants as weight
@@ -112,7 +112,7 @@ module _ {X : Type 0} (f : ℕ × X → List LookAt) (k : ℕ) (xs : List X) (i 
   numbered_over le = ap (λ (ys : List X). flat_map f (enumerate_from k ys)) (drop_all i xs le)
 
 -- the looks about the link of warnings of which one more is the last
-more_in : (ws : List Warning) (place : Place) (l : Look)
+more_in : (ws : List Warning) (place : WarningAt) (l : Look)
     → link_looks_in (ws ++ record { place = place; look = l } ∷ [])
     ≡ link_looks_in ws ++ look_at place.path.now place.segment place.rec l
 unfolding link_looks_in
@@ -122,7 +122,7 @@ more_in ws place l = ap (filter (λ (x : LookAt). is_about_link x.look))
     (told (record { place = place; look = l }) ∷ [])
 
 -- what a push adds to the notes, to what is harmless, and to the warnings
-pub pushed_note : (place : Place) (l : Look) (ws hs : List Warning) → IsWeight l weight.Note
+pub pushed_note : (place : WarningAt) (l : Look) (ws hs : List Warning) → IsWeight l weight.Note
     → Adds (link_looks ws hs) (look_at place.path.now place.segment place.rec l) (link_looks ws hs)
 pushed_note place (which.Entry e) ws hs h = absurd (cc)
 pushed_note place (which.Link e) ws hs h = absurd (cc)
@@ -133,7 +133,7 @@ pushed_note place (which.Record (said.LowMark a b)) ws hs h = absurd (cc)
 pushed_note place (which.Record (said.HighDefinition a b c)) ws hs h = absurd (cc)
 pushed_note place (which.Other e) ws hs h = adds_none (link_looks ws hs)
 
-pub pushed_harmless : (place : Place) (l : Look) (ws hs : List Warning)
+pub pushed_harmless : (place : WarningAt) (l : Look) (ws hs : List Warning)
     → IsWeight l weight.Harmless
     → Adds (link_looks ws hs) (look_at place.path.now place.segment place.rec l)
     (link_looks ws (hs ++ record { place = place; look = l } ∷ []))
@@ -153,7 +153,7 @@ pushed_harmless place (which.Other e) ws hs h = record {
 }
 
 -- a look that is not harmless is a warning
-warned : (place : Place) (l : Look) (ws hs : List Warning) → is_harmless_look l ≡ false
+warned : (place : WarningAt) (l : Look) (ws hs : List Warning) → is_harmless_look l ≡ false
     → Adds (link_looks ws hs) (look_at place.path.now place.segment place.rec l)
     (link_looks (ws ++ record { place = place; look = l } ∷ []) hs)
 warned place (which.Entry e) ws hs h = record {
@@ -199,7 +199,7 @@ weighed (which.Record (said.PastPrivate a b c)) w h is = refl
 weighed (which.Record (said.LowMark a b)) w h is = refl
 weighed (which.Record (said.HighDefinition a b c)) w h is = refl
 
-pub pushed_warning : (place : Place) (l : Look) (w : Weight) (ws hs : List Warning)
+pub pushed_warning : (place : WarningAt) (l : Look) (w : Weight) (ws hs : List Warning)
     → (w ≡ weight.Look) ⊎ (w ≡ weight.Damaged) → IsWeight l w
     → Adds (link_looks ws hs) (look_at place.path.now place.segment place.rec l)
     (link_looks (ws ++ record { place = place; look = l } ∷ []) hs)

@@ -12,7 +12,7 @@ use Rattle.ps_linkinfo.specs.declared.record.LinkRecord.{LinkRecord as Record}
 use Rattle.ps_resolve.specs.Readings.{HostFiles}
 use Rattle.ps_warnings.specs.Seen.{Seen, code_as, code_in, part_needs_linking, records_in, seen}
 use Rattle.ps_warnings.specs.SeenSegments.{origin_as, origin_at, records_from, seen_with, taken_of, takes_slot}
-use Rattle.ps_warnings.specs.declared.segments.Part.{Part}
+use Rattle.ps_warnings.specs.declared.segments.SegmentPart.{SegmentPart}
 use Rattle.ps_warnings.specs.declared.segments.Segment.{Segment}
 use Rattle.ps_warnings.specs.declared.segments.Source.{Source}
 
@@ -59,7 +59,7 @@ none_of : (b : Bool) → ◌≡◌ {A = List Record} [] (if b then [] else [])
 none_of true = refl
 none_of false = refl
 
-same_records : (what : Part) (o : Option Source) → records_in what o
+same_records : (what : SegmentPart) (o : Option Source) → records_in what o
     ≡ (if part_needs_linking what then records_from (option_map origin_as o) else [])
 same_records what None = none_of (part_needs_linking what)
 same_records what (Some s) = sym (both (part_needs_linking what) (is_ok s.code)

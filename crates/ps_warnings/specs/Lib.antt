@@ -1,5 +1,5 @@
 pub mod Paths
-pub mod Parts
+pub mod SegmentParts
 pub mod RecordLooks
 pub mod EntryLooks
 pub mod Weights

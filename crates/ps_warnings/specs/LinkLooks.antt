@@ -8,8 +8,8 @@ use Rattle.std.specs.Str.{bytes_eq}
 use Rattle.ps_words.specs.declared.order.Order.{Order}
 use Rattle.ps_codefile.specs.Dictionary.{entry_at}
 use Rattle.ps_codefile.specs.declared.entry.Entry.{Entry}
-use Rattle.ps_warnings.specs.Parts.{is_added, is_unit}
-use Rattle.ps_warnings.specs.declared.segments.Part.{Part}
+use Rattle.ps_warnings.specs.SegmentParts.{is_added, is_unit}
+use Rattle.ps_warnings.specs.declared.segments.SegmentPart.{SegmentPart}
 use Rattle.ps_warnings.specs.EntryLooks.{has_name_or_kind}
 use Rattle.ps_warnings.specs.Seen.{Seen}
 use Rattle.ps_warnings.specs.declared.warnings.LinkLook.{LinkLook}
@@ -28,12 +28,12 @@ abbrev pub is_near : List ℕ → List ℕ → Bool
 is_near a b = not (bytes_eq a b) && bytes_eq (plain a) (plain b)
 
 -- a unit that a record requests takes a slot whose entry in the host has a name or a kind
-abbrev pub taken_slot : ℕ → Part → Entry → Option LinkLook
+abbrev pub taken_slot : ℕ → SegmentPart → Entry → Option LinkLook
 taken_slot slot what e = if is_added what && has_name_or_kind e
     then Some (look.TakenSlot slot e.name) else None
 
 -- so does the one that has this slot of the host, if it has one
-abbrev pub taken_by : Order → List ℕ → Option ℕ → Part → Option LinkLook
+abbrev pub taken_by : Order → List ℕ → Option ℕ → SegmentPart → Option LinkLook
 taken_by order host None what = None
 taken_by order host (Some slot) what = if nat_lt slot 16
     then taken_slot slot what (entry_at order host slot) else None

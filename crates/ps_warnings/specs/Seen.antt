@@ -8,8 +8,8 @@ use Rattle.std.specs.Result.{is_ok}
 use Rattle.ps_words.specs.declared.fault.Reason.{Reason}
 use Rattle.ps_linkinfo.specs.Records.{reading}
 use Rattle.ps_linkinfo.specs.declared.record.LinkRecord.{LinkRecord as Record}
-use Rattle.ps_warnings.specs.declared.segments.Part.{Part}
-use Rattle.ps_warnings.specs.declared.segments.Part.TheVariants as part
+use Rattle.ps_warnings.specs.declared.segments.SegmentPart.{SegmentPart}
+use Rattle.ps_warnings.specs.declared.segments.SegmentPart.TheVariants as part
 use Rattle.ps_warnings.specs.declared.segments.Segment.{Segment}
 use Rattle.ps_warnings.specs.declared.segments.Source.{Source}
 
@@ -18,17 +18,17 @@ use Rattle.ps_warnings.specs.declared.segments.Source.{Source}
 pub record Seen : Type 0 where
   pub slot : Option ℕ
   pub name : List ℕ
-  pub part : Part
+  pub part : SegmentPart
   pub file : Option ℕ
   pub records : List Record
 
 -- its references are resolved
-abbrev pub part_needs_linking : Part → Bool
+abbrev pub part_needs_linking : SegmentPart → Bool
 part_needs_linking part.Plain = false
 part_needs_linking part.Host = true
 part_needs_linking part.Unit = true
 part_needs_linking part.Wanted = true
-part_needs_linking (part.Added asker rec) = true
+part_needs_linking (part.Added requester rec) = true
 
 -- the code of a segment, or why it cannot be read
 abbrev pub code_as : Result (Bor (List ℕ)) Reason → Result (List ℕ) Reason
@@ -39,7 +39,7 @@ abbrev pub code_in : Source → Result (List ℕ) Reason
 code_in s = code_as s.code
 
 -- the records of a segment: none where they are not to be read, or where it has no code
-abbrev pub records_in : Part → Option Source → List Record
+abbrev pub records_in : SegmentPart → Option Source → List Record
 records_in what None = []
 records_in what (Some s) = if part_needs_linking what && is_ok s.code
     then (reading s.order s.after.now).0 else []
@@ -58,12 +58,12 @@ abbrev pub has_slot : ℕ → Seen → Bool
 has_slot slot s = option_map_or (λ k. k == slot) s.slot false
 
 -- it is the host program
-abbrev pub is_host_part : Part → Bool
+abbrev pub is_host_part : SegmentPart → Bool
 is_host_part part.Plain = false
 is_host_part part.Host = true
 is_host_part part.Unit = false
 is_host_part part.Wanted = false
-is_host_part (part.Added asker rec) = false
+is_host_part (part.Added requester rec) = false
 
 -- the records of the host program, if the link has one
 abbrev pub host_records : List Seen → Option (List Record)

@@ -21,8 +21,8 @@ use Rattle.ps_resolve.specs.declared.reading.request.Requester.{Requester}
 use Rattle.ps_resolve.specs.declared.reading.request.Requester.TheVariants as by
 use Rattle.ps_warnings.specs.Paths.{host_order}
 use Rattle.ps_warnings.specs.Seen.{Seen, part_needs_linking}
-use Rattle.ps_warnings.specs.declared.segments.Part.{Part}
-use Rattle.ps_warnings.specs.declared.segments.Part.TheVariants as part
+use Rattle.ps_warnings.specs.declared.segments.SegmentPart.{SegmentPart}
+use Rattle.ps_warnings.specs.declared.segments.SegmentPart.TheVariants as part
 use Rattle.ps_warnings.specs.declared.segments.Source.{Source}
 
 -- where a segment comes from: its file, and the records that can be read there, if it has a code
@@ -57,7 +57,7 @@ abbrev pub records_from : Option Origin → List Record
 records_from None = []
 records_from (Some origin) = origin.records
 
-unfoldable pub seen_with : Option ℕ → List ℕ → Part → Option Origin → Seen
+unfoldable pub seen_with : Option ℕ → List ℕ → SegmentPart → Option Origin → Seen
 seen_with slot name what origin = record {
   slot = slot;
   name = name;
@@ -106,13 +106,13 @@ unfoldable pub is_of_host : HostFiles → List ℕ → Bool
 is_of_host h name = list_any (is_unit_of h name) slots
 
 -- what a unit is that is requested; none where it is one of the host's that is refused
-abbrev pub part_by : HostFiles → List ℕ → Requester → Option Part
+abbrev pub part_by : HostFiles → List ℕ → Requester → Option SegmentPart
 part_by h name by.Slot = Some part.Wanted
 part_by h name (by.Record place) = if is_of_host h name then None
     else Some (part.Added (name_in h place.slot) place.rec)
 
 -- what the segment of a slot of this role is, that is not requested
-abbrev pub part_of_role : Result Role Reason → Option Part
+abbrev pub part_of_role : Result Role Reason → Option SegmentPart
 part_of_role (Ok role.Plain) = Some part.Plain
 part_of_role (Ok role.Host) = Some part.Host
 part_of_role (Ok role.Unit) = Some part.Unit
@@ -121,11 +121,11 @@ part_of_role (Ok role.Wanted) = None
 part_of_role (Err why) = None
 
 -- what the segment of a slot is; none where there is none
-abbrev pub part_for : HostFiles → ℕ → Option Request → Option Part
+abbrev pub part_for : HostFiles → ℕ → Option Request → Option SegmentPart
 part_for h slot None = part_of_role (role_in h slot)
 part_for h slot (Some r) = part_by h r.name r.requester
 
-unfoldable pub part_in : HostFiles → ℕ → Option Part
+unfoldable pub part_in : HostFiles → ℕ → Option SegmentPart
 part_in h slot = part_for h slot (request_in h slot)
 
 -- a record requests the unit that takes a slot

@@ -21,7 +21,9 @@ mod records;
 
 use crate::inputs::Inputs;
 use crate::segments::{Segment, Source, host_of, in_slot};
-use crate::warnings::{EntryLook, Guess, LinkLook, Look, OtherLook, Place, RecordLook, Warning};
+use crate::warnings::{
+    EntryLook, Guess, LinkLook, Look, OtherLook, RecordLook, Warning, WarningAt,
+};
 use crate::weight::Weight;
 use ps_linkinfo::LinkInformation;
 use ps_words::{Fault, Reason};
@@ -29,7 +31,7 @@ use std::alloc::{AllocError, Allocator};
 
 /// What is looked at, and what a report says of it already.
 #[derive(Clone, Copy)]
-struct Sight<'c, 'a> {
+struct Context<'c, 'a> {
     inputs: &'c Inputs<'a>,
     list: &'c [Segment<'a>],
     /// The fault that the report explains.
@@ -48,7 +50,7 @@ fn refused_entry(list: &[Segment<'_>], fault: Option<Fault>) -> Option<(usize, u
     Some((source.file, source.index))
 }
 
-impl Sight<'_, '_> {
+impl Context<'_, '_> {
     /// The fault's explanation says what the file is.
     fn is_type_told(&self, file: usize) -> bool {
         let Some(fault) = self.fault else {
@@ -112,7 +114,11 @@ impl<'a, A: Allocator> Looks<'a, A> {
     }
 
     /// Adds what looks wrong in an entry, if anything does.
-    fn add_entry(&mut self, place: Place<'a>, found: Option<EntryLook>) -> Result<(), AllocError>
+    fn add_entry(
+        &mut self,
+        place: WarningAt<'a>,
+        found: Option<EntryLook>,
+    ) -> Result<(), AllocError>
         ensures { OnOk result (Adds (link_looks self.old.warnings.items self.old.harmless.items)
             (found_at place.entry.path.now place.entry.segment place.entry.rec
             (option_map Look.Entry found))
@@ -130,7 +136,7 @@ impl<'a, A: Allocator> Looks<'a, A> {
     /// Adds what looks wrong in the records of a segment as a whole, if anything does.
     fn add_of_records(
         &mut self,
-        place: Place<'a>,
+        place: WarningAt<'a>,
         found: Option<RecordLook>,
     ) -> Result<(), AllocError>
         ensures { OnOk result (Adds (link_looks self.old.warnings.items self.old.harmless.items)
@@ -150,7 +156,7 @@ impl<'a, A: Allocator> Looks<'a, A> {
     /// Adds what looks wrong in a record of a segment, if anything does.
     fn add_of_record(
         &mut self,
-        place: Place<'a>,
+        place: WarningAt<'a>,
         found: Option<(usize, RecordLook)>,
     ) -> Result<(), AllocError>
         ensures { OnOk result (Adds (link_looks self.old.warnings.items self.old.harmless.items)
@@ -162,7 +168,7 @@ impl<'a, A: Allocator> Looks<'a, A> {
             Some((rec, found)) => {
                 let rec = Some(rec);
                 self.push(Warning {
-                    place: Place { rec, ..place },
+                    place: WarningAt { rec, ..place },
                     look: Look::Record(found),
                 })
             }
@@ -170,7 +176,11 @@ impl<'a, A: Allocator> Looks<'a, A> {
     }
 
     /// Adds what looks wrong in the link as a whole, if anything does.
-    fn add_of_link(&mut self, place: Place<'a>, found: Option<LinkLook>) -> Result<(), AllocError>
+    fn add_of_link(
+        &mut self,
+        place: WarningAt<'a>,
+        found: Option<LinkLook>,
+    ) -> Result<(), AllocError>
         ensures { OnOk result (Adds (link_looks self.old.warnings.items self.old.harmless.items)
             (found_at place.entry.path.now place.entry.segment place.entry.rec
             (option_map Look.Link found))
@@ -186,7 +196,11 @@ impl<'a, A: Allocator> Looks<'a, A> {
     }
 
     /// Adds what looks wrong and is no look about the link, if anything does.
-    fn add_other(&mut self, place: Place<'a>, found: Option<OtherLook>) -> Result<(), AllocError>
+    fn add_other(
+        &mut self,
+        place: WarningAt<'a>,
+        found: Option<OtherLook>,
+    ) -> Result<(), AllocError>
         ensures { OnOk result (Adds (link_looks self.old.warnings.items self.old.harmless.items)
             [] (link_looks self.new.warnings.items self.new.harmless.items)) }
     {
@@ -202,7 +216,7 @@ impl<'a, A: Allocator> Looks<'a, A> {
     /// Adds each of these that looks wrong, in their order.
     fn add_others(
         &mut self,
-        place: Place<'a>,
+        place: WarningAt<'a>,
         found: &[Option<OtherLook>],
     ) -> Result<(), AllocError>
         ensures { OnOk result (Adds (link_looks self.old.warnings.items self.old.harmless.items)
@@ -215,7 +229,7 @@ impl<'a, A: Allocator> Looks<'a, A> {
     }
 
     /// Notes a guess, if there is one.
-    fn note(&mut self, place: Place<'a>, guess: Option<Guess>) -> Result<(), AllocError>
+    fn note(&mut self, place: WarningAt<'a>, guess: Option<Guess>) -> Result<(), AllocError>
         ensures { OnOk result (Adds (link_looks self.old.warnings.items self.old.harmless.items)
             [] (link_looks self.new.warnings.items self.new.harmless.items)) }
     {
@@ -225,7 +239,7 @@ impl<'a, A: Allocator> Looks<'a, A> {
     /// Notes a guess about a record of a segment, if there is one.
     fn note_of_record(
         &mut self,
-        place: Place<'a>,
+        place: WarningAt<'a>,
         found: Option<(usize, Guess)>,
     ) -> Result<(), AllocError>
         ensures { OnOk result (Adds (link_looks self.old.warnings.items self.old.harmless.items)
@@ -235,15 +249,15 @@ impl<'a, A: Allocator> Looks<'a, A> {
             None => Ok(()),
             Some((rec, guess)) => {
                 let rec = Some(rec);
-                self.note(Place { rec, ..place }, Some(guess))
+                self.note(WarningAt { rec, ..place }, Some(guess))
             }
         }
     }
 }
 
 /// A place that is a file as a whole.
-fn in_file(path: &str) -> Place<'_> {
-    Place {
+fn in_file(path: &str) -> WarningAt<'_> {
+    WarningAt {
         path,
         segment: None,
         rec: None,
@@ -302,7 +316,7 @@ fn add_looks<'a, A: Allocator>(
         (map seen list.now))
         (link_looks looks.new.warnings.items looks.new.harmless.items)) }
 {
-    let sight = Sight {
+    let context = Context {
         inputs,
         list,
         fault,
@@ -310,40 +324,40 @@ fn add_looks<'a, A: Allocator>(
         are_small: names::are_small(inputs),
         host,
     };
-    add_of_files(looks, &sight)?;
-    links::look_at(looks, &sight)
+    add_of_files(looks, &context)?;
+    links::look_at(looks, &context)
 }
 
 /// Adds what looks wrong in the files.
 fn add_of_files<'a, A: Allocator>(
     looks: &mut Looks<'a, A>,
-    sight: &Sight<'_, 'a>,
+    context: &Context<'_, 'a>,
 ) -> Result<(), AllocError>
     ensures { OnOk result (Adds (link_looks looks.old.warnings.items looks.old.harmless.items)
-        (looks_of_files (sight.now.inputs.now.host_path.now ∷ contents sight.now.inputs.now.paths.now)
-        (option_map (λ h. h.now) sight.now.host) (map seen sight.now.list.now)
-        (host_order sight.now.inputs.now.host.now)
-        (sight.now.inputs.now.host.now ∷ contents sight.now.inputs.now.libs.now))
+        (looks_of_files (context.now.inputs.now.host_path.now ∷ contents context.now.inputs.now.paths.now)
+        (option_map (λ h. h.now) context.now.host) (map seen context.now.list.now)
+        (host_order context.now.inputs.now.host.now)
+        (context.now.inputs.now.host.now ∷ contents context.now.inputs.now.libs.now))
         (link_looks looks.new.warnings.items looks.new.harmless.items)) }
 {
-    files::look_at(looks, sight, 0, sight.inputs.host)?;
-    add_of_libraries(looks, sight)
+    files::look_at(looks, context, 0, context.inputs.host)?;
+    add_of_libraries(looks, context)
 }
 
 /// Adds what looks wrong in the libraries.
 fn add_of_libraries<'a, A: Allocator>(
     looks: &mut Looks<'a, A>,
-    sight: &Sight<'_, 'a>,
+    context: &Context<'_, 'a>,
 ) -> Result<(), AllocError>
     ensures { OnOk result (Adds (link_looks looks.old.warnings.items looks.old.harmless.items)
-        (flat_map (looks_of_file (sight.now.inputs.now.host_path.now ∷ contents sight.now.inputs.now.paths.now)
-        (option_map (λ h. h.now) sight.now.host) (map seen sight.now.list.now)
-        (host_order sight.now.inputs.now.host.now))
-        (enumerate_from 1 (contents sight.now.inputs.now.libs.now)))
+        (flat_map (looks_of_file (context.now.inputs.now.host_path.now ∷ contents context.now.inputs.now.paths.now)
+        (option_map (λ h. h.now) context.now.host) (map seen context.now.list.now)
+        (host_order context.now.inputs.now.host.now))
+        (enumerate_from 1 (contents context.now.inputs.now.libs.now)))
         (link_looks looks.new.warnings.items looks.new.harmless.items)) }
 {
-    for (library, lib) in sight.inputs.libs.iter().enumerate() {
-        files::look_at(looks, sight, library + 1, lib)?;
+    for (library, lib) in context.inputs.libs.iter().enumerate() {
+        files::look_at(looks, context, library + 1, lib)?;
     }
     Ok(())
 }

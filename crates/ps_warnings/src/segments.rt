@@ -7,7 +7,7 @@ ghost use Rattle.ps_linkinfo.specs.Records.{used_by};
 ghost use Rattle.ps_resolve.specs.Readings.{opened_host, read_requests};
 ghost use Rattle.ps_resolve.specs.Sources.{contents, file_at, opened_files};
 ghost use Rattle.ps_warnings.specs.Paths.{host_order};
-ghost use Rattle.ps_warnings.specs.Parts.{is_added as is_added_spec, is_unit as is_unit_spec, part_words};
+ghost use Rattle.ps_warnings.specs.SegmentParts.{is_added as is_added_spec, is_unit as is_unit_spec, part_words};
 ghost use Rattle.ps_warnings.specs.Seen.{code_in, is_host_part, part_needs_linking, seen};
 ghost use Rattle.ps_warnings.specs.SeenSegments.{entry_in, is_by_record as is_by_record_spec, is_for_unit as is_for_unit_spec, is_of_host as is_of_host_spec, is_unit_of as is_unit_of_spec, name_by as name_by_spec, name_in as name_in_spec, origin_as, origin_in, origin_of, part_by, part_in as part_in_spec, part_of_role, reading_in, request_in, role_in, seen_by, seen_in, seen_of, seen_unit, slot_origin, taken_of, takes_slot as takes_slot_spec};
 
@@ -17,7 +17,7 @@ use ps_codefile::kinds::{HOSTSEG, UNITSEG};
 use ps_codefile::{Dict, Entry, Role};
 use ps_filetype::ShownName;
 use ps_linkinfo::LinkInformation;
-use ps_resolve::{EntryPlace, HostReading, Reading, Request, Requester, UnitReference};
+use ps_resolve::{EntryAt, HostReading, Reading, Request, Requester, UnitReference};
 use ps_words::{Name, Order, Reason};
 use std::alloc::{AllocError, Allocator};
 use std::fmt::{self, Formatter};
@@ -26,7 +26,7 @@ use std::fmt::{self, Formatter};
 ///
 /// Source: this project's profile.
 #[derive(Clone, Copy)]
-pub enum Part {
+pub enum SegmentPart {
     /// Linked already.
     Plain,
     /// The host program.
@@ -36,17 +36,20 @@ pub enum Part {
     /// A unit that the host wants from a library.
     Wanted,
     /// A unit that a record requests: that of this index of the segment of this name.
-    Added { asker: Name, rec: usize },
+    Added { requester: Name, rec: usize },
 }
 
-impl Part {
+impl SegmentPart {
     /// Its references are resolved.
     fn needs_linking(self) -> bool
         ensures { result ≡ part_needs_linking self }
     {
         match self {
-            Part::Plain => false,
-            Part::Host | Part::Unit | Part::Wanted | Part::Added { .. } => true,
+            SegmentPart::Plain => false,
+            SegmentPart::Host
+            | SegmentPart::Unit
+            | SegmentPart::Wanted
+            | SegmentPart::Added { .. } => true,
         }
     }
 
@@ -55,8 +58,11 @@ impl Part {
         ensures { result ≡ is_host_part self }
     {
         match self {
-            Part::Host => true,
-            Part::Plain | Part::Unit | Part::Wanted | Part::Added { .. } => false,
+            SegmentPart::Host => true,
+            SegmentPart::Plain
+            | SegmentPart::Unit
+            | SegmentPart::Wanted
+            | SegmentPart::Added { .. } => false,
         }
     }
 
@@ -66,8 +72,8 @@ impl Part {
         ensures { result ≡ is_unit_spec self }
     {
         match self {
-            Part::Unit | Part::Wanted | Part::Added { .. } => true,
-            Part::Plain | Part::Host => false,
+            SegmentPart::Unit | SegmentPart::Wanted | SegmentPart::Added { .. } => true,
+            SegmentPart::Plain | SegmentPart::Host => false,
         }
     }
 
@@ -77,24 +83,25 @@ impl Part {
         ensures { result ≡ is_added_spec self }
     {
         match self {
-            Part::Added { .. } => true,
-            Part::Plain | Part::Host | Part::Unit | Part::Wanted => false,
+            SegmentPart::Added { .. } => true,
+            SegmentPart::Plain | SegmentPart::Host | SegmentPart::Unit | SegmentPart::Wanted =>
+                false,
         }
     }
 }
 
-impl fmt::Display for Part {
+impl fmt::Display for SegmentPart {
     ghost output = { λ part. Some (part_words part) };
 
     fn fmt<W: fmt::Write>(&self, f: &mut Formatter<W>) -> fmt::Result {
         match *self {
-            Part::Plain => f.write_str("linked already, copied as it is"),
-            Part::Host => f.write_str("the host program"),
-            Part::Unit => f.write_str("a unit in the host file"),
-            Part::Wanted => f.write_str("a unit that the host wants"),
-            Part::Added { asker, rec } => {
-                let asker = ShownName(asker);
-                write!(f, "a unit that record {rec} of {asker} requests")
+            SegmentPart::Plain => f.write_str("linked already, copied as it is"),
+            SegmentPart::Host => f.write_str("the host program"),
+            SegmentPart::Unit => f.write_str("a unit in the host file"),
+            SegmentPart::Wanted => f.write_str("a unit that the host wants"),
+            SegmentPart::Added { requester, rec } => {
+                let requester = ShownName(requester);
+                write!(f, "a unit that record {rec} of {requester} requests")
             }
         }
     }
@@ -144,7 +151,7 @@ pub struct Segment<'a> {
     /// Its slot in the host; none where no empty slot is left for it.
     pub slot: Option<u8>,
     pub name: Name,
-    pub part: Part,
+    pub part: SegmentPart,
     /// Where it comes from; none where no library has it, or where it was not read.
     pub source: Option<Source<'a>>,
     /// No library has it.
@@ -244,7 +251,7 @@ fn source_in<'a>(inputs: &Inputs<'a>, host: &HostReading<'a>, slot: u8) -> Optio
 {
     match host.source(slot) {
         None => None,
-        Some(EntryPlace { file, index }) => source_at(inputs, file, index),
+        Some(EntryAt { file, index }) => source_at(inputs, file, index),
     }
 }
 
@@ -308,17 +315,17 @@ fn is_of_host(host: &HostReading<'_>, name: &Name) -> bool
 }
 
 /// What the unit is that is requested; none where it is one of the host's that is refused.
-fn requested_part(host: &HostReading<'_>, request: Request) -> Option<Part>
+fn requested_part(host: &HostReading<'_>, request: Request) -> Option<SegmentPart>
     ensures { result ≡ part_by host.now request.name request.requester }
 {
     match request.requester {
-        Requester::Slot => Some(Part::Wanted),
+        Requester::Slot => Some(SegmentPart::Wanted),
         Requester::Record(place) => {
             if is_of_host(host, &request.name) {
                 None
             } else {
-                Some(Part::Added {
-                    asker: name_in(host, place.slot),
+                Some(SegmentPart::Added {
+                    requester: name_in(host, place.slot),
                     rec: place.rec,
                 })
             }
@@ -327,21 +334,21 @@ fn requested_part(host: &HostReading<'_>, request: Request) -> Option<Part>
 }
 
 /// What the segment of a slot is that is not requested; none where there is none.
-fn own_part(host: &HostReading<'_>, slot: u8) -> Option<Part>
+fn own_part(host: &HostReading<'_>, slot: u8) -> Option<SegmentPart>
     requires { slot < 16 }
     ensures { result ≡ part_of_role (role_in host.now slot) }
 {
     match host.role(slot) {
-        Ok(Role::Plain) => Some(Part::Plain),
-        Ok(Role::Host) => Some(Part::Host),
-        Ok(Role::Unit) => Some(Part::Unit),
+        Ok(Role::Plain) => Some(SegmentPart::Plain),
+        Ok(Role::Host) => Some(SegmentPart::Host),
+        Ok(Role::Unit) => Some(SegmentPart::Unit),
         Ok(Role::Empty | Role::Wanted) | Err(_) => None,
     }
 }
 
 /// What the segment of a slot is; none where there is none.
 #[tactic(auto, unfolding(crate::specs::SeenSegments::part_in))]
-fn part_in(host: &HostReading<'_>, slot: u8) -> Option<Part>
+fn part_in(host: &HostReading<'_>, slot: u8) -> Option<SegmentPart>
     requires { slot < 16 }
     ensures { result ≡ part_in_spec host.now slot }
 {
@@ -434,12 +441,12 @@ fn segment_of<'a>(host: &HostReading<'a>, unit: &UnitReference) -> Option<Segmen
     if is_of_host(host, &unit.name) {
         return None;
     }
-    let asker = name_in(host, unit.slot);
+    let requester = name_in(host, unit.slot);
     Some(Segment {
         slot: None,
         name: unit.name,
-        part: Part::Added {
-            asker,
+        part: SegmentPart::Added {
+            requester,
             rec: unit.rec,
         },
         source: None,

@@ -651,14 +651,14 @@ impl fmt::Display for Look {
 ///
 /// Source: this project's profile.
 #[derive(Clone, Copy)]
-pub struct Place<'a> {
+pub struct WarningAt<'a> {
     pub path: &'a str,
     pub segment: Option<Name>,
     /// The record's index in the link information of the segment, from 0.
     pub rec: Option<usize>,
 }
 
-impl fmt::Display for Place<'_> {
+impl fmt::Display for WarningAt<'_> {
     fn fmt<W: fmt::Write>(&self, f: &mut Formatter<W>) -> fmt::Result {
         write!(f, "{}", ShownPath(self.path))?;
         if let Some(name) = self.segment {
@@ -677,7 +677,7 @@ impl fmt::Display for Place<'_> {
 /// Source: this project's profile.
 #[derive(Clone, Copy)]
 pub struct Warning<'a> {
-    pub place: Place<'a>,
+    pub place: WarningAt<'a>,
     pub look: Look,
 }
 

@@ -280,10 +280,10 @@ impl fmt::Display for Fault {
     fn fmt<W: fmt::Write>(&self, f: &mut fmt::Formatter<W>) -> fmt::Result {
         let Fault { reason, file, .. } = *self;
         let number = reason.number();
-        let kind = Part::new("kind", reason.kind());
-        let slot = Part::new("slot", self.slot.map(usize::from));
-        let rec = Part::new("record", self.rec);
-        let reference = Part::new("reference", self.reference);
+        let kind = Labelled::new("kind", reason.kind());
+        let slot = Labelled::new("slot", self.slot.map(usize::from));
+        let rec = Labelled::new("record", self.rec);
+        let reference = Labelled::new("reference", self.reference);
         write!(
             f,
             "refused {number} {reason}{kind} file {file}{slot}{rec}{reference}"
@@ -293,21 +293,21 @@ impl fmt::Display for Fault {
 
 /// A part of a fault's text: a label and a number, or nothing where there is no number.
 #[derive(Clone, Copy)]
-struct Part {
+struct Labelled {
     label: &'static str,
     number: Option<usize>,
 }
 
-impl Part {
+impl Labelled {
     fn new(label: &'static str, number: Option<usize>) -> Self
         ensures label { result.label.now ≡ label.now }
         ensures number { result.number ≡ number }
     {
-        Part { label, number }
+        Labelled { label, number }
     }
 }
 
-impl fmt::Display for Part {
+impl fmt::Display for Labelled {
     ghost output = { λ part. Some (part_text part.label.now part.number) };
 
     fn fmt<W: fmt::Write>(&self, f: &mut fmt::Formatter<W>) -> fmt::Result {

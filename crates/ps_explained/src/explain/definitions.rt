@@ -10,13 +10,13 @@ use std::fmt::{self, Formatter, Write};
 /// The host's constant of the name, its names that are nearly that, and that the unit defines it
 /// itself.
 pub(super) fn write_defined<W: Write>(f: &mut Formatter<W>, case: &Case<'_, '_>) -> fmt::Result {
-    let Some(asked) = case.record() else {
+    let Some(requested) = case.record() else {
         return Ok(());
     };
     if let Some(host) = host_of(case.list) {
-        write_host_names(f, &host.records(), &asked.name)?;
+        write_host_names(f, &host.records(), &requested.name)?;
     }
-    match case.own_definition(&asked.name) {
+    match case.own_definition(&requested.name) {
         Some(rec) => writeln!(
             f,
             "  the unit itself has a PUBLDEF of it, record {rec}, which is not used: the host program has to define it"

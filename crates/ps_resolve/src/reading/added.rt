@@ -10,7 +10,7 @@ ghost use Rattle.ps_resolve.specs.Faults.{is_role};
 ghost use Rattle.ps_resolve.specs.Readings.{read_segments};
 ghost use Rattle.ps_resolve.specs.KnownSegments.{put_by_slot, segments_in_slots, IsRead, AreAlike};
 
-use crate::linkage::{RecordPlace, SegmentPlace};
+use crate::linkage::{RecordAt, SegmentAt};
 use crate::reading::request::{Request, Requester, read_unit, unit_named};
 use crate::reading::segment::Segment;
 use crate::reading::slots::{HostSlots, is_empty};
@@ -56,7 +56,7 @@ impl UnitReference {
     pub(crate) fn in_slot(&self, slot: u8) -> Request
         ensures { result ≡ request_of self.now slot }
     {
-        let place = RecordPlace {
+        let place = RecordAt {
             file: self.file,
             slot: self.slot,
             rec: self.rec,
@@ -130,7 +130,7 @@ fn enqueue(units: &UnitSlots, queue: &mut ArrayVec<UnitReference, 10>, reference
 fn enqueue_record(
     units: &UnitSlots,
     queue: &mut ArrayVec<UnitReference, 10>,
-    place: RecordPlace,
+    place: RecordAt,
     entry: &LinkRecord,
 )
     requires { length queue.old.items ≤ 10 }
@@ -160,7 +160,7 @@ fn enqueue_record(
 fn enqueue_records(
     units: &UnitSlots,
     queue: &mut ArrayVec<UnitReference, 10>,
-    place: SegmentPlace,
+    place: SegmentAt,
     records: &LinkInformation,
 )
     requires { length queue.old.items ≤ 10 }

@@ -10,7 +10,7 @@ ghost use Rattle.ps_resolve.specs.Sources.{file_at, information_block, records_o
 ghost use Rattle.ps_resolve.specs.Faults.{code_fault, information_fault};
 ghost use Rattle.ps_resolve.specs.KnownSegments.{ArePlacedIn, IsRead};
 
-use crate::linkage::SegmentPlace;
+use crate::linkage::SegmentAt;
 use crate::reading::segment::{Resolvable, Segment, records_at};
 use ps_codefile::{Dict, ProcedureDictionary, Role};
 use ps_linkinfo::LinkInformation;
@@ -45,7 +45,7 @@ fn block_behind(from: &Dict, index: u8) -> usize
 fn read_information<'a>(
     from: &Dict<'a>,
     index: u8,
-    place: SegmentPlace,
+    place: SegmentAt,
     earlier: &[Segment<'a>],
 ) -> Result<LinkInformation<'a>, Fault>
     requires in_range { index < 16 }
@@ -72,7 +72,7 @@ fn read_resolvable<'a>(
     index: u8,
     code: &'a [u8],
     role: Role,
-    place: SegmentPlace,
+    place: SegmentAt,
     earlier: &[Segment<'a>],
 ) -> Result<Option<Resolvable<'a>>, Fault>
     requires in_range { index < 16 }
@@ -113,7 +113,7 @@ fn read_resolvable<'a>(
 /// The segment of a slot, whose code and link information are those of an entry of a file; the
 /// segments that were read before it are `earlier`.
 pub(crate) fn read_segment<'a>(
-    place: SegmentPlace,
+    place: SegmentAt,
     name: Name,
     role: Role,
     from: &Dict<'a>,

@@ -5,7 +5,7 @@ ghost use Rattle.ps_resolve.specs.Faults.{request_fault};
 ghost use Rattle.ps_resolve.specs.Requests.{as_requested as as_requested_spec, is_missing, missing_at, request_by_slot, requested_segment};
 ghost use Rattle.ps_resolve.specs.KnownSegments.{IsRead};
 
-use crate::linkage::{EntryPlace, RecordPlace, SegmentPlace};
+use crate::linkage::{EntryAt, RecordAt, SegmentAt};
 use crate::reading::entries::read_segment;
 use crate::reading::segment::Segment;
 use crate::reading::slots::{HOST_FILE, HostSlots};
@@ -20,7 +20,7 @@ pub enum Requester {
     /// The slot of the host that wants it, which is the slot that it takes.
     Slot,
     /// The UNITREF record that first gave its name.
-    Record(RecordPlace),
+    Record(RecordAt),
 }
 
 /// A request for a unit.
@@ -68,7 +68,7 @@ pub(crate) fn unit_named<'a>(
     host: &HostSlots<'a>,
     name: Name,
     libs: &'a [&'a [u8]],
-) -> Option<(Dict<'a>, EntryPlace)>
+) -> Option<(Dict<'a>, EntryAt)>
     ensures missing { is_none result
         ≡ is_missing host.now.order (opened host.now.order libs.now) name }
     ensures source { IfSome result (λ u. unit_source host.now.order name
@@ -119,7 +119,7 @@ pub(crate) fn read_unit<'a>(
         Some((dict, at)) => match entries_reason(&dict, request.name, at.index) {
             Some(reason) => Err(Fault::in_slot(at.file, request.slot, reason)),
             None => {
-                let place = SegmentPlace {
+                let place = SegmentAt {
                     file: at.file,
                     slot: request.slot,
                 };

@@ -7,7 +7,7 @@ ghost use Rattle.ps_resolve.specs.Faults.{source_fault, sources_fault};
 ghost use Rattle.ps_resolve.specs.Readings.{read_segments};
 ghost use Rattle.ps_resolve.specs.KnownSegments.{IsRead};
 
-use crate::linkage::SegmentPlace;
+use crate::linkage::SegmentAt;
 use crate::reading::entries::read_segment;
 use crate::reading::request::{Request, read_unit};
 use crate::reading::segment::Segment;
@@ -42,7 +42,7 @@ pub(crate) fn read_slot<'a>(
         Ok(role) => match role {
             Role::Empty => Ok(None),
             Role::Plain | Role::Host | Role::Unit => {
-                let place = SegmentPlace {
+                let place = SegmentAt {
                     file: HOST_FILE,
                     slot,
                 };
@@ -61,7 +61,7 @@ pub(crate) fn read_slot<'a>(
 
 /// Adds the segment of a slot, where it has one, or keeps its fault, if it is the first.
 #[inline(always)]
-fn keep<'a>(
+fn add_segment_or_fault<'a>(
     segments: &mut ArrayVec<Segment<'a>, 16>,
     first: &mut Option<Fault>,
     read: Result<Option<Segment<'a>>, Fault>,
@@ -102,7 +102,7 @@ pub(crate) fn read_slots<'a>(
             continue;
         }
         let read = read_slot(host, libs, slot, segments.as_slice());
-        keep(segments, &mut first, read);
+        add_segment_or_fault(segments, &mut first, read);
     }
     first
 }

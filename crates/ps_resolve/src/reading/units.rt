@@ -5,7 +5,7 @@ ghost use Rattle.ps_codefile.specs.Dictionary.{slots};
 ghost use Rattle.ps_resolve.specs.Sources.{chosen_library as chosen_library_spec, file_at, is_named as is_named_spec, opened, opened_file, unit_source};
 ghost use Rattle.ps_resolve.specs.Faults.{entries_reason as entries_reason_spec};
 
-use crate::linkage::EntryPlace;
+use crate::linkage::EntryAt;
 use crate::reading::slots::library_file;
 use ps_codefile::Dict;
 use ps_codefile::dictionary_layout::SLOTS;
@@ -76,7 +76,7 @@ pub(crate) fn chosen_library<'a>(
     order: Order,
     name: Name,
     libs: &'a [&'a [u8]],
-) -> Option<(Dict<'a>, EntryPlace)>
+) -> Option<(Dict<'a>, EntryAt)>
     ensures none { is_none result
         ≡ is_none (chosen_library_spec order name (opened order libs.now)) }
     ensures source { IfSome result (λ u. unit_source order name (opened order libs.now)
@@ -88,7 +88,7 @@ pub(crate) fn chosen_library<'a>(
     for (library, lib) in libs.iter().enumerate() {
         if let Some((dict, index)) = entry_in(order, name, lib) {
             let file = library_file(library);
-            return Some((dict, EntryPlace { file, index }));
+            return Some((dict, EntryAt { file, index }));
         }
     }
     None

@@ -4,9 +4,9 @@ ghost use Rattle.ps_warnings.specs.Found.{Adds, link_looks};
 
 use super::numbers::number_look;
 use super::records::begins_with_record;
-use super::{Looks, Sight};
+use super::{Context, Looks};
 use crate::segments::Source;
-use crate::warnings::{CodeLook, Look, OtherLook, Place, ProcedureLook};
+use crate::warnings::{CodeLook, Look, OtherLook, ProcedureLook, WarningAt};
 use ps_codefile::code_layout::NUMBERS;
 use ps_codefile::kinds::{LINKED, SEPRTSEG};
 use ps_codefile::{Dict, ProcedureDictionary, ProcedureFault};
@@ -31,8 +31,8 @@ const SHORTEST: usize = 16;
 /// Looks at the code of a segment.
 pub(super) fn look_at<'a, A: Allocator>(
     looks: &mut Looks<'a, A>,
-    sight: &Sight<'_, '_>,
-    place: Place<'a>,
+    context: &Context<'_, '_>,
+    place: WarningAt<'a>,
     dict: &Dict<'_>,
     source: &Source<'_>,
     code: &[u8],
@@ -44,7 +44,7 @@ pub(super) fn look_at<'a, A: Allocator>(
         return looks.add_other(place, one_byte_look(code, byte));
     }
     let found = [
-        unread_look(sight, source, code),
+        unread_look(context, source, code),
         stripped_look(code),
         number_look(dict, source, code),
         procedures_look(source, code),
@@ -72,8 +72,8 @@ pub(super) fn is_without_procedures(code: &[u8]) -> bool {
 }
 
 /// A part of the code that was not read, where no fault tells of it. Zeros of native code are data.
-fn unread_look(sight: &Sight<'_, '_>, source: &Source<'_>, code: &[u8]) -> Option<OtherLook> {
-    if sight.is_refused(source) {
+fn unread_look(context: &Context<'_, '_>, source: &Source<'_>, code: &[u8]) -> Option<OtherLook> {
+    if context.is_refused(source) {
         return None;
     }
     let run = first_dead(code)?;

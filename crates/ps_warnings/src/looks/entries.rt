@@ -13,9 +13,9 @@ ghost use Rattle.ps_warnings.specs.Seen.{has_slot as has_slot_spec, seen};
 use super::codes::{REPEATED, SECTOR};
 use super::names::oddity_of;
 use super::numbers::{info_of, p_code_of};
-use super::{Looks, Sight, codes, in_file, notes, records};
+use super::{Context, Looks, codes, in_file, notes, records};
 use crate::segments::{Segment, Source, source_of};
-use crate::warnings::{DictionaryLook, EntryLook, OtherLook, Place, SegmentLook};
+use crate::warnings::{DictionaryLook, EntryLook, OtherLook, SegmentLook, WarningAt};
 use ps_codefile::code_layout::NUMBERS;
 use ps_codefile::dictionary_layout::{SLOTS, TAIL};
 use ps_codefile::kinds::{FIRST_INTRINSIC, HOSTSEG, LAST_INTRINSIC, LINKED, UNITSEG};
@@ -42,23 +42,23 @@ const MANY_OTHERS: usize = 16;
 /// Looks at the entries of a dictionary.
 pub(super) fn look_at<'a, A: Allocator>(
     looks: &mut Looks<'a, A>,
-    sight: &Sight<'_, 'a>,
+    context: &Context<'_, 'a>,
     file: usize,
     dict: &Dict<'a>,
     shown: &FileCode,
 ) -> Result<(), AllocError>
     ensures { OnOk result (Adds (link_looks looks.old.warnings.items looks.old.harmless.items)
-        (flat_map (looks_of_slot (path_of (sight.now.inputs.now.host_path.now
-        ∷ contents sight.now.inputs.now.paths.now) file) (option_map (λ h. h.now) sight.now.host)
-        (map seen sight.now.list.now) dict.now.order dict.now.file file) slots)
+        (flat_map (looks_of_slot (path_of (context.now.inputs.now.host_path.now
+        ∷ contents context.now.inputs.now.paths.now) file) (option_map (λ h. h.now) context.now.host)
+        (map seen context.now.list.now) dict.now.order dict.now.file file) slots)
         (link_looks looks.new.warnings.items looks.new.harmless.items)) }
 {
-    let place = in_file(sight.inputs.path(file));
+    let place = in_file(context.inputs.path(file));
     let found = [no_names(dict), dead_tail(dict).or(full_tail(dict))];
     looks.add_others(place, &found)?;
     for slot in 0..SLOTS {
-        looks.add_other(place, name_look(sight, dict, slot))?;
-        look_at_slot(looks, sight, file, dict, shown, slot)?;
+        looks.add_other(place, name_look(context, dict, slot))?;
+        look_at_slot(looks, context, file, dict, shown, slot)?;
     }
     Ok(())
 }
@@ -66,7 +66,7 @@ pub(super) fn look_at<'a, A: Allocator>(
 /// Looks at a slot: at its segment, or, in the host, at an entry that is not filled.
 fn look_at_slot<'a, A: Allocator>(
     looks: &mut Looks<'a, A>,
-    sight: &Sight<'_, 'a>,
+    context: &Context<'_, 'a>,
     file: usize,
     dict: &Dict<'a>,
     shown: &FileCode,
@@ -74,24 +74,24 @@ fn look_at_slot<'a, A: Allocator>(
 ) -> Result<(), AllocError>
     requires { slot < 16 }
     ensures { OnOk result (Adds (link_looks looks.old.warnings.items looks.old.harmless.items)
-        (looks_of_slot (path_of (sight.now.inputs.now.host_path.now
-        ∷ contents sight.now.inputs.now.paths.now) file) (option_map (λ h. h.now) sight.now.host)
-        (map seen sight.now.list.now) dict.now.order dict.now.file file slot)
+        (looks_of_slot (path_of (context.now.inputs.now.host_path.now
+        ∷ contents context.now.inputs.now.paths.now) file) (option_map (λ h. h.now) context.now.host)
+        (map seen context.now.list.now) dict.now.order dict.now.file file slot)
         (link_looks looks.new.warnings.items looks.new.harmless.items)) }
 {
     if dict.filled(slot) {
-        return look_at_entry(looks, sight, dict, shown, &source_of(dict, file, slot));
+        return look_at_entry(looks, context, dict, shown, &source_of(dict, file, slot));
     }
     if file != 0 {
         return Ok(());
     }
-    let path = sight.inputs.path(file);
-    let place = Place {
+    let path = context.inputs.path(file);
+    let place = WarningAt {
         path,
         segment: None,
         rec: None,
     };
-    let taken = is_taken(sight.list, slot);
+    let taken = is_taken(context.list, slot);
     let found = empty_look(dict, slot, taken);
     looks.add_entry(place, found)
 }
@@ -99,64 +99,64 @@ fn look_at_slot<'a, A: Allocator>(
 /// Looks at an entry that is filled, and at its segment.
 fn look_at_entry<'a, A: Allocator>(
     looks: &mut Looks<'a, A>,
-    sight: &Sight<'_, 'a>,
+    context: &Context<'_, 'a>,
     dict: &Dict<'a>,
     shown: &FileCode,
     source: &Source<'a>,
 ) -> Result<(), AllocError>
     ensures { OnOk result (Adds (link_looks looks.old.warnings.items looks.old.harmless.items)
-        (looks_of_source (path_of (sight.now.inputs.now.host_path.now
-        ∷ contents sight.now.inputs.now.paths.now) source.now.file)
-        (option_map (λ h. h.now) sight.now.host) source.now)
+        (looks_of_source (path_of (context.now.inputs.now.host_path.now
+        ∷ contents context.now.inputs.now.paths.now) source.now.file)
+        (option_map (λ h. h.now) context.now.host) source.now)
         (link_looks looks.new.warnings.items looks.new.harmless.items)) }
 {
     let found = [
         nameless_look(dict, source),
-        intrinsic_look(sight, source),
+        intrinsic_look(context, source),
         machine_look(dict, source),
     ];
-    looks.add_others(in_file(sight.inputs.path(source.file)), &found)?;
+    looks.add_others(in_file(context.inputs.path(source.file)), &found)?;
     if is_intrinsic(source) {
         return Ok(());
     }
-    look_at_segment(looks, sight, dict, shown, source)
+    look_at_segment(looks, context, dict, shown, source)
 }
 
 /// An odd name of an entry that is filled, or of a unit that may be wanted.
-fn name_look(sight: &Sight<'_, '_>, dict: &Dict<'_>, slot: u8) -> Option<OtherLook>
+fn name_look(context: &Context<'_, '_>, dict: &Dict<'_>, slot: u8) -> Option<OtherLook>
     requires { slot < 16 }
 {
     let Entry { name, kind, .. } = dict.entry(slot);
     if !dict.filled(slot) && kind != UNITSEG {
         return None;
     }
-    let oddity = oddity_of(&name, sight.are_small)?;
+    let oddity = oddity_of(&name, context.are_small)?;
     Some(OtherLook::Segment(SegmentLook::OddName { name, oddity }))
 }
 
 /// Looks at the code and at the link information of an entry.
 fn look_at_segment<'a, A: Allocator>(
     looks: &mut Looks<'a, A>,
-    sight: &Sight<'_, 'a>,
+    context: &Context<'_, 'a>,
     dict: &Dict<'a>,
     shown: &FileCode,
     source: &Source<'a>,
 ) -> Result<(), AllocError>
     ensures { OnOk result (Adds (link_looks looks.old.warnings.items looks.old.harmless.items)
-        (looks_of_source (path_of (sight.now.inputs.now.host_path.now
-        ∷ contents sight.now.inputs.now.paths.now) source.now.file)
-        (option_map (λ h. h.now) sight.now.host) source.now)
+        (looks_of_source (path_of (context.now.inputs.now.host_path.now
+        ∷ contents context.now.inputs.now.paths.now) source.now.file)
+        (option_map (λ h. h.now) context.now.host) source.now)
         (link_looks looks.new.warnings.items looks.new.harmless.items)) }
 {
-    let path = sight.inputs.path(source.file);
-    let place = Place {
+    let path = context.inputs.path(source.file);
+    let place = WarningAt {
         path,
         segment: Some(source.entry.name),
         rec: None,
     };
-    looks.add_other(place, refused_look(sight, source))?;
+    looks.add_other(place, refused_look(context, source))?;
     match source.code {
-        Ok(code) => look_at_code(looks, sight, path, dict, shown, source, code),
+        Ok(code) => look_at_code(looks, context, path, dict, shown, source, code),
         Err(_) => Ok(()),
     }
 }
@@ -164,7 +164,7 @@ fn look_at_segment<'a, A: Allocator>(
 /// Looks at the code of an entry, and at its link information.
 fn look_at_code<'a, A: Allocator>(
     looks: &mut Looks<'a, A>,
-    sight: &Sight<'_, 'a>,
+    context: &Context<'_, 'a>,
     path: &'a str,
     dict: &Dict<'a>,
     shown: &FileCode,
@@ -172,26 +172,26 @@ fn look_at_code<'a, A: Allocator>(
     code: &'a [u8],
 ) -> Result<(), AllocError>
     ensures { OnOk result (Adds (link_looks looks.old.warnings.items looks.old.harmless.items)
-        (looks_of_segment path.now (option_map (λ h. h.now) sight.now.host) source.now.order
+        (looks_of_segment path.now (option_map (λ h. h.now) context.now.host) source.now.order
         source.now.entry (Ok code.now) source.now.after.now)
         (link_looks looks.new.warnings.items looks.new.harmless.items)) }
 {
-    let place = Place {
+    let place = WarningAt {
         path,
         segment: Some(source.entry.name),
         rec: None,
     };
-    codes::look_at(looks, sight, place, dict, source, code)?;
+    codes::look_at(looks, context, place, dict, source, code)?;
     notes::of_code(looks, place, shown, source.index)?;
     if source.needs_linking() {
-        return records::look_at(looks, sight, path, shown, source, code);
+        return records::look_at(looks, context, path, shown, source, code);
     }
     Ok(())
 }
 
 /// Why a link that takes the segment is refused, where no fault tells of it.
-fn refused_look(sight: &Sight<'_, '_>, source: &Source<'_>) -> Option<OtherLook> {
-    if sight.is_refused(source) {
+fn refused_look(context: &Context<'_, '_>, source: &Source<'_>) -> Option<OtherLook> {
+    if context.is_refused(source) {
         None
     } else {
         refusal_of(source).map(OtherLook::Segment)
@@ -231,9 +231,9 @@ fn nameless_look(dict: &Dict<'_>, source: &Source<'_>) -> Option<OtherLook> {
 }
 
 /// An entry of a library that Apple Pascal has, where no fault tells of it.
-fn intrinsic_look(sight: &Sight<'_, '_>, source: &Source<'_>) -> Option<OtherLook> {
+fn intrinsic_look(context: &Context<'_, '_>, source: &Source<'_>) -> Option<OtherLook> {
     let (slot, kind) = (source.index, source.entry.kind);
-    if sight.is_refused(source) {
+    if context.is_refused(source) {
         None
     } else if source.file != 0 && is_intrinsic(source) {
         Some(OtherLook::Dictionary(DictionaryLook::IntrinsicKind { slot, kind }))

@@ -10,7 +10,7 @@ ghost use Rattle.ps_warnings.specs.Found.{Adds, link_looks};
 
 use super::Looks;
 use crate::segments::{is_slot, length_of};
-use crate::warnings::{EntryLook, Place};
+use crate::warnings::{EntryLook, WarningAt};
 use ps_codefile::Dict;
 use ps_codefile::dictionary_layout::SLOTS;
 use ps_codefile::kinds::{HOSTSEG, LINKED, UNITSEG};
@@ -155,7 +155,7 @@ fn look_at_extent<'a, A: Allocator>(
 {
     if is_slot(extent.slot) {
         let entry = dict.entry(extent.slot);
-        let place = Place {
+        let place = WarningAt {
             path,
             segment: Some(entry.name),
             rec: None,

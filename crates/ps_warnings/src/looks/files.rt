@@ -10,7 +10,7 @@ ghost use Rattle.ps_warnings.specs.Seen.{seen};
 
 use super::doubled::doubled_block;
 use super::extents::{Extent, extents_of};
-use super::{Looks, Sight, entries, extents, in_file};
+use super::{Context, Looks, entries, extents, in_file};
 use crate::warnings::{FileLook, OtherLook};
 use ps_codefile::Dict;
 use ps_codefile::dictionary_layout::SLOTS;
@@ -27,45 +27,45 @@ const MANY_LINES: usize = 32;
 /// Looks at a file, and at its entries.
 pub(super) fn look_at<'a, A: Allocator>(
     looks: &mut Looks<'a, A>,
-    sight: &Sight<'_, 'a>,
+    context: &Context<'_, 'a>,
     file: usize,
     bytes: &'a [u8],
 ) -> Result<(), AllocError>
     ensures { OnOk result (Adds (link_looks looks.old.warnings.items looks.old.harmless.items)
-        (looks_of_file (sight.now.inputs.now.host_path.now
-        ∷ contents sight.now.inputs.now.paths.now) (option_map (λ h. h.now) sight.now.host)
-        (map seen sight.now.list.now) (host_order sight.now.inputs.now.host.now) (file, bytes.now))
+        (looks_of_file (context.now.inputs.now.host_path.now
+        ∷ contents context.now.inputs.now.paths.now) (option_map (λ h. h.now) context.now.host)
+        (map seen context.now.list.now) (host_order context.now.inputs.now.host.now) (file, bytes.now))
         (link_looks looks.new.warnings.items looks.new.harmless.items)) }
 {
     if is_code_type(bytes) {
-        return look_at_code_file(looks, sight, file, bytes);
+        return look_at_code_file(looks, context, file, bytes);
     }
     let file_type = FileType::of(bytes);
-    let look = match sight.is_type_told(file) {
+    let look = match context.is_type_told(file) {
         true => None,
         false => Some(OtherLook::File(FileLook::NoCodeFile { file_type })),
     };
-    looks.add_other(in_file(sight.inputs.path(file)), look)
+    looks.add_other(in_file(context.inputs.path(file)), look)
 }
 
 /// Looks at a code file.
 fn look_at_code_file<'a, A: Allocator>(
     looks: &mut Looks<'a, A>,
-    sight: &Sight<'_, 'a>,
+    context: &Context<'_, 'a>,
     file: usize,
     bytes: &'a [u8],
 ) -> Result<(), AllocError>
     ensures { OnOk result (Adds (link_looks looks.old.warnings.items looks.old.harmless.items)
-        (looks_of_code_file (path_of (sight.now.inputs.now.host_path.now
-        ∷ contents sight.now.inputs.now.paths.now) file) (option_map (λ h. h.now) sight.now.host)
-        (map seen sight.now.list.now)
-        (host_order sight.now.inputs.now.host.now) bytes.now file)
+        (looks_of_code_file (path_of (context.now.inputs.now.host_path.now
+        ∷ contents context.now.inputs.now.paths.now) file) (option_map (λ h. h.now) context.now.host)
+        (map seen context.now.list.now)
+        (host_order context.now.inputs.now.host.now) bytes.now file)
         (link_looks looks.new.warnings.items looks.new.harmless.items)) }
 {
-    let place = in_file(sight.inputs.path(file));
+    let place = in_file(context.inputs.path(file));
     looks.add_other(place, padding_of(bytes).map(OtherLook::File))?;
-    match Dict::read_beside(bytes, sight.inputs.order()) {
-        Ok(dict) => look_at_dictionary(looks, sight, file, bytes, &dict),
+    match Dict::read_beside(bytes, context.inputs.order()) {
+        Ok(dict) => look_at_dictionary(looks, context, file, bytes, &dict),
         Err(_) => looks.add_other(place, converted(bytes).map(OtherLook::File)),
     }
 }
@@ -73,26 +73,26 @@ fn look_at_code_file<'a, A: Allocator>(
 /// Looks at a code file whose dictionary can be read.
 fn look_at_dictionary<'a, A: Allocator>(
     looks: &mut Looks<'a, A>,
-    sight: &Sight<'_, 'a>,
+    context: &Context<'_, 'a>,
     file: usize,
     bytes: &'a [u8],
     dict: &Dict<'a>,
 ) -> Result<(), AllocError>
     ensures { OnOk result (Adds (link_looks looks.old.warnings.items looks.old.harmless.items)
-        (looks_of_entries (path_of (sight.now.inputs.now.host_path.now
-        ∷ contents sight.now.inputs.now.paths.now) file) (option_map (λ h. h.now) sight.now.host)
-        (map seen sight.now.list.now)
+        (looks_of_entries (path_of (context.now.inputs.now.host_path.now
+        ∷ contents context.now.inputs.now.paths.now) file) (option_map (λ h. h.now) context.now.host)
+        (map seen context.now.list.now)
         dict.now.order dict.now.file file)
         (link_looks looks.new.warnings.items looks.new.harmless.items)) }
 {
-    let path = sight.inputs.path(file);
+    let path = context.inputs.path(file);
     let place = in_file(path);
     let extents = extents_of(dict);
     let converted = converted_in(bytes, dict, &extents);
     looks.add_other(place, converted.map(OtherLook::File))?;
     looks.add_other(place, doubled_block(bytes, &extents).map(OtherLook::File))?;
     let shown = FileCode::of(dict.order(), bytes);
-    entries::look_at(looks, sight, file, dict, &shown)?;
+    entries::look_at(looks, context, file, dict, &shown)?;
     extents::look_at(looks, path, dict, &extents)
 }
 

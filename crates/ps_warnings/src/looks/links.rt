@@ -9,9 +9,9 @@ ghost use Rattle.ps_warnings.specs.Seen.{seen};
 
 use super::entries::has_name_or_kind;
 use super::names::is_near;
-use super::{Looks, Sight};
-use crate::segments::{Part, Segment};
-use crate::warnings::{LinkLook, Place};
+use super::{Context, Looks};
+use crate::segments::{Segment, SegmentPart};
+use crate::warnings::{LinkLook, WarningAt};
 use ps_codefile::Dict;
 use ps_codefile::dictionary_layout::SLOTS;
 use ps_words::Name;
@@ -20,15 +20,15 @@ use std::alloc::{AllocError, Allocator};
 /// Looks at the units of the link. Where the host cannot be read there are none.
 pub(super) fn look_at<'a, A: Allocator>(
     looks: &mut Looks<'a, A>,
-    sight: &Sight<'_, 'a>,
+    context: &Context<'_, 'a>,
 ) -> Result<(), AllocError>
     ensures { OnOk result (Adds (link_looks looks.old.warnings.items looks.old.harmless.items)
-        (looks_of_link (sight.now.inputs.now.host_path.now ∷ contents sight.now.inputs.now.paths.now)
-        sight.now.inputs.now.host.now (map seen sight.now.list.now))
+        (looks_of_link (context.now.inputs.now.host_path.now ∷ contents context.now.inputs.now.paths.now)
+        context.now.inputs.now.host.now (map seen context.now.list.now))
         (link_looks looks.new.warnings.items looks.new.harmless.items)) }
 {
-    match Dict::read(sight.inputs.host) {
-        Ok(host) => look_at_units(looks, sight, &host),
+    match Dict::read(context.inputs.host) {
+        Ok(host) => look_at_units(looks, context, &host),
         Err(_) => Ok(()),
     }
 }
@@ -36,16 +36,16 @@ pub(super) fn look_at<'a, A: Allocator>(
 /// Looks at each of the segments.
 fn look_at_units<'a, A: Allocator>(
     looks: &mut Looks<'a, A>,
-    sight: &Sight<'_, 'a>,
+    context: &Context<'_, 'a>,
     host: &Dict<'a>,
 ) -> Result<(), AllocError>
     ensures { OnOk result (Adds (link_looks looks.old.warnings.items looks.old.harmless.items)
-        (looks_of_units (sight.now.inputs.now.host_path.now ∷ contents sight.now.inputs.now.paths.now)
-        host.now.order host.now.file (map seen sight.now.list.now))
+        (looks_of_units (context.now.inputs.now.host_path.now ∷ contents context.now.inputs.now.paths.now)
+        host.now.order host.now.file (map seen context.now.list.now))
         (link_looks looks.new.warnings.items looks.new.harmless.items)) }
 {
-    for (index, segment) in sight.list.iter().enumerate() {
-        look_at_unit(looks, sight, host, index, segment)?;
+    for (index, segment) in context.list.iter().enumerate() {
+        look_at_unit(looks, context, host, index, segment)?;
     }
     Ok(())
 }
@@ -53,27 +53,27 @@ fn look_at_units<'a, A: Allocator>(
 /// Looks at a segment, before which there are so many.
 fn look_at_unit<'a, A: Allocator>(
     looks: &mut Looks<'a, A>,
-    sight: &Sight<'_, 'a>,
+    context: &Context<'_, 'a>,
     host: &Dict<'a>,
     index: usize,
     segment: &Segment<'a>,
 ) -> Result<(), AllocError>
-    requires { index ≤ length sight.now.list.now }
+    requires { index ≤ length context.now.list.now }
     ensures { OnOk result (Adds (link_looks looks.old.warnings.items looks.old.harmless.items)
-        (looks_of_unit (sight.now.inputs.now.host_path.now ∷ contents sight.now.inputs.now.paths.now)
-        host.now.order host.now.file (map seen sight.now.list.now) (index, seen segment.now))
+        (looks_of_unit (context.now.inputs.now.host_path.now ∷ contents context.now.inputs.now.paths.now)
+        host.now.order host.now.file (map seen context.now.list.now) (index, seen segment.now))
         (link_looks looks.new.warnings.items looks.new.harmless.items)) }
 {
     let file = file_of(segment);
-    let path = sight.inputs.path(file);
-    let place = Place {
+    let path = context.inputs.path(file);
+    let place = WarningAt {
         path,
         segment: Some(segment.name),
         rec: None,
     };
     let taken = taken_by(host, segment.slot, segment.part);
     looks.add_of_link(place, taken)?;
-    let earlier = before(sight.list, index);
+    let earlier = before(context.list, index);
     let other = other_spelling(earlier, segment);
     looks.add_of_link(place, other)
 }
@@ -97,7 +97,7 @@ fn file_of(segment: &Segment<'_>) -> usize
 }
 
 /// The slot of an added unit that has a name or a kind in the host.
-fn taken_slot(host: &Dict<'_>, slot: u8, part: Part) -> Option<LinkLook>
+fn taken_slot(host: &Dict<'_>, slot: u8, part: SegmentPart) -> Option<LinkLook>
     requires { slot < 16 }
     ensures { result ≡ taken_slot_spec slot part (entry_at host.now.order host.now.file slot) }
 {
@@ -111,7 +111,7 @@ fn taken_slot(host: &Dict<'_>, slot: u8, part: Part) -> Option<LinkLook>
 }
 
 /// The same of a unit that has this slot, if it has one.
-fn taken_by(host: &Dict<'_>, slot: Option<u8>, part: Part) -> Option<LinkLook>
+fn taken_by(host: &Dict<'_>, slot: Option<u8>, part: SegmentPart) -> Option<LinkLook>
     ensures { result ≡ taken_by_spec host.now.order host.now.file slot part }
 {
     match slot {

@@ -4,7 +4,7 @@ ghost use Rattle.ps_warnings.specs.Found.{Adds, link_looks};
 
 use super::Looks;
 use crate::segments::Source;
-use crate::warnings::{Guess, Place};
+use crate::warnings::{Guess, WarningAt};
 use ps_codefile::kinds::UNITSEG;
 use ps_linkinfo::{Body, LinkInformation, LinkRecord, Refs};
 use ps_pcode::{FileCode, Filled, may_be_operand};
@@ -13,7 +13,7 @@ use std::alloc::{AllocError, Allocator};
 /// Notes the procedure of the segment in a slot that does not keep to what the others of its file do.
 pub(super) fn of_code<'a, A: Allocator>(
     looks: &mut Looks<'a, A>,
-    place: Place<'a>,
+    place: WarningAt<'a>,
     shown: &FileCode,
     slot: u8,
 ) -> Result<(), AllocError>
@@ -32,7 +32,7 @@ fn misfit(shown: &FileCode, slot: u8) -> Option<Guess> {
 /// reported.
 pub(super) fn of_records<'a, A: Allocator>(
     looks: &mut Looks<'a, A>,
-    place: Place<'a>,
+    place: WarningAt<'a>,
     shown: &FileCode,
     source: &Source<'_>,
     records: &LinkInformation<'_>,

@@ -10,9 +10,9 @@ ghost use Rattle.ps_warnings.specs.Found.{Adds, link_looks};
 ghost use Rattle.ps_warnings.specs.RecordLooks.{at_index as at_index_spec, definition_as as definition_as_spec, definition_in as definition_in_spec, definition_of as definition_of_spec, first_definition as first_definition_spec, first_high, first_past, high_as as high_as_spec, high_in as high_in_spec, high_value as high_value_spec, is_defined as is_defined_spec, is_requested as is_requested_spec, low_below as low_below_spec, low_mark as low_mark_spec, past_as as past_as_spec, past_in as past_in_spec, past_words as past_words_spec};
 
 use super::names::oddity_of;
-use super::{Looks, Sight, notes};
+use super::{Context, Looks, notes};
 use crate::segments::Source;
-use crate::warnings::{OtherLook, Place, RecordLook, SegmentLook};
+use crate::warnings::{OtherLook, RecordLook, SegmentLook, WarningAt};
 use ps_codefile::ProcedureDictionary;
 use ps_codefile::code_layout::NUMBERS;
 use ps_linkinfo::{Body, LinkInformation, LinkRecord, Refs, Sort};
@@ -23,34 +23,34 @@ use std::alloc::{AllocError, Allocator};
 /// Looks at the link information of a segment. Of each kind of look the first record is reported.
 pub(super) fn look_at<'a, A: Allocator>(
     looks: &mut Looks<'a, A>,
-    sight: &Sight<'_, '_>,
+    context: &Context<'_, '_>,
     path: &'a str,
     shown: &FileCode,
     source: &Source<'_>,
     code: &[u8],
 ) -> Result<(), AllocError>
     ensures { OnOk result (Adds (link_looks looks.old.warnings.items looks.old.harmless.items)
-        (looks_of_records path.now (option_map (λ h. h.now) sight.now.host) source.now.order
+        (looks_of_records path.now (option_map (λ h. h.now) context.now.host) source.now.order
         source.now.entry code.now (reading source.now.order source.now.after.now).0)
         (link_looks looks.new.warnings.items looks.new.harmless.items)) }
 {
     let records = LinkInformation::up_to_fault(source.order, source.after);
-    let place = Place {
+    let place = WarningAt {
         path,
         segment: Some(source.entry.name),
         rec: None,
     };
-    add_odd_name(looks, place, first_odd_name(&records, sight.are_small))?;
+    add_odd_name(looks, place, first_odd_name(&records, context.are_small))?;
     looks.add_of_record(place, first_past_private(&records, code))?;
     notes::of_records(looks, place, shown, source, &records, code)?;
     let size = data_size(source.order, code);
-    look_at_definitions(looks, sight, path, source, size, &records)
+    look_at_definitions(looks, context, path, source, size, &records)
 }
 
 /// Looks at what the records of a segment define.
 fn look_at_definitions<'a, A: Allocator>(
     looks: &mut Looks<'a, A>,
-    sight: &Sight<'_, '_>,
+    context: &Context<'_, '_>,
     path: &'a str,
     source: &Source<'_>,
     size: Option<u16>,
@@ -58,10 +58,10 @@ fn look_at_definitions<'a, A: Allocator>(
 ) -> Result<(), AllocError>
     ensures { OnOk result (Adds (link_looks looks.old.warnings.items looks.old.harmless.items)
         (definition_looks path.now (Some source.now.entry.name)
-        (option_map (λ h. h.now) sight.now.host) source.now.entry.kind size records.now)
+        (option_map (λ h. h.now) context.now.host) source.now.entry.kind size records.now)
         (link_looks looks.new.warnings.items looks.new.harmless.items)) }
 {
-    let place = Place {
+    let place = WarningAt {
         path,
         segment: Some(source.entry.name),
         rec: None,
@@ -70,13 +70,13 @@ fn look_at_definitions<'a, A: Allocator>(
         looks.add_of_records(place, low_mark(records, size))?;
         return looks.add_of_record(place, first_high_definition(records));
     }
-    looks.add_of_record(place, first_definition(records, sight.host))
+    looks.add_of_record(place, first_definition(records, context.host))
 }
 
 /// Adds an odd name of a record.
 fn add_odd_name<'a, A: Allocator>(
     looks: &mut Looks<'a, A>,
-    place: Place<'a>,
+    place: WarningAt<'a>,
     found: Option<(usize, SegmentLook)>,
 ) -> Result<(), AllocError>
     ensures { OnOk result (Adds (link_looks looks.old.warnings.items looks.old.harmless.items)
@@ -85,7 +85,7 @@ fn add_odd_name<'a, A: Allocator>(
     match found {
         Some((rec, look)) => {
             let rec = Some(rec);
-            looks.add_other(Place { rec, ..place }, Some(OtherLook::Segment(look)))
+            looks.add_other(WarningAt { rec, ..place }, Some(OtherLook::Segment(look)))
         }
         None => Ok(()),
     }

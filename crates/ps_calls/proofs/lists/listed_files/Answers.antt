@@ -2,7 +2,7 @@ use Rattle.std.proofs.Common.{◌≡◌, ◌≤◌, ◌<◌, ◌⊎◌, ◌∷�
 use Rattle.std.specs.Prelude.{min}
 use Rattle.ps_resolve.specs.Sources.{contents}
 use Rattle.ps_calls.specs.Printed.{AreListed, listed}
-use Rattle.ps_calls.proofs.Listed.{Listing, listed_first, listed_more_at, none_listed, one_ends}
+use Rattle.ps_calls.proofs.FilesListed.{ListsLeft, listed_first, listed_more_at, none_listed, one_ends}
 use Rattle.ps_calls.proofs.lists.listed_files.Goals as goal
 
 pub loop-index-init : goal.loop-index-init
@@ -11,7 +11,7 @@ loop-index-init c =
     let files = contents c.args.libs.now in
     let added = c.in_ok-add_listed.ensures in
     let first = listed c.args.how true c.args.host_name.now added.0 c.args.host.now in
-    subst (λ (text : List ℕ). Listing c.args.how (c.args.host_name.now ∷ names)
+    subst (λ (text : List ℕ). ListsLeft c.args.how (c.args.host_name.now ∷ names)
     (c.args.host.now ∷ files) names files text)
     (sym (added.1 ∙ ap (λ (old : List ℕ). old ++ first) c.new-text.ensures.items))
     (listed_first c.args.how c.args.host_name.now c.args.host.now names files added.0)
@@ -30,7 +30,7 @@ loop-index-preserved c =
     let before : List ℕ = c.loop-index.text.items in
     let more = listed_more_at c.args.how all_names all_files names libs i none added.0 before
     in_names in_libs c.loop-index.invariant in
-    subst (λ (text : List ℕ). Listing c.args.how all_names all_files
+    subst (λ (text : List ℕ). ListsLeft c.args.how all_names all_files
     (contents (drop (i + 1) names)) (contents (drop (i + 1) libs)) text) (sym added.1) more
 
 pub returns : goal.returns

@@ -1,13 +1,13 @@
 use Rattle.std.proofs.Common.{◌≡◌, ◌≤◌, ◌≢◌, drop, map}
-use Rattle.ps_command.specs.Reading.{Reads}
-use Rattle.ps_command.proofs.ListsPrinted.{Listing}
+use Rattle.ps_command.specs.FilesRead.{Reads}
+use Rattle.ps_command.proofs.ListsPrinted.{ListsLeft}
 use Rattle.ps_command.proofs.lists.print_files.Given as goal
 
 -- the lists of the files so far are printed, and those of the others are still to be printed
 abbrev pub invariant-loop-path : goal.invariant-loop-path
 invariant-loop-path g l = record {
   at : l.index ≡ l.path-index;
-  lists : Listing (Reads (g.R.CodeFiles.opened l.rt) g.R.Opened.Read.remaining) l.form
+  lists : ListsLeft (Reads (g.R.CodeFiles.opened l.rt) g.R.Opened.Read.remaining) l.form
       (map (λ path. path.now) l.paths) (g.O.Write.contents l.fn.out)
       l.path-index (map (λ path. path.now) (drop l.path-index l.paths)) l.status
       (g.O.Write.contents l.out);

@@ -30,8 +30,8 @@ returns c = record {
   a_second_private_of_a_name = builders.not_allotted 32763 (duplicate_owner ∷ [])
       (Refused (in_record 1 7 2 reason.DoubledPrivate)) refl;
   no_memory_for_a_private = (0, util_owner, refl, (1, _, refl, refl));
-  what_a_private_asked_for = refl;
-  all_that_is_asked_for = refl;
+  what_a_private_requested = refl;
+  all_that_is_requested = refl;
   privates_by_record = builders.by_record
       (first_private ∷ second_private ∷ third_private ∷ []) (refl, (refl, (refl, tt)));
   their_words = refl;

@@ -9,7 +9,7 @@ use Rattle.ps_examples.specs.Segments.{count_reference, aux_segment, tools_segme
 use Rattle.ps_examples.proofs.NotLinked.{same, util_aux}
 use Rattle.std.proofs.lemmas.Bool.{false≢true}
 use Rattle.ps_words.specs.declared.order.Order.TheVariants.{Little}
-use Rattle.ps_examples.proofs.NotOrigins.{a_slot_without_one, not_past_an_empty_slot, not_past_slot_7, not_asked_for_by_itself_alone, not_asked_for_by_another_name, not_asked_for_by_a_publ_ref, not_in_a_file_that_is_not_there, not_without_its_records, role_is, refused, unaddressed}
+use Rattle.ps_examples.proofs.NotOrigins.{a_slot_without_one, not_past_an_empty_slot, not_past_slot_7, not_requested_by_itself_alone, not_requested_by_another_name, not_requested_by_a_publ_ref, not_in_a_file_that_is_not_there, not_without_its_records, role_is, refused, unaddressed}
 use Rattle.ps_examples.proofs.origins.segments_of_no_link.Goals as goal
 
 pub returns : goal.returns
@@ -27,9 +27,9 @@ returns c = record {
   not_past_an_empty_slot = not_past_an_empty_slot;
   not_past_slot_7 = not_past_slot_7;
   not_of_another_role_than_wanted = λ segs u. let h = u.role in cc;
-  not_asked_for_by_itself_alone = not_asked_for_by_itself_alone;
-  not_asked_for_by_another_name = not_asked_for_by_another_name;
-  not_asked_for_by_a_publ_ref = not_asked_for_by_a_publ_ref;
+  not_requested_by_itself_alone = not_requested_by_itself_alone;
+  not_requested_by_another_name = not_requested_by_another_name;
+  not_requested_by_a_publ_ref = not_requested_by_a_publ_ref;
   not_of_a_name_of_blanks = λ segs u. false≢true (sym u.named);
   not_of_a_name_that_the_host_has = λ segs u. u.free (7, omega arith, (inr refl, refl));
   not_in_place_in_a_library = λ t. let h : 1 ≡ 0 = t.0 in omega (arith, h);

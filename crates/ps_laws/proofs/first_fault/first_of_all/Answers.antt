@@ -1,6 +1,6 @@
-use Rattle.ps_laws.proofs.Words.{order_of}
+use Rattle.ps_laws.proofs.Vocabulary.{order_of}
 use Rattle.ps_laws.proofs.NotWanted.{not_wanted}
-use Rattle.ps_laws.proofs.Parts.{parts}
+use Rattle.ps_laws.proofs.FaultParts.{parts}
 use Rattle.ps_laws.proofs.Whole.{some, none, one, only, read, unread}
 use Rattle.ps_laws.proofs.first_fault.first_of_all.Goals as goal
 

@@ -1,5 +1,5 @@
-use Rattle.ps_laws.proofs.Words.{order_of}
-use Rattle.ps_laws.proofs.Asked.{asked_is_there}
+use Rattle.ps_laws.proofs.Vocabulary.{order_of}
+use Rattle.ps_laws.proofs.RequestedUnits.{requested_is_there}
 use Rattle.ps_laws.proofs.AddedUnits.{units_are}
 use Rattle.ps_laws.proofs.OneList.{only_units}
 use Rattle.ps_laws.proofs.Whole.{none_read}
@@ -11,5 +11,5 @@ returns c = record {
       units_are (order_of host) host libs fine.0 fine.1;
   one = λ host libs e queue others are. let fine = none_read host libs e in
       only_units (order_of host) host libs fine.0 fine.1 queue others are;
-  there = λ host libs e. asked_is_there (order_of host) host libs (none_read host libs e).1;
+  there = λ host libs e. requested_is_there (order_of host) host libs (none_read host libs e).1;
 }

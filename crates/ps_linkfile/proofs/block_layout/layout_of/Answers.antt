@@ -1,6 +1,6 @@
 use Rattle.std.proofs.Common.{◌+◌, map, get_or, arith}
 use Rattle.std.proofs.lemmas.List.{length-map}
-use Rattle.ps_linkfile.proofs.Words.{origin_of_source}
+use Rattle.ps_linkfile.proofs.Vocabulary.{origin_of_source}
 use Rattle.ps_linkfile.proofs.Blocks.{laid_none, laid_next, laid_more, laid_done}
 use Rattle.ps_linkfile.proofs.Views.{no_source, view_at, size_at}
 use Rattle.ps_linkfile.proofs.block_layout.layout_of.Goals as goal

@@ -1,5 +1,5 @@
 use Rattle.std.proofs.Common.{◌≡◌, ◌+◌, ◌*◌, length, map, get_or, sym, ◌∙◌, arith, rules}
-use Rattle.ps_linkfile.proofs.Words.{length-map, blocks, origin_of_source}
+use Rattle.ps_linkfile.proofs.Vocabulary.{length-map, blocks, origin_of_source}
 use Rattle.ps_linkfile.proofs.Pairs.{IsPut, pairs_none, pairs_more, pairs_done}
 use Rattle.ps_linkfile.proofs.Views.{no_source, view_at, size_at, slot_at, many_starts, start_at}
 use Rattle.ps_linkfile.proofs.dictionary.pairs_of.Goals as goal

@@ -1,5 +1,5 @@
 use Rattle.std.proofs.Common.{arith, refl}
-use Rattle.ps_linkfile.proofs.Words.{drop_more, json_byte}
+use Rattle.ps_linkfile.proofs.Vocabulary.{drop_more, json_byte}
 use Rattle.ps_linkfile.proofs.Written.{all_written, items_left, items_over, none_yet, some_more}
 use Rattle.ps_linkfile.proofs.json.add_bytes.Goals as goal
 

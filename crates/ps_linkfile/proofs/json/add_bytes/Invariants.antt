@@ -1,5 +1,5 @@
 use Rattle.std.proofs.Common.{drop}
-use Rattle.ps_linkfile.proofs.Words.{flat_map, json_byte}
+use Rattle.ps_linkfile.proofs.Vocabulary.{flat_map, json_byte}
 use Rattle.ps_linkfile.proofs.Written.{Written}
 use Rattle.ps_linkfile.proofs.json.add_bytes.Given as goal
 

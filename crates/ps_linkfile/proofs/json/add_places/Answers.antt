@@ -1,5 +1,5 @@
 use Rattle.std.proofs.Common.{ℕ, List, arith, refl}
-use Rattle.ps_linkfile.proofs.Words.{drop_more, reference_item}
+use Rattle.ps_linkfile.proofs.Vocabulary.{drop_more, reference_item}
 use Rattle.ps_linkfile.proofs.Numbered.{numbered_left, numbered_over}
 use Rattle.ps_linkfile.proofs.Written.{all_written, none_yet, some_more}
 use Rattle.ps_linkfile.proofs.json.add_places.Goals as goal

@@ -1,4 +1,4 @@
-use Rattle.ps_linkfile.proofs.Words.{linked_file}
+use Rattle.ps_linkfile.proofs.Vocabulary.{linked_file}
 use Rattle.ps_linkfile.proofs.Whole.{none_found, one, there}
 use Rattle.ps_linkfile.proofs.linked_file_law.linked_file_is_one.Goals as goal
 

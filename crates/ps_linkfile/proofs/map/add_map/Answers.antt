@@ -1,5 +1,5 @@
 use Rattle.std.proofs.Common.{◌≡◌, ◌+◌, ap, rules}
-use Rattle.ps_linkfile.proofs.Words.{all_blocks}
+use Rattle.ps_linkfile.proofs.Vocabulary.{all_blocks}
 use Rattle.ps_linkfile.specs.MapText.{definition_row, last_row, private_row}
 use Rattle.ps_linkfile.specs.Rows.{rows_in, values_in}
 use Rattle.ps_linkfile.proofs.Written.{adds_is, ◌⨾◌}

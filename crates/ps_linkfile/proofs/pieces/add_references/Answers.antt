@@ -1,5 +1,5 @@
 use Rattle.std.proofs.Common.{◌≡◌, ◌+◌, ◌*◌, ℕ, List, arith, refl, sym}
-use Rattle.ps_linkfile.proofs.Words.{reference, PIECE_REFERENCES}
+use Rattle.ps_linkfile.proofs.Vocabulary.{reference, PIECE_REFERENCES}
 use Rattle.ps_linkfile.proofs.InPieces.{one_piece}
 use Rattle.ps_linkfile.proofs.Written.{none_yet, some_more}
 use Rattle.ps_linkfile.proofs.pieces.add_references.Goals as goal

@@ -11,5 +11,5 @@ returns g c = adds_is (rw (
   c.width-width.ensures,
   c.as_slice.ensures.value,
   c.item_end.ensures,
-  ← c.listing.view_is,
+  ← c.stored.view_is,
 )) (c.add_parts.ensures ⨾ c.add_record.ensures ⨾ c.add_by_form.ensures)

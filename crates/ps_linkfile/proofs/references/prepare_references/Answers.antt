@@ -1,11 +1,11 @@
 use Rattle.std.proofs.Common.{◌≡◌, ◌≤◌, ◌∙◌, ◌++◌, ℕ, List, length, ap, subst, sym}
-use Rattle.ps_linkfile.proofs.Words.{err_from_is_err_and, IsPlan, Listed, Planned, Segment, edited_segments, linked_file, listings_in, listings_of, references_in}
+use Rattle.ps_linkfile.proofs.Vocabulary.{err_from_is_err_and, IsPlan, StoredIn, Planned, Segment, edited_segments, linked_file, all_stored_in, all_stored_of, references_in}
 use Rattle.ps_codefile.specs.Dictionary.{block_len}
 use Rattle.ps_resolve.specs.LinkedBytes.{segments_of}
 use Rattle.ps_resolve.specs.Sources.{contents}
 use Rattle.ps_linkfile.specs.MapText.{map_in, members_in, members_of}
 use Rattle.ps_linkfile.specs.declared.rows.Form.TheVariants.{Json}
-use Rattle.ps_linkfile.proofs.Listings.{as_plan, joined, listings_are}
+use Rattle.ps_linkfile.proofs.StoredPlaces.{as_plan, joined, all_stored_are}
 use Rattle.ps_linkfile.proofs.Maps.{members_are, plan_text}
 use Rattle.ps_linkfile.proofs.Plans.{plan_ready}
 use Rattle.ps_linkfile.proofs.Whole.{long_host, names_first, reading_first, there}
@@ -13,19 +13,19 @@ use Rattle.ps_linkfile.proofs.references.prepare_references.Goals as goal
 
 -- what is listed of the segments of a link by a plan of it is what the link stores
 stored : (host : List ℕ) (libs : List (List ℕ)) (p q : Planned) (ss : List Segment)
-    (ls : List Listed) → IsPlan host libs p → q ≡ p → ss ≡ segments_of host libs
-    → ls ≡ listings_in q.order q.origins (edited_segments q.order ss)
-    → ls ≡ listings_of host libs
+    (ls : List StoredIn) → IsPlan host libs p → q ≡ p → ss ≡ segments_of host libs
+    → ls ≡ all_stored_in q.order q.origins (edited_segments q.order ss)
+    → ls ≡ all_stored_of host libs
 stored host libs p q ss ls plan same is listed =
-    listed ∙ listings_are host libs p q ss plan same is
+    listed ∙ all_stored_are host libs p q ss plan same is
 
 pub of-linked-requires : goal.of-linked-requires
 of-linked-requires g c = plan_ready _ _ _ c.in-Ok.ensures.plan
     (subst (λ (h : List ℕ). block_len ≤ length h) (sym c.in-Ok.ensures.plan.of_host)
     (long_host _ _ c.in-Ok.ensures.sound))
 
-pub list_segments-requires-clause-plan : goal.list_segments-requires-clause-plan
-list_segments-requires-clause-plan g c = as_plan _ _ _ _ _ c.in-Ok.ensures.plan
+pub stored_in_segments-requires-clause-plan : goal.stored_in_segments-requires-clause-plan
+stored_in_segments-requires-clause-plan g c = as_plan _ _ _ _ _ c.in-Ok.ensures.plan
     (c.plan.ensures.plan ∙ c.of-linked.ensures)
     (c.as_slice.ensures.value ∙ c.in-Ok.ensures.segments)
 
@@ -34,29 +34,29 @@ returns-in-Err-clause-first g c =
     rw (c.from.ensures) (names_first c.first_of_all.ensures.some c.first_of_all.ensures.parts
     c.first_of_all.ensures.read _ _ _ c.in-Err.ensures.stop)
 
-pub returns-in_ok-listings-in-Ok-clause-text : goal.returns-in_ok-listings-in-Ok-clause-text
-returns-in_ok-listings-in-Ok-clause-text g c = joined _ _ _ _ _
+pub returns-in_ok-all_stored-in-Ok-clause-text : goal.returns-in_ok-all_stored-in-Ok-clause-text
+returns-in_ok-all_stored-in-Ok-clause-text g c = joined _ _ _ _ _
     (ap map_in c.of-linked.ensures ∙ plan_text _ _ _ c.in-Ok.ensures.plan)
     (stored _ _ _ _ _ _ c.in-Ok.ensures.plan (c.plan.ensures.plan ∙ c.of-linked.ensures)
-    (c.as_slice.ensures.value ∙ c.in-Ok.ensures.segments) c.in_ok-listings-in-Ok.ensures)
+    (c.as_slice.ensures.value ∙ c.in-Ok.ensures.segments) c.in_ok-all_stored-in-Ok.ensures)
 
-pub returns-in_ok-listings-in-Ok-clause-json : goal.returns-in_ok-listings-in-Ok-clause-json
-returns-in_ok-listings-in-Ok-clause-json g c =
-    let listings = c.in_ok-listings-in-Ok.listings.items in
-    let listed : listings ≡ listings_of c.args.host.now (contents c.args.libs.now) =
+pub returns-in_ok-all_stored-in-Ok-clause-json : goal.returns-in_ok-all_stored-in-Ok-clause-json
+returns-in_ok-all_stored-in-Ok-clause-json g c =
+    let all_stored = c.in_ok-all_stored-in-Ok.all_stored.items in
+    let listed : all_stored ≡ all_stored_of c.args.host.now (contents c.args.libs.now) =
     stored _ _ _ _ _ _ c.in-Ok.ensures.plan (c.plan.ensures.plan ∙ c.of-linked.ensures)
-    (c.as_slice.ensures.value ∙ c.in-Ok.ensures.segments) c.in_ok-listings-in-Ok.ensures in
-    ap (λ (bs : List ℕ). bs ++ references_in Json listings)
+    (c.as_slice.ensures.value ∙ c.in-Ok.ensures.segments) c.in_ok-all_stored-in-Ok.ensures in
+    ap (λ (bs : List ℕ). bs ++ references_in Json all_stored)
     (ap members_in c.of-linked.ensures ∙ members_are _ _ _ c.in-Ok.ensures.plan)
-    ∙ ap (λ (ls : List Listed). members_of c.args.host.now (contents c.args.libs.now)
+    ∙ ap (λ (ls : List StoredIn). members_of c.args.host.now (contents c.args.libs.now)
     ++ references_in Json ls) listed
 
-pub returns-in_ok-listings-in-Ok-clause-accepted : goal.returns-in_ok-listings-in-Ok-clause-accepted
-returns-in_ok-listings-in-Ok-clause-accepted g c =
+pub returns-in_ok-all_stored-in-Ok-clause-accepted : goal.returns-in_ok-all_stored-in-Ok-clause-accepted
+returns-in_ok-all_stored-in-Ok-clause-accepted g c =
     c.first_of_all.ensures.none _ _ c.in-Ok.ensures.sound
 
-pub returns-in_ok-listings-in-Ok-clause-linked : goal.returns-in_ok-listings-in-Ok-clause-linked
-returns-in_ok-listings-in-Ok-clause-linked g c =
+pub returns-in_ok-all_stored-in-Ok-clause-linked : goal.returns-in_ok-all_stored-in-Ok-clause-linked
+returns-in_ok-all_stored-in-Ok-clause-linked g c =
     let host = c.args.host.now in
     let libs = contents c.args.libs.now in (
       linked_file host libs,
@@ -64,13 +64,13 @@ returns-in_ok-listings-in-Ok-clause-linked g c =
           c.bytes_are_linked.ensures.made c.in-Ok.ensures.sound,
     )
 
-pub returns-in_err-listings-in-Ok-clause-error : goal.returns-in_err-listings-in-Ok-clause-error
-returns-in_err-listings-in-Ok-clause-error g c =
+pub returns-in_err-all_stored-in-Ok-clause-error : goal.returns-in_err-all_stored-in-Ok-clause-error
+returns-in_err-all_stored-in-Ok-clause-error g c =
     let p = err_from_is_err_and c.from_residual.result c.from_residual.ensures.1 in
     rw (p.1, p.2) (reading_first _ _ c.in-Ok.ensures.sound)
 
-pub returns-in_err-listings-in-Ok-clause-first : goal.returns-in_err-listings-in-Ok-clause-first
-returns-in_err-listings-in-Ok-clause-first g c =
+pub returns-in_err-all_stored-in-Ok-clause-first : goal.returns-in_err-all_stored-in-Ok-clause-first
+returns-in_err-all_stored-in-Ok-clause-first g c =
     let p = err_from_is_err_and c.from_residual.result c.from_residual.ensures.1 in
     rw (p.1, p.2)
     (c.first_of_all.ensures.read _ _ (reading_first _ _ c.in-Ok.ensures.sound))

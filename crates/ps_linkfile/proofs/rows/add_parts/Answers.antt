@@ -1,6 +1,6 @@
 use Rattle.std.proofs.Common.{◌≡◌, ◌+◌, ◌∷◌, ◌∙◌, arith, drop, refl, map, ap, sym}
 use Rattle.ps_linkfile.specs.Rows.{value_of, values_in}
-use Rattle.ps_linkfile.proofs.Words.{drop_all, drop_more}
+use Rattle.ps_linkfile.proofs.Vocabulary.{drop_all, drop_more}
 use Rattle.ps_linkfile.proofs.Written.{all_written, none_yet, some_more}
 use Rattle.ps_linkfile.proofs.rows.add_parts.Goals as goal
 

@@ -1,5 +1,5 @@
 use Rattle.std.proofs.Common.{◌-◌}
-use Rattle.ps_linkfile.proofs.Words.{flat_map, range_with_len, slots}
+use Rattle.ps_linkfile.proofs.Vocabulary.{flat_map, range_with_len, slots}
 use Rattle.ps_linkfile.specs.ShowText.{links_in}
 use Rattle.ps_linkfile.specs.declared.rows.Form.TheVariants.{Lines}
 use Rattle.ps_linkfile.proofs.Written.{Written}

@@ -1,5 +1,5 @@
 use Rattle.std.proofs.Common.{◌≤◌, ◌+◌, ◌/◌, length}
-use Rattle.ps_linkfile.proofs.Words.{reading}
+use Rattle.ps_linkfile.proofs.Vocabulary.{reading}
 use Rattle.ps_linkinfo.specs.Left.{items_left}
 use Rattle.ps_linkfile.specs.ShowText.{fault_in, record_in, records_in}
 use Rattle.ps_linkfile.proofs.Walks.{walked}

@@ -1,5 +1,5 @@
 use Rattle.std.proofs.Common.{◌≡◌, ◌≤◌, ◌-◌, ◌++◌, length, map}
-use Rattle.ps_linkfile.proofs.Words.{filter, range_with_len, entry_at}
+use Rattle.ps_linkfile.proofs.Vocabulary.{filter, range_with_len, entry_at}
 use Rattle.ps_resolve.specs.Faults.{is_role}
 use Rattle.ps_codefile.specs.Roles.{is_unit}
 use Rattle.ps_linkfile.specs.ShowText.{unit_names}

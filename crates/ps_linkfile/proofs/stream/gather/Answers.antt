@@ -1,5 +1,5 @@
 use Rattle.std.proofs.Common.{arith, ◌≡◌, [], rules}
-use Rattle.ps_linkfile.proofs.Words.{on_err_weaker, on_ok_weaker}
+use Rattle.ps_linkfile.proofs.Vocabulary.{on_err_weaker, on_ok_weaker}
 use Rattle.ps_linkfile.proofs.Prefixes.{on_err_always, prefix_last, prefix_then}
 use Rattle.ps_linkfile.proofs.Sending.{sends_both}
 use Rattle.ps_linkfile.proofs.stream.gather.Goals as goal

@@ -1,5 +1,5 @@
 use Rattle.std.proofs.Common.{arith, [], refl, rules}
-use Rattle.ps_linkfile.proofs.Words.{on_err_weaker, on_ok_weaker}
+use Rattle.ps_linkfile.proofs.Vocabulary.{on_err_weaker, on_ok_weaker}
 use Rattle.ps_linkfile.proofs.Prefixes.{appends_none}
 use Rattle.ps_linkfile.proofs.Sending.{sent_all, sent_front}
 use Rattle.ps_linkfile.proofs.Written.{adds_first}

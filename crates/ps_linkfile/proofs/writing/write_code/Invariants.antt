@@ -1,5 +1,5 @@
 use Rattle.std.proofs.Common.{◌≡◌, ◌≤◌, ◌*◌, ◌-◌, ℕ, length, map}
-use Rattle.ps_linkfile.proofs.Words.{min, range_with_len, Appends, blocks, patched_or_zero, NoneFailed, Rises}
+use Rattle.ps_linkfile.proofs.Vocabulary.{min, range_with_len, Appends, blocks, patched_or_zero, NoneFailed, Rises}
 use Rattle.ps_linkfile.proofs.writing.write_code.Given as goal
 
 -- so many blocks were appended, and the patcher is after them

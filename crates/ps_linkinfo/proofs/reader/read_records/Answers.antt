@@ -3,7 +3,7 @@ use Rattle.ps_words.specs.declared.fault.Reason.{Reason}
 use Rattle.ps_linkinfo.specs.Records.{Stops}
 use Rattle.ps_linkinfo.specs.Walk.{Walk, whole_walk}
 use Rattle.ps_linkinfo.specs.declared.record.LinkRecord.{LinkRecord as Record}
-use Rattle.ps_linkinfo.proofs.Readings.{is_reading, is_stop}
+use Rattle.ps_linkinfo.proofs.OneReading.{is_reading, is_stop}
 use Rattle.ps_linkinfo.proofs.Stands.{IsReadingOf, reading_is}
 use Rattle.ps_linkinfo.proofs.Walks.{Walked, walked_first, walked_more, walked_all, walked_to_fault, walked_good}
 use Rattle.ps_linkinfo.proofs.reader.read_records.Goals as goal

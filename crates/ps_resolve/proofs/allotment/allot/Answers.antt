@@ -1,7 +1,7 @@
 use Rattle.std.proofs.Common.{◌≤◌, ◌+◌, ◌∙◌, sym, arith, append-nil}
-use Rattle.ps_resolve.proofs.Allots.{Allots, allot_more, allot_on, allots, duplicate_fault, is_duplicate, no_privates, not_duplicate, privates_counted, room_fault}
+use Rattle.ps_resolve.proofs.AllottedPrivates.{Allots, allot_more, allot_on, allots, duplicate_fault, is_duplicate, no_privates, not_duplicate, privates_counted, room_fault}
 use Rattle.ps_resolve.proofs.Duplicates.{positive}
-use Rattle.ps_resolve.proofs.Numbers.{one, none}
+use Rattle.ps_resolve.proofs.NumberedRecords.{one, none}
 use Rattle.ps_resolve.specs.declared.allotment.TheConstants.{MAX_NEXT_FREE}
 use Rattle.ps_resolve.proofs.allotment.allot.Goals as goal
 

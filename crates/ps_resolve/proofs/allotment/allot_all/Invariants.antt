@@ -5,8 +5,8 @@ use Rattle.ps_resolve.proofs.allotment.allot_all.Given as goal
 -- the privates so far and those of the segments that are left are all, and so with words and faults
 abbrev pub invariant-loop-segment : goal.invariant-loop-segment
 invariant-loop-segment g l =
-    let rest = map g.S.AsksForPrivates.owner (drop l.segment-index l.segments) in
-    let all = map g.S.AsksForPrivates.owner l.segments in
+    let rest = map g.S.RequestsPrivates.owner (drop l.segment-index l.segments) in
+    let all = map g.S.RequestsPrivates.owner l.segments in
     record {
       privates : l.privates.items ++ all_allotted l.free rest ≡ all_allotted l.next all;
       words : l.free + all_words rest ≡ l.next + all_words all;

@@ -2,15 +2,15 @@ use Rattle.std.proofs.Common.{arith, ◌≡◌, ◌∷◌, List, ℕ, Some, None
 use Rattle.ps_linkinfo.specs.declared.operand.Operand.{Operand}
 use Rattle.ps_linkinfo.specs.declared.record.LinkRecord.{LinkRecord as Record}
 use Rattle.ps_resolve.specs.Causes.{covering_in, first_before}
-use Rattle.ps_resolve.specs.declared.causes.ReferencePlace.{ReferencePlace}
+use Rattle.ps_resolve.specs.declared.causes.ReferenceAt.{ReferenceAt}
 use Rattle.ps_resolve.proofs.causes.covering_reference.Goals as goal
 
-here : (place : ReferencePlace) (operand : Operand) (r : ℕ × Record) (rs : List (ℕ × Record))
-    (p : ReferencePlace) → covering_in place operand r ≡ Some p
+here : (place : ReferenceAt) (operand : Operand) (r : ℕ × Record) (rs : List (ℕ × Record))
+    (p : ReferenceAt) → covering_in place operand r ≡ Some p
     → first_before place operand (r ∷ rs) ≡ Some p
 here place operand r rs p is = rw is refl
 
-later : (place : ReferencePlace) (operand : Operand) (r : ℕ × Record) (rs : List (ℕ × Record))
+later : (place : ReferenceAt) (operand : Operand) (r : ℕ × Record) (rs : List (ℕ × Record))
     → covering_in place operand r ≡ None
     → first_before place operand (r ∷ rs) ≡ first_before place operand rs
 later place operand r rs is = rw is refl

@@ -2,7 +2,7 @@ use Rattle.std.proofs.Common.{rules, arith, ◌≡◌, ◌∙◌, [], ◌∷◌,
 use Rattle.std.specs.Str.{bytes_eq}
 use Rattle.indexmap.proofs.CallerLemmas.{insert_entry-new}
 use Rattle.ps_resolve.proofs.Duplicates.{Defines, again_first, definitions_counted, new_entries, new_first, no_definitions, none_entries, none_first, none_is, positive, some_there}
-use Rattle.ps_resolve.proofs.Numbers.{one, none}
+use Rattle.ps_resolve.proofs.NumberedRecords.{one, none}
 use Rattle.ps_resolve.proofs.definitions.table_of.Goals as goal
 
 pub loop-rec-init : goal.loop-rec-init

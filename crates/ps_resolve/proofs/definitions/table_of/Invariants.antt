@@ -2,7 +2,7 @@ use Rattle.std.proofs.Common.{◌≡◌}
 use Rattle.indexmap.specs.IndexMap.{hasher_of}
 use Rattle.ps_linkinfo.specs.RecordCounts.{digest_of}
 use Rattle.ps_resolve.proofs.Duplicates.{Defines}
-use Rattle.ps_resolve.proofs.Numbers.{IsLeft}
+use Rattle.ps_resolve.proofs.NumberedRecords.{IsLeft}
 use Rattle.ps_resolve.proofs.definitions.table_of.Given as goal
 
 -- what the map has and what is left are all; so is the first of what is left

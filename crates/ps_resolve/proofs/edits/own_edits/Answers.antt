@@ -1,5 +1,5 @@
 use Rattle.std.proofs.Common.{arith}
-use Rattle.ps_resolve.proofs.Own.{number_table, size_table}
+use Rattle.ps_resolve.proofs.ReservedEdits.{number_table, size_table}
 use Rattle.ps_resolve.proofs.edits.own_edits.Goals as goal
 
 pub returns-then-not-host : goal.returns-then-not-host

@@ -13,10 +13,10 @@ use Rattle.std.proofs.lemmas.Option.{same_Some}
 use Rattle.ps_codefile.specs.Procedures.{ProcedureTables}
 use Rattle.ps_codefile.specs.Roles.{needs_linking, is_host}
 use Rattle.ps_resolve.specs.References.{Known, records_edits}
-use Rattle.ps_resolve.proofs.InPlaces.{edits_apart}
+use Rattle.ps_resolve.proofs.EditTables.{edits_apart}
 use Rattle.ps_resolve.proofs.FirstSlots.{none_mapped as map_none}
-use Rattle.ps_resolve.proofs.OneSegment.{all_of, linked_links}
-use Rattle.ps_resolve.proofs.Own.{edits_inside, own_of_table}
+use Rattle.ps_resolve.proofs.SegmentEdits.{all_of, linked_links}
+use Rattle.ps_resolve.proofs.ReservedEdits.{edits_inside, own_of_table}
 use Rattle.ps_resolve.proofs.edits.segment_edits.Goals as goal
 
 pub returns-in_ok-edits-in-Some : goal.returns-in_ok-edits-in-Some

@@ -15,8 +15,8 @@ use Rattle.ps_resolve.specs.Sources.{Segment}
 use Rattle.ps_resolve.specs.KnownSegments.{IsSound, IsLike}
 use Rattle.ps_resolve.proofs.AllSegments.{room_at, stop_at, words_on, first_on, links_on, none_left}
 use Rattle.ps_resolve.proofs.FirstSlots.{none_mapped}
-use Rattle.ps_resolve.proofs.Segs.{map_push}
-use Rattle.ps_resolve.proofs.Sharing.{all_taken, have_targets}
+use Rattle.ps_resolve.proofs.NextItems.{map_push}
+use Rattle.ps_resolve.proofs.SharedRecords.{all_taken, have_targets}
 use Rattle.ps_resolve.proofs.linking.all_edits.Goals as goal
 
 pub segment_edits-requires : goal.segment_edits-requires

@@ -8,9 +8,9 @@ use Rattle.ps_resolve.specs.Symbols.{definitions}
 use Rattle.ps_resolve.specs.Privates.{Allotted, owner_of, all_words}
 use Rattle.ps_resolve.specs.Linkable.{AreSegments}
 use Rattle.ps_resolve.specs.declared.reading.host.HostSegment.{HostSegment}
-use Rattle.ps_resolve.proofs.Hosts.{of_hosts}
-use Rattle.ps_resolve.proofs.Segs.{slots_are}
-use Rattle.ps_resolve.proofs.Stages.{records_are, definitions_stop, privates_stop, words_are, allotment_is, size_stop, references_stop, none_stands, all_linked, as_many}
+use Rattle.ps_resolve.proofs.HostSegments.{of_hosts}
+use Rattle.ps_resolve.proofs.NextItems.{slots_are}
+use Rattle.ps_resolve.proofs.LinkingFaults.{records_are, definitions_stop, privates_stop, words_are, allotment_is, size_stop, references_stop, none_stands, all_linked, as_many}
 use Rattle.ps_resolve.proofs.linking.link_segments.Goals as goal
 
 -- what is known of the segments, as a slice lends them

@@ -4,7 +4,7 @@ use Rattle.std.specs.List.{list_any}
 use Rattle.std.specs.Str.{bytes_eq}
 use Rattle.ps_linkinfo.specs.RecordCounts.{is_private_reference}
 use Rattle.ps_resolve.proofs.EarlierNames.{Scans, scan_end, scan_found, scan_more, scan_on, scans}
-use Rattle.ps_resolve.proofs.Numbers.{one, none}
+use Rattle.ps_resolve.proofs.NumberedRecords.{one, none}
 use Rattle.ps_resolve.proofs.namesakes.first_namesake.Goals as goal
 use Rattle.ps_resolve.proofs.namesakes.first_namesake.Goals.{else-is_private-via-then-is_private+in_ok-insert+else-not-branch, else-is_private-via-else-is_private}
 

@@ -4,9 +4,9 @@ use Rattle.ps_resolve.specs.Sources.{Segment, opened, contents, units_of}
 use Rattle.ps_resolve.specs.Added.{RoundsOutcome, all_unit_references, empty_slots, requested_from, rounds_from}
 use Rattle.ps_resolve.specs.Readings.{read_rounds}
 use Rattle.ps_resolve.specs.KnownSegments.{segments_in_slots, AreAlike}
-use Rattle.ps_resolve.proofs.Adding.{references_both, requested-append, few_kept}
+use Rattle.ps_resolve.proofs.RequestQueue.{references_both, requested-append, few_kept}
 use Rattle.ps_resolve.proofs.ReadingSlots.{all_of, in_rounds, requests_of}
-use Rattle.ps_resolve.proofs.Sharing.{read_alike}
+use Rattle.ps_resolve.proofs.SharedRecords.{read_alike}
 use Rattle.ps_resolve.proofs.reading.add_to.Goals as goal
 
 pub requested_by-queue-requires : goal.requested_by-queue-requires

@@ -20,7 +20,7 @@ use Rattle.ps_resolve.proofs.OfLink.{has_host, of_link, slots_fine}
 use Rattle.ps_resolve.proofs.ReadingHosts.{host_is, host_read}
 use Rattle.ps_resolve.proofs.ReadingKnown.{ascend, one_host}
 use Rattle.ps_resolve.proofs.ReadingSlots.{reading_is, segments_are, units_last}
-use Rattle.ps_resolve.proofs.Sharing.{all_sound, read_alike}
+use Rattle.ps_resolve.proofs.SharedRecords.{all_sound, read_alike}
 use Rattle.ps_resolve.proofs.resolving.link_units.Goals as goal
 
 -- the first fault of reading a host that was opened

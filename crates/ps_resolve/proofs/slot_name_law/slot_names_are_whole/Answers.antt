@@ -1,4 +1,4 @@
-use Rattle.ps_resolve.proofs.EightBytes.{names_whole}
+use Rattle.ps_resolve.proofs.WholeNames.{names_whole}
 use Rattle.ps_resolve.proofs.slot_name_law.slot_names_are_whole.Goals as goal
 
 pub returns : goal.returns

@@ -15,23 +15,23 @@ loop-library-init g c = owes_all refl
 
 pub loop-library-preserved : goal.loop-library-preserved
 loop-library-preserved g c =
-    let libs = c.args.sight.now.inputs.now.libs.now in
+    let libs = c.args.context.now.inputs.now.libs.now in
     let i = c.loop-library.library in
-    owes_less (numbered_left (looks_of_file (c.args.sight.now.inputs.now.host_path.now
-    ∷ contents c.args.sight.now.inputs.now.paths.now)
-    (option_map (λ (h : Bor (List Record)). h.now) c.args.sight.now.host)
-    (map seen c.args.sight.now.list.now)
-    (host_order c.args.sight.now.inputs.now.host.now)) (i + 1) (contents libs) i _
+    owes_less (numbered_left (looks_of_file (c.args.context.now.inputs.now.host_path.now
+    ∷ contents c.args.context.now.inputs.now.paths.now)
+    (option_map (λ (h : Bor (List Record)). h.now) c.args.context.now.host)
+    (map seen c.args.context.now.list.now)
+    (host_order c.args.context.now.inputs.now.host.now)) (i + 1) (contents libs) i _
     (contents_left libs i _ (drop_more libs i _ c.loop-library-test.true)))
     c.loop-library.invariant c.in_ok-look_at.ensures
 
 pub returns : goal.returns
 returns g c =
-    let libs = c.args.sight.now.inputs.now.libs.now in
+    let libs = c.args.context.now.inputs.now.libs.now in
     let i = c.loop-library.library in
-    owes_none (numbered_over (looks_of_file (c.args.sight.now.inputs.now.host_path.now
-    ∷ contents c.args.sight.now.inputs.now.paths.now)
-    (option_map (λ (h : Bor (List Record)). h.now) c.args.sight.now.host)
-    (map seen c.args.sight.now.list.now)
-    (host_order c.args.sight.now.inputs.now.host.now)) (i + 1) (contents libs) i
+    owes_none (numbered_over (looks_of_file (c.args.context.now.inputs.now.host_path.now
+    ∷ contents c.args.context.now.inputs.now.paths.now)
+    (option_map (λ (h : Bor (List Record)). h.now) c.args.context.now.host)
+    (map seen c.args.context.now.list.now)
+    (host_order c.args.context.now.inputs.now.host.now)) (i + 1) (contents libs) i
     (contents_over libs i c.loop-library-test.false)) c.loop-library.invariant

@@ -12,10 +12,10 @@ use Rattle.ps_warnings.proofs.looks.add_of_libraries.Given as goal
 -- what looks wrong in the libraries that are left is still to be added
 abbrev pub invariant-loop-library : goal.invariant-loop-library
 invariant-loop-library g l =
-    let of_file = looks_of_file (l.sight.inputs.now.host_path.now
-    ∷ contents l.sight.inputs.now.paths.now) (option_map (λ h. h.now) l.sight.host)
-    (map seen l.sight.list.now) (host_order l.sight.inputs.now.host.now) in
-    let libs = contents l.sight.inputs.now.libs.now in
+    let of_file = looks_of_file (l.context.inputs.now.host_path.now
+    ∷ contents l.context.inputs.now.paths.now) (option_map (λ h. h.now) l.context.host)
+    (map seen l.context.list.now) (host_order l.context.inputs.now.host.now) in
+    let libs = contents l.context.inputs.now.libs.now in
     Owes (link_looks l.fn.looks.warnings.items l.fn.looks.harmless.items)
     (flat_map of_file (enumerate_from 1 libs))
     (flat_map of_file (enumerate_from (l.library + 1) (drop l.library libs)))

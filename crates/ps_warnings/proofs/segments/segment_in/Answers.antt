@@ -3,7 +3,7 @@ use Rattle.std.specs.Prelude.{Option}
 use Rattle.std.specs.Option.{option_map}
 use Rattle.ps_resolve.specs.Sources.{contents}
 use Rattle.ps_warnings.specs.SeenSegments.{Origin, name_in, origin_as, seen_in, seen_with, slot_origin}
-use Rattle.ps_warnings.specs.declared.segments.Part.{Part}
+use Rattle.ps_warnings.specs.declared.segments.SegmentPart.{SegmentPart}
 use Rattle.ps_warnings.specs.declared.segments.Segment.{Segment}
 use Rattle.ps_warnings.proofs.Origins.{seen_is}
 use Rattle.ps_warnings.proofs.segments.segment_in.Goals as goal
@@ -14,7 +14,7 @@ returns-in-None c =
     let i = c.args.inputs.now in
     let h = c.args.host.now in
     let slot = c.args.slot in
-    ap (option_map (λ (what : Part). seen_with (Some slot) (name_in h slot) what
+    ap (option_map (λ (what : SegmentPart). seen_with (Some slot) (name_in h slot) what
     (slot_origin i.host.now (contents i.libs.now) h slot)))
     (sym c.in-None.is ∙ c.part_in.ensures)
 
@@ -37,5 +37,5 @@ returns-in-Some c =
     c.name_in-name.ensures
     ∙ ap (λ (o : Option Origin). seen_with (Some slot) (name_in h slot) what o)
     (c.slot_source-source.ensures c.state_of-is_read.ensures)))
-    ∙ ap (option_map (λ (p : Part). seen_with (Some slot) (name_in h slot) p
+    ∙ ap (option_map (λ (p : SegmentPart). seen_with (Some slot) (name_in h slot) p
     (slot_origin i.host.now (contents i.libs.now) h slot))) (sym c.in-Some.is ∙ c.part_in.ensures)

@@ -2,7 +2,7 @@ use Rattle.std.proofs.Common.{◌∙◌, List, ℕ, Some, None, false, sym, ap}
 use Rattle.std.specs.Prelude.{Bool, Option, if◌then◌else◌}
 use Rattle.ps_warnings.specs.Seen.{Seen}
 use Rattle.ps_warnings.specs.SeenSegments.{name_in, seen_with}
-use Rattle.ps_warnings.specs.declared.segments.Part.TheVariants as part
+use Rattle.ps_warnings.specs.declared.segments.SegmentPart.TheVariants as part
 use Rattle.ps_warnings.specs.declared.segments.Segment.{Segment}
 use Rattle.ps_warnings.proofs.Origins.{seen_is}
 use Rattle.ps_warnings.proofs.segments.segment_of.Goals as goal
@@ -26,11 +26,11 @@ returns c =
       slot = None;
       name = u.name;
       part = part.Added
-          c.name_in-asker.result u.rec;
+          c.name_in-requester.result u.rec;
       source = None;
       is_missing = false;
     } in
     ap Some (seen_is s ∙ ap (λ (n : List ℕ). seen_with None u.name (part.Added n u.rec) None)
-    c.name_in-asker.ensures)
+    c.name_in-requester.ensures)
     ∙ sym (ap (λ (b : Bool). if b then None else found)
     (sym c.is_of_host.ensures ∙ c.if-is_of_host.false))

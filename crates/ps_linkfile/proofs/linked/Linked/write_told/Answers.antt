@@ -1,5 +1,5 @@
 use Rattle.std.proofs.Common.{arith}
-use Rattle.ps_linkfile.proofs.Words.{err_from_is_err_and}
+use Rattle.ps_linkfile.proofs.Vocabulary.{err_from_is_err_and}
 use Rattle.ps_linkfile.proofs.Prefixes.{on_err_always}
 use Rattle.ps_linkfile.proofs.Rising.{by_pieces, if_device, if_stalled, room_for_a_file}
 use Rattle.ps_linkfile.proofs.linked.Linked.write_told.Goals as goal

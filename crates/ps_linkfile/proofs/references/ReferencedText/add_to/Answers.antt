@@ -1,5 +1,5 @@
 use Rattle.std.proofs.Common.{◌≡◌, List, ap}
-use Rattle.ps_linkfile.proofs.Words.{Listed, references_in}
+use Rattle.ps_linkfile.proofs.Vocabulary.{StoredIn, references_in}
 use Rattle.ps_linkfile.specs.ReferencesJson.{Referenced, referenced_in}
 use Rattle.ps_linkfile.proofs.Written.{adds_is, ◌⨾◌}
 use Rattle.ps_linkfile.proofs.references.ReferencedText.add_to.Goals as goal
@@ -9,7 +9,7 @@ returns g c =
     let form = c.args.self.now.0 in
     let same = c.map.view_is in
     let inside : Referenced =
-    record { plan = c.map.inside.linked; listings = c.map.inside.listings.items } in
+    record { plan = c.map.inside.linked; all_stored = c.map.inside.all_stored.items } in
     let seen : inside ≡ c.args.self.now.1.now = cc same in
     adds_is (ap (λ r. referenced_in form r) seen) (c.add_map.ensures ⨾ adds_is (ap (λ
-    (ls : List Listed). references_in form ls) c.as_slice.ensures.value) c.add_references.ensures)
+    (ls : List StoredIn). references_in form ls) c.as_slice.ensures.value) c.add_references.ensures)

@@ -4,9 +4,9 @@ use Rattle.ps_resolve.specs.Linkable.{AscendFrom}
 use Rattle.ps_resolve.specs.Offsets.{FollowOn}
 use Rattle.ps_resolve.specs.Privates.{Allotted, allotment_of, owner_of_linkage}
 use Rattle.ps_resolve.specs.declared.linkage.Linkage.{Linkage}
-use Rattle.ps_resolve.proofs.Builders.{distinct_names, room, not_allotted, by_record, asked, summed}
-use Rattle.ps_resolve.proofs.Follow.{follow}
-use Rattle.ps_resolve.proofs.Rises.{rise}
+use Rattle.ps_resolve.proofs.Builders.{distinct_names, room, not_allotted, by_record, requested, summed}
+use Rattle.ps_resolve.proofs.PrivatesFollow.{follow}
+use Rattle.ps_resolve.proofs.PrivatesRise.{rise}
 use Rattle.ps_resolve.proofs.allotment.Allotment.build.Goals as goal
 
 -- the slots of the owners are those of the segments
@@ -32,7 +32,7 @@ returns g c =
       names = search (rules, IfOk-weaker, distinct_names);
       room = search (rules, IfOk-weaker, room);
       refused = grind (arith, not_allotted);
-      asked = grind (arith, asked);
+      requested = grind (arith, requested);
       rising = search (rules, by_record, rise);
       follow = found (λ a. FollowOn next a.privates) (follow next ss);
       total = grind (arith, summed);

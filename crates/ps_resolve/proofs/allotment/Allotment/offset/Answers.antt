@@ -4,7 +4,7 @@ use Rattle.std.proofs.lemmas.Bool.{ne_eqb}
 use Rattle.std.proofs.lemmas.List.Sorted.{IsPartitionPoint-from_clause}
 use Rattle.ps_resolve.specs.Offsets.{RiseFrom}
 use Rattle.ps_resolve.specs.declared.allotment.Private.{Private}
-use Rattle.ps_resolve.proofs.Rises.{is_before, partitioned, offset_found, offset_none}
+use Rattle.ps_resolve.proofs.PrivatesRise.{is_before, partitioned, offset_found, offset_none}
 use Rattle.ps_resolve.proofs.allotment.Allotment.offset.Goals as goal
 
 pub returns-in-Some : goal.returns-in-Some

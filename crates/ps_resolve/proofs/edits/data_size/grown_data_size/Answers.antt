@@ -9,7 +9,7 @@ use Rattle.ps_codefile.specs.Procedures.{procedures, table_of, is_reserved}
 use Rattle.ps_resolve.specs.Edits.{IsOfTable}
 use Rattle.ps_resolve.specs.Linkable.{IsHost}
 use Rattle.ps_resolve.specs.declared.reading.host.HostSegment.{HostSegment}
-use Rattle.ps_resolve.proofs.Hosts.{some_table}
+use Rattle.ps_resolve.proofs.HostSegments.{some_table}
 use Rattle.ps_resolve.proofs.edits.data_size.grown_data_size.Goals as goal
 
 -- what is eight bytes before the place of the outer block's table, its data size, is reserved

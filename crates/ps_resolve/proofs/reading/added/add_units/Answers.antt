@@ -8,9 +8,9 @@ use Rattle.ps_resolve.specs.Added.{RoundsOutcome, requested_from, unit_reference
 use Rattle.ps_resolve.specs.Linkable.{AscendFrom}
 use Rattle.ps_resolve.specs.KnownSegments.{IsRead, put_by_slot, segments_in_slots}
 use Rattle.ps_resolve.specs.declared.reading.added.UnitReference.{UnitReference}
-use Rattle.ps_resolve.proofs.Adding.{at_round, kept, no_name_left, no_slot_left, round_refused, round_adds, joined, joined_more, references_more, few_kept}
+use Rattle.ps_resolve.proofs.RequestQueue.{at_round, kept, no_name_left, no_slot_left, round_refused, round_adds, joined, joined_more, references_more, few_kept}
 use Rattle.ps_resolve.proofs.BySlot.{All-put, empty_ascend, new_in, own_table, put_table, room_in_table}
-use Rattle.ps_resolve.proofs.Segs.{drop_at}
+use Rattle.ps_resolve.proofs.NextItems.{drop_at}
 use Rattle.ps_resolve.proofs.reading.added.add_units.Goals as goal
 
 pub loop-round-init : goal.loop-round-init

@@ -5,7 +5,7 @@ use Rattle.ps_resolve.specs.Added.{all_unit_references, requested_from, rounds_f
 use Rattle.ps_resolve.specs.Linkable.{AscendFrom}
 use Rattle.ps_resolve.specs.KnownSegments.{segments_in_slots, IsRead}
 use Rattle.ps_resolve.specs.declared.reading.added.UnitReference.{UnitReference}
-use Rattle.ps_resolve.proofs.Adding.{joined}
+use Rattle.ps_resolve.proofs.RequestQueue.{joined}
 use Rattle.ps_resolve.proofs.reading.added.add_units.Given as goal
 
 -- segments were added, which are in the table, all in slots below those that are left; with a queue

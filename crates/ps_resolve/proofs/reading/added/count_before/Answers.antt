@@ -1,7 +1,7 @@
 use Rattle.std.proofs.Common.{◌≤◌, ap, arith}
 use Rattle.ps_resolve.specs.Sources.{Segment}
 use Rattle.ps_resolve.proofs.BySlot.{placed_at, placed_last}
-use Rattle.ps_resolve.proofs.Sharing.{all_taken}
+use Rattle.ps_resolve.proofs.SharedRecords.{all_taken}
 use Rattle.ps_resolve.proofs.reading.added.count_before.Goals as goal
 
 pub returns-then-slot-segment-clause-place : goal.returns-then-slot-segment-clause-place

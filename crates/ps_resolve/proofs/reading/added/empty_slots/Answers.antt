@@ -3,7 +3,7 @@ use Rattle.std.proofs.lemmas.List.Elements.{All-nil}
 use Rattle.ps_codefile.specs.Roles.{is_empty}
 use Rattle.ps_resolve.specs.Added.{empty_slots}
 use Rattle.ps_resolve.specs.Faults.{is_role}
-use Rattle.ps_resolve.proofs.Adding.{filter_more, all_if, few_if}
+use Rattle.ps_resolve.proofs.RequestQueue.{filter_more, all_if, few_if}
 use Rattle.ps_resolve.proofs.reading.added.empty_slots.Goals as goal
 
 pub loop-slot-init : goal.loop-slot-init

@@ -1,5 +1,5 @@
 use Rattle.std.proofs.Common.{arith}
-use Rattle.ps_resolve.proofs.Adding.{kept_known, kept_full}
+use Rattle.ps_resolve.proofs.RequestQueue.{kept_known, kept_full}
 use Rattle.ps_resolve.proofs.reading.added.enqueue.Goals as goal
 
 pub returns-then-is_already_known : goal.returns-then-is_already_known

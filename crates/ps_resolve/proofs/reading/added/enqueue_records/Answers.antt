@@ -1,7 +1,7 @@
 use Rattle.std.proofs.Common.{arith, ◌∙◌, sym}
 use Rattle.std.proofs.lemmas.List.{take_all}
-use Rattle.ps_resolve.proofs.Adding.{Enqueues, kept_more, no_references}
-use Rattle.ps_resolve.proofs.Numbers.{one, none}
+use Rattle.ps_resolve.proofs.RequestQueue.{Enqueues, kept_more, no_references}
+use Rattle.ps_resolve.proofs.NumberedRecords.{one, none}
 use Rattle.ps_resolve.proofs.reading.added.enqueue_records.Goals as goal
 
 pub returns-then-units-eq0 : goal.returns-then-units-eq0

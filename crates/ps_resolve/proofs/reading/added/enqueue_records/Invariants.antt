@@ -1,6 +1,6 @@
 use Rattle.std.proofs.Common.{◌≤◌, length}
-use Rattle.ps_resolve.proofs.Adding.{Enqueues}
-use Rattle.ps_resolve.proofs.Numbers.{IsLeft}
+use Rattle.ps_resolve.proofs.RequestQueue.{Enqueues}
+use Rattle.ps_resolve.proofs.NumberedRecords.{IsLeft}
 use Rattle.ps_resolve.proofs.reading.added.enqueue_records.Given as goal
 
 -- the queue so far and what the remaining records request make the whole queue

@@ -6,8 +6,8 @@ use Rattle.ps_resolve.specs.Sources.{Segment}
 use Rattle.ps_resolve.specs.Added.{AreAlreadyKnown}
 use Rattle.ps_resolve.specs.KnownSegments.{IsLike}
 use Rattle.ps_resolve.specs.declared.reading.added.UnitReference.{UnitReference}
-use Rattle.ps_resolve.proofs.Requesting.{nothing_new, requested_more}
-use Rattle.ps_resolve.proofs.Sharing.{of_shared}
+use Rattle.ps_resolve.proofs.KnownNames.{nothing_new, requested_more}
+use Rattle.ps_resolve.proofs.SharedRecords.{of_shared}
 use Rattle.ps_resolve.proofs.reading.added.requested_by.Goals as goal
 
 pub loop-index-preserved : goal.loop-index-preserved

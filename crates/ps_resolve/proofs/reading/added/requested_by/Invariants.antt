@@ -1,4 +1,4 @@
-use Rattle.ps_resolve.proofs.Requesting.{HaveRequested}
+use Rattle.ps_resolve.proofs.KnownNames.{HaveRequested}
 use Rattle.ps_resolve.proofs.reading.added.requested_by.Given as goal
 
 -- the queue so far is that of the segments so far

@@ -8,9 +8,9 @@ use Rattle.ps_resolve.specs.Requests.{as_requested}
 use Rattle.ps_resolve.specs.KnownSegments.{IsRead}
 use Rattle.ps_resolve.specs.Sources.{file_at, segment_from, opened}
 use Rattle.ps_resolve.specs.Faults.{code_fault}
-use Rattle.ps_resolve.proofs.Requested.{brought_by, found_at, placed_by, placed_refused, read_marked}
+use Rattle.ps_resolve.proofs.RequestedSegments.{brought_by, found_at, placed_by, placed_refused, read_marked}
 use Rattle.ps_resolve.proofs.ReadingUnits.{kind_is}
-use Rattle.ps_resolve.proofs.Sharing.{placed_in}
+use Rattle.ps_resolve.proofs.SharedRecords.{placed_in}
 use Rattle.ps_resolve.proofs.reading.request.read_unit.Goals as goal
 
 pub entries_reason-requires-clause-entry : goal.entries_reason-requires-clause-entry

@@ -6,7 +6,7 @@ use Rattle.ps_resolve.specs.Sources.{segment_from, opened}
 use Rattle.ps_resolve.specs.Faults.{code_fault}
 use Rattle.ps_resolve.specs.KnownSegments.{IsRead}
 use Rattle.ps_resolve.proofs.ReadingSources.{own_fault, read_from_host}
-use Rattle.ps_resolve.proofs.Requested.{wanted_is, wanted_segment}
+use Rattle.ps_resolve.proofs.RequestedSegments.{wanted_is, wanted_segment}
 use Rattle.ps_resolve.proofs.reading.sources.read_slot.Goals as goal
 
 pub read_segment-requires-clause-placed : goal.read_segment-requires-clause-placed

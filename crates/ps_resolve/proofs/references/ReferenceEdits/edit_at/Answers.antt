@@ -1,5 +1,5 @@
 use Rattle.std.proofs.Common.{arith}
-use Rattle.ps_resolve.proofs.Takes.{overlaps, stands_free}
+use Rattle.ps_resolve.proofs.TakenPlaces.{overlaps, stands_free}
 use Rattle.ps_resolve.proofs.references.ReferenceEdits.edit_at.Goals as goal
 
 pub returns-then-is_any_taken-clause-reason : goal.returns-then-is_any_taken-clause-reason

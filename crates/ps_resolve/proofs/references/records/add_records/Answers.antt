@@ -12,12 +12,12 @@ use Rattle.ps_resolve.specs.Edits.{refs_fault_at}
 use Rattle.ps_resolve.specs.Faults.{in_segment}
 use Rattle.ps_resolve.specs.References.{Known, HaveTargets, records_fault}
 use Rattle.ps_resolve.specs.Stops.{IsStop}
-use Rattle.ps_resolve.specs.declared.linkage.RecordPlace.{RecordPlace}
+use Rattle.ps_resolve.specs.declared.linkage.RecordAt.{RecordAt}
 use Rattle.ps_resolve.specs.declared.linkage.Stop.{Stop}
-use Rattle.ps_resolve.proofs.Numbers.{one, none}
+use Rattle.ps_resolve.proofs.NumberedRecords.{one, none}
 use Rattle.ps_resolve.proofs.FirstSlots.{none_mapped as map_none}
 use Rattle.ps_resolve.proofs.NextRecords.{no_links, references_refused, record_stands, listed_more}
-use Rattle.ps_resolve.proofs.Sharing.{of_shared, no_references}
+use Rattle.ps_resolve.proofs.SharedRecords.{of_shared, no_references}
 use Rattle.ps_resolve.proofs.references.records.add_records.Goals as goal
 use Rattle.ps_resolve.proofs.LookingBack.{words_before}
 
@@ -99,7 +99,7 @@ returns-in_err-add_record-in-Ok-clause-stop g c =
     (references_refused known (is_reserved tables.order tables.code) tables.code c.in-Some.rec
     l.next first.0 r step.0 s.file s.slot c.in-Ok.target stop
     (sym c.target_of.ensures ∙ c.in-Ok.is)
-    (subst (λ (p : RecordPlace). IsStop ⊥
+    (subst (λ (p : RecordAt). IsStop ⊥
     (refs_fault_at p tables c.in-Ok.target first.0 (refs_of r.body)) stop)
     (rw c.place.ensures at c.record-place.ensures)
     (c.in_err-add_record-in-Ok.ensures.stop first.0 first.1))))

@@ -12,18 +12,18 @@ loop-slot-init g c = owes_after c.in_ok-add_others.ensures (owes_all refl)
 
 pub loop-slot-preserved : goal.loop-slot-preserved
 loop-slot-preserved g c =
-    owes_less (slots_left (looks_of_slot (path_of (c.args.sight.now.inputs.now.host_path.now
-    ∷ contents c.args.sight.now.inputs.now.paths.now) c.args.file)
-    (option_map (λ h. h.now) c.args.sight.now.host) (map seen c.args.sight.now.list.now)
+    owes_less (slots_left (looks_of_slot (path_of (c.args.context.now.inputs.now.host_path.now
+    ∷ contents c.args.context.now.inputs.now.paths.now) c.args.file)
+    (option_map (λ h. h.now) c.args.context.now.host) (map seen c.args.context.now.list.now)
     c.args.dict.now.order c.args.dict.now.file c.args.file) c.loop-slot.slot 16
     c.loop-slot-test.true)
     c.loop-slot.invariant (none_then c.in_ok-add_other.ensures c.in_ok-look_at_slot.ensures)
 
 pub returns : goal.returns
 returns g c =
-    owes_none (slots_over (looks_of_slot (path_of (c.args.sight.now.inputs.now.host_path.now
-    ∷ contents c.args.sight.now.inputs.now.paths.now) c.args.file)
-    (option_map (λ h. h.now) c.args.sight.now.host) (map seen c.args.sight.now.list.now)
+    owes_none (slots_over (looks_of_slot (path_of (c.args.context.now.inputs.now.host_path.now
+    ∷ contents c.args.context.now.inputs.now.paths.now) c.args.file)
+    (option_map (λ h. h.now) c.args.context.now.host) (map seen c.args.context.now.list.now)
     c.args.dict.now.order c.args.dict.now.file c.args.file) c.loop-slot.slot 16
     c.loop-slot-test.false)
     c.loop-slot.invariant

@@ -13,9 +13,9 @@ use Rattle.ps_warnings.proofs.looks.entries.look_at.Given as goal
 -- what looks wrong in the slots that are left is still to be added
 abbrev pub invariant-loop-slot : goal.invariant-loop-slot
 invariant-loop-slot g l =
-    let of_slot = looks_of_slot (path_of (l.sight.inputs.now.host_path.now
-    ∷ contents l.sight.inputs.now.paths.now) l.file) (option_map (λ h. h.now) l.sight.host)
-    (map seen l.sight.list.now) l.dict.order l.dict.file l.file in
+    let of_slot = looks_of_slot (path_of (l.context.inputs.now.host_path.now
+    ∷ contents l.context.inputs.now.paths.now) l.file) (option_map (λ h. h.now) l.context.host)
+    (map seen l.context.list.now) l.dict.order l.dict.file l.file in
     Owes (link_looks l.fn.looks.warnings.items l.fn.looks.harmless.items) (flat_map of_slot slots)
     (flat_map of_slot (range_with_len l.slot (16 - l.slot)))
     (link_looks l.looks.warnings.items l.looks.harmless.items)

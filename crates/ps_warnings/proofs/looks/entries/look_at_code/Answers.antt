@@ -10,7 +10,7 @@ pub returns-then-needs_linking : goal.returns-then-needs_linking
 returns-then-needs_linking g c =
     let s = c.args.source.now in
     let all = linked c.args.path.now (option_map (λ (h : Bor
-    (List Record)). h.now) c.args.sight.now.host) s.order s.entry
+    (List Record)). h.now) c.args.context.now.host) s.order s.entry
     s.after.now c.args.code.now (sym c.needs_linking.ensures ∙ c.if-needs_linking.true) in
     let before = none_then c.in_ok-look_at.ensures c.in_ok-of_code.ensures in
     on_ok_weaker c.look_at-then-needs_linking.result (λ more. adds_is (sym all)
@@ -21,7 +21,7 @@ pub returns : goal.returns
 returns g c =
     let s = c.args.source.now in
     let none = not_linked c.args.path.now (option_map (λ (h : Bor
-    (List Record)). h.now) c.args.sight.now.host) s.order s.entry
+    (List Record)). h.now) c.args.context.now.host) s.order s.entry
     s.after.now (Ok c.args.code.now)
     (sym c.needs_linking.ensures ∙ c.if-needs_linking.false) in
     adds_is (sym none) (none_then c.in_ok-look_at.ensures c.in_ok-of_code.ensures)

@@ -12,9 +12,9 @@ use Rattle.ps_warnings.proofs.looks.entries.look_at_entry.Goals as goal
 pub returns-then-is_intrinsic : goal.returns-then-is_intrinsic
 returns-then-is_intrinsic g c =
     let s = c.args.source.now in
-    let none = not_linked (path_of (c.args.sight.now.inputs.now.host_path.now
-    ∷ contents c.args.sight.now.inputs.now.paths.now) s.file) (option_map (λ (h : Bor
-    (List Record)). h.now) c.args.sight.now.host)
+    let none = not_linked (path_of (c.args.context.now.inputs.now.host_path.now
+    ∷ contents c.args.context.now.inputs.now.paths.now) s.file) (option_map (λ (h : Bor
+    (List Record)). h.now) c.args.context.now.host)
     s.order s.entry s.after.now (code_in s) (c.is_intrinsic.ensures c.if-is_intrinsic.true) in
     adds_is (sym none) c.in_ok-add_others.ensures
 

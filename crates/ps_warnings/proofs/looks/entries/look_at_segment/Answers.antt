@@ -15,9 +15,9 @@ use Rattle.ps_warnings.proofs.looks.entries.look_at_segment.Goals as goal
 pub returns-in-Ok : goal.returns-in-Ok
 returns-in-Ok g c =
     let s = c.args.source.now in
-    let path = path_of (c.args.sight.now.inputs.now.host_path.now
-    ∷ contents c.args.sight.now.inputs.now.paths.now) s.file in
-    let host = option_map (λ (h : Bor (List Record)). h.now) c.args.sight.now.host in
+    let path = path_of (c.args.context.now.inputs.now.host_path.now
+    ∷ contents c.args.context.now.inputs.now.paths.now) s.file in
+    let host = option_map (λ (h : Bor (List Record)). h.now) c.args.context.now.host in
     let code = ap (λ (r : Result (Bor (List ℕ)) Reason). looks_of_segment path host s.order s.entry
     (code_as r) s.after.now) c.in-Ok.is in
     let looked = rw c.path-path.ensures at c.look_at_code.ensures in
@@ -27,9 +27,9 @@ returns-in-Ok g c =
 pub returns-in-Err : goal.returns-in-Err
 returns-in-Err g c =
     let s = c.args.source.now in
-    let path = path_of (c.args.sight.now.inputs.now.host_path.now
-    ∷ contents c.args.sight.now.inputs.now.paths.now) s.file in
-    let host = option_map (λ (h : Bor (List Record)). h.now) c.args.sight.now.host in
+    let path = path_of (c.args.context.now.inputs.now.host_path.now
+    ∷ contents c.args.context.now.inputs.now.paths.now) s.file in
+    let host = option_map (λ (h : Bor (List Record)). h.now) c.args.context.now.host in
     let code = ap (λ (r : Result (Bor (List ℕ)) Reason). looks_of_segment path host s.order s.entry
     (code_as r) s.after.now) c.in-Err.is in
     adds_is (sym (code ∙ no_code path host s.order s.entry s.after.now _))

@@ -15,11 +15,11 @@ use Rattle.ps_warnings.proofs.looks.entries.look_at_slot.Goals as goal
 pub returns-then-filled : goal.returns-then-filled
 returns-then-filled g c =
     let d = c.args.dict.now in
-    let paths = c.args.sight.now.inputs.now.host_path.now
-    ∷ contents c.args.sight.now.inputs.now.paths.now in
-    let host = option_map (λ (h : Bor (List Record)). h.now) c.args.sight.now.host in
+    let paths = c.args.context.now.inputs.now.host_path.now
+    ∷ contents c.args.context.now.inputs.now.paths.now in
+    let host = option_map (λ (h : Bor (List Record)). h.now) c.args.context.now.host in
     let whole = slot_filled (path_of paths c.args.file) host
-    (map seen c.args.sight.now.list.now) d.order d.file
+    (map seen c.args.context.now.list.now) d.order d.file
     c.args.file c.args.slot (sym c.filled.ensures ∙ c.if-filled.true) in
     let source = source_is paths host c.source_of.result d.order d.file c.args.file
     (entry_at d.order d.file c.args.slot) c.source_of.ensures.file c.source_of.ensures.entry
@@ -30,12 +30,12 @@ returns-then-filled g c =
 pub returns-then-file-ne0 : goal.returns-then-file-ne0
 returns-then-file-ne0 g c =
     let d = c.args.dict.now in
-    let paths = c.args.sight.now.inputs.now.host_path.now
-    ∷ contents c.args.sight.now.inputs.now.paths.now in
+    let paths = c.args.context.now.inputs.now.host_path.now
+    ∷ contents c.args.context.now.inputs.now.paths.now in
     let other : (c.args.file == 0) ≡ false = grind (arith, nat_tests) in
     let none = slot_beside (path_of paths c.args.file) (option_map (λ (h : Bor
-    (List Record)). h.now) c.args.sight.now.host)
-    (map seen c.args.sight.now.list.now) d.order d.file c.args.file c.args.slot
+    (List Record)). h.now) c.args.context.now.host)
+    (map seen c.args.context.now.list.now) d.order d.file c.args.file c.args.slot
     (sym c.filled.ensures ∙ c.if-filled.false) other in
     adds_is (sym none) (adds_none (link_looks c.args.looks.now.warnings.items
     c.args.looks.now.harmless.items))
@@ -43,12 +43,12 @@ returns-then-file-ne0 g c =
 pub returns : goal.returns
 returns g c =
     let d = c.args.dict.now in
-    let paths = c.args.sight.now.inputs.now.host_path.now
-    ∷ contents c.args.sight.now.inputs.now.paths.now in
+    let paths = c.args.context.now.inputs.now.host_path.now
+    ∷ contents c.args.context.now.inputs.now.paths.now in
     let host : (c.args.file == 0) ≡ true = grind (arith, nat_tests) in
     let empty = slot_empty (path_of paths c.args.file) (option_map (λ (h : Bor
-    (List Record)). h.now) c.args.sight.now.host)
-    (map seen c.args.sight.now.list.now) d.order d.file c.args.file c.args.slot
+    (List Record)). h.now) c.args.context.now.host)
+    (map seen c.args.context.now.list.now) d.order d.file c.args.file c.args.slot
     (sym c.filled.ensures ∙ c.if-filled.false) host in
     let found = rw (c.path-path.ensures, c.empty_look-found.ensures, c.is_taken-taken.ensures)
     at c.add_entry.ensures in

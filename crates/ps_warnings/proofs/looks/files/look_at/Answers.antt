@@ -11,19 +11,19 @@ use Rattle.ps_warnings.proofs.looks.files.look_at.Goals as goal
 
 pub returns-then-is_code_type : goal.returns-then-is_code_type
 returns-then-is_code_type g c =
-    let all = is_code (c.args.sight.now.inputs.now.host_path.now
-    ∷ contents c.args.sight.now.inputs.now.paths.now) (option_map (λ (h : Bor
-    (List Record)). h.now) c.args.sight.now.host)
-    (map seen c.args.sight.now.list.now) (host_order c.args.sight.now.inputs.now.host.now)
+    let all = is_code (c.args.context.now.inputs.now.host_path.now
+    ∷ contents c.args.context.now.inputs.now.paths.now) (option_map (λ (h : Bor
+    (List Record)). h.now) c.args.context.now.host)
+    (map seen c.args.context.now.list.now) (host_order c.args.context.now.inputs.now.host.now)
     c.args.file c.args.bytes.now (sym c.is_code_type.ensures ∙ c.if-is_code_type.true) in
     on_ok_weaker c.look_at_code_file.result (λ more. adds_is (sym all) more)
     c.look_at_code_file.ensures
 
 pub returns : goal.returns
 returns g c =
-    let none = no_code_file (c.args.sight.now.inputs.now.host_path.now
-    ∷ contents c.args.sight.now.inputs.now.paths.now) (option_map (λ (h : Bor
-    (List Record)). h.now) c.args.sight.now.host)
-    (map seen c.args.sight.now.list.now) (host_order c.args.sight.now.inputs.now.host.now)
+    let none = no_code_file (c.args.context.now.inputs.now.host_path.now
+    ∷ contents c.args.context.now.inputs.now.paths.now) (option_map (λ (h : Bor
+    (List Record)). h.now) c.args.context.now.host)
+    (map seen c.args.context.now.list.now) (host_order c.args.context.now.inputs.now.host.now)
     c.args.file c.args.bytes.now (sym c.is_code_type.ensures ∙ c.if-is_code_type.false) in
     on_ok_weaker c.add_other.result (λ more. adds_is (sym none) more) c.add_other.ensures

@@ -14,13 +14,13 @@ use Rattle.ps_warnings.proofs.looks.files.look_at_code_file.Goals as goal
 pub returns-in-Ok : goal.returns-in-Ok
 returns-in-Ok g c =
     let bytes = c.args.bytes.now in
-    let order = host_order c.args.sight.now.inputs.now.host.now in
+    let order = host_order c.args.context.now.inputs.now.host.now in
     let is = ap (λ (o : Order). opened_beside o bytes) (sym c.order.ensures)
     ∙ (sym c.read_beside.ensures ∙ c.in-Ok.is) in
-    let all = can_read (path_of (c.args.sight.now.inputs.now.host_path.now
-    ∷ contents c.args.sight.now.inputs.now.paths.now) c.args.file) (option_map (λ (h : Bor
-    (List Record)). h.now) c.args.sight.now.host)
-    (map seen c.args.sight.now.list.now) order bytes c.args.file c.in-Ok.dict is in
+    let all = can_read (path_of (c.args.context.now.inputs.now.host_path.now
+    ∷ contents c.args.context.now.inputs.now.paths.now) c.args.file) (option_map (λ (h : Bor
+    (List Record)). h.now) c.args.context.now.host)
+    (map seen c.args.context.now.list.now) order bytes c.args.file c.in-Ok.dict is in
     on_ok_weaker c.look_at_dictionary.result
     (λ more. adds_is (sym all) (none_then c.in_ok-add_other.ensures more))
     c.look_at_dictionary.ensures
@@ -28,13 +28,13 @@ returns-in-Ok g c =
 pub returns-in-Err : goal.returns-in-Err
 returns-in-Err g c =
     let bytes = c.args.bytes.now in
-    let order = host_order c.args.sight.now.inputs.now.host.now in
+    let order = host_order c.args.context.now.inputs.now.host.now in
     let is = ap (λ (o : Order). opened_beside o bytes) (sym c.order.ensures)
     ∙ (sym c.read_beside.ensures ∙ c.in-Err.is) in
-    let none = cannot_read (path_of (c.args.sight.now.inputs.now.host_path.now
-    ∷ contents c.args.sight.now.inputs.now.paths.now) c.args.file) (option_map (λ (h : Bor
-    (List Record)). h.now) c.args.sight.now.host)
-    (map seen c.args.sight.now.list.now) order bytes c.args.file _ is in
+    let none = cannot_read (path_of (c.args.context.now.inputs.now.host_path.now
+    ∷ contents c.args.context.now.inputs.now.paths.now) c.args.file) (option_map (λ (h : Bor
+    (List Record)). h.now) c.args.context.now.host)
+    (map seen c.args.context.now.list.now) order bytes c.args.file _ is in
     on_ok_weaker c.add_other-in-Err.result
     (λ more. adds_is (sym none) (none_then c.in_ok-add_other.ensures more))
     c.add_other-in-Err.ensures

@@ -9,15 +9,15 @@ use Rattle.ps_warnings.proofs.looks.links.look_at.Goals as goal
 
 pub returns-in-Ok : goal.returns-in-Ok
 returns-in-Ok g c =
-    let all = host_read (c.args.sight.now.inputs.now.host_path.now
-    ∷ contents c.args.sight.now.inputs.now.paths.now) c.args.sight.now.inputs.now.host.now
-    (map seen c.args.sight.now.list.now) c.in-Ok.host (sym c.read.ensures ∙ c.in-Ok.is) in
+    let all = host_read (c.args.context.now.inputs.now.host_path.now
+    ∷ contents c.args.context.now.inputs.now.paths.now) c.args.context.now.inputs.now.host.now
+    (map seen c.args.context.now.list.now) c.in-Ok.host (sym c.read.ensures ∙ c.in-Ok.is) in
     on_ok_weaker c.look_at_units.result (λ more. adds_is (sym all) more) c.look_at_units.ensures
 
 pub returns-in-Err : goal.returns-in-Err
 returns-in-Err g c =
-    let none = host_unread (c.args.sight.now.inputs.now.host_path.now
-    ∷ contents c.args.sight.now.inputs.now.paths.now) c.args.sight.now.inputs.now.host.now
-    (map seen c.args.sight.now.list.now) _ (sym c.read.ensures ∙ c.in-Err.is) in
+    let none = host_unread (c.args.context.now.inputs.now.host_path.now
+    ∷ contents c.args.context.now.inputs.now.paths.now) c.args.context.now.inputs.now.host.now
+    (map seen c.args.context.now.list.now) _ (sym c.read.ensures ∙ c.in-Err.is) in
     adds_is (sym none) (adds_none (link_looks c.args.looks.now.warnings.items
     c.args.looks.now.harmless.items))

@@ -12,7 +12,7 @@ pub returns : goal.returns
 unfolding looks_of_unit
 returns g c =
     let s = seen c.args.segment.now in
-    let ss = c.args.sight.now.list.now in
+    let ss = c.args.context.now.list.now in
     let spelled = c.other_spelling-other.ensures
     ∙ (ap (λ (l : List Segment). other_spelling (map seen l) s) c.before-earlier.ensures
     ∙ ap (λ (l : List Seen). other_spelling l s) (sym (take-map seen c.args.index ss))) in

@@ -13,19 +13,19 @@ loop-index-init g c = owes_all refl
 
 pub loop-index-preserved : goal.loop-index-preserved
 loop-index-preserved g c =
-    let ss = c.args.sight.now.list.now in
+    let ss = c.args.context.now.list.now in
     let i = c.loop-index.index in
-    owes_less (numbered_left (looks_of_unit (c.args.sight.now.inputs.now.host_path.now
-    ∷ contents c.args.sight.now.inputs.now.paths.now) c.args.host.now.order
+    owes_less (numbered_left (looks_of_unit (c.args.context.now.inputs.now.host_path.now
+    ∷ contents c.args.context.now.inputs.now.paths.now) c.args.host.now.order
     c.args.host.now.file (map seen ss)) i (map seen ss) i _
     (seen_left ss i _ (drop_more ss i _ c.loop-index-test.true)))
     c.loop-index.invariant c.in_ok-look_at_unit.ensures
 
 pub returns : goal.returns
 returns g c =
-    let ss = c.args.sight.now.list.now in
+    let ss = c.args.context.now.list.now in
     let i = c.loop-index.index in
-    owes_none (numbered_over (looks_of_unit (c.args.sight.now.inputs.now.host_path.now
-    ∷ contents c.args.sight.now.inputs.now.paths.now) c.args.host.now.order
+    owes_none (numbered_over (looks_of_unit (c.args.context.now.inputs.now.host_path.now
+    ∷ contents c.args.context.now.inputs.now.paths.now) c.args.host.now.order
     c.args.host.now.file (map seen ss)) i (map seen ss) i
     (seen_over ss i c.loop-index-test.false)) c.loop-index.invariant

@@ -10,8 +10,8 @@ use Rattle.ps_warnings.proofs.looks.links.look_at_units.Given as goal
 -- what looks wrong in the segments that are left is still to be added
 abbrev pub invariant-loop-index : goal.invariant-loop-index
 invariant-loop-index g l =
-    let paths = l.sight.inputs.now.host_path.now ∷ contents l.sight.inputs.now.paths.now in
-    let list = map seen l.sight.list.now in
+    let paths = l.context.inputs.now.host_path.now ∷ contents l.context.inputs.now.paths.now in
+    let list = map seen l.context.list.now in
     Owes (link_looks l.fn.looks.warnings.items l.fn.looks.harmless.items)
     (looks_of_units paths l.host.order l.host.file list)
     (flat_map (looks_of_unit paths l.host.order l.host.file list)

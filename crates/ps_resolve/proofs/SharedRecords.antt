@@ -1,0 +1,137 @@
+-- Segments that have the same records, since their link information begins in one block of one
+-- file.
+use Rattle.std.proofs.Common.{◌≡◌, ◌∙◌, ℕ, suc, zero, ◌+◌, ◌<◌, ◌++◌, List, [], ◌∷◌, length, take, get_or, Bool, true, false, Option, None, Result, Ok, Err, refl, sym, arith, add-one}
+use Rattle.std.specs.Prelude.{All, IfSome, is_some}
+use Rattle.std.proofs.lemmas.List.{nil_from_length}
+use Rattle.std.proofs.lemmas.List.Elements.{All-nil, All-cons, All-head, All-tail}
+use Rattle.std.proofs.lemmas.List.Sums.{sum_by-cons}
+use Rattle.ps_words.specs.declared.order.Order.{Order}
+use Rattle.ps_words.specs.declared.fault.Reason.{Reason}
+use Rattle.ps_linkinfo.specs.Records.{refs_of}
+use Rattle.ps_linkinfo.specs.RecordCounts.{is_private_reference, privates_in, references_in}
+use Rattle.ps_linkinfo.specs.declared.record.Body.{Body}
+use Rattle.ps_linkinfo.specs.declared.record.LinkRecord.{LinkRecord as Record}
+use Rattle.ps_codefile.specs.Roles.{needs_linking}
+use Rattle.ps_resolve.specs.Sources.{Segment, file_at}
+use Rattle.ps_resolve.specs.KnownSegments.{ArePlacedIn, IsRead, IsSound, IsLike, AreAlike, HasRecordsAt}
+use Rattle.ps_resolve.specs.Operands.{operands}
+use Rattle.ps_resolve.specs.References.{Known, HasTarget, HaveTargets, target_in, target_of, words_taken, records_fault}
+use Rattle.ps_resolve.specs.declared.references.Target.{Target}
+use Rattle.ps_resolve.proofs.RecordCounts.{one_private}
+use Rattle.ps_resolve.proofs.FirstSlots.{neither_second}
+use Rattle.ps_resolve.proofs.NextRecords.{NoLinks, record_by, record_stands, edits_more}
+use Rattle.ps_resolve.proofs.LookingBack.{words_before}
+
+-- segments that were read are alike, and each is sound
+pub read_alike : (order : Order) (host : List ℕ) (libs : List (List ℕ))
+    (segs : List Segment) → All (IsRead order host libs) segs → AreAlike segs
+read_alike order host libs segs all = grind arith
+
+pub all_sound : (order : Order) (host : List ℕ) (libs : List (List ℕ)) (segs : List Segment)
+    → All (IsRead order host libs) segs → All (IsSound order) segs
+all_sound order host libs segs all = grind arith
+
+-- the link information of those from a file, by its number, is there
+pub placed_in : (order : Order) (host : List ℕ) (libs : List (List ℕ)) (k : ℕ)
+    (segs : List Segment) → All (IsRead order host libs) segs
+    → ArePlacedIn order (file_at host libs k) k segs
+placed_in order host libs k segs all = grind arith
+
+-- what holds of the records of each segment holds of those of one that is like them
+pub of_shared : (P : List Record → Type 0) (segs : List Segment) (s : Segment)
+    (rs : List Record) → needs_linking s.role ≡ true → All (IsLike s) segs
+    → All (λ q. P q.records) segs → HasRecordsAt segs s.file s.block rs → P s.records
+of_shared P segs s rs linked alike all h = grind arith
+
+-- what holds of an item that may be there, where it is there
+pub found : {X : Type 0} (P : X → Type 0) (o : Option X) → is_some o ≡ true → IfSome o P
+    → (x : X) × P x
+found P o is h = grind arith
+
+-- what holds of the first i items, and of the one at i, holds of the first i + 1
+taken_suc : {X : Type 0} (P : X → Type 0) (i : ℕ) (xs : List X) (x : X) → i < length xs
+    → x ≡ get_or xs i x → All P (take i xs) → P x → All P (take (suc i) xs)
+taken_suc P i [] x lt is all h = absurd (omega arith)
+taken_suc P zero (y ∷ ys) x lt is all h = grind arith
+taken_suc P (suc i) (y ∷ ys) x lt is all h =
+    grind (
+      arith,
+      All-head,
+      All-tail,
+      taken_suc P i ys x (omega arith) is (All-tail P y (take i ys) all) h,
+    )
+
+-- one more of the first items
+pub all_taken : {X : Type 0} (P : X → Type 0) (i : ℕ) (xs : List X) (x : X) → i < length xs
+    → x ≡ get_or xs i x → All P (take i xs) → P x → All P (take (i + 1) xs)
+all_taken P i xs x lt is all h = rw add-one (taken_suc P i xs x lt is all h)
+
+-- what a record's references become is known with any offset, where it is with one
+rebased : (known : Known) (off other : ℕ) (r : Record) (t : Target)
+    → target_of known off r ≡ Ok t → (u : Target) × (target_of known other r ≡ Ok u)
+rebased known off other r t h = at r.body refl
+  where
+    kept : (b : Body) → r.body ≡ b → target_in known other r.name b
+        ≡ target_in known off r.name b → (u : Target) × (target_of known other r ≡ Ok u)
+    kept b e same = (
+      t,
+      grind arith,
+    )
+
+    at : (b : Body) → r.body ≡ b → (u : Target) × (target_of known other r ≡ Ok u)
+    at b e = grind (arith, kept)
+
+-- where no record has a fault, it is known of each what its references become
+pub have_targets : (known : Known) (R : ℕ → Bool) (code : List ℕ) (rs : List Record)
+    (n off : ℕ) (os : List (ℕ × ℕ)) → records_fault known R code n off os rs ≡ None
+    → HaveTargets known rs
+have_targets known R code [] n off os h = All-nil (HasTarget known)
+have_targets known R code (r ∷ rs) n off os h =
+    at (λ m free ps k. have_targets known R code rs m free ps k) (target_of known off r) refl
+  where
+    at : ((m free : ℕ) (ps : List (ℕ × ℕ))
+        → records_fault known R code m free ps rs ≡ None → HaveTargets known rs)
+        → (o : Result Target Reason) → target_of known off r ≡ o
+        → HaveTargets known (r ∷ rs)
+    at rest (Err why) e = cc
+    at rest (Ok t) e =
+        let behind = neither_second _ _ (sym (record_by known R code n off os r rs t e) ∙ h) in
+        All-cons (HasTarget known) r rs (rebased known off 0 r t e)
+        (rest (n + 1) (off + words_taken r.body) (os ++ operands t (refs_of r.body)) behind)
+
+-- a record that does not request a private takes no words
+no_words : (b : Body) → is_private_reference b ≡ false → words_taken b ≡ 0
+no_words b h = grind arith
+
+-- where none of them has a reference or requests a private, there is no edit, no fault and no word
+pub no_references : (known : Known) (R : ℕ → Bool) (code : List ℕ) (rs : List Record)
+    (n off : ℕ) (os : List (ℕ × ℕ)) → HaveTargets known rs → references_in rs ≡ 0
+    → privates_in rs ≡ 0 → NoLinks known R code n off os rs
+no_references known R code [] n off os named none unrequested = grind arith
+no_references known R code (r ∷ rs) n off os named none unrequested =
+    at (λ m free ps h k. no_references known R code rs m free ps
+    (All-tail (HasTarget known) r rs named) h k) (is_private_reference r.body) refl
+  where
+    counted : references_in (r ∷ rs) ≡ length (refs_of r.body) + references_in rs
+    counted = sum_by-cons (λ (s : Record). length (refs_of s.body)) r rs
+
+    passed : (t : Target) → target_of known off r ≡ Ok t → refs_of r.body ≡ []
+        → words_taken r.body ≡ 0 → ((m free : ℕ) (ps : List (ℕ × ℕ))
+        → NoLinks known R code m free ps rs) → NoLinks known R code n off os (r ∷ rs)
+    passed t e empty words rest = grind (
+      arith,
+      edits_more known R code n off os r rs,
+      record_stands known R code n off os r rs t e,
+      words_before r rs,
+    )
+
+    at : ((m free : ℕ) (ps : List (ℕ × ℕ)) → references_in rs ≡ 0
+        → privates_in rs ≡ 0 → NoLinks known R code m free ps rs) → (b : Bool)
+        → is_private_reference r.body ≡ b → NoLinks known R code n off os (r ∷ rs)
+    at rest true e = let a = one_private r rs true e in absurd (omega arith)
+    at rest false e =
+        let a = one_private r rs false e in
+        let head = All-head (HasTarget known) r rs named in
+        let empty : refs_of r.body ≡ [] =
+        nil_from_length (refs_of r.body) (omega (arith, counted)) in
+        grind (arith, no_words, counted, passed)
