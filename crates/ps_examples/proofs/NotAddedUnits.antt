@@ -28,17 +28,17 @@ pub its_own_record_alone : (g : UnitReference) (s : Segment) → g.name ≡ aux
 its_own_record_alone g s name h =
     let t = (h.requested 0 g refl).0 in
     go t.0 (subst (λ (own : List Segment). t.0 < length own + 0) own_of_itself t.1)
-    (subst (λ (own : List Segment). RequestsAt (own ++ s ∷ []) t.0 g.rec g.name) own_of_itself
+    (subst (λ (own : List Segment). RequestsAt (own ++ s ∷ []) t.0 g.at.rec g.name) own_of_itself
     t.2.1)
   where
-    go : (i : ℕ) → i < 2 → RequestsAt (demo_segment ∷ util_segment ∷ s ∷ []) i g.rec g.name
+    go : (i : ℕ) → i < 2 → RequestsAt (demo_segment ∷ util_segment ∷ s ∷ []) i g.at.rec g.name
         → ⊥
     go zero l a = no_name demo_segment aux (count_aux, (blank_aux, tt))
         (subst (λ (q : Segment). RequestsName q aux) (sym (same demo_segment a.0 a.1))
-        (g.rec, a.2, a.3, (a.4, a.5 ∙ name)))
+        (g.at.rec, a.2, a.3, (a.4, a.5 ∙ name)))
     go (suc zero) l a = no_name util_segment aux (count_aux, (state_aux, (blank_aux, tt)))
         (subst (λ (q : Segment). RequestsName q aux) (sym (same util_segment a.0 a.1))
-        (g.rec, a.2, a.3, (a.4, a.5 ∙ name)))
+        (g.at.rec, a.2, a.3, (a.4, a.5 ∙ name)))
     go (suc (suc i)) l a = omega (arith, l)
 
 -- the queue is not empty where UTIL requests AUX

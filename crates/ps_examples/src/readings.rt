@@ -67,7 +67,7 @@ pub fn added_units_after_a_fault()
         ≡ Some (record {
           name = aux;
           slot = 8;
-          requester = Record (record { file = 1; slot = 7; rec = 0 });
+          requester = Record (record { segment = record { file = 1; slot = 7 }; rec = 0 });
         }) }
     ensures its_entry { slot_entry Little host
         (with_odd_aux (library_of_used (util_information Little)) ∷ []) 8 ≡ Some (1, 3) }
@@ -79,11 +79,11 @@ pub fn added_units_after_a_fault()
         ≡ Some (record {
           name = aux;
           slot = 9;
-          requester = Record (record { file = 1; slot = 7; rec = 1 });
+          requester = Record (record { segment = record { file = 1; slot = 7 }; rec = 1 });
         }) }
     ensures and_has_an_entry { slot_entry Little host (library_naming_two ∷ []) 9
         ≡ Some (1, 3) }
     ensures both_names { read_requests Little host (library_naming_two ∷ [])
-        ≡ (record { name = nobody; file = 1; slot = 7; rec = 0 })
-        ∷ (record { name = aux; file = 1; slot = 7; rec = 1 }) ∷ [] }
+        ≡ (record { name = nobody; at = record { segment = record { file = 1; slot = 7 }; rec = 0 } })
+        ∷ (record { name = aux; at = record { segment = record { file = 1; slot = 7 }; rec = 1 } }) ∷ [] }
 {}

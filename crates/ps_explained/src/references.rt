@@ -2,7 +2,7 @@
 use crate::cases::Case;
 use ps_linkinfo::{Body, LinkRecord, Operand, Sort};
 use ps_pcode::procedures_of;
-use ps_resolve::{ReferenceAt, covering_reference};
+use ps_resolve::{RecordAt, ReferenceAt, SegmentAt, covering_reference};
 use ps_warnings::host_of;
 use ps_words::{Name, get_big};
 
@@ -34,14 +34,21 @@ impl<'a> Case<'_, 'a> {
         procedures.table_with(first).or(procedures.table_with(last))
     }
 
+    /// Where the reference is that the fault is in.
+    fn reference_at(&self) -> Option<ReferenceAt> {
+        let (file, slot) = (self.fault.file, self.fault.slot?);
+        let segment = SegmentAt { file, slot };
+        let (rec, reference) = (self.fault.rec?, self.fault.reference?);
+        let at = RecordAt { segment, rec };
+        Some(ReferenceAt { at, reference })
+    }
+
     /// The earlier reference that covers a byte of this one, and its record.
     /// Source: this project's profile.
     pub fn earlier_reference(&self) -> Option<(ReferenceAt, LinkRecord<'a>)> {
-        let (rec, reference) = (self.fault.rec?, self.fault.reference?);
         let records = self.segment?.records();
-        let place = ReferenceAt { rec, reference };
-        let earlier = covering_reference(&records, place, self.operand()?)?;
-        Some((earlier, records.record(earlier.rec)?))
+        let earlier = covering_reference(&records, self.reference_at()?, self.operand()?)?;
+        Some((earlier, records.record(earlier.at.rec)?))
     }
 
     /// The value of the references of a record: the base offset of its private variable, or the

@@ -41,8 +41,8 @@ split_at {A} (x ∷ xs) ys (suc p) a e = grind (arith, split_at xs ys p a e)
 -- those of one segment
 abbrev IsOf : ℕ → ℕ → ℕ → List Record → UnitReference → ℕ → Type 0
 IsOf file slot n rs g j = (r : Record) × (slice_get rs j ≡ Some r)
-    × (is_unit_reference r.body ≡ true) × (r.name ≡ g.name) × (g.rec ≡ n + j)
-    × (g.file ≡ file) × (g.slot ≡ slot)
+    × (is_unit_reference r.body ≡ true) × (r.name ≡ g.name) × (g.at.rec ≡ n + j)
+    × (g.at.segment.file ≡ file) × (g.at.segment.slot ≡ slot)
 
 module _ (file slot : ℕ) where
   -- each unit reference of a sequence of records is of a UNITREF among them, with its name and
@@ -58,7 +58,7 @@ module _ (file slot : ℕ) where
   -- the unit references of a sequence of records are in the order of the records
   references_ascend : (n : ℕ) (rs : List Record) (p q : ℕ) (g h : UnitReference)
       → p < q → slice_get (unit_references file slot n rs) p ≡ Some g
-      → slice_get (unit_references file slot n rs) q ≡ Some h → g.rec < h.rec
+      → slice_get (unit_references file slot n rs) q ≡ Some h → g.at.rec < h.at.rec
   references_ascend n [] p q g h l e u = absurd (cc)
   references_ascend n (x ∷ rs) p q g h l e u =
       grind (arith, reference_is, references_ascend (n + 1) rs)
@@ -98,7 +98,7 @@ of_place (s ∷ ss) p g e = elim (split_at (references_of s) (all_unit_reference
 -- a record that requests a name has its unit reference among those of all
 requests_at : (segs : List Segment) (j rec : ℕ) (name : List ℕ) → RequestsAt segs j rec name
     → (p : ℕ) × (h : UnitReference) × (owner segs p ≡ j)
-    × (slice_get (all_unit_references segs) p ≡ Some h) × (h.name ≡ name) × (h.rec ≡ rec)
+    × (slice_get (all_unit_references segs) p ≡ Some h) × (h.name ≡ name) × (h.at.rec ≡ rec)
 requests_at [] j rec name t = absurd (let e = t.1 in cc)
 requests_at (q ∷ ss) zero rec name t =
     let there : slice_get q.records rec ≡ Some t.2 = (let a = t.1 in let b = t.3 in cc) in
@@ -116,7 +116,7 @@ requests_at (q ∷ ss) (suc j) rec name t =
 in_order : (segs : List Segment) (p q : ℕ) (g h : UnitReference) → p < q
     → slice_get (all_unit_references segs) p ≡ Some g
     → slice_get (all_unit_references segs) q ≡ Some h
-    → Before (owner segs p ∷ g.rec ∷ []) (owner segs q ∷ h.rec ∷ [])
+    → Before (owner segs p ∷ g.at.rec ∷ []) (owner segs q ∷ h.at.rec ∷ [])
 in_order [] p q g h l e u = absurd (cc)
 in_order (s ∷ ss) p q g h l e u = let rest = in_order ss in
     grind (arith, split_at, owner_first, owner_later, references_ascend, slice_get_within, rest)
@@ -194,24 +194,24 @@ giver units segs k p g t = ((of.0, of.1, of.3.5, of.3.6), requested, first)
         × IsOf s.file s.slot 0 s.records g d
     of = of_place segs p g t.0
 
-    requested : RequestsAt segs (owner segs p) g.rec g.name
+    requested : RequestsAt segs (owner segs p) g.at.rec g.name
     requested = (of.0, of.1, of.3.0, (let a = of.3.4 in let b = of.3.1 in grind arith), of.3.2, of.3.3)
 
-    first : (j k : ℕ) → Before (j ∷ k ∷ []) (owner segs p ∷ g.rec ∷ [])
+    first : (j k : ℕ) → Before (j ∷ k ∷ []) (owner segs p ∷ g.at.rec ∷ [])
         → RequestsAt segs j k g.name → ⊥
     first j n b requests =
         let a = requests_at segs j n g.name requests in
-        let before : Before (owner segs a.0 ∷ a.1.rec ∷ []) (owner segs p ∷ g.rec ∷ []) =
+        let before : Before (owner segs a.0 ∷ a.1.at.rec ∷ []) (owner segs p ∷ g.at.rec ∷ []) =
         rw (a.2, a.5) b in
         elim (cases_order a.0 p) [
           | inl same ↦
               let one : a.1 ≡ g = (let u = a.3 in let v = t.0 in cc) in
-              let itself : Before (owner segs p ∷ g.rec ∷ []) (owner segs p ∷ g.rec ∷ []) =
+              let itself : Before (owner segs p ∷ g.at.rec ∷ []) (owner segs p ∷ g.at.rec ∷ []) =
               rw (same, one) at before in
-              not_both (owner segs p ∷ g.rec ∷ []) (owner segs p ∷ g.rec ∷ []) itself itself
+              not_both (owner segs p ∷ g.at.rec ∷ []) (owner segs p ∷ g.at.rec ∷ []) itself itself
           | inr u ↦ elim u [
             | inl l ↦ distinct units [] (all_unit_references segs) k p a.0 g a.1 t l a.3 a.4
-            | inr l ↦ not_both (owner segs a.0 ∷ a.1.rec ∷ []) (owner segs p ∷ g.rec
+            | inr l ↦ not_both (owner segs a.0 ∷ a.1.at.rec ∷ []) (owner segs p ∷ g.at.rec
                 ∷ []) before
                 (in_order segs p a.0 g a.1 l t.0 a.3)
           ]
@@ -392,7 +392,7 @@ module _ (order : Order) (host : List ℕ) (libs : List (List ℕ))
     apart : (j k : ℕ) (g h : UnitReference) → j < k → slice_get queue j ≡ Some g
         → slice_get queue k ≡ Some h → g.name ≡ h.name → ⊥
     apart j k g h l e u same = let t = are_given j k g h l e u in
-        t.3.2 t.0 g.rec t.4 (subst (λ (n : List ℕ). RequestsAt all t.0 g.rec n) same t.2.1)
+        t.3.2 t.0 g.at.rec t.4 (subst (λ (n : List ℕ). RequestsAt all t.0 g.at.rec n) same t.2.1)
 
     is_once : (j k : ℕ) (g h : UnitReference) → slice_get queue j ≡ Some g
         → slice_get queue k ≡ Some h → g.name ≡ h.name → j ≡ k

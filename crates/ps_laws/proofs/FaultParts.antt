@@ -28,7 +28,7 @@ module _ (P : Reason → Type 0) where
 -- the slot of a record that requests a unit does not want one that no library has
 module _ (order : Order) (host : List ℕ) (libs : List (List ℕ))
     (not_wanted : (k : ℕ) (g : UnitReference) → IsRequested order host libs k g
-    → WantsMissing order host libs g.slot → ⊥) where
+    → WantsMissing order host libs g.at.segment.slot → ⊥) where
   abbrev Told : Fault → Type 0
   Told f = HasItsParts order host libs f
 
@@ -89,7 +89,7 @@ module _ (order : Order) (host : List ℕ) (libs : List (List ℕ))
 
   in_round : (k : ℕ) (f : Fault) → InRound order host libs k f → Told f
   in_round k f t = elim t.2 [
-    | inl m ↦ subst Told (sym m.0) (missing_requested t.0.file t.0.slot t.0.rec
+    | inl m ↦ subst Told (sym m.0) (missing_requested t.0.at.segment.file t.0.at.segment.slot t.0.at.rec
         (not_wanted k t.0 t.1))
     | inr (inl n) ↦ grind arith
     | inr (inr (slot, left, inl e)) ↦ of_entries order t.0.name libs slot f e

@@ -39,7 +39,7 @@ module _ (order : Order) (host : List ℕ) (libs : List (List ℕ)) where
 
   -- 3. the giver of a name that is requested
   pub not_wanted : (k : ℕ) (g : UnitReference) → IsRequested order host libs k g
-      → WantsMissing order host libs g.slot → ⊥
+      → WantsMissing order host libs g.at.segment.slot → ⊥
   not_wanted k g t wants =
       elim (split_at _ _ giver.0 s there) [
         | inl h ↦
@@ -63,5 +63,5 @@ module _ (order : Order) (host : List ℕ) (libs : List (List ℕ)) where
           giver.0 ≡ Some s
       there = giver.1.0.1
 
-      slot : g.slot ≡ s.slot
+      slot : g.at.segment.slot ≡ s.slot
       slot = giver.1.0.3

@@ -33,12 +33,12 @@ pub giver_moves : (xs ys : List Segment) (n i : ℕ) (g : UnitReference) → Agr
     → IsGiver xs i g → IsGiver ys i g
 giver_moves xs ys n i g same l t = (
   (t.0.0, sym (same i l) ∙ t.0.1, t.0.2, t.0.3),
-  requests_moves xs ys i g.rec g.name (same i l) t.1,
+  requests_moves xs ys i g.at.rec g.name (same i l) t.1,
   λ j rec b requests. t.2 j rec b (requests_moves ys xs j rec g.name
       (sym (same j (below j rec b))) requests),
 )
   where
-    below : (j rec : ℕ) → Before (j ∷ rec ∷ []) (i ∷ g.rec ∷ []) → j < n
+    below : (j rec : ℕ) → Before (j ∷ rec ∷ []) (i ∷ g.at.rec ∷ []) → j < n
     below j rec h = grind arith
 
 -- a giver among the own segments and the front of the others is one among all
@@ -49,28 +49,29 @@ giver_of_front own others k i g l t = giver_moves (own ++ take k others) (own ++
 
 -- two givers of a name are at one place
 same_place : (segs : List Segment) (i j : ℕ) (g h : UnitReference) → IsGiver segs i g
-    → IsGiver segs j h → g.name ≡ h.name → (i ≡ j) × (g.rec ≡ h.rec)
+    → IsGiver segs j h → g.name ≡ h.name → (i ≡ j) × (g.at.rec ≡ h.at.rec)
 same_place segs i j g h a b same = (
   at,
-  not_apart g.rec h.rec (λ l. earlier (inr (at, inl l)))
+  not_apart g.at.rec h.at.rec (λ l. earlier (inr (at, inl l)))
       (λ l. later (inr (sym at, inl l))),
 )
   where
-    earlier : Before (i ∷ g.rec ∷ []) (j ∷ h.rec ∷ []) → ⊥
-    earlier l = b.2 i g.rec l (subst (λ n. RequestsAt segs i g.rec n) same a.1)
+    earlier : Before (i ∷ g.at.rec ∷ []) (j ∷ h.at.rec ∷ []) → ⊥
+    earlier l = b.2 i g.at.rec l (subst (λ n. RequestsAt segs i g.at.rec n) same a.1)
 
-    later : Before (j ∷ h.rec ∷ []) (i ∷ g.rec ∷ []) → ⊥
-    later l = a.2 j h.rec l (subst (λ n. RequestsAt segs j h.rec n) (sym same) b.1)
+    later : Before (j ∷ h.at.rec ∷ []) (i ∷ g.at.rec ∷ []) → ⊥
+    later l = a.2 j h.at.rec l (subst (λ n. RequestsAt segs j h.at.rec n) (sym same) b.1)
 
     at : i ≡ j
     at = not_apart i j (λ l. earlier (inl l)) (λ l. later (inl l))
 
 reference : List ℕ → ℕ → ℕ → ℕ → UnitReference
-reference name file slot rec = record { name = name; file = file; slot = slot; rec = rec }
+reference name file slot rec = record
+    { name = name; at = record { segment = record { file = file; slot = slot }; rec = rec } }
 
-alike : (g h : UnitReference) → g.name ≡ h.name → g.file ≡ h.file → g.slot ≡ h.slot
-    → g.rec ≡ h.rec
-    → reference g.name g.file g.slot g.rec ≡ reference h.name h.file h.slot h.rec
+alike : (g h : UnitReference) → g.name ≡ h.name → g.at.segment.file ≡ h.at.segment.file → g.at.segment.slot ≡ h.at.segment.slot
+    → g.at.rec ≡ h.at.rec
+    → reference g.name g.at.segment.file g.at.segment.slot g.at.rec ≡ reference h.name h.at.segment.file h.at.segment.slot h.at.rec
 alike g h name file slot rec = cc
 
 -- and are one reference
@@ -80,7 +81,7 @@ unfolding reference
 same_reference segs i j g h a b same = alike g h same (a.0.2 ∙ ap (λ (s : Segment). s.file)
     segment ∙ sym b.0.2) (a.0.3 ∙ ap (λ (s : Segment). s.slot) segment ∙ sym b.0.3) place.1
   where
-    place : (i ≡ j) × (g.rec ≡ h.rec)
+    place : (i ≡ j) × (g.at.rec ≡ h.at.rec)
     place = same_place segs i j g h a b same
 
     segment : a.0.0 ≡ b.0.0
@@ -117,7 +118,7 @@ module _ (order : Order) (host : List ℕ) (libs : List (List ℕ))
     no_other : (x : ℕ) (h : UnitReference) → k < x → slice_get other x ≡ Some h
         → h.name ≡ g.name → (y : UnitReference) → slice_get other k ≡ Some y → ⊥
     no_other x h later is name y first =
-        elim (A.complete j y.rec y.name back.1)
+        elim (A.complete j y.at.rec y.name back.1)
         [ inl has ↦ (B.requested k y first).1 has | inr t ↦ at_place t.0 t.1 t.2 t.3 ]
       where
         j : ℕ
@@ -139,7 +140,7 @@ module _ (order : Order) (host : List ℕ) (libs : List (List ℕ))
             let b = same_place (Own ++ segs) p.1 j z y p.3 back n in
             let c = same_place (Own ++ others) q.0 j y y q.2 giver refl in
             let d = same_place (Own ++ others) q.1 i h g q.3 there name in
-            not_both (i ∷ g.rec ∷ []) (j ∷ y.rec ∷ []) (before_at a.0 a.1 b.0 b.1 p.4)
+            not_both (i ∷ g.at.rec ∷ []) (j ∷ y.at.rec ∷ []) (before_at a.0 a.1 b.0 b.1 p.4)
             (before_at c.0 c.1 d.0 d.1 q.4)
 
         at_place : (m : ℕ) (z : UnitReference) → slice_get queue m ≡ Some z
@@ -173,7 +174,7 @@ module _ (order : Order) (host : List ℕ) (libs : List (List ℕ))
         behind u (Some y) e = no_other x h u is name y e
 
     pub same_name : slice_get other k ≡ Some g
-    same_name = elim (B.complete i g.rec g.name there.1)
+    same_name = elim (B.complete i g.at.rec g.name there.1)
         [ inl has ↦ absurd ((A.requested k g at).1 has) | inr t ↦ found t.0 t.1 t.2 t.3 ]
 
 -- 4. the segments

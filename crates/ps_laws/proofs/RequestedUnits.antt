@@ -98,7 +98,9 @@ module _ (order : Order) (host : List ℕ) (libs : List (List ℕ)) where
 -- the unit reference of a record, if it is a UNITREF
 abbrev pub reference_in : ℕ → ℕ → ℕ × Record → Option UnitReference
 reference_in file slot r = if is_unit_reference r.1.body
-    then Some (record { name = r.1.name; file = file; slot = slot; rec = r.0 }) else None
+    then Some (record
+    { name = r.1.name; at = record { segment = record { file = file; slot = slot }; rec = r.0 } })
+    else None
 
 -- the unit references of records are those of each, in their order
 pub references_are : (file slot n : ℕ) (rs : List Record) → unit_references file slot n rs
@@ -110,9 +112,10 @@ references_are file slot n (r ∷ rs) = grind (arith, references_are file slot (
 pub reference_of : (file slot n : ℕ) (rs : List Record) (j : ℕ) (r : Record)
     → slice_get rs j ≡ Some r → is_unit_reference r.body ≡ true → (p : ℕ)
     × (g : UnitReference) × (slice_get (unit_references file slot n rs) p ≡ Some g)
-    × (g.name ≡ r.name) × (g.rec ≡ n + j)
+    × (g.name ≡ r.name) × (g.at.rec ≡ n + j)
 reference_of file slot n rs j r e u =
-    let g : UnitReference = record { name = r.name; file = file; slot = slot; rec = n + j } in
+    let g : UnitReference = record
+    { name = r.name; at = record { segment = record { file = file; slot = slot }; rec = n + j } } in
     let t = in_filter_map _ _ (n + j, r) g (j, in_numbered n rs j r e) (rw u refl) in
     (t.0, g, ap (λ gs. slice_get gs t.0) (references_are file slot n rs) ∙ t.1, refl, refl)
 

@@ -219,11 +219,11 @@ module _ (law : OneStop) (spells : OneSpelling) (host : List ℕ) (libs : List (
         giver = given order host libs (take j (added_segments order host libs)) j g earlier
 
         requests : RequestsAt (own_segments order host libs ++ take j (added_segments order host libs))
-            giver.0 g.rec g.name
+            giver.0 g.at.rec g.name
         requests = giver.1.1
 
         requesting : RequestsName requests.0 s.name
-        requesting = (g.rec, requests.2, requests.3, (requests.4, requests.5 ∙ sym name))
+        requesting = (g.at.rec, requests.2, requests.3, (requests.4, requests.5 ∙ sym name))
 
     -- the name that is looked up in that round
     of_round : (g : UnitReference) → IsOfRound order host libs j g s

@@ -27,6 +27,7 @@ use Rattle.ps_resolve.specs.Requests.{is_missing, missing_at, request_by_slot}
 use Rattle.ps_resolve.specs.Sources.{own_segments, segment_from, segment_with, tables_of, information_block}
 use Rattle.ps_resolve.specs.Symbols.{first_duplicate}
 use Rattle.ps_resolve.specs.declared.edits.data_size.TheConstants.{MAX_DATA_SIZE}
+use Rattle.ps_resolve.specs.declared.locations.RecordAt.{RecordAt}
 use Rattle.ps_resolve.specs.declared.reading.request.Requester.{Requester}
 use Rattle.ps_resolve.specs.declared.reading.request.Requester.TheVariants.{Slot, Record as OfRecord}
 use Rattle.ps_resolve.proofs.EachRound.{request_parts, source_made, unit_there}
@@ -145,8 +146,11 @@ module _ (number : ℕ → ℕ) (same_host : number 0 ≡ 0) (block : Role → �
       (λ n. or_moved refiled _ _ _ _ (data_moved order segs) (λ n. references_moved order segs)))
 
   -- 2. the queue of the names that are requested
+  abbrev pub moved_at : RecordAt → RecordAt
+  moved_at p = record { segment = record p.segment { file = number p.segment.file }; rec = p.rec }
+
   abbrev pub given_from : UnitReference → UnitReference
-  given_from g = record g { file = number g.file }
+  given_from g = record g { at = moved_at g.at }
 
   one_references_moved : (file slot rec : ℕ) (rs : List Record)
       → unit_references (number file) slot rec rs
@@ -156,7 +160,8 @@ module _ (number : ℕ → ℕ) (same_host : number 0 ≡ 0) (block : Role → �
       go _ (is_unit_reference r.body) (one_references_moved file slot (rec + 1) rs)
     where
       g : UnitReference
-      g = record { name = r.name; file = file; slot = slot; rec = rec }
+      g = record
+          { name = r.name; at = record { segment = record { file = file; slot = slot }; rec = rec } }
 
       go : (gs : List UnitReference) (b : Bool)
           → gs ≡ map given_from (unit_references file slot (rec + 1) rs) → (if b
@@ -295,7 +300,7 @@ module _ (number : ℕ → ℕ) (same_host : number 0 ≡ 0) (block : Role → �
     -- who requests, where the number of the file is another
     abbrev requester_moved : Requester → Requester
     requester_moved Slot = Slot
-    requester_moved (OfRecord place) = OfRecord (record place { file = number place.file })
+    requester_moved (OfRecord place) = OfRecord (moved_at place)
 
     missing_moved : (slot : ℕ) (by : Requester) → missing_at slot (requester_moved by)
         ≡ refiled (missing_at slot by)
@@ -420,7 +425,7 @@ module _ (number : ℕ → ℕ) (same_host : number 0 ≡ 0) (block : Role → �
         → option_map (unplaced_fault order others) (option_map given_from o)
         ≡ option_map refiled (option_map (unplaced_fault order libs) o)
     unplaced None fits = refl
-    unplaced (Some g) (inl all) = λ i. Some (in_record (number g.file) g.slot g.rec
+    unplaced (Some g) (inl all) = λ i. Some (in_record (number g.at.segment.file) g.at.segment.slot g.at.rec
         (if same_missing g.name (chosen_library order g.name libs)
         (chosen_library order g.name others) (all g.name) i
         then reason.MissingUnit else reason.NoSlot))

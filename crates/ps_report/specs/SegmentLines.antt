@@ -29,7 +29,8 @@ name_in segs slot = option_map_or (λ s. s.name) (find (λ s. s.slot == slot) se
 -- a unit that is added for this record, the first that requests its name
 abbrev pub part_added : List Segment → Option UnitReference → SegmentPart
 part_added segs None = part.Wanted
-part_added segs (Some requester) = part.Added (name_in segs requester.slot) requester.rec
+part_added segs (Some requester) =
+    part.Added (name_in segs requester.at.segment.slot) requester.at.rec
 
 -- the first record that requests a unit of this name, among those of all names that are requested
 abbrev pub requester_of : List UnitReference → List ℕ → Option UnitReference

@@ -261,8 +261,8 @@ fn part_added(segments: &[LinkedSegment<'_>], requester: Option<UnitReference>) 
     match requester {
         None => SegmentPart::Wanted,
         Some(requester) => SegmentPart::Added {
-            requester: name_in(segments, requester.slot),
-            rec: requester.rec,
+            requester: name_in(segments, requester.at.segment.slot),
+            rec: requester.at.rec,
         },
     }
 }

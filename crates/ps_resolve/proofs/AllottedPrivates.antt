@@ -16,7 +16,7 @@ use Rattle.ps_resolve.specs.Standing.Definitions.{HasEarlierNamesake}
 use Rattle.ps_resolve.proofs.RecordCounts.{one_private}
 use Rattle.ps_resolve.proofs.LookingBack.{requests_is, names}
 use Rattle.ps_resolve.proofs.EarlierNames.{Stands, further, looked, one_name, same_names, there}
-use Rattle.ps_resolve.specs.declared.linkage.SegmentAt.{SegmentAt}
+use Rattle.ps_resolve.specs.declared.locations.SegmentAt.{SegmentAt}
 use Rattle.ps_resolve.specs.declared.linkage.Stop.{Stop}
 use Rattle.ps_resolve.specs.declared.allotment.Private.{Private}
 use Rattle.ps_resolve.specs.declared.allotment.TheConstants.{MAX_NEXT_FREE}

@@ -57,7 +57,8 @@ module _ (units : List (List ℕ × ℕ)) where
 
   module _ (file slot n : ℕ) (r : Record) (rs : List Record) where
     abbrev requested : UnitReference
-    requested = record { name = r.name; file = file; slot = slot; rec = n }
+    requested = record
+        { name = r.name; at = record { segment = record { file = file; slot = slot }; rec = n } }
 
     abbrev behind : List UnitReference
     behind = unit_references file slot (n + 1) rs
@@ -82,7 +83,8 @@ module _ (units : List (List ℕ × ℕ)) where
       gs = unit_references file slot (n + 1) rs
 
       g : UnitReference
-      g = record { name = r.name; file = file; slot = slot; rec = n }
+      g = record
+          { name = r.name; at = record { segment = record { file = file; slot = slot }; rec = n } }
 
       Known : List UnitReference → Type 0
       Known q = All (IsAlreadyKnown units q) (r ∷ rs)

@@ -45,7 +45,8 @@ references_named file slot rec [] all = All-nil IsNamed
 references_named file slot rec (r ∷ rs) all =
     let rest = references_named file slot (rec + 1) rs (All-tail HasWholeName r rs all) in
     cond_both (is_unit_reference r.body) _ _ (All IsNamed)
-    (λ _. All-cons IsNamed (record { name = r.name; file = file; slot = slot; rec = rec }) _
+    (λ _. All-cons IsNamed (record
+    { name = r.name; at = record { segment = record { file = file; slot = slot }; rec = rec } }) _
     (all 0 r (omega arith)) rest) (λ _. rest)
 
 -- so it is with the UNITREF records of all segments

@@ -28,7 +28,8 @@ abbrev pub unit_references : ℕ → ℕ → ℕ → List LinkRecord → List Un
 unit_references file slot rec [] = []
 unit_references file slot rec (r ∷ rs) =
     if is_unit_reference r.body
-    then record { name = r.name; file = file; slot = slot; rec = rec }
+    then record
+    { name = r.name; at = record { segment = record { file = file; slot = slot }; rec = rec } }
     ∷ unit_references file slot (rec + 1) rs
     else unit_references file slot (rec + 1) rs
 
@@ -66,17 +67,13 @@ empty_slots order host = filter (is_role is_empty order host) (range_with_len 7 
 
 -- the fault of a name for which no slot is left
 abbrev pub unplaced_fault : Order → List (List ℕ) → UnitReference → Fault
-unplaced_fault order libs g = in_record g.file g.slot g.rec
+unplaced_fault order libs g = in_record g.at.segment.file g.at.segment.slot g.at.rec
     (if is_missing order libs g.name then reason.MissingUnit else reason.NoSlot)
 
 -- the request of a name that takes this slot
 abbrev pub request_of : UnitReference → ℕ → Request
-request_of g slot = record {
-  name = g.name;
-  slot = slot;
-  requester =
-      Record (record { file = g.file; slot = g.slot; rec = g.rec });
-}
+request_of g slot = record
+    { name = g.name; slot = slot; requester = Record g.at }
 
 -- the first fault of a name that takes this slot
 abbrev pub placed_fault : Order → List ℕ → List (List ℕ) → UnitReference → ℕ

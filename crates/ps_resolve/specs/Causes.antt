@@ -12,7 +12,7 @@ use Rattle.ps_linkinfo.specs.declared.record.LinkRecord.{LinkRecord as Record}
 use Rattle.ps_resolve.specs.References.{words_taken_by}
 use Rattle.ps_resolve.specs.Searches.{first_of}
 use Rattle.ps_resolve.specs.Sources.{Segment}
-use Rattle.ps_resolve.specs.declared.causes.ReferenceAt.{ReferenceAt}
+use Rattle.ps_resolve.specs.declared.locations.ReferenceAt.{ReferenceAt}
 
 -- the two operands have a byte in common
 abbrev pub share_a_byte : Operand → Operand → Bool
@@ -29,12 +29,13 @@ first_covering operand n body = find (covers operand body) (range_with_len 0 n)
 
 -- of a record with this index so many references are before this place
 abbrev pub references_before : ReferenceAt → ℕ × Record → ℕ
-references_before place r = if nat_lt r.0 place.rec then length (refs_of r.1.body)
-    else (if r.0 == place.rec then place.reference else 0)
+references_before place r = if nat_lt r.0 place.at.rec then length (refs_of r.1.body)
+    else (if r.0 == place.at.rec then place.reference else 0)
 
--- that reference, as a place
+-- where that reference is
 abbrev pub covering_in : ReferenceAt → Operand → ℕ × Record → Option ReferenceAt
-covering_in place operand r = option_map (λ k. record { rec = r.0; reference = k })
+covering_in place operand r =
+    option_map (λ k. record { at = record place.at { rec = r.0 }; reference = k })
     (first_covering operand (references_before place r) r.1.body)
 
 -- the first reference, by record and then in the record's list, that is before this place and whose

@@ -14,7 +14,7 @@ use Rattle.ps_resolve.specs.References.{Known}
 use Rattle.ps_resolve.specs.Faults.{references_fault_from, size_fault}
 use Rattle.ps_resolve.specs.Operands.{reference_reason, refs_fault}
 use Rattle.ps_resolve.specs.Stops.{IsStop}
-use Rattle.ps_resolve.specs.declared.linkage.RecordAt.{RecordAt}
+use Rattle.ps_resolve.specs.declared.locations.RecordAt.{RecordAt}
 use Rattle.ps_resolve.specs.declared.linkage.Stop.{Stop}
 use Rattle.ps_resolve.specs.declared.references.Target.{Target}
 
@@ -27,7 +27,7 @@ reason_in tables taken target x = reference_reason
 abbrev pub refs_fault_at : RecordAt → ProcedureTables → Target → List (ℕ × ℕ)
     → List ℕ → Option Fault
 refs_fault_at place tables target taken refs =
-    option_map (λ f. in_reference place.file place.slot place.rec f.0 f.1)
+    option_map (λ f. in_reference place.segment.file place.segment.slot place.rec f.0 f.1)
     (refs_fault (is_reserved tables.order tables.code) tables.code target 0 taken refs)
 
 -- no segment from this one on has a fault of its references, or this is the first, or memory ran

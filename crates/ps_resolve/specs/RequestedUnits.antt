@@ -33,15 +33,15 @@ HasSlot order host name =
 -- the reference is of the i-th segment, and its record is the first of all that requests the name
 abbrev pub IsGiver : List Segment → ℕ → UnitReference → Type 0
 IsGiver segs i g =
-    ((s : Segment) × (slice_get segs i ≡ Some s) × (g.file ≡ s.file) × (g.slot ≡ s.slot))
-    × RequestsAt segs i g.rec g.name
-    × ((j rec : ℕ) → Before (j ∷ rec ∷ []) (i ∷ g.rec ∷ []) → RequestsAt segs j rec g.name
+    ((s : Segment) × (slice_get segs i ≡ Some s) × (g.at.segment.file ≡ s.file) × (g.at.segment.slot ≡ s.slot))
+    × RequestsAt segs i g.at.rec g.name
+    × ((j rec : ℕ) → Before (j ∷ rec ∷ []) (i ∷ g.at.rec ∷ []) → RequestsAt segs j rec g.name
     → ⊥)
 
 -- both are givers of their names, g before h
 abbrev pub AreGiven : List Segment → UnitReference → UnitReference → Type 0
 AreGiven segs g h = (i : ℕ) × (j : ℕ) × IsGiver segs i g × IsGiver segs j h
-    × Before (i ∷ g.rec ∷ []) (j ∷ h.rec ∷ [])
+    × Before (i ∷ g.at.rec ∷ []) (j ∷ h.at.rec ∷ [])
 
 -- the segment is that of the first library that has a filled entry of its name: the code, its
 -- tables, and the records after it, of such an entry

@@ -21,7 +21,8 @@ is_missing order libs name = is_nameless name || is_none (chosen_library order n
 -- the place of the fault of a unit that is missing: the slot that wants it, or the record
 abbrev pub missing_at : ℕ → Requester → Fault
 missing_at slot Slot = in_slot 0 slot reason.MissingUnit
-missing_at slot (Record place) = in_record place.file place.slot place.rec reason.MissingUnit
+missing_at slot (Record place) =
+    in_record place.segment.file place.segment.slot place.rec reason.MissingUnit
 
 -- the request of a slot of the host, for the unit of its name
 abbrev pub request_by_slot : Order → List ℕ → ℕ → Request

@@ -6,7 +6,8 @@ ghost use Rattle.ps_resolve.specs.Privates.{words_in, allotted_privates, private
 ghost use Rattle.ps_resolve.specs.Stops.{IsStop};
 ghost use Rattle.ps_resolve.specs.Builders.{HaveDistinctPrivates, HaveRoom, StopsPrivates, requested_of, all_requested, AreByRecord, words_of_all};
 
-use crate::linkage::{Linkage, SegmentAt, Stop};
+use crate::linkage::{Linkage, Stop};
+use crate::locations::SegmentAt;
 use crate::namesakes::first_duplicate_private;
 use crate::reading::segment::Segment;
 use ps_linkinfo::{Body, LinkInformation};

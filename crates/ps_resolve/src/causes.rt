@@ -4,19 +4,10 @@ ghost use Rattle.ps_linkinfo.specs.Numbered.{numbered_records};
 ghost use Rattle.ps_resolve.specs.Causes.{covering_in as covering_in_spec, covers as covers_spec, first_before, first_covering as first_covering_spec, records_before, references_before as references_before_spec, share_a_byte as share_a_byte_spec, words_before as words_before_spec};
 ghost use Rattle.ps_resolve.specs.References.{words_taken_by};
 
+use crate::locations::{RecordAt, ReferenceAt};
 use crate::reading::segment::Segment;
 use crate::references::records::words_taken;
 use ps_linkinfo::{LinkInformation, LinkRecord, Operand};
-
-/// Where a reference is in the link information of a segment.
-/// Source: this project's profile.
-#[derive(Clone, Copy, Debug, PartialEq, Eq)]
-pub struct ReferenceAt {
-    /// The index of its record, from 0.
-    pub rec: usize,
-    /// Its index in the record's list, from 0.
-    pub reference: usize,
-}
 
 /// The two operands have a byte in common.
 fn share_a_byte(a: Operand, b: Operand) -> bool
@@ -52,16 +43,16 @@ fn first_covering(operand: Operand, count: usize, entry: &LinkRecord<'_>) -> Opt
 fn references_before(place: ReferenceAt, rec: usize, entry: &LinkRecord<'_>) -> usize
     ensures { result ≡ references_before_spec place (rec, entry.now) }
 {
-    if rec < place.rec {
+    if rec < place.at.rec {
         entry.references()
-    } else if rec == place.rec {
+    } else if rec == place.at.rec {
         place.reference
     } else {
         0
     }
 }
 
-/// That reference, as a place.
+/// Where that reference is.
 fn covering_in(
     place: ReferenceAt,
     operand: Operand,
@@ -73,7 +64,10 @@ fn covering_in(
     let count = references_before(place, rec, entry);
     match first_covering(operand, count, entry) {
         None => None,
-        Some(reference) => Some(ReferenceAt { rec, reference }),
+        Some(reference) => Some(ReferenceAt {
+            at: RecordAt { rec, ..place.at },
+            reference,
+        }),
     }
 }
 

@@ -6,7 +6,8 @@ ghost use Rattle.ps_resolve.specs.Symbols.{definitions, definition_of, def_in, f
 ghost use Rattle.ps_resolve.specs.Stops.{IsStop, duplicate_fault};
 ghost use Rattle.ps_resolve.specs.Builders.{HaveNoNamesakes, StopsDefinitions};
 
-use crate::linkage::{Linkage, SegmentAt, Stop};
+use crate::linkage::{Linkage, Stop};
+use crate::locations::SegmentAt;
 use crate::name_hasher::{NameHasher, NameKey};
 use indexmap::IndexMap;
 use ps_linkinfo::{Body, LinkInformation, LinkRecord};

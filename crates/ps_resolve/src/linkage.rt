@@ -2,6 +2,7 @@ ghost use Rattle.std.specs.Prelude.{◌≡◌};
 ghost use Rattle.ps_words.specs.FaultPlaces.{in_record, in_reference};
 ghost use Rattle.ps_resolve.specs.declared.linkage.Stop.TheVariants.{Memory, Refused};
 
+use crate::locations::{RecordAt, SegmentAt};
 use ps_words::{Fault, Order, Reason};
 use std::alloc::{AllocError, AllocFailed};
 
@@ -31,66 +32,6 @@ impl<'a> Linkage<'a> {
     }
 }
 
-/// Where a segment is.
-#[derive(Clone, Copy)]
-pub(crate) struct SegmentAt {
-    /// The file that it comes from: 0 is the host file, k the k-th library, from 1.
-    pub(crate) file: usize,
-    /// Its slot in the host's segment dictionary, 0 to 15.
-    pub(crate) slot: u8,
-}
-
-impl SegmentAt {
-    /// Where the record of this index, from 0, of the segment's link information is.
-    pub(crate) fn record(self, rec: usize) -> RecordAt
-        ensures { result ≡ record { file = self.file; slot = self.slot; rec = rec } }
-    {
-        RecordAt {
-            file: self.file,
-            slot: self.slot,
-            rec,
-        }
-    }
-}
-
-/// Where the segment of a slot comes from.
-/// Source: this project's profile.
-#[derive(Clone, Copy, Debug, PartialEq, Eq)]
-pub struct EntryAt {
-    /// The file: 0 is the host file, k the k-th library, from 1.
-    pub file: usize,
-    /// The slot of its entry in the segment dictionary of that file, 0 to 15.
-    pub index: u8,
-}
-
-/// Where a record is.
-/// Source: this project's profile.
-#[derive(Clone, Copy)]
-pub struct RecordAt {
-    /// The file that its segment comes from: 0 is the host file, k the k-th library, from 1.
-    pub file: usize,
-    /// The segment's slot in the host's segment dictionary, 0 to 15.
-    pub slot: u8,
-    /// The record's index, from 0, in the segment's link information.
-    pub rec: usize,
-}
-
-impl RecordAt {
-    /// The record has this fault.
-    pub(crate) fn stop_for(self, reason: Reason) -> Stop
-        ensures { result ≡ Refused (in_record self.file self.slot self.rec reason) }
-    {
-        Stop::Refused(Fault::in_record(self.file, self.slot, self.rec, reason))
-    }
-
-    /// The record's reference of this index, from 0, has this fault.
-    pub(crate) fn reference_refused(self, reference: usize, reason: Reason) -> Stop
-        ensures { result ≡ Refused (in_reference self.file self.slot self.rec reference reason) }
-    {
-        Stop::Refused(Fault::in_reference(self.file, self.slot, self.rec, reference, reason))
-    }
-}
-
 /// Why nothing was built.
 /// Source: this project's profile.
 #[derive(Drop)]
@@ -99,6 +40,25 @@ pub enum Stop {
     Refused(Fault),
     /// Memory ran out.
     Memory,
+}
+
+impl RecordAt {
+    /// The record has this fault, so nothing is built.
+    pub(crate) fn stop_for(self, reason: Reason) -> Stop
+        ensures { result
+            ≡ Refused (in_record self.segment.file self.segment.slot self.rec reason) }
+    {
+        Stop::Refused(self.fault(reason))
+    }
+
+    /// The record's reference of this index, from 0, has this fault, so nothing is built.
+    pub(crate) fn reference_refused(self, reference: usize, reason: Reason) -> Stop
+        ensures { result ≡ Refused
+            (in_reference self.segment.file self.segment.slot self.rec reference reason) }
+    {
+        let SegmentAt { file, slot } = self.segment;
+        Stop::Refused(Fault::in_reference(file, slot, self.rec, reference, reason))
+    }
 }
 
 impl From<AllocError> for Stop {

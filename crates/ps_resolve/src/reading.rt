@@ -22,7 +22,7 @@ pub(crate) mod sources;
 pub(crate) mod unit_slots;
 pub(crate) mod units;
 
-use crate::linkage::EntryAt;
+use crate::locations::EntryAt;
 use crate::reading::added::{UnitReference, add_units, empty_slots, requested_by, slot_at};
 use crate::reading::host::HostSegment;
 use crate::reading::libraries::libraries_fault;

@@ -15,7 +15,8 @@ pub(crate) mod names;
 pub(crate) mod records;
 
 use crate::edit_table::EditTable;
-use crate::linkage::{RecordAt, Stop};
+use crate::linkage::Stop;
+use crate::locations::RecordAt;
 use ps_codefile::Procs;
 use ps_linkinfo::{Body, Refs};
 use ps_words::{Edit, MAX_OPERAND, MAX_WORD, Reason, get_big};

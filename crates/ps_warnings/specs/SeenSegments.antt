@@ -109,7 +109,7 @@ is_of_host h name = list_any (is_unit_of h name) slots
 abbrev pub part_by : HostFiles → List ℕ → Requester → Option SegmentPart
 part_by h name by.Slot = Some part.Wanted
 part_by h name (by.Record place) = if is_of_host h name then None
-    else Some (part.Added (name_in h place.slot) place.rec)
+    else Some (part.Added (name_in h place.segment.slot) place.rec)
 
 -- what the segment of a slot of this role is, that is not requested
 abbrev pub part_of_role : Result Role Reason → Option SegmentPart
@@ -154,7 +154,7 @@ seen_in host libs h slot = option_map (λ what. seen_with (Some slot) (name_in h
 -- what is seen of a unit that is requested and for which no slot is left
 abbrev pub seen_unit : HostFiles → UnitReference → Option Seen
 seen_unit h u = if is_of_host h u.name then None
-    else Some (seen_with None u.name (part.Added (name_in h u.slot) u.rec) None)
+    else Some (seen_with None u.name (part.Added (name_in h u.at.segment.slot) u.at.rec) None)
 
 -- that of the first name after those which take a slot
 unfoldable pub unplaced : HostFiles → Option Seen

@@ -325,7 +325,7 @@ fn requested_part(host: &HostReading<'_>, request: Request) -> Option<SegmentPar
                 None
             } else {
                 Some(SegmentPart::Added {
-                    requester: name_in(host, place.slot),
+                    requester: name_in(host, place.segment.slot),
                     rec: place.rec,
                 })
             }
@@ -441,13 +441,13 @@ fn segment_of<'a>(host: &HostReading<'a>, unit: &UnitReference) -> Option<Segmen
     if is_of_host(host, &unit.name) {
         return None;
     }
-    let requester = name_in(host, unit.slot);
+    let requester = name_in(host, unit.at.segment.slot);
     Some(Segment {
         slot: None,
         name: unit.name,
         part: SegmentPart::Added {
             requester,
-            rec: unit.rec,
+            rec: unit.at.rec,
         },
         source: None,
         is_missing: false,

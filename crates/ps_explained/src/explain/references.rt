@@ -1,7 +1,6 @@
 //! What is said of a reference, and of an operand that may not be where it is.
 use crate::cases::Case;
 use ps_filetype::ShownName;
-use ps_resolve::ReferenceAt;
 use std::fmt::{self, Formatter, Write};
 
 /// Bytes as they are, in two hexadecimal digits each.
@@ -69,9 +68,10 @@ pub(super) fn write_place<W: Write>(f: &mut Formatter<W>, case: &Case<'_, '_>) -
 
 /// The earlier reference that covers a byte of this one.
 pub(super) fn write_covered<W: Write>(f: &mut Formatter<W>, case: &Case<'_, '_>) -> fmt::Result {
-    let Some((ReferenceAt { rec, reference }, record)) = case.earlier_reference() else {
+    let Some((earlier, record)) = case.earlier_reference() else {
         return Ok(());
     };
+    let (rec, reference) = (earlier.at.rec, earlier.reference);
     let name = ShownName(record.name);
     writeln!(
         f,

@@ -10,7 +10,7 @@ ghost use Rattle.ps_resolve.specs.Faults.{is_role};
 ghost use Rattle.ps_resolve.specs.Readings.{read_segments};
 ghost use Rattle.ps_resolve.specs.KnownSegments.{put_by_slot, segments_in_slots, IsRead, AreAlike};
 
-use crate::linkage::{RecordAt, SegmentAt};
+use crate::locations::{RecordAt, SegmentAt};
 use crate::reading::request::{Request, Requester, read_unit, unit_named};
 use crate::reading::segment::Segment;
 use crate::reading::slots::{HostSlots, is_empty};
@@ -32,21 +32,15 @@ const MAX_REQUESTED: usize = 10;
 pub struct UnitReference {
     /// The name of a unit.
     pub name: Name,
-    /// The file that the record's segment comes from: 0 for the host, k for the k-th library.
-    pub file: usize,
-    /// The slot of the record's segment, 0 to 15.
-    pub slot: u8,
-    /// The index of the record in its segment's link information, from 0.
-    pub rec: usize,
+    /// Where the record is.
+    pub at: RecordAt,
 }
 
 impl Default for UnitReference {
     fn default() -> Self {
         UnitReference {
             name: [0; 8],
-            file: 0,
-            slot: 0,
-            rec: 0,
+            at: SegmentAt { file: 0, slot: 0 }.record(0),
         }
     }
 }
@@ -56,15 +50,10 @@ impl UnitReference {
     pub(crate) fn in_slot(&self, slot: u8) -> Request
         ensures { result ≡ request_of self.now slot }
     {
-        let place = RecordAt {
-            file: self.file,
-            slot: self.slot,
-            rec: self.rec,
-        };
         Request {
             name: self.name,
             slot,
-            requester: Requester::Record(place),
+            requester: Requester::Record(self.at),
         }
     }
 }
@@ -135,7 +124,7 @@ fn enqueue_record(
 )
     requires { length queue.old.items ≤ 10 }
     ensures { queue.new.items ≡ take 10 (requested_from units.now queue.old.items
-        (unit_references place.file place.slot place.rec (entry.now ∷ []))) }
+        (unit_references place.segment.file place.segment.slot place.rec (entry.now ∷ []))) }
 {
     match &entry.body {
         Body::UnitRef(_) => enqueue(
@@ -143,9 +132,7 @@ fn enqueue_record(
             queue,
             UnitReference {
                 name: entry.name,
-                file: place.file,
-                slot: place.slot,
-                rec: place.rec,
+                at: place,
             },
         ),
         Body::PublRef(_)
@@ -214,7 +201,7 @@ fn no_slot<'a>(host: &HostSlots<'a>, libs: &'a [&'a [u8]], requested: &UnitRefer
         None => Reason::MissingUnit,
         Some(_) => Reason::NoSlot,
     };
-    Fault::in_record(requested.file, requested.slot, requested.rec, reason)
+    requested.at.fault(reason)
 }
 
 /// The k-th request of the queue, from 0; `None` if the queue is shorter.

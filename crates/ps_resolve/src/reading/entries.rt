@@ -10,7 +10,7 @@ ghost use Rattle.ps_resolve.specs.Sources.{file_at, information_block, records_o
 ghost use Rattle.ps_resolve.specs.Faults.{code_fault, information_fault};
 ghost use Rattle.ps_resolve.specs.KnownSegments.{ArePlacedIn, IsRead};
 
-use crate::linkage::SegmentAt;
+use crate::locations::SegmentAt;
 use crate::reading::segment::{Resolvable, Segment, records_at};
 use ps_codefile::{Dict, ProcedureDictionary, Role};
 use ps_linkinfo::LinkInformation;

@@ -5,7 +5,7 @@ ghost use Rattle.ps_resolve.specs.Faults.{request_fault};
 ghost use Rattle.ps_resolve.specs.Requests.{as_requested as as_requested_spec, is_missing, missing_at, request_by_slot, requested_segment};
 ghost use Rattle.ps_resolve.specs.KnownSegments.{IsRead};
 
-use crate::linkage::{EntryAt, RecordAt, SegmentAt};
+use crate::locations::{EntryAt, RecordAt, SegmentAt};
 use crate::reading::entries::read_segment;
 use crate::reading::segment::Segment;
 use crate::reading::slots::{HOST_FILE, HostSlots};
@@ -55,9 +55,7 @@ impl Request {
     {
         match self.requester {
             Requester::Slot => Fault::in_slot(HOST_FILE, self.slot, Reason::MissingUnit),
-            Requester::Record(place) => {
-                Fault::in_record(place.file, place.slot, place.rec, Reason::MissingUnit)
-            }
+            Requester::Record(place) => place.fault(Reason::MissingUnit),
         }
     }
 }

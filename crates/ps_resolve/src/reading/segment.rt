@@ -4,7 +4,7 @@ ghost use Rattle.ps_linkinfo.specs.declared.record.LinkRecord.{LinkRecord as Rec
 ghost use Rattle.ps_codefile.specs.Roles.{needs_linking as needs_linking_spec};
 ghost use Rattle.ps_resolve.specs.KnownSegments.{has_records_at, HasRecordsAt};
 
-use crate::linkage::SegmentAt;
+use crate::locations::SegmentAt;
 use ps_codefile::{ProcedureDictionary, Role};
 use ps_linkinfo::LinkInformation;
 use ps_words::Name;

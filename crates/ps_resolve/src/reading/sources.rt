@@ -7,7 +7,7 @@ ghost use Rattle.ps_resolve.specs.Faults.{source_fault, sources_fault};
 ghost use Rattle.ps_resolve.specs.Readings.{read_segments};
 ghost use Rattle.ps_resolve.specs.KnownSegments.{IsRead};
 
-use crate::linkage::SegmentAt;
+use crate::locations::SegmentAt;
 use crate::reading::entries::read_segment;
 use crate::reading::request::{Request, read_unit};
 use crate::reading::segment::Segment;

@@ -5,7 +5,7 @@ ghost use Rattle.ps_codefile.specs.Dictionary.{slots};
 ghost use Rattle.ps_resolve.specs.Sources.{chosen_library as chosen_library_spec, file_at, is_named as is_named_spec, opened, opened_file, unit_source};
 ghost use Rattle.ps_resolve.specs.Faults.{entries_reason as entries_reason_spec};
 
-use crate::linkage::EntryAt;
+use crate::locations::EntryAt;
 use crate::reading::slots::library_file;
 use ps_codefile::Dict;
 use ps_codefile::dictionary_layout::SLOTS;

@@ -45,8 +45,8 @@ fn add_request(line: &mut Line, host: &HostReading, slot: u8)
         }
         Some(Requester::Record(place)) => {
             line.number("slot ", slot.into());
-            line.number(" is requested by file ", place.file);
-            line.number(" slot ", place.slot.into());
+            line.number(" is requested by file ", place.segment.file);
+            line.number(" slot ", place.segment.slot.into());
             line.number(" record ", place.rec);
             line.word("; ")
         }

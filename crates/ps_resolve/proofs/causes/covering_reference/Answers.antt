@@ -2,7 +2,7 @@ use Rattle.std.proofs.Common.{arith, ◌≡◌, ◌∷◌, List, ℕ, Some, None
 use Rattle.ps_linkinfo.specs.declared.operand.Operand.{Operand}
 use Rattle.ps_linkinfo.specs.declared.record.LinkRecord.{LinkRecord as Record}
 use Rattle.ps_resolve.specs.Causes.{covering_in, first_before}
-use Rattle.ps_resolve.specs.declared.causes.ReferenceAt.{ReferenceAt}
+use Rattle.ps_resolve.specs.declared.locations.ReferenceAt.{ReferenceAt}
 use Rattle.ps_resolve.proofs.causes.covering_reference.Goals as goal
 
 here : (place : ReferenceAt) (operand : Operand) (r : ℕ × Record) (rs : List (ℕ × Record))

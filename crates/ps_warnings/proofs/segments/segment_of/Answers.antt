@@ -12,7 +12,7 @@ returns-then-is_of_host c =
     let h = c.args.host.now in
     let u = c.args.unit.now in
     let found : Option Seen = Some (seen_with None u.name (part.Added
-    (name_in h u.slot) u.rec) None) in
+    (name_in h u.at.segment.slot) u.at.rec) None) in
     sym (ap (λ (b : Bool). if b then None else found)
     (sym c.is_of_host.ensures ∙ c.if-is_of_host.true))
 
@@ -21,16 +21,16 @@ returns c =
     let h = c.args.host.now in
     let u = c.args.unit.now in
     let found : Option Seen = Some (seen_with None u.name (part.Added
-    (name_in h u.slot) u.rec) None) in
+    (name_in h u.at.segment.slot) u.at.rec) None) in
     let s : Segment = record {
       slot = None;
       name = u.name;
       part = part.Added
-          c.name_in-requester.result u.rec;
+          c.name_in-requester.result u.at.rec;
       source = None;
       is_missing = false;
     } in
-    ap Some (seen_is s ∙ ap (λ (n : List ℕ). seen_with None u.name (part.Added n u.rec) None)
+    ap Some (seen_is s ∙ ap (λ (n : List ℕ). seen_with None u.name (part.Added n u.at.rec) None)
     c.name_in-requester.ensures)
     ∙ sym (ap (λ (b : Bool). if b then None else found)
     (sym c.is_of_host.ensures ∙ c.if-is_of_host.false))

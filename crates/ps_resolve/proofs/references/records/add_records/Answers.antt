@@ -12,7 +12,7 @@ use Rattle.ps_resolve.specs.Edits.{refs_fault_at}
 use Rattle.ps_resolve.specs.Faults.{in_segment}
 use Rattle.ps_resolve.specs.References.{Known, HaveTargets, records_fault}
 use Rattle.ps_resolve.specs.Stops.{IsStop}
-use Rattle.ps_resolve.specs.declared.linkage.RecordAt.{RecordAt}
+use Rattle.ps_resolve.specs.declared.locations.RecordAt.{RecordAt}
 use Rattle.ps_resolve.specs.declared.linkage.Stop.{Stop}
 use Rattle.ps_resolve.proofs.NumberedRecords.{one, none}
 use Rattle.ps_resolve.proofs.FirstSlots.{none_mapped as map_none}
