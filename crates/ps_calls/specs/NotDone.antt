@@ -53,7 +53,7 @@ StopsLink room host libs (TooSmall size) =
     (size ≤ LINKED_MAX) × ((file : List ℕ)
     × (LinkedFile host libs file × IsAbove size file room))
 
--- the same of a map
+-- nothing is mapped into this room, for the reasons for which nothing is linked
 abbrev pub StopsMap : List ℕ → List ℕ → List (List ℕ) → NotDone → Type 0
 StopsMap room host libs (Refused r) = IsRefusedFor host libs r
 StopsMap room host libs WrongLengths = ⊥
@@ -63,7 +63,7 @@ StopsMap room host libs NoMemory = NoneStandsInReading host libs
 StopsMap room host libs (TooSmall size) =
     NoneStands host libs × IsAbove size (map_of host libs) room
 
--- the same of what a code file has
+-- what a code file has is not shown in this room
 abbrev pub StopsShow : List ℕ → List ℕ → NotDone → Type 0
 StopsShow room file (Refused r) = IsUnshownFor file r
 StopsShow room file WrongLengths = ⊥

@@ -209,7 +209,7 @@ StopsKind k room host libs lengths names name_lengths (TooSmall size) =
     HasInputs (needs_names k) libs lengths names name_lengths
     × IsLong k (split names name_lengths) host (split libs lengths) room size
 
--- the same of a text that there may not be
+-- a text, which there may not be, is not put into this room
 abbrev pub StopsText : Option TextKind → List ℕ → List ℕ → List ℕ → List ℕ → List ℕ
     → List ℕ → NotDone → Type 0
 StopsText None room host libs lengths names name_lengths stop = stop ≡ NoSuchText

@@ -246,7 +246,7 @@ filled_host n = put_at 32 (flat_map (λ k. 3 ∷ 0 ∷ 5 ∷ 0 ∷ []) (range_wi
 abbrev pub with_odd_util : List ℕ → List ℕ
 with_odd_util file = put_at 10 (23 ∷ []) file
 
--- so that of AUX
+-- the library file, the code of whose AUX has an odd length
 abbrev pub with_odd_aux : List ℕ → List ℕ
 with_odd_aux file = put_at 14 (23 ∷ []) file
 

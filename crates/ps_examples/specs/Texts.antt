@@ -12,7 +12,7 @@ map_of_the_pair =
     ++ codes "private 07 STATE    offset 8 words 4\n"
     ++ codes "next 12 data 18 blocks 3\n"
 
--- the same where the host has the constant LIMIT, 9, too
+-- the map of the pair where the host has the constant LIMIT, 9, too
 abbrev pub map_with_a_constant : List ℕ
 map_with_a_constant =
     codes "segment 01 DEMO     file 0 entry 01 block 1 length 18\n"

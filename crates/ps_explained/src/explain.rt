@@ -10,7 +10,6 @@ mod references;
 
 use crate::cases::Case;
 use ps_filetype::ShownName;
-use ps_linkinfo::Body;
 use ps_words::Reason;
 use std::fmt::{self, Formatter, Write};
 
@@ -50,18 +49,6 @@ fn write_slot<W: Write>(f: &mut Formatter<W>, case: &Case<'_, '_>) -> fmt::Resul
     writeln!(f, "  segment {name}, of slot {slot:02} of the host")
 }
 
-/// How the report calls a kind of record.
-fn word_of(body: &Body<'_>) -> &'static str {
-    match body {
-        Body::UnitRef(_) => "UNITREF",
-        Body::PublRef(_) => "PUBLREF",
-        Body::PrivRef { .. } => "PRIVREF",
-        Body::PublDef(_) => "PUBLDEF",
-        Body::ConstDef(_) => "CONSTDEF",
-        Body::Eof(_) => "EOFMARK",
-    }
-}
-
 /// The record with its kind and its name, or what is there where it cannot be read.
 fn write_record<W: Write>(f: &mut Formatter<W>, case: &Case<'_, '_>) -> fmt::Result {
     let Some(rec) = case.fault.rec else {
@@ -70,7 +57,7 @@ fn write_record<W: Write>(f: &mut Formatter<W>, case: &Case<'_, '_>) -> fmt::Res
     let Some(record) = case.record() else {
         return records::write_unread(f, case, rec);
     };
-    let kind = word_of(&record.body);
+    let kind = record.body.kind().word();
     let name = ShownName(record.name);
     writeln!(f, "  record {rec}: {kind} {name}")
 }

@@ -103,7 +103,7 @@ code_file_word Library = codes "library"
 code_file_word Linked = codes "linked"
 code_file_word Mixed = codes "mixed"
 
--- the same of a file that can be read in this order
+-- a file that can be read in this order has a code
 abbrev pub has_code_beside : Order → List ℕ → Bool
 has_code_beside order file = option_map_or (λ f. has_code f.order f.file)
     (result_ok (opened_beside order file)) false

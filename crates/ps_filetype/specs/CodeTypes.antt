@@ -38,7 +38,7 @@ is_of_version order block first last slot = if is_used order block slot
     && list_all is_letter (name_at block slot)
     else information order block slot == 0
 
--- so is each slot, and one has a segment
+-- each slot is as in these releases, and one has a segment
 unfoldable pub has_versions : Order → List ℕ → ℕ → ℕ → Bool
 has_versions order block first last = list_all (is_of_version order block first last) slots
     && list_any (is_used order block) slots

@@ -29,8 +29,7 @@ pub mapped : {A C : Type 0} (f : A → C) (xs : List A) (k : ℕ) (y : C)
 mapped f xs k y e = grind (arith, some_mapped, slice_get-map)
 
 -- an item of two joined lists is in the first at its place, or in the second, where it is as much
--- earlier
--- as the first is long
+-- earlier as the first is long
 pub split_at : {A : Type 0} (xs ys : List A) (p : ℕ) (a : A) → slice_get (xs ++ ys) p ≡ Some a
     → (slice_get xs p ≡ Some a) ⊎ ((q : ℕ) × (p ≡ length xs + q)
     × (slice_get ys q ≡ Some a))

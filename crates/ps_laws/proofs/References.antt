@@ -146,8 +146,7 @@ SameRecordCovers body i p =
     SomeBelow i (λ j. (y : ℕ) × (slice_get (refs_of body) j ≡ Some y) × Covers body y p)
 
 -- the test of the operands before says whether one of an earlier record, or of the record's own
--- earlier references,
--- covers the place
+-- earlier references, covers the place
 taken_covers : (records : List Record) (rec i : ℕ) (body : Body) (p : ℕ)
     → Decides (list_any (is_in p) (before records rec ++ own body i))
     (BeforeCovers records rec p ⊎ SameRecordCovers body i p)

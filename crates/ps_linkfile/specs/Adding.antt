@@ -7,8 +7,7 @@ use Rattle.ps_linkfile.specs.declared.error.WriteFault.{WriteFault}
 use Rattle.ps_linkfile.specs.Counts.{Failures, failures_with}
 
 -- The text was added between old and new. `added` says of a writer as it was at first, of a text
--- and
--- of a writer that it is that writer once the text was added.
+-- and of a writer that it is that writer once the text was added.
 pub record Adds {S : Type 0} (added : S → List ℕ → S → Type 0) (old : S) (text : List ℕ)
     (new : S) : Type 0 where
   pub after : (first : S) (before : List ℕ) → added first before old

@@ -10,10 +10,9 @@ use Rattle.ps_words.specs.declared.edit.Edit.{Edit}
 use Rattle.ps_words.specs.declared.edit.Edit.TheVariants.{Big, Byte, Word}
 use Rattle.ps_codefile.specs.Dictionary.{block_len}
 use Rattle.ps_codefile.specs.Roles.{needs_linking}
+use Rattle.ps_linkinfo.specs.Kinds.{kind_of, kind_width, kind_word}
 use Rattle.ps_linkinfo.specs.Numbered.{numbered_records}
 use Rattle.ps_linkinfo.specs.Records.{refs_of}
-use Rattle.ps_linkinfo.specs.declared.record.Body.{Body}
-use Rattle.ps_linkinfo.specs.declared.record.Body.TheVariants.{UnitRef, PublRef, PrivRef, PublDef, ConstDef, Eof}
 use Rattle.ps_linkinfo.specs.declared.record.LinkRecord.{LinkRecord as Record}
 use Rattle.ps_resolve.specs.Sources.{Segment, order_of}
 use Rattle.ps_resolve.specs.Plans.{Origin}
@@ -23,8 +22,6 @@ pub use Rattle.ps_linkfile.specs.Lines.{hex_byte}
 use Rattle.ps_linkfile.specs.Rows.{Value, Stored, Named, Number, Bytes, by_form, values_in}
 use Rattle.ps_linkfile.specs.declared.rows.Form.{Form}
 use Rattle.ps_linkfile.specs.declared.rows.Form.TheVariants.{Lines}
-use Rattle.ps_linkfile.specs.declared.cause.ReferenceKind.{ReferenceKind}
-use Rattle.ps_linkfile.specs.declared.cause.ReferenceKind.TheVariants.{Unit, Public, Private}
 use Rattle.ps_linkfile.specs.declared.cause.Cause.{Cause}
 use Rattle.ps_linkfile.specs.declared.cause.Cause.TheVariants.{DataSize, Reference}
 use Rattle.ps_linkfile.specs.declared.cause.Cause.TheVariants as cause
@@ -43,19 +40,10 @@ is_word_at p (Word value place) = place == p
 abbrev pub size_at : List Edit → ℕ → Option Cause
 size_at edits p = if list_any (is_word_at p) edits then Some DataSize else None
 
--- what a record of this index stores, by its kind and its name
-abbrev pub cause_in : ℕ → List ℕ → Body → Option Cause
-cause_in rec name (UnitRef refs) = Some (Reference Unit name rec)
-cause_in rec name (PublRef refs) = Some (Reference Public name rec)
-cause_in rec name (PrivRef words refs) = Some (Reference Private name rec)
-cause_in rec name (PublDef value) = None
-cause_in rec name (ConstDef value) = None
-cause_in rec name (Eof next) = None
-
 -- what the record stores at a place that is one of its references
 abbrev pub record_at : ℕ × Record → ℕ → Option Cause
-record_at r p = if list_any (λ x. x == p) (refs_of r.1.body) then cause_in r.0 r.1.name r.1.body
-    else None
+record_at r p = if list_any (λ x. x == p) (refs_of r.1.body)
+    then Some (Reference (kind_of r.1.body) r.1.name r.0) else None
 
 -- what the first of the records stores there that refers to the place
 abbrev pub records_at : List (ℕ × Record) → ℕ → Option Cause
@@ -78,7 +66,7 @@ pub record StoredIn : Type 0 where
   pub linked : List ℕ
   pub causes : List (Option Cause)
 
--- that of a segment with these edits
+-- what a link stores in a segment with these edits, whose code begins in this block
 abbrev pub stored_in : Order → ℕ → Segment → List Edit → StoredIn
 stored_in order block s edits = record {
   slot = s.slot;
@@ -88,12 +76,6 @@ stored_in order block s edits = record {
   linked = map (patched_byte order s.code edits) (range_with_len 0 (length s.code));
   causes = map (cause_at (length s.code) edits s.records) (range_with_len 0 (length s.code));
 }
-
--- how many bytes an operand has
-abbrev pub kind_width : ReferenceKind → ℕ
-kind_width Unit = 1
-kind_width Public = 2
-kind_width Private = 2
 
 -- how many bytes are stored
 abbrev pub cause_width : Cause → ℕ
@@ -106,12 +88,6 @@ abbrev pub cause_word : Cause → List ℕ
 cause_word cause.Number = codes "number"
 cause_word DataSize = codes "data size"
 cause_word (Reference kind name rec) = codes "reference"
-
--- the kind of a record
-abbrev pub kind_of_reference : ReferenceKind → List ℕ
-kind_of_reference Unit = codes "UNITREF"
-kind_of_reference Public = codes "PUBLREF"
-kind_of_reference Private = codes "PRIVREF"
 
 -- so many bytes of a code from a place on, or those that are there
 abbrev pub bytes_at : List ℕ → ℕ → ℕ → List ℕ
@@ -133,7 +109,7 @@ abbrev pub record_in : Form → Cause → List ℕ
 record_in form cause.Number = by_form form [] (codes ",\"record\":null")
 record_in form DataSize = by_form form [] (codes ",\"record\":null")
 record_in form (Reference kind name rec) =
-    by_form form (codes " ") (codes ",\"record\":{\"kind\":\"") ++ kind_of_reference kind
+    by_form form (codes " ") (codes ",\"record\":{\"kind\":\"") ++ kind_word kind
     ++ by_form form [] (codes "\"") ++ values_in form
     (Named name ∷ Number (by_form form (codes "record") (codes "index")) rec ∷ [])
     ++ by_form form [] (codes "}")

@@ -31,7 +31,7 @@ pub data Value : Type 0 where
   Stored : List ℕ → ℕ → List ℕ → Value
   Bytes : List ℕ → List ℕ → Value
 
--- that of a part of a row in the code
+-- the value of a part of a row in the code
 abbrev pub value_of : RowPart → Value
 value_of (part.InSlot word slot name) = InSlot word.now slot name
 value_of (part.OfKind kind) = OfKind kind.now

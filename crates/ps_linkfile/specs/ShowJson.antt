@@ -26,6 +26,6 @@ abbrev pub shown_json : FileOrder → Order → List ℕ → List ℕ
 shown_json found order file = order_member found ++ flat_map (slot_item order file) slots
     ++ codes "\n]}\n"
 
--- that of a code file
+-- the document of a code file
 unfoldable pub show_json_of : List ℕ → List ℕ
 show_json_of file = shown_json (file_order file) (known_order (file_order file)) file

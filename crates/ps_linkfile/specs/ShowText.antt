@@ -12,6 +12,7 @@ use Rattle.ps_words.specs.declared.fault.Reason.TheVariants as reason
 use Rattle.ps_words.specs.declared.fault.Fault.{Fault as FileFault}
 use Rattle.ps_codefile.specs.Dictionary.{slots, block_len, FileOrder, Zero, Ordered, Mixed, file_order, entry_at, is_filled, code_of, information_of}
 use Rattle.ps_codefile.specs.declared.entry.Entry.{Entry}
+use Rattle.ps_linkinfo.specs.Kinds.{kind_of, kind_word}
 use Rattle.ps_linkinfo.specs.Records.{reading}
 use Rattle.ps_linkinfo.specs.declared.record.Body.{Body}
 use Rattle.ps_linkinfo.specs.declared.record.Body.TheVariants.{UnitRef, PublRef, PrivRef, PublDef, ConstDef, Eof}
@@ -58,23 +59,21 @@ unit_names order file = map (λ slot. (entry_at order file slot).name)
 abbrev pub is_listed : List (List ℕ) → List ℕ → Bool
 is_listed units name = list_any (λ unit. bytes_eq unit name) units
 
--- what a record has, in a file with these units
+-- what a record has beside its kind, in a file with these units
 abbrev pub body_row : List (List ℕ) → List ℕ → Body → List Value
-body_row units name (UnitRef refs) = Kind (codes "UNITREF") ∷ Named name ∷ References refs
+body_row units name (UnitRef refs) = Named name ∷ References refs
     ∷ Flag (codes "unlisted") (not (is_listed units name)) ∷ []
-body_row units name (PublRef refs) =
-    Kind (codes "PUBLREF") ∷ Named name ∷ References refs ∷ []
-body_row units name (PrivRef words refs) = Kind (codes "PRIVREF") ∷ Named name
-    ∷ Number (codes "words") words ∷ References refs ∷ []
-body_row units name (PublDef value) =
-    Kind (codes "PUBLDEF") ∷ Named name ∷ Number (codes "value") value ∷ []
-body_row units name (ConstDef value) =
-    Kind (codes "CONSTDEF") ∷ Named name ∷ Number (codes "value") value ∷ []
-body_row units name (Eof next) = Kind (codes "EOFMARK") ∷ Number (codes "next") next ∷ []
+body_row units name (PublRef refs) = Named name ∷ References refs ∷ []
+body_row units name (PrivRef words refs) =
+    Named name ∷ Number (codes "words") words ∷ References refs ∷ []
+body_row units name (PublDef value) = Named name ∷ Number (codes "value") value ∷ []
+body_row units name (ConstDef value) = Named name ∷ Number (codes "value") value ∷ []
+body_row units name (Eof next) = Number (codes "next") next ∷ []
 
 -- the row of a record, as `0 PUBLREF COUNT    at 1`
 abbrev pub record_in : Form → List (List ℕ) → ℕ × LinkRecord → List ℕ
-record_in form units r = row_in form r.0 (Record r.0 ∷ body_row units r.1.name r.1.body)
+record_in form units r = row_in form r.0
+    (Record r.0 ∷ Kind (kind_word (kind_of r.1.body)) ∷ body_row units r.1.name r.1.body)
 
 -- the row of a fault in place of a record, as `2 fault 19 RecordsTruncated`
 abbrev pub fault_in : Form → ℕ → Option Reason → List ℕ

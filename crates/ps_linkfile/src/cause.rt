@@ -1,19 +1,9 @@
 //! Why a link stores bytes in a code.
 ghost use Rattle.std.specs.Prelude.{◌≡◌};
-ghost use Rattle.ps_linkfile.specs.ReferencesText.{cause_width, cause_word, kind_of_reference, kind_width};
+ghost use Rattle.ps_linkfile.specs.ReferencesText.{cause_width, cause_word};
 
+use ps_linkinfo::Kind;
 use ps_words::Name;
-
-/// The kind of a record that has references.
-#[derive(Clone, Copy)]
-pub(crate) enum ReferenceKind {
-    /// UNITREF.
-    Unit,
-    /// PUBLREF.
-    Public,
-    /// PRIVREF.
-    Private,
-}
 
 /// Why a link stores bytes that begin at a place of a code.
 #[derive(Clone, Copy)]
@@ -25,35 +15,12 @@ pub(crate) enum Cause {
     /// They are the operand of a reference.
     Reference {
         /// The kind of its record.
-        kind: ReferenceKind,
+        kind: Kind,
         /// The name of its record.
         name: Name,
         /// The index of its record, from 0.
         record: usize,
     },
-}
-
-impl ReferenceKind {
-    /// The word for it.
-    pub(crate) fn word(self) -> &'static [u8]
-        ensures { result.now ≡ kind_of_reference self }
-    {
-        match self {
-            ReferenceKind::Unit => b"UNITREF",
-            ReferenceKind::Public => b"PUBLREF",
-            ReferenceKind::Private => b"PRIVREF",
-        }
-    }
-
-    /// How many bytes an operand has.
-    fn width(self) -> usize
-        ensures { result ≡ kind_width self }
-    {
-        match self {
-            ReferenceKind::Unit => 1,
-            ReferenceKind::Public | ReferenceKind::Private => 2,
-        }
-    }
 }
 
 impl Cause {
@@ -64,7 +31,7 @@ impl Cause {
         match self {
             Cause::Number => 1,
             Cause::DataSize => 2,
-            Cause::Reference { kind, .. } => kind.width(),
+            Cause::Reference { kind, .. } => usize::from(kind.operand_width()),
         }
     }
 

@@ -14,7 +14,7 @@ ghost use Rattle.ps_linkfile.specs.ReferencesJson.{IsReferencesJson, referenced_
 ghost use Rattle.ps_linkfile.specs.declared.cause.Cause.TheVariants.{Reference};
 ghost use Rattle.ps_linkfile.specs.ReferencesText.{bytes_at as bytes_at_spec, item_end as item_end_spec, stored_rows, place_in, record_in, references_in, references_of};
 
-use crate::cause::{Cause, ReferenceKind};
+use crate::cause::Cause;
 use crate::counts::Counts;
 use crate::error::{LinkError, WriteFault};
 use crate::json::separator;
@@ -24,6 +24,7 @@ use crate::stored_places::{StoredPlaces, stored_in_segments};
 use crate::stream::write_text;
 use crate::text_writer::{Text, TextWriter};
 use ps_laws::{bytes_are_linked, first_of_all};
+use ps_linkinfo::Kind;
 use ps_resolve::{resolve_with_segments, slot_names_are_whole};
 use ps_words::{BLOCK_SIZE, Name};
 use std::alloc::{Allocator, Global};
@@ -87,13 +88,7 @@ fn item_end(cause: Cause) -> &'static [u8]
 }
 
 /// Adds the kind, the name and the index of the record of a reference.
-fn add_reference<S: TextWriter>(
-    text: &mut S,
-    form: Form,
-    kind: ReferenceKind,
-    name: Name,
-    index: usize,
-)
+fn add_reference<S: TextWriter>(text: &mut S, form: Form, kind: Kind, name: Name, index: usize)
     ensures { Adds S.added text.old (record_in form (Reference kind name index)) text.new }
 {
     let parts = [
@@ -101,7 +96,7 @@ fn add_reference<S: TextWriter>(
         RowPart::Number(by_form(form, b"record", b"index"), index),
     ];
     add_by_form(text, form, b" ", b",\"record\":{\"kind\":\"");
-    text.add(kind.word());
+    text.add(kind.word().as_bytes());
     add_by_form(text, form, b"", b"\"");
     add_parts(text, form, &parts);
     add_by_form(text, form, b"", b"}");

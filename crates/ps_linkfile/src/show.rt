@@ -200,11 +200,12 @@ fn add_record<S: TextWriter>(
     ensures { Adds S.added text.old (record_in form units.now (rec, entry.now)) text.new }
 {
     let name = entry.name;
+    let kind = entry.body.kind().word().as_bytes();
     match &entry.body {
         Body::UnitRef(refs) => {
             let parts = [
                 RowPart::Record(rec),
-                RowPart::Kind(b"UNITREF"),
+                RowPart::Kind(kind),
                 RowPart::Named(name),
                 RowPart::References(refs),
                 RowPart::Flag(b"unlisted", !is_listed(units, name)),
@@ -214,7 +215,7 @@ fn add_record<S: TextWriter>(
         Body::PublRef(refs) => {
             let parts = [
                 RowPart::Record(rec),
-                RowPart::Kind(b"PUBLREF"),
+                RowPart::Kind(kind),
                 RowPart::Named(name),
                 RowPart::References(refs),
             ];
@@ -223,19 +224,20 @@ fn add_record<S: TextWriter>(
         Body::PrivRef { words, refs } => {
             let parts = [
                 RowPart::Record(rec),
-                RowPart::Kind(b"PRIVREF"),
+                RowPart::Kind(kind),
                 RowPart::Named(name),
                 RowPart::Number(b"words", *words as usize),
                 RowPart::References(refs),
             ];
             add_row(text, form, rec, &parts);
         }
-        Body::PublDef(value) => add_valued(text, form, rec, b"PUBLDEF", name, *value),
-        Body::ConstDef(value) => add_valued(text, form, rec, b"CONSTDEF", name, *value),
+        Body::PublDef(value) | Body::ConstDef(value) => {
+            add_valued(text, form, rec, kind, name, *value)
+        }
         Body::Eof(next) => {
             let parts = [
                 RowPart::Record(rec),
-                RowPart::Kind(b"EOFMARK"),
+                RowPart::Kind(kind),
                 RowPart::Number(b"next", *next as usize),
             ];
             add_row(text, form, rec, &parts);

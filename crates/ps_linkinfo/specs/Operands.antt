@@ -2,20 +2,14 @@
 -- Source: the published II.0 Linker source.
 use Rattle.std.specs.Prelude.{ℕ, slice_get, Option}
 use Rattle.std.specs.Option.{option_map}
+use Rattle.ps_linkinfo.specs.Kinds.{kind_of, kind_width}
 use Rattle.ps_linkinfo.specs.Records.{refs_of}
 use Rattle.ps_linkinfo.specs.declared.operand.Operand.{Operand}
 use Rattle.ps_linkinfo.specs.declared.record.Body.{Body}
-use Rattle.ps_linkinfo.specs.declared.record.Body.TheVariants.{UnitRef, PublRef, PrivRef, PublDef, ConstDef, Eof}
 
--- how many bytes an operand has: one of a unit's number, two of a BIG value; other records have no
--- operands
+-- how many bytes an operand has, by the kind of its record
 abbrev pub operand_width : Body → ℕ
-operand_width (UnitRef refs) = 1
-operand_width (PublRef refs) = 2
-operand_width (PrivRef words refs) = 2
-operand_width (PublDef value) = 0
-operand_width (ConstDef value) = 0
-operand_width (Eof next) = 0
+operand_width body = kind_width (kind_of body)
 
 -- the operand of a reference of a record, if it has so many
 abbrev pub operand_of : Body → ℕ → Option Operand

@@ -2,9 +2,10 @@
 -- references they have, the value of their EOFMARK, and a hash of their names.
 -- Source: the types are those of the published II.0 Linker source; the hash is this project's
 -- profile.
-use Rattle.std.specs.Prelude.{ℕ, ◌||◌, if◌then◌else◌, List, length, Bool, true, false, Option, Some, None, fold, count_by, sum_by, slice_get, unwrap_or, filter_map}
+use Rattle.std.specs.Prelude.{ℕ, ◌||◌, if◌then◌else◌, List, length, Bool, Option, Some, None, fold, count_by, sum_by, slice_get, unwrap_or, filter_map}
 use Rattle.std.specs.Hash.DefaultHasher as sip
 use Rattle.std.specs.declared.hash.DefaultHasher.{DefaultHasher}
+use Rattle.ps_linkinfo.specs.Kinds.{defines_name, kind_of, requests_private, requests_public, requests_unit}
 use Rattle.ps_linkinfo.specs.Records.{refs_of}
 use Rattle.ps_linkinfo.specs.declared.record.Body.{Body}
 use Rattle.ps_linkinfo.specs.declared.record.Body.TheVariants.{UnitRef, PublRef, PrivRef, PublDef, ConstDef, Eof}
@@ -13,39 +14,19 @@ use Rattle.ps_linkinfo.specs.declared.record_counts.RecordCounts.{RecordCounts}
 
 -- the body is that of a PUBLDEF or a CONSTDEF, which define a name of the host
 abbrev pub is_definition : Body → Bool
-is_definition (PublDef value) = true
-is_definition (ConstDef value) = true
-is_definition (UnitRef refs) = false
-is_definition (PublRef refs) = false
-is_definition (PrivRef words refs) = false
-is_definition (Eof next) = false
+is_definition body = defines_name (kind_of body)
 
 -- the body is that of a PRIVREF, which requests a private variable
 abbrev pub is_private_reference : Body → Bool
-is_private_reference (PrivRef words refs) = true
-is_private_reference (UnitRef refs) = false
-is_private_reference (PublRef refs) = false
-is_private_reference (PublDef value) = false
-is_private_reference (ConstDef value) = false
-is_private_reference (Eof next) = false
+is_private_reference body = requests_private (kind_of body)
 
 -- the body is that of a PUBLREF, which requests a public variable
 abbrev pub is_public_reference : Body → Bool
-is_public_reference (PublRef refs) = true
-is_public_reference (UnitRef refs) = false
-is_public_reference (PrivRef words refs) = false
-is_public_reference (PublDef value) = false
-is_public_reference (ConstDef value) = false
-is_public_reference (Eof next) = false
+is_public_reference body = requests_public (kind_of body)
 
 -- the body is that of a UNITREF, which requests a unit
 abbrev pub is_unit_reference : Body → Bool
-is_unit_reference (UnitRef refs) = true
-is_unit_reference (PublRef refs) = false
-is_unit_reference (PrivRef words refs) = false
-is_unit_reference (PublDef value) = false
-is_unit_reference (ConstDef value) = false
-is_unit_reference (Eof next) = false
+is_unit_reference body = requests_unit (kind_of body)
 
 -- how many records define a name
 abbrev pub definitions_in : List Record → ℕ

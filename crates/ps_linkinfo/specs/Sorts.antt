@@ -1,23 +1,18 @@
 -- What a record is that is looked for by its name.
 -- Source: the published II.0 Linker source.
-use Rattle.std.specs.Prelude.{ℕ, ◌&&◌, List, Bool, true, false, Option}
+use Rattle.std.specs.Prelude.{ℕ, ◌&&◌, List, Bool, Option}
 use Rattle.std.specs.List.{find}
 use Rattle.std.specs.Str.{bytes_eq}
+use Rattle.ps_linkinfo.specs.Kinds.{defines_variable, kind_of}
 use Rattle.ps_linkinfo.specs.RecordCounts.{is_definition, is_private_reference, is_public_reference}
 use Rattle.ps_linkinfo.specs.declared.record.Body.{Body}
-use Rattle.ps_linkinfo.specs.declared.record.Body.TheVariants.{UnitRef, PublRef, PrivRef, PublDef, ConstDef, Eof}
 use Rattle.ps_linkinfo.specs.declared.record.LinkRecord.{LinkRecord as Record}
 use Rattle.ps_linkinfo.specs.declared.sort.Sort.{Sort}
 use Rattle.ps_linkinfo.specs.declared.sort.Sort.TheVariants.{Request, Variable, Definition, Private}
 
 -- the body is that of a PUBLDEF, which defines a public variable
 abbrev pub is_public_definition : Body → Bool
-is_public_definition (PublDef value) = true
-is_public_definition (ConstDef value) = false
-is_public_definition (UnitRef refs) = false
-is_public_definition (PublRef refs) = false
-is_public_definition (PrivRef words refs) = false
-is_public_definition (Eof next) = false
+is_public_definition body = defines_variable (kind_of body)
 
 -- a record that says this is of this sort
 abbrev pub is_of_sort : Sort → Body → Bool

@@ -16,6 +16,7 @@
 
 mod first;
 mod information;
+mod kind;
 mod numbered;
 mod operand;
 mod reader;
@@ -28,6 +29,7 @@ mod refs;
 mod sort;
 
 pub use information::{LinkInformation, ReadFault};
+pub use kind::Kind;
 pub use numbered::NumberedRecords;
 pub use operand::Operand;
 pub use reader::{ReadStop, read_records};

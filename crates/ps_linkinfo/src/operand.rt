@@ -2,7 +2,7 @@ ghost use Rattle.std.specs.Prelude.{◌≡◌, ◌≤◌, length};
 ghost use Rattle.ps_linkinfo.specs.Operands.{operand_of as operand_of_spec, operand_width as operand_width_spec};
 ghost use Rattle.ps_linkinfo.specs.Records.{refs_of};
 
-use crate::record::{Body, LinkRecord};
+use crate::record::LinkRecord;
 use crate::record_layout::MAX_REFERENCES;
 
 /// An operand in a code.
@@ -22,11 +22,7 @@ impl LinkRecord<'_> {
     pub fn operand_width(&self) -> u8
         ensures { result ≡ operand_width_spec self.now.body }
     {
-        match &self.body {
-            Body::UnitRef(_) => 1,
-            Body::PublRef(_) | Body::PrivRef { .. } => 2,
-            Body::PublDef(_) | Body::ConstDef(_) | Body::Eof(_) => 0,
-        }
+        self.body.kind().operand_width()
     }
 
     /// How many references its list has, at most `MAX_REFERENCES`; 0 of a record that has no list.
@@ -36,9 +32,9 @@ impl LinkRecord<'_> {
         ensures count { result ≡ length (refs_of self.now.body) }
         ensures few { result ≤ MAX_REFERENCES }
     {
-        match &self.body {
-            Body::UnitRef(refs) | Body::PublRef(refs) | Body::PrivRef { refs, .. } => refs.len(),
-            Body::PublDef(_) | Body::ConstDef(_) | Body::Eof(_) => 0,
+        match self.body.refs() {
+            Some(refs) => refs.len(),
+            None => 0,
         }
     }
 
@@ -47,10 +43,7 @@ impl LinkRecord<'_> {
     pub fn operand(&self, reference: usize) -> Option<Operand>
         ensures { result ≡ operand_of_spec self.now.body reference }
     {
-        let refs = match &self.body {
-            Body::UnitRef(refs) | Body::PublRef(refs) | Body::PrivRef { refs, .. } => refs,
-            Body::PublDef(_) | Body::ConstDef(_) | Body::Eof(_) => return None,
-        };
+        let refs = self.body.refs()?;
         if refs.len() <= reference {
             return None;
         }

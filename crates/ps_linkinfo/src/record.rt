@@ -1,6 +1,6 @@
-ghost use Rattle.std.specs.Prelude.{◌≡◌, ◌+◌, ◌≤◌};
+ghost use Rattle.std.specs.Prelude.{◌≡◌, ◌+◌, ◌≤◌, [], IfSome, None};
 ghost use Rattle.ps_linkinfo.specs.RecordCounts.{declares_name as declares_name_spec};
-ghost use Rattle.ps_linkinfo.specs.Records.{size_of, is_eof as is_eof_spec};
+ghost use Rattle.ps_linkinfo.specs.Records.{size_of, is_eof as is_eof_spec, refs_of};
 
 use crate::record_layout::{MAX_LIST_LEN, RECORD_LEN, list_len};
 use crate::refs::Refs;
@@ -24,6 +24,21 @@ pub enum Body<'a> {
     ConstDef(u16),
     /// EOFMARK: the end of the link information, and the next free base offset in words.
     Eof(u16),
+}
+
+impl<'a> Body<'a> {
+    /// The references of a record that says this; `None` of a kind that has none.
+    /// Source: the published II.0 Linker source.
+    #[inline(always)]
+    pub fn refs(&self) -> Option<&Refs<'a>>
+        ensures some { IfSome result (λ refs. refs.now ≡ refs_of self.now) }
+        ensures none { result ≡ None → refs_of self.now ≡ [] }
+    {
+        match self {
+            Body::UnitRef(refs) | Body::PublRef(refs) | Body::PrivRef { refs, .. } => Some(refs),
+            Body::PublDef(_) | Body::ConstDef(_) | Body::Eof(_) => None,
+        }
+    }
 }
 
 /// A record of link information.

@@ -1,6 +1,5 @@
 -- What a file has, as JSON: the values of the lines of its list. A file is one object, an item of
--- the
--- list of a document.
+-- the list of a document.
 -- Source: RFC 8259; which members there are is this project's profile.
 use Rattle.std.specs.Prelude.{ℕ, ◌==◌, ◌||◌, if◌then◌else◌, List, [], ◌∷◌, ◌++◌, length, nat_lt, codes, decimal, Bool, true, false, Option, Some, None, Result, Ok, Err}
 use Rattle.std.specs.List.{flat_map}
@@ -14,7 +13,7 @@ use Rattle.ps_codefile.specs.Roles.{needs_linking}
 use Rattle.ps_codefile.specs.declared.entry.Role.{Role}
 use Rattle.ps_codefile.specs.declared.entry.Role.TheVariants as role
 use Rattle.ps_linkinfo.specs.declared.record.Body.{Body}
-use Rattle.ps_linkinfo.specs.declared.record.Body.TheVariants.{UnitRef, PublRef, PrivRef, PublDef, ConstDef, Eof}
+use Rattle.ps_linkinfo.specs.RecordCounts.{is_unit_reference}
 use Rattle.ps_linkinfo.specs.declared.record.LinkRecord.{LinkRecord as Record}
 use Rattle.ps_resolve.specs.Sources.{records_of}
 use Rattle.ps_linkfile.specs.JsonText.{comma_unless, json_name, line_end}
@@ -42,21 +41,12 @@ fault_json why rec = codes "{\"number\":" ++ decimal (number_of why) ++ codes ",
 
 -- the item of what a record uses, as `{"name":..,"name_hex":..}`; none has one but a UNITREF
 abbrev pub use_item : Bool → List ℕ → Body → List ℕ
-use_item first name (UnitRef refs) = comma_unless first ++ codes "{" ++ json_name name ++ codes "}"
-use_item first name (PublRef refs) = []
-use_item first name (PrivRef words refs) = []
-use_item first name (PublDef value) = []
-use_item first name (ConstDef value) = []
-use_item first name (Eof next) = []
+use_item first name body = if is_unit_reference body
+    then comma_unless first ++ codes "{" ++ json_name name ++ codes "}" else []
 
 -- the first item is still to come after this record
 abbrev pub is_first_after : Bool → Body → Bool
-is_first_after first (UnitRef refs) = false
-is_first_after first (PublRef refs) = first
-is_first_after first (PrivRef words refs) = first
-is_first_after first (PublDef value) = first
-is_first_after first (ConstDef value) = first
-is_first_after first (Eof next) = first
+is_first_after first body = if is_unit_reference body then false else first
 
 -- the items of the units that records use, in the order of the records
 abbrev pub use_items : Bool → List Record → List ℕ
@@ -196,8 +186,7 @@ item_of path phrase size (Ok f) = file_members path phrase size
 item_of path phrase size (Err why) = file_members path phrase size ++ unopened_members why
 
 -- the item of the file at a path; the phrase says what it is, where it is no code file as it ought
--- to
--- be
+-- to be
 unfoldable pub list_json_of : List ℕ → List ℕ → List ℕ → List ℕ
 list_json_of path phrase file = item_of path phrase (length file) (opened file)
 

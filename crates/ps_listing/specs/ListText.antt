@@ -14,7 +14,7 @@ use Rattle.ps_codefile.specs.Roles.{needs_linking}
 use Rattle.ps_codefile.specs.declared.entry.Role.{Role}
 use Rattle.ps_codefile.specs.declared.entry.Role.TheVariants as role
 use Rattle.ps_linkinfo.specs.declared.record.Body.{Body}
-use Rattle.ps_linkinfo.specs.declared.record.Body.TheVariants.{UnitRef, PublRef, PrivRef, PublDef, ConstDef, Eof}
+use Rattle.ps_linkinfo.specs.RecordCounts.{is_unit_reference}
 use Rattle.ps_linkinfo.specs.declared.record.LinkRecord.{LinkRecord as Record}
 use Rattle.ps_resolve.specs.Faults.{code_fault}
 use Rattle.ps_resolve.specs.Sources.{records_of}
@@ -46,12 +46,8 @@ refused_words why rec = codes ", refused " ++ decimal (number_of why) ++ (32 ∷
 
 -- what uses a unit, as `, uses AUX`: a UNITREF record, and no other
 abbrev pub uses_of : List ℕ → Body → List ℕ
-uses_of name (UnitRef refs) = codes ", uses " ++ trimmed (shown_name name)
-uses_of name (PublRef refs) = []
-uses_of name (PrivRef words refs) = []
-uses_of name (PublDef value) = []
-uses_of name (ConstDef value) = []
-uses_of name (Eof next) = []
+uses_of name body = if is_unit_reference body then codes ", uses " ++ trimmed (shown_name name)
+    else []
 
 -- the use that a record is
 abbrev pub used_words : Record → List ℕ
@@ -63,8 +59,7 @@ refused_or uses None = uses
 refused_or uses (Some f) = refused_words f.reason f.rec
 
 -- the first fault of the segment in a slot of this role, by itself: of its code, then of one that
--- is
--- to be linked of its tables and its records
+-- is to be linked of its tables and its records
 abbrev pub fault_alone : Order → List ℕ → ℕ → Role → Option Fault
 fault_alone order file slot r = code_fault order file [] slot r (0, slot)
 
@@ -145,8 +140,7 @@ lines_of path phrase size (Err why) = line
     ++ refused_words why None)
 
 -- the list of the file at a path; the phrase says what it is, where it is no code file as it ought
--- to
--- be
+-- to be
 unfoldable pub list_of : List ℕ → List ℕ → List ℕ → List ℕ
 list_of path phrase file = lines_of path phrase (length file) (opened file)
 

@@ -10,7 +10,7 @@ use crate::slots::{kind_of, name_of, size_of};
 use ps_codefile::dictionary_layout::SLOTS;
 use ps_codefile::{Dict, Role};
 use ps_linkfile::{TextWriter, add_json_name, add_number, comma, separator};
-use ps_linkinfo::{Body, LinkInformation, LinkRecord};
+use ps_linkinfo::{LinkInformation, LinkRecord};
 use ps_words::Reason;
 
 /// Adds the item of what a record uses, where it is one that uses a unit. Returns whether the first
@@ -20,22 +20,15 @@ fn add_use<S: TextWriter>(text: &mut S, record: &LinkRecord, first: bool) -> boo
         text.new }
     ensures first { result ≡ is_first_after first record.now.body }
 {
-    match &record.body {
-        Body::UnitRef(_) => {
-            text.add(comma(first));
-            text.add(b"{");
-            add_json_name(text, record.name);
-            text.add(b"}");
-            false
-        }
-        Body::PublRef(_)
-        | Body::PrivRef { .. }
-        | Body::PublDef(_)
-        | Body::ConstDef(_)
-        | Body::Eof(_) => {
-            text.add(b"");
-            first
-        }
+    if record.body.kind().requests_unit() {
+        text.add(comma(first));
+        text.add(b"{");
+        add_json_name(text, record.name);
+        text.add(b"}");
+        false
+    } else {
+        text.add(b"");
+        first
     }
 }
 

@@ -7,7 +7,7 @@ ghost use Rattle.ps_words.specs.FaultText.{part_text};
 
 use ps_filetype::{CodeFile, is_hidden};
 use ps_linkfile::{TextWriter, add_number, shown_codes};
-use ps_linkinfo::{Body, LinkInformation, LinkRecord};
+use ps_linkinfo::{LinkInformation, LinkRecord};
 use ps_words::{Order, Reason};
 
 /// Adds a character of a path: a question mark for a hidden one, as one that could end the line.
@@ -80,16 +80,11 @@ pub(crate) fn add_refusal<S: TextWriter>(text: &mut S, reason: Reason, rec: Opti
 fn add_use<S: TextWriter>(text: &mut S, record: &LinkRecord)
     ensures { Adds S.added text.old (used_words record.now) text.new }
 {
-    match &record.body {
-        Body::UnitRef(_) => {
-            text.add(b", uses ");
-            text.add(trimmed(&shown_codes(record.name)));
-        }
-        Body::PublRef(_)
-        | Body::PrivRef { .. }
-        | Body::PublDef(_)
-        | Body::ConstDef(_)
-        | Body::Eof(_) => text.add(b""),
+    if record.body.kind().requests_unit() {
+        text.add(b", uses ");
+        text.add(trimmed(&shown_codes(record.name)));
+    } else {
+        text.add(b"");
     }
 }
 

@@ -30,7 +30,7 @@ read_record f = if is_unread f.reason then None else f.rec
 abbrev pub name_of_record : ℕ → Segment → Option (List ℕ)
 name_of_record rec s = option_map (λ r. r.name) (slice_get s.records rec)
 
--- so of the segment that is in a slot of a link
+-- the name in the record of this index of the segment that is in a slot of a link
 abbrev pub name_in_record : HostFiles → ℕ → ℕ → Option (List ℕ)
 name_in_record h slot rec = option_and_then (name_of_record rec)
     (find (is_in_slot slot) (all_read h.order h.file (opened_files h.order h.libs)))
@@ -47,7 +47,7 @@ abbrev pub name_at : HostFiles → ℕ → Option ℕ → Option (List ℕ)
 name_at h slot None = Some (name_in_slot h slot)
 name_at h slot (Some rec) = name_in_record h slot rec
 
--- so of a host that was opened, or was not
+-- the name of a slot, or of its segment's record, of a host that was opened, or was not
 abbrev pub name_as : Result HostFiles Reason → ℕ → Option ℕ → Option (List ℕ)
 name_as (Err why) slot rec = None
 name_as (Ok h) slot rec = name_at h slot rec
@@ -64,7 +64,7 @@ name_by_role name (Ok role.Host) = Some name
 name_by_role name (Ok role.Unit) = Some name
 name_by_role name (Err why) = Some name
 
--- so of a file that was opened, or was not
+-- the name of an entry of a file that was opened, or was not
 abbrev pub entry_name : Result OpenedFile Reason → ℕ → Option (List ℕ)
 entry_name (Err why) slot = None
 entry_name (Ok f) slot = let e = entry_at f.order f.file slot in name_by_role e.name (role_of e)

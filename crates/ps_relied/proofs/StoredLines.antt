@@ -15,6 +15,7 @@ use Rattle.ps_laws.proofs.OnePlace.{host_linked}
 use Rattle.ps_laws.proofs.References.{wide}
 use Rattle.ps_laws.proofs.SegmentOrigins.{by_slot}
 use Rattle.ps_laws.proofs.SoundCodes.{HasOuter, long, outer}
+use Rattle.ps_linkinfo.specs.Kinds.{kind_of}
 use Rattle.ps_linkinfo.specs.Numbered.{numbered_records}
 use Rattle.ps_linkinfo.specs.Operands.{operand_width}
 use Rattle.ps_codefile.specs.Dictionary.{block_len}
@@ -29,9 +30,9 @@ use Rattle.ps_resolve.specs.Plans.{Origin}
 use Rattle.ps_resolve.specs.declared.references.Target.{Target}
 use Rattle.ps_resolve.specs.declared.references.Target.TheVariants.{Slot, Base}
 use Rattle.ps_linkfile.specs.LinkedFile.{LinkedFile, block_of, origins}
-use Rattle.ps_linkfile.specs.ReferencesText.{StoredIn, stored_in, cause_at, cause_in, cause_width, number_at, size_at, is_word_at, record_at, records_at}
+use Rattle.ps_linkfile.specs.ReferencesText.{StoredIn, stored_in, cause_at, cause_width, number_at, size_at, is_word_at, record_at, records_at}
 use Rattle.ps_linkfile.specs.declared.cause.Cause.{Cause}
-use Rattle.ps_linkfile.specs.declared.cause.Cause.TheVariants.{Number, DataSize}
+use Rattle.ps_linkfile.specs.declared.cause.Cause.TheVariants.{Number, DataSize, Reference}
 use Rattle.ps_words.specs.Edits.{covers, patched_byte}
 use Rattle.ps_words.specs.declared.edit.Edit.TheVariants.{Big, Byte, Word}
 
@@ -101,23 +102,19 @@ filtered {A} test (y ∷ xs) x t = go (test y) (filtered test xs x) t.0 t.1
 
 -- 3. what a record stores at a place
 of_body : (m : ℕ) (name : List ℕ) (body : Body) (x : ℕ) (c : Cause)
-    → (if list_any (λ y. y == x) (refs_of body) then cause_in m name body else None) ≡ Some c
+    → (if list_any (λ y. y == x) (refs_of body) then Some (Reference (kind_of body) name m)
+    else None) ≡ Some c
     → (list_any (λ y. y == x) (refs_of body) ≡ true) × (cause_width c ≡ operand_width body)
 of_body m name body x c e = grind arith
 
-has_cause : (m : ℕ) (name : List ℕ) (body : Body) (i x : ℕ) → slice_get (refs_of body) i
-    ≡ Some x
-    → cause_in m name body ≡ None → ⊥
-has_cause m name body i x at e = grind arith
-
 in_body : (m : ℕ) (name : List ℕ) (body : Body) (i x : ℕ) → slice_get (refs_of body) i
     ≡ Some x
-    → (if list_any (λ y. y == x) (refs_of body) then cause_in m name body else None) ≡ None
+    → (if list_any (λ y. y == x) (refs_of body) then Some (Reference (kind_of body) name m)
+    else None) ≡ None
     → ⊥
 in_body m name body i x at e =
     let any = any_in (λ y. y == x) (refs_of body) x (i, at) ((Decides-eqb x x).1 refl) in
-    has_cause m name body i x at
-    (sym (ap (λ b. if b then cause_in m name body else None) any) ∙ e)
+    absurd (cc)
 
 some_record : (n : ℕ) (rs : List Record) (x : ℕ) (c : Cause)
     → records_at (numbered_records n rs) x ≡ Some c

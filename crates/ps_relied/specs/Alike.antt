@@ -37,7 +37,7 @@ pub record IsReadAlike (order : Order) (lib other : List ℕ) : Type 0 where
       → (entry_at order lib i).kind ≡ 3
       → HasSameCode order lib other i × HasSameRecords order lib other i
 
--- so it is with the libraries, one by one
+-- the libraries are read alike, one by one
 abbrev pub AreReadAlike : Order → List (List ℕ) → List (List ℕ) → Type 0
 AreReadAlike order [] [] = ⊤
 AreReadAlike order [] (other ∷ others) = ⊥

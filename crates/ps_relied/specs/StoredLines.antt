@@ -39,7 +39,7 @@ pub record IsMadeByLines (lists : List StoredIn) (s : Segment) (file : List ℕ)
       → IsLine lists s.slot at new → at ≤ p → p < at + length new → ⊥)
       → slice_index file (block_len * block + p) ≡ slice_index s.code p
 
--- so it is with all segments of a link
+-- all segments of a link are made by their lines
 abbrev pub AreMadeByLines : List ℕ → List (List ℕ) → List ℕ → Type 0
 AreMadeByLines host libs file = All (λ s. IsMadeByLines (all_stored host libs) s file
     (block_of (origins host libs) s.slot)) (segments_of host libs)

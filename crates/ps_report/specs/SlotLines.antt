@@ -18,7 +18,7 @@ lines_of (byte ∷ text) = if byte == 10 then [] ∷ lines_of text
 abbrev pub is_slot_line : List ℕ → Bool
 is_slot_line line = starts_with (λ a b. a == b) line (codes "slot ")
 
--- those of a text, in order
+-- the lines of a text that begin with `slot `, in order
 unfoldable pub slot_lines : List ℕ → List (List ℕ)
 slot_lines text = filter is_slot_line (lines_of text)
 

@@ -8,7 +8,7 @@ use Rattle.ps_report.specs.SlotLines.{lines_of}
 abbrev pub is_warning_line : List ℕ → Bool
 is_warning_line line = starts_with (λ a b. a == b) line (codes "warning: ")
 
--- those of a text, in order
+-- the lines of a text that begin with `warning: `, in order
 unfoldable pub warning_lines : List ℕ → List (List ℕ)
 warning_lines text = filter is_warning_line (lines_of text)
 

@@ -1,6 +1,5 @@
 -- The rounds in which units are added: what holds of all of them, where it goes from each to the
--- one
--- before.
+-- one before.
 use Rattle.std.proofs.Common.{◌≡◌, ℕ, ◌+◌, List, [], ◌∷◌, ◌++◌, length, Option, Some, None, Bool, true, false, refl, sym, ap, subst, ◌∙◌, arith, append_assoc, append-nil, is_none, is_some, take}
 use Rattle.std.specs.Prelude.{if◌then◌else◌}
 use Rattle.std.specs.List.{enumerate_from, slice_get, find}
@@ -167,8 +166,7 @@ module _ (order : Order) (host : List ℕ) (libs : List (List ℕ)) where
       grind (arith, longer, append_assoc, requested_rest, append-nil)
 
   -- P holds of the rounds from each on, where it holds of the last, which has no name or a fault,
-  -- and
-  -- of each that adds a segment if of those after it
+  -- and of each that adds a segment if of those after it
   module _ (P : ℕ → RoundsOutcome → Type 0)
       (none : (prefix : List Segment) (k : ℕ) → added_segments order host libs ≡ prefix
       → k ≡ length prefix

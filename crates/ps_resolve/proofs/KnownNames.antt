@@ -155,8 +155,7 @@ module _ (units : List (List ℕ × ℕ)) where
       grind (arith, same_queue file slot 0 queue rs h, take_all 10 queue few)
 
 -- The queue after the first i of these segments: with what the others request it is that of all,
--- and
--- what these request is known.
+-- and what these request is known.
 pub record HaveRequested (units : List (List ℕ × ℕ)) (own : List Segment) (i : ℕ)
     (queue : List UnitReference) : Type 0 where
   pub whole : take 10 (requested_from units queue

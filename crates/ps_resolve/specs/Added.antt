@@ -33,7 +33,7 @@ unit_references file slot rec (r ∷ rs) =
     ∷ unit_references file slot (rec + 1) rs
     else unit_references file slot (rec + 1) rs
 
--- those of all these segments, one segment after another
+-- the UNITREF records of all these segments, one segment after another
 abbrev pub all_unit_references : List Segment → List UnitReference
 all_unit_references segs = flat_map (λ s. unit_references s.file s.slot 0 s.records) segs
 

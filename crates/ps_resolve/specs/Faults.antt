@@ -122,7 +122,7 @@ role_fault order host libs slot Wanted =
 role_fault order host libs slot role = option_and_then (code_fault order host libs slot role)
     (source_of order host libs slot role)
 
--- that of its own role
+-- the first fault of the source of a slot of the host, by the slot's own role
 abbrev pub source_fault : Order → List ℕ → List (List ℕ) → ℕ → Option Fault
 source_fault order host libs slot = option_and_then (role_fault order host libs slot)
     (result_ok (role_of (entry_at order host slot)))

@@ -24,7 +24,7 @@ abbrev pub IsLike : Segment → Segment → Type 0
 IsLike s q = needs_linking s.role ≡ true → needs_linking q.role ≡ true → s.file ≡ q.file
     → s.block ≡ q.block → s.records ≡ q.records
 
--- so it is with any two of the segments
+-- any two of the segments are alike
 abbrev pub AreAlike : List Segment → Type 0
 AreAlike segs = All (λ s. All (IsLike s) segs) segs
 
@@ -56,7 +56,7 @@ segment_in_slot order host own added slot =
     option_or (find (is_in_slot slot) own)
     (if is_role is_empty order host slot then find (is_in_slot slot) added else None)
 
--- those of all slots
+-- the segments of all slots: the host's own, and those that were added
 unfoldable pub segments_in_slots : Order → List ℕ → List Segment → List Segment
     → List Segment
 segments_in_slots order host own added = filter_map (segment_in_slot order host own added) slots

@@ -34,7 +34,7 @@ abbrev pub data_size_of : Order → ℕ → List ℕ → ℕ
 data_size_of order words code = option_map_or (grown_data_size order code words)
     (table_of order code 1) 0
 
--- that of the host's segment
+-- the grown data size of the host's segment
 abbrev pub data_size : Order → List Segment → ℕ
 data_size order segs = option_map_or (λ s. data_size_of order (total_words segs) s.code)
     (host_of segs) 0

@@ -24,7 +24,7 @@ abbrev pub read_segment : Order → List ℕ → List (List ℕ) → ℕ → Opt
 read_segment order host libs slot = if is_none (source_fault order host libs slot)
     then own_segment order host libs slot else None
 
--- those of all slots, by slot
+-- the own segments of all slots whose source has no fault, by slot
 unfoldable pub read_segments : Order → List ℕ → List (List ℕ) → List Segment
 read_segments order host libs = filter_map (read_segment order host libs) slots
 

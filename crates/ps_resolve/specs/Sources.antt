@@ -38,7 +38,7 @@ abbrev pub opened_file : Order → List ℕ → List ℕ
 opened_file order lib = option_map_or (λ opened. opened.file)
     (result_ok (opened_beside order lib)) []
 
--- so of all libraries
+-- what each library holds that is read beside the host
 abbrev pub opened_files : Order → List (List ℕ) → List (List ℕ)
 opened_files order libs = map (opened_file order) libs
 
@@ -132,7 +132,7 @@ segment_with order host libs slot name role at code =
       records = records_of order file e linked;
     }
 
--- so with the code of the entry, where it has one
+-- the segment of an entry, with the code of the entry, where it has one
 abbrev pub segment_from : Order → List ℕ → List (List ℕ) → ℕ → List ℕ → Role
     → ℕ × ℕ → Option Segment
 segment_from order host libs slot name role at =
@@ -147,7 +147,7 @@ own_segment order host libs slot =
     (segment_from order host libs slot (entry_at order host slot).name role)
     (source_of order host libs slot role)) (result_ok (role_of (entry_at order host slot)))
 
--- those of all slots, by slot
+-- the own segments of all slots of the host, by slot
 unfoldable pub own_segments : Order → List ℕ → List (List ℕ) → List Segment
 own_segments order host libs = filter_map (own_segment order host libs) slots
 

@@ -17,7 +17,7 @@ use std::alloc::Allocator;
 fn is_private(body: &Body) -> bool
     ensures { result ≡ is_private_reference body.now }
 {
-    matches!(body, Body::PrivRef { .. })
+    body.kind().requests_private()
 }
 
 /// The names of the privates of these records, each as a number.

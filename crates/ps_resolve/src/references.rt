@@ -1,4 +1,4 @@
-ghost use Rattle.std.specs.Prelude.{◌≡◌, ℕ, ◌<◌, ◌≤◌, ◌+◌, ◌++◌, List, [], length, map, nat_lt, OnOk, IfOk, IfErr, IfSome, IsPermutation, None, false, ⊤};
+ghost use Rattle.std.specs.Prelude.{◌≡◌, ℕ, ◌<◌, ◌≤◌, ◌+◌, ◌++◌, List, [], length, map, nat_lt, OnOk, IfOk, IfErr, IsPermutation, None, false, ⊤};
 ghost use Rattle.std.specs.List.{range_with_len, list_any};
 ghost use Rattle.std.specs.Result.{result_err};
 ghost use Rattle.ps_words.specs.declared.fault.Reason.TheVariants.{OperandTooLarge};
@@ -18,7 +18,7 @@ use crate::edit_table::EditTable;
 use crate::linkage::Stop;
 use crate::locations::RecordAt;
 use ps_codefile::Procs;
-use ps_linkinfo::{Body, Refs};
+use ps_linkinfo::Body;
 use ps_words::{Edit, MAX_OPERAND, MAX_WORD, Reason, get_big};
 use std::alloc::Allocator;
 
@@ -92,17 +92,6 @@ fn stored_at(code: &[u8], target: Target, x: usize) -> Result<Edit, Reason>
     }
 }
 
-/// The references of a record, where it is of a kind that has them.
-fn references_of<'b, 'a>(body: &'b Body<'a>) -> Option<&'b Refs<'a>>
-    ensures some { IfSome result (λ refs. refs.now ≡ refs_of body.now) }
-    ensures none { result ≡ None → refs_of body.now ≡ [] }
-{
-    match body {
-        Body::UnitRef(refs) | Body::PublRef(refs) | Body::PrivRef { refs, .. } => Some(refs),
-        Body::PublDef(_) | Body::ConstDef(_) | Body::Eof(_) => None,
-    }
-}
-
 /// The edits of a segment's references, as they are found.
 #[derive(Drop)]
 pub(crate) struct ReferenceEdits<'a, A: Allocator> {
@@ -168,7 +157,7 @@ impl<A: Allocator + Copy> ReferenceEdits<'_, A> {
             (AreTaken self.old.procedures self.new.edits.states.items
             (os ++ operands target (refs_of body.now))) }
     {
-        let Some(refs) = references_of(body) else {
+        let Some(refs) = body.refs() else {
             return Ok(());
         };
         for i in 0..refs.len() {

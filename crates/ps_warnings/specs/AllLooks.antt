@@ -39,12 +39,12 @@ looks_of_unit paths order host list s =
     ++ found_at path (Some s.1.name) None
     (option_map look.Link (other_spelling (take s.0 list) s.1))
 
--- so in each segment, in their order
+-- what looks wrong with the units of a link, in each segment, in their order
 unfoldable pub looks_of_units : List (List ℕ) → Order → List ℕ → List Seen → List LookAt
 looks_of_units paths order host list =
     flat_map (looks_of_unit paths order host list) (enumerate_from 0 list)
 
--- so where the host can be read
+-- what looks wrong with the units of a link, where the host can be read
 unfoldable pub looks_of_link : List (List ℕ) → List ℕ → List Seen → List LookAt
 looks_of_link paths host list = option_map_or (λ h. looks_of_units paths h.order h.file list)
     (result_ok (opened_alone host)) []
@@ -56,6 +56,6 @@ all_looks paths program host libs list =
     looks_of_files paths program list (host_order host) (host ∷ libs)
     ++ looks_of_link paths host list
 
--- so of files whose link has these segments
+-- all looks of files whose link has these segments
 abbrev pub link_looks_of : List (List ℕ) → List ℕ → List (List ℕ) → List Seen → List LookAt
 link_looks_of paths host libs list = all_looks paths (host_records list) host libs list

@@ -53,7 +53,7 @@ looks_of_segment path host order e (Err why) after = []
 looks_of_segment path host order e (Ok code) after = if kind_needs_linking e.kind
     then looks_of_records path host order e code (reading order after).0 else []
 
--- so in one that is looked at by its source
+-- what looks wrong in a segment that is looked at by its source
 abbrev pub looks_of_source : List ℕ → Option (List Record) → Source → List LookAt
 looks_of_source path host s = looks_of_segment path host s.order s.entry (code_in s) s.after.now
 

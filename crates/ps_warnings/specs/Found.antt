@@ -56,7 +56,7 @@ pub record LinkLooks : Type 0 where
   pub warnings : List LookAt
   pub harmless : List LookAt
 
--- those among warnings and among what is harmless
+-- the looks about the link, among warnings and among what is harmless
 abbrev pub link_looks : List Warning → List Warning → LinkLooks
 link_looks ws hs = record { warnings = link_looks_in ws; harmless = link_looks_in hs }
 
@@ -74,12 +74,12 @@ abbrev pub look_at : List ℕ → Option (List ℕ) → Option ℕ → Look → 
 look_at path segment rec l = if is_about_link l
     then record { path = path; segment = segment; rec = rec; look = l } ∷ [] else []
 
--- so of one that was found or not
+-- a look at a place, which was found or not, if it is about the link
 abbrev pub found_at : List ℕ → Option (List ℕ) → Option ℕ → Option Look → List LookAt
 found_at path segment rec None = []
 found_at path segment rec (Some l) = look_at path segment rec l
 
--- so of one in a record of a segment
+-- a look at a record of a segment, which was found or not, if it is about the link
 abbrev pub found_in_record : List ℕ → Option (List ℕ) → Option (ℕ × RecordLook) → List LookAt
 found_in_record path segment None = []
 found_in_record path segment (Some found) = look_at path segment (Some found.0)

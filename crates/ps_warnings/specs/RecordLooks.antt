@@ -28,7 +28,7 @@ abbrev pub high_value : ℕ → List ℕ → ℕ → Option RecordLook
 high_value next name value = if nat_lt value next then None
     else Some (look.HighDefinition name value next)
 
--- so is that of a record which says this
+-- the variable that a record with this body defines is that high
 abbrev pub high_as : ℕ → List ℕ → Body → Option RecordLook
 high_as next name (PublDef value) = high_value next name value
 high_as next name (UnitRef refs) = None
@@ -56,7 +56,7 @@ past_words code words place = if nat_lt (place + 1) (length code)
     else Some (look.PastPrivate place (displacement_at code place) words))
     else None
 
--- so is the first one of a record which says this
+-- the first operand of a record with this body that is past the words of its private
 abbrev pub past_as : List ℕ → Body → Option RecordLook
 past_as code (PrivRef words refs) = first_of (past_words code words) refs
 past_as code (UnitRef refs) = None

@@ -101,7 +101,7 @@ abbrev pub is_unit_of : HostFiles → List ℕ → ℕ → Bool
 is_unit_of h name slot = is_for_unit (role_in h slot)
     && bytes_eq (entry_at h.order h.file slot).name name
 
--- that of some slot of the host
+-- the unit of some slot of the host has this name
 unfoldable pub is_of_host : HostFiles → List ℕ → Bool
 is_of_host h name = list_any (is_unit_of h name) slots
 
@@ -156,7 +156,7 @@ abbrev pub seen_unit : HostFiles → UnitReference → Option Seen
 seen_unit h u = if is_of_host h u.name then None
     else Some (seen_with None u.name (part.Added (name_in h u.at.segment.slot) u.at.rec) None)
 
--- that of the first name after those which take a slot
+-- what is seen of the unit of the first requested name for which no slot is left
 unfoldable pub unplaced : HostFiles → Option Seen
 unplaced h = option_and_then (seen_unit h)
     (slice_get (read_requests h.order h.file (opened_files h.order h.libs))
@@ -166,7 +166,7 @@ unplaced h = option_and_then (seen_unit h)
 unfoldable pub seen_of : List ℕ → List (List ℕ) → HostFiles → List Seen
 seen_of host libs h = filter_map (seen_in host libs h) slots ++ cons_option (unplaced h) []
 
--- so of files whose host can be read or not
+-- what is seen of the segments of a link, whose host can be read or not
 abbrev pub seen_by : List ℕ → List (List ℕ) → Result HostFiles Reason → List Seen
 seen_by host libs (Ok h) = seen_of host libs h
 seen_by host libs (Err why) = []

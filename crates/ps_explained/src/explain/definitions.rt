@@ -1,5 +1,4 @@
 //! What is said of a name that the host program does not define as it is requested.
-use super::word_of;
 use crate::cases::Case;
 use ps_filetype::ShownName;
 use ps_linkinfo::{LinkInformation, Sort};
@@ -33,7 +32,7 @@ fn write_host_names<W: Write>(
 ) -> fmt::Result {
     for (rec, record) in records.records() {
         if Sort::Definition.has(&record.body) && plain(&record.name) == plain(name) {
-            let kind = word_of(&record.body);
+            let kind = record.body.kind().word();
             let found = ShownName(record.name);
             writeln!(f, "  the host has {kind} {found}, record {rec}")?;
         }

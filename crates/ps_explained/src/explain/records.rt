@@ -1,5 +1,4 @@
 //! What faults of link information say.
-use super::word_of;
 use crate::cases::Case;
 use ps_filetype::ShownName;
 use ps_linkinfo::record_layout::{FORMAT_PLACE, RECORD_LEN, TYPE_PLACE};
@@ -35,7 +34,7 @@ pub(super) fn write_earlier<W: Write>(f: &mut Formatter<W>, case: &Case<'_, '_>)
     let Some((rec, record)) = case.earlier_record() else {
         return Ok(());
     };
-    let kind = word_of(&record.body);
+    let kind = record.body.kind().word();
     let name = ShownName(record.name);
     writeln!(f, "  the earlier one is record {rec}: {kind} {name}")
 }

@@ -17,7 +17,7 @@ use crate::reading::slots::{HostSlots, is_empty};
 use crate::reading::unit_slots::UnitSlots;
 use arrayvec::ArrayVec;
 use ps_codefile::dictionary_layout::{FIRST_ADDED, SLOTS};
-use ps_linkinfo::{Body, LinkInformation, LinkRecord};
+use ps_linkinfo::{LinkInformation, LinkRecord};
 use ps_words::{Fault, Name, Reason};
 
 /// How many units may be added: one in each slot from the first on.
@@ -126,20 +126,9 @@ fn enqueue_record(
     ensures { queue.new.items ≡ take 10 (requested_from units.now queue.old.items
         (unit_references place.segment.file place.segment.slot place.rec (entry.now ∷ []))) }
 {
-    match &entry.body {
-        Body::UnitRef(_) => enqueue(
-            units,
-            queue,
-            UnitReference {
-                name: entry.name,
-                at: place,
-            },
-        ),
-        Body::PublRef(_)
-        | Body::PrivRef { .. }
-        | Body::PublDef(_)
-        | Body::ConstDef(_)
-        | Body::Eof(_) => {}
+    if entry.body.kind().requests_unit() {
+        let (name, at) = (entry.name, place);
+        enqueue(units, queue, UnitReference { name, at });
     }
 }
 
