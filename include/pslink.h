@@ -174,7 +174,7 @@ extern "C" {
  *
  * Where the status is PSLINK_DONE: `written` bytes of `out` are the result; `needed` is the same
  * number. Of a link `segments`, `private_words` and `blocks` are set too.
- * Where it is PSLINK_REFUSED: `fault` is the number of the fault, 1 to 35, and `file` the file at
+ * Where it is PSLINK_REFUSED: `fault` is one of PSLINK_FAULT_SHORT_FILE and so on, and `file` the file at
  * fault: 0 is the host (or the file of pslink_show), k the k-th library, from 1. `kind`, `slot`,
  * `record`, `reference` and `name` are set where `has_kind`, `has_slot`, `has_record`,
  * `has_reference` and `has_name` are 1. The fault is the first of all that apply; pslink(1) lists
@@ -188,7 +188,7 @@ extern "C" {
 typedef struct pslink_answer {
     uint32_t status;        /* what the function returned */
     uint16_t kind;          /* fault 14 NotAUnit: the kind word of the library's entry */
-    uint8_t fault;          /* the number of the fault, 1 to 35 */
+    uint8_t fault;          /* the number of the fault, from 1 */
     uint8_t slot;           /* the slot of the host's segment dictionary, 0 to 15 */
     uint8_t has_kind;       /* 1 or 0, as the next three */
     uint8_t has_slot;

@@ -174,7 +174,7 @@ def _text(call, size=_FAULT_TEXT_MAX):
 
 
 def fault_name(number: int) -> str:
-    """The name of the fault of this number, 1 to 35, as 'MissingUnit'; '' where there is none."""
+    """The name of the fault of this number, as 'MissingUnit'; '' where there is none."""
     if not 0 <= number <= 255:
         return ""
     return _text(lambda room, size: _library.pslink_fault_name_nonnull(number, room, size))
@@ -207,7 +207,7 @@ def release_number() -> int:
 class Refused(Exception):
     """The files are refused. Its text is that of the fault, as 'refused 13 MissingUnit file 0 slot 7'.
 
-    number: the number of the fault, 1 to 35. name: its name. file: the file at fault, 0 for the host, k for the k-th
+    number: the number of the fault, from 1. name: its name. file: the file at fault, 0 for the host, k for the k-th
     library. kind, slot, record, reference: numbers, each None where the fault has none. about: the eight bytes of the name of that
     unit, segment, symbol or variable which is at fault, as b'UTIL    ', after MissingUnit those of the unit to look for; None where
     the fault is of none. (Since 0.2.0.) `meaning` and `remedy` are sentences: what the fault is, and what to do about it.

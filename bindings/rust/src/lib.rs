@@ -168,7 +168,7 @@ impl Fault {
         })
     }
 
-    /// The number of the fault, 1 to 35.
+    /// The number of the fault, that of a [`Reason`].
     #[must_use]
     pub fn number(&self) -> u8 {
         self.reason.number()

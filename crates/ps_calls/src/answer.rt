@@ -45,7 +45,7 @@ pub struct Answer {
     pub status: u32,
     /// The kind word of the library's entry, of a fault with number 14.
     pub kind: u16,
-    /// The number of the fault, 1 to 35, of a refusal.
+    /// The number of the fault, from 1, of a refusal.
     pub fault: u8,
     /// The slot of the host's segment dictionary, 0 to 15, of a fault that has one.
     pub slot: u8,

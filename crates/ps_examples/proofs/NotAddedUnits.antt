@@ -47,7 +47,8 @@ pub no_name_is_requested : AddedUnits Little host
 no_name_is_requested h = elim (h.complete 1 0 aux requests)
     [ inl has ↦ no_slot_has host aux refl has | inr t ↦ (let e = t.2 in cc) ]
   where
-    requests : RequestsAt (own_segments Little host (library_of_used (util_information Little) ∷ []) ++ [])
+    requests : RequestsAt
+        (own_segments Little host (library_of_used (util_information Little) ∷ []) ++ [])
         1 0 aux
     requests = subst (λ (own : List Segment). RequestsAt (own ++ []) 1 0 aux) (sym own_of_used)
         (using_segment, refl, aux_reference, refl, refl, refl)

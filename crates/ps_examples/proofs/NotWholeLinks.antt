@@ -39,7 +39,8 @@ other_role e = cc
 -- AUX is no added unit where no segment has a UNITREF record of that name
 pub one_is_added_that_nothing_names : AreAdded host
     (demo_segment ∷ util_segment ∷ aux_segment ∷ []) → ⊥
-one_is_added_that_nothing_names h = let u = h 2 demo_segment (omega arith) refl in let t = u.requested
+one_is_added_that_nothing_names h =
+    let u = h 2 demo_segment (omega arith) refl in let t = u.requested
     in none_passes (λ (q : Segment). RequestsName q aux)
     (demo_segment ∷ util_segment ∷ aux_segment ∷ [])
     (of_demo, (of_unit util_segment refl, (of_unit aux_segment refl, tt))) t.0 t.1 t.2 t.3.1

@@ -84,6 +84,8 @@ pub fn added_units_after_a_fault()
     ensures and_has_an_entry { slot_entry Little host (library_naming_two ∷ []) 9
         ≡ Some (1, 3) }
     ensures both_names { read_requests Little host (library_naming_two ∷ [])
-        ≡ (record { name = nobody; at = record { segment = record { file = 1; slot = 7 }; rec = 0 } })
-        ∷ (record { name = aux; at = record { segment = record { file = 1; slot = 7 }; rec = 1 } }) ∷ [] }
+        ≡ (record
+        { name = nobody; at = record { segment = record { file = 1; slot = 7 }; rec = 0 } })
+        ∷ (record
+        { name = aux; at = record { segment = record { file = 1; slot = 7 }; rec = 1 } }) ∷ [] }
 {}

@@ -61,7 +61,8 @@ module _ (law : OneStop) (host : List ℕ) (libs : List (List ℕ)) (none : None
       targets rec i x r u = target_there (target_of (known_of (segments_of host libs))
           (private_offset (segments_of host libs) s.slot rec) r) (λ why e. bad why (rw e at
           (record_rows (segments_of host libs) (private_offset (segments_of host libs) s.slot rec)
-          r.name r.body (requested_is_there (order_of host) host libs (rounds_fine host libs read) s is
+          r.name r.body
+          (requested_is_there (order_of host) host libs (rounds_fine host libs read) s is
           rec r u.0))))
         where
           bad : (why : Reason) → Least Ranked (RecordHas (segments_of host libs) r.name r.body)

@@ -69,9 +69,11 @@ reference : List ℕ → ℕ → ℕ → ℕ → UnitReference
 reference name file slot rec = record
     { name = name; at = record { segment = record { file = file; slot = slot }; rec = rec } }
 
-alike : (g h : UnitReference) → g.name ≡ h.name → g.at.segment.file ≡ h.at.segment.file → g.at.segment.slot ≡ h.at.segment.slot
+alike : (g h : UnitReference) → g.name ≡ h.name → g.at.segment.file ≡ h.at.segment.file
+    → g.at.segment.slot ≡ h.at.segment.slot
     → g.at.rec ≡ h.at.rec
-    → reference g.name g.at.segment.file g.at.segment.slot g.at.rec ≡ reference h.name h.at.segment.file h.at.segment.slot h.at.rec
+    → reference g.name g.at.segment.file g.at.segment.slot g.at.rec
+    ≡ reference h.name h.at.segment.file h.at.segment.slot h.at.rec
 alike g h name file slot rec = cc
 
 -- and are one reference

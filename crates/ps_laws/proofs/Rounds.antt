@@ -16,7 +16,8 @@ use Rattle.ps_words.specs.declared.fault.Reason.TheVariants as reason
 abbrev RoundHas : Order → List ℕ → List (List ℕ) → UnitReference → Option ℕ → Fault
     → Type 0
 RoundHas order host libs g left f =
-    ((f ≡ in_record g.at.segment.file g.at.segment.slot g.at.rec reason.MissingUnit) × IsMissing order libs g.name)
+    ((f ≡ in_record g.at.segment.file g.at.segment.slot g.at.rec reason.MissingUnit)
+    × IsMissing order libs g.name)
     ⊎ (((f ≡ in_record g.at.segment.file g.at.segment.slot g.at.rec reason.NoSlot) × (left ≡ None))
     ⊎ ((slot : ℕ) × (left ≡ Some slot) × PlacedFault order host libs g.name slot f))
 
@@ -26,7 +27,8 @@ reads f h = grind arith
 
 -- that a unit is missing comes before it
 missing_first : (k : ℕ) (g : UnitReference) (f : Fault) → 13 ≤ rank f.reason
-    → Precedes (OfAdded k) (in_record g.at.segment.file g.at.segment.slot g.at.rec reason.MissingUnit) f
+    → Precedes (OfAdded k)
+    (in_record g.at.segment.file g.at.segment.slot g.at.rec reason.MissingUnit) f
 missing_first k g f h = grind arith
 
 -- what comes first in a slot comes first in its round
@@ -58,7 +60,8 @@ round_least law order host libs k g None =
   where
     go : (b : Bool) → Decides b (IsMissing order libs g.name)
         → Least (Precedes (OfAdded k)) (RoundHas order host libs g None)
-        (Some (in_record g.at.segment.file g.at.segment.slot g.at.rec (if b then reason.MissingUnit else reason.NoSlot)))
+        (Some (in_record g.at.segment.file g.at.segment.slot g.at.rec
+        (if b then reason.MissingUnit else reason.NoSlot)))
     go b h1 = grind (arith, this)
 round_least law order host libs k g (Some slot) =
     least_same to from (least_else _ _ (missing order libs g.name) (placed_least law order host libs

@@ -218,7 +218,8 @@ module _ (law : OneStop) (spells : OneSpelling) (host : List ℕ) (libs : List (
             × IsGiver (own_segments order host libs ++ take j (added_segments order host libs)) i g
         giver = given order host libs (take j (added_segments order host libs)) j g earlier
 
-        requests : RequestsAt (own_segments order host libs ++ take j (added_segments order host libs))
+        requests : RequestsAt
+            (own_segments order host libs ++ take j (added_segments order host libs))
             giver.0 g.at.rec g.name
         requests = giver.1.1
 

@@ -146,7 +146,8 @@ all_stored_in order origins es =
 
 -- what a link of a host and its libraries stores, by slot
 unfoldable pub all_stored_of : List ℕ → List (List ℕ) → List StoredIn
-all_stored_of host libs = all_stored_in (order_of host) (origins host libs) (linked_segments host libs)
+all_stored_of host libs =
+    all_stored_in (order_of host) (origins host libs) (linked_segments host libs)
 
 -- the lines of that
 unfoldable pub references_of : List ℕ → List (List ℕ) → List ℕ

@@ -160,8 +160,10 @@ module _ (number : ℕ → ℕ) (same_host : number 0 ≡ 0) (block : Role → �
       go _ (is_unit_reference r.body) (one_references_moved file slot (rec + 1) rs)
     where
       g : UnitReference
-      g = record
-          { name = r.name; at = record { segment = record { file = file; slot = slot }; rec = rec } }
+      g = record {
+        name = r.name;
+        at = record { segment = record { file = file; slot = slot }; rec = rec };
+      }
 
       go : (gs : List UnitReference) (b : Bool)
           → gs ≡ map given_from (unit_references file slot (rec + 1) rs) → (if b
@@ -382,7 +384,8 @@ module _ (number : ℕ → ℕ) (same_host : number 0 ≡ 0) (block : Role → �
           go : (o : Option (ℕ × List ℕ)) → chosen_library order q.name libs ≡ o
               → (p : Option (ℕ × List ℕ)) → chosen_library order q.name others ≡ p
               → IsMovedChoice o p → Moves (request_fault order host libs q)
-              (request_fault order other others (record q { requester = requester_moved q.requester }))
+              (request_fault order other others
+              (record q { requester = requester_moved q.requester }))
               (brought_in host libs) (brought_in other others)
           go None e None f t = rw (e, f) (none_chosen (is_nameless q.name) _ _, λ n. refl)
           go None e (Some b) f t = absurd t
@@ -425,7 +428,8 @@ module _ (number : ℕ → ℕ) (same_host : number 0 ≡ 0) (block : Role → �
         → option_map (unplaced_fault order others) (option_map given_from o)
         ≡ option_map refiled (option_map (unplaced_fault order libs) o)
     unplaced None fits = refl
-    unplaced (Some g) (inl all) = λ i. Some (in_record (number g.at.segment.file) g.at.segment.slot g.at.rec
+    unplaced (Some g) (inl all) = λ i. Some
+        (in_record (number g.at.segment.file) g.at.segment.slot g.at.rec
         (if same_missing g.name (chosen_library order g.name libs)
         (chosen_library order g.name others) (all g.name) i
         then reason.MissingUnit else reason.NoSlot))

@@ -63,7 +63,8 @@ privates_counted slot n next (r ∷ rs) =
         → length (allotted_privates slot n next (r ∷ rs)) ≡ privates_in (r ∷ rs)
     at rest None h = let a = one_private r rs false (requests_is r.body ∙ ap is_some h) in let b =
         ap length (skip_privates slot n next [] [] r rs h) in omega (arith, rest (n + 1) next)
-    at rest (Some w) h = let a = one_private r rs true (requests_is r.body ∙ ap is_some h) in let b =
+    at rest (Some w) h =
+        let a = one_private r rs true (requests_is r.body ∙ ap is_some h) in let b =
         ap length (more_privates slot n next [] [] r rs w h) in
         grind arith
 

@@ -405,7 +405,8 @@ requested_allotted place rec next (r ∷ rs) =
     grind arith
 
 -- and those of all segments, which are what all records request
-pub requested : (next : ℕ) (ss : List Owner) → map requested_of (all_allotted next ss) ≡ all_requested ss
+pub requested : (next : ℕ) (ss : List Owner)
+    → map requested_of (all_allotted next ss) ≡ all_requested ss
 requested next [] = refl
 requested next (s ∷ ss) =
     grind (arith, map-append, requested_allotted, requested (next + private_words s.1) ss)

@@ -33,7 +33,8 @@ HasSlot order host name =
 -- the reference is of the i-th segment, and its record is the first of all that requests the name
 abbrev pub IsGiver : List Segment → ℕ → UnitReference → Type 0
 IsGiver segs i g =
-    ((s : Segment) × (slice_get segs i ≡ Some s) × (g.at.segment.file ≡ s.file) × (g.at.segment.slot ≡ s.slot))
+    ((s : Segment) × (slice_get segs i ≡ Some s) × (g.at.segment.file ≡ s.file)
+    × (g.at.segment.slot ≡ s.slot))
     × RequestsAt segs i g.at.rec g.name
     × ((j rec : ℕ) → Before (j ∷ rec ∷ []) (i ∷ g.at.rec ∷ []) → RequestsAt segs j rec g.name
     → ⊥)

@@ -39,7 +39,7 @@ pub struct Private {
 }
 
 /// How many words a private of a record takes.
-fn words_of_private(body: &Body) -> Option<u16>
+pub(crate) fn words_of_private(body: &Body) -> Option<u16>
     ensures { result ≡ words_in body.now }
 {
     match body {

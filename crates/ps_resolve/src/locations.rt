@@ -1,5 +1,5 @@
-//! Where a segment of a link is, a record of its link information, and a reference of that; and where
-//! an entry of a file is.
+//! Where a segment of a link is, a record of its link information, and a reference of that record;
+//! and where an entry of a file is.
 ghost use Rattle.std.specs.Prelude.{◌≡◌};
 ghost use Rattle.ps_words.specs.FaultPlaces.{in_record};
 

@@ -334,7 +334,8 @@ fn add_of_files<'a, A: Allocator>(
     context: &Context<'_, 'a>,
 ) -> Result<(), AllocError>
     ensures { OnOk result (Adds (link_looks looks.old.warnings.items looks.old.harmless.items)
-        (looks_of_files (context.now.inputs.now.host_path.now ∷ contents context.now.inputs.now.paths.now)
+        (looks_of_files (context.now.inputs.now.host_path.now
+        ∷ contents context.now.inputs.now.paths.now)
         (option_map (λ h. h.now) context.now.host) (map seen context.now.list.now)
         (host_order context.now.inputs.now.host.now)
         (context.now.inputs.now.host.now ∷ contents context.now.inputs.now.libs.now))
@@ -350,7 +351,8 @@ fn add_of_libraries<'a, A: Allocator>(
     context: &Context<'_, 'a>,
 ) -> Result<(), AllocError>
     ensures { OnOk result (Adds (link_looks looks.old.warnings.items looks.old.harmless.items)
-        (flat_map (looks_of_file (context.now.inputs.now.host_path.now ∷ contents context.now.inputs.now.paths.now)
+        (flat_map (looks_of_file (context.now.inputs.now.host_path.now
+        ∷ contents context.now.inputs.now.paths.now)
         (option_map (λ h. h.now) context.now.host) (map seen context.now.list.now)
         (host_order context.now.inputs.now.host.now))
         (enumerate_from 1 (contents context.now.inputs.now.libs.now)))

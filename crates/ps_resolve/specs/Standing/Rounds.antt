@@ -37,7 +37,8 @@ PlacedFault order host libs name slot f =
 abbrev pub InRound : Order → List ℕ → List (List ℕ) → ℕ → Fault → Type 0
 InRound order host libs k f =
     (g : UnitReference) × IsRequested order host libs k g
-    × (((f ≡ in_record g.at.segment.file g.at.segment.slot g.at.rec reason.MissingUnit) × IsMissing order libs g.name)
+    × (((f ≡ in_record g.at.segment.file g.at.segment.slot g.at.rec reason.MissingUnit)
+    × IsMissing order libs g.name)
     ⊎ (((f ≡ in_record g.at.segment.file g.at.segment.slot g.at.rec reason.NoSlot)
     × (slice_get (empty_slots order host) k ≡ None))
     ⊎ ((slot : ℕ) × (slice_get (empty_slots order host) k ≡ Some slot)

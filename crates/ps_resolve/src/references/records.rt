@@ -8,6 +8,7 @@ ghost use Rattle.ps_resolve.specs.Privates.{private_words};
 ghost use Rattle.ps_resolve.specs.Stops.{IsStop};
 ghost use Rattle.ps_resolve.specs.TakenPlaces.{AreTaken};
 
+use crate::allotment::words_of_private;
 use crate::definitions::DefKind;
 use crate::edit_table::EditTable;
 use crate::linkage::Stop;
@@ -48,11 +49,7 @@ fn target_of<A: Allocator + Copy>(
 pub(crate) fn words_taken(body: &Body) -> u16
     ensures { result ≡ words_taken_spec body.now }
 {
-    match body {
-        Body::PrivRef { words, .. } => *words,
-        Body::UnitRef(_) | Body::PublRef(_) | Body::PublDef(_) | Body::ConstDef(_) | Body::Eof(_) =>
-            0,
-    }
+    words_of_private(body).unwrap_or(0)
 }
 
 /// Adds the edits of all records of a linked segment to `edits`, where the first of its privates

@@ -49,7 +49,8 @@ pub(super) fn look_at<'a, A: Allocator>(
 ) -> Result<(), AllocError>
     ensures { OnOk result (Adds (link_looks looks.old.warnings.items looks.old.harmless.items)
         (flat_map (looks_of_slot (path_of (context.now.inputs.now.host_path.now
-        ∷ contents context.now.inputs.now.paths.now) file) (option_map (λ h. h.now) context.now.host)
+        ∷ contents context.now.inputs.now.paths.now) file)
+        (option_map (λ h. h.now) context.now.host)
         (map seen context.now.list.now) dict.now.order dict.now.file file) slots)
         (link_looks looks.new.warnings.items looks.new.harmless.items)) }
 {
@@ -75,7 +76,8 @@ fn look_at_slot<'a, A: Allocator>(
     requires { slot < 16 }
     ensures { OnOk result (Adds (link_looks looks.old.warnings.items looks.old.harmless.items)
         (looks_of_slot (path_of (context.now.inputs.now.host_path.now
-        ∷ contents context.now.inputs.now.paths.now) file) (option_map (λ h. h.now) context.now.host)
+        ∷ contents context.now.inputs.now.paths.now) file)
+        (option_map (λ h. h.now) context.now.host)
         (map seen context.now.list.now) dict.now.order dict.now.file file slot)
         (link_looks looks.new.warnings.items looks.new.harmless.items)) }
 {

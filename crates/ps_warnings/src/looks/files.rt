@@ -34,7 +34,8 @@ pub(super) fn look_at<'a, A: Allocator>(
     ensures { OnOk result (Adds (link_looks looks.old.warnings.items looks.old.harmless.items)
         (looks_of_file (context.now.inputs.now.host_path.now
         ∷ contents context.now.inputs.now.paths.now) (option_map (λ h. h.now) context.now.host)
-        (map seen context.now.list.now) (host_order context.now.inputs.now.host.now) (file, bytes.now))
+        (map seen context.now.list.now) (host_order context.now.inputs.now.host.now)
+        (file, bytes.now))
         (link_looks looks.new.warnings.items looks.new.harmless.items)) }
 {
     if is_code_type(bytes) {
@@ -57,7 +58,8 @@ fn look_at_code_file<'a, A: Allocator>(
 ) -> Result<(), AllocError>
     ensures { OnOk result (Adds (link_looks looks.old.warnings.items looks.old.harmless.items)
         (looks_of_code_file (path_of (context.now.inputs.now.host_path.now
-        ∷ contents context.now.inputs.now.paths.now) file) (option_map (λ h. h.now) context.now.host)
+        ∷ contents context.now.inputs.now.paths.now) file)
+        (option_map (λ h. h.now) context.now.host)
         (map seen context.now.list.now)
         (host_order context.now.inputs.now.host.now) bytes.now file)
         (link_looks looks.new.warnings.items looks.new.harmless.items)) }
@@ -80,7 +82,8 @@ fn look_at_dictionary<'a, A: Allocator>(
 ) -> Result<(), AllocError>
     ensures { OnOk result (Adds (link_looks looks.old.warnings.items looks.old.harmless.items)
         (looks_of_entries (path_of (context.now.inputs.now.host_path.now
-        ∷ contents context.now.inputs.now.paths.now) file) (option_map (λ h. h.now) context.now.host)
+        ∷ contents context.now.inputs.now.paths.now) file)
+        (option_map (λ h. h.now) context.now.host)
         (map seen context.now.list.now)
         dict.now.order dict.now.file file)
         (link_looks looks.new.warnings.items looks.new.harmless.items)) }

@@ -23,7 +23,8 @@ pub(super) fn look_at<'a, A: Allocator>(
     context: &Context<'_, 'a>,
 ) -> Result<(), AllocError>
     ensures { OnOk result (Adds (link_looks looks.old.warnings.items looks.old.harmless.items)
-        (looks_of_link (context.now.inputs.now.host_path.now ∷ contents context.now.inputs.now.paths.now)
+        (looks_of_link (context.now.inputs.now.host_path.now
+        ∷ contents context.now.inputs.now.paths.now)
         context.now.inputs.now.host.now (map seen context.now.list.now))
         (link_looks looks.new.warnings.items looks.new.harmless.items)) }
 {
@@ -40,7 +41,8 @@ fn look_at_units<'a, A: Allocator>(
     host: &Dict<'a>,
 ) -> Result<(), AllocError>
     ensures { OnOk result (Adds (link_looks looks.old.warnings.items looks.old.harmless.items)
-        (looks_of_units (context.now.inputs.now.host_path.now ∷ contents context.now.inputs.now.paths.now)
+        (looks_of_units (context.now.inputs.now.host_path.now
+        ∷ contents context.now.inputs.now.paths.now)
         host.now.order host.now.file (map seen context.now.list.now))
         (link_looks looks.new.warnings.items looks.new.harmless.items)) }
 {
@@ -60,7 +62,8 @@ fn look_at_unit<'a, A: Allocator>(
 ) -> Result<(), AllocError>
     requires { index ≤ length context.now.list.now }
     ensures { OnOk result (Adds (link_looks looks.old.warnings.items looks.old.harmless.items)
-        (looks_of_unit (context.now.inputs.now.host_path.now ∷ contents context.now.inputs.now.paths.now)
+        (looks_of_unit (context.now.inputs.now.host_path.now
+        ∷ contents context.now.inputs.now.paths.now)
         host.now.order host.now.file (map seen context.now.list.now) (index, seen segment.now))
         (link_looks looks.new.warnings.items looks.new.harmless.items)) }
 {

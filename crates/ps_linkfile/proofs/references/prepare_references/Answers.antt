@@ -51,7 +51,8 @@ returns-in_ok-all_stored-in-Ok-clause-json g c =
     ∙ ap (λ (ls : List StoredIn). members_of c.args.host.now (contents c.args.libs.now)
     ++ references_in Json ls) listed
 
-pub returns-in_ok-all_stored-in-Ok-clause-accepted : goal.returns-in_ok-all_stored-in-Ok-clause-accepted
+pub returns-in_ok-all_stored-in-Ok-clause-accepted :
+    goal.returns-in_ok-all_stored-in-Ok-clause-accepted
 returns-in_ok-all_stored-in-Ok-clause-accepted g c =
     c.first_of_all.ensures.none _ _ c.in-Ok.ensures.sound
 
