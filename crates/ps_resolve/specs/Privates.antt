@@ -15,19 +15,15 @@ use Rattle.ps_words.specs.declared.fault.Reason.TheVariants as reason
 use Rattle.ps_words.specs.declared.fault.Fault.{Fault}
 use Rattle.ps_words.specs.FaultPlaces.{in_record}
 use Rattle.ps_linkinfo.specs.declared.record.Body.{Body}
-use Rattle.ps_linkinfo.specs.declared.record.Body.TheVariants.{UnitRef, PublRef, PrivRef, PublDef, ConstDef, Eof}
+use Rattle.ps_linkinfo.specs.declared.record.Body.TheVariants.{PrivRef}
 use Rattle.ps_linkinfo.specs.declared.record.LinkRecord.{LinkRecord as Record}
 use Rattle.ps_resolve.specs.declared.allotment.Private.{Private}
 use Rattle.ps_resolve.specs.declared.allotment.TheConstants.{MAX_NEXT_FREE}
 
--- how many words a private of a record takes
+-- how many words a private of a record takes, where its kind requests one
 abbrev pub words_in : Body → Option ℕ
 words_in (PrivRef words refs) = Some words
-words_in (UnitRef refs) = None
-words_in (PublRef refs) = None
-words_in (PublDef value) = None
-words_in (ConstDef value) = None
-words_in (Eof next) = None
+words_in other = None
 
 -- The privates of the records, the first of which has number `rec`, from the offset `next` on.
 abbrev pub allotted_privates : ℕ → ℕ → ℕ → List Record → List Private

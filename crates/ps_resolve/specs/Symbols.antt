@@ -6,19 +6,16 @@ use Rattle.std.specs.List.{filter_map}
 use Rattle.std.specs.Map.{lookup}
 use Rattle.std.specs.Str.{bytes_eq}
 use Rattle.ps_linkinfo.specs.declared.record.Body.{Body}
-use Rattle.ps_linkinfo.specs.declared.record.Body.TheVariants.{UnitRef, PublRef, PrivRef, PublDef, ConstDef, Eof}
+use Rattle.ps_linkinfo.specs.declared.record.Body.TheVariants.{PublDef, ConstDef}
 use Rattle.ps_linkinfo.specs.declared.record.LinkRecord.{LinkRecord as Record}
 use Rattle.ps_resolve.specs.declared.definitions.Def.{Def}
 use Rattle.ps_resolve.specs.declared.definitions.DefKind.TheVariants.{Public, Constant}
 
--- what a record defines
+-- what a record defines: a value where its kind defines a name
 abbrev pub def_in : Body → Option Def
 def_in (PublDef value) = Some (record { kind = Public; value = value })
 def_in (ConstDef value) = Some (record { kind = Constant; value = value })
-def_in (UnitRef refs) = None
-def_in (PublRef refs) = None
-def_in (PrivRef words refs) = None
-def_in (Eof next) = None
+def_in other = None
 
 -- the name that a record defines, with its definition
 abbrev pub definition_in : Record → Option (List ℕ × Def)

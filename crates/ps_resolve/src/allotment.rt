@@ -38,14 +38,13 @@ pub struct Private {
     pub slot: u8,
 }
 
-/// How many words a private of a record takes.
+/// How many words a private of a record takes, where its kind requests one.
 pub(crate) fn words_of_private(body: &Body) -> Option<u16>
     ensures { result ≡ words_in body.now }
 {
     match body {
         Body::PrivRef { words, .. } => Some(*words),
-        Body::UnitRef(_) | Body::PublRef(_) | Body::PublDef(_) | Body::ConstDef(_) | Body::Eof(_) =>
-            None,
+        _ => None,
     }
 }
 

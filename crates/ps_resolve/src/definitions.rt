@@ -55,7 +55,7 @@ impl<A: Allocator + Copy> Model for Definitions<A> {
     ghost view = { λ d. d.by_name.entries };
 }
 
-/// What a record defines.
+/// What a record defines: a value where its kind defines a name.
 fn def_of(entry: &LinkRecord) -> Option<Def>
     ensures { result ≡ def_in entry.now.body }
 {
@@ -68,7 +68,7 @@ fn def_of(entry: &LinkRecord) -> Option<Def>
             kind: DefKind::Constant,
             value: *value,
         }),
-        Body::UnitRef(_) | Body::PublRef(_) | Body::PrivRef { .. } | Body::Eof(_) => None,
+        _ => None,
     }
 }
 
