@@ -1,39 +1,15 @@
--- The words of a list.
-use Rattle.std.proofs.Common.{◌≡◌, ℕ, ◌+◌, ◌*◌, ◌/◌, ◌<◌, ◌≤◌, ◌-◌, ◌∙◌, List, length, get_or, take, drop, ap, arith, zero-add, length-drop}
-use Rattle.std.proofs.lemmas.List.{length-take, get_or-take, get_or-drop}
-use Rattle.ps_linkinfo.specs.Records.{refs_at}
-use Rattle.std.proofs.lemmas.List.FromFn.{fill_by_all, length-map-range_with_len, get_or-map-range_with_len}
-use Rattle.ps_words.specs.Words.{word, word_at}
-use Rattle.ps_words.specs.declared.order.Order.{Order}
-use Rattle.ps_linkinfo.specs.Refs.{words_of}
-
-pub words_len : (order : Order) (bytes : List ℕ)
-    → length (words_of order bytes) ≡ length bytes / 2
-words_len order bytes = length-map-range_with_len (λ i. word_at order bytes (2 * i)) 0
-    (length bytes / 2)
-
-pub words_get : (order : Order) (bytes : List ℕ) (i : ℕ) → i < length (words_of order bytes)
-    → get_or (words_of order bytes) i 0 ≡ word_at order bytes (2 * i)
-words_get order bytes i h = get_or-map-range_with_len (λ i. word_at order bytes (2 * i)) 0
-    (length bytes / 2) i i 0 (omega (arith, words_len order bytes)) (zero-add i)
-
-pub refs_len : (order : Order) (x : List ℕ) (n : ℕ) → length (refs_at order x n) ≡ n
-refs_len order x n = length-map-range_with_len (λ i. word_at order x (16 + 2 * i)) 0 n
-
--- the words of the list are its references
-pub refs_are : (order : Order) (x : List ℕ) (n : ℕ) → 16 + 2 * n ≤ length x
-    → words_of order (take (16 + 2 * n - 16) (drop 16 x)) ≡ refs_at order x n
-refs_are order x n h =
-    let part = take (16 + 2 * n - 16) (drop 16 x) in
-    let len : length part ≡ 2 * n = omega
-    (arith, length-take (16 + 2 * n - 16) (drop 16 x), length-drop 16 x) in
-    let count : length (words_of order part) ≡ n = words_len order part ∙ rw len (omega arith)
-    in
-    let byte : (j : ℕ) → j < 2 * n → get_or part j 0 ≡ get_or x (16 + j) 0 =
-    λ j lt. get_or-take (16 + 2 * n - 16) (drop 16 x) j 0 (omega arith)
-    ∙ get_or-drop 16 x j 0 in
-    fill_by_all (λ i. word_at order x (16 + 2 * i)) (words_of order part) n 0 count
-    (λ k lt. words_get order part k (omega arith)
-    ∙ (let a = byte (2 * k) (omega arith) in let b = byte (2 * k + 1) (omega arith) in
-    rw (a, b) (ap (λ (m : ℕ). word order (get_or x (16 + 2 * k) 0) (get_or x m 0))
-    (let e : 16 + (2 * k + 1) ≡ 16 + 2 * k + 1 = omega arith in e))))
+-- The words that several proofs use, each with its home.
+pub use Rattle.ps_linkinfo.specs.Numbered.{numbered_records}
+pub use Rattle.ps_linkinfo.specs.RecordCounts.{declares_name, digest_of, next_in, next_of, record_counts_of, references_in, with_declared_name}
+pub use Rattle.ps_linkinfo.specs.Records.{AreSpelled, BeginsWith, EndsOnce, IsBody, IsReading, Spells, Stops, bad, bad_format, body_at, is_end, is_eof, list_len, read_from, reading, record_at, refs_at, refs_of, size_of, used_by}
+pub use Rattle.ps_linkinfo.specs.Walk.{Advances, HasGiven, Walk, left_of, whole_walk}
+pub use Rattle.ps_linkinfo.specs.declared.record.Body.{Body}
+pub use Rattle.ps_linkinfo.specs.declared.record.Body.TheVariants.{ConstDef, Eof, PrivRef, PublDef, PublRef, UnitRef}
+pub use Rattle.ps_linkinfo.specs.declared.record.LinkRecord.{LinkRecord as Record}
+pub use Rattle.ps_words.specs.Words.{word, word_at}
+pub use Rattle.ps_words.specs.declared.fault.Reason.{Reason}
+pub use Rattle.ps_words.specs.declared.order.Order.{Order}
+pub use Rattle.std.proofs.Common.{All, Bool, Err, List, None, Ok, Option, Result, Some, [], add-one, ap, append-nil, append_assoc, arith, drop, drop-drop, false, fold, get_or, get_or-drop, get_or-take, if◌then◌else◌, length, length-drop, length-take, length-take-le, refl, rules, slice_get, subst, suc, sym, take, true, true≢false, unwrap_or, zero, zero-add, ℕ, ◌*◌, ◌++◌, ◌+◌, ◌-◌, ◌/◌, ◌<◌, ◌==◌, ◌∙◌, ◌∷◌, ◌≡◌, ◌≤◌}
+pub use Rattle.std.proofs.lemmas.Bool.Decides.{nat_tests}
+pub use Rattle.std.proofs.lemmas.List.Sums.{sum_by-append}
+pub use Rattle.std.specs.List.{AllByRecursion, filter_map}

@@ -1,3 +1,4 @@
+pub mod Words
 pub mod JsonItems
 pub mod NumberedUses
 pub mod LinkedEntries

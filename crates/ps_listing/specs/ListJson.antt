@@ -1,9 +1,7 @@
 -- What a file has, as JSON: the values of the lines of its list. A file is one object, an item of
--- the
--- list of a document.
+-- the list of a document.
 -- Source: RFC 8259; which members there are is this project's profile.
-use Rattle.std.specs.Prelude.{ℕ, ◌==◌, ◌||◌, if◌then◌else◌, List, [], ◌∷◌, ◌++◌, length, nat_lt, codes, decimal, Bool, true, false, Option, Some, None, Result, Ok, Err}
-use Rattle.std.specs.List.{flat_map}
+use Rattle.std.specs.Prelude.{ℕ, ◌==◌, ◌||◌, if◌then◌else◌, List, [], ◌∷◌, ◌++◌, length, nat_lt, codes, decimal, Bool, true, false, Option, Some, None, Result, Ok, Err, flat_map}
 use Rattle.ps_words.specs.declared.order.Order.{Order}
 use Rattle.ps_words.specs.declared.order.Order.TheVariants.{Little, Big}
 use Rattle.ps_words.specs.FaultText.{number_of, name_of}
@@ -196,8 +194,7 @@ item_of path phrase size (Ok f) = file_members path phrase size
 item_of path phrase size (Err why) = file_members path phrase size ++ unopened_members why
 
 -- the item of the file at a path; the phrase says what it is, where it is no code file as it ought
--- to
--- be
+-- to be
 unfoldable pub list_json_of : List ℕ → List ℕ → List ℕ → List ℕ
 list_json_of path phrase file = item_of path phrase (length file) (opened file)
 

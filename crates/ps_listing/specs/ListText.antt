@@ -63,8 +63,7 @@ refused_or uses None = uses
 refused_or uses (Some f) = refused_words f.reason f.rec
 
 -- the first fault of the segment in a slot of this role, by itself: of its code, then of one that
--- is
--- to be linked of its tables and its records
+-- is to be linked of its tables and its records
 abbrev pub fault_alone : Order → List ℕ → ℕ → Role → Option Fault
 fault_alone order file slot r = code_fault order file [] slot r (0, slot)
 
@@ -145,8 +144,7 @@ lines_of path phrase size (Err why) = line
     ++ refused_words why None)
 
 -- the list of the file at a path; the phrase says what it is, where it is no code file as it ought
--- to
--- be
+-- to be
 unfoldable pub list_of : List ℕ → List ℕ → List ℕ → List ℕ
 list_of path phrase file = lines_of path phrase (length file) (opened file)
 
