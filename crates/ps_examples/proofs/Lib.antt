@@ -1,3 +1,4 @@
+pub mod Vocabulary
 pub mod SegmentOrigins
 pub mod NotLinked
 pub mod NotOrigins

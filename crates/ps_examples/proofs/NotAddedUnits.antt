@@ -1,15 +1,11 @@
 -- Queues of names and lists of segments that are not those that a link adds, computed.
-use Rattle.std.proofs.Common.{◌≡◌, ℕ, zero, suc, ◌+◌, ◌<◌, List, [], ◌∷◌, ◌++◌, length, refl, sym, subst, inl, inr, ◌∙◌, arith}
-use Rattle.ps_examples.specs.Files.{host, library_naming_itself, library_of_used, util_information, aux}
-use Rattle.ps_examples.specs.Segments.{demo_segment, util_segment, using_segment, aux_reference}
+use Rattle.ps_examples.proofs.Vocabulary.{◌≡◌, ℕ, zero, suc, ◌+◌, ◌<◌, List, [], ◌∷◌, ◌++◌, length, refl, sym, subst, inl, inr, ◌∙◌, arith, host, library_naming_itself, library_of_used, util_information, aux, demo_segment, util_segment, using_segment, aux_reference, RequestsName, Little}
 use Rattle.ps_examples.proofs.NotLinked.{same}
 use Rattle.ps_examples.proofs.NotOrigins.{no_name, count_aux, state_aux, blank_aux}
 use Rattle.ps_examples.proofs.SegmentOrigins.{no_slot_has}
-use Rattle.ps_resolve.specs.Origins.{RequestsName}
 use Rattle.ps_resolve.specs.Sources.{Segment, own_segments}
 use Rattle.ps_resolve.specs.RequestedUnits.{RequestsAt, AddedUnits}
 use Rattle.ps_resolve.specs.declared.reading.added.UnitReference.{UnitReference}
-use Rattle.ps_words.specs.declared.order.Order.TheVariants.{Little}
 
 -- the host's own segments, where AUX of the library names itself and where UTIL names AUX
 own_of_itself : own_segments Little host (library_naming_itself ∷ [])

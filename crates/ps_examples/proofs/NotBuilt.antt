@@ -1,15 +1,7 @@
 -- What the builders of definitions and of allotments do not do, computed.
-use Rattle.std.proofs.Common.{◌≡◌, ℕ, zero, suc, ◌<◌, List, [], ◌∷◌, Some, true, refl, sym, ap, subst, ◌∙◌, inl, inr, arith}
-use Rattle.std.specs.Prelude.{slice_get}
-use Rattle.std.proofs.lemmas.Bool.{false≢true}
-use Rattle.ps_examples.specs.Files.{count, state}
-use Rattle.ps_examples.specs.Segments.{count_reference, state_reference, end_mark}
-use Rattle.ps_examples.specs.Owners.{defined_again, util_owner, aux_owner, duplicate_owner, plain_owner, first_private, second_private}
+use Rattle.ps_examples.proofs.Vocabulary.{◌≡◌, ℕ, zero, suc, ◌<◌, List, [], ◌∷◌, Some, true, refl, sym, ap, subst, ◌∙◌, inl, inr, arith, slice_get, false≢true, count, state, count_reference, state_reference, end_mark, defined_again, util_owner, aux_owner, duplicate_owner, plain_owner, first_private, second_private, is_definition, is_private_reference, PublDef, ConstDef, Record, Reason}
 use Rattle.ps_examples.proofs.NotLinked.{same, count_state}
 use Rattle.ps_examples.proofs.NotOrigins.{none_passes}
-use Rattle.ps_linkinfo.specs.RecordCounts.{is_definition, is_private_reference}
-use Rattle.ps_linkinfo.specs.declared.record.Body.TheVariants.{PublDef, ConstDef}
-use Rattle.ps_linkinfo.specs.declared.record.LinkRecord.{LinkRecord as Record}
 use Rattle.ps_resolve.specs.Builders.{IsFirstNamesake, StopsDefinitions, IsUnfit, StopsPrivates, AreByRecord}
 use Rattle.ps_resolve.specs.First.{Before}
 use Rattle.ps_resolve.specs.Privates.{Owner}
@@ -18,7 +10,6 @@ use Rattle.ps_resolve.specs.Standing.Definitions.{HasEarlierNamesake}
 use Rattle.ps_resolve.specs.declared.linkage.Stop.TheVariants.{Refused, Memory}
 use Rattle.ps_words.specs.FaultPlaces.{in_record}
 use Rattle.ps_words.specs.declared.fault.Fault.{Fault}
-use Rattle.ps_words.specs.declared.fault.Reason.{Reason}
 use Rattle.ps_words.specs.declared.fault.Reason.TheVariants as reason
 
 -- definitions
@@ -58,9 +49,8 @@ pub duplicate : HasEarlierNamesake is_private_reference duplicate_owner.1 2 stat
 duplicate = (refl, (1, omega arith, (state_reference, refl, (refl, refl))))
 
 -- the first private that is unfit
-of_a_private : (base : ℕ) (ss : List Owner) (k : ℕ) (rs : List Record)
-    (n : ℕ) (r : Record) (why : Reason) → IsUnfit base ss k rs n r why
-    → is_private_reference r.body ≡ true
+of_a_private : (base : ℕ) (ss : List Owner) (k : ℕ) (rs : List Record) (n : ℕ) (r : Record)
+    (why : Reason) → IsUnfit base ss k rs n r why → is_private_reference r.body ≡ true
 of_a_private base ss k rs n r reason.DoubledPrivate u = u.0
 of_a_private base ss k rs n r reason.NoRoom u = u.1
 of_a_private base ss k rs n r other u = absurd u
@@ -134,8 +124,7 @@ not_for_room_where_its_name_is_duplicate t =
     (sym (why_of_fault reason.NoRoom t.why 1 t.place.file 7 t.place.slot 2 t.rec t.told))
     t.unfit)
   where
-    third : (rec : ℕ) (r : Record) → 2 ≡ rec
-        → slice_get duplicate_owner.1 rec ≡ Some r
+    third : (rec : ℕ) (r : Record) → 2 ≡ rec → slice_get duplicate_owner.1 rec ≡ Some r
         → (HasEarlierNamesake is_private_reference duplicate_owner.1 rec r → ⊥) → ⊥
     third zero r h e f = omega (arith, h)
     third (suc zero) r h e f = omega (arith, h)
@@ -144,8 +133,7 @@ not_for_room_where_its_name_is_duplicate t =
         x) (same state_reference r e) duplicate)
     third (suc (suc (suc rec))) r h e f = omega (arith, h)
 
-    go : (k : ℕ) (s : Owner)
-        → slice_get (duplicate_owner ∷ []) k ≡ Some s
+    go : (k : ℕ) (s : Owner) → slice_get (duplicate_owner ∷ []) k ≡ Some s
         → (rec : ℕ) (r : Record) → 2 ≡ rec → slice_get s.1 rec ≡ Some r
         → IsUnfit 32763 (duplicate_owner ∷ []) k s.1 rec r reason.NoRoom → ⊥
     go zero s e rec r h f u =

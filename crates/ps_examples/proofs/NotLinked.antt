@@ -1,14 +1,8 @@
 -- What is not said of linked bytes on the small files, computed.
-use Rattle.std.proofs.Common.{Option, subst, ◌≡◌, ℕ, zero, suc, List, [], ◌∷◌, Some, false, true, sym, ap, ◌∙◌, arith}
-use Rattle.std.specs.Prelude.{slice_get}
-use Rattle.std.proofs.lemmas.Bool.{false≢true}
-use Rattle.ps_examples.specs.Files.{blank_name, util, aux, tools, count, state}
+use Rattle.ps_examples.proofs.Vocabulary.{Option, subst, ◌≡◌, ℕ, zero, suc, List, [], ◌∷◌, Some, false, true, sym, ap, ◌∙◌, arith, slice_get, false≢true, blank_name, util, aux, tools, count, state, demo_segment, util_segment, using_segment, aux_segment, tools_segment, pair, three, with_plain, with_constant, with_unused, UnitRef, PublDef, ConstDef, Eof, Record}
 use Rattle.ps_resolve.specs.Added.{empty_slots, rounds, segments}
 use Rattle.ps_resolve.specs.LinkedBytes.{IsHostRecord, Becomes, IsSlotOf, IsPublic, IsBase}
-use Rattle.ps_examples.specs.Segments.{demo_segment, util_segment, using_segment, aux_segment, tools_segment, pair, three, with_plain, with_constant, with_unused}
 use Rattle.ps_linkinfo.specs.declared.record.Body.{Body}
-use Rattle.ps_linkinfo.specs.declared.record.Body.TheVariants.{UnitRef, PublDef, ConstDef, Eof}
-use Rattle.ps_linkinfo.specs.declared.record.LinkRecord.{LinkRecord as Record}
 use Rattle.ps_codefile.specs.Roles.{is_host, is_unit}
 use Rattle.ps_resolve.specs.Sources.{Segment, own_segments}
 

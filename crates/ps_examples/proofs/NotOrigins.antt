@@ -1,19 +1,9 @@
 -- Where segments of the small files do not come from, computed.
-use Rattle.std.proofs.Common.{◌≡◌, ℕ, zero, suc, ◌<◌, List, [], ◌∷◌, Option, Some, None, Result, Ok, Err, true, false, refl, sym, ap, subst, ◌∙◌, inl, inr, arith}
-use Rattle.std.specs.Prelude.{◌⊎◌, slice_get}
+use Rattle.ps_examples.proofs.Vocabulary.{◌≡◌, ℕ, zero, suc, ◌<◌, List, [], ◌∷◌, Option, Some, None, Result, Ok, Err, true, false, refl, sym, ap, subst, ◌∙◌, inl, inr, arith, ◌⊎◌, slice_get, host, library, host_without_7, put_at, blank_name, util, aux, count, state, nobody, is_unit_reference, count_reference, state_reference, end_mark, demo_segment, util_segment, using_segment, aux_segment, self_segment, nobody_segment, count_segment, past_segment, Record, Segment, HasOne, RequestsName, IsAddedUnit, IsUnitOf, IsReadFrom, Reason, false≢true, Little}
 use Rattle.std.specs.List.{AllByRecursion}
-use Rattle.ps_examples.specs.Files.{host, library, host_without_7, put_at, blank_name, util, aux, count, state, nobody}
-use Rattle.ps_linkinfo.specs.RecordCounts.{is_unit_reference}
-use Rattle.ps_examples.specs.Segments.{count_reference, state_reference, end_mark, demo_segment, util_segment, using_segment, aux_segment, self_segment, nobody_segment, count_segment, past_segment}
-use Rattle.ps_linkinfo.specs.declared.record.LinkRecord.{LinkRecord as Record}
-use Rattle.ps_resolve.specs.Sources.{Segment}
-use Rattle.ps_resolve.specs.Origins.{HasOne, RequestsName, IsAddedUnit, IsUnitOf, IsReadFrom}
 use Rattle.ps_examples.proofs.NotLinked.{same, heads}
-use Rattle.ps_words.specs.declared.fault.Reason.{Reason}
 use Rattle.ps_words.specs.declared.fault.Reason.TheVariants as reason
 use Rattle.ps_codefile.specs.declared.entry.Role.{Role}
-use Rattle.std.proofs.lemmas.Bool.{false≢true}
-use Rattle.ps_words.specs.declared.order.Order.TheVariants.{Little}
 
 -- no item passes
 pub none_passes : {A : Type 0} (P : A → Type 0) (xs : List A)

@@ -1,20 +1,13 @@
 -- Lists of segments that are not those of the small links, computed.
-use Rattle.std.proofs.Common.{◌≡◌, ℕ, List, [], ◌∷◌, Result, Ok, false, true, refl, ap, subst, ◌∙◌, arith, sym, Option}
+use Rattle.ps_examples.proofs.Vocabulary.{◌≡◌, ℕ, List, [], ◌∷◌, Result, Ok, false, true, refl, ap, subst, ◌∙◌, arith, sym, Option, slice_get, All, is_some, false≢true, host, library, host_in, library_of_used, library_of_used_big, util_information, put_at, aux, util_code, demo_segment, util_segment, using_segment, aux_segment, past_segment, HasOne, RequestsName, HaveOneEach, AreAdded, AreOfRounds, Reason, Little, Big}
 use Rattle.std.specs.Option.{option_map_or}
-use Rattle.std.specs.Prelude.{slice_get, All, is_some}
-use Rattle.std.proofs.lemmas.Bool.{false≢true}
 use Rattle.ps_codefile.specs.declared.entry.Role.{Role}
 use Rattle.ps_codefile.specs.declared.entry.Role.TheVariants as role
-use Rattle.ps_examples.specs.Files.{host, library, host_in, library_of_used, library_of_used_big, util_information, put_at, aux, util_code}
-use Rattle.ps_examples.specs.Segments.{demo_segment, util_segment, using_segment, aux_segment, past_segment}
 use Rattle.ps_examples.proofs.NotOrigins.{none_passes, no_name, count_aux, state_aux, blank_aux}
 use Rattle.ps_resolve.specs.Added.{empty_slots, rounds, segments, added_segments}
-use Rattle.ps_resolve.specs.Origins.{HasOne, RequestsName, HaveOneEach, AreAdded, AreOfRounds}
 use Rattle.ps_resolve.specs.OfLink.{IsOfLink}
 use Rattle.ps_resolve.specs.Sources.{Segment, own_segments, tables_of}
 use Rattle.ps_resolve.specs.Standing.Phrases.{SomeItem}
-use Rattle.ps_words.specs.declared.fault.Reason.{Reason}
-use Rattle.ps_words.specs.declared.order.Order.TheVariants.{Little, Big}
 
 -- the host's slot 7 is not empty
 pub filled : ◌≡◌ {A = Result Role Reason} (Ok role.Wanted) (Ok role.Empty) → ⊥

@@ -1,26 +1,18 @@
 -- Files that are read like the samples, and libraries that have no name in common.
-use Rattle.std.proofs.Common.{◌≡◌, ℕ, ◌+◌, ◌<◌, List, [], ◌∷◌, map, Bool, true, false, refl, sym, ap, subst, ◌∙◌, arith, ◌==◌}
-use Rattle.std.specs.Prelude.{◌&&◌, not, slice_get, All, ◌≢◌}
+use Rattle.ps_examples.proofs.Vocabulary.{◌≡◌, ℕ, ◌+◌, ◌<◌, List, [], ◌∷◌, map, Bool, true, false, refl, sym, ap, subst, ◌∙◌, arith, ◌==◌, ◌&&◌, not, slice_get, All, ◌≢◌, entry_at, is_filled, host, library, put_at, aux, demo_segment, util_segment, Segment, library_file, HasEntry, Little}
 use Rattle.std.specs.List.{range_with_len}
 use Rattle.std.proofs.lemmas.Bool.Decides.{Decides-eqb}
 use Rattle.std.proofs.lemmas.List.Elements.{All-cons, All-nil}
-use Rattle.ps_codefile.specs.Dictionary.{entry_at, is_filled}
-use Rattle.ps_examples.specs.Files.{host, library, put_at, aux}
 use Rattle.ps_examples.specs.ReadAlike.{library_elsewhere}
-use Rattle.ps_examples.specs.Segments.{demo_segment, util_segment}
 use Rattle.ps_examples.proofs.NotLinked.{util_aux}
 use Rattle.ps_examples.proofs.SegmentOrigins.{any_below, fails}
 use Rattle.ps_relied.proofs.StoredLines.{ranged}
 use Rattle.ps_relied.specs.Alike.{IsReadAlike, AreReadAlike, AreFilesAlike, HasSameCode, HasSameRecords}
 use Rattle.ps_relied.specs.Numbered.{HaveNoNameInCommon}
-use Rattle.ps_resolve.specs.Sources.{Segment, library_file}
-use Rattle.ps_resolve.specs.Standing.Sources.{HasEntry}
-use Rattle.ps_words.specs.declared.order.Order.TheVariants.{Little}
 
 -- functions that give the same list give the same at each place
 same_at : {A : Type 0} (f g : ℕ → A) → map f (range_with_len 0 16)
-    ≡ map g (range_with_len 0 16)
-    → (i : ℕ) → i < 16 → f i ≡ g i
+    ≡ map g (range_with_len 0 16) → (i : ℕ) → i < 16 → f i ≡ g i
 same_at f g e i h =
     let x = sym (ranged f 0 16 i h) ∙ (ap (λ xs. slice_get xs i) e ∙ ranged g 0 16 i h) in
     let z : 0 + i ≡ i = omega arith in

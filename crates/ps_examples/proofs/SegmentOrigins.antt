@@ -1,20 +1,10 @@
 -- Units that are added in slots of the small files, and the only entry of a name, computed.
-use Rattle.std.proofs.Common.{◌≡◌, ℕ, zero, suc, ◌<◌, ◌≤◌, List, [], ◌∷◌, Bool, true, false, refl, sym, subst, ◌∙◌, inl, inr, arith}
-use Rattle.std.specs.Prelude.{◌||◌, ◌==◌, ◌&&◌, not}
-use Rattle.std.specs.Str.{bytes_eq}
-use Rattle.std.proofs.lemmas.Bool.{cases_lt, false≢true}
+use Rattle.ps_examples.proofs.Vocabulary.{◌≡◌, ℕ, zero, suc, ◌<◌, ◌≤◌, List, [], ◌∷◌, Bool, true, false, refl, sym, subst, ◌∙◌, inl, inr, arith, ◌||◌, ◌==◌, ◌&&◌, not, bytes_eq, Decides, cases_lt, false≢true, entry_at, is_filled, host, host_without_7, aux, tools, library, put_at, util, using_segment, aux_segment, naming_segment, named_segment, IsTaken, IsAddedUnit, IsUnitOf, Little, IsNamed}
 use Rattle.std.proofs.lemmas.Slice.Eq.{bytes_eq-Decides}
-use Rattle.ps_codefile.specs.Dictionary.{entry_at, is_filled}
-use Rattle.ps_examples.specs.Files.{host, host_without_7, aux, tools, library, put_at, util}
 use Rattle.ps_resolve.specs.Standing.Slots.{HasRole}
 use Rattle.ps_codefile.specs.declared.entry.Role.TheVariants as role
-use Rattle.ps_examples.specs.Segments.{using_segment, aux_segment, naming_segment, named_segment}
 use Rattle.ps_resolve.specs.RequestedUnits.{HasSlot}
-use Rattle.ps_resolve.specs.Origins.{IsTaken, IsAddedUnit, IsUnitOf}
-use Rattle.ps_words.specs.declared.order.Order.TheVariants.{Little}
-use Rattle.std.specs.Bool.{Decides}
 use Rattle.std.proofs.lemmas.Bool.Decides.{Decides-eqb}
-use Rattle.ps_resolve.specs.Standing.Sources.{IsNamed}
 use Rattle.ps_words.specs.declared.order.Order.{Order}
 
 -- a test that no number below n passes
@@ -59,8 +49,7 @@ only_entry order name file i all k h n =
     test true false c p q e = absurd (cc)
     test false b c p q e = absurd (cc)
 
-    go : (b : Bool) → Decides b (k ≡ i)
-        → (is_filled (entry_at order file k)
+    go : (b : Bool) → Decides b (k ≡ i) → (is_filled (entry_at order file k)
         && (bytes_eq (entry_at order file k).name name && not b)) ≡ false → k ≡ i
     go b d e = d.0 (test (is_filled (entry_at order file k))
         (bytes_eq (entry_at order file k).name name) b n.0

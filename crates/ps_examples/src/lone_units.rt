@@ -7,6 +7,7 @@ ghost use Rattle.ps_words.specs.declared.fault.Reason.TheVariants as reason;
 ghost use Rattle.ps_words.specs.declared.order.Order.TheVariants.{Little};
 
 /// The first fault of a segment by itself.
+#[tactic(auto, unfolding(ps_resolve::specs::Readings::all_read, ps_resolve::specs::Readings::read_rounds, ps_resolve::specs::Readings::read_segments, ps_resolve::specs::KnownSegments::segments_in_slots, ps_resolve::specs::AllFaults::first_fault, ps_resolve::specs::AllFaults::reading_fault, ps_resolve::specs::Faults::slots_fault, ps_resolve::specs::Faults::no_host_fault, ps_resolve::specs::Faults::libraries_fault, ps_resolve::specs::Faults::sources_fault, ps_resolve::specs::Faults::linking_fault, ps_resolve::specs::Faults::definitions_fault, ps_resolve::specs::Faults::privates_fault, ps_resolve::specs::Faults::data_fault, ps_resolve::specs::Faults::references_fault, ps_resolve::specs::Sources::own_segments, ps_resolve::specs::Added::empty_slots, ps_resolve::specs::Added::rounds, ps_resolve::specs::Added::segments))]
 pub fn faults_of_lone_segments()
     ensures a_unit_without_a_fault { lone_fault Little library [] 2 ≡ None }
     ensures an_empty_slot { lone_fault Little library [] 3 ≡ None }

@@ -1,24 +1,14 @@
 -- The units that are added are those that are requested, as they are said plainly.
-use Rattle.std.proofs.Common.{rules, ◌≡◌, ℕ, zero, suc, ◌+◌, ◌-◌, ◌<◌, ◌≤◌, List, [], ◌∷◌, ◌++◌, length, map, Option, Some, None, Ok, true, false, refl, sym, ap, subst, ◌∙◌, inl, inr, arith, is_some, length-append, length-take, take}
-use Rattle.ps_laws.proofs.Vocabulary.{◌⊎◌, ◌≢◌, slice_get, AddedUnits, if◌then◌else◌, is_unit_reference, all_unit_references, Order, bytes_eq, cases_lt, entry_at, SomeItem, source_of, RequestsAt, lookup, Record, Before, IsGiver, Reason, option_map, IsUnitSlot, Role, role_fault, code_fault, own_segment, bytes_eq-Decides, information_of, unit_references, cases_order, false≢true, added_fault, unit_source, UnitReference, code_of, IsOfFile, HasRole, reading, is_unit, Segment, enumerate_from, nat_lt, requested_from, added_segments, request_by_slot, needs_linking}
-use Rattle.std.proofs.lemmas.Bool.{or_cases, or_left, lt-ltb}
-use Rattle.std.proofs.lemmas.Option.{slice_get_within, slice_get-map}
+use Rattle.ps_laws.proofs.Vocabulary.{◌⊎◌, ◌≢◌, slice_get, AddedUnits, if◌then◌else◌, is_unit_reference, all_unit_references, Order, bytes_eq, cases_lt, entry_at, SomeItem, source_of, RequestsAt, lookup, Record, Before, IsGiver, Reason, option_map, IsUnitSlot, Role, role_fault, code_fault, own_segment, bytes_eq-Decides, information_of, unit_references, cases_order, false≢true, added_fault, unit_source, UnitReference, code_of, IsOfFile, HasRole, reading, is_unit, Segment, enumerate_from, nat_lt, requested_from, added_segments, request_by_slot, needs_linking, rules, ◌≡◌, ℕ, zero, suc, ◌+◌, ◌-◌, ◌<◌, ◌≤◌, List, [], ◌∷◌, ◌++◌, length, map, Option, Some, None, Ok, true, false, refl, sym, ap, subst, ◌∙◌, inl, inr, arith, is_some, length-append, length-take, take, or_cases, or_left, lt-ltb, slice_get_within, slice_get-map, sources_fault, information_block, own_segments, HasSlot, AreGiven, IsOfFirstLibrary, made_from, own_units, references_of, request_parts, source_made, unit_there, role_none, round_known, in_empty, name_placed, queue_of, round_at, segment_named}
 use Rattle.ps_resolve.specs.Added.{is_already_known, requested_units}
 use Rattle.ps_codefile.specs.declared.entry.Role.TheVariants as role
-use Rattle.ps_resolve.specs.Faults.{sources_fault}
-use Rattle.ps_resolve.specs.Sources.{information_block, own_segments}
-use Rattle.ps_resolve.specs.RequestedUnits.{HasSlot, AreGiven, IsOfFirstLibrary}
 use Rattle.ps_laws.proofs.Least.{not_both}
 use Rattle.ps_laws.proofs.Looking.{any_of_items, is_there}
 use Rattle.ps_laws.proofs.Items.{not_apart, at_left, first_right, right_at, of_filter_map, of_numbered, in_front}
-use Rattle.ps_resolve.proofs.EachSegment.{own_made as made_from}
 pub use Rattle.ps_resolve.proofs.FirstSlots.{or_none as both_none, some_mapped}
 use Rattle.ps_laws.proofs.Sources.{ok_is}
-use Rattle.ps_resolve.proofs.EachRound.{own_units, references_of, request_parts, source_made, unit_there}
-use Rattle.ps_resolve.proofs.OfLink.{role_none, round_known}
 use Rattle.ps_laws.proofs.UnitPlaces.{unit_place}
 use Rattle.ps_laws.proofs.OneQueue.{giver_of_front}
-use Rattle.ps_resolve.proofs.OfRounds.{in_empty, name_placed, queue_of, round_at, segment_named}
 use Rattle.ps_resolve.proofs.KnownNames.{grown}
 use Rattle.ps_laws.proofs.RequestedUnits.{is_had_there, reference_of, all_known, own_in, own_at, units_named, reference_in, references_are}
 
@@ -123,8 +113,7 @@ in_order (s ∷ ss) p q g h l e u = let rest = in_order ss in
 -- 2. the queue: each name at the first of its references that is not known already
 -- reference p is g, and those before it make a queue of k names, of which none is that of g
 abbrev IsEarliest : List (List ℕ × ℕ) → List UnitReference → List UnitReference → ℕ
-    → ℕ
-    → UnitReference → Type 0
+    → ℕ → UnitReference → Type 0
 IsEarliest units queue gs k p g = (slice_get gs p ≡ Some g)
     × (length (requested_from units queue (take p gs)) ≡ k)
     × (is_already_known units (requested_from units queue (take p gs)) g.name ≡ false)
@@ -134,8 +123,7 @@ module _ (units : List (List ℕ × ℕ)) where
   new_here : (queue now gs : List UnitReference) (x : UnitReference) (k : ℕ) (g : UnitReference)
       → now ≡ (if is_already_known units queue x.name then queue else queue ++ x ∷ [])
       → length queue ≤ k → k < length now → slice_get (requested_from units now gs) k
-      ≡ Some g
-      → IsEarliest units queue (x ∷ gs) k zero g
+      ≡ Some g → IsEarliest units queue (x ∷ gs) k zero g
   new_here queue now gs x k g is low high e =
       let none : is_already_known units queue x.name ≡ false = grind (arith, length-append) in
       let longer : now ≡ queue ++ x ∷ [] = grind arith in
@@ -149,8 +137,7 @@ module _ (units : List (List ℕ × ℕ)) where
 
   -- each name that is after those in the queue is that of an earliest reference
   requested_at : (queue gs : List UnitReference) (k : ℕ) (g : UnitReference)
-      → length queue ≤ k
-      → slice_get (requested_from units queue gs) k ≡ Some g
+      → length queue ≤ k → slice_get (requested_from units queue gs) k ≡ Some g
       → (p : ℕ) × IsEarliest units queue gs k p g
   requested_at queue [] k g low e = grind (arith, slice_get_within)
   requested_at queue (x ∷ gs) k g low e =
@@ -312,8 +299,7 @@ module _ (order : Order) (host : List ℕ) (libs : List (List ℕ)) where
           u.file,
           u.within,
           u.named,
-          subst (λ f. code_of f (entry_at order f s.index) ≡ Ok s.code)
-              (u.file_is host) h.code,
+          subst (λ f. code_of f (entry_at order f s.index) ≡ Ok s.code) (u.file_is host) h.code,
           rw wanted at h.kept,
           subst (λ f. s.block ≡ information_block (entry_at order f s.index) true)
               (u.file_is host) (rw wanted at h.block),

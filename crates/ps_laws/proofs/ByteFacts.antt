@@ -1,14 +1,7 @@
 -- The byte that the edits of a segment make is its linked byte, and no other byte is.
-use Rattle.std.proofs.Common.{rules, ◌≡◌, ℕ, ◌+◌, ◌-◌, ◌≤◌, List, [], ◌∷◌, length, Option, Some, None, Ok, true, false, refl, sym, ap, ◌∙◌, inl, inr, arith}
-use Rattle.ps_laws.proofs.Vocabulary.{◌⊎◌, if◌then◌else◌, slice_get, find, lookup, option_map_or, bytes_eq, table_of, private_offset, next_of, IsReference, Reaches, IsSizePlace, IsOnePlace, summed_edits, summed_segment, refs_of, Body, Record, needs_linking, is_host, is_unit, Segment, host_records, units_of, target_in, target_of, known_of, grown_data_size, Target, Order, Edit}
-use Rattle.std.specs.Prelude.{slice_index}
+use Rattle.ps_laws.proofs.Vocabulary.{◌⊎◌, if◌then◌else◌, slice_get, find, lookup, option_map_or, bytes_eq, table_of, private_offset, next_of, IsReference, Reaches, IsSizePlace, IsOnePlace, summed_edits, summed_segment, refs_of, Body, Record, needs_linking, is_host, is_unit, Segment, host_records, units_of, target_in, target_of, known_of, grown_data_size, Target, Order, Edit, rules, ◌≡◌, ℕ, ◌+◌, ◌-◌, ◌≤◌, List, [], ◌∷◌, length, Option, Some, None, Ok, true, false, refl, sym, ap, ◌∙◌, inl, inr, arith, slice_index, IsSlotOf, IsPublic, IsBase, all_private_words, Becomes, IsNumberPlace, IsLinkedByte, UnitRef, PublRef, PrivRef, PublDef, edit_of, unit_slot, public_base, linked_byte}
 use Rattle.ps_resolve.specs.Standing.Privates.{words_before}
-use Rattle.ps_resolve.specs.LinkedBytes.{IsSlotOf, IsPublic, IsBase, all_private_words, Becomes, IsNumberPlace, IsLinkedByte}
-use Rattle.ps_linkinfo.specs.declared.record.Body.TheVariants.{UnitRef, PublRef, PrivRef, PublDef}
 use Rattle.ps_resolve.specs.Symbols.{def_in, definition_in, definitions, definition_of}
-use Rattle.ps_resolve.specs.Operands.{edit_of}
-use Rattle.ps_resolve.specs.References.{unit_slot, public_base}
-use Rattle.ps_resolve.specs.Linking.{linked_byte}
 use Rattle.ps_resolve.specs.declared.definitions.Def.{Def}
 use Rattle.ps_resolve.specs.declared.definitions.DefKind.TheVariants.{Public}
 use Rattle.ps_resolve.specs.declared.references.Target.TheVariants.{Slot, Base}
@@ -217,8 +210,7 @@ module _ (order : Order) (segs : List Segment) (base : IsBase segs (next_of (hos
       go None e = uncovered e
       go (Some f) e = elim (covered_by f e) [
         | inl h ↦ of_number f h
-        | inr u ↦ elim u
-            [ inl h ↦ of_size f h | inr h ↦ of_reference f h ]
+        | inr u ↦ elim u [ inl h ↦ of_size f h | inr h ↦ of_reference f h ]
       ]
 
   pub one_byte : OneUnit segs → OnePublic segs → OneBase segs → (b c : ℕ) → Facts b

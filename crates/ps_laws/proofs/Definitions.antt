@@ -1,11 +1,7 @@
 -- The first fault of the definitions, and that of the host's data size, is the smallest that is.
-use Rattle.std.proofs.Common.{◌≡◌, ℕ, List, [], refl, sym, subst, inl, inr, arith}
-use Rattle.ps_laws.proofs.Vocabulary.{option_map, Record, fault_if, SomeItem, OfDefinitions, in_record, Order, nat_lt, option_and_then, Decides-ltb, total_words, OfDataSize, grown_data_size}
-use Rattle.ps_resolve.specs.Added.{segments}
+use Rattle.ps_laws.proofs.Vocabulary.{option_map, Record, fault_if, SomeItem, OfDefinitions, in_record, Order, nat_lt, option_and_then, Decides-ltb, total_words, OfDataSize, grown_data_size, ◌≡◌, ℕ, List, [], refl, sym, subst, inl, inr, arith, segments, is_definition, definitions_carried}
 use Rattle.ps_resolve.specs.Standing.Definitions.{HasEarlierNamesake, InDefinitions}
-use Rattle.ps_linkinfo.specs.RecordCounts.{is_definition}
 use Rattle.ps_resolve.specs.Faults.{definitions_fault, data_fault}
-use Rattle.ps_resolve.proofs.LookingBack.{definitions_carried}
 use Rattle.ps_laws.proofs.Least.{Least, Precedes, least_if, least_then, least_items, at_apart}
 use Rattle.ps_words.specs.declared.fault.Reason.TheVariants as reason
 pub use Rattle.ps_resolve.proofs.LookingBack.{is_again, again, take_prefix, longer}

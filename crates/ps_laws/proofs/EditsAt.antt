@@ -1,17 +1,10 @@
 -- The edits of a segment of a link: what each is, and which of them covers a place.
-use Rattle.std.proofs.Common.{rules, ◌≡◌, ℕ, zero, suc, ◌+◌, ◌-◌, ◌<◌, ◌≤◌, List, [], ◌∷◌, ◌++◌, length, map, Some, Result, Ok, Err, Bool, true, refl, sym, ap, subst, ◌∙◌, inl, inr, arith}
-use Rattle.ps_laws.proofs.Vocabulary.{same_Some, ◌⊎◌, if◌then◌else◌, ◌&&◌, nat_le, nat_lt, enumerate_from, slice_get, flat_map, table_of, total_words, private_offset, Reaches, IsSizePlace, summed_edits, refs_of, Body, Record, needs_linking, is_host, Segment, target_in, target_of, known_of, grown_data_size, Target, Order, Edit, Byte, Reason}
-use Rattle.std.proofs.lemmas.Bool.Decides.{nat_tests}
+use Rattle.ps_laws.proofs.Vocabulary.{same_Some, ◌⊎◌, if◌then◌else◌, ◌&&◌, nat_le, nat_lt, enumerate_from, slice_get, flat_map, table_of, total_words, private_offset, Reaches, IsSizePlace, summed_edits, refs_of, Body, Record, needs_linking, is_host, Segment, target_in, target_of, known_of, grown_data_size, Target, Order, Edit, Byte, Reason, rules, ◌≡◌, ℕ, zero, suc, ◌+◌, ◌-◌, ◌<◌, ◌≤◌, List, [], ◌∷◌, ◌++◌, length, map, Some, Result, Ok, Err, Bool, true, refl, sym, ap, subst, ◌∙◌, inl, inr, arith, nat_tests, IsNumberPlace, edit_of, record_edits, data_edits, Word}
 use Rattle.ps_linkinfo.specs.Operands.{operand_width}
-use Rattle.ps_resolve.specs.LinkedBytes.{IsNumberPlace}
-use Rattle.ps_resolve.specs.Operands.{edit_of}
-use Rattle.ps_resolve.specs.References.{record_edits}
-use Rattle.ps_resolve.specs.Linking.{data_edits}
 use Rattle.ps_laws.proofs.Items.{In, in_left, in_right, in_flat, of_numbered, in_numbered}
 use Rattle.ps_laws.proofs.AddedUnits.{split_at, mapped, map_at}
 use Rattle.ps_laws.proofs.SoundCodes.{HasOuter}
 use Rattle.ps_words.specs.Edits.{place_of, width, covers}
-use Rattle.ps_words.specs.declared.edit.Edit.TheVariants.{Word}
 
 -- what is in a joined list is in one of its parts
 of_joined : {A : Type 0} (xs ys : List A) (a : A) → In a (xs ++ ys) → In a xs ⊎ In a ys

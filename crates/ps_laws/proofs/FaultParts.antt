@@ -1,14 +1,8 @@
 -- A fault that applies has just the parts of its number.
-use Rattle.std.proofs.Common.{◌≡◌, ℕ, List, length, Some, Ok, Err, Bool, ap, sym, subst, ◌∙◌, inl, inr, arith}
-use Rattle.ps_laws.proofs.Vocabulary.{UnitReference, in_slot, in_record, Order, Fault, Reason, role_of, code_of, entry_at, EntryFault, CodeFault, InRound, Step, OfSlots, OfSources, OfAdded, Entry, Role, is_host, file_at}
+use Rattle.ps_laws.proofs.Vocabulary.{UnitReference, in_slot, in_record, Order, Fault, Reason, role_of, code_of, entry_at, EntryFault, CodeFault, InRound, Step, OfSlots, OfSources, OfAdded, Entry, Role, is_host, file_at, ◌≡◌, ℕ, List, length, Some, Ok, Err, Bool, ap, sym, subst, ◌∙◌, inl, inr, arith, SlotHas, TablesHave, InSources, IsRequested, StandsIn, bad}
 use Rattle.ps_codefile.specs.declared.entry.Role.TheVariants as role
 use Rattle.ps_words.specs.declared.fault.Reason.TheVariants as reason
-use Rattle.ps_resolve.specs.Standing.Slots.{SlotHas}
-use Rattle.ps_resolve.specs.Standing.Sources.{TablesHave, InSources}
-use Rattle.ps_resolve.specs.Standing.Rounds.{IsRequested}
-use Rattle.ps_resolve.specs.Standing.{StandsIn}
 use Rattle.ps_resolve.specs.FaultParts.{HasItsParts, WantsMissing}
-use Rattle.ps_linkinfo.specs.Records.{bad}
 
 module _ (P : Reason → Type 0) where
   -- the reasons for which a slot has no role, an entry no code, and a record is refused

@@ -1,8 +1,5 @@
 -- What is in a list, by its place there.
-use Rattle.std.proofs.Common.{rules, ◌≡◌, ℕ, zero, suc, ◌+◌, ◌<◌, ◌≤◌, List, [], ◌∷◌, ◌++◌, length, take, Option, Some, None, Bool, true, false, refl, ap, ◌∙◌, inl, inr, arith}
-use Rattle.ps_laws.proofs.Vocabulary.{◌⊎◌, if◌then◌else◌, range_with_len, slice_get, filter_map, enumerate_from, flat_map, cons_option, find, cases_lt, cases_order}
-use Rattle.std.specs.List.{filter}
-use Rattle.ps_resolve.proofs.EachSegment.{find_has}
+use Rattle.ps_laws.proofs.Vocabulary.{◌⊎◌, if◌then◌else◌, range_with_len, slice_get, filter_map, enumerate_from, flat_map, cons_option, find, cases_lt, cases_order, rules, ◌≡◌, ℕ, zero, suc, ◌+◌, ◌<◌, ◌≤◌, List, [], ◌∷◌, ◌++◌, length, take, Option, Some, None, Bool, true, false, refl, ap, ◌∙◌, inl, inr, arith, filter, find_has}
 pub use Rattle.ps_resolve.proofs.Items.{In, of_all, all_items, all_in, at_left, right_at, first_right, some_before, find_passes}
 
 -- numbers of which none is before the other
@@ -23,8 +20,7 @@ pub in_flat : {A C : Type 0} (f : A → List C) (xs : List A) (x : A) (y : C) �
 in_flat f [] x y t u = absurd (let e = t.1 in cc)
 in_flat f (z ∷ xs) x y (zero, e) u =
     let same : z ≡ x = cc in in_left (f z) (flat_map f xs) y (rw same u)
-in_flat f (z ∷ xs) x y (suc i, e) u =
-    in_right (f z) (flat_map f xs) y (in_flat f xs x y (i, e) u)
+in_flat f (z ∷ xs) x y (suc i, e) u = in_right (f z) (flat_map f xs) y (in_flat f xs x y (i, e) u)
 
 -- what is in a list with one more item, if there is one
 in_more : {C : Type 0} (o : Option C) (ys : List C) (y : C) → In y ys → In y (cons_option o ys)
@@ -112,9 +108,8 @@ of_numbered {A} n (x ∷ xs) zero p e = grind arith
 of_numbered n (x ∷ xs) (suc k) p e = grind (arith, of_numbered (n + 1) xs k p e)
 
 -- an item is at the same place of the numbered list, with its number
-pub in_numbered : {A : Type 0} (n : ℕ) (xs : List A) (k : ℕ) (x : A) → slice_get xs k
-    ≡ Some x
-    → slice_get (enumerate_from n xs) k ≡ Some (n + k, x)
+pub in_numbered : {A : Type 0} (n : ℕ) (xs : List A) (k : ℕ) (x : A)
+    → slice_get xs k ≡ Some x → slice_get (enumerate_from n xs) k ≡ Some (n + k, x)
 in_numbered n [] k x e = absurd (cc)
 in_numbered {A} n (y ∷ xs) zero x e = grind arith
 in_numbered n (y ∷ xs) (suc k) x e = grind (arith, in_numbered (n + 1) xs k x e)

@@ -1,6 +1,5 @@
 -- The smallest of what applies, part by part.
-use Rattle.std.proofs.Common.{◌≡◌, ℕ, zero, suc, ◌+◌, ◌<◌, ◌≤◌, List, [], ◌∷◌, Option, Some, None, Bool, true, false, refl, sym, ap, subst, ◌∙◌, inl, inr, arith}
-use Rattle.ps_laws.proofs.Vocabulary.{◌⊎◌, if◌then◌else◌, Decides, range_with_len, enumerate_from, slice_get, filter_map, option_or, option_map, option_and_then, cases_lt, false≢true, Fault, Before, first_of, fault_if, Step, key, SomeBelow, SomeItem}
+use Rattle.ps_laws.proofs.Vocabulary.{◌⊎◌, if◌then◌else◌, Decides, range_with_len, enumerate_from, slice_get, filter_map, option_or, option_map, option_and_then, cases_lt, false≢true, Fault, Before, first_of, fault_if, Step, key, SomeBelow, SomeItem, ◌≡◌, ℕ, zero, suc, ◌+◌, ◌<◌, ◌≤◌, List, [], ◌∷◌, Option, Some, None, Bool, true, false, refl, sym, ap, subst, ◌∙◌, inl, inr, arith}
 
 -- nothing applies, or this one does, and it is before each other one that applies
 pub data Least {X : Type 0} (IsBefore : X → X → Type 0) (Stands : X → Type 0) : Option X
@@ -103,9 +102,8 @@ least_within {S} f n (suc m) each apart =
     apart) (λ x y s t. apart n t.0 x y (omega (arith, t.1)) s t.3))
 
 -- each number below one, in order
-pub least_below : {X : Type 0} {B : X → X → Type 0} {S : ℕ → X → Type 0} (f : ℕ
-    → Option X)
-    (n : ℕ) → ((i : ℕ) → i < n → Least B (S i) (f i))
+pub least_below : {X : Type 0} {B : X → X → Type 0} {S : ℕ → X → Type 0}
+    (f : ℕ → Option X) (n : ℕ) → ((i : ℕ) → i < n → Least B (S i) (f i))
     → ((i j : ℕ) (x y : X) → i < j → S i x → S j y → B x y)
     → Least B (λ x. SomeBelow n (λ i. S i x)) (first_of f (range_with_len 0 n))
 least_below f n each apart = least_same (λ x t. (t.0, omega (arith, t.2), t.3))
@@ -165,8 +163,7 @@ least_guard false d l = nothing (λ x t. false≢true (d.1 t.0))
 
 -- one thing, where a test passes, and else what comes after it
 pub least_else : {X P : Type 0} {B : X → X → Type 0} {S : X → Type 0} {o : Option X}
-    (b : Bool)
-    (x : X) → Decides b P → Least B S o → ((y : X) → S y → B x y)
+    (b : Bool) (x : X) → Decides b P → Least B S o → ((y : X) → S y → B x y)
     → Least B (λ y. ((y ≡ x) × P) ⊎ S y) (if b then Some x else o)
 least_else true x d l apart = this x (inl (refl, d.0 refl))
     (λ y. elim [ inl s ↦ inl s.0 | inr t ↦ inr (apart y t) ])

@@ -1,18 +1,11 @@
 -- Where no fault applies, the edits of a link make the linked bytes, and each place has one.
-use Rattle.std.proofs.Common.{◌≡◌, ℕ, ◌<◌, ◌≤◌, List, length, Some, None, Result, Ok, Err, true, refl, inl}
-use Rattle.ps_laws.proofs.Vocabulary.{table_of, OfReferences, IsSegment, IsOfFile, private_offset, IsReference, IsOnePlace, segments_of, summed_segment, NoneStands, Record, needs_linking, is_host, Segment, order_of, target_of, known_of, Target, in_record, Reason}
+use Rattle.ps_laws.proofs.Vocabulary.{table_of, OfReferences, IsSegment, IsOfFile, private_offset, IsReference, IsOnePlace, segments_of, summed_segment, NoneStands, Record, needs_linking, is_host, Segment, order_of, target_of, known_of, Target, in_record, Reason, ◌≡◌, ℕ, ◌<◌, ◌≤◌, List, length, Some, None, Result, Ok, Err, true, refl, inl, RecordHas, IsLinkedByte, HaveLinkedBytes, HaveOneLinkedByte, HaveApartPlaces, reading_fault, linked_byte, Edit, rounds_fine}
 use Rattle.std.proofs.lemmas.List.Elements.{All-same, All-map}
-use Rattle.ps_resolve.specs.Standing.References.{RecordHas}
-use Rattle.ps_resolve.specs.LinkedBytes.{IsLinkedByte, HaveLinkedBytes, HaveOneLinkedByte, HaveApartPlaces}
-use Rattle.ps_resolve.specs.AllFaults.{reading_fault}
-use Rattle.ps_resolve.specs.Linking.{linked_byte}
-use Rattle.ps_words.specs.declared.edit.Edit.{Edit}
 use Rattle.ps_laws.proofs.Least.{Least, this}
 use Rattle.ps_laws.proofs.Steps.{Ranked}
 use Rattle.ps_laws.proofs.Sources.{OneStop}
 use Rattle.ps_laws.proofs.RequestedUnits.{requested_is_there}
 use Rattle.ps_laws.proofs.Items.{all_items}
-use Rattle.ps_resolve.proofs.OfLink.{rounds_fine}
 use Rattle.ps_laws.proofs.OfLink.{of_link}
 use Rattle.ps_laws.proofs.References.{record_rows}
 use Rattle.ps_laws.proofs.Whole.{unread}

@@ -1,6 +1,5 @@
 -- Tests of items, and what they decide.
-use Rattle.std.proofs.Common.{rules, ◌≡◌, ℕ, zero, suc, ◌<◌, List, [], ◌∷◌, Some, None, Bool, true, false, refl, sym, ap, ◌∙◌, inl, inr, arith, is_none, Option}
-use Rattle.ps_laws.proofs.Vocabulary.{◌⊎◌, if◌then◌else◌, not, Decides, slice_get, list_any, find, false≢true, Decides-or, Decides-like, SomeItem}
+use Rattle.ps_laws.proofs.Vocabulary.{◌⊎◌, if◌then◌else◌, not, Decides, slice_get, list_any, find, false≢true, Decides-or, Decides-like, SomeItem, rules, ◌≡◌, ℕ, zero, suc, ◌<◌, List, [], ◌∷◌, Some, None, Bool, true, false, refl, sym, ap, ◌∙◌, inl, inr, arith, is_none, Option}
 pub use Rattle.ps_resolve.proofs.LookingBack.{of_test, any_of_take}
 
 -- what is not None is there

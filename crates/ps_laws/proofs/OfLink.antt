@@ -1,11 +1,5 @@
 -- What is known of a segment of a link, by its slot.
-use Rattle.std.proofs.Common.{◌≡◌, ℕ, List, None}
-use Rattle.ps_resolve.specs.AllFaults.{reading_fault}
-use Rattle.ps_resolve.specs.Added.{segments}
-use Rattle.ps_resolve.specs.OfLink.{IsOfLink}
-use Rattle.ps_resolve.specs.Sources.{Segment, order_of}
-use Rattle.ps_resolve.specs.Standing.Segments.{IsSegment}
-use Rattle.ps_resolve.proofs.OfLink.{of_link as all_of_link}
+use Rattle.ps_laws.proofs.Vocabulary.{◌≡◌, ℕ, List, None, reading_fault, segments, IsOfLink, Segment, order_of, IsSegment, all_of_link}
 use Rattle.ps_laws.proofs.RequestedUnits.{in_segments}
 use Rattle.ps_laws.proofs.Items.{of_all}
 

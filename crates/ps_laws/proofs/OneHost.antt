@@ -1,17 +1,9 @@
 -- Where no fault applies, the host has one segment of its own, no two of its definitions have a
 -- name in common, and one base offset.
-use Rattle.std.proofs.Common.{◌≡◌, ℕ, zero, suc, ◌+◌, ◌<◌, List, [], ◌∷◌, length, Some, None, Bool, true, false, refl, sym, ap, ◌∙◌, is_some, arith}
 use Rattle.ps_resolve.specs.Standing.Definitions.{HasEarlierNamesake}
 use Rattle.ps_laws.proofs.Looking.{is_there}
-use Rattle.ps_laws.proofs.Vocabulary.{same_Some, cons_option, option_map_or, false≢true, next_of, Body, Record, segments_of, is_host, Segment, order_of, host_of, host_records, NoneStands, OfDefinitions, in_record}
-use Rattle.std.specs.Prelude.{filter_map, slice_get, unwrap_or}
-use Rattle.ps_linkinfo.specs.RecordCounts.{is_definition, next_in}
-use Rattle.ps_linkinfo.specs.Records.{EndsOnce, is_end, is_eof}
-use Rattle.ps_linkinfo.specs.declared.record.Body.TheVariants.{PublDef, Eof}
-use Rattle.ps_resolve.specs.AllFaults.{reading_fault}
-use Rattle.ps_resolve.specs.LinkedBytes.{IsHostRecord, IsPublic, IsBase}
+use Rattle.ps_laws.proofs.Vocabulary.{same_Some, cons_option, option_map_or, false≢true, next_of, Body, Record, segments_of, is_host, Segment, order_of, host_of, host_records, NoneStands, OfDefinitions, in_record, ◌≡◌, ℕ, zero, suc, ◌+◌, ◌<◌, List, [], ◌∷◌, length, Some, None, Bool, true, false, refl, sym, ap, ◌∙◌, is_some, arith, filter_map, slice_get, unwrap_or, is_definition, next_in, EndsOnce, is_end, is_eof, PublDef, Eof, reading_fault, IsHostRecord, IsPublic, IsBase, has_host}
 use Rattle.ps_laws.proofs.Items.{find_in, find_passes, not_apart}
-use Rattle.ps_resolve.proofs.OfLink.{has_host}
 use Rattle.ps_laws.proofs.OfLink.{of_link}
 use Rattle.ps_laws.proofs.OneName.{of_segments}
 use Rattle.ps_laws.proofs.OnePlace.{host_linked}

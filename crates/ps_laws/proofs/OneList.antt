@@ -1,11 +1,7 @@
 -- What is said plainly of the units that are added holds of the queue and the segments that the
 -- rounds come to, and of no others.
-use Rattle.std.proofs.Common.{rules, ◌≡◌, ℕ, zero, suc, List, map, Option, Some, None, refl, sym, ap, subst, ◌∙◌, arith}
-use Rattle.ps_laws.proofs.Vocabulary.{slice_get, option_map, same_Some, added_segments, added_fault, request_of, Segment, AddedUnits, UnitReference, Order}
-use Rattle.std.proofs.lemmas.Option.{slice_get-map}
-use Rattle.ps_resolve.specs.Faults.{sources_fault}
+use Rattle.ps_laws.proofs.Vocabulary.{slice_get, option_map, same_Some, added_segments, added_fault, request_of, Segment, AddedUnits, UnitReference, Order, rules, ◌≡◌, ℕ, zero, suc, List, map, Option, Some, None, refl, sym, ap, subst, ◌∙◌, arith, slice_get-map, sources_fault, queue_of, name_placed}
 use Rattle.ps_laws.proofs.AddedUnits.{mapped, same_items, units_are}
-use Rattle.ps_resolve.proofs.OfRounds.{queue_of, name_placed}
 use Rattle.ps_laws.proofs.OneQueue.{Agree, HasOneEntry, same_name, same_segment}
 use Rattle.ps_laws.proofs.UnitPlaces.{no_entry_fault, one_entry}
 

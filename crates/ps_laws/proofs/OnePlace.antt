@@ -1,10 +1,7 @@
 -- Where no fault applies, no place of a segment is covered twice.
-use Rattle.std.proofs.Common.{arith, ◌≡◌, ℕ, List, [], ◌∷◌, true, refl, sym, inl, inr}
-use Rattle.ps_laws.proofs.Vocabulary.{is_reserved, OfReferences, IsSegment, IsOfFile, IsReference, Reaches, IsSizePlace, IsOnePlace, segments_of, NoneStands, Role, Record, Before, needs_linking, is_host, Segment, order_of, Reason}
-use Rattle.ps_resolve.specs.Standing.References.{ReferenceHas}
+use Rattle.ps_laws.proofs.Vocabulary.{is_reserved, OfReferences, IsSegment, IsOfFile, IsReference, Reaches, IsSizePlace, IsOnePlace, segments_of, NoneStands, Role, Record, Before, needs_linking, is_host, Segment, order_of, Reason, arith, ◌≡◌, ℕ, List, [], ◌∷◌, true, refl, sym, inl, inr, ReferenceHas, in_reference}
 use Rattle.ps_laws.proofs.Items.{not_apart}
 use Rattle.ps_laws.proofs.SoundCodes.{HasOuter, outer, number_reserved, size_reserved, own_apart}
-use Rattle.ps_words.specs.FaultPlaces.{in_reference}
 use Rattle.ps_words.specs.declared.fault.Reason.TheVariants as reason
 
 pub host_linked : (r : Role) → is_host r ≡ true → needs_linking r ≡ true

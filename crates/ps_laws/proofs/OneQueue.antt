@@ -1,9 +1,5 @@
 -- Just one queue of names and one list of segments have what is said of the units that are added.
-use Rattle.std.proofs.Common.{rules, ◌≡◌, ℕ, zero, suc, ◌+◌, ◌<◌, List, [], ◌∷◌, ◌++◌, length, take, Option, Some, None, Bool, refl, sym, ap, subst, ◌∙◌, inl, inr, arith}
-use Rattle.ps_laws.proofs.Vocabulary.{slice_get, cases_order, same_Some, Role, Record, IsNamed, HasEntry, Before, Segment, RequestsAt, IsGiver, AddedUnits, UnitReference, Order}
-use Rattle.ps_codefile.specs.Procedures.{ProcedureTables}
-use Rattle.ps_resolve.specs.Sources.{own_segments}
-use Rattle.ps_resolve.specs.RequestedUnits.{IsOfFirstLibrary}
+use Rattle.ps_laws.proofs.Vocabulary.{slice_get, cases_order, same_Some, Role, Record, IsNamed, HasEntry, Before, Segment, RequestsAt, IsGiver, AddedUnits, UnitReference, Order, rules, ◌≡◌, ℕ, zero, suc, ◌+◌, ◌<◌, List, [], ◌∷◌, ◌++◌, length, take, Option, Some, None, Bool, refl, sym, ap, subst, ◌∙◌, inl, inr, arith, ProcedureTables, own_segments, IsOfFirstLibrary}
 use Rattle.ps_laws.proofs.Items.{not_apart, some_before}
 use Rattle.ps_laws.proofs.Least.{not_both}
 
@@ -34,8 +30,7 @@ pub giver_moves : (xs ys : List Segment) (n i : ℕ) (g : UnitReference) → Agr
 giver_moves xs ys n i g same l t = (
   (t.0.0, sym (same i l) ∙ t.0.1, t.0.2, t.0.3),
   requests_moves xs ys i g.at.rec g.name (same i l) t.1,
-  λ j rec b requests. t.2 j rec b (requests_moves ys xs j rec g.name
-      (sym (same j (below j rec b))) requests),
+  λ j rec b requests. t.2 j rec b (requests_moves ys xs j rec g.name (sym (same j (below j rec b))) requests),
 )
   where
     below : (j rec : ℕ) → Before (j ∷ rec ∷ []) (i ∷ g.at.rec ∷ []) → j < n
@@ -52,8 +47,7 @@ same_place : (segs : List Segment) (i j : ℕ) (g h : UnitReference) → IsGiver
     → IsGiver segs j h → g.name ≡ h.name → (i ≡ j) × (g.at.rec ≡ h.at.rec)
 same_place segs i j g h a b same = (
   at,
-  not_apart g.at.rec h.at.rec (λ l. earlier (inr (at, inl l)))
-      (λ l. later (inr (sym at, inl l))),
+  not_apart g.at.rec h.at.rec (λ l. earlier (inr (at, inl l))) (λ l. later (inr (sym at, inl l))),
 )
   where
     earlier : Before (i ∷ g.at.rec ∷ []) (j ∷ h.at.rec ∷ []) → ⊥
@@ -189,9 +183,8 @@ HasOneEntry order libs name =
     → (i j : ℕ) → i < 16 → j < 16 → IsNamed order name lib i → IsNamed order name lib j
     → i ≡ j
 
-segment : ℕ → List ℕ → Role → Bool → ℕ → ℕ → List ℕ
-    → Option ProcedureTables → ℕ
-    → List Record → Segment
+segment : ℕ → List ℕ → Role → Bool → ℕ → ℕ → List ℕ → Option ProcedureTables
+    → ℕ → List Record → Segment
 segment slot name role added file index code tables block records =
     record {
       slot = slot;

@@ -1,14 +1,8 @@
 -- The offset of a private is the base offset of the host's end mark, and the words of all segments
 -- before and of the records before its own.
-use Rattle.std.proofs.Common.{rules, ◌≡◌, ℕ, ◌+◌, ◌<◌, ◌≤◌, List, [], ◌∷◌, take, refl, ap, arith}
-use Rattle.ps_laws.proofs.Vocabulary.{flat_map, Record, Segment, host_records, private_words, total_words, next_of, private_offset, words_taken}
-use Rattle.std.specs.Prelude.{sum_by}
-use Rattle.std.proofs.lemmas.Bool.{lt-ltb}
+use Rattle.ps_laws.proofs.Vocabulary.{flat_map, Record, Segment, host_records, private_words, total_words, next_of, private_offset, words_taken, rules, ◌≡◌, ℕ, ◌+◌, ◌<◌, ◌≤◌, List, [], ◌∷◌, take, refl, ap, arith, sum_by, lt-ltb, all_private_words, records_before, words_before}
 use Rattle.std.proofs.lemmas.List.Sums.{sum_by-append, sum_by-cons}
-use Rattle.ps_resolve.specs.LinkedBytes.{all_private_words}
-use Rattle.ps_resolve.specs.Standing.Privates.{records_before}
 use Rattle.ps_laws.proofs.Segments.{Ascends}
-use Rattle.ps_resolve.proofs.LookingBack.{words_before}
 
 -- the words of records, one by one
 abbrev words : List Record → ℕ

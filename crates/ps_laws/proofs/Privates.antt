@@ -1,17 +1,11 @@
 -- The first fault of the privates is the smallest that is.
-use Rattle.std.proofs.Common.{◌≡◌, ℕ, List, [], map, Option, refl, sym, subst, arith}
-use Rattle.ps_laws.proofs.Vocabulary.{◌⊎◌, enumerate_from, Decides-and, Decides-ltb, Record, first_of, Segment, host_records, next_of, owner_of, OfPrivates, private_offset, in_record, Order, Reason, Fault}
-use Rattle.ps_resolve.specs.Added.{segments}
-use Rattle.ps_linkinfo.specs.RecordCounts.{is_private_reference}
-use Rattle.ps_resolve.specs.Privates.{first_private_fault}
-use Rattle.ps_resolve.specs.Standing.Privates.{PrivateHas, InPrivates}
+use Rattle.ps_laws.proofs.Vocabulary.{◌⊎◌, enumerate_from, Decides-and, Decides-ltb, Record, first_of, Segment, host_records, next_of, owner_of, OfPrivates, private_offset, in_record, Order, Reason, Fault, ◌≡◌, ℕ, List, [], map, Option, refl, sym, subst, arith, segments, is_private_reference, first_private_fault, PrivateHas, InPrivates, again, reason_at, record_fault, privates_carried}
 use Rattle.ps_resolve.specs.Faults.{privates_fault}
 use Rattle.ps_laws.proofs.Least.{Least, Precedes, least_same, least_or, least_if, least_items, at_apart}
 use Rattle.ps_laws.proofs.Steps.{Ranked, because, because_apart}
 use Rattle.ps_laws.proofs.Looking.{of_test}
 use Rattle.ps_laws.proofs.Segments.{over_segments, ascend}
 use Rattle.ps_laws.proofs.PrivateOffsets.{carried}
-use Rattle.ps_resolve.proofs.LookingBack.{again, reason_at, record_fault, privates_carried}
 use Rattle.ps_resolve.specs.declared.allotment.TheConstants.{MAX_NEXT_FREE}
 pub use Rattle.ps_resolve.proofs.LookingBack.{more_words}
 use Rattle.ps_words.specs.declared.fault.Reason.TheVariants as reason

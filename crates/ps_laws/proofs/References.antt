@@ -1,15 +1,9 @@
 -- The first fault of the references is the smallest that is.
-use Rattle.std.proofs.Common.{◌≡◌, ℕ, ◌+◌, ◌<◌, ◌≤◌, List, [], ◌∷◌, ◌++◌, length, take, map, Option, Some, None, Result, Ok, Err, Bool, true, refl, sym, ap, ◌∙◌, inl, inr, arith, append_assoc, append-nil, is_some, unwrap_or}
-use Rattle.ps_laws.proofs.Vocabulary.{◌≢◌, ◌⊎◌, nat_le, nat_lt, Decides, range_with_len, enumerate_from, find, slice_get, list_any, flat_map, lookup, option_map, option_or, result_err, bytes_eq, false≢true, Decides-ltb, Decides-and, Decides-or, Decides-like, flat_map-append, bytes_eq-Decides, is_reserved, is_unit_reference, next_of, added_fault, private_words, Because, SomeBelow, SomeItem, OfReferences, part, private_offset, refs_of, Body, Record, Before, first_of, fault_if, Segment, host_records, units_of, target_in, target_of, words_taken, known_of, Target, in_record, Order, Reason, Fault}
+use Rattle.ps_laws.proofs.Vocabulary.{◌≢◌, ◌⊎◌, nat_le, nat_lt, Decides, range_with_len, enumerate_from, find, slice_get, list_any, flat_map, lookup, option_map, option_or, result_err, bytes_eq, false≢true, Decides-ltb, Decides-and, Decides-or, Decides-like, flat_map-append, bytes_eq-Decides, is_reserved, is_unit_reference, next_of, added_fault, private_words, Because, SomeBelow, SomeItem, OfReferences, part, private_offset, refs_of, Body, Record, Before, first_of, fault_if, Segment, host_records, units_of, target_in, target_of, words_taken, known_of, Target, in_record, Order, Reason, Fault, ◌≡◌, ℕ, ◌+◌, ◌<◌, ◌≤◌, List, [], ◌∷◌, ◌++◌, length, take, map, Option, Some, None, Result, Ok, Err, Bool, true, refl, sym, ap, ◌∙◌, inl, inr, arith, append_assoc, append-nil, is_some, unwrap_or, segments, Defines, RecordHas, Covers, Meet, ReferenceHas, InReferences, UnitRef, PublRef, width_of, value_of, is_in, operands, refs_fault, Known, public_base, records_fault, none_mapped, some_mapped, in_reference}
 use Rattle.std.proofs.lemmas.List.{map-append}
 use Rattle.std.proofs.lemmas.List.Folds.{list_any-append}
-use Rattle.ps_resolve.specs.Added.{segments}
 use Rattle.ps_linkinfo.specs.Operands.{operand_width}
-use Rattle.ps_resolve.specs.Standing.References.{Defines, RecordHas, Covers, Meet, ReferenceHas, InReferences}
-use Rattle.ps_linkinfo.specs.declared.record.Body.TheVariants.{UnitRef, PublRef}
 use Rattle.ps_resolve.specs.Symbols.{definitions, definition_of}
-use Rattle.ps_resolve.specs.Operands.{width_of, value_of, is_in, operands, refs_fault}
-use Rattle.ps_resolve.specs.References.{Known, public_base, records_fault}
 use Rattle.ps_resolve.specs.Faults.{in_segment, references_fault_from, references_fault}
 use Rattle.ps_resolve.specs.declared.definitions.Def.{Def}
 use Rattle.ps_resolve.specs.declared.definitions.DefKind.{DefKind}
@@ -18,14 +12,12 @@ use Rattle.ps_resolve.specs.declared.references.Target.TheVariants.{Base}
 use Rattle.ps_laws.proofs.Least.{Least, nothing, this, Precedes, least_same, least_or, least_if, least_items}
 use Rattle.ps_laws.proofs.RequestedUnits.{HasUnit, units_named, requested_is_there}
 use Rattle.ps_laws.proofs.Steps.{Ranked, because, because_apart, any_of_range}
-use Rattle.ps_resolve.proofs.FirstSlots.{none_mapped, some_mapped}
 use Rattle.ps_laws.proofs.Looking.{is_there, of_test, any_of_take, any_of_items, find_none, find_some}
 use Rattle.ps_laws.proofs.Segments.{over_segments, ascend}
 use Rattle.ps_laws.proofs.Definitions.{take_prefix, longer}
 use Rattle.ps_laws.proofs.PrivateOffsets.{carried as all_carried}
 use Rattle.ps_laws.proofs.Privates.{more_words}
 use Rattle.ps_laws.proofs.Sources.{at_most}
-use Rattle.ps_words.specs.FaultPlaces.{in_reference}
 use Rattle.ps_words.specs.declared.fault.Reason.TheVariants as reason
 use Rattle.ps_words.specs.declared.words.TheConstants.{MAX_OPERAND}
 

@@ -1,16 +1,11 @@
 -- Each unit that a record of the link requests has its segment there, where the rounds end without
 -- a fault.
-use Rattle.std.proofs.Common.{rules, ◌≡◌, ℕ, zero, suc, ◌+◌, ◌<◌, ◌≤◌, List, [], ◌∷◌, ◌++◌, Option, Some, None, Bool, true, refl, sym, ap, subst, ◌∙◌, inl, inr, arith, is_some}
-use Rattle.ps_laws.proofs.Vocabulary.{◌⊎◌, if◌then◌else◌, ◌&&◌, ◌==◌, Decides, slice_get, list_any, find, lookup, bytes_eq, enumerate_from, filter_map, Decides-at, Decides-and, Decides-like, Decides-eqb, bytes_eq-Decides, slots, is_unit_reference, unit_references, all_unit_references, requested_from, added_segments, added_fault, SomeItem, IsSegment, Record, is_role, is_unit, is_empty, Segment, own_segment, units_of, UnitReference, Order}
-use Rattle.std.proofs.lemmas.Bool.{or_cases}
+use Rattle.ps_laws.proofs.Vocabulary.{◌⊎◌, if◌then◌else◌, ◌&&◌, ◌==◌, Decides, slice_get, list_any, find, lookup, bytes_eq, enumerate_from, filter_map, Decides-at, Decides-and, Decides-like, Decides-eqb, bytes_eq-Decides, slots, is_unit_reference, unit_references, all_unit_references, requested_from, added_segments, added_fault, SomeItem, IsSegment, Record, is_role, is_unit, is_empty, Segment, own_segment, units_of, UnitReference, Order, rules, ◌≡◌, ℕ, zero, suc, ◌+◌, ◌<◌, ◌≤◌, List, [], ◌∷◌, ◌++◌, Option, Some, None, Bool, true, refl, sym, ap, subst, ◌∙◌, inl, inr, arith, is_some, or_cases, at_slot, own_units, references_of, in_empty, name_placed, queue_of}
 use Rattle.ps_resolve.specs.Added.{is_already_known, empty_slots, requested_units, segment_at, segments}
 use Rattle.ps_resolve.specs.Sources.{own_segments}
 use Rattle.ps_laws.proofs.Looking.{is_there, of_test, any_of_items, find_none}
 use Rattle.ps_laws.proofs.Items.{In, all_in, not_apart, in_left, in_right, in_flat, in_filter_map, in_numbered, of_filter_map, in_range, of_range, of_filter, filter_ascends}
-use Rattle.ps_resolve.proofs.EachSegment.{at_slot}
 use Rattle.ps_laws.proofs.Segments.{found_in_slot}
-use Rattle.ps_resolve.proofs.EachRound.{own_units, references_of}
-use Rattle.ps_resolve.proofs.OfRounds.{in_empty, name_placed, queue_of}
 use Rattle.ps_resolve.proofs.KnownNames.{grown, known_last, known_longer}
 
 -- the name of each reference is known in the queue that they come to

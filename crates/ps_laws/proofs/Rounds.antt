@@ -1,11 +1,7 @@
 -- The first fault of the units that are added is the smallest that is.
-use Rattle.std.proofs.Common.{◌≡◌, ◌≤◌, ◌∷◌, ◌∙◌, append-nil, length-append, ℕ, ◌+◌, length, Option, subst, arith, unwrap_or, List, [], take, Some, None, Bool, refl, inl, inr}
-use Rattle.ps_laws.proofs.Vocabulary.{◌⊎◌, if◌then◌else◌, Decides, slice_get, option_or, option_map, option_and_then, cases_lt, Decides-or, RoundsOutcome, after, added_segments, added_fault, Step, OfSources, OfAdded, rank, part, key, InRound, entry_fault, code_fault, Before, Segment, unit_source, UnitReference, in_record, Order, Fault}
+use Rattle.ps_laws.proofs.Vocabulary.{◌⊎◌, if◌then◌else◌, Decides, slice_get, option_or, option_map, option_and_then, cases_lt, Decides-or, RoundsOutcome, after, added_segments, added_fault, Step, OfSources, OfAdded, rank, part, key, InRound, entry_fault, code_fault, Before, Segment, unit_source, UnitReference, in_record, Order, Fault, ◌≡◌, ◌≤◌, ◌∷◌, ◌∙◌, append-nil, length-append, ℕ, ◌+◌, length, Option, subst, arith, unwrap_or, List, [], take, Some, None, Bool, refl, inl, inr, record_read, IsMissing, PlacedFault, IsTurn, all_rounds, round_fault, segments_before}
 use Rattle.ps_resolve.specs.Added.{is_missing, requested_units, rounds}
-use Rattle.ps_resolve.specs.Standing.Keys.{record_read}
-use Rattle.ps_resolve.specs.Standing.Rounds.{IsMissing, PlacedFault}
 use Rattle.ps_codefile.specs.declared.entry.Role.TheVariants as role
-use Rattle.ps_resolve.proofs.EachRound.{IsTurn, all_rounds, round_fault, segments_before}
 use Rattle.ps_laws.proofs.Least.{quiet, least_else, Least, nothing, this, Precedes, least_same, least_order, least_map}
 use Rattle.ps_laws.proofs.Looking.{of_test}
 use Rattle.ps_laws.proofs.Sources.{OneStop, none_has, unit_least, placed_late}
@@ -69,8 +65,7 @@ round_least law order host libs k g (Some slot) =
   where
     Parts : Fault → Type 0
     Parts f = ((f ≡ in_record g.at.segment.file g.at.segment.slot g.at.rec reason.MissingUnit)
-        × IsMissing order libs g.name)
-        ⊎ PlacedFault order host libs g.name slot f
+        × IsMissing order libs g.name) ⊎ PlacedFault order host libs g.name slot f
 
     to : (f : Fault) → Parts f → RoundHas order host libs g (Some slot) f
     to f (inl t) = inl t
@@ -124,11 +119,6 @@ the_round law order host libs prefix rest k g left turn =
 
 module _ (order : Order) (host : List ℕ) (libs : List (List ℕ)) (prefix : List Segment)
     (k : ℕ) where
-  -- no round follows the one after the last that added a segment
-  last_is : (j : ℕ) (f : Fault) → added_segments order host libs ≡ prefix
-      → k ≡ length prefix → k ≤ j → InRound order host libs j f → j ≡ k
-  last_is j f is at low t = grind arith
-
   -- the first fault of the last round is the smallest that applies from this round on
   last_round : (o : Option Fault) → added_segments order host libs ≡ prefix
       → k ≡ length prefix → Least (Precedes (OfAdded k)) (InRound order host libs k) o

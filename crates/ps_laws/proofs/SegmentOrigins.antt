@@ -1,31 +1,14 @@
 -- Where no fault applies, the segments of a link have the origins that are said plainly.
-use Rattle.std.proofs.Common.{◌≡◌, ℕ, zero, suc, ◌+◌, ◌<◌, ◌≤◌, List, [], ◌∷◌, ◌++◌, take, Some, None, Result, Ok, true, false, refl, sym, ap, subst, ◌∙◌, inl, inr, arith}
-use Rattle.ps_laws.proofs.Vocabulary.{◌≢◌, false≢true, request_fault, UnitReference, ◌⊎◌, slice_get, or_parts, request_of, NoneStands, role_fault, range_with_len, option_map_or, added_segments, request_by_slot, option_map, result_err, added_fault, segments_of, unit_source, option_or, result_ok, IsOfRound, IsSegment, source_of, entry_at, role_of, code_of, SomeItem, IsOfFile, is_empty, order_of, Request, HasRole, reading, Segment, file_at, is_role, IsGiver, Entry, Role, Record, IsFile, RequestsAt, in_slot, Order, Reason}
-use Rattle.std.specs.Prelude.{◌↔◌, All}
-use Rattle.std.proofs.Math.Dec.{ltb}
-use Rattle.std.proofs.lemmas.Bool.{ltb-false}
-use Rattle.std.proofs.lemmas.Option.{some_pair_parts}
-use Rattle.ps_codefile.specs.Dictionary.{is_nameless}
+use Rattle.ps_laws.proofs.Vocabulary.{◌≢◌, false≢true, request_fault, UnitReference, ◌⊎◌, slice_get, or_parts, request_of, NoneStands, role_fault, range_with_len, option_map_or, added_segments, request_by_slot, option_map, result_err, added_fault, segments_of, unit_source, option_or, result_ok, IsOfRound, IsSegment, source_of, entry_at, role_of, code_of, SomeItem, IsOfFile, is_empty, order_of, Request, HasRole, reading, Segment, file_at, is_role, IsGiver, Entry, Role, Record, IsFile, RequestsAt, in_slot, Order, Reason, ◌≡◌, ℕ, zero, suc, ◌+◌, ◌<◌, ◌≤◌, List, [], ◌∷◌, ◌++◌, take, Some, None, Result, Ok, true, false, refl, sym, ap, subst, ◌∙◌, inl, inr, arith, ◌↔◌, All, ltb, ltb-false, some_pair_parts, is_nameless, reading_fault, IsOfSlot, Spells, own_segments, IsOwn, IsAddedUnit, IsInPlace, IsUnitOf, IsSliceOf, IsReadFrom, HaveOneEach, AreBySlot, AreOwn, AreAdded, AreInPlace, AreOfLibraries, AreRead, AreOfRounds, IsTaken, RequestsName, HasSlot, map_none, request_parts, own_known, round_known, rounds_fine, slots_fine, sources_fine, none_at, in_empty}
 use Rattle.ps_resolve.specs.Added.{added_at, segments, empty_slots, requested_units}
-use Rattle.ps_resolve.specs.AllFaults.{reading_fault}
-use Rattle.ps_resolve.specs.OfLink.{IsOfSlot}
 use Rattle.ps_codefile.specs.declared.entry.Role.TheVariants as role
-use Rattle.ps_linkinfo.specs.Records.{Spells}
-use Rattle.ps_resolve.specs.Sources.{own_segments}
 use Rattle.ps_resolve.specs.Faults.{slot_reason, slots_fault, sources_fault}
-use Rattle.ps_resolve.specs.Origins.{IsOwn, IsAddedUnit, IsInPlace, IsUnitOf, IsSliceOf, IsReadFrom, HaveOneEach, AreBySlot, AreOwn, AreAdded, AreInPlace, AreOfLibraries, AreRead, AreOfRounds, IsTaken, RequestsName}
-use Rattle.ps_resolve.specs.RequestedUnits.{HasSlot}
-use Rattle.ps_resolve.proofs.FirstSlots.{none_mapped as map_none}
 use Rattle.ps_laws.proofs.Items.{In, all_items, in_range, in_filter, of_take, some_before}
-use Rattle.ps_resolve.proofs.EachRound.{request_parts}
-use Rattle.ps_resolve.proofs.OfLink.{own_known, round_known, rounds_fine, slots_fine, sources_fine}
 use Rattle.ps_laws.proofs.OfLink.{of_link}
 use Rattle.ps_resolve.proofs.ReadingCodes.{whole_code}
-use Rattle.ps_resolve.proofs.ReadingKnown.{none_at}
 use Rattle.ps_laws.proofs.Sources.{OneStop}
 use Rattle.ps_laws.proofs.Looking.{is_there}
 use Rattle.ps_laws.proofs.Segments.{own_in_slot, Ascends, ascend}
-use Rattle.ps_resolve.proofs.OfRounds.{in_empty}
 use Rattle.ps_laws.proofs.RequestedUnits.{empty_slot, empty_ascend, found_added, in_segments, own_at}
 use Rattle.ps_laws.proofs.AddedUnits.{both_none, has_own, given, units_are, split_at}
 use Rattle.ps_laws.proofs.Whole.{unread}

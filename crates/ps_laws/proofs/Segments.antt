@@ -1,11 +1,8 @@
 -- The segments of a link, one slot after another.
-use Rattle.std.proofs.Common.{◌≡◌, ℕ, ◌<◌, List, map, Option, Some, sym, subst, arith}
-use Rattle.ps_laws.proofs.Vocabulary.{SomeBelow, ◌==◌, slice_get, find, Decides-eqb, slots, SomeItem, IsSegment, first_of, Segment, own_segment, Order, Fault}
+use Rattle.ps_laws.proofs.Vocabulary.{SomeBelow, ◌==◌, slice_get, find, Decides-eqb, slots, SomeItem, IsSegment, first_of, Segment, own_segment, Order, Fault, ◌≡◌, ℕ, ◌<◌, List, map, Option, Some, sym, subst, arith, SomeSegment, own_parts, slot_parts}
 use Rattle.ps_resolve.specs.Added.{segments, segment_at}
-use Rattle.ps_resolve.specs.Standing.Segments.{SomeSegment}
 use Rattle.ps_resolve.specs.Linkable.{AscendFrom}
 pub use Rattle.ps_resolve.proofs.ReadingKnown.{ascend}
-use Rattle.ps_resolve.proofs.ReadingKnown.{own_parts, slot_parts}
 use Rattle.ps_laws.proofs.Least.{Least, least_same, least_then, least_below, first_of_filter_map}
 use Rattle.ps_laws.proofs.Looking.{find_some}
 

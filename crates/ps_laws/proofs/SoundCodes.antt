@@ -1,12 +1,8 @@
 -- What follows for a segment of a link from its file: its records end once, and in its code the
 -- number and the data size lie apart, at reserved places.
-use Rattle.std.proofs.Common.{◌≡◌, ℕ, ◌+◌, ◌<◌, ◌≤◌, List, length, Some, None, Bool, true, false, arith}
-use Rattle.std.proofs.lemmas.Bool.{eqb-false}
-use Rattle.ps_laws.proofs.Vocabulary.{table_of, is_reserved, needs_linking, IsOfFile, Segment, Order, ◌==◌, ◌&&◌, ◌||◌, or_parts}
+use Rattle.ps_laws.proofs.Vocabulary.{table_of, is_reserved, needs_linking, IsOfFile, Segment, Order, ◌==◌, ◌&&◌, ◌||◌, or_parts, ◌≡◌, ℕ, ◌+◌, ◌<◌, ◌≤◌, List, length, Some, None, Bool, true, false, arith, eqb-false, procedures, dictionary_start, content_of, tables_fault, EndsOnce}
 use Rattle.ps_codefile.specs.Places.{HasTables}
-use Rattle.ps_codefile.specs.Procedures.{procedures, dictionary_start, content_of, tables_fault}
 use Rattle.ps_codefile.proofs.Tables.{whole_table}
-use Rattle.ps_linkinfo.specs.Records.{EndsOnce}
 use Rattle.ps_linkinfo.proofs.Stands.{reading_is}
 
 -- the records of a linked one end in the only EOFMARK

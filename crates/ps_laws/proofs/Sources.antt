@@ -1,19 +1,9 @@
 -- The first fault of the sources is the smallest that is.
-use Rattle.std.proofs.Common.{rules, ◌≡◌, ℕ, ◌+◌, ◌-◌, ◌*◌, ◌<◌, ◌≤◌, List, [], ◌∷◌, length, Option, Some, None, Result, Ok, Err, Bool, true, false, refl, sym, ap, ◌∙◌, inl, inr, arith, leb-true, le-leb, unwrap_or, is_none}
-use Rattle.ps_laws.proofs.Vocabulary.{◌⊎◌, ◌≢◌, if◌then◌else◌, nat_lt, not, ◌&&◌, ◌||◌, ◌==◌, nat_le, Decides, range_with_len, enumerate_from, slice_get, list_any, filter_map, find, option_or, option_map, option_and_then, option_map_or, result_ok, false≢true, Decides-at, Decides-ltb, Decides-and, Decides-or, Decides-like, Decides-eqb, none-some, same_Some, bytes_eq-Decides, slots, entry_at, role_of, code_of, information_of, table_of, Because, SomeBelow, SomeItem, OfSources, rank, part, IsNamed, HasEntry, EntryFault, CodeFault, Entry, Role, reading, Record, entry_fault, code_fault, role_fault, first_of, fault_if, is_host, needs_linking, is_named, chosen_library, source_of, unit_source, file_at, in_slot, in_record, Order, Reason, Fault}
-use Rattle.std.specs.Prelude.{◌↔◌, slice_index}
-use Rattle.std.specs.List.{list_all}
-use Rattle.std.proofs.lemmas.Bool.Decides.{Decides-not}
-use Rattle.ps_codefile.specs.Procedures.{procedures, content_of, dictionary_start, dictionary_len, is_placed, numbers, tables, tables_fault}
-use Rattle.ps_resolve.specs.Standing.Sources.{EntriesHave, NoneHas, UnitFault, HasBadTable, AreBad, TablesHave, InSources}
-use Rattle.ps_linkinfo.specs.Records.{Stops}
+use Rattle.ps_laws.proofs.Vocabulary.{◌⊎◌, ◌≢◌, if◌then◌else◌, nat_lt, not, ◌&&◌, ◌||◌, ◌==◌, nat_le, Decides, range_with_len, enumerate_from, slice_get, list_any, filter_map, find, option_or, option_map, option_and_then, option_map_or, result_ok, false≢true, Decides-at, Decides-ltb, Decides-and, Decides-or, Decides-like, Decides-eqb, none-some, same_Some, bytes_eq-Decides, slots, entry_at, role_of, code_of, information_of, table_of, Because, SomeBelow, SomeItem, OfSources, rank, part, IsNamed, HasEntry, EntryFault, CodeFault, Entry, Role, reading, Record, entry_fault, code_fault, role_fault, first_of, fault_if, is_host, needs_linking, is_named, chosen_library, source_of, unit_source, file_at, in_slot, in_record, Order, Reason, Fault, rules, ◌≡◌, ℕ, ◌+◌, ◌-◌, ◌*◌, ◌<◌, ◌≤◌, List, [], ◌∷◌, length, Option, Some, None, Result, Ok, Err, Bool, true, false, refl, sym, ap, ◌∙◌, inl, inr, arith, leb-true, le-leb, unwrap_or, is_none, ◌↔◌, slice_index, list_all, Decides-not, procedures, content_of, dictionary_start, dictionary_len, is_placed, numbers, tables, tables_fault, EntriesHave, NoneHas, UnitFault, HasBadTable, AreBad, TablesHave, InSources, Stops, is_missing, has_entry, PlacedFault}
 use Rattle.ps_resolve.specs.Faults.{entries_reason, information_fault, sources_fault}
-use Rattle.ps_resolve.specs.Requests.{is_missing}
-use Rattle.ps_resolve.specs.Sources.{has_entry}
 use Rattle.ps_resolve.proofs.RequestedSegments.{has_name}
 pub use Rattle.ps_resolve.proofs.FirstSlots.{ok_is}
 use Rattle.ps_laws.proofs.Least.{Least, nothing, this, Precedes, least_same, least_or, least_if, least_then, least_below, least_items, least_guard, least_else}
-use Rattle.ps_resolve.specs.Standing.Rounds.{PlacedFault}
 use Rattle.ps_laws.proofs.Steps.{Ranked, because, any_of_range, any_lesser}
 use Rattle.ps_laws.proofs.Items.{not_apart}
 use Rattle.ps_laws.proofs.Looking.{of_test}
@@ -238,8 +228,7 @@ module _ (order : Order) (code : List ℕ) where
   -- the reason that is given for the tables of a code is the one of smallest rank that applies
   pub tables_rows : (host : Bool)
       → Least Ranked (TablesHave order code host) (tables_fault order code host)
-  tables_rows host =
-      go _ _ (are_bad order code host) (native_table)
+  tables_rows host = go _ _ (are_bad order code host) (native_table)
     where
       go : (b n : Bool) → Decides b (AreBad order code host) → Decides n ((p : ℕ)
           × (1 ≤ p) × (p ≤ procedures code) × (t : ℕ) × (table_of order code p ≡ Some t)
@@ -384,8 +373,7 @@ module _ (order : Order) where
   entries_high name lib why h = grind arith
 
   pub placed_late : (host : List ℕ) (libs : List (List ℕ)) (name : List ℕ) (slot : ℕ)
-      (f : Fault) → PlacedFault order host libs name slot f
-      → Late slot 13 f
+      (f : Fault) → PlacedFault order host libs name slot f → Late slot 13 f
   placed_late host libs name slot f (inl t) = grind (arith, entries_high)
   placed_late host libs name slot f (inr t) =
       let file = file_at host libs t.0.0 in

@@ -1,13 +1,8 @@
 -- The first fault of each step is the smallest that is.
-use Rattle.std.proofs.Common.{rules, ◌≡◌, ℕ, zero, suc, ◌+◌, ◌<◌, ◌≤◌, List, length, Option, Result, Ok, Err, Bool, false, refl, subst, inl, inr, arith}
-use Rattle.ps_laws.proofs.Vocabulary.{◌⊎◌, if◌then◌else◌, ◌&&◌, Decides, range_with_len, list_any, option_map, option_map_or, result_ok, result_err, bytes_eq, cases_lt, false≢true, Decides-ltb, Decides-and, Decides-like, bytes_eq-Decides, entry_at, role_of, Because, SomeBelow, HasRole, IsUnitSlot, Step, OfHost, OfSlots, OfNoHost, OfLibraries, rank, Role, is_role, is_host, is_unit, Order, Reason, Fault}
-use Rattle.std.proofs.lemmas.Bool.Decides.{Decides-not}
-use Rattle.ps_codefile.specs.Dictionary.{FileOrder, file_order, opened_alone, opened_as, opened_beside_as, same_order}
+use Rattle.ps_laws.proofs.Vocabulary.{◌⊎◌, if◌then◌else◌, ◌&&◌, Decides, range_with_len, list_any, option_map, option_map_or, result_ok, result_err, bytes_eq, cases_lt, false≢true, Decides-ltb, Decides-and, Decides-like, bytes_eq-Decides, entry_at, role_of, Because, SomeBelow, HasRole, IsUnitSlot, Step, OfHost, OfSlots, OfNoHost, OfLibraries, rank, Role, is_role, is_host, is_unit, Order, Reason, Fault, rules, ◌≡◌, ℕ, zero, suc, ◌+◌, ◌<◌, ◌≤◌, List, length, Option, Result, Ok, Err, Bool, false, refl, subst, inl, inr, arith, Decides-not, FileOrder, file_order, opened_alone, opened_as, opened_beside_as, same_order, SlotHas, InSlots, InNoHost, in_file}
 use Rattle.ps_resolve.specs.Standing.Hosts.{HostHas, InHost}
-use Rattle.ps_resolve.specs.Standing.Slots.{SlotHas, InSlots, InNoHost}
 use Rattle.ps_resolve.specs.Standing.Libraries.{LibraryHas, InLibraries}
 use Rattle.ps_resolve.specs.Faults.{host_fault, slot_reason, slots_fault, no_host_fault, library_reason, libraries_fault}
-use Rattle.ps_words.specs.FaultPlaces.{in_file}
 use Rattle.ps_laws.proofs.Least.{Least, nothing, this, Precedes, least_same, least_order, least_or, least_if, least_map, least_below, least_each}
 use Rattle.ps_codefile.specs.declared.entry.Role.TheVariants as role
 use Rattle.ps_words.specs.declared.fault.Reason.TheVariants as reason
@@ -80,8 +75,7 @@ step_4 order libs =
     because OfLibraries _ (λ a b r. grind arith) (library_reasons order lib)) (λ i j a b x y h.
     because_apart OfLibraries _ _ (λ r q. inr (refl, inl h)) x y))
 
--- 2
--- the test of a role passes just where there is one, and it is Host
+-- 2 the test of a role passes just where there is one, and it is Host
 pub host_role : (r : Result Role Reason)
     → Decides (option_map_or is_host (result_ok r) false) (r ≡ Ok role.Host)
 host_role r = grind arith

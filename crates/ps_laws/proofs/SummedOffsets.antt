@@ -1,13 +1,8 @@
 -- The offset that runs along with the records is the base offset and the words of all privates
 -- before it.
-use Rattle.std.proofs.Common.{◌≡◌, ℕ, suc, ◌+◌, ◌-◌, List, [], ◌∷◌, ◌++◌, length, take, map, refl, ap, ◌∙◌, arith}
-use Rattle.ps_laws.proofs.Vocabulary.{if◌then◌else◌, enumerate_from, needs_linking, private_offset, flat_map, Record, total_words, segments_of, words_taken, is_host, private_words, summed_edits, summed_segment, Segment, order_of, known_of, Order, Byte}
-use Rattle.ps_resolve.specs.LinkedBytes.{HaveSummedOffsets}
-use Rattle.ps_resolve.specs.References.{Known, record_edits, records_edits}
-use Rattle.ps_resolve.specs.Linking.{edited_from, data_edits, segment_edits}
+use Rattle.ps_laws.proofs.Vocabulary.{if◌then◌else◌, enumerate_from, needs_linking, private_offset, flat_map, Record, total_words, segments_of, words_taken, is_host, private_words, summed_edits, summed_segment, Segment, order_of, known_of, Order, Byte, ◌≡◌, ℕ, suc, ◌+◌, ◌-◌, List, [], ◌∷◌, ◌++◌, length, take, map, refl, ap, ◌∙◌, arith, HaveSummedOffsets, Known, record_edits, records_edits, edited_from, data_edits, segment_edits, words_before}
 use Rattle.ps_laws.proofs.Segments.{ascend}
 use Rattle.ps_laws.proofs.PrivateOffsets.{carried}
-use Rattle.ps_resolve.proofs.LookingBack.{words_before}
 
 -- the edits of records, each with its own offset
 records_summed : (known : Known) (code : List ℕ) (offset : ℕ → ℕ) (rs : List Record)

@@ -1,16 +1,9 @@
 -- The place of a unit: the first library that has an entry of its name, and the first such entry.
-use Rattle.std.proofs.Common.{◌≡◌, ℕ, zero, suc, ◌+◌, ◌<◌, List, [], Some, sym, ap, subst, arith, unwrap_or, refl, ◌≤◌, None}
-use Rattle.ps_laws.proofs.Vocabulary.{slice_get, option_map, slots, EntryFault, ◌≢◌, find, IsFile, Order, Request, in_slot, Fault, is_named, chosen_library, unit_source, request_fault, file_at, IsNamed, HasEntry, entry_at}
-use Rattle.std.proofs.lemmas.Option.{option_and_then_some}
-use Rattle.ps_resolve.specs.Sources.{library_file}
-use Rattle.ps_resolve.specs.Standing.Sources.{EntriesHave}
-use Rattle.ps_resolve.proofs.FirstSlots.{some_mapped}
+use Rattle.ps_laws.proofs.Vocabulary.{slice_get, option_map, slots, EntryFault, ◌≢◌, find, IsFile, Order, Request, in_slot, Fault, is_named, chosen_library, unit_source, request_fault, file_at, IsNamed, HasEntry, entry_at, ◌≡◌, ℕ, zero, suc, ◌+◌, ◌<◌, List, [], Some, sym, ap, subst, arith, unwrap_or, refl, ◌≤◌, None, option_and_then_some, library_file, EntriesHave, some_mapped, IsUnitOf, request_parts}
 use Rattle.ps_laws.proofs.Least.{quiet, Least}
 use Rattle.ps_laws.proofs.Items.{find_in, find_passes, of_range, not_apart}
 use Rattle.ps_laws.proofs.Sources.{Found, IsChosen, chosen, is_chosen, named, entry_least}
-use Rattle.ps_resolve.specs.Origins.{IsUnitOf}
 use Rattle.ps_laws.proofs.OneQueue.{HasOneEntry}
-use Rattle.ps_resolve.proofs.EachRound.{request_parts}
 use Rattle.ps_words.specs.declared.fault.Reason.TheVariants as reason
 
 -- this library is at its number, and no smaller one has an entry of the name; in the library this
@@ -63,8 +56,7 @@ module _ (order : Order) (name : List ℕ) (libs : List (List ℕ)) where
             named = (named order name p.1 i).0
                 (find_passes (is_named order name p.1) slots i found);
             is_file = λ host. library_at host p.0 p.1 first.there;
-            file_is = λ host. ap (λ o. unwrap_or o [])
-                (library_at host p.0 p.1 first.there);
+            file_is = λ host. ap (λ o. unwrap_or o []) (library_at host p.0 p.1 first.there);
           }
 
 -- numbers that are not different are the same

@@ -1,11 +1,6 @@
 -- The blocks of codes whose slots ascend.
-use Rattle.std.proofs.Common.{◌≡◌, ◌≤◌, ◌==◌, ◌∷◌, length-append, ◌∙◌, ℕ, List, map, take, drop, None, refl, ◌+◌, ◌*◌, ◌<◌, [], ◌++◌, length, arith}
-use Rattle.ps_linkfile.proofs.Vocabulary.{nat_lt, filter, find, blocks, Order, Origin, pair_of, Ascend, All, All-nil, All-cons, All-head, All-tail, MAX_WORD, block_of, nat_tests, word_bytes, all_blocks, starts_of}
-use Rattle.std.proofs.lemmas.Bool.{eq-eqb}
-use Rattle.std.proofs.lemmas.List.{map-append, take_all}
+use Rattle.ps_linkfile.proofs.Vocabulary.{nat_lt, filter, find, blocks, Order, Origin, pair_of, Ascend, All, All-nil, All-cons, All-head, All-tail, MAX_WORD, block_of, nat_tests, word_bytes, all_blocks, starts_of, ◌≡◌, ◌≤◌, ◌==◌, ◌∷◌, length-append, ◌∙◌, ℕ, List, map, take, drop, None, refl, ◌+◌, ◌*◌, ◌<◌, [], ◌++◌, length, arith, eq-eqb, take-add, map-append, take_all, MAX_CODE_LEN, MAX_CODE_BLOCKS}
 use Rattle.std.proofs.lemmas.List.Sums.{sum_by-cons, sum_by_push}
-use Rattle.std.proofs.Math.Seq.{take-add}
-use Rattle.ps_codefile.specs.declared.code_layout.TheConstants.{MAX_CODE_LEN, MAX_CODE_BLOCKS}
 
 pub all_blocks-cons : (o : Origin) (os : List Origin)
     → all_blocks (o ∷ os) ≡ blocks (length o.code) + all_blocks os

@@ -1,6 +1,5 @@
 -- The codes of a plan's sources, one after another.
-use Rattle.std.proofs.Common.{◌≡◌, ℕ, ◌+◌, ◌*◌, List, [], ◌∷◌, ◌++◌, length, drop, Option, ◌∙◌, append_assoc, arith, length-append}
-use Rattle.ps_linkfile.proofs.Vocabulary.{length-map-range_with_len, Appends, blocks, Order, Edit, Origin, patched_or_zero, all_blocks, padded_code, padded_codes, HaveEdits, AppendsPrefix}
+use Rattle.ps_linkfile.proofs.Vocabulary.{length-map-range_with_len, Appends, blocks, Order, Edit, Origin, patched_or_zero, all_blocks, padded_code, padded_codes, HaveEdits, AppendsPrefix, ◌≡◌, ℕ, ◌+◌, ◌*◌, List, [], ◌∷◌, ◌++◌, length, drop, Option, ◌∙◌, append_assoc, arith, length-append}
 use Rattle.ps_linkfile.proofs.Blocks.{all_blocks-cons}
 use Rattle.ps_linkfile.proofs.Prefixes.{appends_twice, prefix_more}
 
@@ -56,8 +55,7 @@ codes_len order (o ∷ os) (d ∷ ds) h =
     length-append (padded_code order o.code d) (padded_codes order os ds)
     ∙ omega (
       arith,
-      length-map-range_with_len (patched_or_zero order o.code d) 0
-          (512 * blocks (length o.code)),
+      length-map-range_with_len (patched_or_zero order o.code d) 0 (512 * blocks (length o.code)),
       codes_len order os ds h.1,
       all_blocks-cons o os,
     )

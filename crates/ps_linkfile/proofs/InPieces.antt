@@ -1,6 +1,5 @@
 -- A list that is given in pieces.
-use Rattle.std.proofs.Common.{◌≡◌, ℕ, ◌+◌, List, ◌++◌, take, drop}
-use Rattle.ps_linkfile.proofs.Vocabulary.{flat_map, drop-drop, take-append-drop}
+use Rattle.ps_linkfile.proofs.Vocabulary.{flat_map, drop-drop, take-append-drop, ◌≡◌, ℕ, ◌+◌, List, ◌++◌, take, drop}
 use Rattle.std.proofs.lemmas.Grind.{flat_map-append}
 
 -- the text of the items from i on is that of a piece and of those after it

@@ -1,6 +1,5 @@
 -- Items of an array, each with its index: what was added so far, and what is left of all.
-use Rattle.std.proofs.Common.{◌≡◌, ℕ, ◌+◌, ◌≤◌, List, [], ◌∷◌, ◌++◌, length, drop, ap}
-use Rattle.ps_linkfile.proofs.Vocabulary.{flat_map, enumerate_from, drop_all}
+use Rattle.ps_linkfile.proofs.Vocabulary.{flat_map, enumerate_from, drop_all, ◌≡◌, ℕ, ◌+◌, ◌≤◌, List, [], ◌∷◌, ◌++◌, length, drop, ap}
 
 module _ {X : Type 0} (item_of : ℕ × X → List ℕ) (xs : List X) (i : ℕ) where
   -- the items from i on

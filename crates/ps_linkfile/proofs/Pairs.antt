@@ -1,7 +1,5 @@
 -- The sixteen pairs of a segment dictionary, byte by byte.
-use Rattle.std.proofs.Common.{◌≡◌, ◌≢◌, ℕ, zero, suc, ◌+◌, ◌*◌, ◌/◌, ◌%◌, ◌≤◌, ◌<◌, List, [], ◌∷◌, ◌++◌, length, get_or, drop, replicate, sym, ◌∙◌, ap, subst, inl, inr, arith, length-append}
-use Rattle.ps_linkfile.proofs.Vocabulary.{flat_map, range_with_len, cases_lt, word_bytes, blocks, Order, Origin, slots, Ascend, get_or-replicate, length-replicate, get_or_append_left, ext_get_or, drop_all}
-use Rattle.std.proofs.lemmas.List.{get_or-append_right}
+use Rattle.ps_linkfile.proofs.Vocabulary.{flat_map, range_with_len, cases_lt, word_bytes, blocks, Order, Origin, slots, Ascend, get_or-replicate, length-replicate, get_or_append_left, ext_get_or, drop_all, ◌≡◌, ◌≢◌, ℕ, zero, suc, ◌+◌, ◌*◌, ◌/◌, ◌%◌, ◌≤◌, ◌<◌, List, [], ◌∷◌, ◌++◌, length, get_or, drop, replicate, sym, ◌∙◌, ap, subst, inl, inr, arith, length-append, get_or-append_right}
 use Rattle.ps_linkfile.specs.LinkedFile.{block_of, pair_of, all_pairs}
 use Rattle.ps_linkfile.proofs.Blocks.{Left, left_start, left_more, first_block, first_pair, no_pair}
 
@@ -88,9 +86,8 @@ module _ (order : Order) (all : List Origin) where
 
   -- the pair of one code more
   pub pairs_more : (count : ℕ) (old mid new : List ℕ) (block from start : ℕ) (o : Origin)
-      → drop count all ≡ o ∷ drop (count + 1) all
-      → start ≡ block_of all o.slot → PairsSoFar order all count old block from
-      → IsPut order old mid (4 * o.slot) start
+      → drop count all ≡ o ∷ drop (count + 1) all → start ≡ block_of all o.slot
+      → PairsSoFar order all count old block from → IsPut order old mid (4 * o.slot) start
       → IsPut order mid new (4 * o.slot + 2) (length o.code)
       → PairsSoFar order all (count + 1) new (block + blocks (length o.code)) (o.slot + 1)
   pairs_more count old mid new block from start o is start_is h put second =

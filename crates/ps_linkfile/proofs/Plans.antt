@@ -1,12 +1,6 @@
 -- A plan of a link can be written, and its file is the linked file.
-use Rattle.std.proofs.Common.{arith, ◌≡◌, ℕ, ◌+◌, ◌≤◌, ◌<◌, List, [], ◌∷◌, length, map, refl, ap}
-use Rattle.ps_linkfile.proofs.Vocabulary.{length-map, flat_map, patched_byte, Order, Edit, private_words, Segment, order_of, Known, Planned, origin_of, LinkSegments, IsPlan, linked_segments, padded_code, padded_segment, linked_file, padded_codes, file_in, HaveEdits, known_of, total_words, next_of, host_records}
-use Rattle.ps_codefile.specs.Dictionary.{block_len}
+use Rattle.ps_linkfile.proofs.Vocabulary.{length-map, flat_map, patched_byte, Order, Edit, private_words, Segment, order_of, Known, Planned, origin_of, LinkSegments, IsPlan, linked_segments, padded_code, padded_segment, linked_file, padded_codes, file_in, HaveEdits, known_of, total_words, next_of, host_records, arith, ◌≡◌, ℕ, ◌+◌, ◌≤◌, ◌<◌, List, [], ◌∷◌, length, map, refl, ap, block_len, segments_of, edited_from, summary_of, summary_in, IsReady}
 use Rattle.ps_resolve.specs.Added.{slot_names}
-use Rattle.ps_resolve.specs.LinkedBytes.{segments_of}
-use Rattle.ps_resolve.specs.Linking.{edited_from}
-use Rattle.ps_linkfile.specs.LinkedFile.{summary_of}
-use Rattle.ps_linkfile.specs.Writing.{summary_in, IsReady}
 use Rattle.ps_linkfile.proofs.Slots.{segments_ascend, segments_small}
 
 -- the segments of those with their edits

@@ -1,7 +1,5 @@
 -- Prefixes of what is to be written, and lists that are a function of their places.
-use Rattle.std.proofs.Common.{◌≡◌, ℕ, zero, suc, ◌+◌, ◌-◌, ◌<◌, List, [], ◌∷◌, ◌++◌, length, take, drop, map, get_or, Option, Some, None, Result, Ok, Err, OnErr, refl, sym, ◌∙◌, ap, subst, append_assoc, arith, length-drop}
-use Rattle.ps_linkfile.proofs.Vocabulary.{length-map-range_with_len, get_or-map-range_with_len, Appends, range_with_len, AppendsPrefix}
-use Rattle.std.proofs.lemmas.List.{append-nil, take_all, take-append-drop, ext_get_or}
+use Rattle.ps_linkfile.proofs.Vocabulary.{length-map-range_with_len, get_or-map-range_with_len, Appends, range_with_len, AppendsPrefix, ◌≡◌, ℕ, zero, suc, ◌+◌, ◌-◌, ◌<◌, List, [], ◌∷◌, ◌++◌, length, take, drop, map, get_or, Option, Some, None, Result, Ok, Err, OnErr, refl, sym, ◌∙◌, ap, subst, append_assoc, arith, length-drop, append-nil, take_all, take-append-drop, ext_get_or}
 use Rattle.std.proofs.Math.Seq.{take-append_seam, take-add}
 
 -- what stays as it was grew by nothing
@@ -38,8 +36,7 @@ pub prefix_more : (a b c : Option (List ℕ)) (xs ys zs bs : List ℕ) → xs ++
 prefix_more a b c xs ys zs bs e h k = prefix_from a c (xs ++ take k.0 ys) (drop k.0 ys ++ zs) bs
     (rw (
       append_assoc xs (take k.0 ys) (drop k.0 ys ++ zs),
-      ← append_assoc (take k.0 ys)
-          (drop k.0 ys) zs,
+      ← append_assoc (take k.0 ys) (drop k.0 ys) zs,
       take-append-drop,
     ) e) (appends_twice a b c xs (take k.0 ys) h k.1)
 

@@ -1,9 +1,6 @@
 -- The text of references, which is written from the last one on.
-use Rattle.std.proofs.Common.{◌≡◌, ℕ, ◌+◌, ◌-◌, ◌<◌, ◌≤◌, ◌++◌, List, ◌∷◌, length, take, drop, get_or, ◌∙◌, ap, arith, add-one, refl}
-use Rattle.ps_linkfile.proofs.Vocabulary.{flat_map, MAX_WORD, reference, PIECE_REFERENCES}
-use Rattle.std.specs.Prelude.{decimal, min}
+use Rattle.ps_linkfile.proofs.Vocabulary.{flat_map, MAX_WORD, reference, PIECE_REFERENCES, ◌≡◌, ℕ, ◌+◌, ◌-◌, ◌<◌, ◌≤◌, ◌++◌, List, ◌∷◌, length, take, drop, get_or, ◌∙◌, ap, arith, add-one, refl, decimal, min, length-drop, take_min}
 use Rattle.std.proofs.lemmas.Fmt.{length-decimal-le}
-use Rattle.std.proofs.lemmas.List.{length-drop, take_min}
 use Rattle.ps_resolve.proofs.TakenPlaces.{drop_one}
 
 pub digits_few : (n : ℕ) → n ≤ MAX_WORD → length (decimal n) ≤ 5

@@ -1,10 +1,8 @@
 -- How the counts of a writer rise while a file is written.
-use Rattle.std.proofs.Common.{rules, ◌≡◌, ◌≢◌, ◌∙◌, ℕ, ◌+◌, ◌*◌, ◌-◌, ◌≤◌, ◌<◌, List, [], ◌∷◌, length, drop, Bool, true, false, Result, Ok, Err, ap, refl, arith, ◌^◌}
-use Rattle.ps_linkfile.proofs.Vocabulary.{All, min, blocks, MAX_CODE_LEN, Origin, Counts, WriteFault, NoneFailed, OneFailed, Rises, all_blocks, Ascend}
+use Rattle.ps_linkfile.proofs.Vocabulary.{All, min, blocks, MAX_CODE_LEN, Origin, Counts, WriteFault, NoneFailed, OneFailed, Rises, all_blocks, Ascend, rules, ◌≡◌, ◌≢◌, ◌∙◌, ℕ, ◌+◌, ◌*◌, ◌-◌, ◌≤◌, ◌<◌, List, [], ◌∷◌, length, drop, Bool, true, false, Result, Ok, Err, ap, refl, arith, ◌^◌, AreAtMost, AreBelow, Failures, HasRoom, IfDevice, IfStalled, OneError, OneStall, RisesByPieces, counts_after, one_more, saturated_after}
 use Rattle.std.specs.declared.io.Error.{Error}
 use Rattle.ps_linkfile.specs.declared.block_layout.TheConstants.{MAX_FILE_BLOCKS}
 use Rattle.ps_linkfile.specs.declared.error.WriteFault.TheVariants.{Device, Stalled}
-use Rattle.ps_linkfile.specs.Counts.{AreAtMost, AreBelow, Failures, HasRoom, IfDevice, IfStalled, OneError, OneStall, RisesByPieces, counts_after, one_more, saturated_after}
 use Rattle.ps_linkfile.proofs.Blocks.{all_blocks-cons, few_codes, few_blocks}
 
 -- a count that 64 bits can hold one more of rises by one

@@ -1,6 +1,5 @@
 -- A name as a line shows it, byte by byte.
-use Rattle.std.proofs.Common.{◌≡◌, ℕ, List, [], ◌∷◌, length, get_or, refl, arith}
-use Rattle.ps_linkfile.specs.Lines.{shown_name, shown_byte}
+use Rattle.ps_linkfile.proofs.Vocabulary.{◌≡◌, ℕ, List, [], ◌∷◌, length, get_or, refl, arith, shown_name, shown_byte}
 
 -- a name of eight bytes, byte by byte
 pub eight : (name : List ℕ) → length name ≡ 8 → shown_name name ≡ shown_byte

@@ -1,12 +1,9 @@
 -- The segments of a link are by slot, and no code is longer than MAX_CODE_LEN bytes.
-use Rattle.std.proofs.Common.{ℕ, ◌+◌, ◌<◌, ◌≤◌, List, [], ◌∷◌, length, map, sym, subst, inl, inr, arith}
-use Rattle.ps_linkfile.proofs.Vocabulary.{All, Order, entry_at, MAX_CODE_LEN, Origin, Ascend, origin_of}
-use Rattle.std.proofs.lemmas.List.Elements.{All-map, All-tail}
+use Rattle.ps_linkfile.proofs.Vocabulary.{All, Order, entry_at, MAX_CODE_LEN, Origin, Ascend, origin_of, ℕ, ◌+◌, ◌<◌, ◌≤◌, List, [], ◌∷◌, length, map, sym, subst, inl, inr, arith, All-map, All-tail, Segment, file_at}
 use Rattle.ps_codefile.specs.declared.entry.Role.{Role}
 use Rattle.ps_codefile.specs.declared.entry.Role.TheVariants.{Wanted}
 use Rattle.ps_resolve.specs.Added.{segments, segment_at, added_segments}
 use Rattle.ps_resolve.specs.Linkable.{AscendFrom}
-use Rattle.ps_resolve.specs.Sources.{Segment, file_at}
 use Rattle.ps_resolve.proofs.EachSegment.{IsMade, added_made, at_slot, each_slot, own_made}
 use Rattle.ps_resolve.proofs.OfRounds.{each_added}
 use Rattle.ps_resolve.proofs.ReadingCodes.{whole}
@@ -50,8 +47,7 @@ origins_ascend from [] rises within = tt
 origins_ascend from (s ∷ ss) rises within = (
   rises.0,
   within 0 s (omega arith),
-  origins_ascend (s.slot + 1) ss rises.1
-      (All-tail (λ (q : Segment). q.slot < 16) s ss within),
+  origins_ascend (s.slot + 1) ss rises.1 (All-tail (λ (q : Segment). q.slot < 16) s ss within),
 )
 
 module _ (order : Order) (host : List ℕ) (libs : List (List ℕ)) where

@@ -1,7 +1,5 @@
 -- The sources of a plan and their origins.
-use Rattle.std.proofs.Common.{arith, ℕ, List, [], map, get_or, drop, Some, false, ap, sym, ◌≡◌, ◌+◌, ◌≤◌, ◌<◌, ◌∷◌, length, ◌∙◌}
-use Rattle.ps_linkfile.proofs.Vocabulary.{All, slice_get, Edit, MAX_CODE_LEN, Origin, origin_of_source, Source, block_of, starts_of, Ascend}
-use Rattle.std.proofs.lemmas.List.{drop-map, drop_more, length-map, get_or-map, get_or-drop}
+use Rattle.ps_linkfile.proofs.Vocabulary.{All, slice_get, Edit, MAX_CODE_LEN, Origin, origin_of_source, Source, block_of, starts_of, Ascend, arith, ℕ, List, [], map, get_or, drop, Some, false, ap, sym, ◌≡◌, ◌+◌, ◌≤◌, ◌<◌, ◌∷◌, length, ◌∙◌, drop-map, drop_more, length-map, get_or-map, get_or-drop}
 use Rattle.std.proofs.lemmas.Option.{get_or_from_slice_get, slice_get_within}
 use Rattle.ps_linkfile.proofs.Blocks.{slots_below}
 use Rattle.ps_linkfile.proofs.Codes.{IsAt}

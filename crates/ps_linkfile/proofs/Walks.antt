@@ -1,6 +1,5 @@
 -- The text of a walk over the records of a segment, by the texts of a record and of a fault.
-use Rattle.std.proofs.Common.{◌≡◌, ℕ, ◌+◌, List, [], ◌∷◌, ◌++◌, length, arith, append_assoc, append-nil, Option, Some, None, Result, Ok, Err}
-use Rattle.ps_linkfile.proofs.Vocabulary.{flat_map, enumerate_from, Reason, items_of, Record}
+use Rattle.ps_linkfile.proofs.Vocabulary.{flat_map, enumerate_from, Reason, items_of, Record, ◌≡◌, ℕ, ◌+◌, List, [], ◌∷◌, ◌++◌, length, arith, append_assoc, append-nil, Option, Some, None, Result, Ok, Err}
 
 module _ (of_record : ℕ × Record → List ℕ)
     (of_fault : ℕ → Option Reason → List ℕ) where

@@ -1,30 +1,20 @@
 -- The linked file is one list: where its facts hold, each byte is that of the list.
-use Rattle.std.proofs.Common.{◌≡◌, ℕ, suc, List, ◌+◌, ◌-◌, ◌*◌, ◌/◌, ◌≤◌, ◌<◌, [], ◌∷◌, ◌++◌, length, map, get_or, take, drop, replicate, Option, Some, None, Result, Err, Bool, true, false, cond, refl, sym, ◌∙◌, ap, subst, inl, inr, arith, append_assoc, length-append, length-take, length-drop}
-use Rattle.ps_linkfile.proofs.Vocabulary.{flat_map, length-map-range_with_len, get_or-map-range_with_len, nat_tests, file_order, ext_get_or, all_blocks, LinkedFile, All-nil, in_file, Segment, drop_all, block_of, All-cons, opened_as, order_of, drop-drop, blocks, get_or_append_left, get_or-replicate, Order, Fault, Origin, pair_of, origins, Reason, origin_of, Edit, padded_segment, linked_file, OpenedFile, patched_or_zero, linked_segments}
-use Rattle.std.specs.Prelude.{All, nat_lt, slice_range}
-use Rattle.std.specs.Option.{option_map}
+use Rattle.ps_linkfile.proofs.Vocabulary.{flat_map, length-map-range_with_len, get_or-map-range_with_len, nat_tests, file_order, ext_get_or, all_blocks, LinkedFile, All-nil, in_file, Segment, drop_all, block_of, All-cons, opened_as, order_of, drop-drop, blocks, get_or_append_left, get_or-replicate, Order, Fault, Origin, pair_of, origins, Reason, origin_of, Edit, padded_segment, linked_file, OpenedFile, patched_or_zero, linked_segments, ◌≡◌, ℕ, suc, List, ◌+◌, ◌-◌, ◌*◌, ◌/◌, ◌≤◌, ◌<◌, [], ◌∷◌, ◌++◌, length, map, get_or, take, drop, replicate, Option, Some, None, Result, Err, Bool, true, false, cond, refl, sym, ◌∙◌, ap, subst, inl, inr, arith, append_assoc, length-append, length-take, length-drop, All, nat_lt, slice_range, option_map, append-nil, get_or-take, get_or-drop, get_or-append-add, take_at, drop_at, cases_lt, ltb-false, le-ltb, IsLinkedByte, segments_of, HaveLinkedBytes, HaveOneLinkedByte, IsStopped, linked_byte, NamesFirst, error_of, All-map}
 use Rattle.std.specs.Result.{result_err}
-use Rattle.std.proofs.lemmas.Bool.{cases_lt, ltb-false, le-ltb}
-use Rattle.std.proofs.lemmas.List.{append-nil, get_or-take, get_or-drop, get_or-append-add, take_at, drop_at}
 use Rattle.std.proofs.lemmas.List.Folds.{drop_split}
 use Rattle.std.proofs.Math.Seq.{take-append_seam, drop-append-add}
 use Rattle.ps_words.specs.declared.fault.Reason.TheVariants as reason
-use Rattle.ps_resolve.specs.LinkedBytes.{IsLinkedByte, segments_of, HaveLinkedBytes, HaveOneLinkedByte}
 use Rattle.ps_resolve.specs.Standing.{NoneStands, NoneStandsInReading, FaultAt, IsFirst}
 use Rattle.ps_resolve.specs.Standing.Keys.{Step}
 use Rattle.ps_resolve.specs.FaultParts.{HasItsParts}
-use Rattle.ps_resolve.specs.Plans.{IsStopped}
 use Rattle.ps_resolve.specs.declared.linkage.Stop.{Stop}
 use Rattle.ps_resolve.specs.Added.{segments, slot_names}
-use Rattle.ps_resolve.specs.Linking.{linked_byte}
 use Rattle.ps_resolve.specs.Faults.{host_fault}
 use Rattle.ps_resolve.specs.AllFaults.{first_fault, reading_fault}
 use Rattle.ps_linkfile.specs.LinkedFile.{all_pairs, dictionary}
-use Rattle.ps_linkfile.specs.Outcomes.{NamesFirst, error_of}
 use Rattle.ps_linkfile.proofs.Blocks.{Left, left_start, left_more, first_block, all_blocks-cons}
 use Rattle.ps_linkfile.proofs.Pairs.{pair_four, pairs_at, pairs_len}
 use Rattle.ps_linkfile.proofs.Plans.{segments_in, linked_are}
-use Rattle.std.proofs.lemmas.List.Elements.{All-map}
 use Rattle.ps_linkfile.proofs.Slots.{segments_ascend}
 use Rattle.ps_resolve.proofs.FirstSlots.{neither_first}
 
@@ -57,8 +47,7 @@ behind xs ys n j len = rw (← len) (get_or-append-add xs ys j 0)
 -- a code with its edits is at the block of its slot, with zeros up to the end of its last block
 abbrev IsLaid : Order → List ℕ → List Origin → Segment × List Edit → Type 0
 IsLaid order file all e = (p : ℕ) → p < 512 * blocks (length e.0.code)
-    → get_or file (512 * block_of all e.0.slot + p) 0
-    ≡ patched_or_zero order e.0.code e.1 p
+    → get_or file (512 * block_of all e.0.slot + p) 0 ≡ patched_or_zero order e.0.code e.1 p
 
 module _ (order : Order) where
   inside : (e : Segment × List Edit) (p : ℕ) → p < length e.0.code
@@ -82,8 +71,7 @@ module _ (order : Order) where
       (512 * blocks (length e.0.code)) p p 0 lt (omega arith)
 
   -- all codes, each in whole blocks, take 512 bytes for each of their blocks
-  codes_len : (es : List (Segment × List Edit))
-      → length (flat_map (padded_segment order) es)
+  codes_len : (es : List (Segment × List Edit)) → length (flat_map (padded_segment order) es)
       ≡ 512 * all_blocks (map origin_of (segments_in es))
   codes_len [] = omega arith
   codes_len (e ∷ es) =

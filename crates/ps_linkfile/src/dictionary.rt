@@ -12,6 +12,7 @@ use std::alloc::Allocator;
 
 /// The sixteen pairs of the dictionary: for the slot of each source the block that its code begins
 /// in and the code's length, and zeros for any other.
+#[tactic(auto, using(crate::proofs::Views::slot_at))]
 fn pairs_of(order: Order, sources: &[Source], starts: &[u16]) -> [u8; NAMES]
     requires slots { Ascend 0 (map origin_of_source sources.now) }
     requires sizes { All (λ o. length o.code ≤ MAX_CODE_LEN) (map origin_of_source sources.now) }

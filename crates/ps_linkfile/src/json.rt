@@ -22,6 +22,7 @@ fn add_byte<S: TextWriter>(text: &mut S, byte: u8)
 }
 
 /// Adds the bytes of a name inside a string.
+#[tactic(auto, using(std::proofs::lemmas::List::drop_more, crate::proofs::Written::all_written, crate::proofs::Written::items_left, crate::proofs::Written::items_over, crate::proofs::Written::none_yet, crate::proofs::Written::some_more))]
 fn add_bytes<S: TextWriter>(text: &mut S, bytes: &[u8])
     ensures { Adds S.added text.old (flat_map json_byte bytes.now) text.new }
 {
@@ -87,6 +88,7 @@ pub(crate) fn add_references<S: TextWriter>(text: &mut S, refs: &Refs)
 }
 
 /// Adds each reference.
+#[tactic(auto, using(std::proofs::lemmas::List::drop_more, crate::proofs::Numbered::numbered_left, crate::proofs::Numbered::numbered_over, crate::proofs::Written::all_written, crate::proofs::Written::none_yet, crate::proofs::Written::some_more))]
 fn add_places<S: TextWriter>(text: &mut S, refs: &Refs)
     ensures { Adds S.added text.old
         (flat_map reference_item (enumerate_from 0 refs.now)) text.new }

@@ -51,6 +51,7 @@ impl<'a, A: Allocator + Copy> Linked<'a, A> {
     /// its private variables, and its blocks of 512 bytes, the segment dictionary's counted, of
     /// which there are at most `MAX_FILE_BLOCKS`. So many bytes `write` writes.
     /// Source: this project's profile.
+    #[tactic(auto, using(crate::proofs::Blocks::few_codes, crate::proofs::Blocks::few_blocks))]
     pub fn summary(&self) -> Summary
         ensures value { result ≡ summary_in self.now }
         ensures bounded { result.blocks ≤ MAX_FILE_BLOCKS }
@@ -67,6 +68,7 @@ impl<'a, A: Allocator + Copy> Linked<'a, A> {
     /// Refuses `Device` where a write returned an error, which is not repeated, and `Stalled` where
     /// a write of at least one byte took none. The writer then has a prefix of the linked file.
     /// Source: this project's profile.
+    #[tactic(auto, using(crate::proofs::Prefixes::on_err_always))]
     pub fn write<W: Write>(&self, out: &mut W) -> Result<Summary, WriteFault>
         ensures file { OnOk result (Appends (W.contents out.old) (W.contents out.new)
             (file_in self.now)) }
@@ -87,6 +89,7 @@ impl<'a, A: Allocator + Copy> Linked<'a, A> {
     /// `Stalled` where a write of at least one byte took none: `stalls` has then risen by one, and
     /// `errors` not. The writer then has a prefix of the linked file.
     /// Source: this project's profile.
+    #[tactic(auto, using(crate::proofs::Prefixes::on_err_always, crate::proofs::Rising::by_pieces))]
     pub fn write_told<W: ToldWriter>(&self, out: &mut W) -> Result<Summary, WriteFault>
         requires { AreAtMost (W.counts out.old) 4294967296 }
         ensures file { OnOk result (Appends (W.contents out.old) (W.contents out.new)
@@ -218,6 +221,7 @@ pub fn prepare<'a, A: Allocator + Copy>(
 /// Refuses `Write` where the writer failed, which then has a prefix of the linked file.
 /// Source: UCSD Pascal II.0 manual, code file format; the published II.0 Linker source; the layout
 /// is this project's profile.
+#[tactic(auto, using(std::proofs::lemmas::Result::err_from_is_err_and, crate::proofs::Whole::none_found))]
 pub fn link<'a, A: Allocator + Copy, W: Write>(
     alloc: A,
     host: &'a [u8],

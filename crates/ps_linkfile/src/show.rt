@@ -1,7 +1,6 @@
 //! What a code file has, as text.
-ghost use Rattle.std.specs.Prelude.{◌≡◌, ◌<◌, ◌++◌, ◌∷◌, [], if◌then◌else◌, None, Some, IfOk, IfErr, OnOk, codes};
+ghost use Rattle.std.specs.Prelude.{◌≡◌, ◌<◌, ◌++◌, ◌∷◌, [], if◌then◌else◌, None, Some, IfOk, IfErr, OnOk, codes, flat_map};
 ghost use Rattle.std.specs.Io.KnownBytes.{Appends};
-ghost use Rattle.std.specs.List.{flat_map};
 ghost use Rattle.ps_words.specs.FaultPlaces.{in_file};
 ghost use Rattle.ps_codefile.specs.Dictionary.{slots, file_order, entry_at};
 ghost use Rattle.ps_linkinfo.specs.Records.{reading};
@@ -119,6 +118,7 @@ fn add_slot<S: TextWriter>(text: &mut S, dict: &Dict, slot: u8)
 }
 
 /// Adds the line of each slot.
+#[tactic(auto, using(crate::proofs::Written::all_written, crate::proofs::Written::none_yet, crate::proofs::Written::slots_over))]
 fn add_slots<S: TextWriter>(text: &mut S, dict: &Dict)
     ensures { Adds S.added text.old
         (flat_map (slot_line dict.now.order dict.now.file) slots) text.new }
@@ -259,6 +259,7 @@ fn add_record_fault<S: TextWriter>(text: &mut S, form: Form, rec: usize, reason:
 
 /// Adds the rows of link information in a file with these units: of each record up to its end, or
 /// up to the first fault and that fault.
+#[tactic(auto, using(crate::proofs::Written::some_more, crate::proofs::Written::all_written, crate::proofs::Walks::walked, crate::proofs::Walks::record_next, crate::proofs::Walks::fault_next))]
 fn add_records<S: TextWriter>(
     text: &mut S,
     form: Form,
@@ -342,6 +343,7 @@ pub(crate) fn add_links<S: TextWriter>(
 }
 
 /// Adds the link information of each slot.
+#[tactic(auto, using(crate::proofs::Written::all_written, crate::proofs::Written::none_yet, crate::proofs::Written::slots_over))]
 fn add_all_links<S: TextWriter>(text: &mut S, dict: &Dict)
     ensures { Adds S.added text.old
         (flat_map (links_in Lines dict.now.order dict.now.file) slots) text.new }
@@ -368,6 +370,7 @@ fn add_all_links<S: TextWriter>(text: &mut S, dict: &Dict)
 /// the kind words fit neither byte order, each of file 0, also where there is no memory; and
 /// `Memory` where memory was refused. Never returns `Write`.
 /// Source: UCSD Pascal II.0 manual, code file format; the text is this project's profile.
+#[tactic(auto, using(crate::proofs::Shows::shown_is))]
 pub fn show_text<A: Allocator + Copy>(alloc: A, file: &[u8]) -> Result<Vec<u8, A>, LinkError>
     ensures text { IfOk result (λ text. text.items ≡ show_of file.now) }
     ensures sound { IfOk result (λ _. show_fault file.now ≡ None) }

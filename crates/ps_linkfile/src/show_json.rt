@@ -1,7 +1,6 @@
 //! What a code file has, as JSON.
-ghost use Rattle.std.specs.Prelude.{◌≡◌, ◌<◌, None, IfErr, OnOk};
+ghost use Rattle.std.specs.Prelude.{◌≡◌, ◌<◌, None, IfErr, OnOk, flat_map};
 ghost use Rattle.std.specs.Io.KnownBytes.{Appends};
-ghost use Rattle.std.specs.List.{flat_map};
 ghost use Rattle.ps_codefile.specs.Dictionary.{slots};
 ghost use Rattle.ps_linkfile.specs.Adding.{Adds};
 ghost use Rattle.ps_linkfile.specs.Counts.{NoneFailed};
@@ -51,6 +50,7 @@ fn add_order<S: TextWriter>(text: &mut S, order: Option<Order>)
 }
 
 /// Adds the item of each slot.
+#[tactic(auto, using(crate::proofs::Written::all_written, crate::proofs::Written::none_yet, crate::proofs::Written::slots_over))]
 fn add_slots<S: TextWriter>(text: &mut S, dict: &Dict)
     ensures { Adds S.added text.old
         (flat_map (slot_item dict.now.order dict.now.file) slots) text.new }

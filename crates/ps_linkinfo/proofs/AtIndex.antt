@@ -1,9 +1,6 @@
 -- The record with an index, of records that are given one by one with their indices.
-use Rattle.std.proofs.Common.{◌≡◌, ℕ, suc, ◌+◌, ◌-◌, ◌<◌, ◌≤◌, List, [], ◌∷◌, length, Some, None, sym, ◌∙◌, ap, arith}
-use Rattle.std.specs.Prelude.{slice_get}
+use Rattle.ps_linkinfo.proofs.Vocabulary.{◌≡◌, ℕ, suc, ◌+◌, ◌-◌, ◌<◌, ◌≤◌, List, [], ◌∷◌, length, Some, None, sym, ◌∙◌, ap, arith, slice_get, numbered_records, Record}
 use Rattle.std.proofs.lemmas.Option.{some_pair_parts}
-use Rattle.ps_linkinfo.specs.Numbered.{numbered_records}
-use Rattle.ps_linkinfo.specs.declared.record.LinkRecord.{LinkRecord as Record}
 
 -- the record with index `rec` is among those that are left
 pub record IsAhead (all : List Record) (rec : ℕ) (left : List (ℕ × Record)) : Type 0 where

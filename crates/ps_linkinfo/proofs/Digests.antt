@@ -1,11 +1,7 @@
 -- The hash of the names of the records that are left.
-use Rattle.std.proofs.Common.{◌≡◌, ℕ, ◌+◌, List, [], ◌∷◌, Bool, true, false, if◌then◌else◌, refl, ap}
-use Rattle.std.specs.Prelude.{fold}
+use Rattle.ps_linkinfo.proofs.Vocabulary.{◌≡◌, ℕ, ◌+◌, List, [], ◌∷◌, Bool, true, false, if◌then◌else◌, refl, ap, fold, declares_name, with_declared_name, numbered_records, Record}
 use Rattle.std.specs.Hash.DefaultHasher as sip
 use Rattle.std.specs.declared.hash.DefaultHasher.{DefaultHasher}
-use Rattle.ps_linkinfo.specs.RecordCounts.{declares_name, with_declared_name}
-use Rattle.ps_linkinfo.specs.Numbered.{numbered_records}
-use Rattle.ps_linkinfo.specs.declared.record.LinkRecord.{LinkRecord as Record}
 
 -- the state that has hashed the names of the records that are left, too
 abbrev pub with_left : DefaultHasher → List (ℕ × Record) → DefaultHasher

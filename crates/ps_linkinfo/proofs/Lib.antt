@@ -1,4 +1,5 @@
-pub mod Words
+pub mod Vocabulary
+pub mod ReferenceWords
 pub mod Spelled
 pub mod OneReading
 pub mod Steps

@@ -1,12 +1,6 @@
 -- The names of records that are read.
-use Rattle.std.proofs.Common.{◌≡◌, ℕ, zero, suc, ◌≤◌, List, [], length, drop, Bool, true, false, Option, Some, None, refl, arith}
-use Rattle.std.specs.Prelude.{All}
-use Rattle.std.proofs.lemmas.List.{length-take-le}
+use Rattle.ps_linkinfo.proofs.Vocabulary.{◌≡◌, ℕ, zero, suc, ◌≤◌, List, [], length, drop, Bool, true, false, Option, Some, None, refl, arith, All, length-take-le, Order, Reason, Record, bad, is_eof, record_at, read_from, size_of}
 use Rattle.std.proofs.lemmas.List.Elements.{All-nil, All-cons}
-use Rattle.ps_words.specs.declared.order.Order.{Order}
-use Rattle.ps_words.specs.declared.fault.Reason.{Reason}
-use Rattle.ps_linkinfo.specs.declared.record.LinkRecord.{LinkRecord as Record}
-use Rattle.ps_linkinfo.specs.Records.{bad, is_eof, record_at, read_from, size_of}
 use Rattle.ps_linkinfo.proofs.Steps.{long_enough}
 
 abbrev pub HasWholeName : Record → Type 0

@@ -1,16 +1,7 @@
 -- Link information has one reading.
-use Rattle.std.proofs.Common.{◌≡◌, ℕ, ◌+◌, ◌≤◌, List, [], ◌∷◌, length, drop, false, Some, None, sym, ◌∙◌, ap, subst, arith}
-use Rattle.std.specs.List.{AllByRecursion}
-use Rattle.ps_words.specs.Words.{word_at}
-use Rattle.ps_words.specs.declared.order.Order.{Order}
-use Rattle.ps_words.specs.declared.fault.Reason.{Reason}
-use Rattle.ps_linkinfo.specs.Records.{AreSpelled, BeginsWith, IsBody, EndsOnce, Spells, Stops, IsReading, is_eof, size_of, used_by, body_at, record_at, bad, refs_of, list_len}
-use Rattle.std.proofs.lemmas.Bool.Decides.{nat_tests}
-use Rattle.ps_linkinfo.proofs.Words.{refs_len}
+use Rattle.ps_linkinfo.proofs.Vocabulary.{◌≡◌, ℕ, ◌+◌, ◌≤◌, List, [], ◌∷◌, length, drop, false, Some, None, sym, ◌∙◌, ap, subst, arith, AllByRecursion, word_at, Order, Reason, AreSpelled, BeginsWith, IsBody, EndsOnce, Spells, Stops, IsReading, is_eof, size_of, used_by, body_at, record_at, bad, refs_of, list_len, nat_tests, Body, UnitRef, PublRef, PrivRef, PublDef, ConstDef, Eof, Record}
+use Rattle.ps_linkinfo.proofs.ReferenceWords.{refs_len}
 use Rattle.ps_linkinfo.proofs.Spelled.{behind_cons}
-use Rattle.ps_linkinfo.specs.declared.record.Body.{Body}
-use Rattle.ps_linkinfo.specs.declared.record.Body.TheVariants.{UnitRef, PublRef, PrivRef, PublDef, ConstDef, Eof}
-use Rattle.ps_linkinfo.specs.declared.record.LinkRecord.{LinkRecord as Record}
 
 -- a body is what its bytes say
 pub body_is : (order : Order) (x : List ℕ) (b : Body) → IsBody order x b
@@ -86,8 +77,7 @@ pub is_reading : (order : Order) (bytes : List ℕ) (rs : List Record) → AreSp
     → EndsOnce rs → IsReading order bytes rs
 is_reading order bytes rs h e = record {
   spells = record { spelled = h; ends = e };
-  only =
-      λ others o. one_reading order bytes others rs o.spelled o.ends h e;
+  only = λ others o. one_reading order bytes others rs o.spelled o.ends h e;
 }
 
 pub is_stop : (order : Order) (bytes : List ℕ) (rs : List Record) (why : Reason)

@@ -1,10 +1,5 @@
 -- Rows of records.
-use Rattle.std.proofs.Common.{◌≡◌, ℕ, ◌+◌, ◌≤◌, List, [], ◌∷◌, ◌++◌, length, length-drop, drop, sym, ◌∙◌, ap, zero-add, arith}
-use Rattle.std.proofs.lemmas.List.{drop-drop}
-use Rattle.std.proofs.lemmas.List.Sums.{sum_by-append}
-use Rattle.ps_words.specs.declared.order.Order.{Order}
-use Rattle.ps_linkinfo.specs.Records.{AreSpelled, BeginsWith, size_of, used_by}
-use Rattle.ps_linkinfo.specs.declared.record.LinkRecord.{LinkRecord as Record}
+use Rattle.ps_linkinfo.proofs.Vocabulary.{◌≡◌, ℕ, ◌+◌, ◌≤◌, List, [], ◌∷◌, ◌++◌, length, length-drop, drop, sym, ◌∙◌, ap, zero-add, arith, drop-drop, sum_by-append, Order, AreSpelled, BeginsWith, size_of, used_by, Record}
 
 pub used_cons : (x : Record) (rs : List Record) → used_by (x ∷ rs) ≡ size_of x + used_by rs
 used_cons x rs = sum_by-append size_of (x ∷ []) rs
@@ -23,8 +18,7 @@ pub spelled_more : (order : Order) (bytes : List ℕ) (rs : List Record) (r : Re
 spelled_more order bytes [] r h b = (b, tt)
 spelled_more order bytes (x ∷ rs) r h b = (
   h.0,
-  spelled_more order (drop (size_of x) bytes) rs r h.1
-      (rw (drop-drop, ← used_cons x rs) b),
+  spelled_more order (drop (size_of x) bytes) rs r h.1 (rw (drop-drop, ← used_cons x rs) b),
 )
 
 pub used_more : (rs : List Record) (r : Record)

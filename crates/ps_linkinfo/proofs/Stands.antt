@@ -1,18 +1,9 @@
 -- The reading of link information is what its bytes spell, or what stops it.
-use Rattle.std.proofs.Common.{◌≡◌, ℕ, zero, suc, ◌+◌, ◌/◌, ◌<◌, ◌≤◌, ◌==◌, List, [], ◌∷◌, length, length-drop, drop, Bool, true, false, Option, Some, None, refl, sym, ◌∙◌, ap, subst, arith, if◌then◌else◌}
-use Rattle.std.proofs.lemmas.Bool.Decides.{nat_tests}
-use Rattle.std.specs.List.{AllByRecursion}
-use Rattle.ps_words.specs.Words.{word_at}
-use Rattle.ps_words.specs.declared.order.Order.{Order}
-use Rattle.ps_words.specs.declared.fault.Reason.{Reason}
-use Rattle.ps_linkinfo.specs.Records.{AreSpelled, BeginsWith, IsBody, EndsOnce, Spells, Stops, is_eof, size_of, used_by, body_at, record_at, refs_at, refs_of, bad, bad_format, list_len, reading, read_from}
-use Rattle.ps_linkinfo.proofs.Words.{refs_len}
+use Rattle.ps_linkinfo.proofs.Vocabulary.{◌≡◌, ℕ, zero, suc, ◌+◌, ◌/◌, ◌<◌, ◌≤◌, ◌==◌, List, [], ◌∷◌, length, length-drop, drop, Bool, true, false, Option, Some, None, refl, sym, ◌∙◌, ap, subst, arith, if◌then◌else◌, nat_tests, AllByRecursion, word_at, Order, Reason, AreSpelled, BeginsWith, IsBody, EndsOnce, Spells, Stops, is_eof, size_of, used_by, body_at, record_at, refs_at, refs_of, bad, bad_format, list_len, reading, read_from, Body, UnitRef, PublRef, PrivRef, PublDef, ConstDef, Eof, Record}
+use Rattle.ps_linkinfo.proofs.ReferenceWords.{refs_len}
 use Rattle.ps_linkinfo.proofs.Spelled.{behind_cons}
 use Rattle.ps_linkinfo.proofs.OneReading.{record_is, no_fault}
 use Rattle.ps_linkinfo.proofs.Steps.{read_end, read_last, read_more, long_enough, size_least}
-use Rattle.ps_linkinfo.specs.declared.record.Body.{Body}
-use Rattle.ps_linkinfo.specs.declared.record.Body.TheVariants.{UnitRef, PublRef, PrivRef, PublDef, ConstDef, Eof}
-use Rattle.ps_linkinfo.specs.declared.record.LinkRecord.{LinkRecord as Record}
 
 -- a body that is whole and first
 abbrev StandsWhole : Order → List ℕ → Body → Type 0
@@ -88,8 +79,7 @@ body_stands order x good = is_unit (kind == 1) refl
         ((grind (arith, nat_tests), s.0, refl), rw (refs_len order x count) s.1)
     is_public false e f = is_private (kind == 4) refl f e
 
-    is_unit : (b : Bool) → (kind == 1) ≡ b
-        → StandsWhole order x (if b then UnitRef refs
+    is_unit : (b : Bool) → (kind == 1) ≡ b → StandsWhole order x (if b then UnitRef refs
         else (if kind == 3 then PublRef refs
         else (if kind == 4 then PrivRef (word_at order x 14) refs
         else (if kind == 7 then PublDef a else (if kind == 8 then ConstDef a else Eof a)))))

@@ -1,14 +1,7 @@
 -- Reading one record more.
-use Rattle.std.proofs.Common.{◌≡◌, ℕ, zero, suc, ◌+◌, ◌/◌, ◌<◌, ◌≤◌, List, [], ◌∷◌, length, length-drop, add-one, drop, Bool, true, false, Option, Some, None, Result, Ok, Err, refl, sym, ◌∙◌, ap, arith, if◌then◌else◌}
-use Rattle.std.proofs.lemmas.Bool.Decides.{nat_tests}
-use Rattle.ps_words.specs.declared.order.Order.{Order}
-use Rattle.ps_words.specs.declared.fault.Reason.{Reason}
-use Rattle.ps_linkinfo.specs.Records.{reading, read_from, record_at, size_of, is_eof, bad, BeginsWith}
+use Rattle.ps_linkinfo.proofs.Vocabulary.{◌≡◌, ℕ, zero, suc, ◌+◌, ◌/◌, ◌<◌, ◌≤◌, List, [], ◌∷◌, length, length-drop, add-one, drop, Bool, true, false, Option, Some, None, Result, Ok, Err, refl, sym, ◌∙◌, ap, arith, if◌then◌else◌, drop-drop, nat_tests, Order, Reason, reading, read_from, record_at, size_of, is_eof, bad, BeginsWith, Walk, Record}
 use Rattle.ps_linkinfo.specs.Left.{items_of, items_at, items_left}
-use Rattle.ps_linkinfo.specs.Walk.{Walk}
 use Rattle.ps_linkinfo.proofs.OneReading.{no_fault, record_is}
-use Rattle.std.proofs.lemmas.List.{drop-drop}
-use Rattle.ps_linkinfo.specs.declared.record.LinkRecord.{LinkRecord as Record}
 
 -- where a record begins there are 16 bytes
 pub long_enough : (order : Order) (x : List ℕ) → bad order x ≡ None → 16 ≤ length x

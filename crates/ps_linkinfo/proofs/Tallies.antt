@@ -1,13 +1,5 @@
 -- What records come to, one by one.
-use Rattle.std.proofs.Common.{◌≡◌, ℕ, ◌+◌, ◌*◌, ◌≤◌, List, [], ◌∷◌, ◌++◌, length, false, refl, ◌∙◌, ap, subst, arith, true≢false, zero-add}
-use Rattle.std.specs.Prelude.{unwrap_or}
-use Rattle.std.specs.List.{AllByRecursion}
-use Rattle.std.proofs.lemmas.List.Sums.{sum_by-append}
-use Rattle.ps_linkinfo.specs.Records.{is_eof, is_end, refs_of, used_by}
-use Rattle.ps_linkinfo.specs.RecordCounts.{references_in, next_in, next_of}
-use Rattle.ps_linkinfo.specs.declared.record.Body.{Body}
-use Rattle.ps_linkinfo.specs.declared.record.Body.TheVariants.{UnitRef, PublRef, PrivRef, PublDef, ConstDef, Eof}
-use Rattle.ps_linkinfo.specs.declared.record.LinkRecord.{LinkRecord as Record}
+use Rattle.ps_linkinfo.proofs.Vocabulary.{◌≡◌, ℕ, ◌+◌, ◌*◌, ◌≤◌, List, [], ◌∷◌, ◌++◌, length, false, refl, ◌∙◌, ap, subst, arith, true≢false, zero-add, unwrap_or, AllByRecursion, sum_by-append, is_eof, is_end, refs_of, used_by, references_in, next_in, next_of, Body, UnitRef, PublRef, PrivRef, PublDef, ConstDef, Eof, Record}
 use Rattle.ps_linkinfo.proofs.Spelled.{used_cons}
 use Rattle.ps_linkinfo.proofs.Steps.{size_least}
 

@@ -1,19 +1,11 @@
 -- Walks over link information.
-use Rattle.std.proofs.Common.{◌≡◌, ℕ, zero, suc, ◌+◌, ◌/◌, ◌-◌, ◌≤◌, List, [], ◌∷◌, ◌++◌, length, length-drop, drop, Bool, true, false, Option, Some, None, Result, Ok, Err, refl, sym, ◌∙◌, ap, subst, append_assoc, arith}
-use Rattle.std.specs.List.{AllByRecursion, filter_map}
+use Rattle.ps_linkinfo.proofs.Vocabulary.{◌≡◌, ℕ, zero, suc, ◌+◌, ◌/◌, ◌-◌, ◌≤◌, List, [], ◌∷◌, ◌++◌, length, length-drop, drop, Bool, true, false, Option, Some, None, Result, Ok, Err, refl, sym, ◌∙◌, ap, subst, append_assoc, arith, append-nil, AllByRecursion, filter_map, Order, Reason, AreSpelled, BeginsWith, reading, read_from, record_at, size_of, is_eof, bad, used_by, Walk, Advances, HasGiven, left_of, whole_walk, sum_by-append, Record}
 use Rattle.std.specs.Result.{result_ok}
-use Rattle.ps_words.specs.declared.order.Order.{Order}
-use Rattle.ps_words.specs.declared.fault.Reason.{Reason}
-use Rattle.ps_linkinfo.specs.Records.{AreSpelled, BeginsWith, reading, read_from, record_at, size_of, is_eof, bad, used_by}
-use Rattle.ps_linkinfo.specs.Walk.{Walk, Advances, HasGiven, left_of, whole_walk}
 use Rattle.ps_linkinfo.specs.Left.{items_of, items_at, items_left, records_left, fault_in, fault_left}
 use Rattle.ps_linkinfo.proofs.Spelled.{spelled_fit, spelled_more, used_more, used_cons}
 use Rattle.ps_linkinfo.proofs.OneReading.{record_is}
 use Rattle.ps_linkinfo.proofs.Steps.{long_enough, read_end, size_least}
 use Rattle.ps_linkinfo.proofs.Stands.{begins_at, reading_spelled}
-use Rattle.std.proofs.lemmas.List.{append-nil}
-use Rattle.std.proofs.lemmas.List.Sums.{sum_by-append}
-use Rattle.ps_linkinfo.specs.declared.record.LinkRecord.{LinkRecord as Record}
 
 -- the records among a reading's items are its records
 oks_of_items : (rs : List Record) (why : Option Reason)
@@ -111,8 +103,7 @@ given_more w v rs r h a =
     let so_far : HasGiven next (rs ++ r ∷ []) =
     record {
       spelled = spelled_more w.order w.bytes rs r h.spelled begins;
-      used =
-          ap (λ (n : ℕ). n + size_of r) h.used ∙ sym (used_more rs r);
+      used = ap (λ (n : ℕ). n + size_of r) h.used ∙ sym (used_more rs r);
     } in
     subst (λ (u : Walk). HasGiven u (rs ++ r ∷ [])) (sym a.2) so_far
 
@@ -155,8 +146,7 @@ pub walked_first : (order : Order) (bytes : List ℕ)
     → Walked order bytes (whole_walk order bytes) []
 walked_first order bytes = record {
   records = records_first order bytes;
-  fault =
-      fault_first order bytes;
+  fault = fault_first order bytes;
   goes_on = λ _. tt;
 }
 

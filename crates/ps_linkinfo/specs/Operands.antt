@@ -1,7 +1,6 @@
 -- The operands in a code that the references of a record name.
 -- Source: the published II.0 Linker source.
-use Rattle.std.specs.Prelude.{ℕ, slice_get, Option}
-use Rattle.std.specs.Option.{option_map}
+use Rattle.std.specs.Prelude.{ℕ, slice_get, Option, option_map}
 use Rattle.ps_linkinfo.specs.Kinds.{kind_of, kind_width}
 use Rattle.ps_linkinfo.specs.Records.{refs_of}
 use Rattle.ps_linkinfo.specs.declared.operand.Operand.{Operand}

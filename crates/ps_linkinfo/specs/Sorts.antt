@@ -1,8 +1,6 @@
 -- What a record is that is looked for by its name.
 -- Source: the published II.0 Linker source.
-use Rattle.std.specs.Prelude.{ℕ, ◌&&◌, List, Bool, Option}
-use Rattle.std.specs.List.{find}
-use Rattle.std.specs.Str.{bytes_eq}
+use Rattle.std.specs.Prelude.{ℕ, ◌&&◌, List, Bool, Option, find, bytes_eq}
 use Rattle.ps_linkinfo.specs.Kinds.{defines_variable, kind_of}
 use Rattle.ps_linkinfo.specs.RecordCounts.{is_definition, is_private_reference, is_public_reference}
 use Rattle.ps_linkinfo.specs.declared.record.Body.{Body}

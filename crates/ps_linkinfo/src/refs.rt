@@ -65,7 +65,7 @@ impl<'a> Refs<'a> {
 
     /// How many references there are, at most `MAX_REFERENCES`.
     /// Source: the published II.0 Linker source.
-    #[tactic(auto, using(crate::proofs::Words::words_len))]
+    #[tactic(auto, using(crate::proofs::ReferenceWords::words_len))]
     pub fn len(&self) -> usize
         ensures len { result ≡ length self.now }
         ensures few { result ≤ MAX_REFERENCES }
@@ -83,7 +83,7 @@ impl<'a> Refs<'a> {
 
     /// The reference at an index, which is below `len`.
     /// Source: the published II.0 Linker source.
-    #[tactic(auto, using(crate::proofs::Words::words_len, crate::proofs::Words::words_get))]
+    #[tactic(auto, using(crate::proofs::ReferenceWords::words_len, crate::proofs::ReferenceWords::words_get))]
     pub fn get(&self, index: usize) -> u16
         requires { index < length self.now }
         ensures { result ≡ slice_index self.now index }

@@ -1,9 +1,5 @@
 -- The units of a file, slot by slot.
-use Rattle.std.proofs.Common.{◌≡◌, ℕ, suc, ◌+◌, ◌-◌, ◌<◌, List, [], ◌∷◌, ◌++◌, drop, Bool, true, false, Option, Some, None, append_assoc, append-nil, length, length-append, sym, ◌∙◌, ap, arith, is_some, true≢false}
-use Rattle.std.specs.Prelude.{◌||◌, Result, Ok, Err, IfErr}
-use Rattle.std.specs.List.{cons_option, filter_map, list_any, range_with_len}
-use Rattle.std.specs.Option.{option_to_list}
-use Rattle.ps_listing.specs.LoneText.{is_refused_unit}
+use Rattle.ps_listing.proofs.Vocabulary.{◌≡◌, ℕ, suc, ◌+◌, ◌-◌, ◌<◌, List, [], ◌∷◌, ◌++◌, drop, Bool, true, false, Option, Some, None, append_assoc, append-nil, length, length-append, sym, ◌∙◌, ap, arith, is_some, true≢false, ◌||◌, Result, Ok, Err, IfErr, option_to_list, cons_option, filter_map, list_any, range_with_len, is_refused_unit}
 use Rattle.ps_listing.specs.declared.lone.LoneUnit.{LoneUnit}
 
 -- what holds by itself holds of an error

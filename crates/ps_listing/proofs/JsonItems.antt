@@ -1,10 +1,7 @@
 -- The items of records and of slots, where an empty one has none.
-use Rattle.std.proofs.Common.{◌≡◌, ℕ, suc, ◌+◌, ◌-◌, ◌<◌, ◌≤◌, List, [], ◌∷◌, ◌++◌, Bool, refl, ap, arith}
-use Rattle.std.specs.List.{range_with_len}
+use Rattle.ps_listing.proofs.Vocabulary.{◌≡◌, ℕ, suc, ◌+◌, ◌-◌, ◌<◌, ◌≤◌, List, [], ◌∷◌, ◌++◌, Bool, refl, ap, arith, range_with_len, Record, is_first_after, is_first_after_slot, slot_item, slot_items, use_item, use_items}
 use Rattle.ps_words.specs.declared.order.Order.{Order}
 use Rattle.ps_linkinfo.specs.Numbered.{numbered_records}
-use Rattle.ps_linkinfo.specs.declared.record.LinkRecord.{LinkRecord as Record}
-use Rattle.ps_listing.specs.ListJson.{is_first_after, is_first_after_slot, slot_item, slot_items, use_item, use_items}
 
 -- the items of records beside their indices
 abbrev pub numbered_items : Bool → List (ℕ × Record) → List ℕ
@@ -20,8 +17,7 @@ numbered_are first i (r ∷ rs) = ap (λ (bs : List ℕ). use_item first r.name 
 
 module _ (first : Bool) (order : Order) (file : List ℕ) (i n : ℕ) where
   -- the items of the slots from i on
-  pub items_left : i < n
-      → slot_items first order file (range_with_len i (n - i))
+  pub items_left : i < n → slot_items first order file (range_with_len i (n - i))
       ≡ slot_item first order file i
       ++ slot_items (is_first_after_slot first order file i) order file
       (range_with_len (i + 1) (n - (i + 1)))

@@ -1,3 +1,4 @@
+pub mod Vocabulary
 pub mod JsonItems
 pub mod NumberedUses
 pub mod LinkedEntries

@@ -1,12 +1,7 @@
 -- The kind of an entry whose segment is to be linked.
-use Rattle.std.proofs.Common.{◌≡◌, ◌==◌, ◌&&◌, ◌||◌, not, if◌then◌else◌, Bool, true, false, refl, Ok, Err}
-use Rattle.std.specs.Prelude.{Result, nat_le}
-use Rattle.ps_words.specs.declared.fault.Reason.{Reason}
+use Rattle.ps_listing.proofs.Vocabulary.{◌≡◌, ◌==◌, ◌&&◌, ◌||◌, not, if◌then◌else◌, Bool, true, false, refl, Ok, Err, Result, nat_le, Reason, is_nameless, kind_needs_linking, role_of, needs_linking, Role}
 use Rattle.ps_words.specs.declared.fault.Reason.TheVariants as reason
-use Rattle.ps_codefile.specs.Dictionary.{is_nameless, kind_needs_linking, role_of}
-use Rattle.ps_codefile.specs.Roles.{needs_linking}
 use Rattle.ps_codefile.specs.declared.entry.Entry.{Entry}
-use Rattle.ps_codefile.specs.declared.entry.Role.{Role}
 use Rattle.ps_codefile.specs.declared.entry.Role.TheVariants as role
 
 -- a role that is not to be linked is none of one that is

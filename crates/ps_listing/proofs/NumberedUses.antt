@@ -1,9 +1,6 @@
 -- The uses of records, with their indices or without.
-use Rattle.std.proofs.Common.{◌≡◌, ◌+◌, ℕ, List, [], ◌∷◌, ◌++◌, refl, ap}
-use Rattle.std.specs.List.{flat_map}
+use Rattle.ps_listing.proofs.Vocabulary.{◌≡◌, ◌+◌, ℕ, List, [], ◌∷◌, ◌++◌, refl, ap, flat_map, Record, used_words}
 use Rattle.ps_linkinfo.specs.Numbered.{numbered_records}
-use Rattle.ps_linkinfo.specs.declared.record.LinkRecord.{LinkRecord as Record}
-use Rattle.ps_listing.specs.ListText.{used_words}
 
 -- the use that a record beside its index is
 abbrev pub numbered_use : ℕ × Record → List ℕ

@@ -1,8 +1,7 @@
 -- What a file has, as JSON: the values of the lines of its list. A file is one object, an item of
 -- the list of a document.
 -- Source: RFC 8259; which members there are is this project's profile.
-use Rattle.std.specs.Prelude.{ℕ, ◌==◌, ◌||◌, if◌then◌else◌, List, [], ◌∷◌, ◌++◌, length, nat_lt, codes, decimal, Bool, true, false, Option, Some, None, Result, Ok, Err}
-use Rattle.std.specs.List.{flat_map}
+use Rattle.std.specs.Prelude.{ℕ, ◌==◌, ◌||◌, if◌then◌else◌, List, [], ◌∷◌, ◌++◌, length, nat_lt, codes, decimal, Bool, true, false, Option, Some, None, Result, Ok, Err, flat_map}
 use Rattle.ps_words.specs.declared.order.Order.{Order}
 use Rattle.ps_words.specs.declared.order.Order.TheVariants.{Little, Big}
 use Rattle.ps_words.specs.FaultText.{number_of, name_of}

@@ -25,8 +25,7 @@ unit_of_role h slot (Ok role.Unit) =
     Some (record {
       slot = slot;
       name = (entry_at h.order h.file slot).name;
-      fault =
-          lone_fault h.order h.file (opened_files h.order h.libs) slot;
+      fault = lone_fault h.order h.file (opened_files h.order h.libs) slot;
     })
 unit_of_role h slot (Err why) = None
 

@@ -27,6 +27,7 @@ impl Text for JsonFile<'_> {
 
     ghost bytes = { λ l. list_json_of l.path.now l.phrase.now l.file.now };
 
+    #[tactic(auto, using(ps_linkfile::proofs::Written::adds_is), unfolding(crate::specs::ListJson::list_json_of))]
     fn add_to<S: TextWriter>(&self, text: &mut S) {
         add_item(
             text,
@@ -55,6 +56,7 @@ impl Text for UnreadFile<'_> {
 }
 
 /// Adds the item of a file that could not be read.
+#[tactic(auto, using(ps_linkfile::proofs::Written::adds_is), unfolding(crate::specs::ListJson::unread_json_of))]
 fn add_unread<S: TextWriter>(text: &mut S, path: &str)
     ensures { Adds S.added text.old (unread_json_of path.now) text.new }
 {
@@ -151,6 +153,7 @@ fn add_segments<S: TextWriter>(text: &mut S, phrase: &str, dict: &Dict)
 }
 
 /// Adds the item of a file of so many bytes that was opened, or was not.
+#[tactic(auto, using(ps_linkfile::proofs::Written::adds_is))]
 fn add_item<S: TextWriter>(
     text: &mut S,
     path: &str,

@@ -1,6 +1,6 @@
 //! What the JSON documents of lists are made of beside names and items of an array: strings and
 //! faults.
-ghost use Rattle.std.specs.List.{flat_map};
+ghost use Rattle.std.specs.Prelude.{flat_map};
 ghost use Rattle.ps_linkfile.specs.Adding.{Adds};
 ghost use Rattle.ps_listing.specs.ListJson.{fault_json, number_or_null, text_byte};
 
@@ -22,6 +22,7 @@ fn add_text_byte<S: TextWriter>(text: &mut S, byte: u8)
 }
 
 /// Adds a text inside a string.
+#[tactic(auto, using(std::proofs::lemmas::List::drop_more, ps_linkfile::proofs::Written::all_written, ps_linkfile::proofs::Written::items_left, ps_linkfile::proofs::Written::items_over, ps_linkfile::proofs::Written::none_yet, ps_linkfile::proofs::Written::some_more))]
 pub(crate) fn add_text<S: TextWriter>(text: &mut S, bytes: &[u8])
     ensures { Adds S.added text.old (flat_map text_byte bytes.now) text.new }
 {
@@ -41,6 +42,7 @@ fn add_optional<S: TextWriter>(text: &mut S, number: Option<usize>)
 }
 
 /// Adds a fault: its number, its name, and the index of the record, if it has one.
+#[tactic(auto, using(ps_linkfile::proofs::Written::adds_is))]
 pub(crate) fn add_fault<S: TextWriter>(text: &mut S, reason: Reason, rec: Option<usize>)
     ensures { Adds S.added text.old (fault_json reason rec) text.new }
 {

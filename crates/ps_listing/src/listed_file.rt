@@ -27,6 +27,7 @@ impl Text for ListedFile<'_> {
 
     ghost bytes = { λ l. list_of l.path.now l.phrase.now l.file.now };
 
+    #[tactic(auto, using(ps_linkfile::proofs::Written::adds_is), unfolding(crate::specs::ListText::list_of))]
     fn add_to<S: TextWriter>(&self, text: &mut S) {
         add_lines(
             text,
@@ -39,6 +40,7 @@ impl Text for ListedFile<'_> {
 }
 
 /// Adds the lines of a file of so many bytes that was opened, or was not.
+#[tactic(auto, using(ps_linkfile::proofs::Written::adds_is))]
 fn add_lines<S: TextWriter>(
     text: &mut S,
     path: &str,
@@ -78,6 +80,7 @@ fn add_segments<S: TextWriter>(text: &mut S, path: &str, phrase: &str, dict: &Di
 }
 
 /// Adds the line of a file of so many bytes.
+#[tactic(auto, using(ps_linkfile::proofs::Written::adds_is), unfolding(crate::specs::ListText::file_line))]
 fn add_file<S: TextWriter>(text: &mut S, path: &str, phrase: &str, size: usize, dict: &Dict)
     ensures { Adds S.added text.old
         (file_line path.now phrase.now size dict.now.order dict.now.file) text.new }

@@ -156,6 +156,7 @@ fn add_line<S: TextWriter>(text: &mut S, path: &str, unit: &LoneUnit)
 }
 
 /// Adds the line of each unit.
+#[tactic(auto, using(std::proofs::lemmas::List::drop_more, ps_linkfile::proofs::Written::all_written, ps_linkfile::proofs::Written::items_left, ps_linkfile::proofs::Written::items_over, ps_linkfile::proofs::Written::none_yet, ps_linkfile::proofs::Written::some_more))]
 fn add_lines<S: TextWriter>(text: &mut S, path: &str, units: &[LoneUnit])
     ensures { Adds S.added text.old (lone_text path.now units.now) text.new }
 {

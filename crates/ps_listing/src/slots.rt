@@ -37,6 +37,7 @@ pub(crate) fn kind_of(dict: &Dict, slot: u8) -> u16
 }
 
 /// Adds what the line of a slot begins with.
+#[tactic(auto, using(ps_linkfile::proofs::Written::adds_is), unfolding(crate::specs::ListText::slot_head))]
 fn add_head<S: TextWriter>(text: &mut S, path: &str, dict: &Dict, slot: u8)
     requires { slot < 16 }
     ensures { Adds S.added text.old (slot_head path.now dict.now.order dict.now.file slot)
@@ -82,6 +83,7 @@ fn add_found_line<S: TextWriter>(
 }
 
 /// Adds the line of a segment whose kind is refused.
+#[tactic(auto, using(ps_linkfile::proofs::Written::adds_is), unfolding(crate::specs::ListText::refused_line))]
 fn add_refused_line<S: TextWriter>(text: &mut S, path: &str, dict: &Dict, slot: u8, reason: Reason)
     requires { slot < 16 }
     ensures { Adds S.added text.old
@@ -121,6 +123,7 @@ fn add_role_line<S: TextWriter>(
 }
 
 /// Adds the line of a slot, where it has one.
+#[tactic(auto, using(ps_linkfile::proofs::Written::adds_is), unfolding(crate::specs::ListText::slot_line))]
 fn add_slot<S: TextWriter>(text: &mut S, path: &str, dict: &Dict, slot: u8)
     requires { slot < 16 }
     ensures { Adds S.added text.old (slot_line path.now dict.now.order dict.now.file slot)
@@ -130,6 +133,7 @@ fn add_slot<S: TextWriter>(text: &mut S, path: &str, dict: &Dict, slot: u8)
 }
 
 /// Adds the line of each slot that has one.
+#[tactic(auto, using(ps_linkfile::proofs::Written::all_written, ps_linkfile::proofs::Written::none_yet, ps_linkfile::proofs::Written::slots_over))]
 pub(crate) fn add_slots<S: TextWriter>(text: &mut S, path: &str, dict: &Dict)
     ensures { Adds S.added text.old
         (flat_map (slot_line path.now dict.now.order dict.now.file) slots) text.new }
@@ -165,6 +169,7 @@ fn is_refused_role(dict: &Dict, slot: u8, role: Result<Role, Reason>) -> bool
 }
 
 /// A slot is refused.
+#[tactic(auto, unfolding(crate::specs::ListText::is_refused_slot))]
 fn is_refused_slot(dict: &Dict, slot: u8) -> bool
     requires { slot < 16 }
     ensures { result ≡ is_refused_slot_spec dict.now.order dict.now.file slot }
@@ -182,6 +187,7 @@ fn has_refused_below(dict: &Dict, end: u8) -> bool
 }
 
 /// Some slot is refused.
+#[tactic(auto, unfolding(crate::specs::ListText::has_refused))]
 pub(crate) fn has_refused(dict: &Dict) -> bool
     ensures { result ≡ has_refused_spec dict.now.order dict.now.file }
 {

@@ -43,6 +43,7 @@ fn add_uses<S: TextWriter>(text: &mut S, records: &LinkInformation)
 }
 
 /// Adds that there is no fault, and the units that these records use.
+#[tactic(auto, using(ps_linkfile::proofs::Written::adds_is))]
 fn add_uses_member<S: TextWriter>(text: &mut S, records: &LinkInformation)
     ensures { Adds S.added text.old (uses_member records.now) text.new }
 {
@@ -74,6 +75,7 @@ fn add_found<S: TextWriter>(text: &mut S, dict: &Dict, slot: u8, role: Role)
 }
 
 /// Adds what the item of a slot begins with.
+#[tactic(auto, using(ps_linkfile::proofs::Written::adds_is), unfolding(crate::specs::ListJson::slot_members))]
 fn add_head<S: TextWriter>(text: &mut S, dict: &Dict, slot: u8, first: bool)
     requires { slot < 16 }
     ensures { Adds S.added text.old (slot_members first dict.now.order dict.now.file slot)
@@ -94,6 +96,7 @@ pub(crate) fn add_length<S: TextWriter>(text: &mut S, size: usize)
 }
 
 /// Adds the item of a segment of this role that is in the file, with the member for it.
+#[tactic(auto, using(ps_linkfile::proofs::Written::adds_is), unfolding(crate::specs::ListJson::found_item))]
 fn add_found_item<S: TextWriter>(
     text: &mut S,
     dict: &Dict,
@@ -114,6 +117,7 @@ fn add_found_item<S: TextWriter>(
 }
 
 /// Adds the item of a segment whose kind is refused.
+#[tactic(auto, using(ps_linkfile::proofs::Written::adds_is), unfolding(crate::specs::ListJson::refused_item))]
 fn add_refused_item<S: TextWriter>(text: &mut S, dict: &Dict, slot: u8, first: bool, reason: Reason)
     requires { slot < 16 }
     ensures { Adds S.added text.old
@@ -175,6 +179,7 @@ fn is_first_after_slot_of(role: Result<Role, Reason>, first: bool) -> bool
 }
 
 /// Adds the item of a slot, where it has one. Returns whether the first item is still to come.
+#[tactic(auto, using(ps_linkfile::proofs::Written::adds_is), unfolding(crate::specs::ListJson::is_first_after_slot, crate::specs::ListJson::slot_item))]
 fn add_slot<S: TextWriter>(text: &mut S, dict: &Dict, slot: u8, first: bool) -> bool
     requires { slot < 16 }
     ensures item { Adds S.added text.old (slot_item first dict.now.order dict.now.file slot)

@@ -1,8 +1,8 @@
 -- Which edit covers a place, of edits that are apart.
-use Rattle.std.proofs.Common.{◌≡◌, ℕ, zero, suc, ◌+◌, ◌-◌, ◌≤◌, ◌<◌, List, [], ◌∷◌, length, drop, get_or, Option, Some, None, All, refl, ap, sym, ◌∙◌, subst, arith, add-one, true, false, Bool}
+use Rattle.std.proofs.Common.{◌≡◌, ℕ, zero, suc, ◌+◌, ◌-◌, ◌≤◌, ◌<◌, List, [], ◌∷◌, length, drop, get_or, Option, Some, None, All, refl, ap, sym, ◌∙◌, subst, arith, true, false, Bool}
 use Rattle.std.proofs.lemmas.Bool.Decides.{nat_tests}
 use Rattle.std.proofs.lemmas.List.Elements.{All-head, All-tail}
-use Rattle.std.proofs.Math.Seq.{drop-cons}
+use Rattle.std.proofs.lemmas.List.{drop_more}
 use Rattle.std.specs.Prelude.{find}
 use Rattle.ps_words.specs.Edits.{AreApart, IsInside, covers, place_of, stored_bytes, width}
 use Rattle.ps_words.specs.declared.order.Order.{Order}
@@ -60,14 +60,9 @@ apart_drop es zero from h = apart_lower es from h
 apart_drop [] (suc at) from h = tt
 apart_drop (e ∷ es) (suc at) from h = apart_drop es at (place_of e + width e) h.1
 
--- the edits from `at` on are the one there and those after it
-pub drop_one : (es : List Edit) (at : ℕ) (d : Edit) → at < length es
-    → drop at es ≡ get_or es at d ∷ drop (at + 1) es
-drop_one es at d h = rw (add-one, drop-cons es at d)
-
 apart_one : (es : List Edit) (at : ℕ) (d : Edit) → at < length es → AreApart 0 es
     → AreApart 0 (get_or es at d ∷ drop (at + 1) es)
-apart_one es at d h apart = subst (λ (xs : List Edit). AreApart 0 xs) (drop_one es at d h)
+apart_one es at d h apart = subst (λ (xs : List Edit). AreApart 0 xs) (drop_more es at d h)
     (apart_drop es at 0 apart)
 
 -- the edit at `at`, once it is stored, need not be looked at again
@@ -75,7 +70,7 @@ pub patched_step : (order : Order) (old new : ℕ) (es : List Edit) (at : ℕ) (
     → at < length es → AreApart 0 es → new ≡ patched_by order (get_or es at d) p old
     → patched_from order (drop (at + 1) es) p new ≡ patched_from order (drop at es) p old
 patched_step order old new es at d p h apart is =
-    rw (drop_one es at d h) (patched_one order old new (get_or es at d) (drop (at + 1) es) 0 p
+    rw (drop_more es at d h) (patched_one order old new (get_or es at d) (drop (at + 1) es) 0 p
     (apart_one es at d h apart) is)
 
 -- nor need those after it, at a place before its end
@@ -95,7 +90,7 @@ patched_last order old new es at d p h apart lt is =
 pub find_step : (es : List Edit) (at : ℕ) (d : Edit) (p : ℕ) → at < length es
     → place_of (get_or es at d) + width (get_or es at d) ≤ p
     → find (covers p) (drop at es) ≡ find (covers p) (drop (at + 1) es)
-find_step es at d p h le = ap (λ (xs : List Edit). find (covers p) xs) (drop_one es at d h)
+find_step es at d p h le = ap (λ (xs : List Edit). find (covers p) xs) (drop_more es at d h)
     ∙ find_next (get_or es at d) (drop (at + 1) es) p le
 
 -- edits inside a code cover nothing past its end

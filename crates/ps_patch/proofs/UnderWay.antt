@@ -1,24 +1,14 @@
 -- A patcher moves on by a block.
-use Rattle.std.proofs.Common.{◌≡◌, ℕ, ◌+◌, ◌-◌, ◌≤◌, ◌<◌, List, [], ◌∷◌, length, drop, get_or, sym, ◌∙◌, subst, refl, arith, All, Bool, true, false}
+use Rattle.std.proofs.Common.{◌≡◌, ℕ, ◌+◌, ◌-◌, ◌≤◌, List, [], ◌∷◌, length, drop, get_or, sym, ◌∙◌, refl, arith, All, Bool, true, false}
 use Rattle.std.specs.Prelude.{find, min, nat_lt}
-use Rattle.std.proofs.Math.ListN.{drop_of_length-le, get_or-eq_default}
+use Rattle.std.proofs.Math.ListN.{get_or-eq_default}
 use Rattle.std.proofs.lemmas.Bool.{ltb-false, ltb-true}
 use Rattle.std.proofs.lemmas.List.Elements.{All-drop}
-use Rattle.ps_words.specs.Edits.{IsInside, covers, patched_byte, place_of, width}
+use Rattle.ps_words.specs.Edits.{IsInside, covers, patched_byte}
 use Rattle.ps_words.specs.declared.edit.Edit.{Edit}
 use Rattle.ps_patch.specs.Patched.{patched_from, patched_or_zero}
 use Rattle.ps_patch.specs.Patcher.{EndsBehind, IsUnderWay, Patching}
-use Rattle.ps_patch.proofs.Finds.{drop_one, find_past}
-
-pub ends_behind_one : (es : List Edit) (at : ℕ) (d : Edit) (place : ℕ) → at < length es
-    → place < place_of (get_or es at d) + width (get_or es at d) → EndsBehind place (drop at es)
-ends_behind_one es at d place h lt = subst (λ (xs : List Edit). EndsBehind place xs)
-    (sym (drop_one es at d h)) lt
-
-pub ends_behind_none : (es : List Edit) (at place : ℕ) → length es ≤ at
-    → EndsBehind place (drop at es)
-ends_behind_none es at place h = subst (λ (xs : List Edit). EndsBehind place xs)
-    (sym (drop_of_length-le es h)) tt
+use Rattle.ps_patch.proofs.Finds.{find_past}
 
 ends_behind_less : (es : List Edit) (less place : ℕ) → less ≤ place → EndsBehind place es
     → EndsBehind less es

@@ -1,19 +1,6 @@
 -- One segment more of those that are linked one after another.
-use Rattle.std.proofs.Common.{◌≡◌, ℕ, ◌+◌, ◌<◌, ◌≤◌, ◌++◌, List, [], ◌∷◌, length, map, get_or, drop, Option, None, arith}
+use Rattle.ps_resolve.proofs.Vocabulary.{◌≡◌, ℕ, ◌+◌, ◌<◌, ◌≤◌, ◌++◌, List, [], ◌∷◌, length, map, get_or, drop, Option, None, arith, Order, Edit, Fault, Segment, owner_of, private_words, all_words, AreOfReferences, IsStop, Known, segment_edits, edited_from, segment_fault, references_fault_from, LinksSegment, LinkSegments, Stop, drop_all}
 use Rattle.std.specs.Prelude.{⊤}
-use Rattle.ps_words.specs.declared.order.Order.{Order}
-use Rattle.ps_words.specs.declared.edit.Edit.{Edit}
-use Rattle.ps_words.specs.declared.fault.Fault.{Fault}
-use Rattle.ps_resolve.specs.Sources.{Segment}
-use Rattle.ps_resolve.specs.Privates.{owner_of, private_words, all_words}
-use Rattle.ps_resolve.specs.Edits.{AreOfReferences}
-use Rattle.ps_resolve.specs.Stops.{IsStop}
-use Rattle.ps_resolve.specs.References.{Known}
-use Rattle.ps_resolve.specs.Linking.{segment_edits, edited_from}
-use Rattle.ps_resolve.specs.Faults.{segment_fault, references_fault_from}
-use Rattle.ps_resolve.specs.Plans.{LinksSegment, LinkSegments}
-use Rattle.ps_resolve.specs.declared.linkage.Stop.{Stop}
-use Rattle.std.proofs.lemmas.List.{drop_all}
 use Rattle.ps_resolve.proofs.NextItems.{drop_at}
 use Rattle.ps_words.specs.declared.words.TheConstants.{MAX_WORD}
 
@@ -30,8 +17,7 @@ module _ (order : Order) (known : Known) (ss : List Segment) (i : ℕ) (v : Segm
       → total ≤ MAX_WORD → free + private_words v.records ≤ MAX_WORD
   room_at total h lt = omega (arith, words_head)
 
-  pub stop_at : (base : ℕ) (stop : Stop)
-      → references_fault_from order known free (drop i ss)
+  pub stop_at : (base : ℕ) (stop : Stop) → references_fault_from order known free (drop i ss)
       ≡ references_fault_from order known base ss
       → IsStop ⊤ (segment_fault order known free v) stop
       → AreOfReferences order known base ss stop
@@ -52,8 +38,7 @@ module _ (order : Order) (known : Known) (ss : List Segment) (i : ℕ) (v : Segm
         (d : List Edit) → LinksSegment order v (segment_edits order known words free v) d
         → ((behind : List (List Edit))
         → LinkSegments order (edited_from order known words free (drop i ss)) behind
-        → LinkSegments order all (done ++ behind))
-        → (behind : List (List Edit))
+        → LinkSegments order all (done ++ behind)) → (behind : List (List Edit))
         → LinkSegments order (edited_from order known words end (drop (i + 1) ss)) behind
         → LinkSegments order all (done ++ d ∷ behind)
     links_on words all done d link before behind h = grind (arith, head_is)

@@ -1,30 +1,14 @@
 -- One record more of the privates.
-use Rattle.std.proofs.Common.{rules, ◌≡◌, ℕ, ◌+◌, ◌<◌, ◌≤◌, ◌++◌, List, [], ◌∷◌, length, length-append, Bool, true, false, is_some, Option, Some, None, refl, sym, ◌∙◌, ap, arith, append_assoc}
-use Rattle.std.specs.Prelude.{nat_eq}
-use Rattle.std.specs.Option.{option_eq}
-use Rattle.std.specs.Bool.{Decides}
-use Rattle.std.specs.List.{list_any, slice_get}
-use Rattle.std.specs.Str.{bytes_eq}
-use Rattle.std.proofs.lemmas.Bool.Decides.{nat_tests}
+use Rattle.ps_resolve.proofs.Vocabulary.{rules, ◌≡◌, ℕ, ◌+◌, ◌<◌, ◌≤◌, ◌++◌, List, [], ◌∷◌, length, length-append, Bool, true, false, is_some, Option, Some, None, refl, sym, ◌∙◌, ap, arith, append_assoc, nat_eq, Decides, bytes_eq, option_eq, list_any, slice_get, nat_tests, is_private_reference, privates_in, Owner, words_in, allotted_privates, private_words, private_fault, all_allotted, first_private_fault, unallotted_fault, IsStop, Record, FindsNamesake, HasEarlierNamesake, Stop, Private, MAX_NEXT_FREE}
 use Rattle.ps_words.specs.declared.fault.Reason.TheVariants as reason
-use Rattle.ps_linkinfo.specs.RecordCounts.{is_private_reference, privates_in}
-use Rattle.ps_resolve.specs.Privates.{Owner, words_in, allotted_privates, private_words, private_fault, all_allotted, first_private_fault, unallotted_fault}
-use Rattle.ps_resolve.specs.Stops.{IsStop}
-use Rattle.ps_linkinfo.specs.declared.record.LinkRecord.{LinkRecord as Record}
-use Rattle.ps_resolve.specs.Builders.{FindsNamesake}
-use Rattle.ps_resolve.specs.Standing.Definitions.{HasEarlierNamesake}
 use Rattle.ps_resolve.proofs.RecordCounts.{one_private}
 use Rattle.ps_resolve.proofs.LookingBack.{requests_is, names}
 use Rattle.ps_resolve.proofs.EarlierNames.{Stands, further, looked, one_name, same_names, there}
 use Rattle.ps_resolve.specs.declared.locations.SegmentAt.{SegmentAt}
-use Rattle.ps_resolve.specs.declared.linkage.Stop.{Stop}
-use Rattle.ps_resolve.specs.declared.allotment.Private.{Private}
-use Rattle.ps_resolve.specs.declared.allotment.TheConstants.{MAX_NEXT_FREE}
 
 module _ (slot rec next : ℕ) (seen : List (List ℕ)) (ps : List Private) (r : Record)
     (rs : List Record) where
-  pub skip_privates : words_in r.body ≡ None
-      → ps ++ allotted_privates slot rec next (r ∷ rs)
+  pub skip_privates : words_in r.body ≡ None → ps ++ allotted_privates slot rec next (r ∷ rs)
       ≡ ps ++ allotted_privates slot (rec + 1) next rs
   skip_privates h = rw (h, allotted_privates) refl
 
@@ -40,10 +24,6 @@ module _ (slot rec next : ℕ) (seen : List (List ℕ)) (ps : List Private) (r :
       ≡ (ps ++ record { slot = slot; rec = rec; name = r.name; offset = next; words = w }
       ∷ []) ++ allotted_privates slot (rec + 1) (next + w) rs
   more_privates w h = grind (arith, append_assoc)
-
-  pub more_words : (w : ℕ) → words_in r.body ≡ Some w
-      → private_words (r ∷ rs) ≡ w + private_words rs
-  more_words w h = rw (h, private_words) refl
 
   pub more_fault : (w : ℕ) → words_in r.body ≡ Some w
       → list_any (bytes_eq r.name) seen ≡ false → next + w ≤ MAX_NEXT_FREE
@@ -132,12 +112,8 @@ pub not_duplicate : (d : Option ℕ) (n : ℕ) → option_eq nat_eq d (Some n) �
     → d ≡ Some n → ⊥
 not_duplicate d n h e = grind arith
 
--- a number that is not below n, and not n itself, is above it
-over : (n m : ℕ) → n ≤ m → (m ≡ n → ⊥) → n + 1 ≤ m
-over n m le other = grind arith
-
-module _ (slot next : ℕ) (duplicate : Option ℕ) (before : List Private) (all : List Record)
-    (ps : List Private) (free n : ℕ) (r : Record) (rs : List Record)
+module _ {slot next : ℕ} {duplicate : Option ℕ} {before : List Private} {all : List Record}
+    {ps : List Private} {free n : ℕ} {r : Record} {rs : List Record}
     (found : FindsNamesake is_private_reference all duplicate)
     (a : Allots slot next duplicate before all ps free n (r ∷ rs)) where
   here : slice_get all n ≡ Some r
@@ -167,7 +143,7 @@ module _ (slot next : ℕ) (duplicate : Option ℕ) (before : List Private) (all
     first = grind (arith, same_names, skip_fault, names);
   }
 
-  module _ (w : ℕ) (some : words_in r.body ≡ Some w) where
+  module _ {w : ℕ} (some : words_in r.body ≡ Some w) where
     is_seen : Decides (list_any (bytes_eq r.name) (names a.stands.prefix))
         (HasEarlierNamesake is_private_reference all n r)
     is_seen = looked is_private_reference all n r rs a.stands (requests (Some w) some)

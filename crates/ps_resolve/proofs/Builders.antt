@@ -1,40 +1,16 @@
 -- What the builders of definitions and of allotments say of their refusals, by looking back; and
 -- how the privates of an allotment are.
-use Rattle.std.proofs.Common.{rules, ◌≡◌, ℕ, zero, suc, ◌+◌, ◌<◌, List, [], ◌∷◌, ◌++◌, length, length-append, take, map, Option, Some, None, Bool, true, refl, sym, ap, subst, ◌∙◌, inl, inr, arith, append_assoc}
-use Rattle.std.specs.Prelude.{◌==◌, ◌&&◌, ◌||◌, count_by, nat_le, nat_lt}
-use Rattle.std.specs.Bool.{Decides}
-use Rattle.std.specs.List.{enumerate_from, filter_map, slice_get, flat_map}
-use Rattle.std.specs.Option.{option_map, option_or}
-use Rattle.std.proofs.lemmas.Bool.{cases_Bool, cases_lt}
-use Rattle.std.proofs.lemmas.List.{map-append}
-use Rattle.std.proofs.lemmas.List.Sums.{sum_by-append, sum_by-cons}
-use Rattle.std.proofs.lemmas.Option.{get_or_from_slice_get, slice_get_within}
-use Rattle.ps_linkinfo.specs.declared.record.LinkRecord.{LinkRecord as Record}
-use Rattle.ps_words.specs.FaultPlaces.{in_record}
-use Rattle.ps_words.specs.declared.fault.Fault.{Fault}
-use Rattle.ps_words.specs.declared.fault.Reason.{Reason}
+use Rattle.ps_resolve.proofs.Vocabulary.{rules, ◌≡◌, ℕ, zero, suc, ◌+◌, ◌<◌, List, [], ◌∷◌, ◌++◌, length, length-append, take, map, Option, Some, None, Bool, true, refl, sym, ap, subst, ◌∙◌, inl, inr, arith, append_assoc, ◌==◌, ◌&&◌, ◌||◌, count_by, nat_le, nat_lt, Decides, enumerate_from, filter_map, slice_get, flat_map, option_map, option_or, cases_Bool, cases_lt, map-append, sum_by-append, sum_by-cons, get_or_from_slice_get, slice_get_within, Record, in_record, Fault, Reason, first_of, fault_if, definitions, first_duplicate, Owner, allotted_privates, private_words, private_fault, all_allotted, all_words, first_private_fault, RiseFrom, HasEarlierNamesake, is_definition, is_private_reference, words_taken, words_taken_by, IsStop, duplicate_fault, HaveNoNamesakes, StopsDefinitions, offset_at, HaveDistinctPrivates, HaveRoom, IsUnfit, IsFirstUnfit, StopsPrivates, requested_in, all_requested, requested_of, AreByRecord, words_of_all, Private, Stop, MAX_NEXT_FREE}
 use Rattle.ps_words.specs.declared.fault.Reason.TheVariants as reason
 use Rattle.ps_resolve.specs.First.{Before}
-use Rattle.ps_resolve.specs.Searches.{first_of, fault_if}
-use Rattle.ps_resolve.specs.Symbols.{definitions, first_duplicate}
-use Rattle.ps_resolve.specs.Privates.{Owner, allotted_privates, private_words, private_fault, all_allotted, all_words, first_private_fault}
-use Rattle.ps_resolve.specs.Offsets.{RiseFrom}
 use Rattle.ps_resolve.specs.Standing.Phrases.{SomeItem}
-use Rattle.ps_resolve.specs.Standing.Definitions.{HasEarlierNamesake}
-use Rattle.ps_linkinfo.specs.RecordCounts.{is_definition, is_private_reference}
-use Rattle.ps_resolve.specs.References.{words_taken, words_taken_by}
-use Rattle.ps_resolve.specs.Stops.{IsStop, duplicate_fault}
-use Rattle.ps_resolve.specs.Builders.{HaveNoNamesakes, StopsDefinitions, offset_at, HaveDistinctPrivates, HaveRoom, IsUnfit, IsFirstUnfit, StopsPrivates, requested_in, all_requested, requested_of, AreByRecord, words_of_all}
-use Rattle.ps_resolve.specs.declared.allotment.Private.{Private}
 use Rattle.ps_resolve.specs.declared.locations.SegmentAt.{SegmentAt}
-use Rattle.ps_resolve.specs.declared.linkage.Stop.{Stop}
 use Rattle.ps_resolve.specs.declared.linkage.Stop.TheVariants.{Refused, Memory}
 use Rattle.ps_resolve.proofs.LookingBack.{is_again, again, take_prefix, longer, definitions_carried, words_before, reason_at, record_fault, privates_carried}
 use Rattle.ps_resolve.proofs.AllottedPrivates.{privates_counted}
 use Rattle.ps_resolve.proofs.Duplicates.{definitions_counted}
 use Rattle.ps_resolve.proofs.FirstSlots.{some_mapped}
 use Rattle.ps_resolve.proofs.PrivatesRise.{behind}
-use Rattle.ps_resolve.specs.declared.allotment.TheConstants.{MAX_NEXT_FREE}
 
 -- the first that f gives of a list's items and their numbers
 record Given {A X : Type 0} (f : ℕ × A → Option X) (n : ℕ) (items : List A) (x : X) : Type 0
@@ -266,10 +242,9 @@ module _ (base : ℕ) (ss : List Owner) where
   none_in k place rs e rec r there =
       grind (arith, fits, none_given (record_faults (k, (place, rs))) 0 rs e rec rec r)
 
-  none_unfit : first_private_fault base ss ≡ None
-      → (k : ℕ) (place : SegmentAt) (rs : List Record) (rec : ℕ) (r : Record)
-      → slice_get ss k ≡ Some (place, rs) → slice_get rs rec ≡ Some r → (why : Reason)
-      → IsUnfit base ss k rs rec r why → ⊥
+  none_unfit : first_private_fault base ss ≡ None → (k : ℕ) (place : SegmentAt)
+      (rs : List Record) (rec : ℕ) (r : Record) → slice_get ss k ≡ Some (place, rs)
+      → slice_get rs rec ≡ Some r → (why : Reason) → IsUnfit base ss k rs rec r why → ⊥
   none_unfit e k place rs rec r of there = none_in k place rs
       (none_given segment_fault 0 ss (sym segments_back ∙ e) k k (place, rs) (omega arith) of)
       rec r there
@@ -332,8 +307,7 @@ module _ (base : ℕ) (ss : List Owner) where
           grind (arith, fits, before n n r)
 
 -- where a private of segments is allotted, a record of one of them requests it
-some_segment : (next : ℕ) (ss : List Owner)
-    → 0 < length (all_allotted next ss)
+some_segment : (next : ℕ) (ss : List Owner) → 0 < length (all_allotted next ss)
     → SomeItem ss (λ k s. SomeItem s.1 (λ rec r. is_private_reference r.body ≡ true))
 some_segment next [] h = absurd (omega (arith, h))
 some_segment next (s ∷ ss) h =

@@ -1,24 +1,9 @@
 -- The one table of segments: the host's own by slot, into which the added ones are put.
-use Rattle.std.proofs.Common.{◌≡◌, ◌≢◌, ℕ, zero, suc, ◌+◌, ◌<◌, ◌≤◌, List, [], ◌∷◌, ◌++◌, length, take, drop, get_or, Bool, true, false, if◌then◌else◌, Option, Some, None, Result, Ok, refl, sym, ◌∙◌, ap, subst, arith}
-use Rattle.std.specs.Prelude.{All, is_none, nat_lt}
-use Rattle.std.specs.List.{filter, filter_map, find, insert, range_with_len}
-use Rattle.std.specs.Option.{option_map_or, option_or}
-use Rattle.std.specs.Result.{result_ok}
-use Rattle.std.proofs.lemmas.List.Elements.{All-nil, All-cons, All-head, All-tail, All-append, All-weaker, filter_passes}
-use Rattle.std.proofs.lemmas.List.Folds.{find-append}
-use Rattle.std.proofs.lemmas.List.{take-append-drop, drop_all}
-use Rattle.ps_words.specs.declared.order.Order.{Order}
-use Rattle.ps_words.specs.declared.fault.Reason.{Reason}
-use Rattle.ps_codefile.specs.Roles.{is_empty}
-use Rattle.ps_codefile.specs.declared.entry.Role.{Role}
+use Rattle.ps_resolve.proofs.Vocabulary.{◌≡◌, ◌≢◌, ℕ, zero, suc, ◌+◌, ◌<◌, ◌≤◌, List, [], ◌∷◌, ◌++◌, length, take, drop, get_or, Bool, true, false, if◌then◌else◌, Option, Some, None, Result, Ok, refl, sym, ◌∙◌, ap, subst, arith, All, is_none, nat_lt, filter, filter_map, find, insert, range_with_len, option_map_or, option_or, result_ok, All-nil, All-cons, All-head, All-tail, All-append, All-weaker, filter_passes, find-append, take-append-drop, drop_all, Order, Reason, is_empty, Role, Segment, is_role, source_fault, AscendFrom, UnitReference}
 use Rattle.ps_codefile.specs.declared.entry.Role.TheVariants as role
-use Rattle.ps_resolve.specs.Sources.{Segment}
 use Rattle.ps_resolve.specs.Added.{added_segment, empty_slots}
-use Rattle.ps_resolve.specs.Faults.{is_role, source_fault}
-use Rattle.ps_resolve.specs.Linkable.{AscendFrom}
 use Rattle.ps_resolve.specs.Readings.{read_segment, read_segments}
 use Rattle.ps_resolve.specs.KnownSegments.{is_in_slot, put_by_slot, segment_in_slot, segments_in_slots}
-use Rattle.ps_resolve.specs.declared.reading.added.UnitReference.{UnitReference}
 use Rattle.ps_resolve.proofs.EachSegment.{added_made}
 use Rattle.ps_resolve.proofs.InSlots.{InPlace, found_there, same_kept}
 use Rattle.ps_resolve.proofs.Items.{find_passes}
@@ -55,9 +40,8 @@ put_there segs i slot s is before =
     (subst (λ (n : ℕ). AreBefore n i segs) (sym is) before)
 
 pub placed_at : (segs : List Segment) (i slot : ℕ) (v : Segment) → i < length segs
-    → v ≡ get_or segs i v → slot < v.slot → AreBefore slot i segs
-    → (s : Segment) → s.slot ≡ slot
-    → insert segs i s ≡ put_by_slot s segs
+    → v ≡ get_or segs i v → slot < v.slot → AreBefore slot i segs → (s : Segment)
+    → s.slot ≡ slot → insert segs i s ≡ put_by_slot s segs
 placed_at segs i slot v lt h later before s is =
     grind (arith, drop_at segs i v lt, put_before s v, put_there segs i slot s is before)
 
@@ -73,8 +57,7 @@ placed_last segs i slot le before s is =
 pub All-put : (P : Segment → Type 0) (s : Segment) (xs : List Segment) → All P xs → P s
     → All P (put_by_slot s xs)
 All-put P s [] all h = All-cons P s [] h all
-All-put P s (x ∷ xs) all h = by (nat_lt s.slot x.slot)
-    (All-put P s xs (All-tail P x xs all) h)
+All-put P s (x ∷ xs) all h = by (nat_lt s.slot x.slot) (All-put P s xs (All-tail P x xs all) h)
   where
     by : (b : Bool) → All P (put_by_slot s xs)
         → All P (if b then s ∷ x ∷ xs else x ∷ put_by_slot s xs)
@@ -87,8 +70,7 @@ put_front : (f : ℕ → Option Segment) → InPlace f → (s : Segment) (n a : 
     → put_by_slot s (filter_map f (range_with_len a n))
     ≡ s ∷ filter_map f (range_with_len a n)
 put_front f place s zero a lt = refl
-put_front f place s (suc n) a lt =
-    grind (arith, put_front f place s n (a + 1) (omega arith))
+put_front f place s (suc n) a lt = grind (arith, put_front f place s n (a + 1) (omega arith))
 
 -- g gives of the slot of s the segment s, and of the others what f gives, which gives none of it
 put_kept : (f g : ℕ → Option Segment) → InPlace f → (s : Segment) → f s.slot ≡ None
@@ -108,8 +90,7 @@ few_from f (suc n) a = grind (arith, few_from f n (a + 1))
 fewer_kept : (f : ℕ → Option Segment) (j : ℕ) → f j ≡ None → (n a : ℕ) → a ≤ j
     → j < a + n → length (filter_map f (range_with_len a n)) < n
 fewer_kept f j none zero a le lt = absurd (omega arith)
-fewer_kept f j none (suc n) a le lt =
-    grind (arith, few_from, fewer_kept f j none n (a + 1))
+fewer_kept f j none (suc n) a le lt = grind (arith, few_from, fewer_kept f j none n (a + 1))
 
 -- a segment that is added in the slot at i of those that are left
 pub record IsNewIn (order : Order) (host : List ℕ) (slots : List ℕ) (i : ℕ)

@@ -1,11 +1,7 @@
 -- One record more of a table of definitions.
-use Rattle.std.proofs.Common.{rules, ◌≡◌, ℕ, ◌+◌, List, [], ◌∷◌, ◌++◌, length, true, false, Option, Some, None, is_some, refl, arith, append_assoc, length-append, ◌<◌}
-use Rattle.ps_resolve.specs.Symbols.{def_in, definitions, definition_of, first_duplicate, first_duplicate_from}
+use Rattle.ps_resolve.proofs.Vocabulary.{rules, ◌≡◌, ℕ, ◌+◌, List, [], ◌∷◌, ◌++◌, length, true, false, Option, Some, None, is_some, refl, arith, append_assoc, length-append, ◌<◌, def_in, definitions, definition_of, first_duplicate, first_duplicate_from, is_definition, definitions_in, Record, nil_from_length}
 use Rattle.ps_resolve.specs.declared.definitions.Def.{Def}
-use Rattle.ps_linkinfo.specs.RecordCounts.{is_definition, definitions_in}
-use Rattle.ps_linkinfo.specs.declared.record.LinkRecord.{LinkRecord as Record}
 use Rattle.ps_resolve.proofs.RecordCounts.{one_more}
-use Rattle.std.proofs.lemmas.List.{nil_from_length}
 
 pub none_is : {X : Type 0} (o : Option X) → is_some o ≡ false → o ≡ None
 none_is o h = grind arith
@@ -26,8 +22,7 @@ module _ (rec : ℕ) (ds : List (List ℕ × Def)) (r : Record) (rs : List Recor
   new_entries d h = grind (arith, append_assoc)
 
   pub new_first : (d : Def) → def_in r.body ≡ Some d
-      → is_some (definition_of r.name ds) ≡ false
-      → first_duplicate_from rec ds (r ∷ rs)
+      → is_some (definition_of r.name ds) ≡ false → first_duplicate_from rec ds (r ∷ rs)
       ≡ first_duplicate_from (rec + 1) (ds ++ (r.name, d) ∷ []) rs
   new_first d h k = grind arith
 

@@ -1,26 +1,12 @@
 -- The rounds in which units are added: what holds of all of them, where it goes from each to the
 -- one before.
-use Rattle.std.proofs.Common.{◌≡◌, ℕ, ◌+◌, List, [], ◌∷◌, ◌++◌, length, Option, Some, None, Bool, true, false, refl, sym, ap, subst, ◌∙◌, arith, append_assoc, append-nil, is_none, is_some, take}
-use Rattle.std.specs.Prelude.{if◌then◌else◌}
-use Rattle.std.specs.List.{enumerate_from, slice_get, find}
-use Rattle.std.specs.Option.{option_map, option_or, option_and_then}
-use Rattle.std.proofs.lemmas.Bool.{false≢true}
-use Rattle.std.proofs.lemmas.Grind.{flat_map-append}
-use Rattle.ps_codefile.specs.Dictionary.{slots}
-use Rattle.ps_codefile.specs.declared.entry.Role.{Role}
+use Rattle.ps_resolve.proofs.Vocabulary.{◌≡◌, ℕ, ◌+◌, List, [], ◌∷◌, ◌++◌, length, Option, Some, None, Bool, true, false, refl, sym, ap, subst, ◌∙◌, arith, append_assoc, append-nil, is_none, is_some, take, if◌then◌else◌, enumerate_from, slice_get, find, option_map, option_or, option_and_then, false≢true, flat_map-append, slots, Role, entry_fault, code_fault, request_fault, missing_at, Segment, is_named, has_entry, chosen_library, unit_source, segment_from, own_segments, units_of, UnitReference, Request, Order, Fault}
 use Rattle.ps_codefile.specs.declared.entry.Role.TheVariants as role
 use Rattle.ps_resolve.specs.Added.{unit_references, all_unit_references, requested_from, empty_slots, is_missing, unplaced_fault, placed_fault, as_added, added_segment, request_of, RoundsOutcome, after, rounds_from, requested_units, rounds, added_segments}
-use Rattle.ps_resolve.specs.Faults.{entry_fault, code_fault, request_fault}
-use Rattle.ps_resolve.specs.Requests.{missing_at}
-use Rattle.ps_resolve.specs.Sources.{Segment, is_named, has_entry, chosen_library, unit_source, segment_from, own_segments, units_of}
-use Rattle.ps_resolve.specs.declared.reading.added.UnitReference.{UnitReference}
-use Rattle.ps_resolve.specs.declared.reading.request.Request.{Request}
 use Rattle.ps_resolve.proofs.RequestQueue.{no_name_left, requested-append, round_adds, round_refused}
 use Rattle.ps_resolve.proofs.FirstSlots.{any_found, neither_first}
 use Rattle.ps_resolve.proofs.Items.{find_passes, first_right}
 use Rattle.ps_resolve.proofs.LookingBack.{longer, take_prefix}
-use Rattle.ps_words.specs.declared.order.Order.{Order}
-use Rattle.ps_words.specs.declared.fault.Fault.{Fault}
 
 -- 1. what is known of a unit's source where there is no fault
 pub source_made : (order : Order) (host : List ℕ) (libs : List (List ℕ)) (slot : ℕ)
@@ -112,8 +98,7 @@ pub requested_rest : (order : Order) (host : List ℕ) (libs : List (List ℕ))
     ≡ requested_from (own_units order host libs) (requested_units order host libs prefix)
     (all_unit_references rest)
 unfolding requested_units
-requested_rest order host libs prefix rest =
-    grind (arith, flat_map-append, requested-append)
+requested_rest order host libs prefix rest = grind (arith, flat_map-append, requested-append)
 
 abbrev pub rest_of : Order → List ℕ → List (List ℕ) → List ℕ → ℕ
     → List UnitReference → RoundsOutcome
@@ -169,8 +154,7 @@ module _ (order : Order) (host : List ℕ) (libs : List (List ℕ)) where
   -- and of each that adds a segment if of those after it
   module _ (P : ℕ → RoundsOutcome → Type 0)
       (none : (prefix : List Segment) (k : ℕ) → added_segments order host libs ≡ prefix
-      → k ≡ length prefix
-      → slice_get (requested_units order host libs prefix) k ≡ None
+      → k ≡ length prefix → slice_get (requested_units order host libs prefix) k ≡ None
       → P k (record { added = []; fault = None }))
       (stops : (prefix : List Segment) (k : ℕ) (g : UnitReference) (slot : Option ℕ) (f : Fault)
       → IsTurn order host libs prefix [] k g slot
@@ -184,8 +168,7 @@ module _ (order : Order) (host : List ℕ) (libs : List (List ℕ)) where
     where
       from_round : (left : List ℕ) (prefix : List Segment) (used : List ℕ) (k : ℕ)
           (queue : List UnitReference)
-          → SoFar order host libs left prefix used k queue
-          → added_segments order host libs
+          → SoFar order host libs left prefix used k queue → added_segments order host libs
           ≡ prefix ++ (rest_of order host libs left k queue).added
           → P k (rest_of order host libs left k queue)
       from_round [] prefix used k queue h is = by (slice_get queue k) refl

@@ -1,23 +1,5 @@
 -- What a segment of a link is made of, and what holds of each.
-use Rattle.std.proofs.Common.{rules, ◌≡◌, ℕ, ◌<◌, List, [], ◌∷◌, Bool, true, false, Option, Some, None, Result, Ok, refl, ◌∙◌, ◌==◌, inl, inr, arith}
-use Rattle.std.specs.Prelude.{◌⊎◌, All}
-use Rattle.std.specs.List.{filter_map, cons_option, find}
-use Rattle.std.specs.Option.{option_and_then, option_map}
-use Rattle.std.specs.Result.{result_ok}
-use Rattle.std.proofs.lemmas.Bool.{eqb-true}
-use Rattle.std.proofs.lemmas.Option.{option_and_then_some}
-use Rattle.std.proofs.lemmas.List.Elements.{All-nil, All-cons, All-tail, All-from_get_or}
-use Rattle.std.proofs.lemmas.List.FromFn.{get_or-range_with_len}
-use Rattle.ps_words.specs.declared.order.Order.{Order}
-use Rattle.ps_words.specs.declared.fault.Reason.{Reason}
-use Rattle.ps_codefile.specs.Dictionary.{slots, entry_at, role_of, code_of}
-use Rattle.ps_codefile.specs.Roles.{is_empty}
-use Rattle.ps_codefile.specs.declared.entry.Role.{Role}
-use Rattle.ps_codefile.specs.declared.entry.Role.TheVariants.{Wanted}
-use Rattle.ps_resolve.specs.Added.{added_segment, added_segments, as_added, segment_at}
-use Rattle.ps_resolve.specs.Faults.{is_role}
-use Rattle.ps_resolve.specs.Sources.{Segment, file_at, own_segment, segment_from, segment_with, source_of, unit_source}
-use Rattle.ps_resolve.specs.declared.reading.added.UnitReference.{UnitReference}
+use Rattle.ps_resolve.proofs.Vocabulary.{rules, ◌≡◌, ℕ, ◌<◌, List, [], ◌∷◌, Bool, true, false, Option, Some, None, Result, Ok, refl, ◌∙◌, ◌==◌, inl, inr, arith, ◌⊎◌, All, option_and_then, option_map, eqb-true, filter_map, cons_option, find, result_ok, option_and_then_some, All-nil, All-cons, All-tail, All-from_get_or, get_or-range_with_len, Order, Reason, slots, entry_at, role_of, code_of, is_empty, Role, Wanted, added_segment, added_segments, as_added, segment_at, is_role, Segment, file_at, own_segment, segment_from, segment_with, source_of, unit_source, UnitReference}
 use Rattle.ps_resolve.proofs.FirstSlots.{some_mapped}
 
 -- what is found passes the test, and has what all have
@@ -48,8 +30,7 @@ module _ (order : Order) (host : List ℕ) (libs : List (List ℕ)) where
       by (code_of (file_at host libs place.0) (entry_at order (file_at host libs place.0) place.1))
       refl h
     where
-      by : (q : Result (List ℕ) Reason)
-          → code_of (file_at host libs place.0)
+      by : (q : Result (List ℕ) Reason) → code_of (file_at host libs place.0)
           (entry_at order (file_at host libs place.0) place.1) ≡ q
           → option_map (segment_with order host libs slot name r place) (result_ok q) ≡ Some s
           → IsMade order host libs slot name r place s

@@ -1,24 +1,10 @@
 -- Records of a kind that have the name of an earlier one: that none has, where the numbers of the
 -- names of privates differ, and the first of them.
-use Rattle.std.proofs.Common.{◌≡◌, ℕ, nat_cmp, zero, suc, ◌+◌, ◌<◌, ◌==◌, ◌++◌, List, [], ◌∷◌, length, take, Bool, true, false, Some, refl, sym, ◌∙◌, ap, subst, arith, append_assoc, append-nil}
-use Rattle.std.specs.Prelude.{nat_lt}
-use Rattle.std.specs.Bool.{Decides}
+use Rattle.ps_resolve.proofs.Vocabulary.{◌≡◌, ℕ, nat_cmp, zero, suc, ◌+◌, ◌<◌, ◌==◌, ◌++◌, List, [], ◌∷◌, length, take, Bool, true, false, Some, refl, sym, ◌∙◌, ap, subst, arith, append_assoc, append-nil, nat_lt, Decides, bytes_eq, AllByRecursion, IsAllAdjacentAnswer, IsDistinct, filter, list_any, slice_get, false≢true, length-map, IsNonDecreasingBy-from_sort, IsPermutation-refl, IsPermutation-sym, length-filter, slice_get_within, is_private_reference, privates_in, Body, Record, HaveNoNamesakes, IsFirstNamesake, private_numbers, HasEarlierNamesake}
 use Rattle.std.specs.Int.{w64, from_be_bytes}
-use Rattle.std.specs.List.{AllByRecursion, IsAllAdjacentAnswer, IsDistinct, filter, list_any, slice_get}
 use Rattle.std.specs.List.Sorted.{IsPermutation, IsSorted, IsStrictlyIncreasing}
-use Rattle.std.specs.Str.{bytes_eq}
-use Rattle.std.proofs.lemmas.Bool.{false≢true}
 use Rattle.std.proofs.lemmas.List.Kept.{AllPairs-from_increasing}
-use Rattle.std.proofs.lemmas.List.{length-map}
-use Rattle.std.proofs.lemmas.List.Sorted.{IsNonDecreasingBy-from_sort, IsPermutation-refl, IsPermutation-sym}
-use Rattle.std.proofs.lemmas.List.Sums.{length-filter}
 use Rattle.std.proofs.lemmas.Map.Keys.{IsDistinct-head, IsDistinct-tail, IsDistinct-from_apart, IsDistinct-IsPermutation, IsStrictlyIncreasing-from_distinct}
-use Rattle.std.proofs.lemmas.Option.{slice_get_within}
-use Rattle.ps_linkinfo.specs.RecordCounts.{is_private_reference, privates_in}
-use Rattle.ps_linkinfo.specs.declared.record.Body.{Body}
-use Rattle.ps_linkinfo.specs.declared.record.LinkRecord.{LinkRecord as Record}
-use Rattle.ps_resolve.specs.Builders.{HaveNoNamesakes, IsFirstNamesake, private_numbers}
-use Rattle.ps_resolve.specs.Standing.Definitions.{HasEarlierNamesake}
 use Rattle.ps_resolve.proofs.LookingBack.{again, is_again, longer, more_names, names_of, seen_is, take_prefix}
 
 abbrev number : Record → ℕ
@@ -63,9 +49,8 @@ all_numbers x (s ∷ ss) all (suc n) r there is = grind (arith, all_numbers x ss
 -- one
 none_again : (rs : List Record) → IsDistinct is_same (private_numbers rs)
     → (rec other : ℕ) (r q : Record) → slice_get rs rec ≡ Some r
-    → is_private_reference r.body ≡ true
-    → other < rec → slice_get rs other ≡ Some q → is_private_reference q.body ≡ true
-    → q.name ≡ r.name → ⊥
+    → is_private_reference r.body ≡ true → other < rec → slice_get rs other ≡ Some q
+    → is_private_reference q.body ≡ true → q.name ≡ r.name → ⊥
 none_again [] d rec other r q there is lt before was name = grind arith
 none_again (s ∷ ss) d zero other r q there is lt before was name = absurd (omega (arith, lt))
 none_again (s ∷ ss) d (suc n) zero r q there is lt before was name =

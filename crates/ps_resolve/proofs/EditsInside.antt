@@ -1,16 +1,5 @@
 -- Where no fault applies each reference's edit lies in the code and can be stored.
-use Rattle.std.proofs.Common.{◌≡◌, ℕ, ◌+◌, ◌++◌, List, [], ◌∷◌, length, map, Bool, Some, None, Result, Ok, Err, refl, sym, ◌∙◌, arith}
-use Rattle.std.specs.Prelude.{All}
-use Rattle.std.specs.Option.{option_map}
-use Rattle.std.proofs.lemmas.Bool.{ltb-false}
-use Rattle.std.proofs.lemmas.List.Elements.{All-nil, All-cons, All-append}
-use Rattle.ps_words.specs.Edits.{IsInside}
-use Rattle.ps_words.specs.declared.fault.Reason.{Reason}
-use Rattle.ps_linkinfo.specs.Records.{refs_of}
-use Rattle.ps_linkinfo.specs.declared.record.LinkRecord.{LinkRecord as Record}
-use Rattle.ps_resolve.specs.Operands.{operands, width_of, refs_fault, edit_of}
-use Rattle.ps_resolve.specs.References.{Known, words_taken, target_of, records_fault, record_edits, records_edits}
-use Rattle.ps_resolve.specs.declared.references.Target.{Target}
+use Rattle.ps_resolve.proofs.Vocabulary.{◌≡◌, ℕ, ◌+◌, ◌++◌, List, [], ◌∷◌, length, map, Bool, Some, None, Result, Ok, Err, refl, sym, ◌∙◌, arith, All, option_map, ltb-false, All-nil, All-cons, All-append, IsInside, Reason, refs_of, Record, operands, width_of, refs_fault, edit_of, Known, words_taken, target_of, records_fault, record_edits, records_edits, Target}
 use Rattle.ps_resolve.proofs.FirstSlots.{or_none, none_mapped}
 use Rattle.ps_resolve.proofs.NextRecords.{record_refused, record_by}
 

@@ -1,12 +1,6 @@
 -- The first fault of all, by that of reading the files and that of linking their segments.
-use Rattle.std.proofs.Common.{arith, ◌≡◌, ℕ, List, Some, None}
-use Rattle.ps_words.specs.declared.fault.Fault.{Fault}
-use Rattle.ps_resolve.specs.Sources.{order_of}
-use Rattle.ps_resolve.specs.Added.{segments}
-use Rattle.ps_resolve.specs.Faults.{linking_fault}
+use Rattle.ps_resolve.proofs.Vocabulary.{arith, ◌≡◌, ℕ, List, Some, None, Fault, order_of, segments, linking_fault, AreStopped, IsStopped, Stop}
 use Rattle.ps_resolve.specs.AllFaults.{first_fault, reading_fault}
-use Rattle.ps_resolve.specs.Plans.{AreStopped, IsStopped}
-use Rattle.ps_resolve.specs.declared.linkage.Stop.{Stop}
 use Rattle.ps_resolve.proofs.LinkingFaults.{skip, keep}
 
 module _ (host : List ℕ) (libs : List (List ℕ)) where

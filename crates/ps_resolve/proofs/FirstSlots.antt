@@ -1,20 +1,10 @@
 -- The first of several slots, from one of them on.
-use Rattle.std.proofs.Common.{◌≡◌, ℕ, ◌+◌, ◌-◌, ◌<◌, ◌≤◌, List, [], ◌∷◌, Bool, true, false, Option, Some, None, Result, Ok, is_some, refl, arith}
-use Rattle.std.specs.List.{range_with_len, find, list_any}
-use Rattle.std.specs.Option.{option_or, option_map}
-use Rattle.std.specs.Result.{result_ok}
-use Rattle.ps_resolve.specs.Searches.{first_of}
+use Rattle.ps_resolve.proofs.Vocabulary.{◌≡◌, ℕ, ◌+◌, ◌-◌, ◌<◌, ◌≤◌, List, [], ◌∷◌, Bool, true, false, Option, Some, None, Result, Ok, is_some, refl, arith, range_with_len, find, list_any, option_or, option_map, result_ok, first_of}
 
 -- the numbers from i up to n are i and those after it
 pub range_more : (i n : ℕ) → i < n → range_with_len i (n - i)
     ≡ i ∷ range_with_len (i + 1) (n - (i + 1))
 range_more i n lt = grind arith
-
--- the first fault from i on is that of i, or else the first after it
-pub first_more : {Y : Type 0} (f : ℕ → Option Y) (i n : ℕ) → i < n
-    → first_of f (range_with_len i (n - i))
-    ≡ option_or (f i) (first_of f (range_with_len (i + 1) (n - (i + 1))))
-first_more f i n lt = grind arith
 
 pub first_here : {Y : Type 0} (f : ℕ → Option Y) (i n : ℕ) (y : Y) → i < n
     → f i ≡ Some y → first_of f (range_with_len i (n - i)) ≡ Some y

@@ -1,10 +1,5 @@
 -- The host's own segment among the segments of a link.
-use Rattle.std.proofs.Common.{◌≡◌, ◌≤◌, ℕ, List, Bool, true, Option, Some, arith}
-use Rattle.std.specs.Prelude.{All}
-use Rattle.std.specs.List.{list_any, filter_map, range_with_len}
-use Rattle.ps_codefile.specs.Roles.{is_host}
-use Rattle.ps_resolve.specs.Sources.{Segment, host_of}
-use Rattle.ps_resolve.specs.Linkable.{HasOneHost}
+use Rattle.ps_resolve.proofs.Vocabulary.{◌≡◌, ◌≤◌, ℕ, List, Bool, true, Option, Some, arith, All, list_any, filter_map, range_with_len, is_host, Segment, host_of, HasOneHost}
 
 -- what holds of the host's own segment holds of each that is a host's
 pub of_hosts : (segs : List Segment) (h : Segment) → host_of segs ≡ Some h → HasOneHost segs

@@ -1,14 +1,8 @@
 -- The segments of a link, put together slot by slot from the host's own and those that were added.
-use Rattle.std.proofs.Common.{◌≡◌, ◌≢◌, ℕ, zero, suc, ◌+◌, ◌<◌, ◌≤◌, List, false, if◌then◌else◌, Option, Some, None, refl, ap, arith}
-use Rattle.std.specs.List.{range_with_len, filter_map, find}
-use Rattle.std.specs.Option.{option_or}
-use Rattle.std.proofs.lemmas.Bool.{ne_eqb, eq-eqb}
-use Rattle.ps_words.specs.declared.order.Order.{Order}
-use Rattle.ps_codefile.specs.Roles.{is_empty}
+use Rattle.ps_resolve.proofs.Vocabulary.{◌≡◌, ◌≢◌, ℕ, zero, suc, ◌+◌, ◌<◌, ◌≤◌, List, false, if◌then◌else◌, Option, Some, None, refl, ap, arith, ne_eqb, eq-eqb, range_with_len, filter_map, find, option_or, Order, is_empty, is_role}
 use Rattle.ps_resolve.specs.Sources.{Segment, own_segment, own_segments}
 use Rattle.ps_resolve.specs.Added.{added_segments, segments, segment_at}
 use Rattle.ps_resolve.specs.KnownSegments.{is_in_slot, segment_in_slot, segments_in_slots}
-use Rattle.ps_resolve.specs.Faults.{is_role}
 use Rattle.ps_resolve.proofs.ReadingKnown.{own_parts}
 
 -- each number's segment is in its slot
@@ -22,8 +16,7 @@ other_slot j s differs = ne_eqb s.slot j differs
 none_before : (f : ℕ → Option Segment) → InPlace f → (j n a : ℕ) → j < a
     → find (is_in_slot j) (filter_map f (range_with_len a n)) ≡ None
 none_before f place j zero a lt = refl
-none_before f place j (suc n) a lt =
-    grind (arith, none_before f place j n (a + 1) (omega arith))
+none_before f place j (suc n) a lt = grind (arith, none_before f place j n (a + 1) (omega arith))
 
 -- the segment that is found in a slot is that of the number of the slot
 pub found_there : (f : ℕ → Option Segment) → InPlace f → (j n a : ℕ) → a ≤ j

@@ -1,16 +1,5 @@
 -- Names that are already known: requesting them again does not change the queue.
-use Rattle.std.proofs.Common.{◌≡◌, ◌∙◌, ℕ, ◌+◌, ◌≤◌, ◌++◌, List, [], ◌∷◌, length, length-append, append_assoc, append-nil, take, drop, get_or, ◌<◌, Bool, true, false, inl, inr, refl, sym, subst, arith}
-use Rattle.std.specs.Prelude.{All}
-use Rattle.std.proofs.lemmas.Bool.{or_left, or_right}
-use Rattle.std.proofs.lemmas.List.{take_all}
-use Rattle.std.proofs.lemmas.List.Elements.{All-nil, All-cons, All-head, All-tail, All-weaker}
-use Rattle.std.proofs.lemmas.List.Folds.{list_any-append}
-use Rattle.std.proofs.lemmas.Slice.Eq.{bytes_eq-Decides}
-use Rattle.ps_linkinfo.specs.RecordCounts.{is_unit_reference}
-use Rattle.ps_linkinfo.specs.declared.record.LinkRecord.{LinkRecord as Record}
-use Rattle.ps_resolve.specs.Sources.{Segment}
-use Rattle.ps_resolve.specs.Added.{is_already_known, requested_from, unit_references, all_unit_references, IsAlreadyKnown, AreAlreadyKnown}
-use Rattle.ps_resolve.specs.declared.reading.added.UnitReference.{UnitReference}
+use Rattle.ps_resolve.proofs.Vocabulary.{◌≡◌, ◌∙◌, ℕ, ◌+◌, ◌≤◌, ◌++◌, List, [], ◌∷◌, length, length-append, append_assoc, append-nil, take, drop, get_or, ◌<◌, Bool, true, false, inl, inr, refl, sym, subst, arith, All, take_all, or_left, or_right, All-nil, All-cons, All-head, All-tail, All-weaker, list_any-append, bytes_eq-Decides, is_unit_reference, Record, Segment, is_already_known, requested_from, unit_references, all_unit_references, IsAlreadyKnown, AreAlreadyKnown, UnitReference}
 use Rattle.ps_resolve.proofs.RequestQueue.{few_kept, kept_segment, queue_prefix}
 use Rattle.ps_resolve.proofs.NextItems.{drop_at}
 use Rattle.ps_resolve.proofs.SharedRecords.{all_taken}
@@ -34,8 +23,7 @@ module _ (units : List (List ℕ × ℕ)) where
     where
       by : ((r : List UnitReference) → (more : List UnitReference)
           × (requested_from units r gs ≡ r ++ more)) → (b : Bool)
-          → is_already_known units queue g.name ≡ b
-          → (more : List UnitReference)
+          → is_already_known units queue g.name ≡ b → (more : List UnitReference)
           × (requested_from units queue (g ∷ gs) ≡ queue ++ more)
       by rest true e = let r = rest queue in (r.0, rw e r.1)
       by rest false e = let r = rest (queue ++ g ∷ []) in grind (arith, append_assoc)
@@ -106,11 +94,6 @@ module _ (units : List (List ℕ × ℕ)) where
           → Known (requested_from units queue (unit_references file slot n (r ∷ rs)))
       by rest b e = grind (arith, first_requests, seen, first_is_none, All-cons, gs)
 
-  -- what is kept of a queue is full, or the whole queue
-  of_kept : (whole : List UnitReference) (rs : List Record) → All (IsAlreadyKnown units whole) rs
-      → AreAlreadyKnown units (take 10 whole) rs
-  of_kept whole rs h = grind arith
-
   -- the names that a segment requests are known after it
   pub known_here : (file slot : ℕ) (rs : List Record) (queue now : List UnitReference)
       → now ≡ take 10 (requested_from units queue (unit_references file slot 0 rs))
@@ -158,8 +141,7 @@ module _ (units : List (List ℕ × ℕ)) where
 -- and what these request is known.
 pub record HaveRequested (units : List (List ℕ × ℕ)) (own : List Segment) (i : ℕ)
     (queue : List UnitReference) : Type 0 where
-  pub whole : take 10 (requested_from units queue
-      (all_unit_references (drop i own)))
+  pub whole : take 10 (requested_from units queue (all_unit_references (drop i own)))
       ≡ take 10 (requested_from units [] (all_unit_references own))
   pub few : length queue ≤ 10
   pub known : All (λ s. AreAlreadyKnown units queue s.records) (take i own)

@@ -1,13 +1,5 @@
 -- As many lists of edits as segments, and as many sources.
-use Rattle.std.proofs.Common.{◌≡◌, ℕ, ◌+◌, List, [], ◌∷◌, length, map, refl, arith}
-use Rattle.std.proofs.lemmas.List.{length-map}
-use Rattle.ps_words.specs.declared.order.Order.{Order}
-use Rattle.ps_words.specs.declared.edit.Edit.{Edit}
-use Rattle.ps_resolve.specs.Sources.{Segment}
-use Rattle.ps_resolve.specs.Privates.{private_words}
-use Rattle.ps_resolve.specs.References.{Known}
-use Rattle.ps_resolve.specs.Linking.{edited_from}
-use Rattle.ps_resolve.specs.Plans.{LinkSegments, origin_of, origin_of_source}
+use Rattle.ps_resolve.proofs.Vocabulary.{◌≡◌, ℕ, ◌+◌, List, [], ◌∷◌, length, map, refl, arith, length-map, Order, Edit, Segment, private_words, Known, edited_from, LinkSegments, origin_of, origin_of_source}
 use Rattle.ps_resolve.specs.declared.plan.Source.{Source}
 
 -- lists of edits that link segments are as many as these
@@ -28,7 +20,6 @@ edited_len order known words free (s ∷ ss) =
 pub lengths : (order : Order) (known : Known) (words free : ℕ) (segs : List Segment)
     (ds : List (List Edit)) (sources : List Source)
     → LinkSegments order (edited_from order known words free segs) ds
-    → map origin_of_source sources ≡ map origin_of segs
-    → length ds ≡ length sources
+    → map origin_of_source sources ≡ map origin_of segs → length ds ≡ length sources
 lengths order known words free segs ds sources h o =
     grind (arith, linked_len, edited_len, length-map)

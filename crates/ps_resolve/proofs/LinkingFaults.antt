@@ -1,24 +1,7 @@
 -- The first fault of a link's segments, stage by stage.
-use Rattle.std.proofs.Common.{arith, ◌≡◌, ℕ, ◌<◌, List, [], ◌∷◌, length, map, true, Option, Some, None, refl, sym, ◌∙◌, ap}
-use Rattle.std.specs.Prelude.{All}
-use Rattle.std.specs.Option.{option_or, option_map_or}
-use Rattle.ps_words.specs.declared.edit.Edit.{Edit}
-use Rattle.ps_words.specs.declared.order.Order.{Order}
-use Rattle.ps_words.specs.declared.fault.Fault.{Fault}
-use Rattle.ps_codefile.specs.Roles.{is_host}
-use Rattle.ps_linkinfo.specs.RecordCounts.{next_of}
-use Rattle.ps_resolve.specs.Sources.{Segment, host_of, host_records, units_of}
-use Rattle.ps_resolve.specs.Symbols.{definitions, first_duplicate}
-use Rattle.ps_resolve.specs.Stops.{IsStop, duplicate_fault}
-use Rattle.ps_resolve.specs.Privates.{Allotted, owner_of, all_allotted, allotment_of, first_private_fault, total_words}
-use Rattle.ps_resolve.specs.Edits.{IsOfSize, AreOfReferences}
-use Rattle.ps_resolve.specs.Linkable.{HasOneHost}
-use Rattle.ps_resolve.specs.References.{Known, known_by}
-use Rattle.ps_resolve.specs.Linking.{known_of, data_edits, edited_segments, edited_from}
+use Rattle.ps_resolve.proofs.Vocabulary.{arith, ◌≡◌, ℕ, ◌<◌, List, [], ◌∷◌, length, map, true, Option, Some, None, refl, sym, ◌∙◌, ap, All, option_or, option_map_or, Edit, Order, Fault, is_host, next_of, Segment, host_of, host_records, units_of, definitions, first_duplicate, IsStop, duplicate_fault, Allotted, owner_of, all_allotted, allotment_of, first_private_fault, total_words, IsOfSize, AreOfReferences, HasOneHost, Known, known_by, known_of, data_edits, edited_segments, edited_from, AreStopped, LinkSegments, origin_of, origin_of_source, Stop}
 use Rattle.ps_resolve.specs.Faults.{definitions_fault, privates_fault, data_fault, size_fault, references_fault, references_fault_from, linking_fault}
-use Rattle.ps_resolve.specs.Plans.{AreStopped, LinkSegments, origin_of, origin_of_source}
 use Rattle.ps_resolve.specs.declared.definitions.Def.{Def}
-use Rattle.ps_resolve.specs.declared.linkage.Stop.{Stop}
 use Rattle.ps_resolve.specs.declared.plan.Source.{Source}
 use Rattle.ps_resolve.proofs.Lengths.{lengths}
 
@@ -29,7 +12,8 @@ pub keep : {X : Type 0} (a b : Option X) (x : X) → a ≡ Some x → option_or 
 keep a b x h = grind arith
 
 -- a link of these segments, of which one is the host's
-module _ (order : Order) (segs : List Segment) (own : Segment) (is : host_of segs ≡ Some own) where
+module _ (order : Order) (segs : List Segment) {own : Segment}
+    (is : host_of segs ≡ Some own) where
   pub records_are : host_records segs ≡ own.records
   records_are = ap (λ (o : Option Segment). option_map_or (λ s. s.records) o []) is
 
@@ -62,11 +46,10 @@ module _ (order : Order) (segs : List Segment) (own : Segment) (is : host_of seg
   definitions_stop stop d = grind (arith, stages, definitions_are)
 
   -- its definitions, and the offset after its own data
-  module _ (ds : List (List ℕ × Def)) (ds_are : ds ≡ definitions own.records)
-      (once : first_duplicate own.records ≡ None) (next : ℕ)
+  module _ {ds : List (List ℕ × Def)} (ds_are : ds ≡ definitions own.records)
+      (once : first_duplicate own.records ≡ None) {next : ℕ}
       (next_is : next ≡ next_of own.records) where
-    behind_definitions : linking_fault order segs
-        ≡ option_or (privates_fault segs)
+    behind_definitions : linking_fault order segs ≡ option_or (privates_fault segs)
         (option_or (data_fault order segs) (references_fault order segs))
     behind_definitions = grind (arith, stages, definitions_are)
 
@@ -79,8 +62,8 @@ module _ (order : Order) (segs : List Segment) (own : Segment) (is : host_of seg
     privates_stop stop d = grind (arith, behind_definitions, fault_is)
 
     -- the privates, and how many words they take
-    module _ (a : Allotted) (a_is : a ≡ allotment_of next (map owner_of segs))
-        (allotted : first_private_fault next (map owner_of segs) ≡ None) (words : ℕ)
+    module _ {a : Allotted} (a_is : a ≡ allotment_of next (map owner_of segs))
+        (allotted : first_private_fault next (map owner_of segs) ≡ None) {words : ℕ}
         (words_is : words ≡ a.words) where
       pub words_are : words ≡ total_words segs
       words_are = grind arith
@@ -94,13 +77,12 @@ module _ (order : Order) (segs : List Segment) (own : Segment) (is : host_of seg
           ∙ ap (λ (o : Option Fault). option_or o (references_fault order segs))
           (data_is ∙ ap (λ (n : ℕ). size_fault order n own) (sym words_are))
 
-      pub size_stop : (stop : Stop) → IsOfSize order words own stop
-          → AreStopped order segs stop
+      pub size_stop : (stop : Stop) → IsOfSize order words own stop → AreStopped order segs stop
       size_stop stop d = grind (arith, behind_privates)
 
       -- the edit that stores the host's data size, the units of the link
       module _ (fits : size_fault order words own ≡ None)
-          (units : List (List ℕ × ℕ)) (units_is : units ≡ units_of segs) where
+          {units : List (List ℕ × ℕ)} (units_is : units ≡ units_of segs) where
         abbrev known : Known
         known = known_by ds units
 
@@ -118,7 +100,7 @@ module _ (order : Order) (segs : List Segment) (own : Segment) (is : host_of seg
             → linking_fault order segs ≡ None
         none_stands d = behind_size ∙ d
 
-        module _ (one : HasOneHost segs) (size : Edit)
+        module _ (one : HasOneHost segs) {size : Edit}
             (stored : data_edits order words own.code ≡ size ∷ []) (edits : List (List Edit))
             (links : (n : ℕ) → All (λ s. is_host s.role ≡ true
             → data_edits order n s.code ≡ size ∷ []) segs

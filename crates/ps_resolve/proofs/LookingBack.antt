@@ -1,28 +1,8 @@
 -- The searches of a segment's records that carry what came before are those that look back over the
 -- records. What is said of whole links, in ps_laws, is on them too.
-use Rattle.std.proofs.Common.{◌≡◌, ℕ, zero, suc, ◌+◌, ◌<◌, List, [], ◌∷◌, ◌++◌, length, take, map, Option, Some, Bool, true, refl, sym, inl, inr, arith, append_assoc, append-nil, is_some}
-use Rattle.std.specs.Prelude.{◌⊎◌, ◌&&◌, ◌||◌, nat_lt}
-use Rattle.std.specs.Bool.{Decides}
-use Rattle.std.specs.List.{enumerate_from, slice_get, list_any, filter, cons_option}
-use Rattle.std.specs.Option.{option_map, option_or}
-use Rattle.std.specs.Str.{bytes_eq}
-use Rattle.std.proofs.lemmas.Bool.Decides.{Decides-and, Decides-or, Decides-like}
-use Rattle.std.proofs.lemmas.List.{length_push, map-append, take_at}
-use Rattle.std.proofs.lemmas.List.Elements.{filter-append, filter_map-append}
-use Rattle.std.proofs.lemmas.Slice.Eq.{bytes_eq-Decides}
-use Rattle.ps_linkinfo.specs.declared.record.Body.{Body}
-use Rattle.ps_linkinfo.specs.declared.record.LinkRecord.{LinkRecord as Record}
-use Rattle.ps_words.specs.declared.fault.Fault.{Fault}
-use Rattle.ps_words.specs.declared.fault.Reason.{Reason}
+use Rattle.ps_resolve.proofs.Vocabulary.{◌≡◌, ℕ, zero, suc, ◌+◌, ◌<◌, List, [], ◌∷◌, ◌++◌, length, take, map, Option, Some, Bool, true, refl, sym, inl, inr, arith, append_assoc, append-nil, is_some, ◌⊎◌, ◌&&◌, ◌||◌, nat_lt, Decides, bytes_eq, enumerate_from, slice_get, list_any, filter, cons_option, option_map, option_or, Decides-and, Decides-or, Decides-like, length_push, map-append, take_at, filter-append, filter_map-append, bytes_eq-Decides, Body, Record, Fault, Reason, first_of, fault_if, def_in, definition_in, definitions, definition_of, first_duplicate_from, words_in, private_words, private_fault, HasEarlierNamesake, is_definition, is_private_reference, words_taken, MAX_NEXT_FREE}
 use Rattle.ps_words.specs.declared.fault.Reason.TheVariants as reason
-use Rattle.ps_resolve.specs.Searches.{first_of, fault_if}
-use Rattle.ps_resolve.specs.Symbols.{def_in, definition_in, definitions, definition_of, first_duplicate_from}
-use Rattle.ps_resolve.specs.Privates.{words_in, private_words, private_fault}
 use Rattle.ps_resolve.specs.Standing.Phrases.{SomeBelow}
-use Rattle.ps_resolve.specs.Standing.Definitions.{HasEarlierNamesake}
-use Rattle.ps_linkinfo.specs.RecordCounts.{is_definition, is_private_reference}
-use Rattle.ps_resolve.specs.References.{words_taken}
-use Rattle.ps_resolve.specs.declared.allotment.TheConstants.{MAX_NEXT_FREE}
 
 pub of_test : (b : Bool) → Decides b (b ≡ true)
 of_test b = (λ e. e, λ e. e)
@@ -93,8 +73,7 @@ more_definitions prefix r = grind (arith, filter_map-append)
 
 -- the search that carries the definitions so far is the one that looks back
 pub definitions_carried : (h : ℕ → Fault) (prefix rs : List Record) (rec : ℕ)
-    → rec ≡ length prefix
-    → option_map h (first_duplicate_from rec (definitions prefix) rs)
+    → rec ≡ length prefix → option_map h (first_duplicate_from rec (definitions prefix) rs)
     ≡ first_of (λ (r : ℕ × Record). fault_if (is_again is_definition (prefix ++ rs) r)
     (h r.0)) (enumerate_from rec rs)
 definitions_carried h prefix [] rec e = refl

@@ -1,8 +1,5 @@
 -- The items of a list, one by one.
-use Rattle.std.proofs.Common.{◌≡◌, ℕ, ◌+◌, ◌<◌, ◌++◌, List, [], ◌∷◌, length, map, get_or, drop, refl, arith, drop-cons, append_assoc}
-use Rattle.std.proofs.lemmas.List.{map-append}
-use Rattle.ps_resolve.specs.Privates.{owner_of}
-use Rattle.ps_resolve.specs.Sources.{Segment}
+use Rattle.ps_resolve.proofs.Vocabulary.{◌≡◌, ℕ, ◌+◌, ◌<◌, ◌++◌, List, [], ◌∷◌, length, map, get_or, drop, refl, arith, drop-cons, append_assoc, map-append, owner_of, Segment}
 
 -- the item at i
 pub drop_at : {X : Type 0} (xs : List X) (i : ℕ) (x : X) → i < length xs → x ≡ get_or xs i x

@@ -1,30 +1,9 @@
 -- One record more of a segment.
-use Rattle.std.proofs.Common.{◌≡◌, ℕ, ◌+◌, ◌++◌, List, [], ◌∷◌, map, Bool, true, false, Some, None, Ok, Err, refl, ap, subst, append_assoc, arith}
-use Rattle.std.specs.Prelude.{IsPermutation}
-use Rattle.std.specs.Option.{option_map, option_or}
-use Rattle.std.proofs.lemmas.List.Sorted.{IsPermutation-trans, IsPermutation-append_left}
-use Rattle.ps_linkinfo.specs.Records.{refs_of}
-use Rattle.ps_linkinfo.specs.RecordCounts.{is_private_reference, is_public_reference, is_unit_reference, privates_in, publics_in, units_in as units_requested}
-use Rattle.ps_resolve.specs.Privates.{private_words}
-use Rattle.ps_linkinfo.specs.declared.record.Body.{Body}
+use Rattle.ps_resolve.proofs.Vocabulary.{◌≡◌, ℕ, ◌+◌, ◌++◌, List, [], ◌∷◌, map, Bool, true, false, Some, None, Ok, Err, refl, ap, subst, append_assoc, arith, IsPermutation, option_map, option_or, IsPermutation-trans, IsPermutation-append_left, refs_of, is_private_reference, is_public_reference, is_unit_reference, privates_in, publics_in, units_requested, private_words, Body, Record, Reason, Edit, in_reference, is_reserved, ProcedureTables, in_segment, edit_of, operands, refs_fault, AreTaken, IsTableOf, edits_of, PlaceState, IsStop, Known, words_taken, target_in, target_of, records_fault, records_edits, Target, Stop}
 use Rattle.ps_linkinfo.specs.declared.record.Body.TheVariants.{UnitRef, PublRef, PrivRef}
-use Rattle.ps_linkinfo.specs.declared.record.LinkRecord.{LinkRecord as Record}
-use Rattle.ps_words.specs.declared.fault.Reason.{Reason}
-use Rattle.ps_words.specs.declared.edit.Edit.{Edit}
-use Rattle.ps_words.specs.FaultPlaces.{in_reference}
-use Rattle.ps_codefile.specs.Procedures.{is_reserved, ProcedureTables}
-use Rattle.ps_resolve.specs.Faults.{in_segment}
-use Rattle.ps_resolve.specs.Operands.{edit_of, operands, refs_fault}
-use Rattle.ps_resolve.specs.TakenPlaces.{AreTaken}
-use Rattle.ps_resolve.specs.EditTables.{IsTableOf, edits_of}
-use Rattle.ps_resolve.specs.declared.edit_table.PlaceState.{PlaceState}
-use Rattle.ps_resolve.specs.Stops.{IsStop}
-use Rattle.ps_resolve.specs.References.{Known, words_taken, target_in, target_of, records_fault, records_edits}
-use Rattle.ps_resolve.specs.declared.references.Target.{Target}
 use Rattle.ps_resolve.specs.declared.references.Target.TheVariants.{Slot}
 use Rattle.ps_resolve.proofs.RecordCounts.{one_private, one_public, one_unit}
 use Rattle.ps_resolve.proofs.LookingBack.{words_before}
-use Rattle.ps_resolve.specs.declared.linkage.Stop.{Stop}
 
 module _ (known : Known) (R : ℕ → Bool) (code : List ℕ) (rec off : ℕ)
     (os : List (ℕ × ℕ)) (r : Record) (rs : List Record) where
@@ -67,8 +46,7 @@ module _ (known : Known) (R : ℕ → Bool) (code : List ℕ) (rec off : ℕ)
       → target_of known off r ≡ Ok t
       → IsPermutation all (edits_of ts ++ records_edits known code off (r ∷ rs))
       → IsPermutation (edits_of ts ++ map (edit_of code t) (refs_of r.body)) (edits_of us)
-      → IsPermutation all (edits_of us
-      ++ records_edits known code (off + words_taken r.body) rs)
+      → IsPermutation all (edits_of us ++ records_edits known code (off + words_taken r.body) rs)
   listed_more all ts us t h listed put =
       let rest : List Edit = records_edits known code (off + words_taken r.body) rs in
       let so_far : List Edit = edits_of ts ++ map (edit_of code t) (refs_of r.body) in
@@ -76,9 +54,8 @@ module _ (known : Known) (R : ℕ → Bool) (code : List ℕ) (rec off : ℕ)
       (subst (λ (es : List Edit). IsPermutation all es) (edits_more (edits_of ts) t h) listed)
       (IsPermutation-append_left rest so_far (edits_of us) put)
 
--- With this table of edits, what the records from this index on come to is
--- what all come to, the first of whose privates has the offset `free`: their edits, their first
--- fault, and their words.
+-- With this table of edits, what the records from this index on come to is what all come to, the
+-- first of whose privates has the offset `free`: their edits, their first fault, and their words.
 pub record Links (known : Known) (tables : ProcedureTables) (free : ℕ) (all : List Record)
     (old : List Edit) (next : ℕ) (edits : List PlaceState) (n : ℕ) (rs : List Record) : Type 0
   where

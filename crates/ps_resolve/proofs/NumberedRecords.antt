@@ -1,18 +1,16 @@
 -- What a walk over records and their indices has left.
-use Rattle.std.proofs.Common.{◌≡◌, ℕ, ◌+◌, List, [], ◌∷◌, length, sym, ◌∙◌, ap, arith}
-use Rattle.std.proofs.lemmas.Option.{some_pair_parts}
+use Rattle.ps_resolve.proofs.Vocabulary.{◌≡◌, ℕ, ◌+◌, List, [], ◌∷◌, length, sym, ◌∙◌, ap, arith, some_pair_parts, Record}
 use Rattle.ps_linkinfo.specs.Numbered.{numbered_records}
-use Rattle.ps_linkinfo.specs.declared.record.LinkRecord.{LinkRecord as Record}
 
 -- these records are left, of which the first has this index, and of them this holds
 abbrev pub IsLeft : (ℕ → List Record → Type 0) → List (ℕ × Record) → Type 0
 IsLeft P left = (n : ℕ) × (rs : List Record) × (left ≡ numbered_records n rs) × P n rs
 
 -- one of them was given
-pub one : (P : ℕ → List Record → Type 0) (left more : List (ℕ × Record)) (i : ℕ)
-    (r : Record) → IsLeft P left → left ≡ (i, r) ∷ more
+pub one : {P : ℕ → List Record → Type 0} {left more : List (ℕ × Record)} {i : ℕ}
+    {r : Record} → IsLeft P left → left ≡ (i, r) ∷ more
     → (rest : List Record) × (more ≡ numbered_records (i + 1) rest) × P i (r ∷ rest)
-one P left more i r h k = at h.0 h.1 (sym h.2 ∙ k) h.3
+one {P} {left} {more} {i} {r} h k = at h.0 h.1 (sym h.2 ∙ k) h.3
   where
     at : (n : ℕ) (rs : List Record) → numbered_records n rs ≡ (i, r) ∷ more → P n rs
         → (rest : List Record) × (more ≡ numbered_records (i + 1) rest) × P i (r ∷ rest)
@@ -23,9 +21,9 @@ one P left more i r h k = at h.0 h.1 (sym h.2 ∙ k) h.3
         grind arith
 
 -- none is left
-pub none : (P : ℕ → List Record → Type 0) (left : List (ℕ × Record)) → IsLeft P left
+pub none : {P : ℕ → List Record → Type 0} {left : List (ℕ × Record)} → IsLeft P left
     → left ≡ [] → (n : ℕ) × P n []
-none P left h k = at h.0 h.1 (sym h.2 ∙ k) h.3
+none {P} {left} h k = at h.0 h.1 (sym h.2 ∙ k) h.3
   where
     at : (n : ℕ) (rs : List Record) → numbered_records n rs ≡ [] → P n rs
         → (n : ℕ) × P n []

@@ -1,25 +1,15 @@
 -- What is known of each segment of a link whose files were read without a fault.
-use Rattle.std.proofs.Common.{◌≡◌, ℕ, ◌<◌, List, get_or, Some, None, true, sym, ap, subst, ◌∙◌, inl, inr, is_some, arith}
-use Rattle.std.specs.Prelude.{◌⊎◌}
-use Rattle.std.specs.Option.{option_and_then}
-use Rattle.ps_codefile.specs.Dictionary.{entry_at, role_of}
-use Rattle.ps_codefile.specs.declared.entry.Role.{Role}
+use Rattle.ps_resolve.proofs.Vocabulary.{◌≡◌, ℕ, ◌<◌, List, get_or, Some, None, true, sym, ap, subst, ◌∙◌, inl, inr, is_some, arith, ◌⊎◌, option_and_then, entry_at, role_of, Role, added_fault, added_segments, as_added, request_of, segment_at, segments, AreOfLink, IsOfFile, IsOfSlot, IsOfRound, request_by_slot, Segment, host_of, order_of, source_of, own_segment, UnitReference, Order}
 use Rattle.ps_codefile.specs.declared.entry.Role.TheVariants as role
-use Rattle.ps_resolve.specs.Added.{added_fault, added_segments, as_added, request_of, segment_at, segments}
 use Rattle.ps_resolve.specs.AllFaults.{reading_fault}
 use Rattle.ps_resolve.specs.Faults.{code_fault, role_fault, source_fault, sources_fault, slots_fault, no_host_fault}
-use Rattle.ps_resolve.specs.OfLink.{AreOfLink, IsOfFile, IsOfSlot, IsOfRound}
-use Rattle.ps_resolve.specs.Requests.{request_by_slot}
-use Rattle.ps_resolve.specs.Sources.{Segment, host_of, order_of, source_of, own_segment}
 use Rattle.ps_resolve.specs.Standing.Slots.{HasRole}
-use Rattle.ps_resolve.specs.declared.reading.added.UnitReference.{UnitReference}
 use Rattle.ps_resolve.proofs.EachSegment.{IsMade, added_made, at_slot, own_made}
 use Rattle.ps_resolve.proofs.FirstSlots.{none_mapped, ok_is, or_none}
 use Rattle.ps_resolve.proofs.ReadingKnown.{all_at, host_there, none_at, one_host}
 use Rattle.ps_resolve.proofs.EachRound.{request_parts}
 use Rattle.ps_resolve.proofs.Items.{In, all_in}
 use Rattle.ps_resolve.proofs.OfRounds.{segment_named}
-use Rattle.ps_words.specs.declared.order.Order.{Order}
 
 module _ (order : Order) (host : List ℕ) (libs : List (List ℕ)) where
   -- 1. the entry of a segment, whose code has no fault

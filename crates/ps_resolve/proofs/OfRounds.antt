@@ -1,18 +1,7 @@
 -- Each segment that is added is that of a round, and where the rounds end without a fault each name
 -- that is requested has its round.
-use Rattle.std.proofs.Common.{◌≡◌, ℕ, ◌≤◌, List, ◌∷◌, ◌++◌, length, Option, Some, None, sym, ap, subst, ◌∙◌, inl, inr, arith}
-use Rattle.std.specs.Prelude.{◌⊎◌, All}
-use Rattle.std.specs.List.{slice_get}
-use Rattle.std.proofs.lemmas.Bool.{cases_lt}
-use Rattle.std.proofs.lemmas.List.{append-nil}
-use Rattle.std.proofs.lemmas.Option.{none-some, slice_get-get_or, slice_get_past}
+use Rattle.ps_resolve.proofs.Vocabulary.{◌≡◌, ℕ, ◌≤◌, List, ◌∷◌, ◌++◌, length, Option, Some, None, sym, ap, subst, ◌∙◌, inl, inr, arith, ◌⊎◌, All, slice_get, append-nil, cases_lt, none-some, slice_get-get_or, slice_get_past, Order, Fault, all_unit_references, empty_slots, placed_fault, as_added, added_segment, RoundsOutcome, requested_units, added_segments, added_fault, IsOfRound, Segment, segment_with, UnitReference}
 use Rattle.ps_codefile.specs.declared.entry.Role.TheVariants as role
-use Rattle.ps_words.specs.declared.order.Order.{Order}
-use Rattle.ps_words.specs.declared.fault.Fault.{Fault}
-use Rattle.ps_resolve.specs.Added.{all_unit_references, empty_slots, placed_fault, as_added, added_segment, RoundsOutcome, requested_units, added_segments, added_fault}
-use Rattle.ps_resolve.specs.OfLink.{IsOfRound}
-use Rattle.ps_resolve.specs.Sources.{Segment, segment_with}
-use Rattle.ps_resolve.specs.declared.reading.added.UnitReference.{UnitReference}
 use Rattle.ps_resolve.proofs.EachRound.{IsTurn, all_rounds, own_units, requested_rest, segments_before}
 use Rattle.ps_resolve.proofs.EachSegment.{added_made}
 use Rattle.ps_resolve.proofs.Items.{at_left, first_right, some_before}

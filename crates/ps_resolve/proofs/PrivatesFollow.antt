@@ -1,10 +1,5 @@
 -- The privates of all segments follow one another.
-use Rattle.std.proofs.Common.{◌≡◌, ℕ, zero, suc, ◌+◌, ◌++◌, List, [], ◌∷◌, take, ◌∙◌, arith}
-use Rattle.std.proofs.lemmas.List.Sums.{sum_by-cons}
-use Rattle.ps_linkinfo.specs.declared.record.LinkRecord.{LinkRecord as Record}
-use Rattle.ps_resolve.specs.Privates.{Owner, allotted_privates, private_words, all_allotted}
-use Rattle.ps_resolve.specs.Offsets.{FollowOn}
-use Rattle.ps_resolve.specs.declared.allotment.Private.{Private}
+use Rattle.ps_resolve.proofs.Vocabulary.{◌≡◌, ℕ, zero, suc, ◌+◌, ◌++◌, List, [], ◌∷◌, take, ◌∙◌, arith, sum_by-cons, Record, Owner, allotted_privates, private_words, all_allotted, FollowOn, Private}
 
 -- one more before
 follow_cons : (next : ℕ) (p : Private) (ps : List Private) → p.offset ≡ next

@@ -1,15 +1,7 @@
 -- Privates are by slot and then by record, where the segments are by slot; and so one is found by
 -- binary search.
-use Rattle.std.proofs.Common.{◌≡◌, ℕ, zero, suc, ◌+◌, ◌<◌, ◌==◌, ◌&&◌, ◌||◌, ◌++◌, List, [], ◌∷◌, length, map, get_or, Bool, true, false, Option, Some, None, inl, inr, refl, ap, arith}
-use Rattle.std.specs.Prelude.{find, nat_lt}
+use Rattle.ps_resolve.proofs.Vocabulary.{◌≡◌, ℕ, zero, suc, ◌+◌, ◌<◌, ◌==◌, ◌&&◌, ◌||◌, ◌++◌, List, [], ◌∷◌, length, map, get_or, Bool, true, false, Option, Some, None, inl, inr, refl, arith, find, nat_lt, cases_lt, cases_order, nat_tests, Record, AscendFrom, Owner, words_in, allotted_privates, private_words, all_allotted, is_from, RiseFrom, is_of, offset_listed, Private}
 use Rattle.std.specs.List.Sorted.{IsPartitionedBy, IsPartitionPoint}
-use Rattle.std.proofs.lemmas.Bool.{cases_lt, cases_order}
-use Rattle.std.proofs.lemmas.Bool.Decides.{nat_tests}
-use Rattle.ps_linkinfo.specs.declared.record.LinkRecord.{LinkRecord as Record}
-use Rattle.ps_resolve.specs.Linkable.{AscendFrom}
-use Rattle.ps_resolve.specs.Privates.{Owner, words_in, allotted_privates, private_words, all_allotted}
-use Rattle.ps_resolve.specs.Offsets.{is_from, RiseFrom, is_of, offset_listed}
-use Rattle.ps_resolve.specs.declared.allotment.Private.{Private}
 
 weaker : (a b c d : ℕ) (ps : List Private)
     → ((p : Private) → is_from a b p ≡ true → is_from c d p ≡ true) → RiseFrom a b ps
@@ -109,12 +101,10 @@ module _ (slot rec a b : ℕ) (ps : List Private) (i : ℕ) (h : RiseFrom a b ps
         grind arith
   ])
 
-module _ (slot rec : ℕ) (xs ps : List Private) (i : ℕ) (same : xs ≡ ps) (h : RiseFrom 0 0 xs)
+module _ (slot rec : ℕ) {xs : List Private} (ps : List Private) {i : ℕ} (same : xs ≡ ps)
+    (h : RiseFrom 0 0 xs)
     (p : IsPartitionPoint (λ x. is_before slot rec x ≡ true)
     (λ x. is_before slot rec x ≡ false) xs i) where
-  all_of : offset_listed slot rec xs ≡ offset_listed slot rec ps
-  all_of = ap (offset_listed slot rec) same
-
   pub offset_found : (x : Private) → i < length xs → x ≡ get_or xs i x → x.slot ≡ slot
       → x.rec ≡ rec → ◌≡◌ {A = Option ℕ} (Some x.offset) (offset_listed slot rec ps)
   offset_found x lt is s r = grind (arith, found_there, nat_tests)

@@ -1,16 +1,10 @@
 -- How long a code is that is whole in its file, and which kinds have one of a linked segment.
-use Rattle.std.proofs.Common.{◌≡◌, ◌&&◌, ◌||◌, ◌+◌, ◌≤◌, ℕ, List, length, Bool, true, false, if◌then◌else◌, Ok, Err, arith}
-use Rattle.std.proofs.Math.Dec.{ltb}
-use Rattle.std.specs.List.{slice_range}
-use Rattle.std.proofs.lemmas.List.{length-take, length-drop}
+use Rattle.ps_resolve.proofs.Vocabulary.{◌≡◌, ◌&&◌, ◌||◌, ◌+◌, ◌≤◌, ℕ, List, length, Bool, true, false, if◌then◌else◌, Ok, Err, arith, ltb, slice_range, length-take, length-drop, Entry, code_of, kind_needs_linking}
 use Rattle.ps_words.specs.declared.fault.Reason.TheVariants as reason
-use Rattle.ps_codefile.specs.declared.entry.Entry.{Entry}
-use Rattle.ps_codefile.specs.Dictionary.{code_of, kind_needs_linking}
 use Rattle.ps_codefile.specs.declared.code_layout.TheConstants.{MAX_CODE_LEN}
 
 -- a code that is given has no bad length, is not cut short, and is the slice of its file
-pub whole_code : (bad zero short : Bool) (x code : List ℕ)
-    → (if bad then Err reason.BadLength
+pub whole_code : (bad zero short : Bool) (x code : List ℕ) → (if bad then Err reason.BadLength
     else (if zero then Err reason.BadAddress else (if short then Err reason.Truncated else Ok x)))
     ≡ Ok code → (bad ≡ false) × (short ≡ false) × (x ≡ code)
 whole_code bad h short x code k = grind arith

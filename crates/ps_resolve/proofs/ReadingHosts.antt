@@ -1,16 +1,7 @@
 -- The host, read by itself, and what is known of the segments of a link once the files were read
 -- without a fault.
-use Rattle.std.proofs.Common.{arith, ◌≡◌, ℕ, List, length, Bool, if◌then◌else◌, Option, Some, Ok, Err}
-use Rattle.std.proofs.Math.Dec.{ltb}
-use Rattle.std.specs.Option.{option_or}
-use Rattle.ps_words.specs.FaultPlaces.{in_file}
-use Rattle.ps_words.specs.declared.order.Order.{Order}
-use Rattle.ps_words.specs.declared.fault.Reason.{Reason}
+use Rattle.ps_resolve.proofs.Vocabulary.{arith, ◌≡◌, ℕ, List, length, Bool, if◌then◌else◌, Option, Some, Ok, Err, ltb, option_or, in_file, Order, Reason, Fault, OpenedFile, FileOrder, file_order, opened_alone, opened_as, known_order, order_of, slots_fault, no_host_fault, libraries_fault}
 use Rattle.ps_words.specs.declared.fault.Reason.TheVariants as reason
-use Rattle.ps_words.specs.declared.fault.Fault.{Fault}
-use Rattle.ps_codefile.specs.Dictionary.{OpenedFile, FileOrder, file_order, opened_alone, opened_as}
-use Rattle.ps_resolve.specs.Sources.{known_order, order_of}
-use Rattle.ps_resolve.specs.Faults.{slots_fault, no_host_fault, libraries_fault}
 use Rattle.ps_resolve.specs.AllFaults.{reading_fault, reading_rest}
 
 -- a host that is read is read in its own byte order
@@ -38,5 +29,4 @@ rest_of order host libs = option_or (slots_fault order host)
 pub host_read : (host : List ℕ) (libs : List (List ℕ)) (o : OpenedFile)
     → opened_alone host ≡ Ok o → reading_fault host libs ≡ rest_of o.order o.file libs
 unfolding reading_fault
-host_read host libs o h =
-    rw (h, host_is host o h)
+host_read host libs o h = rw (h, host_is host o h)

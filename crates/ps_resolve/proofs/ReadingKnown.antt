@@ -1,27 +1,9 @@
 -- What is known of the segments of a link once the files were read without a fault: they rise by
 -- slot, and one of them is the host's own.
-use Rattle.std.proofs.Common.{◌≡◌, ℕ, zero, suc, ◌+◌, ◌<◌, ◌≤◌, List, [], ◌∷◌, map, length, get_or, Bool, true, false, ◌&&◌, not, Option, Some, None, is_some, Result, Ok, refl, sym, ◌∙◌, ap, arith}
-use Rattle.std.specs.List.{range_with_len, filter_map, find, list_any}
-use Rattle.std.specs.Prelude.{All}
-use Rattle.std.specs.Option.{option_map, option_map_or}
-use Rattle.std.specs.Result.{result_ok}
-use Rattle.std.proofs.lemmas.Bool.{and_from, false≢true}
-use Rattle.std.proofs.lemmas.List.Folds.{list_any_at}
-use Rattle.std.proofs.lemmas.List.FromFn.{get_or-range_with_len, length-range_with_len}
-use Rattle.std.proofs.lemmas.Option.{same_Some}
-use Rattle.ps_words.specs.FaultPlaces.{in_slot}
-use Rattle.ps_words.specs.declared.order.Order.{Order}
-use Rattle.ps_words.specs.declared.fault.Reason.{Reason}
-use Rattle.ps_words.specs.declared.fault.Fault.{Fault}
-use Rattle.ps_codefile.specs.declared.entry.Role.{Role}
+use Rattle.ps_resolve.proofs.Vocabulary.{◌≡◌, ℕ, zero, suc, ◌+◌, ◌<◌, ◌≤◌, List, [], ◌∷◌, map, length, get_or, Bool, true, false, ◌&&◌, not, Option, Some, None, is_some, Result, Ok, refl, sym, ◌∙◌, ap, arith, All, range_with_len, filter_map, find, list_any, option_map, option_map_or, result_ok, and_from, false≢true, list_any_at, get_or-range_with_len, length-range_with_len, same_Some, in_slot, Order, Reason, Fault, Role, entry_at, role_of, slots, first_of, fault_if, is_host, is_empty, Segment, own_segment, segment_from, host_of, AscendFrom, HasOneHost}
 use Rattle.ps_codefile.specs.declared.entry.Role.TheVariants as role
-use Rattle.ps_codefile.specs.Dictionary.{entry_at, role_of, slots}
 use Rattle.ps_resolve.specs.Added.{segment_at, segments, added_segments}
-use Rattle.ps_resolve.specs.Searches.{first_of, fault_if}
-use Rattle.ps_codefile.specs.Roles.{is_host, is_empty}
-use Rattle.ps_resolve.specs.Sources.{Segment, own_segment, segment_from, host_of}
 use Rattle.ps_resolve.specs.Faults.{is_role, slot_reason, slots_fault, no_host_fault, sources_fault, source_fault}
-use Rattle.ps_resolve.specs.Linkable.{AscendFrom, HasOneHost}
 use Rattle.ps_resolve.proofs.EachRound.{source_made}
 use Rattle.ps_resolve.proofs.EachSegment.{at_slot, each_slot, find_has, own_made}
 use Rattle.ps_resolve.proofs.FirstSlots.{any_found, neither_first, neither_second, none_mapped}
@@ -82,8 +64,7 @@ module _ (order : Order) (host : List ℕ) (libs : List (List ℕ)) where
   slot_host : (slot : ℕ) → source_fault order host libs slot ≡ None
       → is_role is_host order host slot ≡ true
       → (s : Segment) × (segment_at order host libs slot ≡ Some s)
-  slot_host slot none is =
-      by (segment_from order host libs slot name role.Host (0, slot)) refl
+  slot_host slot none is = by (segment_from order host libs slot name role.Host (0, slot)) refl
     where
       name : List ℕ
       name = (entry_at order host slot).name
@@ -141,15 +122,13 @@ module _ (order : Order) (host : List ℕ) (libs : List (List ℕ)) where
   host_there has none = found_host slots (is_there _ _ has) none
 
   -- the segments rise by slot
-  ascend_from : (n a from : ℕ) → from ≤ a
-      → AscendFrom from (map (λ (s : Segment). s.slot)
+  ascend_from : (n a from : ℕ) → from ≤ a → AscendFrom from (map (λ (s : Segment). s.slot)
       (filter_map (segment_at order host libs) (range_with_len a n)))
   ascend_from zero a from le = tt
   ascend_from (suc n) a from le =
       by (λ next l. ascend_from n (a + 1) next l) (segment_at order host libs a) refl
     where
-      by : ((next : ℕ) → next ≤ a + 1
-          → AscendFrom next (map (λ (s : Segment). s.slot)
+      by : ((next : ℕ) → next ≤ a + 1 → AscendFrom next (map (λ (s : Segment). s.slot)
           (filter_map (segment_at order host libs) (range_with_len (a + 1) n))))
           → (o : Option Segment) → segment_at order host libs a ≡ o
           → AscendFrom from (map (λ (s : Segment). s.slot)

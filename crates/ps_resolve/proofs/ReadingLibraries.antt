@@ -1,20 +1,6 @@
 -- The libraries of a link, from one of them on.
-use Rattle.std.proofs.Common.{◌≡◌, ℕ, suc, ◌+◌, ◌<◌, List, [], ◌∷◌, length, get_or, drop, map, Bool, true, false, if◌then◌else◌, Option, Some, None, Ok, Err, Bor, inl, inr, refl, ◌∙◌, ap, arith}
-use Rattle.std.proofs.Math.Dec.{ltb}
-use Rattle.std.proofs.lemmas.List.{drop_more, drop-map}
-use Rattle.std.proofs.lemmas.Bool.{cases_Bool}
-use Rattle.std.specs.List.{enumerate_from, find, slice_get}
-use Rattle.std.specs.Option.{option_or}
-use Rattle.std.specs.Prelude.{is_some}
-use Rattle.std.specs.Result.{result_err}
-use Rattle.ps_words.specs.declared.order.Order.{Order}
-use Rattle.ps_words.specs.declared.fault.Reason.{Reason}
+use Rattle.ps_resolve.proofs.Vocabulary.{◌≡◌, ℕ, suc, ◌+◌, ◌<◌, List, [], ◌∷◌, length, get_or, drop, map, Bool, true, false, if◌then◌else◌, Option, Some, None, Ok, Err, Bor, inl, inr, refl, ◌∙◌, ap, arith, ltb, is_some, drop_more, drop-map, cases_Bool, enumerate_from, find, slice_get, option_or, result_err, Order, Reason, Fault, OpenedFile, FileOrder, file_order, opened_beside, opened_beside_as, slots, first_of, is_named, has_entry, chosen_library, file_at, opened, opened_file, opened_files, unit_source, library_fault, library_reason}
 use Rattle.ps_words.specs.declared.fault.Reason.TheVariants as reason
-use Rattle.ps_words.specs.declared.fault.Fault.{Fault}
-use Rattle.ps_codefile.specs.Dictionary.{OpenedFile, FileOrder, file_order, opened_beside, opened_beside_as, slots}
-use Rattle.ps_resolve.specs.Searches.{first_of}
-use Rattle.ps_resolve.specs.Sources.{is_named, has_entry, chosen_library, file_at, opened, opened_file, opened_files, unit_source}
-use Rattle.ps_resolve.specs.Faults.{library_fault, library_reason}
 use Rattle.ps_resolve.proofs.FirstSlots.{any_found, neither_first, none_mapped}
 
 -- a library that is not refused is read as it is

@@ -1,21 +1,9 @@
 -- What is read of the slots of a host, where reading has no fault: the segments of the link.
-use Rattle.std.proofs.Common.{arith, ◌≡◌, ℕ, List, [], ◌∷◌, ◌++◌, ◌≢◌, take, Option, Some, None, Result, Ok, Err, refl, ◌∙◌}
-use Rattle.std.specs.List.{filter_map, find}
-use Rattle.std.specs.Option.{option_and_then, option_map, option_or}
-use Rattle.std.specs.Result.{result_ok}
-use Rattle.ps_words.specs.declared.order.Order.{Order}
-use Rattle.ps_words.specs.FaultPlaces.{in_file}
-use Rattle.ps_words.specs.declared.fault.Fault.{Fault}
-use Rattle.ps_words.specs.declared.fault.Reason.{Reason}
-use Rattle.ps_codefile.specs.Dictionary.{OpenedFile, entry_at, opened_alone, role_of, slots}
-use Rattle.ps_resolve.specs.Searches.{first_of}
+use Rattle.ps_resolve.proofs.Vocabulary.{arith, ◌≡◌, ℕ, List, [], ◌∷◌, ◌++◌, ◌≢◌, take, Option, Some, None, Result, Ok, Err, refl, ◌∙◌, filter_map, option_and_then, option_or, result_ok, Order, in_file, Fault, Reason, OpenedFile, entry_at, opened_alone, role_of, slots, first_of, reading_fault, Request, segments_in_slots}
 use Rattle.ps_resolve.specs.Sources.{Segment, own_segment, own_segments, opened_files, order_of, units_of}
 use Rattle.ps_resolve.specs.Faults.{slots_fault, no_host_fault, libraries_fault, source_fault, sources_fault}
 use Rattle.ps_resolve.specs.Added.{RoundsOutcome, all_unit_references, empty_slots, requested_from, rounds, rounds_in, segments}
-use Rattle.ps_resolve.specs.AllFaults.{reading_fault}
-use Rattle.ps_resolve.specs.Readings.{HostFiles, all_read, host_reading_fault, own_reading_fault, opened_host, read_requests, read_rounds, read_segment, read_segments, fault_of_added, queued_request, slot_after, slot_fault, slot_reading, slot_request, wanted_request}
-use Rattle.ps_resolve.specs.declared.reading.request.Request.{Request}
-use Rattle.ps_resolve.specs.KnownSegments.{is_in_slot, segments_in_slots}
+use Rattle.ps_resolve.specs.Readings.{HostFiles, all_read, host_reading_fault, own_reading_fault, opened_host, read_requests, read_rounds, read_segment, read_segments, queued_request, slot_after, slot_fault, slot_request, wanted_request}
 use Rattle.ps_resolve.proofs.FirstSlots.{neither_first, neither_second}
 use Rattle.ps_resolve.proofs.InSlots.{in_slots_are}
 use Rattle.ps_resolve.proofs.ReadingHosts.{host_is, host_read, host_refused, rest_of}
@@ -50,10 +38,6 @@ module _ (order : Order) (host : List ℕ) (libs : List (List ℕ)) where
   unfolding libraries_fault
   libraries_are h = all_opened order libs 1 h
 
-  abbrev sources_rest : List (List ℕ) → Option Fault
-  sources_rest files = option_or (sources_fault order host files)
-      (read_rounds order host files).fault
-
   -- the first fault of a host and its libraries, as it is defined step by step
   pub reading_is : host_reading_fault order host libs ≡ rest_of order host libs
   unfolding host_reading_fault
@@ -78,8 +62,7 @@ module _ (order : Order) (host : List ℕ) (libs : List (List ℕ)) where
   pub own_is : (of_files sources own : Option Fault) → own ≡ option_or of_files sources
       → of_files ≡ option_or (slots_fault order host)
       (option_or (no_host_fault order host) (libraries_fault order libs))
-      → sources ≡ sources_fault order host files
-      → own ≡ own_reading_fault order host libs
+      → sources ≡ sources_fault order host files → own ≡ own_reading_fault order host libs
   unfolding own_reading_fault
   own_is of_files sources own is first second = grind arith
 
@@ -158,15 +141,7 @@ module _ (order : Order) (host : List ℕ) (files : List (List ℕ)) (slot : ℕ
   abbrev added : RoundsOutcome
   added = read_rounds order host files
 
-  pub refused_by : (fault : Fault) → source_fault order host files slot ≡ Some fault
-      → slot_fault order host files slot ≡ Some fault
-  refused_by fault e = rw e refl
-
   module _ (fine : source_fault order host files slot ≡ None) where
-    at_next : slot_fault order host files slot
-        ≡ fault_of_added added (empty_slots order host) slot
-    at_next = rw fine refl
-
     pub next_by : (next : ℕ) → slot_after added (empty_slots order host) ≡ Some next
         → next ≡ slot → slot_fault order host files slot ≡ added.fault
     next_by next e same = grind arith
@@ -179,20 +154,10 @@ module _ (order : Order) (host : List ℕ) (files : List (List ℕ)) (slot : ℕ
         → slot_fault order host files slot ≡ None
     none_by e = grind arith
 
-  pub reading_by : (segs : List Segment) (o : Option Segment)
-      → slot_fault order host files slot ≡ None → segs ≡ all_read order host files
-      → o ≡ find (is_in_slot slot) segs
-      → slot_reading order host files slot ≡ option_map Ok o
-  reading_by segs o fine all found = grind arith
-
   -- the request of a slot
   abbrev own : Option Request
   own = option_and_then (wanted_request order host slot)
       (result_ok (role_of (entry_at order host slot)))
-
-  pub request_of_slot : (r : Request) → own ≡ Some r
-      → slot_request order host files slot ≡ Some r
-  request_of_slot r e = grind arith
 
   pub request_by : own ≡ None → slot_request order host files slot
       ≡ queued_request (read_requests order host files) (empty_slots order host) slot

@@ -1,32 +1,14 @@
 -- The segments of a link, slot by slot.
-use Rattle.std.proofs.Common.{◌≡◌, ℕ, ◌+◌, ◌-◌, ◌<◌, ◌≤◌, List, [], ◌∷◌, ◌++◌, append_assoc, length, length-append, Option, Some, None, Ok, ◌⊎◌, inl, inr, refl, arith}
-use Rattle.std.specs.List.{range_with_len, filter_map}
-use Rattle.std.specs.Prelude.{All}
-use Rattle.std.specs.Option.{option_and_then, option_to_list, IfSome}
-use Rattle.std.proofs.lemmas.List.Elements.{All-nil, All-cons, All-append}
-use Rattle.ps_words.specs.declared.order.Order.{Order}
-use Rattle.ps_codefile.specs.declared.entry.Role.{Role}
+use Rattle.ps_resolve.proofs.Vocabulary.{◌≡◌, ℕ, ◌+◌, ◌-◌, ◌<◌, ◌≤◌, List, [], ◌∷◌, ◌++◌, append_assoc, length, length-append, Option, Some, None, Ok, ◌⊎◌, inl, inr, refl, arith, All, option_to_list, IfSome, range_with_len, filter_map, All-nil, All-cons, All-append, Order, Role, entry_at, role_of, own_segment, segment_from, source_fault, code_fault}
 use Rattle.ps_codefile.specs.declared.entry.Role.TheVariants as role
-use Rattle.ps_codefile.specs.Dictionary.{entry_at, role_of}
-use Rattle.ps_resolve.specs.Sources.{Segment, own_segment, segment_from, source_of}
-use Rattle.ps_resolve.specs.Faults.{source_fault, code_fault}
 use Rattle.ps_resolve.proofs.FirstSlots.{range_more}
 
 -- a segment that is in the host file
 abbrev pub IsOwn : Role → Type 0
 IsOwn r = (r ≡ role.Plain) ⊎ ((r ≡ role.Host) ⊎ (r ≡ role.Unit))
 
-own_each : (P : Role → Type 0) → P role.Plain → P role.Host → P role.Unit → (r : Role)
-    → IsOwn r → P r
-own_each P plain host unit r is = grind arith
-
 pub is_own_host : IsOwn role.Host
 is_own_host = inr (inl refl)
-
-abbrev segment_as : Order → List ℕ → List (List ℕ) → ℕ → Role → Option Segment
-segment_as order host libs slot r = option_and_then
-    (segment_from order host libs slot (entry_at order host slot).name r)
-    (source_of order host libs slot r)
 
 -- the fault of a slot of role Plain, Host or Unit is that of the code of the entry of the host
 -- there

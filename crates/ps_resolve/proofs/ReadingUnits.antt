@@ -1,13 +1,6 @@
 -- Why the library's first entry of a name is not taken.
-use Rattle.std.proofs.Common.{◌≡◌, ◌≢◌, ◌&&◌, ℕ, List, Bool, true, false, Some, None, inl, inr, arith}
-use Rattle.std.proofs.lemmas.Bool.{cases_Bool, cases_eq}
-use Rattle.std.proofs.lemmas.Bool.Decides.{nat_tests}
-use Rattle.std.specs.List.{list_any, find, range_with_len}
-use Rattle.ps_words.specs.declared.order.Order.{Order}
+use Rattle.ps_resolve.proofs.Vocabulary.{◌≡◌, ◌≢◌, ◌&&◌, ℕ, List, Bool, true, false, Some, None, inl, inr, arith, cases_Bool, cases_eq, nat_tests, list_any, find, range_with_len, Order, slots, entry_at, is_named, entries_reason}
 use Rattle.ps_words.specs.declared.fault.Reason.TheVariants as reason
-use Rattle.ps_codefile.specs.Dictionary.{slots, entry_at}
-use Rattle.ps_resolve.specs.Sources.{is_named}
-use Rattle.ps_resolve.specs.Faults.{entries_reason}
 
 -- some entry of the name has another of the name below it
 abbrev pub is_duplicate : Order → List ℕ → List ℕ → Bool

@@ -1,9 +1,5 @@
 -- Counts of a list, and of records.
-use Rattle.std.proofs.Common.{arith, ◌≡◌, ◌+◌, List, ◌∷◌, Bool, cond}
-use Rattle.std.specs.Prelude.{count_by}
-use Rattle.std.proofs.lemmas.List.Sums.{sum_by-cons}
-use Rattle.ps_linkinfo.specs.RecordCounts.{is_private_reference, is_public_reference, is_unit_reference, privates_in, publics_in, units_in}
-use Rattle.ps_linkinfo.specs.declared.record.LinkRecord.{LinkRecord as Record}
+use Rattle.ps_resolve.proofs.Vocabulary.{arith, ◌≡◌, ◌+◌, List, ◌∷◌, Bool, cond, count_by, sum_by-cons, is_private_reference, is_public_reference, is_unit_reference, privates_in, publics_in, units_in, Record}
 
 pub one_more : {X : Type 0} (test : X → Bool) (x : X) (xs : List X)
     → count_by test (x ∷ xs) ≡ cond (test x) 1 0 + count_by test xs

@@ -1,21 +1,8 @@
 -- The queue of names that are requested, of which only the first ten are kept, and the rounds that
 -- it gives.
-use Rattle.std.proofs.Common.{◌≡◌, ℕ, ◌+◌, ◌<◌, ◌≤◌, List, [], ◌∷◌, ◌++◌, ◌-◌, length, length-append, append_assoc, append-nil, take, Bool, true, false, Option, Some, None, inl, inr, refl, sym, ◌∙◌, ap, arith}
-use Rattle.std.specs.Prelude.{◌⊎◌, All, if◌then◌else◌}
-use Rattle.std.proofs.lemmas.Bool.{cases_lt}
-use Rattle.std.proofs.lemmas.List.{take-append-le, take_all, length-take, length-take-le}
-use Rattle.std.proofs.lemmas.List.Elements.{All-nil, All-cons, All-append}
-use Rattle.std.specs.List.{slice_get, filter, range_with_len}
-use Rattle.ps_words.specs.declared.order.Order.{Order}
-use Rattle.ps_linkinfo.specs.RecordCounts.{is_unit_reference, units_in as units_requested}
-use Rattle.ps_resolve.specs.Added.{is_already_known, unit_references, all_unit_references, requested_from, unplaced_fault, placed_fault, added_segment, RoundsOutcome, after, rounds_from}
-use Rattle.ps_words.specs.declared.fault.Fault.{Fault}
-use Rattle.ps_linkinfo.specs.declared.record.Body.{Body}
+use Rattle.ps_resolve.proofs.Vocabulary.{◌≡◌, ℕ, ◌+◌, ◌<◌, ◌≤◌, List, [], ◌∷◌, ◌++◌, ◌-◌, length, length-append, append_assoc, append-nil, take, Bool, true, false, Option, Some, None, inl, inr, refl, sym, ◌∙◌, ap, arith, ◌⊎◌, All, if◌then◌else◌, cases_lt, take-append-le, take_all, length-take, length-take-le, All-nil, All-cons, All-append, slice_get, filter, range_with_len, Order, is_unit_reference, units_requested, is_already_known, unit_references, all_unit_references, requested_from, unplaced_fault, placed_fault, added_segment, RoundsOutcome, after, rounds_from, Fault, Body, Record, Segment, UnitReference}
 use Rattle.ps_linkinfo.specs.declared.record.Body.TheVariants.{UnitRef}
-use Rattle.ps_linkinfo.specs.declared.record.LinkRecord.{LinkRecord as Record}
 use Rattle.ps_resolve.proofs.RecordCounts.{one_unit}
-use Rattle.ps_resolve.specs.Sources.{Segment}
-use Rattle.ps_resolve.specs.declared.reading.added.UnitReference.{UnitReference}
 
 -- with this queue, the names that the records from this index on request make the whole queue:
 -- that of all records, after `old`
@@ -47,8 +34,7 @@ requested-append units queue (x ∷ xs) ys =
     else queue ++ x ∷ []) xs ys
 
 -- one segment more, whose records request names after those of segments before it
-flat_more : (xs : List Segment) (s : Segment)
-    → all_unit_references (xs ++ s ∷ [])
+flat_more : (xs : List Segment) (s : Segment) → all_unit_references (xs ++ s ∷ [])
     ≡ all_unit_references xs ++ unit_references s.file s.slot 0 s.records
 flat_more [] s = append-nil (unit_references s.file s.slot 0 s.records)
 flat_more (x ∷ xs) s = grind (arith, append_assoc, flat_more xs s)
@@ -177,8 +163,7 @@ few_kept queue = omega (arith, length-take 10 queue)
 
 -- one number more, where it passes
 pub filter_more : (test : ℕ → Bool) (xs : List ℕ) (i n : ℕ) → i < n
-    → xs ++ filter test (range_with_len i (n - i))
-    ≡ (xs ++ (if test i then i ∷ [] else []))
+    → xs ++ filter test (range_with_len i (n - i)) ≡ (xs ++ (if test i then i ∷ [] else []))
     ++ filter test (range_with_len (i + 1) (n - (i + 1)))
 filter_more test xs i n lt = grind (arith, append_assoc, append-nil)
 

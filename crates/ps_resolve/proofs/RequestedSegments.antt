@@ -1,21 +1,7 @@
 -- The unit of a request: its fault and its segment by the library that has it, and the request of a
 -- slot that wants a unit.
-use Rattle.std.proofs.Common.{arith, ◌≡◌, ℕ, List, Bool, false, ◌&&◌, not, Option, Some, None, Result, Ok, refl, sym, ◌∙◌, ap}
-use Rattle.std.specs.Prelude.{if◌then◌else◌}
-use Rattle.std.specs.List.{find}
-use Rattle.std.specs.Option.{option_and_then, option_map}
-use Rattle.std.specs.Result.{result_ok}
-use Rattle.ps_words.specs.FaultPlaces.{in_slot}
-use Rattle.ps_words.specs.declared.order.Order.{Order}
-use Rattle.ps_words.specs.declared.fault.Reason.{Reason}
-use Rattle.ps_codefile.specs.Dictionary.{slots, entry_at, is_nameless, role_of, role_of_kind}
-use Rattle.ps_codefile.specs.declared.entry.Role.{Role}
+use Rattle.ps_resolve.proofs.Vocabulary.{arith, ◌≡◌, ℕ, List, Bool, false, ◌&&◌, not, Option, Some, None, Result, Ok, refl, sym, ◌∙◌, ap, if◌then◌else◌, find, option_and_then, option_map, result_ok, in_slot, Order, Reason, slots, entry_at, is_nameless, role_of, role_of_kind, Role, Segment, chosen_library, file_at, is_named, library_file, own_segment, segment_from, source_of, unit_source, code_fault, entries_reason, request_fault, source_fault, as_requested, is_missing, request_by_slot, requested_segment, IsRead, Request}
 use Rattle.ps_codefile.specs.declared.entry.Role.TheVariants as role
-use Rattle.ps_resolve.specs.Sources.{Segment, chosen_library, file_at, is_named, library_file, own_segment, segment_from, source_of, unit_source}
-use Rattle.ps_resolve.specs.Faults.{code_fault, entries_reason, request_fault, source_fault}
-use Rattle.ps_resolve.specs.Requests.{as_requested, is_missing, request_by_slot, requested_segment}
-use Rattle.ps_resolve.specs.KnownSegments.{IsRead}
-use Rattle.ps_resolve.specs.declared.reading.request.Request.{Request}
 use Rattle.ps_resolve.specs.declared.reading.request.Requester.{Requester}
 use Rattle.ps_resolve.specs.declared.reading.request.Requester.TheVariants.{Slot}
 use Rattle.ps_resolve.proofs.FirstSlots.{some_mapped}

@@ -1,21 +1,6 @@
 -- The edits of a segment that are no reference's: they cover reserved places, each once, and so are
 -- beside those of the references.
-use Rattle.std.proofs.Common.{rules, ◌≡◌, ℕ, suc, ◌+◌, ◌-◌, ◌<◌, ◌≤◌, ◌++◌, ◌&&◌, List, [], ◌∷◌, length, Bool, true, Option, None, get_or, sym, subst, arith}
-use Rattle.std.specs.Prelude.{IsPermutation, All, IfSome, nat_le, nat_lt}
-use Rattle.std.specs.Option.{option_to_list}
-use Rattle.std.proofs.lemmas.List.{get_or-set_other, get_or_past}
-use Rattle.std.proofs.lemmas.List.Elements.{All-nil, All-append}
-use Rattle.ps_words.specs.Edits.{covers, place_of, width, IsInside}
-use Rattle.ps_words.specs.declared.order.Order.{Order}
-use Rattle.ps_words.specs.declared.edit.Edit.{Edit}
-use Rattle.ps_words.specs.declared.edit.Edit.TheVariants.{Byte}
-use Rattle.ps_codefile.specs.Procedures.{is_reserved, ProcedureTables}
-use Rattle.ps_resolve.specs.Edits.{IsOfTable, data_size_edit}
-use Rattle.ps_linkinfo.specs.declared.record.LinkRecord.{LinkRecord as Record}
-use Rattle.ps_resolve.specs.References.{Known, records_edits, records_fault}
-use Rattle.ps_resolve.specs.EditTables.{IsTableOf, edits_of, first_state, is_wide, put_in}
-use Rattle.ps_resolve.specs.TakenPlaces.{AreTaken}
-use Rattle.ps_resolve.specs.declared.edit_table.PlaceState.{PlaceState}
+use Rattle.ps_resolve.proofs.Vocabulary.{rules, ◌≡◌, ℕ, suc, ◌+◌, ◌-◌, ◌<◌, ◌≤◌, ◌++◌, ◌&&◌, List, [], ◌∷◌, length, Bool, true, Option, None, get_or, sym, subst, arith, IsPermutation, All, IfSome, nat_le, nat_lt, option_to_list, get_or-set_other, get_or_past, All-nil, All-append, covers, place_of, width, IsInside, Order, Edit, Byte, is_reserved, ProcedureTables, IsOfTable, data_size_edit, Record, Known, records_edits, records_fault, IsTableOf, edits_of, first_state, is_wide, put_in, AreTaken, PlaceState}
 use Rattle.ps_resolve.specs.declared.edit_table.PlaceState.TheVariants.{Free}
 use Rattle.ps_resolve.proofs.EditTables.{IsIdle, idle_narrow, table_more, put_more, put_taken, none_listed}
 use Rattle.ps_resolve.proofs.EditsInside.{records_inside}

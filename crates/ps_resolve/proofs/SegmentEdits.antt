@@ -1,18 +1,5 @@
 -- The edits of one segment link it.
-use Rattle.std.proofs.Common.{rules, arith, ◌≡◌, ℕ, ◌-◌, ◌++◌, List, [], ◌∷◌, length, true, Option}
-use Rattle.std.specs.Prelude.{IsPermutation}
-use Rattle.std.specs.Option.{option_to_list}
-use Rattle.std.proofs.lemmas.List.Sorted.{IsPermutation-sym}
-use Rattle.ps_words.specs.Edits.{AreApart, AreEdits, patched_byte}
-use Rattle.ps_words.specs.declared.order.Order.{Order}
-use Rattle.ps_words.specs.declared.edit.Edit.{Edit}
-use Rattle.ps_words.specs.declared.edit.Edit.TheVariants.{Byte}
-use Rattle.ps_codefile.specs.Roles.{needs_linking, is_host}
-use Rattle.ps_resolve.specs.Sources.{Segment}
-use Rattle.ps_resolve.specs.Edits.{data_size_edit}
-use Rattle.ps_resolve.specs.Linking.{data_edits, segment_edits}
-use Rattle.ps_resolve.specs.Plans.{LinksSegment}
-use Rattle.ps_resolve.specs.References.{Known, records_edits}
+use Rattle.ps_resolve.proofs.Vocabulary.{rules, arith, ◌≡◌, ℕ, ◌-◌, ◌++◌, List, [], ◌∷◌, length, true, Option, IsPermutation, option_to_list, IsPermutation-sym, AreApart, AreEdits, patched_byte, Order, Edit, Byte, needs_linking, is_host, Segment, data_size_edit, data_edits, segment_edits, LinksSegment, Known, records_edits}
 
 -- the number of a segment that is linked, its own edit, and the edits of its references
 abbrev pub all_of : Known → Segment → Option Edit → ℕ → List Edit

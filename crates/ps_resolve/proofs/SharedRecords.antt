@@ -1,22 +1,6 @@
 -- Segments that have the same records, since their link information begins in one block of one
 -- file.
-use Rattle.std.proofs.Common.{◌≡◌, ◌∙◌, ℕ, suc, zero, ◌+◌, ◌<◌, ◌++◌, List, [], ◌∷◌, length, take, get_or, Bool, true, false, Option, None, Result, Ok, Err, refl, sym, arith, add-one}
-use Rattle.std.specs.Prelude.{All, IfSome, is_some}
-use Rattle.std.proofs.lemmas.List.{nil_from_length}
-use Rattle.std.proofs.lemmas.List.Elements.{All-nil, All-cons, All-head, All-tail}
-use Rattle.std.proofs.lemmas.List.Sums.{sum_by-cons}
-use Rattle.ps_words.specs.declared.order.Order.{Order}
-use Rattle.ps_words.specs.declared.fault.Reason.{Reason}
-use Rattle.ps_linkinfo.specs.Records.{refs_of}
-use Rattle.ps_linkinfo.specs.RecordCounts.{is_private_reference, privates_in, references_in}
-use Rattle.ps_linkinfo.specs.declared.record.Body.{Body}
-use Rattle.ps_linkinfo.specs.declared.record.LinkRecord.{LinkRecord as Record}
-use Rattle.ps_codefile.specs.Roles.{needs_linking}
-use Rattle.ps_resolve.specs.Sources.{Segment, file_at}
-use Rattle.ps_resolve.specs.KnownSegments.{ArePlacedIn, IsRead, IsSound, IsLike, AreAlike, HasRecordsAt}
-use Rattle.ps_resolve.specs.Operands.{operands}
-use Rattle.ps_resolve.specs.References.{Known, HasTarget, HaveTargets, target_in, target_of, words_taken, records_fault}
-use Rattle.ps_resolve.specs.declared.references.Target.{Target}
+use Rattle.ps_resolve.proofs.Vocabulary.{◌≡◌, ◌∙◌, ℕ, suc, zero, ◌+◌, ◌<◌, ◌++◌, List, [], ◌∷◌, length, take, get_or, Bool, true, false, Option, None, Result, Ok, Err, refl, sym, arith, add-one, All, IfSome, is_some, nil_from_length, All-nil, All-cons, All-head, All-tail, sum_by-cons, Order, Reason, refs_of, is_private_reference, privates_in, references_in, Body, Record, needs_linking, Segment, file_at, ArePlacedIn, IsRead, IsSound, IsLike, AreAlike, HasRecordsAt, operands, Known, HasTarget, HaveTargets, target_in, target_of, words_taken, records_fault, Target}
 use Rattle.ps_resolve.proofs.RecordCounts.{one_private}
 use Rattle.ps_resolve.proofs.FirstSlots.{neither_second}
 use Rattle.ps_resolve.proofs.NextRecords.{NoLinks, record_by, record_stands, edits_more}

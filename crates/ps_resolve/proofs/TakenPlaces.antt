@@ -1,28 +1,9 @@
 -- One reference more.
-use Rattle.std.proofs.Common.{◌≡◌, ℕ, suc, ◌+◌, ◌<◌, ◌≤◌, ◌||◌, ◌++◌, List, [], ◌∷◌, length, map, take, drop, get_or, Bool, true, false, Some, None, add-one, append_assoc, arith}
-use Rattle.std.specs.Prelude.{nat_lt, IsPermutation}
-use Rattle.std.specs.List.{list_any, range_with_len}
-use Rattle.std.proofs.Math.Seq.{drop-cons}
-use Rattle.std.proofs.lemmas.List.{map-append, take_more}
-use Rattle.std.proofs.lemmas.List.Folds.{list_any-append}
+use Rattle.ps_resolve.proofs.Vocabulary.{drop_more, ◌≡◌, ℕ, suc, ◌+◌, ◌<◌, ◌≤◌, ◌||◌, ◌++◌, List, [], ◌∷◌, length, map, take, drop, get_or, Bool, true, false, Some, None, append_assoc, arith, nat_lt, IsPermutation, list_any, range_with_len, map-append, take_more, list_any-append, is_reserved, ProcedureTables, reason_in, AreTaken, place_of, width, covers, Edit, IsTableOf, edits_of, is_taken_at, put_in, PlaceState, edit_of, is_in, operands, width_of, value_of, refs_fault, reference_reason, fault_if, Target}
 use Rattle.ps_words.specs.declared.fault.Reason.TheVariants as reason
 use Rattle.ps_resolve.proofs.EditTables.{table_more, put_more, put_taken, free_idle}
-use Rattle.ps_codefile.specs.Procedures.{is_reserved, ProcedureTables}
-use Rattle.ps_resolve.specs.Edits.{reason_in}
-use Rattle.ps_resolve.specs.TakenPlaces.{AreTaken}
-use Rattle.ps_words.specs.Edits.{place_of, width, covers}
-use Rattle.ps_words.specs.declared.edit.Edit.{Edit}
-use Rattle.ps_resolve.specs.EditTables.{IsTableOf, edits_of, is_taken_at, put_in}
-use Rattle.ps_resolve.specs.declared.edit_table.PlaceState.{PlaceState}
 use Rattle.ps_resolve.specs.declared.edit_table.PlaceState.TheVariants.{Free, Taken}
-use Rattle.ps_resolve.specs.Operands.{edit_of, is_in, operands, width_of, value_of, refs_fault, reference_reason}
-use Rattle.ps_resolve.specs.Searches.{fault_if}
-use Rattle.ps_resolve.specs.declared.references.Target.{Target}
 use Rattle.ps_words.specs.declared.words.TheConstants.{MAX_OPERAND}
-
-pub drop_one : (xs : List ℕ) (i : ℕ) → i < length xs
-    → drop i xs ≡ get_or xs i 0 ∷ drop (i + 1) xs
-drop_one xs i h = rw (add-one, drop-cons xs i 0)
 
 pub map_one : {X : Type 0} (f : ℕ → X) (xs : List ℕ) (i : ℕ) → i < length xs
     → map f (take (i + 1) xs) ≡ map f (take i xs) ++ f (get_or xs i 0) ∷ []
@@ -39,7 +20,7 @@ pub fault_one : (R : ℕ → Bool) (code : List ℕ) (t : Target) (os : List (�
     → reference_reason R code (os ++ operands t (take i xs)) t (get_or xs i 0) ≡ None
     → refs_fault R code t i (os ++ operands t (take i xs)) (drop i xs)
     ≡ refs_fault R code t (i + 1) (os ++ operands t (take (i + 1) xs)) (drop (i + 1) xs)
-fault_one R code t os xs i h none = grind (arith, operands_one, drop_one)
+fault_one R code t os xs i h none = grind (arith, operands_one, drop_more xs i 0 h)
 
 -- whether one of four tests holds does not depend on which two of them are taken together
 or_over : (a b c d : Bool) → ((a || b) || ((c || d) || false))
@@ -71,10 +52,6 @@ pub operand_put : (code : List ℕ) (t : Target) (x : ℕ) (ts : List PlaceState
     (edits_of (put_in ts (edit_of code t x)))
 operand_put code t x ts es len within free same =
     grind (arith, put_more, free_idle, none_at, same_places)
-
--- an edit covers its place
-covers_it : (e : Edit) → covers (place_of e) e ≡ true
-covers_it e = grind arith
 
 -- the table is one with it
 pub operand_table : (code : List ℕ) (t : Target) (x : ℕ) (ts : List PlaceState)

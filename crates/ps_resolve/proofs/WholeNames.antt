@@ -1,24 +1,8 @@
 -- The names of all slots of a linked file have eight bytes each: those of the host's dictionary,
 -- and those of UNITREF records.
-use Rattle.std.proofs.Common.{◌≡◌, ℕ, ◌+◌, ◌*◌, ◌<◌, ◌≤◌, ◌==◌, List, [], ◌∷◌, ◌++◌, length, length-append, map, Bool, true, false, if◌then◌else◌, Option, Some, None, refl, sym, ap, ◌∙◌, subst, inl, inr, arith}
-use Rattle.std.specs.Prelude.{All}
-use Rattle.std.specs.List.{flat_map, find}
-use Rattle.std.specs.Option.{option_map_or}
-use Rattle.std.proofs.lemmas.List.{length-drop}
-use Rattle.std.proofs.lemmas.List.Elements.{All-nil, All-cons, All-tail, All-append, All-push, All-from_get_or}
-use Rattle.std.proofs.lemmas.List.FromFn.{get_or-range_with_len}
-use Rattle.std.proofs.lemmas.Bool.{cond_both}
-use Rattle.ps_words.specs.declared.order.Order.{Order}
-use Rattle.ps_codefile.specs.Dictionary.{slots, name_at, entry_at, information_of}
+use Rattle.ps_resolve.proofs.Vocabulary.{◌≡◌, ℕ, ◌+◌, ◌*◌, ◌<◌, ◌≤◌, ◌==◌, List, [], ◌∷◌, ◌++◌, length, length-append, map, if◌then◌else◌, Option, Some, None, refl, sym, ap, ◌∙◌, subst, inl, inr, arith, All, flat_map, find, length-drop, option_map_or, All-nil, All-cons, All-tail, All-append, All-push, All-from_get_or, get_or-range_with_len, cond_both, Order, slots, name_at, entry_at, is_unit_reference, Role, Wanted, reading, Record, UnitReference}
 use Rattle.ps_resolve.specs.Added.{is_already_known, unit_references, all_unit_references, requested_from, added_segments, requested_units, segment_at, segments, slot_name, slot_names}
-use Rattle.ps_linkinfo.specs.RecordCounts.{is_unit_reference}
-use Rattle.ps_codefile.specs.declared.entry.Entry.{Entry}
-use Rattle.ps_codefile.specs.declared.entry.Role.{Role}
-use Rattle.ps_codefile.specs.declared.entry.Role.TheVariants.{Wanted}
-use Rattle.ps_linkinfo.specs.Records.{reading}
-use Rattle.ps_linkinfo.specs.declared.record.LinkRecord.{LinkRecord as Record}
-use Rattle.ps_resolve.specs.Sources.{Segment, own_segment, own_segments, units_of, records_of}
-use Rattle.ps_resolve.specs.declared.reading.added.UnitReference.{UnitReference}
+use Rattle.ps_resolve.specs.Sources.{Segment, own_segment, own_segments, units_of}
 use Rattle.ps_resolve.proofs.EachSegment.{IsMade, added_made, at_slot, each_slot, find_has, own_made}
 use Rattle.ps_resolve.proofs.Items.{of_all}
 use Rattle.ps_resolve.proofs.OfRounds.{each_added, queue_of}
@@ -71,11 +55,6 @@ queue_named units queue (g ∷ gs) all rest =
       queue_named units (if is_already_known units queue g.name then queue else queue ++ g ∷ [])
           gs,
     )
-
-records_whole : ReadWhole → (order : Order) (file : List ℕ) (e : Entry) (b : Bool)
-    → All HasWholeName (records_of order file e b)
-records_whole law order file e true = law order (information_of file e)
-records_whole law order file e false = All-nil HasWholeName
 
 -- a segment that is made has such records
 made_whole : ReadWhole → (order : Order) (host : List ℕ) (libs : List (List ℕ)) (slot : ℕ)

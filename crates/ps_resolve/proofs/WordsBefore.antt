@@ -1,8 +1,5 @@
 -- The words of the privates of the first records of a segment, added up.
-use Rattle.std.proofs.Common.{◌≡◌, ℕ, suc, ◌+◌, ◌-◌, ◌<◌, ◌≤◌, List, ◌∷◌, take, arith}
-use Rattle.std.proofs.lemmas.List.Sums.{sum_by-cons}
-use Rattle.ps_linkinfo.specs.declared.record.LinkRecord.{LinkRecord as Record}
-use Rattle.ps_resolve.specs.References.{words_taken, words_taken_by}
+use Rattle.ps_resolve.proofs.Vocabulary.{◌≡◌, ℕ, suc, ◌+◌, ◌-◌, ◌<◌, ◌≤◌, List, ◌∷◌, take, arith, sum_by-cons, Record, words_taken, words_taken_by}
 
 -- the words so far, and those of the first of the records that are left, of which the first has
 -- index n, are those of the first of all
@@ -22,11 +19,6 @@ counted all count words n r rs up lt =
     ≡ words_taken r.body + words_taken_by (take (count - (n + 1)) rs) =
     sum_by-cons (λ (q : Record). words_taken q.body) r (take (count - (n + 1)) rs) in
     omega (arith, whole, first)
-
--- any other is not
-pub not_counted : (all : List Record) (count words n : ℕ) (r : Record) (rs : List Record)
-    → AddUp all count words n (r ∷ rs) → count ≤ n → AddUp all count words (n + 1) rs
-not_counted all count words n r rs up le = grind arith
 
 -- it is not more than all
 pub within : (all : List Record) (count words n : ℕ) (r : Record) (rs : List Record)

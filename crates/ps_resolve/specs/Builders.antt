@@ -2,10 +2,9 @@
 -- privates of an allotment are.
 -- Source: the link records PUBLDEF, CONSTDEF and PRIVREF are those of the published II.0 Linker
 -- source; that a name is defined once, and the order of the privates, are this project's profile.
-use Rattle.std.specs.Prelude.{◌≡◌, ℕ, ◌+◌, ◌<◌, ◌≤◌, List, [], ◌∷◌, ◌++◌, slice_get, take, map, sum_by, Bool, true, Option, Some, None}
+use Rattle.std.specs.Prelude.{◌≡◌, ℕ, ◌+◌, ◌<◌, ◌≤◌, List, [], ◌∷◌, ◌++◌, slice_get, take, map, sum_by, Bool, true, Option, Some, None, option_map}
 use Rattle.std.specs.Int.{w64, from_be_bytes}
 use Rattle.std.specs.List.{enumerate_from, filter, filter_map, flat_map}
-use Rattle.std.specs.Option.{option_map}
 use Rattle.ps_linkinfo.specs.declared.record.Body.{Body}
 use Rattle.ps_linkinfo.specs.declared.record.LinkRecord.{LinkRecord as Record}
 use Rattle.ps_resolve.specs.First.{Before}

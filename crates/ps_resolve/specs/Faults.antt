@@ -1,11 +1,10 @@
 -- The faults of a link, step by step: of each step the first fault in its own order, and a later
 -- step is looked at only where no earlier one has a fault.
 -- Source: this project's profile.
-use Rattle.std.specs.Prelude.{ℕ, ◌+◌, ◌==◌, ◌&&◌, not, if◌then◌else◌, List, [], ◌∷◌, length, map, nat_lt, Bool, false, Option, Some, None, Ok, Err, option_and_then}
+use Rattle.std.specs.Prelude.{ℕ, ◌+◌, ◌==◌, ◌&&◌, not, if◌then◌else◌, List, [], ◌∷◌, length, map, nat_lt, Bool, false, Option, Some, None, Ok, Err, option_and_then, bytes_eq}
 use Rattle.std.specs.List.{range_with_len, list_any, find, enumerate_from}
 use Rattle.std.specs.Option.{option_map, option_map_or, option_or}
 use Rattle.std.specs.Result.{result_err, result_ok}
-use Rattle.std.specs.Str.{bytes_eq}
 use Rattle.ps_words.specs.FaultPlaces.{in_file, in_slot, in_record, in_reference}
 use Rattle.ps_words.specs.declared.order.Order.{Order}
 use Rattle.ps_words.specs.declared.fault.Reason.{Reason}

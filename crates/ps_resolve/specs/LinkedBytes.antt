@@ -57,13 +57,11 @@ IsBase segs base = (rec : ℕ) × (r : Record) × IsHostRecord segs rec r × (r.
 abbrev pub all_private_words : List Segment → ℕ
 all_private_words segs = words_taken_by (flat_map (λ s. s.records) segs)
 
--- The bytes that the operand at x of record `rec` becomes:
---   of a UNITREF the slot of the unit of its name;
--- of a PUBLREF, as a BIG operand, its displacement and the value of the public definition of its
--- name;
--- of a PRIVREF, as a BIG operand, its displacement and the offset of its private: the base offset
--- of the host's end mark and the words of all privates before it, by slot and then by record.
--- The other records have no operands.
+-- The bytes that the operand at x of record `rec` becomes: of a UNITREF the slot of the unit of its
+-- name; of a PUBLREF, as a BIG operand, its displacement and the value of the public definition of
+-- its name; of a PRIVREF, as a BIG operand, its displacement and the offset of its private: the
+-- base offset of the host's end mark and the words of all privates before it, by slot and then by
+-- record. The other records have no operands.
 abbrev pub Becomes : List Segment → Segment → ℕ → List ℕ → Body → ℕ → List ℕ
     → Type 0
 Becomes segs s rec name (UnitRef refs) x bytes =
@@ -94,8 +92,7 @@ pub record IsLinkedByte (order : Order) (segs : List Segment) (s : Segment) (p b
     -- the number of the segment is its slot
     pub number : IsNumberPlace s p → b ≡ s.slot
     -- the data size is the input's, and two bytes more for each private word
-    pub size : (t j : ℕ) → IsSizePlace order s t j p
-        → b ≡ slice_index (word_bytes order
+    pub size : (t j : ℕ) → IsSizePlace order s t j p → b ≡ slice_index (word_bytes order
         (grown_data_size order s.code (all_private_words segs) t)) j
     -- a reference's operand becomes what the reference names
     pub reference : (rec i x : ℕ) (r : Record) → Reaches s rec r i x p

@@ -46,12 +46,10 @@ data_edits order words code =
     (table_of order code 1) []
 
 -- All edits of a segment, where so many private words are allotted in all and the first of its own
--- privates has the offset `free`:
---   the number of its slot, at the last place but one of its code;
---   in the host's segment, the grown data size of its outer block;
--- for each reference, the number of the unit's slot, or the displacement and the value of the
--- definition or the private.
--- A segment that is linked already has none.
+-- privates has the offset `free`: the number of its slot, at the last place but one of its code; in
+-- the host's segment, the grown data size of its outer block; for each reference, the number of the
+-- unit's slot, or the displacement and the value of the definition or the private. A segment that
+-- is linked already has none.
 abbrev pub segment_edits : Order → Known → ℕ → ℕ → Segment → List Edit
 segment_edits order known words free s =
     if needs_linking s.role

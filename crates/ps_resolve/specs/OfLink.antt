@@ -23,8 +23,7 @@ pub record IsOfFile (order : Order) (host : List ℕ) (libs : List (List ℕ))
   pub kept : s.tables ≡ tables_of order s.code (needs_linking s.role)
   pub block : s.block ≡ information_block (entry_at order (file_at host libs s.file) s.index)
       (needs_linking s.role)
-  pub records : needs_linking s.role ≡ true
-      → let file = file_at host libs s.file in
+  pub records : needs_linking s.role ≡ true → let file = file_at host libs s.file in
       reading order (information_of file (entry_at order file s.index)) ≡ (s.records, None)
   pub unread : needs_linking s.role ≡ false → s.records ≡ []
 

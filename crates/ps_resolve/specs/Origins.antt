@@ -121,8 +121,7 @@ HaveOneEach host segs = (slot : ℕ) → slot < 16
 abbrev pub AreBySlot : List Segment → Type 0
 AreBySlot segs =
     ((i j : ℕ) (s q : Segment) → i < j → slice_get segs i ≡ Some s
-    → slice_get segs j ≡ Some q → s.slot < q.slot)
-    × All (λ s. s.slot < 16) segs
+    → slice_get segs j ≡ Some q → s.slot < q.slot) × All (λ s. s.slot < 16) segs
 
 -- one that was not added has its slot in the host's dictionary, so an empty slot has no segment but
 -- one that was added

@@ -2,9 +2,8 @@
 -- before it, and the first that cannot be.
 -- Source: the end mark's base offset is that of the published II.0 Linker source; the order of
 -- allotment is this project's profile.
-use Rattle.std.specs.Prelude.{map, ℕ, ◌+◌, if◌then◌else◌, List, [], ◌∷◌, ◌++◌, nat_lt, Option, Some, None}
+use Rattle.std.specs.Prelude.{map, ℕ, ◌+◌, if◌then◌else◌, List, [], ◌∷◌, ◌++◌, nat_lt, Option, Some, None, bytes_eq}
 use Rattle.std.specs.List.{list_any}
-use Rattle.std.specs.Str.{bytes_eq}
 use Rattle.std.specs.Option.{option_map, option_or}
 use Rattle.ps_linkinfo.specs.Records.{reading}
 use Rattle.ps_resolve.specs.Sources.{Segment}
@@ -36,8 +35,7 @@ allotted_privates slot rec next (r ∷ rs) =
         rec = rec;
         name = r.name;
         offset = next;
-        words =
-            words;
+        words = words;
       } ∷ allotted_privates slot (rec + 1) (next + words) rs
     ]
 
@@ -72,8 +70,7 @@ Owner = SegmentAt × List Record
 
 -- the owner that a linkage stands for
 abbrev pub owner_of_linkage : Linkage → Owner
-owner_of_linkage s =
-    (record { file = s.file; slot = s.slot }, (reading s.order s.bytes.now).0)
+owner_of_linkage s = (record { file = s.file; slot = s.slot }, (reading s.order s.bytes.now).0)
 
 -- a segment as an owner of privates
 abbrev pub owner_of : Segment → Owner
@@ -108,8 +105,7 @@ abbrev pub allotment_of : ℕ → List Owner → Allotted
 allotment_of next ss = record {
   privates = all_allotted next ss;
   words = all_words ss;
-  next_free =
-      next + all_words ss;
+  next_free = next + all_words ss;
 }
 
 -- the words of all privates of the segments

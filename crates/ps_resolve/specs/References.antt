@@ -1,10 +1,9 @@
 -- The references of a segment: what their operands become, and the first fault of them.
 -- Source: the link records UNITREF, PUBLREF and PRIVREF are those of the published II.0 Linker
 -- source; which fault comes first is this project's profile.
-use Rattle.std.specs.Prelude.{◌≡◌, ℕ, ◌+◌, List, [], ◌∷◌, ◌++◌, map, Bool, true, false, if◌then◌else◌, Option, Some, None, Result, Ok, Err, All, sum_by}
+use Rattle.std.specs.Prelude.{◌≡◌, ℕ, ◌+◌, List, [], ◌∷◌, ◌++◌, map, Bool, true, false, if◌then◌else◌, Option, Some, None, Result, Ok, Err, All, sum_by, bytes_eq}
 use Rattle.std.specs.Option.{option_map, option_or, unwrap_or}
 use Rattle.std.specs.Map.{lookup}
-use Rattle.std.specs.Str.{bytes_eq}
 use Rattle.ps_words.specs.declared.edit.Edit.{Edit}
 use Rattle.ps_words.specs.declared.fault.Reason.{Reason}
 use Rattle.ps_words.specs.declared.fault.Reason.TheVariants as reason
@@ -34,8 +33,7 @@ known_by definitions units = record { each = false; definitions = definitions; u
 abbrev pub lone_base : ℕ
 lone_base = 1
 
--- what names stand for in a host that would define each: a public of that base offset, and a
--- unit
+-- what names stand for in a host that would define each: a public of that base offset, and a unit
 abbrev pub each_name : Known
 each_name = record { each = true; definitions = []; units = [] }
 

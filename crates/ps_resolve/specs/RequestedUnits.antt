@@ -66,8 +66,7 @@ pub record AddedUnits (order : Order) (host : List ℕ) (libs : List (List ℕ))
   -- for a name before it, and no slot of the host has it
   pub requested : (k : ℕ) (g : UnitReference) → slice_get queue k ≡ Some g
       → ((i : ℕ) × (i < length (own_segments order host libs) + k)
-      × IsGiver (own_segments order host libs ++ segs) i g)
-      × (HasSlot order host g.name → ⊥)
+      × IsGiver (own_segments order host libs ++ segs) i g) × (HasSlot order host g.name → ⊥)
   -- each name that is requested is in the queue, unless a slot of the host has it
   pub complete : (i rec : ℕ) (name : List ℕ)
       → RequestsAt (own_segments order host libs ++ segs) i rec name

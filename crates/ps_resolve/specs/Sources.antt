@@ -1,12 +1,11 @@
 -- The segments that the host's own slots have in a linked file, and where each comes from: the host
 -- file, and for a wanted unit the first library that has a filled entry of its name.
 -- Source: this project's profile.
-use Rattle.std.specs.Prelude.{ℕ, ◌+◌, ◌&&◌, if◌then◌else◌, List, [], ◌∷◌, slice_get, map, Bool, false, Option, Some, None, unwrap_or, option_and_then}
+use Rattle.std.specs.Prelude.{ℕ, ◌+◌, ◌&&◌, if◌then◌else◌, List, [], ◌∷◌, slice_get, map, Bool, false, Option, Some, None, unwrap_or, option_and_then, bytes_eq}
 use Rattle.std.specs.Borrow.{Bor}
 use Rattle.std.specs.List.{list_any, filter_map, find, enumerate_from}
 use Rattle.std.specs.Option.{option_map, option_map_or}
 use Rattle.std.specs.Result.{result_ok}
-use Rattle.std.specs.Str.{bytes_eq}
 use Rattle.ps_codefile.specs.Dictionary.{slots, FileOrder, Zero, Ordered, Mixed, file_order, opened_beside, entry_at, role_of, is_filled, code_of, information_of}
 use Rattle.ps_codefile.specs.Procedures.{ProcedureTables}
 use Rattle.ps_codefile.specs.Roles.{needs_linking, is_host, is_unit}
@@ -98,8 +97,7 @@ records_of order file e linked = if linked then (reading order (information_of f
 -- A segment of the linked file: its slot in the host, its name and its role there, whether it was
 -- added for a UNITREF, the file and the entry that it comes from, and its code. Where it is linked:
 -- its procedure tables, the block of its file in which its link information begins, and the records
--- there.
--- An added segment has the role of a wanted unit.
+-- there. An added segment has the role of a wanted unit.
 pub record Segment : Type 0 where
   pub slot : ℕ
   pub name : List ℕ

@@ -28,6 +28,7 @@ fn covers(operand: Operand, entry: &LinkRecord<'_>, reference: usize) -> bool
 }
 
 /// The first reference of a record, of its first `count`, that does.
+#[tactic(auto, using(crate::proofs::FirstSlots::found_later))]
 fn first_covering(operand: Operand, count: usize, entry: &LinkRecord<'_>) -> Option<usize>
     ensures { result ≡ first_covering_spec operand count entry.now.body }
 {

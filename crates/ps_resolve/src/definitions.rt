@@ -74,6 +74,7 @@ fn def_of(entry: &LinkRecord) -> Option<Def>
 
 /// The definitions of a segment's records by hashes that are keyed by these records. It is made at
 /// its exact size.
+#[tactic(auto, using(crate::proofs::Duplicates::definitions_counted, crate::proofs::Duplicates::positive, crate::proofs::Duplicates::no_definitions))]
 fn table_of<A: Allocator + Copy>(
     alloc: A,
     place: SegmentAt,

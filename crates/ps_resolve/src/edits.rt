@@ -1,5 +1,4 @@
-ghost use Rattle.std.specs.Prelude.{◌≡◌, ℕ, ◌≤◌, ◌+◌, ◌-◌, ◌∷◌, [], IsPermutation, length, true, None, IfOk, OnOk, IfErr, ⊤};
-ghost use Rattle.std.specs.Option.{option_to_list};
+ghost use Rattle.std.specs.Prelude.{◌≡◌, ℕ, ◌≤◌, ◌+◌, ◌-◌, ◌∷◌, [], IsPermutation, length, true, None, IfOk, OnOk, IfErr, ⊤, option_to_list};
 ghost use Rattle.ps_words.specs.declared.edit.Edit.TheVariants.{Byte};
 ghost use Rattle.ps_codefile.specs.Roles.{is_host as is_host_spec};
 ghost use Rattle.ps_resolve.specs.Privates.{private_words};
@@ -31,6 +30,7 @@ const MOST_EDITS_BESIDE_REFERENCES: usize = 2;
 
 /// A table of the places of a linked segment's code, with the edits that are no reference's: its
 /// number, and in the host's segment `size`.
+#[tactic(auto, using(crate::proofs::Own::number_table, crate::proofs::Own::size_table))]
 fn own_edits<A: Allocator + Copy>(
     alloc: A,
     procedures: &Procs,

@@ -95,6 +95,7 @@ fn first_namesake<A: Allocator + Copy>(
 /// Fewer than two take no memory. Of more, sorted numbers report whether any two names are equal far
 /// sooner than a table of the names, most of whose places are in no cache. Only where two are, a
 /// table finds which of them comes first.
+#[tactic(auto, using(crate::proofs::EarlierNames::few_privates))]
 pub(crate) fn first_duplicate_private<A: Allocator + Copy>(
     alloc: A,
     records: &LinkInformation,

@@ -1,5 +1,4 @@
-ghost use Rattle.std.specs.Prelude.{◌≡◌, ◌<◌, ◌≤◌, [], length, slice_get, None, Some, Ok, Err, IfOk, IfErr, IfSome, All, option_and_then};
-ghost use Rattle.std.specs.List.{find};
+ghost use Rattle.std.specs.Prelude.{◌≡◌, ◌<◌, ◌≤◌, [], length, slice_get, None, Some, Ok, Err, IfOk, IfErr, IfSome, All, option_and_then, find};
 ghost use Rattle.std.specs.Option.{option_map, option_or};
 ghost use Rattle.std.specs.Result.{result_ok};
 ghost use Rattle.ps_codefile.specs.Dictionary.{entry_at, role_of, opened_beside};
@@ -287,6 +286,7 @@ impl<'a> HostReading<'a> {
     /// The request for a unit that a slot, 0 to 15, has, if it has one: its own, where it wants a unit,
     /// or that of a name that is requested, which takes the slot if it is empty.
     /// Source: this project's profile.
+    #[tactic(auto, using(crate::proofs::ReadingSlots::request_by))]
     pub fn request(&self, slot: u8) -> Option<Request>
         requires { slot < 16 }
         ensures { result ≡ slot_request self.now.order self.now.file
@@ -299,6 +299,7 @@ impl<'a> HostReading<'a> {
     }
 
     /// Why a slot has no segment.
+    #[tactic(auto, using(crate::proofs::ReadingSlots::next_by, crate::proofs::ReadingSlots::none_by, crate::proofs::ReadingSlots::other_by))]
     fn fault_in(&self, slot: u8) -> Option<Fault>
         requires { slot < 16 }
         ensures { result ≡ slot_fault self.now.order self.now.file
@@ -316,6 +317,7 @@ impl<'a> HostReading<'a> {
     /// What was read of a slot, 0 to 15: its segment, or the first fault of its source or of the
     /// unit that would be added there; `None` where it has none of its own and no unit is added.
     /// Source: this project's profile.
+    #[tactic(auto, using(crate::proofs::EachSegment::find_has))]
     pub fn segment(&self, slot: u8) -> Option<Result<&Segment<'a>, Fault>>
         requires { slot < 16 }
         ensures read { IfSome result (λ r. IfOk r (λ s. slot_reading self.now.order self.now.file
@@ -457,6 +459,7 @@ impl<'a> Reading<'a> {
     /// The first fault of reading the files: of the host, its slots, the want of a host segment,
     /// the libraries, the sources of the slots, and the units that are added.
     /// Source: this project's profile.
+    #[tactic(auto, using(crate::proofs::ReadingSlots::fault_of_host))]
     pub fn fault(&self) -> Option<Fault>
         ensures { result ≡ reading_fault self.now.host self.now.libs }
     {

@@ -1,6 +1,6 @@
 -- Faults of the private variables, and where each of them lies.
 -- Source: this project's profile.
-use Rattle.std.specs.Prelude.{nat_lt, ◌==◌, ◌≡◌, ℕ, ◌+◌, ◌<◌, List, [], take, true, if◌then◌else◌}
+use Rattle.std.specs.Prelude.{nat_lt, ◌==◌, ◌≡◌, ℕ, ◌+◌, ◌<◌, List, [], take, true, if◌then◌else◌, flat_map}
 use Rattle.ps_linkinfo.specs.declared.record.LinkRecord.{LinkRecord as Record}
 use Rattle.ps_resolve.specs.Sources.{Segment, host_records}
 use Rattle.ps_resolve.specs.Added.{segments}
@@ -11,7 +11,6 @@ use Rattle.ps_words.specs.declared.order.Order.{Order}
 use Rattle.ps_words.specs.declared.fault.Reason.{Reason}
 use Rattle.ps_words.specs.declared.fault.Fault.{Fault}
 use Rattle.ps_words.specs.declared.fault.Reason.TheVariants as reason
-use Rattle.std.specs.List.{flat_map}
 use Rattle.ps_resolve.specs.Standing.Phrases.{Because, SomeItem}
 use Rattle.ps_resolve.specs.Standing.Segments.{SomeSegment}
 use Rattle.ps_resolve.specs.Standing.Definitions.{HasEarlierNamesake}

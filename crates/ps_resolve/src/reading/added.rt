@@ -1,7 +1,6 @@
-ghost use Rattle.std.specs.Prelude.{◌≡◌, ◌<◌, ◌≤◌, ◌+◌, ◌++◌, ◌∷◌, [], List, All, if◌then◌else◌, length, take, slice_get};
+ghost use Rattle.std.specs.Prelude.{◌≡◌, ◌<◌, ◌≤◌, ◌+◌, ◌++◌, ◌∷◌, [], List, All, if◌then◌else◌, length, take, slice_get, bytes_eq};
 ghost use Rattle.std.specs.List.{insert, list_any};
 ghost use Rattle.std.specs.Result.{result_err};
-ghost use Rattle.std.specs.Str.{bytes_eq};
 ghost use Rattle.arrayvec.specs.ArrayVec.{array_vec_len};
 ghost use Rattle.ps_codefile.specs.Roles.{is_empty as is_empty_role};
 ghost use Rattle.ps_resolve.specs.Sources.{opened, Segment as SegmentOfLink};
@@ -101,6 +100,7 @@ fn is_already_known(units: &UnitSlots, queue: &ArrayVec<UnitReference, 10>, name
 }
 
 /// Appends the reference to the queue, unless its name is already known or the queue is full.
+#[tactic(auto, using(crate::proofs::Adding::kept_known, crate::proofs::Adding::kept_full))]
 fn enqueue(units: &UnitSlots, queue: &mut ArrayVec<UnitReference, 10>, reference: UnitReference)
     requires { length queue.old.items ≤ 10 }
     ensures { queue.new.items ≡ take 10 (requested_from units.now queue.old.items
@@ -152,6 +152,7 @@ fn enqueue_records(
 }
 
 /// Appends the unit names that the records of a segment request to the queue.
+#[tactic(auto, using(std::proofs::lemmas::List::take_all))]
 fn enqueue_segment(units: &UnitSlots, queue: &mut ArrayVec<UnitReference, 10>, segment: &Segment)
     requires { length queue.old.items ≤ 10 }
     ensures { queue.new.items ≡ take 10 (requested_from units.now queue.old.items
@@ -208,6 +209,7 @@ pub(crate) fn slot_at(empty: &ArrayVec<u8, 9>, k: usize) -> Option<u8>
 }
 
 /// How many of these segments, which are by slot ascending, are before a segment of this slot.
+#[tactic(auto, using(crate::proofs::BySlot::placed_at, crate::proofs::BySlot::placed_last, crate::proofs::Sharing::all_taken))]
 fn count_before(segments: &[Segment], slot: u8) -> usize
     ensures fits { result ≤ length segments.now }
     ensures place { (s : SegmentOfLink) → s.slot ≡ slot

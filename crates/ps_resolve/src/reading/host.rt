@@ -1,5 +1,4 @@
-ghost use Rattle.std.specs.Prelude.{◌≡◌, All, IfSome, is_some, true};
-ghost use Rattle.std.specs.Option.{option_map};
+ghost use Rattle.std.specs.Prelude.{◌≡◌, All, IfSome, is_some, true, option_map};
 ghost use Rattle.ps_codefile.specs.Roles.{is_host as is_host_spec};
 ghost use Rattle.ps_resolve.specs.Linkable.{IsHost};
 ghost use Rattle.ps_resolve.specs.Sources.{host_of as host_of_spec};

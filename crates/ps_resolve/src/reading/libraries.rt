@@ -7,6 +7,7 @@ use ps_codefile::Dict;
 use ps_words::{Fault, Order};
 
 /// The first fault of the libraries, each of which is read in the host's byte order.
+#[tactic(auto, using(crate::proofs::ReadingLibraries::rest_at, crate::proofs::ReadingLibraries::rest_of), unfolding(crate::specs::Faults::libraries_fault))]
 pub(crate) fn libraries_fault(order: Order, libs: &[&[u8]]) -> Option<Fault>
     ensures { result ≡ libraries_fault_spec order (contents libs.now) }
 {

@@ -1,6 +1,5 @@
-ghost use Rattle.std.specs.Prelude.{◌≡◌, ◌<◌, ◌≤◌, ◌&&◌};
+ghost use Rattle.std.specs.Prelude.{◌≡◌, ◌<◌, ◌≤◌, ◌&&◌, bytes_eq};
 ghost use Rattle.std.specs.List.{list_any, range_with_len};
-ghost use Rattle.std.specs.Str.{bytes_eq};
 ghost use Rattle.ps_codefile.specs.Dictionary.{entry_at, role_of};
 ghost use Rattle.ps_codefile.specs.Roles.{is_host as is_host_role, is_unit as is_unit_role, is_empty as is_empty_role};
 ghost use Rattle.ps_resolve.specs.Sources.{library_file as library_file_spec};

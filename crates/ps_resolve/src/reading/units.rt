@@ -1,6 +1,5 @@
-ghost use Rattle.std.specs.Prelude.{◌≡◌, ℕ, ◌<◌, ◌≤◌, ◌&&◌, List, Some, IfSome, is_none};
+ghost use Rattle.std.specs.Prelude.{◌≡◌, ℕ, ◌<◌, ◌≤◌, ◌&&◌, List, Some, IfSome, is_none, option_map};
 ghost use Rattle.std.specs.List.{find, list_any, range_with_len};
-ghost use Rattle.std.specs.Option.{option_map};
 ghost use Rattle.ps_codefile.specs.Dictionary.{slots};
 ghost use Rattle.ps_resolve.specs.Sources.{chosen_library as chosen_library_spec, file_at, is_named as is_named_spec, opened, opened_file, unit_source};
 ghost use Rattle.ps_resolve.specs.Faults.{entries_reason as entries_reason_spec};
@@ -54,6 +53,7 @@ fn entry_named(dict: &Dict, name: Name) -> Option<u8>
 
 /// A library's dictionary and the first entry of this name, where the library is opened and has
 /// one.
+#[tactic(auto, using(crate::proofs::ReadingLibraries::no_entries, crate::proofs::ReadingLibraries::refused_is))]
 fn entry_in<'a>(order: Order, name: Name, lib: &'a [u8]) -> Option<(Dict<'a>, u8)>
     ensures entry { option_map (λ e. e.1) result
         ≡ find (is_named_spec order name (opened_file order lib.now)) slots }

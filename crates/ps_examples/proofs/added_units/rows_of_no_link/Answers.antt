@@ -1,5 +1,4 @@
-use Rattle.std.proofs.Common.{◌≡◌, refl, arith}
-use Rattle.ps_examples.specs.Segments.{past_segment}
+use Rattle.ps_examples.proofs.Vocabulary.{◌≡◌, refl, arith, past_segment}
 use Rattle.ps_examples.proofs.NotLinked.{same}
 use Rattle.ps_resolve.specs.Added.{empty_slots}
 use Rattle.ps_examples.proofs.NotAddedUnits.{its_own_record_alone, no_name_is_requested}
@@ -9,8 +8,7 @@ pub returns : goal.returns
 unfolding empty_slots
 returns c = record {
   its_own_record_alone = its_own_record_alone;
-  no_name_is_requested =
-      no_name_is_requested;
+  no_name_is_requested = no_name_is_requested;
   in_a_later_slot = λ g h. let e = h.slots 0 past_segment refl in
       let n : 8 ≡ 9 = same 8 9 e in omega (arith, n);
 }

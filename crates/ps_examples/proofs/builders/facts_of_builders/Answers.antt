@@ -1,5 +1,4 @@
-use Rattle.std.proofs.Common.{zero, suc, [], ◌∷◌, refl, arith}
-use Rattle.ps_examples.specs.Owners.{defined_once, defined_again, util_owner, aux_owner, duplicate_owner, plain_owner, first_private, second_private, third_private}
+use Rattle.ps_examples.proofs.Vocabulary.{zero, suc, [], ◌∷◌, refl, arith, defined_once, defined_again, util_owner, aux_owner, duplicate_owner, plain_owner, first_private, second_private, third_private}
 use Rattle.ps_resolve.proofs.Builders as builders
 use Rattle.ps_resolve.specs.Offsets.{FollowOn}
 use Rattle.ps_resolve.specs.declared.linkage.Stop.TheVariants.{Refused}

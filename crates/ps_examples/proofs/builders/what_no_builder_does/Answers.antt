@@ -1,12 +1,5 @@
-use Rattle.std.proofs.Common.{◌≡◌, ◌≤◌, [], ◌∷◌, true, refl, arith}
-use Rattle.std.proofs.lemmas.Bool.{false≢true}
-use Rattle.ps_examples.specs.Files.{count}
-use Rattle.ps_examples.specs.Segments.{count_reference, state_reference}
-use Rattle.ps_examples.specs.Owners.{util_owner, duplicate_owner, first_private}
+use Rattle.ps_examples.proofs.Vocabulary.{◌≡◌, ◌≤◌, [], ◌∷◌, true, refl, arith, false≢true, count, count_reference, state_reference, util_owner, duplicate_owner, first_private, is_definition, ConstDef, Record}
 use Rattle.ps_examples.proofs.NotOrigins.{none_passes}
-use Rattle.ps_linkinfo.specs.RecordCounts.{is_definition}
-use Rattle.ps_linkinfo.specs.declared.record.Body.TheVariants.{ConstDef}
-use Rattle.ps_linkinfo.specs.declared.record.LinkRecord.{LinkRecord as Record}
 use Rattle.ps_words.specs.declared.fault.Reason.TheVariants as reason
 use Rattle.ps_examples.proofs.NotBuilt.{not_the_definition_of_a_new_name, not_the_later_private, not_a_record_without_a_private, not_for_room_where_its_name_is_duplicate, no_memory_without_a_private, not_turned_round, not_one_of_a_record_twice, again, record_of_fault, duplicate}
 use Rattle.ps_examples.proofs.builders.what_no_builder_does.Goals as goal

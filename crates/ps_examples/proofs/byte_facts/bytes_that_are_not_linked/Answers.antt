@@ -1,13 +1,8 @@
-use Rattle.std.proofs.lemmas.Bool.{ltb-true}
-use Rattle.std.proofs.Common.{◌≡◌, ℕ, ◌+◌, List, [], ◌∷◌, refl, sym, ap, ◌∙◌, arith}
-use Rattle.std.specs.Prelude.{slice_index}
-use Rattle.ps_examples.specs.Files.{host, library, blank_name, aux, count, state}
+use Rattle.ps_examples.proofs.Vocabulary.{◌≡◌, ℕ, ◌+◌, List, [], ◌∷◌, refl, sym, ap, ◌∙◌, arith, ltb-true, slice_index, host, library, blank_name, aux, count, state, count_reference, aux_reference, demo_segment, util_segment, pair, UnitRef, PublRef, PublDef, Eof, Segment}
+use Rattle.ps_resolve.specs.Added.{empty_slots, rounds, segments}
+use Rattle.ps_resolve.specs.Sources.{own_segments}
 use Rattle.ps_resolve.specs.Faults.{slots_fault, no_host_fault, libraries_fault, sources_fault, linking_fault, definitions_fault, privates_fault, data_fault, references_fault}
 use Rattle.ps_resolve.specs.AllFaults.{first_fault, reading_fault}
-use Rattle.ps_resolve.specs.Added.{empty_slots, rounds, segments}
-use Rattle.ps_examples.specs.Segments.{count_reference, aux_reference, demo_segment, util_segment, pair}
-use Rattle.ps_linkinfo.specs.declared.record.Body.TheVariants.{UnitRef, PublRef, PublDef, Eof}
-use Rattle.ps_resolve.specs.Sources.{Segment, own_segments}
 use Rattle.ps_resolve.specs.Standing.Privates.{words_before}
 use Rattle.ps_words.specs.declared.edit.Edit.{Edit}
 use Rattle.ps_words.specs.Words.{operand_bytes, displacement_at}

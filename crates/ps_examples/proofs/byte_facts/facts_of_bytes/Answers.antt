@@ -1,14 +1,9 @@
-use Rattle.std.proofs.lemmas.Bool.{ltb-true}
-use Rattle.std.proofs.Common.{ℕ, List, [], ◌∷◌, refl, arith}
-use Rattle.ps_examples.specs.Files.{host, library, host_in, library_in, blank_name, count}
-use Rattle.ps_examples.specs.Segments.{demo_segment, aux_segment}
-use Rattle.ps_linkinfo.specs.declared.record.Body.TheVariants.{PublDef, Eof}
-use Rattle.ps_resolve.specs.Sources.{Segment, own_segments}
+use Rattle.ps_examples.proofs.Vocabulary.{ℕ, List, [], ◌∷◌, refl, arith, ltb-true, host, library, host_in, library_in, blank_name, count, demo_segment, aux_segment, PublDef, Eof, Segment, Big}
+use Rattle.ps_resolve.specs.Sources.{own_segments}
 use Rattle.ps_resolve.specs.Added.{empty_slots, rounds, segments}
 use Rattle.ps_resolve.specs.Faults.{slots_fault, no_host_fault, libraries_fault, sources_fault, linking_fault, definitions_fault, privates_fault, data_fault, references_fault}
 use Rattle.ps_resolve.specs.AllFaults.{first_fault, reading_fault}
 use Rattle.ps_words.specs.declared.edit.Edit.{Edit}
-use Rattle.ps_words.specs.declared.order.Order.TheVariants.{Big}
 use Rattle.ps_examples.proofs.byte_facts.facts_of_bytes.Goals as goal
 
 -- the linked bytes are what the law says of one link, in which no fault applies

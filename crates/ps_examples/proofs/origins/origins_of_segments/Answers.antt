@@ -1,13 +1,8 @@
-use Rattle.std.proofs.lemmas.Bool.{ltb-true}
-use Rattle.std.proofs.Common.{ℕ, List, [], ◌∷◌, refl, arith, leb-true}
-use Rattle.ps_examples.specs.Files.{host, library, host_with_tools, library_of_the_last, library_of_used, put_at, with_slot, util, aux, util_information}
-use Rattle.ps_examples.specs.Segments.{demo_segment, util_segment}
+use Rattle.ps_examples.proofs.Vocabulary.{ℕ, List, [], ◌∷◌, refl, arith, leb-true, ltb-true, host, library, host_with_tools, library_of_the_last, library_of_used, put_at, with_slot, util, aux, util_information, demo_segment, util_segment, AreOwn, AreRead, Little}
 use Rattle.ps_resolve.specs.Sources.{own_segments}
 use Rattle.ps_resolve.specs.Added.{empty_slots, rounds, segments}
 use Rattle.ps_resolve.specs.Faults.{slots_fault, no_host_fault, libraries_fault, sources_fault, linking_fault, definitions_fault, privates_fault, data_fault, references_fault}
 use Rattle.ps_resolve.specs.AllFaults.{first_fault, reading_fault}
-use Rattle.ps_resolve.specs.Origins.{AreOwn, AreRead}
-use Rattle.ps_words.specs.declared.order.Order.TheVariants.{Little}
 use Rattle.ps_examples.proofs.NotWholeLinks.{filled}
 use Rattle.ps_examples.proofs.SegmentOrigins.{the_only_one_of_sixteen, a_unit_that_an_added_one_names, an_added_unit_in_slot_7}
 use Rattle.ps_examples.proofs.origins.origins_of_segments.Goals as goal

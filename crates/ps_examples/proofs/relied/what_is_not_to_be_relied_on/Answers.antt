@@ -1,11 +1,9 @@
-use Rattle.std.proofs.Common.{◌≡◌, ℕ, List, refl, ap, arith}
-use Rattle.std.specs.Prelude.{slice_index}
-use Rattle.ps_examples.specs.Files.{util}
+use Rattle.ps_examples.proofs.Vocabulary.{◌≡◌, ℕ, List, refl, ap, arith, slice_index, util}
+use Rattle.ps_resolve.specs.Faults.{slots_fault, no_host_fault, libraries_fault, sources_fault, linking_fault, definitions_fault, privates_fault, data_fault, references_fault}
 use Rattle.ps_examples.proofs.relied.what_is_not_to_be_relied_on.Goals as goal
 use Rattle.ps_linkfile.specs.LinkedFile.{dictionary, all_pairs}
 use Rattle.ps_resolve.specs.Added.{empty_slots, rounds, segments, slot_names}
 use Rattle.ps_resolve.specs.AllFaults.{first_fault, reading_fault}
-use Rattle.ps_resolve.specs.Faults.{slots_fault, no_host_fault, libraries_fault, sources_fault, linking_fault, definitions_fault, privates_fault, data_fault, references_fault}
 use Rattle.ps_resolve.specs.Sources.{own_segments}
 
 pub returns : goal.returns

@@ -1,6 +1,6 @@
-use Rattle.std.proofs.Common.{ℕ, List, [], ◌∷◌, refl}
+use Rattle.ps_examples.proofs.Vocabulary.{ℕ, List, [], ◌∷◌, refl, host, library, library_of_the_last, Little}
+use Rattle.ps_resolve.specs.Faults.{slots_fault, no_host_fault, libraries_fault, sources_fault, linking_fault, definitions_fault, privates_fault, data_fault, references_fault}
 use Rattle.ps_examples.specs.Expected.{linked_pair}
-use Rattle.ps_examples.specs.Files.{host, library, library_of_the_last}
 use Rattle.ps_examples.specs.ReadAlike.{library_elsewhere}
 use Rattle.ps_examples.proofs.ReliedFiles.{of_aux, library_alike, host_alike, util_or_aux, not_of_file_1}
 use Rattle.ps_examples.proofs.relied.what_may_be_relied_on.Goals as goal
@@ -9,9 +9,7 @@ use Rattle.ps_relied.specs.Alike.{AreFilesAlike}
 use Rattle.ps_relied.specs.SameSegments.{HaveSameHeads}
 use Rattle.ps_resolve.specs.Added.{empty_slots, rounds, segments, slot_names}
 use Rattle.ps_resolve.specs.AllFaults.{first_fault, reading_fault}
-use Rattle.ps_resolve.specs.Faults.{slots_fault, no_host_fault, libraries_fault, sources_fault, linking_fault, definitions_fault, privates_fault, data_fault, references_fault}
 use Rattle.ps_resolve.specs.Sources.{own_segments}
-use Rattle.ps_words.specs.declared.order.Order.TheVariants.{Little}
 
 -- each is what a law says of links in which no fault applies
 pub returns : goal.returns

@@ -1,7 +1,5 @@
-use Rattle.std.proofs.Common.{◌≡◌, ℕ, List, length, false, true, ap, refl}
+use Rattle.ps_examples.proofs.Vocabulary.{◌≡◌, ℕ, List, length, false, true, ap, refl, ◌==◌, false≢true}
 use Rattle.std.specs.Fmt.{digits}
-use Rattle.std.specs.Prelude.{◌==◌}
-use Rattle.std.proofs.lemmas.Bool.{false≢true}
 use Rattle.ps_examples.specs.Texts.{json_with_references}
 use Rattle.ps_resolve.specs.Added.{empty_slots, rounds, segments}
 use Rattle.ps_linkfile.specs.MapText.{members_of}

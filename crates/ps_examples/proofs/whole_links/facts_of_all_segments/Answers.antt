@@ -1,11 +1,9 @@
-use Rattle.std.proofs.Common.{List, [], ◌∷◌, ℕ, refl}
+use Rattle.ps_examples.proofs.Vocabulary.{List, [], ◌∷◌, ℕ, refl, Little, Big, host, library, host_in, library_in, host_with_tools, library_of_used, util_information}
 use Rattle.ps_resolve.specs.Sources.{own_segments}
 use Rattle.ps_resolve.specs.Added.{empty_slots, rounds, segments}
 use Rattle.ps_resolve.specs.Faults.{slots_fault, no_host_fault, libraries_fault, sources_fault, linking_fault, definitions_fault, privates_fault, data_fault, references_fault}
 use Rattle.ps_resolve.specs.AllFaults.{first_fault, reading_fault}
 use Rattle.ps_resolve.proofs.OfLink.{of_link}
-use Rattle.ps_words.specs.declared.order.Order.TheVariants.{Little, Big}
-use Rattle.ps_examples.specs.Files.{host, library, host_in, library_in, host_with_tools, library_of_used, util_information}
 use Rattle.ps_examples.proofs.whole_links.facts_of_all_segments.Goals as goal
 
 -- each is what the law says of one link, in which no fault applies

@@ -1,11 +1,6 @@
-use Rattle.std.proofs.Common.{◌≡◌, ℕ, ◌<◌, List, [], ◌∷◌, refl, sym, subst, inr, arith}
-use Rattle.ps_codefile.specs.Dictionary.{entry_at}
-use Rattle.ps_examples.specs.Files.{library_of_used, util_information, aux}
-use Rattle.ps_examples.specs.Segments.{demo_segment, util_segment}
+use Rattle.ps_examples.proofs.Vocabulary.{◌≡◌, ℕ, ◌<◌, List, [], ◌∷◌, refl, sym, subst, inr, arith, entry_at, library_of_used, util_information, aux, demo_segment, util_segment, Segment, Little}
 use Rattle.ps_examples.proofs.NotLinked.{same, util_aux}
 use Rattle.ps_examples.proofs.NotOrigins.{a_slot_without_one, not_without_its_records, none_passes}
-use Rattle.ps_resolve.specs.Sources.{Segment}
-use Rattle.ps_words.specs.declared.order.Order.TheVariants.{Little}
 use Rattle.ps_examples.proofs.NotWholeLinks.{a_segment_is_there_twice, one_is_added_that_nothing_names, one_is_added_in_no_round, the_added_one_is_missing, the_big_endian_one_is_missing, filled, plain, other_role, another_entry, an_empty_slot, not_marked}
 use Rattle.ps_examples.proofs.whole_links.lists_of_no_link.Goals as goal
 

@@ -1,6 +1,4 @@
-use Rattle.std.proofs.Common.{◌+◌, map, get_or, arith}
-use Rattle.std.proofs.lemmas.List.{length-map}
-use Rattle.ps_linkfile.proofs.Vocabulary.{origin_of_source}
+use Rattle.ps_linkfile.proofs.Vocabulary.{origin_of_source, ◌+◌, map, get_or, arith, length-map}
 use Rattle.ps_linkfile.proofs.Blocks.{laid_none, laid_next, laid_more, laid_done}
 use Rattle.ps_linkfile.proofs.Views.{no_source, view_at, size_at}
 use Rattle.ps_linkfile.proofs.block_layout.layout_of.Goals as goal
@@ -41,7 +39,6 @@ returns-clause-starts c = grind (arith, laid_done, origin_of_source, length-map)
 pub returns-clause-blocks : goal.returns-clause-blocks
 returns-clause-blocks c = (laid_done _ _ _ _ _ (omega (
   arith,
-  length-map c.args.sources.now
-      origin_of_source,
+  length-map c.args.sources.now origin_of_source,
   c.loop-source-test.false,
 )) c.loop-source.invariant.1).1

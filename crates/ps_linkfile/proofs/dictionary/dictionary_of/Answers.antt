@@ -1,5 +1,4 @@
-use Rattle.std.proofs.Common.{◌≡◌, ◌∙◌, ℕ, length, replicate, refl, ap, arith}
-use Rattle.ps_linkfile.proofs.Vocabulary.{length-replicate}
+use Rattle.ps_linkfile.proofs.Vocabulary.{length-replicate, ◌≡◌, ◌∙◌, ℕ, length, replicate, refl, ap, arith}
 use Rattle.ps_linkfile.proofs.Whole.{part_len, all_pairs_len, stored_parts, dictionary_is}
 use Rattle.ps_linkfile.proofs.dictionary.dictionary_of.Goals as goal
 

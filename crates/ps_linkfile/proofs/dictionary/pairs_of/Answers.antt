@@ -1,19 +1,14 @@
-use Rattle.std.proofs.Common.{◌≡◌, ◌+◌, ◌*◌, length, map, get_or, sym, ◌∙◌, arith, rules}
-use Rattle.ps_linkfile.proofs.Vocabulary.{length-map, blocks, origin_of_source}
+use Rattle.ps_linkfile.proofs.Vocabulary.{length-map, blocks, origin_of_source, ◌≡◌, ◌+◌, ◌*◌, length, map, get_or, sym, ◌∙◌, arith, rules}
 use Rattle.ps_linkfile.proofs.Pairs.{IsPut, pairs_none, pairs_more, pairs_done}
-use Rattle.ps_linkfile.proofs.Views.{no_source, view_at, size_at, slot_at, many_starts, start_at}
+use Rattle.ps_linkfile.proofs.Views.{no_source, view_at, size_at, many_starts, start_at}
 use Rattle.ps_linkfile.proofs.dictionary.pairs_of.Goals as goal
 
 pub loop-k-init : goal.loop-k-init
 loop-k-init c = (
   1,
   0,
-  pairs_none c.args.order
-      (map origin_of_source c.args.sources.now) c.requires.slots,
+  pairs_none c.args.order (map origin_of_source c.args.sources.now) c.requires.slots,
 )
-
-pub put-requires : goal.put-requires
-put-requires c = grind (arith, slot_at)
 
 pub bounds-starts-k : goal.bounds-starts-k
 bounds-starts-k c = omega
@@ -22,9 +17,6 @@ bounds-starts-k c = omega
 pub overflow_cast-source : goal.overflow_cast-source
 overflow_cast-source c = omega
     (arith, size_at c.args.sources.now c.loop-k.k c.requires.sizes c.loop-k-test.true)
-
-pub put-requires-in-loop-k : goal.put-requires-in-loop-k
-put-requires-in-loop-k c = grind (arith, slot_at)
 
 pub loop-k-preserved : goal.loop-k-preserved
 loop-k-preserved c =

@@ -1,5 +1,4 @@
-use Rattle.std.proofs.Common.{ℕ, map}
-use Rattle.ps_linkfile.proofs.Vocabulary.{origin_of_source}
+use Rattle.ps_linkfile.proofs.Vocabulary.{origin_of_source, ℕ, map}
 use Rattle.ps_linkfile.proofs.Pairs.{PairsSoFar}
 use Rattle.ps_linkfile.proofs.dictionary.pairs_of.Given as goal
 

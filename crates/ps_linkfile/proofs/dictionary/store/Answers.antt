@@ -1,5 +1,4 @@
-use Rattle.std.proofs.Common.{◌≡◌, ℕ, ◌+◌, List, ◌++◌, length, take, drop, arith}
-use Rattle.std.proofs.lemmas.List.{drop-drop}
+use Rattle.std.proofs.Common.{◌≡◌, ℕ, ◌+◌, List, ◌++◌, length, take, drop, arith, drop-drop}
 use Rattle.ps_linkfile.proofs.dictionary.store.Goals as goal
 
 put : (a k : ℕ) (xs ys zs : List ℕ) → ys ≡ zs → k ≡ length zs

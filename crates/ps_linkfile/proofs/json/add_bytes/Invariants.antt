@@ -1,5 +1,4 @@
-use Rattle.std.proofs.Common.{drop}
-use Rattle.ps_linkfile.proofs.Vocabulary.{flat_map, json_byte}
+use Rattle.ps_linkfile.proofs.Vocabulary.{flat_map, json_byte, drop}
 use Rattle.ps_linkfile.proofs.Written.{Written}
 use Rattle.ps_linkfile.proofs.json.add_bytes.Given as goal
 

@@ -1,5 +1,4 @@
-use Rattle.std.proofs.Common.{ℕ, List, drop}
-use Rattle.ps_linkfile.proofs.Vocabulary.{enumerate_from, flat_map, reference_item}
+use Rattle.ps_linkfile.proofs.Vocabulary.{enumerate_from, flat_map, reference_item, ℕ, List, drop}
 use Rattle.ps_linkfile.proofs.Written.{Written}
 use Rattle.ps_linkfile.proofs.json.add_places.Given as goal
 

@@ -1,5 +1,4 @@
-use Rattle.std.proofs.Common.{arith}
-use Rattle.std.proofs.lemmas.List.{length-drop, take_all}
+use Rattle.std.proofs.Common.{arith, length-drop, take_all}
 use Rattle.ps_linkfile.proofs.ReferenceText.{piece_is}
 use Rattle.ps_linkfile.proofs.Written.{adds_is}
 use Rattle.ps_linkfile.proofs.pieces.add_piece.Goals as goal

@@ -1,12 +1,10 @@
-use Rattle.std.proofs.Common.{◌≡◌, ◌+◌, ◌*◌, ℕ, List, arith, refl, sym}
-use Rattle.ps_linkfile.proofs.Vocabulary.{reference, PIECE_REFERENCES}
+use Rattle.ps_linkfile.proofs.Vocabulary.{reference, PIECE_REFERENCES, ◌≡◌, ◌+◌, ◌*◌, ℕ, List, arith, refl, sym}
 use Rattle.ps_linkfile.proofs.InPieces.{one_piece}
 use Rattle.ps_linkfile.proofs.Written.{none_yet, some_more}
 use Rattle.ps_linkfile.proofs.pieces.add_references.Goals as goal
 
 pub loop-index-init : goal.loop-index-init
 loop-index-init g c =
-    let refs : List ℕ = c.args.refs.now in
     some_more refl (none_yet refl) c.add.ensures
 
 pub loop-index-preserved : goal.loop-index-preserved

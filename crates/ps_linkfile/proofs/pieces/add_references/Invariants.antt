@@ -1,5 +1,4 @@
-use Rattle.std.proofs.Common.{◌*◌, ℕ, List, drop}
-use Rattle.ps_linkfile.proofs.Vocabulary.{flat_map, reference, references, PIECE_REFERENCES}
+use Rattle.ps_linkfile.proofs.Vocabulary.{flat_map, reference, references, PIECE_REFERENCES, ◌*◌, ℕ, List, drop}
 use Rattle.ps_linkfile.proofs.Written.{Written}
 use Rattle.ps_linkfile.proofs.pieces.add_references.Given as goal
 

@@ -1,5 +1,4 @@
-use Rattle.std.proofs.Common.{◌≡◌, ◌≤◌, ◌+◌, ◌-◌, ℕ, List, [], drop, length, arith}
-use Rattle.std.proofs.Math.ListN.{drop_of_length-le}
+use Rattle.std.proofs.Common.{◌≡◌, ◌≤◌, ◌+◌, ◌-◌, ℕ, List, [], drop, length, arith, drop_of_length-le}
 use Rattle.ps_linkfile.proofs.ReferenceText.{one_more}
 use Rattle.ps_linkfile.proofs.pieces.write_piece.Goals as goal
 

@@ -1,5 +1,4 @@
-use Rattle.std.proofs.Common.{◌≡◌, ◌≤◌, ◌+◌, ◌-◌, ◌*◌, drop, take}
-use Rattle.ps_linkfile.proofs.Vocabulary.{flat_map, reference}
+use Rattle.ps_linkfile.proofs.Vocabulary.{flat_map, reference, ◌≡◌, ◌≤◌, ◌+◌, ◌-◌, ◌*◌, drop, take}
 use Rattle.ps_linkfile.proofs.pieces.write_piece.Given as goal
 
 -- the text of the last references is at the end of the piece, of six bytes each at most

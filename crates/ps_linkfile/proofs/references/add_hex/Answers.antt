@@ -1,10 +1,6 @@
-use Rattle.std.proofs.Common.{arith, refl}
 use Rattle.ps_linkfile.proofs.Vocabulary.{drop_more, hex_byte}
-use Rattle.ps_linkfile.proofs.Written.{adds_is, all_written, items_left, items_over, none_yet, some_more}
+use Rattle.ps_linkfile.proofs.Written.{adds_is, items_left, some_more}
 use Rattle.ps_linkfile.proofs.references.add_hex.Goals as goal
-
-pub loop-byte-init : goal.loop-byte-init
-loop-byte-init g c = none_yet refl
 
 pub loop-byte-preserved : goal.loop-byte-preserved
 loop-byte-preserved g c =
@@ -12,7 +8,3 @@ loop-byte-preserved g c =
     let digits = adds_is c.hex_digits.ensures c.add.ensures in
     some_more (items_left hex_byte bs c.loop-byte.byte-index _
     (drop_more bs c.loop-byte.byte-index _ c.loop-byte-test.true)) c.loop-byte.invariant digits
-
-pub returns : goal.returns
-returns g c = all_written (items_over hex_byte c.args.bytes.now c.loop-byte.byte-index
-    (omega (arith, c.loop-byte-test.false))) c.loop-byte.invariant

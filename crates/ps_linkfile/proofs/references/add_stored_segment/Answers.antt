@@ -1,5 +1,4 @@
-use Rattle.std.proofs.Common.{rules, arith}
-use Rattle.ps_linkfile.proofs.Vocabulary.{drop_more, drop_all}
+use Rattle.ps_linkfile.proofs.Vocabulary.{drop_more, drop_all, rules, arith}
 use Rattle.ps_linkfile.proofs.Numbered.{numbered_left}
 use Rattle.ps_linkfile.proofs.Written.{adds_none, all_stopped, all_written, some_more}
 use Rattle.ps_linkfile.proofs.references.add_stored_segment.Goals as goal

@@ -1,5 +1,4 @@
-use Rattle.std.proofs.Common.{drop}
-use Rattle.ps_linkfile.proofs.Vocabulary.{flat_map, enumerate_from, stored_rows, place_in}
+use Rattle.ps_linkfile.proofs.Vocabulary.{flat_map, enumerate_from, stored_rows, place_in, drop}
 use Rattle.ps_linkfile.proofs.Written.{Written}
 use Rattle.ps_linkfile.proofs.references.add_stored_segment.Given as goal
 

@@ -1,5 +1,4 @@
-use Rattle.std.proofs.Common.{arith, refl, sym, ap, ◌∙◌, List, ◌≡◌, drop, ◌∷◌, ◌+◌}
-use Rattle.ps_linkfile.proofs.Vocabulary.{drop_more, stored_rows, StoredIn}
+use Rattle.ps_linkfile.proofs.Vocabulary.{drop_more, stored_rows, StoredIn, arith, refl, sym, ap, ◌∙◌, List, ◌≡◌, drop, ◌∷◌, ◌+◌}
 use Rattle.ps_linkfile.proofs.Numbered.{numbered_left, numbered_over}
 use Rattle.ps_linkfile.proofs.Written.{adds_is, all_stopped, all_written, none_yet, some_more}
 use Rattle.ps_linkfile.proofs.references.add_stored_segments.Goals as goal
@@ -21,8 +20,7 @@ loop-stored-preserved g c =
     c.add_stored_segment.ensures in
     record {
       at = omega (arith, inv.at);
-      rows = some_more
-          (numbered_left (stored_rows form) ls i l here) inv.rows added;
+      rows = some_more (numbered_left (stored_rows form) ls i l here) inv.rows added;
     }
 
 pub returns : goal.returns

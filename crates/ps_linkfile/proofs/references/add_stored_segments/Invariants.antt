@@ -1,5 +1,4 @@
-use Rattle.std.proofs.Common.{◌≡◌, drop}
-use Rattle.ps_linkfile.proofs.Vocabulary.{enumerate_from, flat_map, stored_rows}
+use Rattle.ps_linkfile.proofs.Vocabulary.{enumerate_from, flat_map, stored_rows, ◌≡◌, drop}
 use Rattle.ps_linkfile.proofs.Written.{Written}
 use Rattle.ps_linkfile.proofs.references.add_stored_segments.Given as goal
 

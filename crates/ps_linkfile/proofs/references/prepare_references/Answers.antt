@@ -1,10 +1,5 @@
-use Rattle.std.proofs.Common.{◌≡◌, ◌≤◌, ◌∙◌, ◌++◌, ℕ, List, length, ap, subst, sym}
-use Rattle.ps_linkfile.proofs.Vocabulary.{err_from_is_err_and, IsPlan, StoredIn, Planned, Segment, edited_segments, linked_file, all_stored_in, all_stored_of, references_in}
-use Rattle.ps_codefile.specs.Dictionary.{block_len}
-use Rattle.ps_resolve.specs.LinkedBytes.{segments_of}
-use Rattle.ps_resolve.specs.Sources.{contents}
+use Rattle.ps_linkfile.proofs.Vocabulary.{err_from_is_err_and, IsPlan, StoredIn, Planned, Segment, edited_segments, linked_file, all_stored_in, all_stored_of, references_in, ◌≡◌, ◌≤◌, ◌∙◌, ◌++◌, ℕ, List, length, ap, subst, sym, block_len, segments_of, contents, Json}
 use Rattle.ps_linkfile.specs.MapText.{map_in, members_in, members_of}
-use Rattle.ps_linkfile.specs.declared.rows.Form.TheVariants.{Json}
 use Rattle.ps_linkfile.proofs.StoredPlaces.{as_plan, joined, all_stored_are}
 use Rattle.ps_linkfile.proofs.Maps.{members_are, plan_text}
 use Rattle.ps_linkfile.proofs.Plans.{plan_ready}

@@ -1,7 +1,4 @@
-use Rattle.std.proofs.Common.{◌-◌}
-use Rattle.ps_linkfile.proofs.Vocabulary.{flat_map, range_with_len, slots}
-use Rattle.ps_linkfile.specs.ShowText.{links_in}
-use Rattle.ps_linkfile.specs.declared.rows.Form.TheVariants.{Lines}
+use Rattle.ps_linkfile.proofs.Vocabulary.{flat_map, range_with_len, slots, ◌-◌, links_in, Lines}
 use Rattle.ps_linkfile.proofs.Written.{Written}
 use Rattle.ps_linkfile.proofs.show.add_all_links.Given as goal
 

@@ -1,7 +1,4 @@
-use Rattle.std.proofs.Common.{◌≤◌, ◌+◌, ◌/◌, length}
-use Rattle.ps_linkfile.proofs.Vocabulary.{reading}
-use Rattle.ps_linkinfo.specs.Left.{items_left}
-use Rattle.ps_linkfile.specs.ShowText.{fault_in, record_in, records_in}
+use Rattle.ps_linkfile.proofs.Vocabulary.{reading, ◌≤◌, ◌+◌, ◌/◌, length, items_left, fault_in, record_in, records_in}
 use Rattle.ps_linkfile.proofs.Walks.{walked}
 use Rattle.ps_linkfile.proofs.Written.{Written}
 use Rattle.ps_linkfile.proofs.show.add_records.Given as goal

@@ -1,6 +1,4 @@
-use Rattle.std.proofs.Common.{◌-◌}
-use Rattle.ps_linkfile.proofs.Vocabulary.{flat_map, range_with_len, slots}
-use Rattle.ps_linkfile.specs.ShowText.{slot_line}
+use Rattle.ps_linkfile.proofs.Vocabulary.{flat_map, range_with_len, slots, ◌-◌, slot_line}
 use Rattle.ps_linkfile.proofs.Written.{Written}
 use Rattle.ps_linkfile.proofs.show.add_slots.Given as goal
 

@@ -1,6 +1,4 @@
-use Rattle.std.proofs.Common.{◌∙◌, Some, length, sym, ap}
-use Rattle.ps_linkfile.proofs.Vocabulary.{Ordered, file_order}
-use Rattle.std.proofs.Math.Dec.{ltb}
+use Rattle.ps_linkfile.proofs.Vocabulary.{Ordered, file_order, ◌∙◌, Some, length, sym, ap, ltb}
 use Rattle.ps_linkfile.proofs.Shows.{read_shows, beside_shows, beside_fault}
 use Rattle.ps_linkfile.proofs.show.read.Goals as goal
 

@@ -1,8 +1,6 @@
-use Rattle.std.proofs.Common.{◌≡◌, ◌≤◌, ◌-◌, ◌++◌, length, map}
-use Rattle.ps_linkfile.proofs.Vocabulary.{filter, range_with_len, entry_at}
+use Rattle.ps_linkfile.proofs.Vocabulary.{filter, range_with_len, entry_at, ◌≡◌, ◌≤◌, ◌-◌, ◌++◌, length, map, unit_names}
 use Rattle.ps_resolve.specs.Faults.{is_role}
 use Rattle.ps_codefile.specs.Roles.{is_unit}
-use Rattle.ps_linkfile.specs.ShowText.{unit_names}
 use Rattle.ps_linkfile.proofs.show.unit_names.Given as goal
 
 -- the names so far and those of the units in the slots that are left are all

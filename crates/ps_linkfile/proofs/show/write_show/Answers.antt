@@ -1,5 +1,4 @@
-use Rattle.std.proofs.Common.{arith, List, ℕ, subst}
-use Rattle.ps_linkfile.proofs.Vocabulary.{err_from_is_err_and, AppendsPrefix, order_shown}
+use Rattle.ps_linkfile.proofs.Vocabulary.{err_from_is_err_and, AppendsPrefix, order_shown, arith, List, ℕ, subst}
 use Rattle.ps_linkfile.proofs.Shows.{shown_is}
 use Rattle.ps_linkfile.proofs.show.write_show.Goals as goal
 

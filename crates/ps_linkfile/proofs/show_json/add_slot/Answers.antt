@@ -1,7 +1,5 @@
-use Rattle.std.proofs.Common.{ap}
+use Rattle.ps_linkfile.proofs.Vocabulary.{ap, entry_in, Json}
 use Rattle.ps_linkfile.specs.ShowJson.{slot_item}
-use Rattle.ps_linkfile.specs.ShowText.{entry_in}
-use Rattle.ps_linkfile.specs.declared.rows.Form.TheVariants.{Json}
 use Rattle.ps_linkfile.proofs.Written.{adds_is, ◌⨾◌}
 use Rattle.ps_linkfile.proofs.show_json.add_slot.Goals as goal
 

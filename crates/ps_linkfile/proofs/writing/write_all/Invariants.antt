@@ -1,5 +1,4 @@
-use Rattle.std.proofs.Common.{length, ◌-◌, ◌≤◌, take}
-use Rattle.std.specs.Io.KnownBytes.{Appends}
+use Rattle.ps_linkfile.proofs.Vocabulary.{length, ◌-◌, ◌≤◌, take, Appends}
 use Rattle.ps_linkfile.proofs.Rising.{Progress}
 use Rattle.ps_linkfile.proofs.writing.write_all.Given as goal
 

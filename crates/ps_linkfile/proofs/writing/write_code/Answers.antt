@@ -1,5 +1,4 @@
-use Rattle.std.proofs.Common.{◌≡◌, ◌∙◌, ◌*◌, ◌+◌, ◌++◌, ◌-◌, ◌<◌, length, map, ap, refl, sym, arith}
-use Rattle.ps_linkfile.proofs.Vocabulary.{min, range_with_len, blocks, patched_or_zero}
+use Rattle.ps_linkfile.proofs.Vocabulary.{min, range_with_len, blocks, patched_or_zero, ◌≡◌, ◌∙◌, ◌*◌, ◌+◌, ◌++◌, ◌-◌, ◌<◌, length, map, ap, refl, sym, arith}
 use Rattle.ps_linkfile.proofs.Prefixes.{appends_twice, image_is, image_split, prefix_more, on_err_always}
 use Rattle.ps_linkfile.proofs.Rising.{rises_then, room_then}
 use Rattle.ps_linkfile.proofs.writing.write_code.Goals as goal

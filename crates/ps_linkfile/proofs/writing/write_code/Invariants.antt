@@ -1,5 +1,4 @@
-use Rattle.std.proofs.Common.{◌≡◌, ◌≤◌, ◌*◌, ◌-◌, ℕ, length, map}
-use Rattle.ps_linkfile.proofs.Vocabulary.{min, range_with_len, Appends, blocks, patched_or_zero, NoneFailed, Rises}
+use Rattle.ps_linkfile.proofs.Vocabulary.{min, range_with_len, Appends, blocks, patched_or_zero, NoneFailed, Rises, ◌≡◌, ◌≤◌, ◌*◌, ◌-◌, ℕ, length, map}
 use Rattle.ps_linkfile.proofs.writing.write_code.Given as goal
 
 -- so many blocks were appended, and the patcher is after them
@@ -10,8 +9,7 @@ invariant-loop-patcher g l = (at : ℕ) × record {
     order = l.fn.order;
     code = l.fn.code;
     edits = l.fn.edits;
-    position =
-        min (512 * at) (length l.fn.code);
+    position = min (512 * at) (length l.fn.code);
   };
   written : Appends (g.W.Write.contents l.fn.out) (g.W.Write.contents l.out)
       (map (patched_or_zero l.fn.order l.fn.code l.fn.edits) (range_with_len 0 (512 * at)));

@@ -1,5 +1,4 @@
-use Rattle.std.proofs.Common.{arith}
-use Rattle.ps_linkfile.proofs.Vocabulary.{drop_all, length-map}
+use Rattle.ps_linkfile.proofs.Vocabulary.{drop_all, length-map, arith}
 use Rattle.ps_linkfile.proofs.Prefixes.{appends_none, on_err_always}
 use Rattle.ps_linkfile.proofs.Codes.{edits_here, codes_more, codes_prefix}
 use Rattle.ps_linkfile.proofs.Views.{no_source, is_at}

@@ -1,6 +1,4 @@
-use Rattle.std.proofs.Common.{arith, length, length-append, refl, ◌*◌}
-use Rattle.ps_linkfile.proofs.Vocabulary.{all_blocks, on_err_weaker, on_ok_weaker, padded_codes}
-use Rattle.ps_linkfile.specs.LinkedFile.{dictionary}
+use Rattle.ps_linkfile.proofs.Vocabulary.{all_blocks, on_err_weaker, on_ok_weaker, padded_codes, arith, length, length-append, refl, ◌*◌, dictionary}
 use Rattle.ps_linkfile.specs.declared.block_layout.TheConstants.{MAX_FILE_BLOCKS}
 use Rattle.ps_linkfile.proofs.Prefixes.{appends_twice, prefix_last, prefix_then, on_err_always}
 use Rattle.ps_linkfile.proofs.Codes.{codes_len}

@@ -1,6 +1,5 @@
-use Rattle.std.proofs.Common.{◌≡◌, ◌∙◌, arith, ap, length}
-use Rattle.ps_linkinfo.specs.Records.{refs_at}
-use Rattle.ps_linkinfo.proofs.Words.{refs_are, refs_len}
+use Rattle.ps_linkinfo.proofs.Vocabulary.{◌≡◌, ◌∙◌, arith, ap, length, refs_at}
+use Rattle.ps_linkinfo.proofs.ReferenceWords.{refs_are, refs_len}
 use Rattle.ps_linkinfo.proofs.first.refs_at.Goals as goal
 
 pub returns-clause-refs : goal.returns-clause-refs

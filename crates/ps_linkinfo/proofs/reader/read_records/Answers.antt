@@ -1,8 +1,4 @@
-use Rattle.std.proofs.Common.{◌≡◌, ◌∙◌, [], List, Option, length, rules, subst, sym}
-use Rattle.ps_words.specs.declared.fault.Reason.{Reason}
-use Rattle.ps_linkinfo.specs.Records.{Stops}
-use Rattle.ps_linkinfo.specs.Walk.{Walk, whole_walk}
-use Rattle.ps_linkinfo.specs.declared.record.LinkRecord.{LinkRecord as Record}
+use Rattle.ps_linkinfo.proofs.Vocabulary.{◌≡◌, ◌∙◌, [], List, Option, length, rules, subst, sym, Reason, Stops, Walk, whole_walk, Record}
 use Rattle.ps_linkinfo.proofs.OneReading.{is_reading, is_stop}
 use Rattle.ps_linkinfo.proofs.Stands.{IsReadingOf, reading_is}
 use Rattle.ps_linkinfo.proofs.Walks.{Walked, walked_first, walked_more, walked_all, walked_to_fault, walked_good}

@@ -1,6 +1,4 @@
-use Rattle.std.proofs.Common.{Option, List, subst}
-use Rattle.ps_words.specs.declared.fault.Reason.{Reason}
-use Rattle.ps_linkinfo.specs.declared.record.LinkRecord.{LinkRecord as Record}
+use Rattle.ps_linkinfo.proofs.Vocabulary.{Option, List, subst, Reason, Record}
 use Rattle.ps_linkinfo.proofs.OneReading.{one_reading, is_stop}
 use Rattle.ps_linkinfo.proofs.Stands.{spells_reads, stops_reads, reading_is, IsReadingOf}
 use Rattle.ps_linkinfo.proofs.reading_laws.one_reading.Goals as goal

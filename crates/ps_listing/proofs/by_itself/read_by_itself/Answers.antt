@@ -1,5 +1,4 @@
-use Rattle.std.proofs.Common.{arith}
-use Rattle.ps_codefile.specs.Dictionary.{entry_at}
+use Rattle.ps_listing.proofs.Vocabulary.{arith, entry_at}
 use Rattle.ps_resolve.proofs.ReadingCodes.{whole}
 use Rattle.ps_listing.proofs.LinkedEntries.{linked_kind}
 use Rattle.ps_listing.proofs.by_itself.read_by_itself.Goals as goal

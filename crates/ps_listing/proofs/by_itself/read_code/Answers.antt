@@ -1,9 +1,5 @@
-use Rattle.std.proofs.Common.{◌≡◌, ◌∙◌, true, Option, Some, None, sym, ap}
-use Rattle.ps_words.specs.declared.fault.Fault.{Fault}
-use Rattle.std.specs.Prelude.{Result, Err}
-use Rattle.ps_words.specs.declared.fault.Reason.{Reason}
+use Rattle.ps_listing.proofs.Vocabulary.{◌≡◌, ◌∙◌, true, Option, Some, None, sym, ap, Result, Err, Fault, Reason, needs_linking, is_host}
 use Rattle.ps_codefile.specs.Procedures.{ProcedureTables, tables_fault, unless}
-use Rattle.ps_codefile.specs.Roles.{needs_linking, is_host}
 use Rattle.ps_listing.proofs.by_itself.read_code.Goals as goal
 
 why_of : (fault : Option Reason) (tables : ProcedureTables) (why : Reason)

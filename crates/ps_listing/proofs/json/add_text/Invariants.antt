@@ -1,7 +1,4 @@
-use Rattle.std.proofs.Common.{drop}
-use Rattle.std.specs.List.{flat_map}
-use Rattle.ps_listing.specs.ListJson.{text_byte}
-use Rattle.ps_linkfile.proofs.Written.{Written}
+use Rattle.ps_listing.proofs.Vocabulary.{drop, flat_map, text_byte, Written}
 use Rattle.ps_listing.proofs.json.add_text.Given as goal
 
 -- the bytes that are left are still to be written

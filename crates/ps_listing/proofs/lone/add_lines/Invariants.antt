@@ -1,7 +1,4 @@
-use Rattle.std.proofs.Common.{drop}
-use Rattle.std.specs.List.{flat_map}
-use Rattle.ps_linkfile.proofs.Written.{Written}
-use Rattle.ps_listing.specs.LoneText.{lone_line, lone_text}
+use Rattle.ps_listing.proofs.Vocabulary.{drop, flat_map, Written, lone_line, lone_text}
 use Rattle.ps_listing.proofs.lone.add_lines.Given as goal
 
 -- the lines of the units that are left are still to be written

@@ -1,7 +1,4 @@
-use Rattle.std.proofs.Common.{◌∙◌, ap, arith, sym}
-use Rattle.std.specs.List.{list_any}
-use Rattle.std.proofs.lemmas.List.{drop_all, drop_more}
-use Rattle.ps_listing.specs.LoneText.{is_refused_unit}
+use Rattle.ps_listing.proofs.Vocabulary.{◌∙◌, ap, arith, sym, list_any, drop_all, drop_more, is_refused_unit}
 use Rattle.ps_listing.proofs.FoundUnits.{refused_here, refused_later}
 use Rattle.ps_listing.proofs.lone.has_refused.Goals as goal
 

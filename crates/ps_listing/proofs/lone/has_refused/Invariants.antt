@@ -1,6 +1,4 @@
-use Rattle.std.proofs.Common.{◌≡◌, drop}
-use Rattle.std.specs.List.{list_any}
-use Rattle.ps_listing.specs.LoneText.{is_refused_unit}
+use Rattle.ps_listing.proofs.Vocabulary.{◌≡◌, drop, list_any, is_refused_unit}
 use Rattle.ps_listing.proofs.lone.has_refused.Given as goal
 
 -- none so far has a fault

@@ -1,7 +1,5 @@
-use Rattle.std.proofs.Common.{◌≡◌, ◌∙◌, ◌<◌, List, length, sym, ap, subst}
-use Rattle.std.specs.Prelude.{IfErr, IfOk}
+use Rattle.ps_listing.proofs.Vocabulary.{◌≡◌, ◌∙◌, ◌<◌, List, length, sym, ap, subst, IfErr, IfOk, units_as}
 use Rattle.ps_resolve.specs.Readings.{ReadFiles, opened_host}
-use Rattle.ps_listing.specs.LoneText.{units_as}
 use Rattle.ps_listing.specs.declared.lone.LoneUnit.{LoneUnit}
 use Rattle.ps_listing.proofs.lone.lone_units.Goals as goal
 

@@ -1,5 +1,4 @@
-use Rattle.std.proofs.Common.{◌∙◌, Some, refl, sym, arith}
-use Rattle.ps_listing.specs.LoneText.{lone_unit, units_of}
+use Rattle.ps_listing.proofs.Vocabulary.{◌∙◌, Some, refl, sym, arith, lone_unit, units_of}
 use Rattle.ps_listing.proofs.FoundUnits.{no_more, none_more, of_error, one_more, some_found}
 use Rattle.ps_listing.proofs.lone.units_of.Goals.{in-Some+in_ok-push, in_default}
 use Rattle.ps_listing.proofs.lone.units_of.Goals as goal

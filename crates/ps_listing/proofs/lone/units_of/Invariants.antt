@@ -1,6 +1,4 @@
-use Rattle.std.proofs.Common.{◌≡◌, ◌-◌, ◌++◌}
-use Rattle.std.specs.List.{filter_map, range_with_len}
-use Rattle.ps_listing.specs.LoneText.{lone_unit, units_of}
+use Rattle.ps_listing.proofs.Vocabulary.{◌≡◌, ◌-◌, ◌++◌, filter_map, range_with_len, lone_unit, units_of}
 use Rattle.ps_listing.proofs.lone.units_of.Given as goal
 
 -- the units so far and those of the slots that are left are all

@@ -1,12 +1,6 @@
-use Rattle.std.proofs.Common.{◌∙◌, List, Option, ap}
-use Rattle.std.specs.List.{flat_map}
-use Rattle.ps_words.specs.declared.fault.Fault.{Fault}
-use Rattle.ps_codefile.specs.Dictionary.{entry_at}
-use Rattle.ps_codefile.specs.Roles.{needs_linking}
-use Rattle.ps_linkinfo.specs.declared.record.LinkRecord.{LinkRecord as Record}
+use Rattle.ps_listing.proofs.Vocabulary.{◌∙◌, List, Option, ap, flat_map, Fault, entry_at, needs_linking, Record, adds_is}
 use Rattle.ps_resolve.specs.Sources.{records_of}
 use Rattle.ps_listing.specs.ListText.{found_words, refused_or, used_words}
-use Rattle.ps_linkfile.proofs.Written.{adds_is}
 use Rattle.ps_listing.proofs.slots.add_found.Goals as goal
 
 pub returns-in-Err : goal.returns-in-Err

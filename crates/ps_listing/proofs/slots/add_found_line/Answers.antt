@@ -1,5 +1,4 @@
-use Rattle.std.proofs.Common.{ap}
-use Rattle.ps_linkfile.proofs.Written.{adds_is, ◌⨾◌}
+use Rattle.ps_listing.proofs.Vocabulary.{ap, adds_is, ◌⨾◌}
 use Rattle.ps_listing.specs.ListText.{found_line, size_words}
 use Rattle.ps_listing.proofs.slots.add_found_line.Goals as goal
 

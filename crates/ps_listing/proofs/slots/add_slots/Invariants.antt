@@ -1,8 +1,4 @@
-use Rattle.std.proofs.Common.{◌-◌}
-use Rattle.std.specs.List.{flat_map, range_with_len}
-use Rattle.ps_codefile.specs.Dictionary.{slots}
-use Rattle.ps_linkfile.proofs.Written.{Written}
-use Rattle.ps_listing.specs.ListText.{slot_line}
+use Rattle.ps_listing.proofs.Vocabulary.{◌-◌, flat_map, range_with_len, slots, Written, slot_line}
 use Rattle.ps_listing.proofs.slots.add_slots.Given as goal
 
 -- the lines of the slots that are left are still to be written

@@ -1,11 +1,6 @@
-use Rattle.std.proofs.Common.{◌∙◌, List, Option, ap}
-use Rattle.ps_words.specs.declared.fault.Fault.{Fault}
-use Rattle.ps_codefile.specs.Dictionary.{entry_at}
-use Rattle.ps_codefile.specs.Roles.{needs_linking}
-use Rattle.ps_linkinfo.specs.declared.record.LinkRecord.{LinkRecord as Record}
+use Rattle.ps_listing.proofs.Vocabulary.{◌∙◌, List, Option, ap, Fault, entry_at, needs_linking, Record, adds_is}
 use Rattle.ps_resolve.specs.Sources.{records_of}
 use Rattle.ps_listing.specs.ListJson.{fault_or, found_members, uses_member}
-use Rattle.ps_linkfile.proofs.Written.{adds_is}
 use Rattle.ps_listing.proofs.slots_json.add_found.Goals as goal
 
 pub returns-in-Err : goal.returns-in-Err

@@ -1,10 +1,5 @@
-use Rattle.std.proofs.Common.{◌≡◌, ap, rules, sym}
-use Rattle.std.specs.Prelude.{Result, Ok}
-use Rattle.ps_words.specs.declared.fault.Reason.{Reason}
-use Rattle.ps_codefile.specs.declared.entry.Role.{Role}
+use Rattle.ps_listing.proofs.Vocabulary.{ap, rules, sym, Result, Ok, Reason, Role, adds_is, ◌⨾◌, role_item}
 use Rattle.ps_codefile.specs.declared.entry.Role.TheVariants as role
-use Rattle.ps_linkfile.proofs.Written.{adds_is, ◌⨾◌}
-use Rattle.ps_listing.specs.ListJson.{role_item}
 use Rattle.ps_listing.proofs.slots_json.add_role_item.Goals as goal
 
 pub returns-in-Ok-Wanted : goal.returns-in-Ok-Wanted

@@ -1,5 +1,4 @@
-use Rattle.std.proofs.Common.{refl}
-use Rattle.ps_linkfile.proofs.Written.{none_yet, some_more, all_written}
+use Rattle.ps_listing.proofs.Vocabulary.{refl, none_yet, some_more, all_written}
 use Rattle.ps_listing.proofs.JsonItems.{items_left, items_over}
 use Rattle.ps_listing.proofs.slots_json.add_slots.Goals as goal
 

@@ -1,8 +1,4 @@
-use Rattle.std.proofs.Common.{◌-◌, true}
-use Rattle.std.specs.List.{range_with_len}
-use Rattle.ps_codefile.specs.Dictionary.{slots}
-use Rattle.ps_linkfile.proofs.Written.{Written}
-use Rattle.ps_listing.specs.ListJson.{slot_items}
+use Rattle.ps_listing.proofs.Vocabulary.{◌-◌, true, range_with_len, slots, Written, slot_items}
 use Rattle.ps_listing.proofs.slots_json.add_slots.Given as goal
 
 -- the items of the slots that are left are still to be written

@@ -1,6 +1,4 @@
-use Rattle.std.proofs.Common.{◌∙◌, List, ℕ, true, ap}
-use Rattle.ps_linkinfo.specs.declared.record.LinkRecord.{LinkRecord as Record}
-use Rattle.ps_linkfile.proofs.Written.{all_written, none_yet, some_more}
+use Rattle.ps_listing.proofs.Vocabulary.{◌∙◌, List, ℕ, true, ap, Record, all_written, none_yet, some_more}
 use Rattle.ps_listing.proofs.JsonItems.{numbered_are, numbered_items}
 use Rattle.ps_listing.proofs.slots_json.add_uses.Goals as goal
 

@@ -1,6 +1,4 @@
-use Rattle.std.proofs.Common.{true}
-use Rattle.ps_linkfile.proofs.Written.{Written}
-use Rattle.ps_listing.specs.ListJson.{use_items}
+use Rattle.ps_listing.proofs.Vocabulary.{true, Written, use_items}
 use Rattle.ps_listing.proofs.JsonItems.{numbered_items}
 use Rattle.ps_listing.proofs.slots_json.add_uses.Given as goal
 

@@ -1,8 +1,6 @@
-use Rattle.std.proofs.Common.{◌∙◌, flat_map, sym, ap, map-id}
+use Rattle.ps_listing.proofs.Vocabulary.{◌∙◌, flat_map, sym, ap, map-id, adds_is, shown_char}
 use Rattle.std.proofs.lemmas.Iterator.{YieldsList-from_chars}
 use Rattle.std.proofs.lemmas.Iterator.Consumers.{YieldsList-end}
-use Rattle.ps_linkfile.proofs.Written.{adds_is}
-use Rattle.ps_listing.specs.ListText.{shown_char}
 use Rattle.ps_listing.proofs.words.add_path.Goals as goal
 
 pub returns : goal.returns

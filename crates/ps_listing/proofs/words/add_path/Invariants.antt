@@ -1,6 +1,5 @@
-use Rattle.std.specs.List.{flat_map}
+use Rattle.ps_listing.proofs.Vocabulary.{flat_map, shown_char}
 use Rattle.ps_linkfile.specs.Adding.{Adds}
-use Rattle.ps_listing.specs.ListText.{shown_char}
 use Rattle.ps_listing.proofs.words.add_path.Given as goal
 
 -- the characters so far were added

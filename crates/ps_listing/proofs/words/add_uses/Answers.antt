@@ -1,7 +1,4 @@
-use Rattle.std.proofs.Common.{◌∙◌, List, ℕ, ap}
-use Rattle.std.specs.List.{flat_map}
-use Rattle.ps_linkinfo.specs.declared.record.LinkRecord.{LinkRecord as Record}
-use Rattle.ps_linkfile.proofs.Written.{all_written, none_yet, some_more}
+use Rattle.ps_listing.proofs.Vocabulary.{◌∙◌, List, ℕ, ap, flat_map, Record, all_written, none_yet, some_more}
 use Rattle.ps_listing.proofs.NumberedUses.{numbered_use, numbered_uses}
 use Rattle.ps_listing.proofs.words.add_uses.Goals as goal
 

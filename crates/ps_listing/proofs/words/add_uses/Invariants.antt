@@ -1,6 +1,4 @@
-use Rattle.std.specs.List.{flat_map}
-use Rattle.ps_linkfile.proofs.Written.{Written}
-use Rattle.ps_listing.specs.ListText.{used_words}
+use Rattle.ps_listing.proofs.Vocabulary.{flat_map, Written, used_words}
 use Rattle.ps_listing.proofs.NumberedUses.{numbered_use}
 use Rattle.ps_listing.proofs.words.add_uses.Given as goal
 

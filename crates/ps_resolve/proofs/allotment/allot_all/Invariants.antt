@@ -1,5 +1,4 @@
-use Rattle.std.proofs.Common.{◌≡◌, ◌+◌, ◌++◌, drop, map}
-use Rattle.ps_resolve.specs.Privates.{all_allotted, all_words, first_private_fault}
+use Rattle.ps_resolve.proofs.Vocabulary.{◌≡◌, ◌+◌, ◌++◌, drop, map, all_allotted, all_words, first_private_fault}
 use Rattle.ps_resolve.proofs.allotment.allot_all.Given as goal
 
 -- the privates so far and those of the segments that are left are all, and so with words and faults

@@ -1,5 +1,4 @@
-use Rattle.std.proofs.Common.{◌≡◌, ◌-◌}
-use Rattle.std.specs.List.{find, range_with_len}
+use Rattle.ps_resolve.proofs.Vocabulary.{◌≡◌, ◌-◌, find, range_with_len}
 use Rattle.ps_resolve.specs.Causes.{covers, first_covering}
 use Rattle.ps_resolve.proofs.causes.first_covering.Given as goal
 

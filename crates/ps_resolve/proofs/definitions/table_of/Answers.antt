@@ -1,29 +1,14 @@
-use Rattle.std.proofs.Common.{rules, arith, ◌≡◌, ◌∙◌, [], ◌∷◌, ◌++◌, ap, sym, append-nil, is_some}
-use Rattle.std.specs.Str.{bytes_eq}
+use Rattle.std.proofs.Common.{rules, arith, ◌≡◌, ◌∙◌, [], ◌∷◌, ◌++◌, ap, sym, append-nil, is_some, bytes_eq}
 use Rattle.indexmap.proofs.CallerLemmas.{insert_entry-new}
-use Rattle.ps_resolve.proofs.Duplicates.{Defines, again_first, definitions_counted, new_entries, new_first, no_definitions, none_entries, none_first, none_is, positive, some_there}
+use Rattle.ps_resolve.proofs.Duplicates.{again_first, new_entries, new_first, no_definitions, none_entries, none_first, none_is, some_there}
 use Rattle.ps_resolve.proofs.NumberedRecords.{one, none}
 use Rattle.ps_resolve.proofs.definitions.table_of.Goals as goal
 
-pub loop-rec-init : goal.loop-rec-init
-loop-rec-init g c = grind arith
-
 pub loop-rec-preserved : goal.loop-rec-preserved
 loop-rec-preserved g c =
-    let old = c.loop-rec.by_name.entries in
-    let rec = c.in-Some.rec in
-    let r = c.in-Some.record in
-    let step = one (Defines c.args.records.now old) c.loop-rec.rec-iterator c.next.new.self rec r
-    c.loop-rec.invariant.left c.in-Some.ensures.steps in
+    let step = one c.loop-rec.invariant.left c.in-Some.ensures.steps in
     let none = sym c.def_of.ensures ∙ c.in_default.is in
     search (rules, none_entries, none_first)
-
-pub returns-in_err-by_name-clause-stop : goal.returns-in_err-by_name-clause-stop
-returns-in_err-by_name-clause-stop g c =
-    grind (arith, definitions_counted, positive)
-
-pub returns-then-count-eq0-clause-entries : goal.returns-then-count-eq0-clause-entries
-returns-then-count-eq0-clause-entries g c = grind (arith, no_definitions)
 
 pub returns-then-count-eq0-clause-once : goal.returns-then-count-eq0-clause-once
 returns-then-count-eq0-clause-once g c =
@@ -33,8 +18,7 @@ pub returns-in_err-insert-clause-stop : goal.returns-in_err-insert-clause-stop
 returns-in_err-insert-clause-stop g c =
     let old = c.loop-rec.by_name.entries in
     let r = c.in-Some.record in
-    let step = one (Defines c.args.records.now old) c.loop-rec.rec-iterator c.next.new.self
-    c.in-Some.rec r c.loop-rec.invariant.left c.in-Some.ensures.steps in
+    let step = one c.loop-rec.invariant.left c.in-Some.ensures.steps in
     grind (
       arith,
       some_there old r step.0 c.in-Some-def_of.def (sym c.def_of.ensures ∙ c.in-Some-def_of.is),
@@ -42,20 +26,15 @@ returns-in_err-insert-clause-stop g c =
 
 pub returns-then-is_some-clause-stop : goal.returns-then-is_some-clause-stop
 returns-then-is_some-clause-stop g c =
-    let old = c.loop-rec.by_name.entries in
-    let r = c.in-Some.record in
-    let step = one (Defines c.args.records.now old) c.loop-rec.rec-iterator c.next.new.self
-    c.in-Some.rec r c.loop-rec.invariant.left c.in-Some.ensures.steps in
+    let step = one c.loop-rec.invariant.left c.in-Some.ensures.steps in
     grind (arith, again_first)
 
 pub loop-rec-preserved-else-is_some : goal.loop-rec-preserved-else-is_some
 loop-rec-preserved-else-is_some g c =
     let old = c.loop-rec.by_name.entries in
-    let rec = c.in-Some.rec in
     let r = c.in-Some.record in
     let d = c.in-Some-def_of.def in
-    let step = one (Defines c.args.records.now old) c.loop-rec.rec-iterator c.next.new.self rec r
-    c.loop-rec.invariant.left c.in-Some.ensures.steps in
+    let step = one c.loop-rec.invariant.left c.in-Some.ensures.steps in
     let absent = ap is_some (sym c.in_ok-insert.ensures.old)
     ∙ (sym c.is_some.ensures ∙ c.if-is_some.false) in
     let put : c.insert.new.self.entries ≡ old ++ (r.name, d) ∷ [] =
@@ -65,6 +44,5 @@ loop-rec-preserved-else-is_some g c =
 
 pub returns : goal.returns
 returns g c =
-    let end = none (Defines c.args.records.now c.loop-rec.by_name.entries) c.loop-rec.rec-iterator
-    c.loop-rec.invariant.left c.in-None.ensures.steps.0 in
+    let end = none c.loop-rec.invariant.left c.in-None.ensures.steps.0 in
     grind (arith, append-nil)

@@ -1,6 +1,5 @@
-use Rattle.std.proofs.Common.{◌≡◌}
+use Rattle.ps_resolve.proofs.Vocabulary.{◌≡◌, digest_of}
 use Rattle.indexmap.specs.IndexMap.{hasher_of}
-use Rattle.ps_linkinfo.specs.RecordCounts.{digest_of}
 use Rattle.ps_resolve.proofs.Duplicates.{Defines}
 use Rattle.ps_resolve.proofs.NumberedRecords.{IsLeft}
 use Rattle.ps_resolve.proofs.definitions.table_of.Given as goal

@@ -1,18 +1,4 @@
-use Rattle.std.proofs.Common.{arith, ◌≡◌, ℕ, ◌-◌, ◌++◌, ◌∷◌, ◌∙◌, List, Option, true, length, sym, ap}
-use Rattle.std.specs.Prelude.{IsPermutation}
-use Rattle.std.specs.Option.{option_to_list}
-use Rattle.std.proofs.lemmas.List.Sorted.{All-permutation, IsPermutation-append_left, IsPermutation-trans}
-use Rattle.ps_words.specs.Edits.{AreEdits, IsInside}
-use Rattle.ps_words.specs.declared.edit.Edit.{Edit}
-use Rattle.ps_words.specs.declared.edit.Edit.TheVariants.{Byte}
-use Rattle.ps_resolve.specs.Sources.{Segment}
-use Rattle.ps_resolve.specs.Edits.{data_size_edit}
-use Rattle.ps_resolve.specs.EditTables.{edits_of}
-use Rattle.ps_resolve.specs.declared.edit_table.PlaceState.{PlaceState}
-use Rattle.std.proofs.lemmas.Option.{same_Some}
-use Rattle.ps_codefile.specs.Procedures.{ProcedureTables}
-use Rattle.ps_codefile.specs.Roles.{needs_linking, is_host}
-use Rattle.ps_resolve.specs.References.{Known, records_edits}
+use Rattle.ps_resolve.proofs.Vocabulary.{arith, ◌≡◌, ℕ, ◌-◌, ◌++◌, ◌∷◌, ◌∙◌, List, Option, true, length, sym, ap, IsPermutation, option_to_list, All-permutation, IsPermutation-append_left, IsPermutation-trans, AreEdits, IsInside, Edit, Byte, Segment, data_size_edit, edits_of, PlaceState, same_Some, ProcedureTables, needs_linking, is_host, Known, records_edits}
 use Rattle.ps_resolve.proofs.EditTables.{edits_apart}
 use Rattle.ps_resolve.proofs.FirstSlots.{none_mapped as map_none}
 use Rattle.ps_resolve.proofs.SegmentEdits.{all_of, linked_links}

@@ -1,18 +1,4 @@
-use Rattle.std.proofs.Common.{rules, ◌≡◌, ℕ, ◌+◌, ◌<◌, ◌∷◌, [], List, length, map, get_or, true, sym, subst, arith, append-nil}
-use Rattle.std.specs.Prelude.{All}
-use Rattle.std.proofs.lemmas.List.Elements.{All-take}
-use Rattle.std.proofs.lemmas.Result.{err_from_is_err_and}
-use Rattle.ps_words.specs.declared.edit.Edit.{Edit}
-use Rattle.ps_words.specs.declared.order.Order.{Order}
-use Rattle.ps_codefile.specs.Procedures.{is_reserved}
-use Rattle.ps_codefile.specs.Roles.{is_host}
-use Rattle.ps_resolve.specs.Edits.{IsOfTable}
-use Rattle.ps_resolve.specs.Faults.{references_fault_from}
-use Rattle.ps_resolve.specs.Linking.{data_edits, edited_from}
-use Rattle.ps_resolve.specs.Privates.{owner_of, all_words}
-use Rattle.ps_resolve.specs.References.{Known, HaveTargets}
-use Rattle.ps_resolve.specs.Sources.{Segment}
-use Rattle.ps_resolve.specs.KnownSegments.{IsSound, IsLike}
+use Rattle.ps_resolve.proofs.Vocabulary.{rules, ◌≡◌, ℕ, ◌+◌, ◌<◌, ◌∷◌, [], List, length, map, get_or, true, sym, subst, arith, append-nil, All, All-take, err_from_is_err_and, Edit, Order, is_reserved, is_host, IsOfTable, references_fault_from, data_edits, edited_from, owner_of, all_words, Known, HaveTargets, Segment, IsSound, IsLike}
 use Rattle.ps_resolve.proofs.AllSegments.{room_at, stop_at, words_on, first_on, links_on, none_left}
 use Rattle.ps_resolve.proofs.FirstSlots.{none_mapped}
 use Rattle.ps_resolve.proofs.NextItems.{map_push}
@@ -22,7 +8,6 @@ use Rattle.ps_resolve.proofs.linking.all_edits.Goals as goal
 pub segment_edits-requires : goal.segment_edits-requires
 segment_edits-requires g c =
     let order : Order = c.args.link.now.order in
-    let known : Known = c.args.link.now.names.now in
     let size : Edit = c.args.link.now.size in
     let ss : List Segment = c.args.segments.now in
     let i : ℕ = c.loop-index.index in

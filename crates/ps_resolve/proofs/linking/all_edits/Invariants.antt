@@ -1,12 +1,4 @@
-use Rattle.std.proofs.Common.{◌≡◌, ℕ, ◌+◌, ◌++◌, ◌∷◌, [], List, map, take, drop, true}
-use Rattle.std.specs.Prelude.{All}
-use Rattle.ps_words.specs.declared.edit.Edit.{Edit}
-use Rattle.ps_resolve.specs.Faults.{references_fault_from}
-use Rattle.ps_resolve.specs.Linking.{data_edits, edited_from}
-use Rattle.ps_resolve.specs.Plans.{LinkSegments}
-use Rattle.ps_resolve.specs.Privates.{owner_of, all_words}
-use Rattle.ps_resolve.specs.References.{HaveTargets}
-use Rattle.ps_codefile.specs.Roles.{is_host}
+use Rattle.ps_resolve.proofs.Vocabulary.{◌≡◌, ℕ, ◌+◌, ◌++◌, ◌∷◌, [], List, map, take, drop, true, All, Edit, references_fault_from, data_edits, edited_from, LinkSegments, owner_of, all_words, HaveTargets, is_host}
 use Rattle.ps_resolve.proofs.linking.all_edits.Given as goal
 
 -- the edits so far and those of the segments that are left link all; so it is with words, and with
@@ -21,8 +13,7 @@ invariant-loop-index g l =
           ≡ references_fault_from l.link.order l.link.names.now l.base all;
       links : (words : ℕ) → All (λ s. is_host s.role ≡ true
           → data_edits l.link.order words s.code ≡ l.link.size ∷ []) all
-          → (behind : List (List Edit))
-          → LinkSegments l.link.order
+          → (behind : List (List Edit)) → LinkSegments l.link.order
           (edited_from l.link.order l.link.names.now words l.free rest) behind
           → LinkSegments l.link.order (edited_from l.link.order l.link.names.now words l.base all)
           (map (λ e. e.items) l.edits.items ++ behind);

@@ -1,12 +1,4 @@
-use Rattle.std.proofs.Common.{◌≡◌, ℕ, ◌+◌, [], ◌∷◌, List, map, Some, refl, sym, ◌∙◌, ap, arith}
-use Rattle.std.proofs.lemmas.Result.{err_from_is_err_and}
-use Rattle.std.proofs.lemmas.List.{length-map}
-use Rattle.ps_words.specs.declared.edit.Edit.{Edit}
-use Rattle.ps_words.specs.declared.order.Order.{Order}
-use Rattle.ps_resolve.specs.Sources.{Segment, host_of}
-use Rattle.ps_resolve.specs.Symbols.{definitions}
-use Rattle.ps_resolve.specs.Privates.{Allotted, owner_of, all_words}
-use Rattle.ps_resolve.specs.Linkable.{AreSegments}
+use Rattle.ps_resolve.proofs.Vocabulary.{◌≡◌, ℕ, ◌+◌, [], ◌∷◌, List, map, Some, refl, sym, ◌∙◌, ap, arith, err_from_is_err_and, length-map, Edit, Order, Segment, host_of, definitions, Allotted, owner_of, all_words, AreSegments}
 use Rattle.ps_resolve.specs.declared.reading.host.HostSegment.{HostSegment}
 use Rattle.ps_resolve.proofs.HostSegments.{of_hosts}
 use Rattle.ps_resolve.proofs.NextItems.{slots_are}
@@ -36,17 +28,14 @@ of_segments-requires g c = grind (arith, given, slots_are)
 
 pub returns-in_err-allotment-clause-stop : goal.returns-in_err-allotment-clause-stop
 returns-in_err-allotment-clause-stop g c =
-    let known = given c.as_slice-all.ensures.value c.segments.invariant in
-    let own = own_of c.segments.inside.own in
-    let is = found_own known in
+    let is = found_own (given c.as_slice-all.ensures.value c.segments.invariant) in
     let p = err_from_is_err_and c.from_residual-in_err-allotment.result
     c.from_residual-in_err-allotment.ensures.1 in
-    let ds = c.in_ok-definitions in
+    let ds = c.in_ok-definitions.ensures in
     grind (
       arith,
-      privates_stop c.segments.inside.order c.as_slice-all.result.now own is ds.definitions
-          ds.ensures.found ds.ensures.once c.next-base.result c.next-base.ensures
-          c.in_err-allotment.field-0.0 c.in_err-allotment.ensures.stop,
+      privates_stop c.segments.inside.order c.as_slice-all.result.now is ds.found ds.once
+          c.next-base.ensures c.in_err-allotment.field-0.0 c.in_err-allotment.ensures.stop,
     )
 
 pub grown_data_size-requires : goal.grown_data_size-requires
@@ -54,31 +43,26 @@ grown_data_size-requires g c = c.segments.invariant.own
 
 pub returns-in_err-size-clause-stop : goal.returns-in_err-size-clause-stop
 returns-in_err-size-clause-stop g c =
-    let known = given c.as_slice-all.ensures.value c.segments.invariant in
-    let own = own_of c.segments.inside.own in
-    let is = found_own known in
+    let is = found_own (given c.as_slice-all.ensures.value c.segments.invariant) in
     let p = err_from_is_err_and c.from_residual-in_err-size.result
     c.from_residual-in_err-size.ensures.1 in
-    let ds = c.in_ok-definitions in
-    let a = c.in_ok-allotment in
+    let ds = c.in_ok-definitions.ensures in
+    let a = c.in_ok-allotment.ensures in
     grind (
       arith,
-      size_stop c.segments.inside.order c.as_slice-all.result.now own is ds.definitions
-          ds.ensures.found ds.ensures.once c.next-base.result c.next-base.ensures a.allotment
-          a.ensures.found a.ensures.once c.words.result c.words.ensures c.in_err-size.field-0.0
+      size_stop c.segments.inside.order c.as_slice-all.result.now is ds.found ds.once
+          c.next-base.ensures a.found a.once c.words.ensures c.in_err-size.field-0.0
           c.in_err-size.ensures.stop,
     )
 
 pub all_edits-requires : goal.all_edits-requires
 all_edits-requires g c =
     let known = given c.as_slice-all.ensures.value c.segments.invariant in
-    let own = own_of c.segments.inside.own in
     let is = found_own known in
     let ss : List Segment = c.as_slice-all.result.now in
     let end : c.in_ok-allotment.allotment.next_free
     ≡ c.next-base.result + all_words (map owner_of ss) = grind arith in
     let free = ap (λ (a : Allotted). a.next_free) c.allotment.view_is in
-    let size : Edit = c.edit.result in
     record {
       sound = known.sound;
       room = omega (arith, end, free, c.allotment.ranges.1.0.1);
@@ -88,36 +72,29 @@ all_edits-requires g c =
 
 pub returns-in_err-edits-clause-stop : goal.returns-in_err-edits-clause-stop
 returns-in_err-edits-clause-stop g c =
-    let known = given c.as_slice-all.ensures.value c.segments.invariant in
-    let own = own_of c.segments.inside.own in
-    let is = found_own known in
+    let is = found_own (given c.as_slice-all.ensures.value c.segments.invariant) in
     let p = err_from_is_err_and c.from_residual-in_err-edits.result
     c.from_residual-in_err-edits.ensures.1 in
-    let ds = c.in_ok-definitions in
-    let a = c.in_ok-allotment in
+    let ds = c.in_ok-definitions.ensures in
+    let a = c.in_ok-allotment.ensures in
     rw (p.1, p.2, ← c.segments.view_is, ← c.as_slice-all.ensures.value)
-    (references_stop c.segments.inside.order c.as_slice-all.result.now own is ds.definitions
-    ds.ensures.found ds.ensures.once c.next-base.result c.next-base.ensures
-    a.allotment a.ensures.found a.ensures.once c.words.result c.words.ensures
-    c.in_ok-size.ensures.fits c.of-units.result c.of-units.ensures c.in_err-edits.field-0.0
-    c.in_err-edits.ensures.stop)
+    (references_stop c.segments.inside.order c.as_slice-all.result.now is ds.found ds.once
+    c.next-base.ensures a.found a.once c.words.ensures c.in_ok-size.ensures.fits
+    c.of-units.ensures c.in_err-edits.field-0.0 c.in_err-edits.ensures.stop)
 
 pub invariant_of-result : goal.invariant_of-result
 invariant_of-result g c =
     let known = given c.as_slice-all.ensures.value c.segments.invariant in
-    let own = own_of c.segments.inside.own in
     let is = found_own known in
-    let ds = c.in_ok-definitions in
-    let a = c.in_ok-allotment in
+    let ds = c.in_ok-definitions.ensures in
+    let a = c.in_ok-allotment.ensures in
     let size = c.in_ok-size.ensures in
     let edits = c.in_ok-edits in (
       sym (length-map edits.edits.items (λ e. e.items))
-          ∙ as_many c.segments.inside.order c.as_slice-all.result.now own is ds.definitions
-          ds.ensures.found ds.ensures.once c.next-base.result c.next-base.ensures
-          a.allotment a.ensures.found a.ensures.once c.words.result c.words.ensures size.fits
-          c.of-units.result c.of-units.ensures
-          known.one_host c.edit.result (size.edit
-          ∙ ap (λ (e : Edit). e ∷ []) (sym c.edit.ensures))
+          ∙ as_many c.segments.inside.order c.as_slice-all.result.now is ds.found ds.once
+          c.next-base.ensures a.found a.once c.words.ensures size.fits c.of-units.ensures
+          known.one_host
+          (size.edit ∙ ap (λ (e : Edit). e ∷ []) (sym c.edit.ensures))
           (map (λ e. e.items) edits.edits.items) edits.ensures.links
           c.sources_of-sources.result.items c.sources_of-sources.ensures,
       c.segments.invariant.whole,
@@ -126,32 +103,26 @@ invariant_of-result g c =
 pub returns-clause-plan : goal.returns-clause-plan
 returns-clause-plan g c =
     let known = given c.as_slice-all.ensures.value c.segments.invariant in
-    let own = own_of c.segments.inside.own in
     let is = found_own known in
     let order = c.segments.inside.order in
     let ss : List Segment = c.as_slice-all.result.now in
-    let ds = c.in_ok-definitions in
-    let a = c.in_ok-allotment in
+    let ds = c.in_ok-definitions.ensures in
+    let a = c.in_ok-allotment.ensures in
     let size = c.in_ok-size.ensures in
-    let edits = c.in_ok-edits in
-    let words = words_are order ss own is ds.definitions ds.ensures.found ds.ensures.once
-    c.next-base.result c.next-base.ensures a.allotment a.ensures.found a.ensures.once
-    c.words.result c.words.ensures in
-    let whole = allotment_is order ss own is ds.definitions ds.ensures.found ds.ensures.once
-    c.next-base.result c.next-base.ensures a.allotment a.ensures.found a.ensures.once
-    c.words.result c.words.ensures in
+    let words = words_are order ss is ds.found ds.once c.next-base.ensures a.found a.once
+    c.words.ensures in
+    let whole = allotment_is order ss is ds.found ds.once c.next-base.ensures a.found a.once
+    c.words.ensures in
     rw (← c.segments.view_is, ← c.as_slice-all.ensures.value) (record {
       order = refl;
       of_host = refl;
       names = known.named;
       origins = c.sources_of-sources.ensures;
-      edits = all_linked order ss own is ds.definitions ds.ensures.found ds.ensures.once
-          c.next-base.result c.next-base.ensures a.allotment a.ensures.found a.ensures.once
-          c.words.result c.words.ensures size.fits c.of-units.result c.of-units.ensures
-          known.one_host c.edit.result (size.edit
-          ∙ ap (λ (e : Edit). e ∷ []) (sym c.edit.ensures))
-          (map (λ e. e.items) edits.edits.items) edits.ensures.links;
-      definitions = ds.ensures.found ∙ ap definitions (sym (records_are order ss own is));
+      edits = all_linked order ss is ds.found ds.once c.next-base.ensures a.found a.once
+          c.words.ensures size.fits c.of-units.ensures known.one_host
+          (size.edit ∙ ap (λ (e : Edit). e ∷ []) (sym c.edit.ensures))
+          (map (λ e. e.items) c.in_ok-edits.edits.items) c.in_ok-edits.ensures.links;
+      definitions = ds.found ∙ ap definitions (sym (records_are order ss is));
       privates = ap (λ (b : Allotted). b.privates) whole;
       next_free = ap (λ (b : Allotted). b.next_free) whole;
       private_words = ap (λ (b : Allotted). b.words) whole;
@@ -160,13 +131,10 @@ returns-clause-plan g c =
 
 pub returns-clause-sound : goal.returns-clause-sound
 returns-clause-sound g c =
-    let known = given c.as_slice-all.ensures.value c.segments.invariant in
-    let own = own_of c.segments.inside.own in
-    let is = found_own known in
-    let ds = c.in_ok-definitions in
-    let a = c.in_ok-allotment in
+    let is = found_own (given c.as_slice-all.ensures.value c.segments.invariant) in
+    let ds = c.in_ok-definitions.ensures in
+    let a = c.in_ok-allotment.ensures in
     rw (← c.segments.view_is, ← c.as_slice-all.ensures.value)
-    (none_stands c.segments.inside.order c.as_slice-all.result.now own is ds.definitions
-    ds.ensures.found ds.ensures.once c.next-base.result c.next-base.ensures
-    a.allotment a.ensures.found a.ensures.once c.words.result c.words.ensures
-    c.in_ok-size.ensures.fits c.of-units.result c.of-units.ensures c.in_ok-edits.ensures.sound)
+    (none_stands c.segments.inside.order c.as_slice-all.result.now is ds.found ds.once
+    c.next-base.ensures a.found a.once c.words.ensures c.in_ok-size.ensures.fits
+    c.of-units.ensures c.in_ok-edits.ensures.sound)

@@ -1,5 +1,4 @@
-use Rattle.std.proofs.Common.{◌≡◌, map, take}
-use Rattle.ps_resolve.specs.Plans.{origin_of, origin_of_source}
+use Rattle.ps_resolve.proofs.Vocabulary.{◌≡◌, map, take, origin_of, origin_of_source}
 use Rattle.ps_resolve.proofs.linking.sources_of.Given as goal
 
 -- those so far are of the segments so far

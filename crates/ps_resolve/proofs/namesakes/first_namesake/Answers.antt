@@ -1,8 +1,4 @@
-use Rattle.std.proofs.Common.{arith, ◌≡◌, ◌+◌, ◌++◌, ◌∙◌, [], ◌∷◌, List, ℕ, ap, sym, subst}
-use Rattle.std.proofs.lemmas.Bool.{not-false, not-true}
-use Rattle.std.specs.List.{list_any}
-use Rattle.std.specs.Str.{bytes_eq}
-use Rattle.ps_linkinfo.specs.RecordCounts.{is_private_reference}
+use Rattle.ps_resolve.proofs.Vocabulary.{arith, ◌≡◌, ◌+◌, ◌++◌, ◌∙◌, [], ◌∷◌, List, ℕ, ap, sym, subst, bytes_eq, not-false, not-true, list_any, is_private_reference}
 use Rattle.ps_resolve.proofs.EarlierNames.{Scans, scan_end, scan_found, scan_more, scan_on, scans}
 use Rattle.ps_resolve.proofs.NumberedRecords.{one, none}
 use Rattle.ps_resolve.proofs.namesakes.first_namesake.Goals as goal
@@ -15,8 +11,7 @@ loop-rec-init g c =
 
 pub returns-then-not-branch-clause-found : goal.returns-then-not-branch-clause-found
 returns-then-not-branch-clause-found g c =
-    let step = one (Scans is_private_reference c.args.records.now c.loop-rec.names.keys) _ _ _
-    c.in-Some.record c.loop-rec.invariant c.in-Some.ensures.steps in
+    let step = one c.loop-rec.invariant c.in-Some.ensures.steps in
     scan_found _ _ _ _ _ _ step.2 (sym c.is_private.ensures ∙ c.if-is_private.true)
     (not-false _ (sym c.in_ok-insert.ensures.added ∙ c.if-not-branch.true))
 
@@ -26,8 +21,7 @@ loop-rec-preserved g c =
     let seen = c.loop-rec.names.keys in
     let rec = c.in-Some.rec in
     let r = c.in-Some.record in
-    let step = one (Scans is_private_reference all seen) _ _ rec r c.loop-rec.invariant
-    c.in-Some.ensures.steps in
+    let step = one c.loop-rec.invariant c.in-Some.ensures.steps in
     elim c.else-is_private.branch [
       | else-is_private-via-then-is_private+in_ok-insert+else-not-branch w ↦
           let is = sym c.is_private.ensures ∙ w.if-is_private.true in
@@ -55,6 +49,5 @@ loop-rec-preserved g c =
 
 pub returns-clause-found : goal.returns-clause-found
 returns-clause-found g c =
-    let end = none (Scans is_private_reference c.args.records.now c.loop-rec.names.keys)
-    c.loop-rec.rec-iterator c.loop-rec.invariant c.in-None.ensures.steps.0 in
+    let end = none c.loop-rec.invariant c.in-None.ensures.steps.0 in
     scan_end _ _ _ end.0 end.1

@@ -1,5 +1,5 @@
 use Rattle.std.proofs.Common.{arith, ◌∙◌, sym, append-nil}
-use Rattle.ps_resolve.proofs.EarlierNames.{AreNumbers, more_numbers, passed}
+use Rattle.ps_resolve.proofs.EarlierNames.{more_numbers, passed}
 use Rattle.ps_resolve.proofs.NumberedRecords.{one, none}
 use Rattle.ps_resolve.proofs.namesakes.numbers_of.Goals as goal
 
@@ -8,23 +8,17 @@ loop-record-init g c = grind arith
 
 pub loop-record-preserved-in-Continue-branch-2 : goal.loop-record-preserved-in-Continue-branch-2
 loop-record-preserved-in-Continue-branch-2 g c =
-    let xs = c.loop-record.numbers.items in
-    let r = c.in-Some.record in
-    let step = one (AreNumbers c.args.records.now xs) _ _ _ r c.loop-record.invariant
-    c.in-Some.ensures.steps in
+    let step = one c.loop-record.invariant c.in-Some.ensures.steps in
     grind (arith, more_numbers)
 
 pub loop-record-preserved : goal.loop-record-preserved
 loop-record-preserved g c =
-    let xs = c.loop-record.numbers.items in
-    let r = c.in-Some.record in
-    let step = one (AreNumbers c.args.records.now xs) _ _ _ r c.loop-record.invariant
-    c.in-Some.ensures.steps in
+    let step = one c.loop-record.invariant c.in-Some.ensures.steps in
     grind (arith, passed)
 
 pub returns-clause-numbers : goal.returns-clause-numbers
 returns-clause-numbers g c =
     let xs = c.loop-record.numbers.items in
     sym (append-nil xs) ∙
-    (none (AreNumbers c.args.records.now xs) _ c.loop-record.invariant
+    (none c.loop-record.invariant
     c.in-None.ensures.steps.0).1

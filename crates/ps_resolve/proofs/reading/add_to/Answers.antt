@@ -1,9 +1,4 @@
-use Rattle.std.proofs.Common.{◌≡◌, ◌∙◌, ◌-◌, ◌+◌, ◌++◌, ℕ, List, [], length, take, refl, sym, ap, subst, arith}
-use Rattle.std.specs.List.{slice_get}
-use Rattle.ps_resolve.specs.Sources.{Segment, opened, contents, units_of}
-use Rattle.ps_resolve.specs.Added.{RoundsOutcome, all_unit_references, empty_slots, requested_from, rounds_from}
-use Rattle.ps_resolve.specs.Readings.{read_rounds}
-use Rattle.ps_resolve.specs.KnownSegments.{segments_in_slots, AreAlike}
+use Rattle.ps_resolve.proofs.Vocabulary.{◌≡◌, ◌∙◌, ◌-◌, ◌+◌, ◌++◌, ℕ, List, [], length, take, refl, sym, ap, subst, arith, slice_get, Segment, opened, contents, units_of, RoundsOutcome, all_unit_references, empty_slots, requested_from, rounds_from, read_rounds, segments_in_slots, AreAlike}
 use Rattle.ps_resolve.proofs.RequestQueue.{references_both, requested-append, few_kept}
 use Rattle.ps_resolve.proofs.ReadingSlots.{all_of, in_rounds, requests_of}
 use Rattle.ps_resolve.proofs.SharedRecords.{read_alike}

@@ -1,9 +1,4 @@
-use Rattle.std.proofs.Common.{◌≡◌, ◌==◌, drop}
-use Rattle.std.specs.Prelude.{option_and_then}
-use Rattle.std.specs.List.{enumerate_from, find, slice_get}
-use Rattle.std.specs.Option.{option_map}
-use Rattle.ps_resolve.specs.Added.{request_of}
-use Rattle.ps_resolve.specs.Readings.{queued_request}
+use Rattle.ps_resolve.proofs.Vocabulary.{◌≡◌, ◌==◌, drop, option_and_then, option_map, enumerate_from, find, slice_get, request_of, queued_request}
 use Rattle.ps_resolve.proofs.reading.queued_request.Given as goal
 
 -- the slot is the first of those that are left, where it is one of all

@@ -1,6 +1,4 @@
-use Rattle.std.proofs.Common.{◌≡◌, drop}
-use Rattle.std.specs.List.{find}
-use Rattle.ps_resolve.specs.KnownSegments.{is_in_slot}
+use Rattle.ps_resolve.proofs.Vocabulary.{◌≡◌, drop, find, is_in_slot}
 use Rattle.ps_resolve.proofs.reading.segment_in.Given as goal
 
 -- the segment is looked for in what is left

@@ -1,8 +1,4 @@
-use Rattle.std.proofs.Common.{◌≡◌, ◌<◌, ◌≤◌, ◌∙◌, length, take, map, ℕ, sym, subst, arith}
-use Rattle.std.specs.List.{range_with_len}
-use Rattle.std.proofs.lemmas.List.{take_all}
-use Rattle.std.proofs.lemmas.List.FromFn.{map-range_with_len_more}
-use Rattle.std.proofs.lemmas.Grind.{common_steps}
+use Rattle.ps_resolve.proofs.Vocabulary.{◌≡◌, ◌<◌, ◌≤◌, ◌∙◌, length, take, map, ℕ, sym, subst, arith, take_all, range_with_len, map-range_with_len_more, common_steps}
 use Rattle.ps_resolve.specs.Added.{slot_name, slot_names}
 use Rattle.ps_resolve.proofs.reading.slot_names.Goals as goal
 

@@ -1,12 +1,9 @@
-use Rattle.std.proofs.Common.{◌≡◌, length, take, map}
-use Rattle.std.specs.List.{range_with_len}
-use Rattle.ps_resolve.specs.Added.{slot_name}
+use Rattle.ps_resolve.proofs.Vocabulary.{◌≡◌, length, take, map, range_with_len, slot_name}
 use Rattle.ps_resolve.proofs.reading.slot_names.Given as goal
 
 -- the names so far
 abbrev pub invariant-loop-slot : goal.invariant-loop-slot
 invariant-loop-slot l = record {
   all : length l.names ≡ 16;
-  done : take l.slot l.names ≡ map (slot_name l.host.file l.segments)
-      (range_with_len 0 l.slot);
+  done : take l.slot l.names ≡ map (slot_name l.host.file l.segments) (range_with_len 0 l.slot);
 }

@@ -1,7 +1,4 @@
-use Rattle.std.proofs.Common.{◌≡◌, ℕ, List, Ok, Some, refl, sym, ◌∙◌, ap}
-use Rattle.ps_codefile.specs.Dictionary.{OpenedFile, opened_alone}
-use Rattle.ps_resolve.specs.Sources.{contents}
-use Rattle.ps_resolve.specs.Readings.{HostFiles, opened_host, own_reading_fault}
+use Rattle.ps_resolve.proofs.Vocabulary.{◌≡◌, ℕ, List, Ok, Some, refl, sym, ◌∙◌, ap, OpenedFile, opened_alone, contents, HostFiles, opened_host, own_reading_fault}
 use Rattle.ps_resolve.proofs.FirstFaults.{first_read}
 use Rattle.ps_resolve.proofs.ReadingSlots.{fault_of_host, first_own}
 use Rattle.ps_resolve.proofs.resolving.link_opened.Goals as goal

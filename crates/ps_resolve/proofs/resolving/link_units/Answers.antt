@@ -1,20 +1,5 @@
-use Rattle.std.proofs.Common.{◌≡◌, ◌≤◌, ℕ, List, length, map, Bool, true, false, if◌then◌else◌, Option, None, Ok, Err, is_some, refl, sym, ◌∙◌, ap, subst, arith}
-use Rattle.std.proofs.Math.Dec.{ltb}
-use Rattle.std.proofs.lemmas.Bool.Decides.{nat_tests}
-use Rattle.std.specs.Prelude.{IfOk}
-use Rattle.std.proofs.lemmas.Result.{IfErr-weaker, IfOk-weaker}
-use Rattle.ps_words.specs.declared.fault.Fault.{Fault}
-use Rattle.ps_words.specs.declared.order.Order.{Order}
+use Rattle.ps_resolve.proofs.Vocabulary.{◌≡◌, ◌≤◌, ℕ, List, length, map, Bool, true, false, if◌then◌else◌, Option, None, Ok, Err, is_some, refl, sym, ◌∙◌, ap, subst, arith, ltb, IfOk, nat_tests, IfErr-weaker, IfOk-weaker, Fault, Order, OpenedFile, FileOrder, file_order, opened_alone, opened_as, Segment, contents, host_of, opened_files, order_of, segments, slot_names, linking_fault, AscendFrom, HasOneHost, first_fault, reading_fault, AreOfLink, AreStopped, IsPlanOf, IsStopped, all_read, host_reading_fault, own_reading_fault, read_rounds}
 use Rattle.ps_words.specs.declared.fault.Reason.TheVariants as reason
-use Rattle.ps_codefile.specs.Dictionary.{OpenedFile, FileOrder, file_order, opened_alone, opened_as}
-use Rattle.ps_resolve.specs.Sources.{Segment, contents, host_of, opened_files, order_of}
-use Rattle.ps_resolve.specs.Added.{segments, slot_names}
-use Rattle.ps_resolve.specs.Faults.{linking_fault}
-use Rattle.ps_resolve.specs.Linkable.{AscendFrom, HasOneHost}
-use Rattle.ps_resolve.specs.AllFaults.{first_fault, reading_fault}
-use Rattle.ps_resolve.specs.OfLink.{AreOfLink}
-use Rattle.ps_resolve.specs.Plans.{AreStopped, IsPlanOf, IsStopped}
-use Rattle.ps_resolve.specs.Readings.{all_read, host_reading_fault, own_reading_fault, read_rounds}
 use Rattle.ps_resolve.proofs.FirstFaults.{first_read, first_linked, stopped}
 use Rattle.ps_resolve.proofs.OfLink.{has_host, of_link, slots_fine}
 use Rattle.ps_resolve.proofs.ReadingHosts.{host_is, host_read}

@@ -1,5 +1,4 @@
-use Rattle.std.proofs.Common.{◌∙◌, Some, sym, ap, map}
-use Rattle.ps_words.specs.declared.fault.Fault.{Fault}
+use Rattle.ps_resolve.proofs.Vocabulary.{◌∙◌, Some, sym, ap, map, Fault}
 use Rattle.ps_resolve.proofs.FirstFaults.{first_read}
 use Rattle.ps_resolve.proofs.ReadingHosts.{host_refused}
 use Rattle.ps_resolve.proofs.resolving.resolve_with_segments.Goals as goal

@@ -1,14 +1,9 @@
-use Rattle.std.proofs.Common.{arith}
 use Rattle.ps_linkfile.proofs.Vocabulary.{err_from_is_err_and}
-use Rattle.ps_linkfile.proofs.Prefixes.{on_err_always}
-use Rattle.ps_linkfile.proofs.Rising.{by_pieces, if_device, if_stalled, room_for_a_file}
+use Rattle.ps_linkfile.proofs.Rising.{if_device, if_stalled, room_for_a_file}
 use Rattle.ps_linkfile.proofs.linked.Linked.write_told.Goals as goal
 
 pub write_file-requires-clause-room : goal.write_file-requires-clause-room
 write_file-requires-clause-room g c = room_for_a_file _ c.requires
-
-pub returns-in_err-write_file-clause-prefix : goal.returns-in_err-write_file-clause-prefix
-returns-in_err-write_file-clause-prefix g c = grind (arith, on_err_always)
 
 pub returns-in_err-write_file-clause-device : goal.returns-in_err-write_file-clause-device
 returns-in_err-write_file-clause-device g c =
@@ -19,9 +14,3 @@ pub returns-in_err-write_file-clause-stalled : goal.returns-in_err-write_file-cl
 returns-in_err-write_file-clause-stalled g c =
     let p = err_from_is_err_and c.from_residual.result c.from_residual.ensures.1 in
     rw (p.1, p.2) (if_stalled _ _ c.requires _ c.in_err-write_file.ensures.failed)
-
-pub returns-in_err-write_file-clause-blocks : goal.returns-in_err-write_file-clause-blocks
-returns-in_err-write_file-clause-blocks g c = grind (arith, by_pieces)
-
-pub returns-clause-blocks : goal.returns-clause-blocks
-returns-clause-blocks g c = grind (arith, by_pieces)

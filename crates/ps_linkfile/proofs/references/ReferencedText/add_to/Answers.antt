@@ -1,5 +1,4 @@
-use Rattle.std.proofs.Common.{◌≡◌, List, ap}
-use Rattle.ps_linkfile.proofs.Vocabulary.{StoredIn, references_in}
+use Rattle.ps_linkfile.proofs.Vocabulary.{StoredIn, references_in, ◌≡◌, List, ap}
 use Rattle.ps_linkfile.specs.ReferencesJson.{Referenced, referenced_in}
 use Rattle.ps_linkfile.proofs.Written.{adds_is, ◌⨾◌}
 use Rattle.ps_linkfile.proofs.references.ReferencedText.add_to.Goals as goal

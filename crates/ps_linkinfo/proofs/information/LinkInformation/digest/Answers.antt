@@ -1,6 +1,5 @@
-use Rattle.std.proofs.Common.{◌∙◌, List, ℕ, ap, sym, refl}
+use Rattle.ps_linkinfo.proofs.Vocabulary.{◌∙◌, List, ℕ, ap, sym, refl, Record}
 use Rattle.std.specs.declared.hash.DefaultHasher.{DefaultHasher}
-use Rattle.ps_linkinfo.specs.declared.record.LinkRecord.{LinkRecord as Record}
 use Rattle.ps_linkinfo.proofs.Digests.{with_left, all_left, taken, passed}
 use Rattle.ps_linkinfo.proofs.information.LinkInformation.digest.Goals as goal
 
@@ -9,8 +8,7 @@ loop-record-init c =
     let d = c.new-digest.result in
     ap (λ (xs : List (ℕ × Record)). with_left d xs)
     (c.into_iter-record-iterator.ensures.into_iter_gives ∙ c.records-record-items.ensures)
-    ∙ all_left c.args.self.now 0 d
-    ∙ rw c.new-digest.ensures refl
+    ∙ all_left c.args.self.now 0 d ∙ rw c.new-digest.ensures refl
 
 pub loop-record-preserved-then-declares_name : goal.loop-record-preserved-then-declares_name
 loop-record-preserved-then-declares_name c =

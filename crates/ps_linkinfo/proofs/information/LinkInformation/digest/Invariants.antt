@@ -1,5 +1,4 @@
-use Rattle.std.proofs.Common.{◌≡◌}
-use Rattle.ps_linkinfo.specs.RecordCounts.{digest_of}
+use Rattle.ps_linkinfo.proofs.Vocabulary.{◌≡◌, digest_of}
 use Rattle.ps_linkinfo.proofs.Digests.{with_left}
 use Rattle.ps_linkinfo.proofs.information.LinkInformation.digest.Given as goal
 

@@ -1,5 +1,4 @@
-use Rattle.std.proofs.Common.{◌≡◌, ◌∙◌, ◌∷◌, List, ℕ, true, false, Some, ap, sym, refl}
-use Rattle.ps_linkinfo.specs.declared.record.LinkRecord.{LinkRecord as Record}
+use Rattle.ps_linkinfo.proofs.Vocabulary.{◌≡◌, ◌∙◌, ◌∷◌, List, ℕ, true, false, Some, ap, sym, refl, Record}
 use Rattle.ps_linkinfo.specs.declared.sort.Sort.{Sort}
 use Rattle.ps_linkinfo.specs.Sorts.{first_named, is_named}
 use Rattle.ps_linkinfo.proofs.information.LinkInformation.find.Goals as goal

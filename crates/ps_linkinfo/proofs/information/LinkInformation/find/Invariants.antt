@@ -1,5 +1,4 @@
-use Rattle.std.proofs.Common.{◌≡◌}
-use Rattle.ps_linkinfo.specs.Numbered.{numbered_records}
+use Rattle.ps_linkinfo.proofs.Vocabulary.{◌≡◌, numbered_records}
 use Rattle.ps_linkinfo.specs.Sorts.{first_named}
 use Rattle.ps_linkinfo.proofs.information.LinkInformation.find.Given as goal
 

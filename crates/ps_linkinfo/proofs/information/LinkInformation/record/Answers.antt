@@ -1,5 +1,4 @@
-use Rattle.std.proofs.Common.{◌≡◌, ◌∙◌, ◌-◌, ℕ, ap, sym, arith}
-use Rattle.std.specs.Prelude.{slice_get}
+use Rattle.std.proofs.Common.{◌≡◌, ◌∙◌, ◌-◌, ℕ, ap, sym, arith, slice_get}
 use Rattle.ps_linkinfo.proofs.AtIndex.{found, missing, passed}
 use Rattle.ps_linkinfo.proofs.information.LinkInformation.record.Goals as goal
 

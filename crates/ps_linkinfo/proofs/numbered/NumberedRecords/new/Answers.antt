@@ -1,8 +1,5 @@
-use Rattle.std.proofs.Common.{◌≡◌, ◌∙◌, List, ap, arith, length}
+use Rattle.ps_linkinfo.proofs.Vocabulary.{◌≡◌, ◌∙◌, List, ap, arith, length, numbered_records, reading, Record}
 use Rattle.ps_linkinfo.specs.Left.{records_left}
-use Rattle.ps_linkinfo.specs.Numbered.{numbered_records}
-use Rattle.ps_linkinfo.specs.Records.{reading}
-use Rattle.ps_linkinfo.specs.declared.record.LinkRecord.{LinkRecord as Record}
 use Rattle.ps_linkinfo.proofs.Walks.{few, records_first}
 use Rattle.ps_linkinfo.proofs.numbered.NumberedRecords.new.Goals as goal
 

@@ -1,6 +1,4 @@
-use Rattle.std.proofs.Common.{◌≡◌, ◌++◌, ◌∷◌, ◌∙◌, [], arith, ap, sym, subst}
-use Rattle.ps_linkinfo.specs.RecordCounts.{references_in}
-use Rattle.ps_linkinfo.specs.Walk.{Walk, whole_walk}
+use Rattle.ps_linkinfo.proofs.Vocabulary.{◌≡◌, ◌++◌, ◌∷◌, ◌∙◌, [], arith, ap, sym, subst, references_in, Walk, whole_walk}
 use Rattle.ps_linkinfo.specs.declared.record_counts.RecordCounts.{RecordCounts}
 use Rattle.ps_linkinfo.proofs.Tallies.{few_records, few_references}
 use Rattle.ps_linkinfo.proofs.Walks.{Walked, walked_first, walked_more, walked_fits, walked_on}

@@ -1,6 +1,4 @@
-use Rattle.std.proofs.Common.{◌≡◌, List}
-use Rattle.ps_linkinfo.specs.RecordCounts.{record_counts_of}
-use Rattle.ps_linkinfo.specs.declared.record.LinkRecord.{LinkRecord as Record}
+use Rattle.ps_linkinfo.proofs.Vocabulary.{◌≡◌, List, record_counts_of, Record}
 use Rattle.ps_linkinfo.proofs.Walks.{Walked}
 use Rattle.ps_linkinfo.proofs.record_counts.RecordCounts.read.Given as goal
 

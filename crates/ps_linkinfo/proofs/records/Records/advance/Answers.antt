@@ -1,5 +1,4 @@
-use Rattle.std.proofs.Common.{◌∙◌, List, ℕ, drop, sym, ap, refl, subst}
-use Rattle.ps_linkinfo.specs.Records.{BeginsWith, bad}
+use Rattle.ps_linkinfo.proofs.Vocabulary.{◌∙◌, List, ℕ, drop, sym, ap, refl, subst, BeginsWith, bad}
 use Rattle.ps_linkinfo.specs.Left.{items_left}
 use Rattle.ps_linkinfo.proofs.Steps.{left_end, left_next}
 use Rattle.ps_linkinfo.proofs.records.Records.advance.Goals as goal

@@ -1,8 +1,4 @@
-use Rattle.std.proofs.Common.{◌≡◌, ◌∷◌, [], rules, ℕ, List, map, arith, refl, sym, subst, ap}
-use Rattle.std.proofs.lemmas.Result.{IfOk-weaker}
-use Rattle.ps_resolve.specs.Linkable.{AscendFrom}
-use Rattle.ps_resolve.specs.Offsets.{FollowOn}
-use Rattle.ps_resolve.specs.Privates.{Allotted, allotment_of, owner_of_linkage}
+use Rattle.ps_resolve.proofs.Vocabulary.{◌≡◌, ◌∷◌, [], rules, ℕ, List, map, arith, refl, sym, subst, ap, IfOk-weaker, AscendFrom, FollowOn, Allotted, allotment_of, owner_of_linkage}
 use Rattle.ps_resolve.specs.declared.linkage.Linkage.{Linkage}
 use Rattle.ps_resolve.proofs.Builders.{distinct_names, room, not_allotted, by_record, requested, summed}
 use Rattle.ps_resolve.proofs.PrivatesFollow.{follow}

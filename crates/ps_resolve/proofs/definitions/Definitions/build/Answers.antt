@@ -1,10 +1,4 @@
-use Rattle.std.proofs.Common.{arith, ◌≡◌, List, None, sym, ap, ◌∙◌}
-use Rattle.std.proofs.lemmas.Result.{IfOk-weaker}
-use Rattle.ps_linkinfo.specs.Records.{reading}
-use Rattle.ps_linkinfo.specs.declared.record.LinkRecord.{LinkRecord as Record}
-use Rattle.ps_resolve.specs.Builders.{HaveNoNamesakes}
-use Rattle.ps_linkinfo.specs.RecordCounts.{is_definition}
-use Rattle.ps_resolve.specs.Symbols.{first_duplicate}
+use Rattle.ps_resolve.proofs.Vocabulary.{arith, ◌≡◌, List, None, sym, ap, ◌∙◌, IfOk-weaker, reading, Record, HaveNoNamesakes, is_definition, first_duplicate}
 use Rattle.ps_resolve.proofs.Builders.{defined_once, stops_definitions}
 use Rattle.ps_resolve.proofs.definitions.Definitions.build.Goals as goal
 

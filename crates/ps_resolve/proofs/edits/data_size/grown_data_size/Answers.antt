@@ -1,13 +1,5 @@
-use Rattle.std.proofs.Common.{◌≡◌, ℕ, ◌+◌, ◌-◌, ◌&&◌, true, arith}
-use Rattle.std.specs.Prelude.{nat_le, nat_lt}
-use Rattle.std.proofs.lemmas.Bool.{or_right}
-use Rattle.std.proofs.lemmas.Bool.Decides.{nat_tests}
-use Rattle.ps_words.specs.Edits.{covers}
+use Rattle.ps_resolve.proofs.Vocabulary.{◌≡◌, ℕ, ◌+◌, ◌-◌, ◌&&◌, true, arith, nat_le, nat_lt, or_right, nat_tests, covers, Order, procedures, table_of, is_reserved, IsOfTable, IsHost}
 use Rattle.ps_words.specs.declared.edit.Edit.TheVariants.{Word}
-use Rattle.ps_words.specs.declared.order.Order.{Order}
-use Rattle.ps_codefile.specs.Procedures.{procedures, table_of, is_reserved}
-use Rattle.ps_resolve.specs.Edits.{IsOfTable}
-use Rattle.ps_resolve.specs.Linkable.{IsHost}
 use Rattle.ps_resolve.specs.declared.reading.host.HostSegment.{HostSegment}
 use Rattle.ps_resolve.proofs.HostSegments.{some_table}
 use Rattle.ps_resolve.proofs.edits.data_size.grown_data_size.Goals as goal

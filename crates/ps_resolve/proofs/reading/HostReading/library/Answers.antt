@@ -1,13 +1,4 @@
-use Rattle.std.proofs.Common.{arith, ◌≡◌, ◌∙◌, ℕ, List, Bor, Some, Result, length, refl, sym, ap}
-use Rattle.std.specs.List.{slice_get}
-use Rattle.std.specs.Option.{option_map}
-use Rattle.std.proofs.lemmas.Option.{slice_get-map, slice_get_read}
-use Rattle.std.proofs.lemmas.Bool.{ltb-true}
-use Rattle.ps_words.specs.declared.order.Order.{Order}
-use Rattle.ps_words.specs.declared.fault.Reason.{Reason}
-use Rattle.ps_codefile.specs.Dictionary.{OpenedFile, opened_beside}
-use Rattle.ps_resolve.specs.Sources.{contents}
-use Rattle.ps_resolve.specs.Readings.{HostFiles}
+use Rattle.ps_resolve.proofs.Vocabulary.{arith, ◌≡◌, ◌∙◌, ℕ, List, Bor, Some, Result, length, refl, sym, ap, slice_get, option_map, ltb-true, slice_get-map, slice_get_read, Order, Reason, OpenedFile, opened_beside, contents, HostFiles}
 use Rattle.ps_resolve.proofs.reading.HostReading.library.Goals as goal
 
 pub returns-in-Some : goal.returns-in-Some

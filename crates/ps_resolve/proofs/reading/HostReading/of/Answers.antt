@@ -1,7 +1,4 @@
-use Rattle.std.proofs.Common.{◌≡◌, ◌∙◌, ℕ, List, Bor, ap}
-use Rattle.ps_codefile.specs.Dictionary.{OpenedFile}
-use Rattle.ps_resolve.specs.Sources.{contents}
-use Rattle.ps_resolve.specs.Readings.{HostFiles}
+use Rattle.ps_resolve.proofs.Vocabulary.{◌≡◌, ◌∙◌, ℕ, List, Bor, ap, OpenedFile, contents, HostFiles}
 use Rattle.ps_resolve.proofs.ReadingSlots.{units_last}
 use Rattle.ps_resolve.proofs.reading.HostReading.of.Goals as goal
 

@@ -1,7 +1,5 @@
-use Rattle.std.proofs.Common.{rules, arith, ◌≡◌, ◌∙◌, ℕ, List, sym, ap}
-use Rattle.ps_resolve.specs.Sources.{contents, opened_files}
-use Rattle.ps_resolve.specs.Readings.{HostFiles, queued_request, read_requests, slot_request}
-use Rattle.ps_resolve.specs.declared.reading.added.UnitReference.{UnitReference}
+use Rattle.ps_resolve.proofs.Vocabulary.{rules, ◌≡◌, ◌∙◌, ℕ, List, sym, ap, contents, opened_files, HostFiles, queued_request, UnitReference}
+use Rattle.ps_resolve.specs.Readings.{read_requests, slot_request}
 use Rattle.ps_resolve.proofs.ReadingSlots.{request_by}
 use Rattle.ps_resolve.proofs.reading.HostReading.request.Goals as goal
 
@@ -9,9 +7,6 @@ seen : (a b : HostFiles) (slot : ℕ) → a ≡ b
     → slot_request a.order a.file (opened_files a.order a.libs) slot
     ≡ slot_request b.order b.file (opened_files b.order b.libs) slot
 seen a b slot e = search rules
-
-pub returns-in-Some : goal.returns-in-Some
-returns-in-Some c = grind arith
 
 pub returns : goal.returns
 returns c =

@@ -1,14 +1,6 @@
-use Rattle.std.proofs.Common.{arith, sym}
-use Rattle.ps_resolve.specs.Sources.{Segment, contents, opened_files}
-use Rattle.ps_resolve.specs.KnownSegments.{IsRead, is_in_slot}
+use Rattle.ps_resolve.proofs.Vocabulary.{arith, sym, Segment, contents, opened_files, IsRead, is_in_slot}
 use Rattle.ps_resolve.proofs.EachSegment.{find_has}
 use Rattle.ps_resolve.proofs.reading.HostReading.segment.Goals as goal
-
-pub returns-in-None-clause-none : goal.returns-in-None-clause-none
-returns-in-None-clause-none c = grind arith
-
-pub returns-in-Some-segment_in-clause-read : goal.returns-in-Some-segment_in-clause-read
-returns-in-Some-segment_in-clause-read c = grind arith
 
 pub returns-in-Some-segment_in-clause-sound : goal.returns-in-Some-segment_in-clause-sound
 returns-in-Some-segment_in-clause-sound c =

@@ -1,9 +1,5 @@
-use Rattle.std.proofs.Common.{arith, ◌∙◌, Some, sym, ap}
-use Rattle.ps_words.specs.declared.fault.Fault.{Fault}
-use Rattle.ps_resolve.specs.Sources.{contents}
-use Rattle.ps_resolve.specs.AllFaults.{reading_fault}
-use Rattle.ps_resolve.specs.Readings.{ReadFiles}
-use Rattle.ps_resolve.proofs.ReadingSlots.{fault_of_host, fault_of_none}
+use Rattle.ps_resolve.proofs.Vocabulary.{◌∙◌, Some, sym, ap, Fault, contents, reading_fault, ReadFiles}
+use Rattle.ps_resolve.proofs.ReadingSlots.{fault_of_none}
 use Rattle.ps_resolve.proofs.reading.Reading.fault.Goals as goal
 
 pub returns-in-Err : goal.returns-in-Err
@@ -12,6 +8,3 @@ returns-in-Err c =
     ∙ (sym (fault_of_none c.self.inside.file.now (contents c.self.inside.libs.now) c.in-Err.reason
     (sym c.self.invariant ∙ c.in-Err.is))
     ∙ ap (λ (v : ReadFiles). reading_fault v.host v.libs) c.self.view_is)
-
-pub returns-in-Ok : goal.returns-in-Ok
-returns-in-Ok c = grind (arith, fault_of_host)

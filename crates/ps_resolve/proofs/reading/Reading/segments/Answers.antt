@@ -1,9 +1,4 @@
-use Rattle.std.proofs.Common.{◌≡◌, ◌∙◌, None, subst, sym, ap}
-use Rattle.ps_resolve.specs.Sources.{contents, order_of}
-use Rattle.ps_resolve.specs.Added.{segments}
-use Rattle.ps_resolve.specs.AllFaults.{reading_fault}
-use Rattle.ps_resolve.specs.OfLink.{AreOfLink}
-use Rattle.ps_resolve.specs.Readings.{HostFiles, ReadFiles, host_reading_fault, segments_in, segments_read}
+use Rattle.ps_resolve.proofs.Vocabulary.{◌≡◌, ◌∙◌, None, subst, sym, ap, contents, order_of, segments, reading_fault, AreOfLink, HostFiles, ReadFiles, host_reading_fault, segments_in, segments_read}
 use Rattle.ps_resolve.proofs.OfLink.{of_link}
 use Rattle.ps_resolve.proofs.ReadingSlots.{fault_of_host, fault_of_none, host_of_files, segments_are}
 use Rattle.ps_resolve.proofs.reading.Reading.segments.Goals as goal

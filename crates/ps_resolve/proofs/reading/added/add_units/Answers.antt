@@ -1,13 +1,4 @@
-use Rattle.std.proofs.Common.{◌≡◌, ◌∙◌, ◌+◌, ◌++◌, ◌<◌, ◌∷◌, [], ℕ, List, length, length-append, take, drop, get_or, append-nil, Some, None, refl, sym, ap, subst, arith}
-use Rattle.std.proofs.lemmas.List.{get_or_default, drop_all}
-use Rattle.std.proofs.lemmas.List.Elements.{All-nil}
-use Rattle.std.proofs.lemmas.Result.{err_from_is_err_and}
-use Rattle.ps_words.specs.declared.fault.Fault.{Fault}
-use Rattle.ps_resolve.specs.Sources.{Segment, opened}
-use Rattle.ps_resolve.specs.Added.{RoundsOutcome, requested_from, unit_references, all_unit_references, rounds_from}
-use Rattle.ps_resolve.specs.Linkable.{AscendFrom}
-use Rattle.ps_resolve.specs.KnownSegments.{IsRead, put_by_slot, segments_in_slots}
-use Rattle.ps_resolve.specs.declared.reading.added.UnitReference.{UnitReference}
+use Rattle.ps_resolve.proofs.Vocabulary.{◌≡◌, ◌∙◌, ◌+◌, ◌++◌, ◌<◌, ◌∷◌, [], ℕ, List, length, length-append, take, drop, get_or, append-nil, Some, None, refl, sym, ap, subst, arith, get_or_default, drop_all, All-nil, err_from_is_err_and, Fault, Segment, opened, RoundsOutcome, requested_from, unit_references, all_unit_references, rounds_from, AscendFrom, IsRead, put_by_slot, segments_in_slots, UnitReference}
 use Rattle.ps_resolve.proofs.RequestQueue.{at_round, kept, no_name_left, no_slot_left, round_refused, round_adds, joined, joined_more, references_more, few_kept}
 use Rattle.ps_resolve.proofs.BySlot.{All-put, empty_ascend, new_in, own_table, put_table, room_in_table}
 use Rattle.ps_resolve.proofs.NextItems.{drop_at}

@@ -1,10 +1,4 @@
-use Rattle.std.proofs.Common.{◌≡◌, ◌<◌, ◌≤◌, ◌+◌, ℕ, List, length, take, drop}
-use Rattle.std.specs.Prelude.{All}
-use Rattle.ps_resolve.specs.Sources.{Segment, opened}
-use Rattle.ps_resolve.specs.Added.{all_unit_references, requested_from, rounds_from}
-use Rattle.ps_resolve.specs.Linkable.{AscendFrom}
-use Rattle.ps_resolve.specs.KnownSegments.{segments_in_slots, IsRead}
-use Rattle.ps_resolve.specs.declared.reading.added.UnitReference.{UnitReference}
+use Rattle.ps_resolve.proofs.Vocabulary.{◌≡◌, ◌<◌, ◌≤◌, ◌+◌, ℕ, List, length, take, drop, All, Segment, opened, all_unit_references, requested_from, rounds_from, AscendFrom, segments_in_slots, IsRead, UnitReference}
 use Rattle.ps_resolve.proofs.RequestQueue.{joined}
 use Rattle.ps_resolve.proofs.reading.added.add_units.Given as goal
 

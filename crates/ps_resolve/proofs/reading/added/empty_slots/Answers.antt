@@ -1,8 +1,5 @@
-use Rattle.std.proofs.Common.{◌∙◌, ◌<◌, ℕ, refl, arith, Bool}
-use Rattle.std.proofs.lemmas.List.Elements.{All-nil}
-use Rattle.ps_codefile.specs.Roles.{is_empty}
+use Rattle.ps_resolve.proofs.Vocabulary.{◌∙◌, ◌<◌, ℕ, refl, arith, Bool, All-nil, is_empty, is_role}
 use Rattle.ps_resolve.specs.Added.{empty_slots}
-use Rattle.ps_resolve.specs.Faults.{is_role}
 use Rattle.ps_resolve.proofs.RequestQueue.{filter_more, all_if, few_if}
 use Rattle.ps_resolve.proofs.reading.added.empty_slots.Goals as goal
 

@@ -1,9 +1,4 @@
-use Rattle.std.proofs.Common.{◌≡◌, ◌<◌, ◌≤◌, ◌+◌, ◌-◌, ◌++◌, length}
-use Rattle.std.specs.Prelude.{All}
-use Rattle.std.specs.List.{filter, range_with_len}
-use Rattle.ps_codefile.specs.Roles.{is_empty}
-use Rattle.ps_resolve.specs.Added.{empty_slots}
-use Rattle.ps_resolve.specs.Faults.{is_role}
+use Rattle.ps_resolve.proofs.Vocabulary.{◌≡◌, ◌<◌, ◌≤◌, ◌+◌, ◌-◌, ◌++◌, length, All, filter, range_with_len, is_empty, empty_slots, is_role}
 use Rattle.ps_resolve.proofs.reading.added.empty_slots.Given as goal
 
 -- the slots so far and the empty ones of those that are left are all

@@ -1,6 +1,5 @@
-use Rattle.std.proofs.Common.{arith, ◌∙◌, sym}
-use Rattle.std.proofs.lemmas.List.{take_all}
-use Rattle.ps_resolve.proofs.RequestQueue.{Enqueues, kept_more, no_references}
+use Rattle.std.proofs.Common.{arith, ◌∙◌, sym, take_all}
+use Rattle.ps_resolve.proofs.RequestQueue.{kept_more, no_references}
 use Rattle.ps_resolve.proofs.NumberedRecords.{one, none}
 use Rattle.ps_resolve.proofs.reading.added.enqueue_records.Goals as goal
 
@@ -17,14 +16,7 @@ loop-rec-init c = grind arith
 
 pub loop-rec-preserved : goal.loop-rec-preserved
 loop-rec-preserved c =
-    let units = c.args.units.now in
-    let s = c.args.place in
-    let old = c.loop-rec.queue.items in
-    let rec = c.in-Some.rec in
-    let r = c.in-Some.record in
-    let step = one (Enqueues units s.file s.slot c.args.records.now c.args.queue.now.items old)
-    c.loop-rec.rec-iterator c.next.new.self rec r c.loop-rec.invariant.left
-    c.in-Some.ensures.steps in
+    let step = one c.loop-rec.invariant.left c.in-Some.ensures.steps in
     grind (arith, kept_more)
 
 pub enqueue_record-requires : goal.enqueue_record-requires
@@ -32,9 +24,6 @@ enqueue_record-requires c = c.loop-rec.invariant.few
 
 pub returns : goal.returns
 returns c =
-    let s = c.args.place in
     let queue = c.loop-rec.queue.items in
-    let end = none (Enqueues c.args.units.now s.file s.slot c.args.records.now
-    c.args.queue.now.items queue) c.loop-rec.rec-iterator c.loop-rec.invariant.left
-    c.in-None.ensures.steps.0 in
+    let end = none c.loop-rec.invariant.left c.in-None.ensures.steps.0 in
     sym (take_all 10 queue c.loop-rec.invariant.few) ∙ end.1

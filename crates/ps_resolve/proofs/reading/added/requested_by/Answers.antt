@@ -1,11 +1,4 @@
-use Rattle.std.proofs.Common.{rules, ◌<◌, ℕ, List, length, take, subst, sym, arith}
-use Rattle.std.specs.Prelude.{All}
-use Rattle.std.proofs.lemmas.List.Elements.{All-take}
-use Rattle.ps_linkinfo.specs.declared.record.LinkRecord.{LinkRecord as Record}
-use Rattle.ps_resolve.specs.Sources.{Segment}
-use Rattle.ps_resolve.specs.Added.{AreAlreadyKnown}
-use Rattle.ps_resolve.specs.KnownSegments.{IsLike}
-use Rattle.ps_resolve.specs.declared.reading.added.UnitReference.{UnitReference}
+use Rattle.ps_resolve.proofs.Vocabulary.{rules, ◌<◌, ℕ, List, length, take, subst, sym, arith, All, All-take, Record, Segment, AreAlreadyKnown, IsLike, UnitReference}
 use Rattle.ps_resolve.proofs.KnownNames.{nothing_new, requested_more}
 use Rattle.ps_resolve.proofs.SharedRecords.{of_shared}
 use Rattle.ps_resolve.proofs.reading.added.requested_by.Goals as goal

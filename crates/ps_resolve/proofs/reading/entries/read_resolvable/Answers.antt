@@ -1,8 +1,4 @@
-use Rattle.std.proofs.Common.{arith, ◌≡◌, Option, Some, None}
-use Rattle.std.specs.Prelude.{Result, Err}
-use Rattle.ps_words.specs.declared.fault.Reason.{Reason}
-use Rattle.ps_codefile.specs.Procedures.{ProcedureTables, tables_fault, unless}
-use Rattle.ps_codefile.specs.Roles.{is_host}
+use Rattle.ps_resolve.proofs.Vocabulary.{arith, ◌≡◌, Option, Some, None, Result, Err, Reason, ProcedureTables, tables_fault, unless, is_host}
 use Rattle.ps_resolve.proofs.reading.entries.read_resolvable.Goals as goal
 
 why_of : (fault : Option Reason) (tables : ProcedureTables) (why : Reason)

@@ -1,5 +1,4 @@
-use Rattle.std.proofs.Common.{arith}
-use Rattle.ps_codefile.specs.Dictionary.{entry_at}
+use Rattle.ps_resolve.proofs.Vocabulary.{arith, entry_at}
 use Rattle.ps_resolve.proofs.ReadingCodes.{whole}
 use Rattle.ps_resolve.proofs.reading.entries.read_segment.Goals as goal
 

@@ -1,5 +1,4 @@
-use Rattle.std.proofs.Common.{◌≡◌, drop}
-use Rattle.ps_resolve.specs.Sources.{host_of}
+use Rattle.ps_resolve.proofs.Vocabulary.{◌≡◌, drop, host_of}
 use Rattle.ps_resolve.proofs.reading.host.host_of.Given as goal
 
 -- the host's segment is one of those that are left

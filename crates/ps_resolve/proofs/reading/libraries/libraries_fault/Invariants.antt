@@ -1,5 +1,4 @@
-use Rattle.std.proofs.Common.{◌≡◌}
-use Rattle.ps_resolve.specs.Faults.{libraries_fault}
+use Rattle.ps_resolve.proofs.Vocabulary.{◌≡◌, libraries_fault}
 use Rattle.ps_resolve.proofs.ReadingLibraries.{files, rest_of}
 use Rattle.ps_resolve.proofs.reading.libraries.libraries_fault.Given as goal
 

@@ -1,13 +1,4 @@
-use Rattle.std.proofs.Common.{◌∙◌, Some, sym, ap, subst}
-use Rattle.std.specs.Option.{option_map}
-use Rattle.std.proofs.lemmas.Result.{err_from_is_err_and}
-use Rattle.ps_words.specs.declared.fault.Fault.{Fault}
-use Rattle.ps_codefile.specs.Dictionary.{OpenedFile, kind_needs_linking}
-use Rattle.ps_codefile.specs.declared.entry.Role.TheVariants.{Wanted}
-use Rattle.ps_resolve.specs.Requests.{as_requested}
-use Rattle.ps_resolve.specs.KnownSegments.{IsRead}
-use Rattle.ps_resolve.specs.Sources.{file_at, segment_from, opened}
-use Rattle.ps_resolve.specs.Faults.{code_fault}
+use Rattle.ps_resolve.proofs.Vocabulary.{◌∙◌, Some, sym, ap, subst, option_map, err_from_is_err_and, Fault, OpenedFile, kind_needs_linking, Wanted, as_requested, IsRead, file_at, segment_from, opened, code_fault}
 use Rattle.ps_resolve.proofs.RequestedSegments.{brought_by, found_at, placed_by, placed_refused, read_marked}
 use Rattle.ps_resolve.proofs.ReadingUnits.{kind_is}
 use Rattle.ps_resolve.proofs.SharedRecords.{placed_in}

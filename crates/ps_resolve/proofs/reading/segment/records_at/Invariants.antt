@@ -1,5 +1,4 @@
-use Rattle.std.specs.Prelude.{◌≡◌, drop}
-use Rattle.ps_resolve.specs.KnownSegments.{has_records_at}
+use Rattle.ps_resolve.proofs.Vocabulary.{◌≡◌, drop, has_records_at}
 use Rattle.ps_resolve.proofs.reading.segment.records_at.Given as goal
 
 -- what is left has such a records where all have one

@@ -1,7 +1,4 @@
-use Rattle.std.proofs.Common.{◌≡◌, ◌∙◌, true, false, sym}
-use Rattle.std.specs.List.{list_any}
-use Rattle.ps_codefile.specs.Dictionary.{slots}
-use Rattle.ps_codefile.specs.Roles.{is_host}
+use Rattle.ps_resolve.proofs.Vocabulary.{◌≡◌, ◌∙◌, true, false, sym, list_any, slots, is_host}
 use Rattle.ps_resolve.specs.Faults.{is_role, no_host_fault}
 use Rattle.ps_resolve.proofs.reading.slots.no_host_fault.Goals as goal
 

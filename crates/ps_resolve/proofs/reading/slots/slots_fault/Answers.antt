@@ -1,6 +1,4 @@
-use Rattle.std.proofs.Common.{arith, ℕ, refl}
-use Rattle.std.specs.Option.{option_map}
-use Rattle.ps_words.specs.FaultPlaces.{in_slot}
+use Rattle.ps_resolve.proofs.Vocabulary.{arith, ℕ, refl, option_map, in_slot}
 use Rattle.ps_resolve.specs.Faults.{slot_reason, slots_fault}
 use Rattle.ps_resolve.proofs.FirstSlots.{first_here, first_later}
 use Rattle.ps_resolve.proofs.reading.slots.slots_fault.Goals as goal

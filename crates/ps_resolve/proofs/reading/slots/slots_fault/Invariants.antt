@@ -1,9 +1,4 @@
-use Rattle.std.proofs.Common.{◌≡◌, ℕ, ◌-◌}
-use Rattle.std.specs.List.{range_with_len}
-use Rattle.std.specs.Option.{option_map}
-use Rattle.ps_words.specs.FaultPlaces.{in_slot}
-use Rattle.ps_resolve.specs.Searches.{first_of}
-use Rattle.ps_resolve.specs.Faults.{slot_reason, slots_fault}
+use Rattle.ps_resolve.proofs.Vocabulary.{◌≡◌, ℕ, ◌-◌, option_map, range_with_len, in_slot, first_of, slot_reason, slots_fault}
 use Rattle.ps_resolve.proofs.reading.slots.slots_fault.Given as goal
 
 -- the first fault is that of the slots from here on

@@ -1,10 +1,4 @@
-use Rattle.std.proofs.Common.{rules, arith, ◌∙◌, ℕ, List, sym, ap, subst}
-use Rattle.std.proofs.lemmas.Result.{err_from_is_err_and}
-use Rattle.ps_codefile.specs.Dictionary.{OpenedFile}
-use Rattle.ps_codefile.specs.declared.entry.Entry.{Entry}
-use Rattle.ps_resolve.specs.Sources.{segment_from, opened}
-use Rattle.ps_resolve.specs.Faults.{code_fault}
-use Rattle.ps_resolve.specs.KnownSegments.{IsRead}
+use Rattle.ps_resolve.proofs.Vocabulary.{rules, arith, ◌∙◌, ℕ, List, sym, ap, subst, err_from_is_err_and, OpenedFile, Entry, segment_from, opened, code_fault, IsRead}
 use Rattle.ps_resolve.proofs.ReadingSources.{own_fault, read_from_host}
 use Rattle.ps_resolve.proofs.RequestedSegments.{wanted_is, wanted_segment}
 use Rattle.ps_resolve.proofs.reading.sources.read_slot.Goals as goal

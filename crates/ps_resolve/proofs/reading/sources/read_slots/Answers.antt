@@ -1,15 +1,6 @@
-use Rattle.std.proofs.Common.{rules, ◌≡◌, ◌+◌, ◌<◌, ◌∙◌, ◌-◌, ℕ, List, append-nil, if◌then◌else◌, true, Option, Some, None, Result, Ok, Err, refl, sym, arith}
-use Rattle.std.specs.Prelude.{is_none, IfOk, IfSome, option_and_then}
-use Rattle.std.specs.List.{range_with_len}
-use Rattle.std.specs.Option.{option_or}
-use Rattle.std.specs.Result.{result_err, result_ok}
-use Rattle.std.proofs.lemmas.List.Elements.{All-nil}
-use Rattle.ps_words.specs.declared.fault.Fault.{Fault}
-use Rattle.ps_resolve.specs.Sources.{Segment, opened}
-use Rattle.ps_codefile.specs.Roles.{is_empty}
+use Rattle.ps_resolve.proofs.Vocabulary.{rules, ◌≡◌, ◌+◌, ◌<◌, ◌∙◌, ◌-◌, ℕ, List, append-nil, if◌then◌else◌, true, Option, Some, None, Result, Ok, Err, refl, sym, arith, is_none, IfOk, IfSome, option_and_then, range_with_len, option_or, result_err, result_ok, All-nil, Fault, Segment, opened, is_empty, first_of}
 use Rattle.ps_resolve.specs.Faults.{is_role, source_fault, sources_fault}
 use Rattle.ps_resolve.specs.Readings.{read_segment, read_segments}
-use Rattle.ps_resolve.specs.Searches.{first_of}
 use Rattle.ps_resolve.proofs.BySlot.{fine_of_empty, none_of_empty}
 use Rattle.ps_resolve.proofs.ReadingSources.{all_with, kept_on, few_more}
 use Rattle.ps_resolve.proofs.reading.sources.read_slots.Goals as goal

@@ -1,12 +1,4 @@
-use Rattle.std.proofs.Common.{◌≡◌, ◌≤◌, ◌-◌, ◌++◌, length}
-use Rattle.std.specs.Prelude.{All}
-use Rattle.std.specs.List.{filter_map, range_with_len}
-use Rattle.std.specs.Option.{option_or}
-use Rattle.ps_resolve.specs.Searches.{first_of}
-use Rattle.ps_resolve.specs.Sources.{opened}
-use Rattle.ps_resolve.specs.Faults.{source_fault, sources_fault}
-use Rattle.ps_resolve.specs.Readings.{read_segment, read_segments}
-use Rattle.ps_resolve.specs.KnownSegments.{IsRead}
+use Rattle.ps_resolve.proofs.Vocabulary.{◌≡◌, ◌≤◌, ◌-◌, ◌++◌, length, All, filter_map, range_with_len, option_or, first_of, opened, source_fault, sources_fault, read_segment, read_segments, IsRead}
 use Rattle.ps_resolve.proofs.reading.sources.read_slots.Given as goal
 
 -- the segments so far and those of the slots that are left are all, and so is the first fault
@@ -19,8 +11,7 @@ invariant-loop-slot l =
       faults : sources_fault order host libs
           ≡ option_or l.first (first_of (source_fault order host libs)
           (range_with_len l.slot (16 - l.slot)));
-      all : read_segments order host libs
-          ≡ l.segments.items
+      all : read_segments order host libs ≡ l.segments.items
           ++ filter_map (read_segment order host libs) (range_with_len l.slot (16 - l.slot));
       read : All (IsRead order host libs) l.segments.items;
       few : length l.segments.items ≤ l.slot;

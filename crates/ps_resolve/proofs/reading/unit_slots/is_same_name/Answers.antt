@@ -1,9 +1,6 @@
-use Rattle.std.proofs.Common.{◌≡◌, ◌∙◌, ◌<◌, ◌==◌, ℕ, List, length, get_or, Bool, true, false, refl, sym, ap, rules}
+use Rattle.ps_resolve.proofs.Vocabulary.{◌≡◌, ◌∙◌, ◌<◌, ◌==◌, ℕ, List, length, get_or, Bool, true, false, refl, sym, ap, rules, bytes_eq, ne_eqb, eq-eqb, bytes_eq-Decides}
 use Rattle.std.specs.Int.{w64, from_le_bytes, to_le_bytes}
-use Rattle.std.specs.Str.{bytes_eq}
-use Rattle.std.proofs.lemmas.Bool.{ne_eqb, eq-eqb}
 use Rattle.std.proofs.lemmas.Nat.{le_bytes_8}
-use Rattle.std.proofs.lemmas.Slice.Eq.{bytes_eq-Decides}
 use Rattle.ps_resolve.proofs.reading.unit_slots.is_same_name.Goals as goal
 
 -- words are equal where their bytes are

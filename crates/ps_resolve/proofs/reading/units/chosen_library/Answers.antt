@@ -1,7 +1,4 @@
-use Rattle.std.proofs.Common.{◌≡◌, ◌∙◌, ℕ, List, false, is_some, get_or, refl, sym, ap}
-use Rattle.std.specs.Prelude.{is_none}
-use Rattle.ps_codefile.specs.Dictionary.{slots}
-use Rattle.ps_resolve.specs.Sources.{file_at, has_entry, is_named, opened, opened_file}
+use Rattle.ps_resolve.proofs.Vocabulary.{◌≡◌, ◌∙◌, ℕ, List, false, is_some, get_or, refl, sym, ap, is_none, slots, file_at, has_entry, is_named, opened, opened_file}
 use Rattle.ps_resolve.proofs.FirstSlots.{any_found}
 use Rattle.ps_resolve.proofs.ReadingLibraries.{no_file, chosen_here, chosen_later, chosen_file, source_by}
 use Rattle.ps_resolve.proofs.reading.units.chosen_library.Goals as goal

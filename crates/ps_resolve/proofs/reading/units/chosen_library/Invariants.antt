@@ -1,5 +1,4 @@
-use Rattle.std.proofs.Common.{◌≡◌}
-use Rattle.ps_resolve.specs.Sources.{chosen_library, opened}
+use Rattle.ps_resolve.proofs.Vocabulary.{◌≡◌, chosen_library, opened}
 use Rattle.ps_resolve.proofs.ReadingLibraries.{chosen_from}
 use Rattle.ps_resolve.proofs.reading.units.chosen_library.Given as goal
 

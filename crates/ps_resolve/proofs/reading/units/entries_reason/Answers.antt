@@ -1,5 +1,4 @@
-use Rattle.std.proofs.Common.{◌≡◌, ◌∙◌, ℕ, Some, true, false, sym, ap}
-use Rattle.ps_codefile.specs.declared.entry.Entry.{Entry}
+use Rattle.ps_resolve.proofs.Vocabulary.{◌≡◌, ◌∙◌, ℕ, Some, true, false, sym, ap, Entry}
 use Rattle.ps_words.specs.declared.fault.Reason.TheVariants as reason
 use Rattle.ps_resolve.proofs.ReadingUnits.{is_duplicate, of_duplicate, of_kind, of_unit}
 use Rattle.ps_resolve.proofs.reading.units.entries_reason.Goals as goal

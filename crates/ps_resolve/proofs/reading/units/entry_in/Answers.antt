@@ -1,12 +1,6 @@
-use Rattle.std.proofs.Common.{rules, ◌∙◌, sym, ap}
-use Rattle.std.specs.List.{find}
-use Rattle.ps_codefile.specs.Dictionary.{OpenedFile, slots}
-use Rattle.ps_resolve.specs.Sources.{is_named}
-use Rattle.ps_resolve.proofs.ReadingLibraries.{no_entries, opened_is, refused_is}
+use Rattle.ps_resolve.proofs.Vocabulary.{◌∙◌, sym, ap, find, OpenedFile, slots, is_named}
+use Rattle.ps_resolve.proofs.ReadingLibraries.{opened_is}
 use Rattle.ps_resolve.proofs.reading.units.entry_in.Goals as goal
-
-pub returns-in-Err-clause-entry : goal.returns-in-Err-clause-entry
-returns-in-Err-clause-entry c = search (rules, refused_is, no_entries)
 
 pub returns-in-None-clause-entry : goal.returns-in-None-clause-entry
 returns-in-None-clause-entry c =

@@ -1,5 +1,4 @@
-use Rattle.std.proofs.Common.{◌∙◌, refl, sym}
-use Rattle.ps_resolve.specs.Sources.{is_named}
+use Rattle.ps_resolve.proofs.Vocabulary.{◌∙◌, refl, sym, is_named}
 use Rattle.ps_resolve.proofs.FirstSlots.{found_here, found_later, found_none}
 use Rattle.ps_resolve.proofs.reading.units.entry_named.Goals as goal
 

@@ -1,7 +1,4 @@
-use Rattle.std.proofs.Common.{◌≡◌, ◌-◌}
-use Rattle.std.specs.List.{find, range_with_len}
-use Rattle.ps_codefile.specs.Dictionary.{slots}
-use Rattle.ps_resolve.specs.Sources.{is_named}
+use Rattle.ps_resolve.proofs.Vocabulary.{◌≡◌, ◌-◌, find, range_with_len, slots, is_named}
 use Rattle.ps_resolve.proofs.reading.units.entry_named.Given as goal
 
 -- the first entry of the name is the first from here on

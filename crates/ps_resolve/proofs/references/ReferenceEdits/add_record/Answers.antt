@@ -1,8 +1,4 @@
-use Rattle.std.proofs.Common.{rules, ◌≡◌, ℕ, ◌<◌, ◌≤◌, ◌+◌, ◌++◌, ◌∙◌, List, length, take, ap, arith, append_assoc, get_or}
-use Rattle.ps_words.specs.declared.edit.Edit.{Edit}
-use Rattle.ps_resolve.specs.EditTables.{edits_of, put_in}
-use Rattle.ps_resolve.specs.declared.edit_table.PlaceState.{PlaceState}
-use Rattle.ps_resolve.specs.Operands.{edit_of, operands, width_of}
+use Rattle.ps_resolve.proofs.Vocabulary.{rules, ◌≡◌, ℕ, ◌<◌, ◌≤◌, ◌+◌, ◌++◌, ◌∙◌, List, length, take, ap, arith, append_assoc, get_or, Edit, edits_of, put_in, PlaceState, edit_of, operands, width_of}
 use Rattle.ps_resolve.proofs.TakenPlaces.{map_one, operands_one, fault_one, operand_put, operand_table, taken_more}
 use Rattle.ps_resolve.proofs.references.ReferenceEdits.add_record.Goals as goal
 

@@ -1,9 +1,4 @@
-use Rattle.std.proofs.Common.{◌≡◌, ℕ, ◌++◌, List, map, take, drop}
-use Rattle.std.specs.Prelude.{IsPermutation}
-use Rattle.ps_resolve.specs.EditTables.{IsTableOf, edits_of}
-use Rattle.ps_resolve.specs.Operands.{edit_of, refs_fault, operands}
-use Rattle.ps_resolve.specs.TakenPlaces.{AreTaken}
-use Rattle.ps_codefile.specs.Procedures.{is_reserved}
+use Rattle.ps_resolve.proofs.Vocabulary.{◌≡◌, ℕ, ◌++◌, List, map, take, drop, IsPermutation, IsTableOf, edits_of, edit_of, refs_fault, operands, AreTaken, is_reserved}
 use Rattle.ps_resolve.proofs.references.ReferenceEdits.add_record.Given as goal
 
 -- the edits so far are those of the references so far, whose operands are marked; the first fault

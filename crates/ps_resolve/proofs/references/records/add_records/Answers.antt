@@ -1,19 +1,5 @@
-use Rattle.std.proofs.Common.{rules, ℕ, ◌+◌, ◌++◌, ◌∙◌, [], sym, subst, arith, Option, append-nil, List, ap}
-use Rattle.std.proofs.lemmas.Result.{err_from_is_err_and}
-use Rattle.std.specs.Option.{option_map}
-use Rattle.ps_words.specs.declared.fault.Reason.{Reason}
-use Rattle.ps_linkinfo.specs.Records.{refs_of}
-use Rattle.ps_linkinfo.specs.RecordCounts.{units_in, publics_in, privates_in, references_in}
-use Rattle.ps_codefile.specs.Procedures.{is_reserved, ProcedureTables}
-use Rattle.ps_linkinfo.specs.declared.record.LinkRecord.{LinkRecord as Record}
-use Rattle.ps_resolve.specs.Sources.{Segment}
-use Rattle.ps_resolve.specs.Operands.{operands}
-use Rattle.ps_resolve.specs.Edits.{refs_fault_at}
-use Rattle.ps_resolve.specs.Faults.{in_segment}
-use Rattle.ps_resolve.specs.References.{Known, HaveTargets, records_fault}
-use Rattle.ps_resolve.specs.Stops.{IsStop}
+use Rattle.ps_resolve.proofs.Vocabulary.{rules, ℕ, ◌+◌, ◌++◌, ◌∙◌, [], sym, subst, arith, Option, append-nil, List, ap, option_map, err_from_is_err_and, Reason, refs_of, units_in, publics_in, privates_in, references_in, is_reserved, ProcedureTables, Record, Segment, operands, refs_fault_at, in_segment, Known, HaveTargets, records_fault, IsStop, Stop}
 use Rattle.ps_resolve.specs.declared.locations.RecordAt.{RecordAt}
-use Rattle.ps_resolve.specs.declared.linkage.Stop.{Stop}
 use Rattle.ps_resolve.proofs.NumberedRecords.{one, none}
 use Rattle.ps_resolve.proofs.FirstSlots.{none_mapped as map_none}
 use Rattle.ps_resolve.proofs.NextRecords.{no_links, references_refused, record_stands, listed_more}
@@ -60,8 +46,7 @@ loop-rec-init g c = grind arith
 pub overflow_add-next : goal.overflow_add-next
 overflow_add-next g c =
     let r = c.in-Some.record in
-    let step = one _ c.loop-rec.rec-iterator c.next.new.self c.in-Some.rec r
-    c.loop-rec.invariant.links c.in-Some.ensures.steps in
+    let step = one c.loop-rec.invariant.links c.in-Some.ensures.steps in
     omega (
       arith,
       step.2.words,
@@ -72,12 +57,8 @@ overflow_add-next g c =
 
 pub returns-in-Err-clause-stop : goal.returns-in-Err-clause-stop
 returns-in-Err-clause-stop g c =
-    let known : Known = c.args.link.now.names.now in
     let l = c.loop-rec in
-    let tables = l.found.procedures in
-    let r = c.in-Some.record in
-    let step = one _ l.rec-iterator c.next.new.self c.in-Some.rec r l.invariant.links
-    c.in-Some.ensures.steps in
+    let step = one l.invariant.links c.in-Some.ensures.steps in
     let first = step.2.first in
     grind arith
 
@@ -88,8 +69,7 @@ returns-in_err-add_record-in-Ok-clause-stop g c =
     let l = c.loop-rec in
     let tables = l.found.procedures in
     let r = c.in-Some.record in
-    let step = one _ l.rec-iterator c.next.new.self c.in-Some.rec r l.invariant.links
-    c.in-Some.ensures.steps in
+    let step = one l.invariant.links c.in-Some.ensures.steps in
     let first = step.2.first in
     let fault_is = first.2 ∙ ap (fault_by known s c.args.free) l.invariant.procedures in
     let stop : Stop = c.in_err-add_record-in-Ok.field-0.0 in
@@ -114,8 +94,7 @@ loop-rec-preserved g c =
     let r = c.in-Some.record in
     let t = c.in-Ok.target in
     let is_t = sym c.target_of.ensures ∙ c.in-Ok.is in
-    let step = one _ l.rec-iterator c.next.new.self rec r l.invariant.links c.in-Some.ensures.steps
-    in
+    let step = one l.invariant.links c.in-Some.ensures.steps in
     let rest = step.0 in
     let first = step.2.first in
     let added = c.in_ok-add_record-in-Ok.ensures in
@@ -143,6 +122,5 @@ loop-rec-preserved g c =
 pub returns : goal.returns
 returns g c =
     let l = c.loop-rec in
-    let known : Known = c.args.link.now.names.now in
-    let end = none _ l.rec-iterator l.invariant.links c.in-None.ensures.steps.0 in
+    let end = none l.invariant.links c.in-None.ensures.steps.0 in
     grind (arith, append-nil)

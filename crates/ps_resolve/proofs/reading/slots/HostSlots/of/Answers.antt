@@ -1,9 +1,4 @@
-use Rattle.std.proofs.Common.{◌≡◌, ◌<◌, ◌≤◌, ◌∙◌, ℕ, length, take, map, sym, subst, arith}
-use Rattle.std.specs.List.{range_with_len}
-use Rattle.std.proofs.lemmas.List.{take_more_set, take_all}
-use Rattle.std.proofs.lemmas.List.FromFn.{map-range_with_len_more}
-use Rattle.std.proofs.lemmas.Grind.{common_steps}
-use Rattle.ps_codefile.specs.Dictionary.{entry_at, role_of}
+use Rattle.ps_resolve.proofs.Vocabulary.{◌≡◌, ◌<◌, ◌≤◌, ◌∙◌, ℕ, length, take, map, sym, subst, arith, range_with_len, take_more_set, take_all, map-range_with_len_more, common_steps, entry_at, role_of}
 use Rattle.ps_resolve.proofs.reading.slots.HostSlots.of.Goals as goal
 
 pub loop-slot-preserved : goal.loop-slot-preserved

@@ -1,7 +1,5 @@
 -- The slots of a host, as they are read one by one.
-use Rattle.std.proofs.Common.{◌≡◌, length, take, map}
-use Rattle.std.specs.List.{range_with_len}
-use Rattle.ps_codefile.specs.Dictionary.{entry_at, role_of}
+use Rattle.ps_resolve.proofs.Vocabulary.{◌≡◌, length, take, map, range_with_len, entry_at, role_of}
 use Rattle.ps_resolve.proofs.reading.slots.HostSlots.of.Given as goal
 
 -- the roles so far

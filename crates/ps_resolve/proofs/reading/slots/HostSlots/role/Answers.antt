@@ -1,9 +1,4 @@
-use Rattle.std.proofs.Common.{◌∙◌, List, ℕ, Result, Ok, slice_index_or, ap, arith}
-use Rattle.std.proofs.lemmas.List.FromFn.{get_or-map-range_with_len}
-use Rattle.ps_words.specs.declared.fault.Reason.{Reason}
-use Rattle.ps_codefile.specs.Dictionary.{OpenedFile, entry_at, role_of}
-use Rattle.ps_codefile.specs.declared.entry.Role.{Role}
-use Rattle.ps_codefile.specs.declared.entry.Role.TheVariants.{Empty}
+use Rattle.ps_resolve.proofs.Vocabulary.{◌∙◌, List, ℕ, Result, Ok, slice_index_or, ap, arith, get_or-map-range_with_len, Reason, OpenedFile, entry_at, role_of, Role, Empty}
 use Rattle.ps_resolve.proofs.reading.slots.HostSlots.role.Goals as goal
 
 pub returns : goal.returns

@@ -1,6 +1,5 @@
-use Rattle.std.proofs.Common.{◌≡◌, drop}
+use Rattle.std.proofs.Common.{◌≡◌, drop, bytes_eq}
 use Rattle.std.specs.Map.{lookup}
-use Rattle.std.specs.Str.{bytes_eq}
 use Rattle.ps_resolve.proofs.reading.unit_slots.UnitSlots.slot_of.Given as goal
 
 -- the name is looked for in what is left

@@ -1,10 +1,6 @@
--- The words of a list.
-use Rattle.std.proofs.Common.{◌≡◌, ℕ, ◌+◌, ◌*◌, ◌/◌, ◌<◌, ◌≤◌, ◌-◌, ◌∙◌, List, length, get_or, take, drop, ap, arith, zero-add, length-drop}
-use Rattle.std.proofs.lemmas.List.{length-take, get_or-take, get_or-drop}
-use Rattle.ps_linkinfo.specs.Records.{refs_at}
+-- The words of a list of references.
+use Rattle.ps_linkinfo.proofs.Vocabulary.{◌≡◌, ℕ, ◌+◌, ◌*◌, ◌/◌, ◌<◌, ◌≤◌, ◌-◌, ◌∙◌, List, length, get_or, take, drop, ap, arith, zero-add, length-drop, length-take, get_or-take, get_or-drop, refs_at, word, word_at, Order}
 use Rattle.std.proofs.lemmas.List.FromFn.{fill_by_all, length-map-range_with_len, get_or-map-range_with_len}
-use Rattle.ps_words.specs.Words.{word, word_at}
-use Rattle.ps_words.specs.declared.order.Order.{Order}
 use Rattle.ps_linkinfo.specs.Refs.{words_of}
 
 pub words_len : (order : Order) (bytes : List ℕ)
