@@ -3,3 +3,4 @@ pub mod Procedures
 pub mod Places
 pub mod Roles
 pub mod ProcedureFaults
+pub mod Opened

@@ -7,10 +7,12 @@ mod dictionary;
 pub mod dictionary_layout;
 mod entry;
 pub mod kinds;
+mod opening;
 mod procedure_fault;
 mod procedures;
 
 pub use dictionary::Dict;
 pub use entry::{Entry, Role, is_nameless};
+pub use opening::open;
 pub use procedure_fault::ProcedureFault;
 pub use procedures::{ProcedureDictionary, Procs};

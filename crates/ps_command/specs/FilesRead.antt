@@ -3,8 +3,8 @@
 use Rattle.std.specs.Prelude.{◌≡◌, ◌<◌, ℕ, List, Option, IfSome, length}
 use Rattle.std.specs.Borrow.{Bor}
 use Rattle.std.specs.Io.KnownBytes.{Appends}
-use Rattle.ps_command.specs.declared.error.CommandError.{CommandError}
-use Rattle.ps_command.specs.declared.error.CommandError.TheVariants as error
+use Rattle.ps_errors.specs.declared.error.CommandError.{CommandError}
+use Rattle.ps_errors.specs.declared.error.CommandError.TheVariants as error
 use Rattle.ps_command.specs.declared.files.TheConstants.{LONGEST}
 use Rattle.ps_command.specs.declared.files.FileFault.{FileFault}
 use Rattle.ps_command.specs.declared.files.FileFault.TheVariants as fault

@@ -19,10 +19,7 @@ use Rattle.ps_listing.specs.ListJson.{list_json_of, unread_json_of}
 use Rattle.ps_listing.specs.ListText.{is_refused, list_of}
 use Rattle.ps_listing.specs.LoneText.{has_no_sound, lone_text, lone_units}
 use Rattle.ps_listing.specs.declared.lone.LoneUnit.{LoneUnit}
-use Rattle.ps_report.specs.Reports.{IsPrintedText, IsReport}
-use Rattle.ps_report.specs.Verdicts.{check_status, verdict_name}
-use Rattle.ps_report.specs.WarningLines.{warnings_in}
-use Rattle.ps_report.specs.declared.verdict.Verdict.{Verdict}
+use Rattle.ps_report.specs.Reports.{IsPrintedReport}
 use Rattle.ps_command.specs.declared.lists.Form.{Form}
 use Rattle.ps_command.specs.declared.lists.Form.TheVariants as form
 use Rattle.ps_command.specs.SummaryLine.{summary_line}
@@ -69,17 +66,6 @@ abbrev pub PrintsShow : (Text → List ℕ → Type 0) → Text → Bool → Opt
     → Option (List ℕ) → Type 0
 PrintsShow Reads path json old new = (file : List ℕ) × Reads path file
     × Appends old new (printed_show json file)
-
--- What a check of the files at these paths may print, the host's first, and its status: a report,
--- whose status is 1 where the files are refused, and, if it is strict, where a line of the report
--- begins with `warning: `.
-abbrev pub IsPrintedReport : List Text → List ℕ → List (List ℕ) → Bool → Bool → ℕ
-    → List ℕ → Type 0
-IsPrintedReport paths host libs strict json status text =
-    (verdict : Verdict) × (warnings : ℕ) × (report : List ℕ)
-    × IsReport paths host libs verdict warnings report
-    × (status ≡ check_status strict (warnings_in report) verdict)
-    × IsPrintedText json verdict (verdict_name host libs verdict) warnings report text
 
 -- by the text of a check of the files at these paths, which ends with this status
 abbrev pub PrintsReport : (Text → List ℕ → Type 0) → Text → List Text → Bool → Bool

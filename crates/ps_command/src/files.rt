@@ -2,11 +2,11 @@
 ghost use Rattle.std.specs.Prelude.{◌≡◌, ◌≢◌, ◌≤◌, ℕ, List, length, map, Any, IfErr, IfOk, IfSome, OnOk, true, ⊤};
 ghost use Rattle.std.specs.List.{AllZip};
 ghost use Rattle.ps_command.specs.FilesRead.{IsReadError, IsTooLong, Reads, read_error};
-ghost use Rattle.ps_command.specs.Statuses.{status_of};
+ghost use Rattle.ps_errors.specs.Statuses.{status_of};
 ghost use Rattle.ps_command.specs.declared.files.FileFault.TheVariants.{Memory};
 
-use crate::error::{Cause, CommandError};
 use crate::request::Inputs;
+use ps_errors::{Cause, CommandError};
 use std::alloc::{AllocError, AllocFailed, Allocator};
 use std::fs::OpenFile;
 use std::io::{Read, Write};

@@ -2,7 +2,6 @@
 //! any runtime, allocator and writers, and `run_process` with the arguments of a process.
 #![tactic(auto)]
 
-mod error;
 mod files;
 mod lists;
 mod output;

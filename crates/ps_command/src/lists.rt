@@ -4,9 +4,9 @@ ghost use Rattle.std.specs.Io.KnownBytes.{Appends};
 ghost use Rattle.ps_command.specs.Printed.{IsListed, PrintsFiles, PrintsLists, PrintsUnread, is_refused_in, listed_text, listed_units};
 ghost use Rattle.ps_command.specs.FilesRead.{IsReadError, Reads};
 
-use crate::error::CommandError;
 use crate::files::{self, CodeFiles};
 use crate::output;
+use ps_errors::CommandError;
 use ps_linkfile::{Counts, separator};
 use ps_listing::LoneUnit;
 use std::alloc::{AllocError, Allocator};

@@ -2,9 +2,9 @@
 ghost use Rattle.std.specs.Prelude.{◌≡◌, ◌++◌, IfErr, OnOk, string_bytes};
 ghost use Rattle.std.specs.Io.KnownBytes.{Appends};
 ghost use Rattle.ps_command.specs.SummaryLine.{summary_line};
-ghost use Rattle.ps_command.specs.declared.error.CommandError.TheVariants.{StandardOutput};
+ghost use Rattle.ps_errors.specs.declared.error.CommandError.TheVariants.{StandardOutput};
 
-use crate::error::CommandError;
+use ps_errors::CommandError;
 use ps_linkfile::{Counts, Summary, write_all_of};
 use std::alloc::{AllocError, Allocator};
 use std::fmt::Write as _;

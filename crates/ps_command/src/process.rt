@@ -6,9 +6,9 @@ ghost use Rattle.ps_command.specs.Printed.{Prints};
 ghost use Rattle.ps_command.specs.FilesRead.{Reads, Writes};
 ghost use Rattle.ps_command.specs.Requests.{NamesCheck, NamesList, OverwritesLibrary, WritesLibrary};
 
-use crate::error::{CommandError, WrongArgument};
 use crate::files::CodeFiles;
 use crate::running::run;
+use ps_errors::{CommandError, WrongArgument};
 use std::alloc::{AllocError, Global};
 use std::env;
 use std::io::{ErrorKind, Write};

@@ -4,11 +4,11 @@ ghost use Rattle.clap.specs.Words.{App, FailsBy, Rule, all_of, app_of, first_of,
 ghost use Rattle.clap.specs.declared.builder.ArgAction.TheVariants.{Set};
 ghost use Rattle.ps_command.specs.CommandLine.{AreAccepted, AskForText, IsArgument, IsMade, check_app, faults_in, file_rule, flag_rule, inputs_app, json_rule, libraries_rule, link_app, list_app, map_app, named_in, pslink_app, show_app, texts};
 ghost use Rattle.ps_command.specs.Requests.{Answers, IsAsked, IsNamedCommand, IsTask, LeavesOut, NamesInputs, WritesLibrary, has_flag as has_flag_spec};
-ghost use Rattle.ps_command.specs.Statuses.{status_of};
+ghost use Rattle.ps_errors.specs.Statuses.{status_of};
 
-use crate::error::CommandError;
 use clap::error::ErrorKind;
 use clap::{Arg, ArgAction, ArgMatches, Command};
+use ps_errors::CommandError;
 use std::alloc::{AllocError, Allocator, Global};
 
 /// What the help of the program ends with.

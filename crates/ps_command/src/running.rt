@@ -1,23 +1,23 @@
 //! One command, from its arguments to its status.
-ghost use Rattle.std.specs.Prelude.{◌≡◌, ◌≢◌, ◌≤◌, ◌⊎◌, ◌∷◌, [], List, Option, ℕ, Any, IfErr, IfOk, IsErrAnd, OnOk, false, map, string_bytes, true, vec_len};
+ghost use Rattle.std.specs.Prelude.{◌≡◌, ◌≢◌, ◌≤◌, ◌⊎◌, ◌∷◌, [], List, Option, ℕ, Any, IfErr, IfOk, IsErrAnd, OnOk, false, map, true};
 ghost use Rattle.std.specs.Io.KnownBytes.{Appends};
 ghost use Rattle.clap.specs.Words.{Row, Text};
 ghost use Rattle.ps_linkfile.specs.LinkedFile.{LinkedFile, summary_of};
 ghost use Rattle.ps_linkfile.specs.Writing.{file_in, summary_in};
+ghost use Rattle.ps_report.specs.Reports.{IsPrintedReport};
 ghost use Rattle.ps_command.specs.CommandLine.{AreAccepted, AskForText, faults_in, named_in, texts};
 ghost use Rattle.ps_command.specs.Printed.{Prints, PrintsLine, PrintsLines, PrintsLists, PrintsMap, PrintsReport, PrintsShow, PrintsText, IsPrintedMap, list_form as list_form_spec, printed_show, version_line};
 ghost use Rattle.ps_command.specs.FilesRead.{Reads, Writes};
-ghost use Rattle.ps_report.specs.Reports.{IsPrintedText};
 ghost use Rattle.ps_command.specs.Requests.{IsNamedCommand, NamesCheck, NamesList, OverwritesLibrary, WritesLibrary};
-ghost use Rattle.ps_command.specs.Statuses.{status_of};
+ghost use Rattle.ps_errors.specs.Statuses.{status_of};
 
-use crate::error::CommandError;
 use crate::files::{self, CodeFiles};
 use crate::lists::{Form, print_lists};
 use crate::output;
 use crate::request::{self, Inputs, Request, Task};
+use ps_errors::CommandError;
 use ps_linkfile::{Counting, Counts, Linked, Summary};
-use ps_report::Report;
+use ps_report::{PrintError, Printing};
 use std::alloc::{AllocError, Allocator, Global};
 use std::io::Write;
 
@@ -413,10 +413,52 @@ fn check<'a, R: CodeFiles, A: Allocator + Copy, O: Write>(
         Err(error) => return Err(error.with_cause()),
     };
     let views = views(alloc, bytes.libraries.as_slice())?;
-    let (paths, host) = (inputs.libraries.as_slice(), bytes.host.as_slice());
-    let report = ps_report::check(alloc, inputs.host, paths, host, views.as_slice())?;
-    print_report(alloc, &report, json, out)?;
-    Ok(report.status(strict))
+    let (host, libraries) = (bytes.host.as_slice(), views.as_slice());
+    check_bytes(
+        alloc,
+        &inputs,
+        host,
+        libraries,
+        Printing { strict, json },
+        out,
+    )
+}
+
+/// Prints the report of a check of a host with libraries, and returns its status.
+fn check_bytes<A: Allocator + Copy, O: Write>(
+    alloc: A,
+    inputs: &Inputs<'_, A>,
+    host: &[u8],
+    libraries: &[&[u8]],
+    printing: Printing,
+    out: &mut O,
+) -> Result<u8, CommandError<'static>>
+    ensures ok { IfOk result (λ status. (text : List ℕ)
+        × IsPrintedReport (inputs.now.host.now ∷ map (λ path. path.now) inputs.now.libraries.items)
+        host.now (map (λ lib. lib.now) libraries.now) printing.strict printing.json status text
+        × Appends (O.contents out.old) (O.contents out.new) text) }
+    ensures few { IfOk result (λ status. status ≤ 1) }
+    ensures err { IfErr result (λ e. status_of e ≢ 3 → out.new ≡ out.old) }
+    ensures usage { IfErr result (λ e. status_of e ≢ 2) }
+    ensures unrefused { IfErr result (λ e. status_of e ≢ 1) }
+{
+    let paths = inputs.libraries.as_slice();
+    match ps_report::write_check(alloc, inputs.host, paths, host, libraries, printing, out) {
+        Ok(status) => Ok(status),
+        Err(error) => Err(unprinted(error)),
+    }
+}
+
+/// Why a report was not printed, as the error of a command.
+fn unprinted(error: PrintError) -> CommandError<'static>
+    ensures untouched { status_of result ≢ 3 → error ≡ PrintError.Memory }
+    ensures usage { status_of result ≢ 2 }
+    ensures unrefused { status_of result ≢ 1 }
+{
+    match error {
+        PrintError::Memory => CommandError::Memory,
+        PrintError::Write(_) => CommandError::StandardOutput,
+    }
 }
 
 /// How a list is printed.
@@ -451,27 +493,6 @@ fn check_units<'a, R: CodeFiles, A: Allocator + Copy, O: Write, E: Write>(
     } = inputs;
     paths.insert(0, host)?;
     print_lists(rt, alloc, paths.as_slice(), Form::Units, out, err)
-}
-
-/// Prints a report, with `json` as JSON.
-fn print_report<A: Allocator + Copy, O: Write>(
-    alloc: A,
-    report: &Report<'_, A>,
-    json: bool,
-    out: &mut O,
-) -> Result<(), CommandError<'static>>
-    ensures ok { OnOk result ((text : List ℕ) × IsPrintedText json report.now.verdict
-        report.now.name (vec_len report.now.warnings) (string_bytes report.now.text) text
-        × Appends (O.contents out.old) (O.contents out.new) text) }
-    ensures err { IfErr result (λ e. status_of e ≢ 3 → out.new ≡ out.old) }
-    ensures usage { IfErr result (λ e. status_of e ≢ 2) }
-    ensures unrefused { IfErr result (λ e. status_of e ≢ 1) }
-{
-    if json {
-        let text = report.json(alloc)?;
-        return output::print(out, text.as_bytes());
-    }
-    output::print(out, report.text.as_bytes())
 }
 
 /// Creates or empties the file at `path`, writes the linked file to it, and closes it.

@@ -1,14 +1,11 @@
--- What a code file is for, by the kinds of its segments, and how a file is read by itself.
+-- What a code file is for, by the kinds of its segments.
 -- Source: this project's profile, over the kinds of the UCSD Pascal II.0 manual.
 use Rattle.std.specs.Prelude.{ℕ, ◌==◌, ◌&&◌, ◌||◌, not, if◌then◌else◌, List, nat_le, Bool, false, Option, Some, None, Result, Ok, Err, codes}
 use Rattle.std.specs.List.{list_all, list_any}
-use Rattle.std.specs.Option.{option_map_or}
-use Rattle.std.specs.Result.{is_ok, result_ok}
 use Rattle.ps_words.specs.declared.order.Order.{Order}
-use Rattle.ps_words.specs.declared.order.Order.TheVariants.{Little, Big}
 use Rattle.ps_words.specs.declared.fault.Reason.{Reason}
-use Rattle.ps_words.specs.declared.fault.Reason.TheVariants as reason
-use Rattle.ps_codefile.specs.Dictionary.{OpenedFile, code_of, entry_at, is_filled, is_nameless, opened_alone, opened_beside, role_of, slots}
+use Rattle.ps_codefile.specs.Dictionary.{entry_at, is_filled, is_nameless, role_of, slots}
+use Rattle.ps_codefile.specs.Opened.{has_code}
 use Rattle.ps_codefile.specs.Roles.{is_wanted}
 use Rattle.ps_codefile.specs.declared.entry.Entry.{Entry}
 use Rattle.ps_codefile.specs.declared.entry.Role.{Role}
@@ -49,16 +46,6 @@ purpose_of order file =
     if has_kind 1 order file then Some Host
     else (if has_kind 0 order file then (if has_other order file then Some Mixed else Some Linked)
     else (if has_other order file then Some Library else None))
-
--- the entry of a slot has a name, and its code is whole in the file
-abbrev pub is_whole : Order → List ℕ → ℕ → Bool
-is_whole order file slot = is_filled (entry_at order file slot)
-    && not (is_nameless (entry_at order file slot).name)
-    && is_ok (code_of file (entry_at order file slot))
-
--- some entry has a name, and its code is whole in the file
-unfoldable pub has_code : Order → List ℕ → Bool
-has_code order file = list_any (is_whole order file) slots
 
 -- a byte of a name that a person can read: ASCII prints it, or it is a 0 in place of a blank
 abbrev pub is_letter : ℕ → Bool
@@ -102,23 +89,3 @@ code_file_word Host = codes "host"
 code_file_word Library = codes "library"
 code_file_word Linked = codes "linked"
 code_file_word Mixed = codes "mixed"
-
--- a file that can be read in this order has a code
-abbrev pub has_code_beside : Order → List ℕ → Bool
-has_code_beside order file = option_map_or (λ f. has_code f.order f.file)
-    (result_ok (opened_beside order file)) false
-
--- the order of a file whose kind words are all 0: that in which it has a code
-abbrev pub order_by_codes : List ℕ → Order
-order_by_codes file = if not (has_code_beside Little file) && has_code_beside Big file then Big
-    else Little
-
--- a file that has no kind but 0 is read in the order of its codes
-abbrev pub opened_after : List ℕ → Result OpenedFile Reason → Result OpenedFile Reason
-opened_after file (Ok f) = Ok f
-opened_after file (Err reason.NoHost) = opened_beside (order_by_codes file) file
-opened_after file (Err why) = Err why
-
--- a code file read by itself, or why it cannot be read
-unfoldable pub opened : List ℕ → Result OpenedFile Reason
-opened file = opened_after file (opened_alone file)

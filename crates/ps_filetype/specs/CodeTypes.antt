@@ -10,7 +10,8 @@ use Rattle.ps_words.specs.declared.order.Order.{Order}
 use Rattle.ps_words.specs.declared.order.Order.TheVariants.{Little, Big}
 use Rattle.ps_words.specs.declared.fault.Reason.{Reason}
 use Rattle.ps_codefile.specs.Dictionary.{OpenedFile, code_of, entry_at, is_filled, kind_needs_linking, name_at, slots}
-use Rattle.ps_filetype.specs.CodeFiles.{code_file, is_letter, opened}
+use Rattle.ps_codefile.specs.Opened.{opened}
+use Rattle.ps_filetype.specs.CodeFiles.{code_file, is_letter}
 
 -- there are bytes, and all of them are one
 abbrev pub is_one_byte : List ℕ → Bool

@@ -3,7 +3,8 @@ ghost use Rattle.std.specs.Prelude.{◌≡◌, ◌+◌, ◌-◌, ◌*◌, ◌<�
 ghost use Rattle.std.specs.List.{list_all, list_any, range_with_len};
 ghost use Rattle.std.specs.Result.{is_ok};
 ghost use Rattle.ps_codefile.specs.Dictionary.{code_of, entry_at, role_of};
-ghost use Rattle.ps_filetype.specs.CodeFiles.{code_file, code_file_word, has_code as has_code_spec, has_code_beside, has_kind as has_kind_spec, has_kinds as has_kinds_spec, has_other as has_other_spec, has_other_kind as has_other_kind_spec, has_shown_code as has_shown_code_spec, is_code_file as is_code_file_spec, is_kind as is_kind_spec, is_letter as is_letter_spec, is_other as is_other_spec, is_readable as is_readable_spec, is_whole as is_whole_spec, opened, order_by_codes as order_by_codes_spec, purpose_of as purpose_of_spec, shows_code as shows_code_spec, tells as tells_spec, wants_unit as wants_unit_spec};
+ghost use Rattle.ps_codefile.specs.Opened.{opened};
+ghost use Rattle.ps_filetype.specs.CodeFiles.{code_file, code_file_word, has_kind as has_kind_spec, has_kinds as has_kinds_spec, has_other as has_other_spec, has_other_kind as has_other_kind_spec, has_shown_code as has_shown_code_spec, is_code_file as is_code_file_spec, is_kind as is_kind_spec, is_letter as is_letter_spec, is_other as is_other_spec, is_readable as is_readable_spec, purpose_of as purpose_of_spec, shows_code as shows_code_spec, tells as tells_spec, wants_unit as wants_unit_spec};
 ghost use Rattle.ps_filetype.specs.CodeTypes.{distance as distance_spec, has_number as has_number_spec, has_numbers as has_numbers_spec, has_table as has_table_spec, has_word as has_word_spec, is_code_type as is_code_type_spec, is_for_something as is_for_something_spec, is_linkable as is_linkable_spec, is_number_at as is_number_at_spec, is_swapped as is_swapped_spec, is_swapped_code as is_swapped_code_spec, is_swapped_file as is_swapped_file_spec, is_swapped_in as is_swapped_in_spec, is_swapped_slot as is_swapped_slot_spec, word_place};
 
 use crate::bytes::is_one_byte;
@@ -11,14 +12,14 @@ use crate::release::is_later;
 use ps_codefile::code_layout::NUMBERS;
 use ps_codefile::dictionary_layout::SLOTS;
 use ps_codefile::kinds::{HOSTSEG, LAST_INTRINSIC, LINKED, UNITSEG};
-use ps_codefile::{Dict, Entry, Role, is_nameless};
+use ps_codefile::{Dict, Entry, Role, is_nameless, open};
 use ps_words::{Name, Order, Reason, WORD_LEN, get};
 use std::fmt::{self, Formatter};
 
 /// What a code file is for, by the kinds of its segments.
 ///
 /// Source: this project's profile.
-#[derive(Clone, Copy, Debug, PartialEq, Eq)]
+#[derive(Clone, Copy, PartialEq, Eq)]
 pub enum CodeFile {
     /// It has a host program.
     Host,
@@ -152,42 +153,6 @@ impl CodeFile {
     }
 }
 
-/// The code of a slot is in the file.
-fn is_in_file(dict: &Dict<'_>, slot: u8) -> bool
-    requires { slot < 16 }
-    ensures { result ≡ is_ok (code_of dict.now.file
-        (entry_at dict.now.order dict.now.file slot)) }
-{
-    match dict.code(slot) {
-        Ok(_) => true,
-        Err(_) => false,
-    }
-}
-
-/// The entry has a name, and its code is whole in the file.
-fn is_whole(dict: &Dict<'_>, slot: u8) -> bool
-    requires { slot < 16 }
-    ensures { result ≡ is_whole_spec dict.now.order dict.now.file slot }
-{
-    dict.filled(slot) && !is_nameless(&dict.entry(slot).name) && is_in_file(dict, slot)
-}
-
-/// One of the entries below `end` has a name, and its code is whole in the file.
-fn has_code_below(dict: &Dict<'_>, end: u8) -> bool
-    requires { end ≤ 16 }
-    ensures { result ≡ list_any (is_whole_spec dict.now.order dict.now.file)
-        (range_with_len 0 end) }
-{
-    (0..end).any(|slot| is_whole(dict, slot))
-}
-
-/// Some entry has a name, and its code is whole in the file.
-fn has_code(dict: &Dict<'_>) -> bool
-    ensures { result ≡ has_code_spec dict.now.order dict.now.file }
-{
-    has_code_below(dict, SLOTS)
-}
-
 /// A person can read the name: ASCII prints each of its bytes that is not 0, and it is not blank.
 fn is_readable(name: &Name) -> bool
     ensures { result ≡ is_readable_spec name.now }
@@ -266,45 +231,7 @@ fn is_code_file(dict: &Dict<'_>) -> bool
     if has_kinds(dict) {
         has_shown_code(dict)
     } else {
-        has_code(dict)
-    }
-}
-
-/// An entry with a name has its code in the file, whose words are read in this order.
-fn has_code_in(bytes: &[u8], order: Order) -> bool
-    ensures { result ≡ has_code_beside order bytes.now }
-{
-    match Dict::read_beside(bytes, order) {
-        Ok(dict) => has_code(&dict),
-        Err(_) => false,
-    }
-}
-
-/// The order in which an entry with a name has its code in the file.
-fn order_by_codes(file: &[u8]) -> Order
-    ensures { result ≡ order_by_codes_spec file.now }
-{
-    if !has_code_in(file, Order::Little) && has_code_in(file, Order::Big) {
-        Order::Big
-    } else {
-        Order::Little
-    }
-}
-
-/// Reads a code file by itself: in the byte order that its kind words show, or, where all of these
-/// are 0, in the order in which an entry with a name has its code in the file, which is
-/// little-endian if both have one or none has.
-///
-/// Refuses `ShortFile` under 512 bytes, and `NoOrder` where the kind words show both orders.
-/// Source: this project's profile.
-#[tactic(auto, unfolding(crate::specs::CodeFiles::opened))]
-pub fn open(file: &[u8]) -> Result<Dict<'_>, Reason>
-    ensures { result ≡ opened file.now }
-{
-    match Dict::read(file) {
-        Ok(dict) => Ok(dict),
-        Err(Reason::NoHost) => Dict::read_beside(file, order_by_codes(file)),
-        Err(reason) => Err(reason),
+        dict.has_code()
     }
 }
 
@@ -341,7 +268,7 @@ pub(crate) fn has_readable_code(bytes: &[u8]) -> bool {
     let Ok(dict) = open(bytes) else {
         return false;
     };
-    let has_code = (0..SLOTS).any(|slot| is_whole(&dict, slot)
+    let has_code = (0..SLOTS).any(|slot| dict.is_whole(slot)
         && is_readable(&dict.entry(slot).name));
     has_code && is_code_file(&dict)
 }
@@ -453,7 +380,7 @@ fn is_linkable(dict: &Dict<'_>, slot: u8) -> bool
     ensures { result ≡ is_linkable_spec dict.now.order dict.now.file slot }
 {
     let kind = dict.entry(slot).kind;
-    (kind == HOSTSEG || kind == UNITSEG) && dict.filled(slot) && is_in_file(dict, slot)
+    (kind == HOSTSEG || kind == UNITSEG) && dict.filled(slot) && dict.is_in_file(slot)
 }
 
 /// The bytes of the code of a slot are exchanged in pairs.

@@ -13,7 +13,7 @@ use std::fmt::{self, Formatter};
 /// What a file is, as far as a few of its bytes say. Its text is a phrase, as `a gzip file`.
 ///
 /// Source: this project's profile.
-#[derive(Clone, Copy, Debug, PartialEq, Eq)]
+#[derive(Clone, Copy, PartialEq, Eq)]
 pub enum FileType {
     /// A code file.
     Code(CodeFile),

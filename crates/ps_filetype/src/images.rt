@@ -24,7 +24,7 @@ const VOLUME_NAME: usize = 6;
 /// The form of the image of a disk.
 ///
 /// Source: Apple II disk images as emulators keep them; DiskCopy 4.2 of Apple.
-#[derive(Clone, Copy, Debug, PartialEq, Eq)]
+#[derive(Clone, Copy, PartialEq, Eq)]
 pub enum Image {
     /// Its blocks follow one another.
     Blocks,

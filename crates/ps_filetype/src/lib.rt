@@ -17,7 +17,7 @@ mod signatures;
 mod texts;
 
 pub use bytes::only_byte;
-pub use code_file::{CodeFile, is_code_type, is_swapped, open};
+pub use code_file::{CodeFile, is_code_type, is_swapped};
 pub use file_type::FileType;
 pub use images::Image;
 pub use line_ends::LineEnds;

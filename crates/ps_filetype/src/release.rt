@@ -35,7 +35,7 @@ const NUMBER: u16 = 256;
 /// A release whose code files are not those of II.0.
 ///
 /// Source: the segment dictionaries of UCSD Pascal III.0 and IV.0.
-#[derive(Clone, Copy, Debug, PartialEq, Eq)]
+#[derive(Clone, Copy, PartialEq, Eq)]
 pub enum Release {
     /// Release III.0.
     Three,

@@ -28,7 +28,7 @@ pub struct ReadFault {
 /// [`none`](LinkInformation::none).
 ///
 /// Source: the published II.0 Linker source.
-#[derive(Debug, Drop)]
+#[derive(Drop)]
 pub struct LinkInformation<'a> {
     order: Order,
     bytes: &'a [u8],

@@ -16,7 +16,7 @@ use std::marker::Model;
 /// given.
 ///
 /// Source: this project's profile.
-#[derive(Clone, Debug, Drop)]
+#[derive(Drop)]
 pub struct NumberedRecords<'a> {
     records: Records<'a>,
     index: usize,

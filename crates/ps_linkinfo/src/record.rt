@@ -9,7 +9,7 @@ use ps_words::Name;
 /// What a record says, beside its name.
 ///
 /// Source: the published II.0 Linker source.
-#[derive(Clone, Debug, Drop)]
+#[derive(Debug, Drop)]
 pub enum Body<'a> {
     /// UNITREF: operands of one byte that become the number of the unit's segment.
     UnitRef(Refs<'a>),
@@ -44,7 +44,7 @@ impl<'a> Body<'a> {
 /// A record of link information.
 ///
 /// Source: the published II.0 Linker source.
-#[derive(Clone, Debug, Drop)]
+#[derive(Debug, Drop)]
 pub struct LinkRecord<'a> {
     /// Its name, padded with blanks. That of an EOFMARK means nothing.
     pub name: Name,

@@ -9,7 +9,7 @@ use crate::records::Records;
 use ps_words::{Order, Reason};
 
 /// How many records there are of each type, their references, and the value of their EOFMARK.
-#[derive(Clone, Copy, Debug)]
+#[derive(Clone, Copy)]
 pub(crate) struct RecordCounts {
     /// How many there are.
     pub(crate) records: usize,

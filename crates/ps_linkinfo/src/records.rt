@@ -17,7 +17,7 @@ use std::marker::Model;
 /// record's index is the number of records given before it.
 ///
 /// Source: the published II.0 Linker source; the reasons are this project's profile.
-#[derive(Clone, Debug, Drop)]
+#[derive(Drop)]
 pub struct Records<'a> {
     order: Order,
     bytes: &'a [u8],

@@ -10,7 +10,7 @@ use std::marker::Model;
 ///
 /// Source: the published II.0 Linker source; that the offset counts from the segment's first byte
 /// is this project's profile.
-#[derive(Clone, Debug, Drop)]
+#[derive(Debug, Drop)]
 pub struct Refs<'a> {
     /// Which byte of a word is its low byte: 0 in little-endian order, 1 in big-endian order. It is
     /// as wide as the other fields, so that records are copied without padding.

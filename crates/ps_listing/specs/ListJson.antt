@@ -8,6 +8,7 @@ use Rattle.ps_words.specs.FaultText.{number_of, name_of}
 use Rattle.ps_words.specs.declared.fault.Reason.{Reason}
 use Rattle.ps_words.specs.declared.fault.Fault.{Fault}
 use Rattle.ps_codefile.specs.Dictionary.{OpenedFile, entry_at, role_of, slots}
+use Rattle.ps_codefile.specs.Opened.{opened}
 use Rattle.ps_codefile.specs.Roles.{needs_linking}
 use Rattle.ps_codefile.specs.declared.entry.Role.{Role}
 use Rattle.ps_codefile.specs.declared.entry.Role.TheVariants as role
@@ -18,7 +19,7 @@ use Rattle.ps_resolve.specs.Sources.{records_of}
 use Rattle.ps_linkfile.specs.JsonText.{comma_unless, json_name, line_end}
 use Rattle.ps_linkfile.specs.MapJson.{member}
 use Rattle.ps_linkfile.specs.ReferencesText.{hex_byte}
-use Rattle.ps_filetype.specs.CodeFiles.{code_file, code_file_word, opened}
+use Rattle.ps_filetype.specs.CodeFiles.{code_file, code_file_word}
 use Rattle.ps_filetype.specs.declared.code_file.CodeFile.{CodeFile}
 use Rattle.ps_listing.specs.ListText.{fault_alone}
 

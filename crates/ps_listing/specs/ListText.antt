@@ -10,6 +10,7 @@ use Rattle.ps_words.specs.FaultText.{number_of, name_of, part_text}
 use Rattle.ps_words.specs.declared.fault.Reason.{Reason}
 use Rattle.ps_words.specs.declared.fault.Fault.{Fault}
 use Rattle.ps_codefile.specs.Dictionary.{OpenedFile, entry_at, role_of, slots}
+use Rattle.ps_codefile.specs.Opened.{opened}
 use Rattle.ps_codefile.specs.Roles.{needs_linking}
 use Rattle.ps_codefile.specs.declared.entry.Role.{Role}
 use Rattle.ps_codefile.specs.declared.entry.Role.TheVariants as role
@@ -20,7 +21,7 @@ use Rattle.ps_resolve.specs.Faults.{code_fault}
 use Rattle.ps_resolve.specs.Sources.{records_of}
 use Rattle.ps_linkfile.specs.Lines.{line, shown_name, two_digits}
 use Rattle.ps_filetype.specs.Shown.{is_hidden}
-use Rattle.ps_filetype.specs.CodeFiles.{code_file, code_file_word, opened}
+use Rattle.ps_filetype.specs.CodeFiles.{code_file, code_file_word}
 use Rattle.ps_filetype.specs.declared.code_file.CodeFile.{CodeFile}
 
 -- a character of a path: a question mark for a hidden one, as one that could end the line

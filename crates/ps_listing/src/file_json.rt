@@ -8,8 +8,8 @@ ghost use Rattle.ps_listing.specs.ListJson.{file_members, item_of, list_json_of,
 
 use crate::json::{add_fault, add_text};
 use crate::slots_json::{add_length, add_slots};
-use ps_codefile::Dict;
-use ps_filetype::{CodeFile, open};
+use ps_codefile::{Dict, open};
+use ps_filetype::CodeFile;
 use ps_linkfile::{Counts, Text, TextWriter, WriteFault, write_text};
 use ps_words::{Order, Reason};
 use std::io::Write;

@@ -8,8 +8,8 @@ ghost use Rattle.ps_listing.specs.ListText.{file_line, is_refused as is_refused_
 
 use crate::slots::{add_slots, has_refused};
 use crate::words::{add_order, add_path, add_phrase, add_purpose, add_refusal, add_size};
-use ps_codefile::Dict;
-use ps_filetype::{CodeFile, open};
+use ps_codefile::{Dict, open};
+use ps_filetype::CodeFile;
 use ps_linkfile::{Counts, Text, TextWriter, WriteFault, add_number, write_text};
 use ps_words::Reason;
 use std::io::Write;

@@ -5,7 +5,8 @@ use Rattle.std.specs.List.{list_any}
 use Rattle.ps_words.specs.declared.fault.Reason.{Reason}
 use Rattle.ps_words.specs.declared.fault.Reason.TheVariants as reason
 use Rattle.ps_codefile.specs.Dictionary.{OpenedFile}
-use Rattle.ps_filetype.specs.CodeFiles.{code_file, opened}
+use Rattle.ps_codefile.specs.Opened.{opened}
+use Rattle.ps_filetype.specs.CodeFiles.{code_file}
 use Rattle.ps_filetype.specs.declared.code_file.CodeFile.{CodeFile}
 use Rattle.ps_filetype.specs.declared.code_file.CodeFile.TheVariants.{Host, Library, Linked, Mixed}
 use Rattle.ps_listing.specs.ListText.{list_of}

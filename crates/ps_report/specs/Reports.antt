@@ -7,7 +7,7 @@ use Rattle.ps_report.specs.SlotLines.{slot_lines}
 use Rattle.ps_warnings.specs.declared.warnings.Warning.{Warning}
 use Rattle.ps_report.specs.Lists.{HasLists, lacks_host}
 use Rattle.ps_report.specs.ReportJson.{AreLooksOf, IsReportJson}
-use Rattle.ps_report.specs.Verdicts.{IsVerdict, Tells}
+use Rattle.ps_report.specs.Verdicts.{IsVerdict, Tells, check_status, verdict_name}
 use Rattle.ps_report.specs.WarningLines.{warnings_in}
 use Rattle.ps_report.specs.declared.verdict.Verdict.{Verdict}
 
@@ -28,6 +28,17 @@ abbrev pub IsPrintedText : Bool → Verdict → Option (List ℕ) → ℕ → Li
 IsPrintedText false verdict name warnings report text = text ≡ report
 IsPrintedText true verdict name warnings report text = (items : List Warning)
     × (length items ≡ warnings) × IsReportJson verdict name items report text
+
+-- What a check of the files at these paths may print, the host's first, and its status: a report,
+-- whose status is 1 where the files are refused, and, if it is strict, where a line of the report
+-- begins with `warning: `.
+abbrev pub IsPrintedReport : List (List ℕ) → List ℕ → List (List ℕ) → Bool → Bool → ℕ
+    → List ℕ → Type 0
+IsPrintedReport paths host libs strict json status text =
+    (verdict : Verdict) × (warnings : ℕ) × (report : List ℕ)
+    × IsReport paths host libs verdict warnings report
+    × (status ≡ check_status strict (warnings_in report) verdict)
+    × IsPrintedText json verdict (verdict_name host libs verdict) warnings report text
 
 -- What looks wrong, one by one, as it is printed: lines of which so many begin with `warning: `, or
 -- the JSON document that has so many warnings.

@@ -9,11 +9,13 @@ mod lines;
 mod looks;
 mod names;
 mod overview;
+mod printing;
 mod report;
 mod slot_lines;
 mod verdict;
 mod without_host;
 
+pub use printing::{PrintError, Printing, write_check};
 pub use ps_warnings::{Look, Oddity, Warning, WarningAt};
 pub use report::{Report, check};
 pub use verdict::{Verdict, verdict_of};

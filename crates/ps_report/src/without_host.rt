@@ -6,8 +6,8 @@ ghost use Rattle.ps_listing.specs.ListText.{list_of};
 ghost use Rattle.ps_report.specs.Lists.{AreLists, has_host as has_host_spec, has_host_among as has_host_among_spec, has_host_as as has_host_as_spec, is_for_host as is_for_host_spec, is_no_host as is_no_host_spec, is_no_host_reason as is_no_host_reason_spec, lacks_host as lacks_host_spec};
 
 use crate::verdict::Verdict;
-use ps_codefile::Dict;
-use ps_filetype::{CodeFile, open};
+use ps_codefile::{Dict, open};
+use ps_filetype::CodeFile;
 use ps_linkfile::Counts;
 use ps_words::Reason;
 use std::alloc::{AllocError, Allocator};

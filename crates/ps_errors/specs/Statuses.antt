@@ -2,8 +2,8 @@
 -- output, 4 out of memory; and the error of a command, by that of its link.
 -- Source: this project's profile.
 use Rattle.std.specs.Prelude.{ℕ}
-use Rattle.ps_command.specs.declared.error.CommandError.{CommandError}
-use Rattle.ps_command.specs.declared.error.CommandError.TheVariants as error
+use Rattle.ps_errors.specs.declared.error.CommandError.{CommandError}
+use Rattle.ps_errors.specs.declared.error.CommandError.TheVariants as error
 use Rattle.ps_linkfile.specs.declared.error.LinkError.{LinkError}
 use Rattle.ps_linkfile.specs.declared.error.LinkError.TheVariants as link
 

@@ -2,11 +2,11 @@
 ghost use Rattle.std.specs.Prelude.{◌≡◌, ◌≢◌};
 ghost use Rattle.clap.specs.Words.{kind_of};
 ghost use Rattle.clap.specs.declared.error.ErrorKind.TheVariants.{OutOfMemory};
-ghost use Rattle.ps_command.specs.declared.error.CommandError.TheVariants.{Memory, StandardOutput, Usage};
+ghost use Rattle.ps_errors.specs.declared.error.CommandError.TheVariants.{Memory, StandardOutput, Usage};
 ghost use Rattle.ps_linkfile.specs.declared.error.LinkError.TheVariants.{Write};
 ghost use Rattle.ps_linkfile.specs.declared.error.WriteFault.{WriteFault};
-ghost use Rattle.ps_command.specs.Causes.{cause_of, caused, unread_error};
-ghost use Rattle.ps_command.specs.Statuses.{command_error_of, status_of};
+ghost use Rattle.ps_errors.specs.Causes.{cause_of, caused, unread_error};
+ghost use Rattle.ps_errors.specs.Statuses.{command_error_of, status_of};
 
 use clap::error::ErrorKind;
 use ps_filetype::ShownPath;
@@ -20,7 +20,7 @@ use thiserror::Error;
 /// Why a file cannot be read, as far as the system says.
 /// Source: this project's profile.
 #[derive(Clone, Copy)]
-pub(crate) enum Cause {
+pub enum Cause {
     Missing,
     Folder,
     Forbidden,
@@ -34,7 +34,7 @@ pub(crate) enum Cause {
 impl Cause {
     /// The cause that is of this kind of the system's errors: a path below a file names no file.
     /// Source: this project's profile.
-    pub(crate) fn of(kind: io::ErrorKind) -> Cause
+    pub fn of(kind: io::ErrorKind) -> Cause
         ensures { result ≡ cause_of kind }
     {
         match kind {
@@ -64,7 +64,7 @@ impl fmt::Display for Cause {
 /// none where that is not known. Its text is the end of the line that reports it.
 /// Source: this project's profile.
 #[derive(Clone, Copy)]
-pub(crate) struct WrongArgument(pub(crate) Option<usize>);
+pub struct WrongArgument(pub Option<usize>);
 
 impl fmt::Display for WrongArgument {
     fn fmt<W: fmt::Write>(&self, f: &mut Formatter<W>) -> fmt::Result {
@@ -78,7 +78,7 @@ impl fmt::Display for WrongArgument {
 /// Each text that the program writes to standard error, with what the text names.
 /// Source: this project's profile.
 #[derive(Drop, Error)]
-pub(crate) enum CommandError<'a> {
+pub enum CommandError<'a> {
     /// The files are refused.
     #[error("pslink: {0}")]
     Refused(Fault),
@@ -162,7 +162,7 @@ impl From<LinkError> for CommandError<'_> {
 impl<'a> CommandError<'a> {
     /// The same with the cause for which a file cannot be read, where that is why.
     /// Source: this project's profile.
-    pub(crate) fn with_cause(self) -> CommandError<'a>
+    pub fn with_cause(self) -> CommandError<'a>
         ensures error { result ≡ caused self.entry }
         ensures status { status_of result ≡ status_of self.entry }
     {
@@ -175,7 +175,7 @@ impl<'a> CommandError<'a> {
     /// The same of the file at `path` alone, which cannot be read; any other reason than the
     /// system's or its length is want of memory.
     /// Source: this project's profile.
-    pub(crate) fn of_file(self, path: &'a str) -> CommandError<'a>
+    pub fn of_file(self, path: &'a str) -> CommandError<'a>
         ensures error { result ≡ unread_error path.entry self.entry }
         ensures status { status_of result ≡ 3 }
     {
@@ -191,7 +191,7 @@ impl<'a> CommandError<'a> {
 
     /// What the process ends with.
     /// Source: this project's profile.
-    pub(crate) fn status(&self) -> u8
+    pub fn status(&self) -> u8
         ensures { result ≡ status_of self.now }
     {
         match self {
@@ -208,7 +208,7 @@ impl<'a> CommandError<'a> {
 
     /// Writes the text, and returns the status. If the text cannot be written, that is ignored.
     /// Source: this project's profile.
-    pub(crate) fn report<E: Write>(&self, err: &mut E) -> u8
+    pub fn report<E: Write>(&self, err: &mut E) -> u8
         ensures { result ≡ status_of self.now }
     {
         // The texts of `clap` end with a line end of their own.

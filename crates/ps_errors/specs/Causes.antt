@@ -4,10 +4,10 @@ use Rattle.std.specs.Prelude.{ℕ, List}
 use Rattle.std.specs.Borrow.{Bor}
 use Rattle.std.specs.declared.io.ErrorKind.{ErrorKind}
 use Rattle.std.specs.declared.io.ErrorKind.TheVariants as kind
-use Rattle.ps_command.specs.declared.error.Cause.{Cause}
-use Rattle.ps_command.specs.declared.error.Cause.TheVariants as cause
-use Rattle.ps_command.specs.declared.error.CommandError.{CommandError}
-use Rattle.ps_command.specs.declared.error.CommandError.TheVariants as error
+use Rattle.ps_errors.specs.declared.error.Cause.{Cause}
+use Rattle.ps_errors.specs.declared.error.Cause.TheVariants as cause
+use Rattle.ps_errors.specs.declared.error.CommandError.{CommandError}
+use Rattle.ps_errors.specs.declared.error.CommandError.TheVariants as error
 
 -- the cause that is of a kind of the system's errors; a path below a file names no file
 abbrev pub cause_of : ErrorKind → Cause

@@ -4,8 +4,8 @@ use Rattle.std.specs.Option.{option_map_or}
 use Rattle.std.specs.Result.{result_ok}
 use Rattle.ps_words.specs.declared.fault.Reason.{Reason}
 use Rattle.ps_codefile.specs.Dictionary.{OpenedFile}
-use Rattle.ps_filetype.specs.CodeFiles.{has_code}
-use Rattle.ps_filetype.proofs.code_file.has_code_in.Goals as goal
+use Rattle.ps_codefile.specs.Opened.{has_code}
+use Rattle.ps_codefile.proofs.opening.has_code_in.Goals as goal
 
 pub returns-in-Ok : goal.returns-in-Ok
 returns-in-Ok c =
