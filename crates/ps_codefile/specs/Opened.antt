@@ -21,7 +21,7 @@ is_whole order file slot = is_filled (entry_at order file slot)
 unfoldable pub has_code : Order → List ℕ → Bool
 has_code order file = list_any (is_whole order file) slots
 
--- the same of a file that can be read in this order
+-- a file that can be read in this order has a code
 abbrev pub has_code_beside : Order → List ℕ → Bool
 has_code_beside order file = option_map_or (λ f. has_code f.order f.file)
     (result_ok (opened_beside order file)) false
