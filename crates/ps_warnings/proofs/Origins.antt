@@ -71,7 +71,7 @@ same_file None = refl
 same_file (Some s) = refl
 
 -- what is seen of a segment, by where it comes from
-pub seen_is : (s : Segment)
+pub seen_is : (s : ReadSegment)
     → seen s ≡ seen_with s.slot s.name s.part (option_map origin_as s.source)
 unfolding seen_with
 seen_is s = ap (λ (k : Option ℕ). record {

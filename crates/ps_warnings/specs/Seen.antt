@@ -44,7 +44,7 @@ records_in what None = []
 records_in what (Some s) = if part_needs_linking what && is_ok s.code
     then (reading s.order s.after.now).0 else []
 
-abbrev pub seen : Segment → Seen
+abbrev pub seen : ReadSegment → Seen
 seen s = record {
   slot = s.slot;
   name = s.name;
