@@ -93,7 +93,7 @@ requests_at (q ∷ ss) zero rec name t =
     let there : slice_get q.records rec ≡ Some t.2 = (let a = t.1 in let b = t.3 in cc) in
     let r = reference_of q.file q.slot 0 q.records rec t.2 there t.4 in
     let at = at_left (references_of q) (all_unit_references ss) r.0 r.1 r.2 in
-    let number : r.1.rec ≡ rec = (let h = r.4 in omega (arith, h)) in
+    let number : r.1.at.rec ≡ rec = (let h = r.4 in omega (arith, h)) in
     (r.0, r.1, owner_first q ss r.0 r.1 r.2, at, r.3 ∙ t.5, number)
 requests_at (q ∷ ss) (suc j) rec name t =
     let r = requests_at ss j rec name t in

@@ -2,6 +2,6 @@ use Rattle.ps_linkfile.proofs.Written.{adds_is, ◌⨾◌}
 use Rattle.ps_linkfile.proofs.references.add_reference.Goals as goal
 
 pub returns : goal.returns
-returns g c = adds_is (rw (c.word.ensures, c.by_form.ensures))
+returns g c = adds_is (rw (c.as_bytes.ensures.value, c.word.ensures, c.by_form.ensures))
     (c.add_by_form.ensures ⨾ c.add.ensures ⨾ c.add_by_form-2.ensures ⨾ c.add_parts.ensures
     ⨾ c.add_by_form-3.ensures)
