@@ -26,7 +26,7 @@ pub fn map_texts()
 {}
 
 /// What map prints of what a link stores, as lines.
-#[tactic(auto, unfolding(ps_linkfile::specs::ReferencesText::references_of, ps_linkfile::specs::ReferencesText::listings_of, ps_resolve::specs::Sources::own_segments, ps_resolve::specs::Added::empty_slots, ps_resolve::specs::Added::rounds, ps_resolve::specs::Added::segments, core::specs::Fmt::digits))]
+#[tactic(auto, unfolding(ps_linkfile::specs::ReferencesText::references_of, ps_linkfile::specs::ReferencesText::all_stored_of, ps_resolve::specs::Sources::own_segments, ps_resolve::specs::Added::empty_slots, ps_resolve::specs::Added::rounds, ps_resolve::specs::Added::segments, core::specs::Fmt::digits))]
 pub fn reference_texts()
     ensures a_host_and_its_library { references_of host (library ∷ []) ≡ references_of_the_pair }
     ensures a_unit_that_names_itself { references_of host (library_with Little

@@ -49,7 +49,7 @@ fn words_of_private(body: &Body) -> Option<u16>
 }
 
 /// Allots the privates of a segment from `next` on, and returns the next free offset.
-#[tactic(auto, using(crate::proofs::Duplicates::positive, crate::proofs::Allots::privates_counted))]
+#[tactic(auto, using(crate::proofs::Duplicates::positive, crate::proofs::AllottedPrivates::privates_counted))]
 pub(crate) fn allot<A: Allocator + Copy>(
     alloc: A,
     place: SegmentAt,
@@ -153,7 +153,7 @@ impl<'a> RequestsPrivates for Segment<'a> {
 }
 
 /// The privates of all segments, and the next free offset.
-#[tactic(auto, using(std::proofs::lemmas::Result::err_from_is_err_and, crate::proofs::Allots::stopped_in, crate::proofs::Segs::drop_at))]
+#[tactic(auto, using(std::proofs::lemmas::Result::err_from_is_err_and, crate::proofs::AllottedPrivates::stopped_in, crate::proofs::NextItems::drop_at))]
 fn allot_all<A: Allocator + Copy, S: RequestsPrivates>(
     alloc: A,
     next: u16,
@@ -212,7 +212,7 @@ impl<A: Allocator + Copy> Allotment<A> {
     }
 
     /// The privates of these segments, for `build`.
-    #[tactic(auto, using(crate::proofs::Rises::rise))]
+    #[tactic(auto, using(crate::proofs::PrivatesRise::rise))]
     pub(crate) fn of_segments<S: RequestsPrivates>(
         alloc: A,
         next: u16,

@@ -114,7 +114,7 @@ pub(crate) struct ReferenceEdits<'a, A: Allocator> {
 
 impl<A: Allocator + Copy> ReferenceEdits<'_, A> {
     /// The edit of the operand at x, or why there is none.
-    #[tactic(auto, using(crate::proofs::Takes::overlaps, crate::proofs::Takes::stands_free))]
+    #[tactic(auto, using(crate::proofs::TakenPlaces::overlaps, crate::proofs::TakenPlaces::stands_free))]
     fn edit_at(&self, target: Target, x: usize) -> Result<Edit, Reason>
         requires low { x ≤ MAX_WORD }
         requires len { length self.now.edits.states.items ≡ length self.now.procedures.code }

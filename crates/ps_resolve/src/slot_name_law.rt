@@ -9,7 +9,7 @@ use ps_linkinfo::names_are_whole;
 /// The names of the sixteen slots of a linked file have 128 bytes, eight each, where the host has a
 /// whole segment dictionary.
 /// Source: this project's profile.
-#[tactic(auto, using(crate::proofs::EightBytes::names_whole))]
+#[tactic(auto, using(crate::proofs::WholeNames::names_whole))]
 pub fn slot_names_are_whole()
     ensures { (order : ByteOrder) (host : List ℕ) (libs : List (List ℕ)) → 512 ≤ length host
         → length (flat_map (λ name. name) (slot_names host (segments order host libs))) ≡ 128 }

@@ -111,7 +111,7 @@ fn is_already_known(units: &UnitSlots, queue: &ArrayVec<UnitReference, 10>, name
 }
 
 /// Appends the reference to the queue, unless its name is already known or the queue is full.
-#[tactic(auto, using(crate::proofs::Adding::kept_known, crate::proofs::Adding::kept_full))]
+#[tactic(auto, using(crate::proofs::RequestQueue::kept_known, crate::proofs::RequestQueue::kept_full))]
 fn enqueue(units: &UnitSlots, queue: &mut ArrayVec<UnitReference, 10>, reference: UnitReference)
     requires { length queue.old.items ≤ 10 }
     ensures { queue.new.items ≡ take 10 (requested_from units.now queue.old.items
@@ -233,7 +233,7 @@ pub(crate) fn slot_at(empty: &ArrayVec<u8, 9>, k: usize) -> Option<u8>
 }
 
 /// How many of these segments, which are by slot ascending, are before a segment of this slot.
-#[tactic(auto, using(crate::proofs::BySlot::placed_at, crate::proofs::BySlot::placed_last, crate::proofs::Sharing::all_taken))]
+#[tactic(auto, using(crate::proofs::BySlot::placed_at, crate::proofs::BySlot::placed_last, crate::proofs::SharedRecords::all_taken))]
 fn count_before(segments: &[Segment], slot: u8) -> usize
     ensures fits { result ≤ length segments.now }
     ensures place { (s : SegmentOfLink) → s.slot ≡ slot

@@ -171,7 +171,7 @@ impl<'a> Segment<'a> {
 
     /// One of these segments is linked, and its link information begins in the same block of the
     /// same file as that of this linked segment.
-    #[tactic(auto, using(crate::proofs::Sharing::found))]
+    #[tactic(auto, using(crate::proofs::SharedRecords::found))]
     pub(crate) fn shares_with(&self, segments: &[Segment<'a>]) -> bool
         ensures linked { result ≡ true → needs_linking_spec self.now.role ≡ true }
         ensures records { result ≡ true
