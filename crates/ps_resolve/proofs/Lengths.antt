@@ -1,5 +1,5 @@
 -- As many lists of edits as segments, and as many sources.
-use Rattle.std.proofs.Common.{◌≡◌, ℕ, ◌+◌, List, [], ◌∷◌, length, map, refl, arith}
+use Rattle.std.proofs.Common.{◌≡◌, ◌∙◌, ℕ, ◌+◌, List, [], ◌∷◌, length, map, refl, sym, ap, arith}
 use Rattle.std.proofs.lemmas.List.{length-map}
 use Rattle.ps_words.specs.declared.order.Order.{Order}
 use Rattle.ps_words.specs.declared.edit.Edit.{Edit}
@@ -31,4 +31,6 @@ pub lengths : (order : Order) (known : Known) (words free : ℕ) (segs : List Se
     → map origin_of_source sources ≡ map origin_of segs
     → length ds ≡ length sources
 lengths order known words free segs ds sources h o =
-    grind (arith, linked_len, edited_len, length-map)
+    linked_len order (edited_from order known words free segs) ds h
+    ∙ edited_len order known words free segs ∙ sym (length-map segs origin_of)
+    ∙ ap length (sym o) ∙ length-map sources origin_of_source
