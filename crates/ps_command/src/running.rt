@@ -1,8 +1,11 @@
 //! One command, from its arguments to its status.
-ghost use Rattle.std.specs.Prelude.{◌≡◌, ◌≢◌, ◌≤◌, ◌⊎◌, ◌∷◌, [], List, Option, ℕ, Any, IfErr, IfOk, IsErrAnd, OnOk, false, map, true};
+ghost use Rattle.std.specs.Prelude.{◌≡◌, ◌≢◌, ◌≤◌, ◌⊎◌, ◌∷◌, ◌++◌, [], List, Option, ℕ, Any, IfErr, IfOk, IsErrAnd, OnOk, false, map, true};
 ghost use Rattle.std.specs.Io.KnownBytes.{Appends};
 ghost use Rattle.clap.specs.Words.{Row, Text};
 ghost use Rattle.ps_linkfile.specs.LinkedFile.{LinkedFile, summary_of};
+ghost use Rattle.ps_linkfile.specs.MapText.{map_in, map_json_in, map_json_of, map_of};
+ghost use Rattle.ps_linkfile.specs.ReferencesJson.{IsReferencesJson, referenced_json, references_text};
+ghost use Rattle.ps_linkfile.specs.ReferencesText.{references_of};
 ghost use Rattle.ps_linkfile.specs.Writing.{file_in, summary_in};
 ghost use Rattle.ps_report.specs.Reports.{IsPrintedReport};
 ghost use Rattle.ps_command.specs.CommandLine.{AreAccepted, AskForText, faults_in, named_in, texts};
@@ -16,7 +19,7 @@ use crate::lists::{Form, print_lists};
 use crate::output;
 use crate::request::{self, Inputs, Request, Task};
 use ps_errors::CommandError;
-use ps_linkfile::{Counting, Counts, Linked, Summary};
+use ps_linkfile::{Counting, Counts, Linked, ReferenceMap, Summary};
 use ps_report::{PrintError, Printing};
 use std::alloc::{AllocError, Allocator, Global};
 use std::io::Write;
@@ -330,6 +333,22 @@ fn map_bytes<A: Allocator + Copy, O: Write>(
     ensures usage { IfErr result (λ e. status_of e ≢ 2) }
 {
     let linked = ps_linkfile::prepare(alloc, host, libraries)?;
+    write_map(&linked, json, out)
+}
+
+/// Writes the map of a link that is prepared, with `json` as JSON. Nothing is let go here where a
+/// write fails: the plan is the caller's.
+fn write_map<A: Allocator + Copy, O: Write>(
+    linked: &Linked<'_, A>,
+    json: bool,
+    out: &mut O,
+) -> Result<(), CommandError<'static>>
+    ensures ok { (host : List ℕ) (libs : List (List ℕ)) → map_in linked.now ≡ map_of host libs
+        → map_json_in linked.now ≡ map_json_of host libs → OnOk result ((text : List ℕ)
+        × IsPrintedMap false json host libs text
+        × Appends (O.contents out.old) (O.contents out.new) text) }
+    ensures err { IfErr result (λ e. e ≡ CommandError.StandardOutput) }
+{
     if json {
         return Ok(linked.write_map_json(out, &mut Counts::new())?);
     }
@@ -353,6 +372,22 @@ fn references_bytes<A: Allocator + Copy, O: Write>(
     ensures usage { IfErr result (λ e. status_of e ≢ 2) }
 {
     let map = ps_linkfile::prepare_references(alloc, host, libraries)?;
+    write_references(&map, json, out)
+}
+
+/// Writes the map of a link that is prepared and what the link stores, with `json` as JSON.
+fn write_references<A: Allocator + Copy, O: Write>(
+    map: &ReferenceMap<'_, A>,
+    json: bool,
+    out: &mut O,
+) -> Result<(), CommandError<'static>>
+    ensures ok { (host : List ℕ) (libs : List (List ℕ))
+        → references_text map.now ≡ map_of host libs ++ references_of host libs
+        → IsReferencesJson host libs (referenced_json map.now) → OnOk result ((text : List ℕ)
+        × IsPrintedMap true json host libs text
+        × Appends (O.contents out.old) (O.contents out.new) text) }
+    ensures err { IfErr result (λ e. e ≡ CommandError.StandardOutput) }
+{
     if json {
         return Ok(map.write_json(out, &mut Counts::new())?);
     }

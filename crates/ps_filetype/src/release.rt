@@ -1,7 +1,7 @@
 //! Code files of later releases of the p-System.
 ghost use Rattle.std.specs.Prelude.{◌≡◌, ◌<◌, ◌≤◌, ◌==◌, length};
 ghost use Rattle.std.specs.List.{list_all, list_any, range_with_len};
-ghost use Rattle.ps_codefile.specs.Dictionary.{name_at};
+ghost use Rattle.ps_codefile.specs.Dictionary.{name_at, slots};
 ghost use Rattle.ps_filetype.specs.CodeFiles.{is_letter};
 ghost use Rattle.ps_filetype.specs.CodeTypes.{has_version as has_version_spec, has_versions as has_versions_spec, information as information_spec, is_four as is_four_spec, is_later as is_later_spec, is_later_in as is_later_in_spec, is_of_version as is_of_version_spec, is_used as is_used_spec};
 
@@ -167,6 +167,14 @@ fn are_of_version(order: Order, block: &[u8], first: u16, last: u16, end: u8) ->
     (0..end).all(|slot| is_of_version(order, block, first, last, slot))
 }
 
+/// So is each slot.
+fn are_all_of_version(order: Order, block: &[u8], first: u16, last: u16) -> bool
+    requires { 512 ≤ length block.now }
+    ensures { result ≡ list_all (is_of_version_spec order block.now first last) slots }
+{
+    are_of_version(order, block, first, last, SLOTS)
+}
+
 /// One of the slots below `end` has a segment.
 fn has_segment(order: Order, block: &[u8], end: u8) -> bool
     requires in_range { end ≤ 16 }
@@ -176,6 +184,14 @@ fn has_segment(order: Order, block: &[u8], end: u8) -> bool
     (0..end).any(|slot| is_used(order, block, slot))
 }
 
+/// Some slot has a segment.
+fn has_segments(order: Order, block: &[u8]) -> bool
+    requires { 512 ≤ length block.now }
+    ensures { result ≡ list_any (is_used_spec order block.now) slots }
+{
+    has_segment(order, block, SLOTS)
+}
+
 /// Each segment has a name, a number and a version from `first` to `last`, each other slot has
 /// neither, and there is a segment.
 #[tactic(auto, unfolding(crate::specs::CodeTypes::has_versions))]
@@ -183,5 +199,5 @@ fn has_versions(order: Order, block: &[u8], first: u16, last: u16) -> bool
     requires { 512 ≤ length block.now }
     ensures { result ≡ has_versions_spec order block.now first last }
 {
-    are_of_version(order, block, first, last, SLOTS) && has_segment(order, block, SLOTS)
+    are_all_of_version(order, block, first, last) && has_segments(order, block)
 }

@@ -1,5 +1,5 @@
 -- As many lists of edits as segments, and as many sources.
-use Rattle.ps_resolve.proofs.Vocabulary.{◌≡◌, ℕ, ◌+◌, List, [], ◌∷◌, length, map, refl, arith, length-map, Order, Edit, Segment, private_words, Known, edited_from, LinkSegments, origin_of, origin_of_source}
+use Rattle.ps_resolve.proofs.Vocabulary.{◌≡◌, ◌∙◌, ℕ, ◌+◌, List, [], ◌∷◌, length, map, refl, sym, ap, arith, length-map, Order, Edit, Segment, private_words, Known, edited_from, LinkSegments, origin_of, origin_of_source}
 use Rattle.ps_resolve.specs.declared.plan.Source.{Source}
 
 -- lists of edits that link segments are as many as these
@@ -22,4 +22,6 @@ pub lengths : (order : Order) (known : Known) (words free : ℕ) (segs : List Se
     → LinkSegments order (edited_from order known words free segs) ds
     → map origin_of_source sources ≡ map origin_of segs → length ds ≡ length sources
 lengths order known words free segs ds sources h o =
-    grind (arith, linked_len, edited_len, length-map)
+    linked_len order (edited_from order known words free segs) ds h
+    ∙ edited_len order known words free segs ∙ sym (length-map segs origin_of)
+    ∙ ap length (sym o) ∙ length-map sources origin_of_source

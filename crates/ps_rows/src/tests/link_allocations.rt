@@ -4,6 +4,7 @@ use super::answers::{is, text_of};
 use super::plan::{describe, text_of_stop};
 use super::tables::{Base, Check, IN_PLACE, LONG_UNIT_PAIR, PAIR};
 use super::writers::{Full, Room};
+use crate::notation::holds_of;
 use ps_linkfile::{Counting, LinkError, Linked, Summary, link, map_text, prepare};
 use ps_resolve::resolve;
 use refusing::Refusing;
@@ -142,7 +143,7 @@ fn writing_grows_nothing(
 /// Checks how many allocations there were on a heap, and of how many bytes.
 fn has_grown(rt: &impl Abort, heap: &Refusing<Global>, asked: (u64, u64)) {
     let grown = (heap.allocations(), heap.bytes());
-    assert!(rt; grown == asked, "{grown:?}");
+    holds_of(rt, grown == asked, &grown)
 }
 
 /// Checks that the map of a link takes memory for its plan and for its text alone. The text has 128
@@ -166,7 +167,7 @@ fn has_room(rt: &impl Abort, length: u64, (grown, asked): (u64, u64)) {
     let is_right = (128..256).contains(&length)
         && (1..8).contains(&grown)
         && (length..=length.saturating_mul(4)).contains(&asked);
-    assert!(rt; is_right, "{length} {grown} {asked}");
+    holds_of(rt, is_right, &(length, grown, asked))
 }
 
 /// A link of unchanged files: how many allocations its plan makes and of how many bytes, the plan,
@@ -185,10 +186,8 @@ impl<'a> Check for Planned<'a> {
         let planning = refused_allocations(rt, "resolve", &Resolve { link: *link }, self.plan);
         let preparing = refused_allocations(rt, "prepare", &Prepare { link: *link }, self.summary);
         let (allocations, _) = self.asked;
-        assert!(rt;
-            (planning, preparing) == (allocations, allocations),
-            "{planning} {preparing}"
-        );
+        let is_right = (planning, preparing) == (allocations, allocations);
+        holds_of(rt, is_right, &(planning, preparing));
         writing_grows_nothing(rt, link, self.asked, self.summary);
         a_map_grows_by_its_text(rt, link, self.asked)
     }

@@ -7,6 +7,7 @@ use super::texts::{Map, Show};
 use super::writers::Full::{Fails, Stalls};
 use super::writers::{Counts, Full, Room, Writer};
 use crate::code_file::CodeFile;
+use crate::notation::{holds, holds_of};
 use ps_linkfile::{
     Counting, LinkError, Linked, Summary, ToldWriter, WriteFault, link, prepare, write_show,
 };
@@ -77,10 +78,9 @@ fn was_given(
     answer: &str,
 ) -> Counts {
     let text = answer_of(rt.alloc(), answered).expect(rt, "unexpected error");
-    assert!(rt; text.as_str() == answer, "{room} {per_write}: {text}");
-    let prefix = bytes.get(..room).unwrap_or(bytes);
-    assert!(rt; out.written() == prefix, "{room} {per_write}");
-    assert!(rt; out.flushes == 0, "{room} {per_write}");
+    let written = out.written() == bytes.get(..room).unwrap_or(bytes);
+    holds(rt, text.as_str() == answer, text.as_str());
+    holds_of(rt, written && out.flushes == 0, &(room, per_write));
     out.counts()
 }
 
@@ -109,7 +109,7 @@ pub(crate) fn writes<T: Writing>(
 ) {
     let counted = counts_where_written(rt, written, writer, answer);
     let (room, per_write, _) = writer;
-    assert!(rt; counted == counts, "{room} {per_write}: {counted:?}");
+    holds_of(rt, counted == counts, &(room, per_write, counted))
 }
 
 /// The same of a linked file, which is written to a writer that counts as it does itself.
@@ -127,10 +127,8 @@ fn tells(
     let out = out.into_inner();
     let counted = was_given(rt, answered.map(Some), &out, (file, writer), answer);
     let (room, per_write, _) = writer;
-    assert!(rt;
-        (told, counted) == (counts, counts),
-        "{room} {per_write}: {told:?}"
-    );
+    let is_right = told == counts && counted == counts;
+    holds_of(rt, is_right, &(room, per_write, told))
 }
 
 /// What a writer that counts has counted.
@@ -304,7 +302,7 @@ pub(crate) fn writes_long_text<T: Writing>(rt: &(impl Abort + AllocGlobal), call
         let room = text.len().saturating_mul(*halves) / 2;
         let writer = (room, ALL, *full);
         let [_, failures, stalls, _] = counts_where_written(rt, (call, text), writer, *answer);
-        assert!(rt; (failures, stalls) == *wanted, "{room}");
+        holds_of(rt, (failures, stalls) == *wanted, &room);
     }
 }
 
@@ -363,9 +361,8 @@ fn has_counted(
 ) {
     let [_, errors, stalls, _] = out.counts();
     let counted = [told.writes, told.errors, told.stalls, told.shorts];
-    assert!(rt; is_written == (wanted == (0, 0)), "{wanted:?}");
-    assert!(rt; (errors, stalls) == wanted, "{wanted:?}");
-    assert!(rt; counted == out.counts(), "{wanted:?}");
+    let is_right = is_written == (wanted == (0, 0)) && (errors, stalls) == wanted;
+    holds_of(rt, is_right && counted == out.counts(), &wanted)
 }
 
 /// Writes a map, and counts.

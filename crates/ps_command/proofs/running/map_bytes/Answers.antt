@@ -1,22 +1,12 @@
-use Rattle.ps_linkfile.specs.MapJson.{map_json_in}
-use Rattle.ps_linkfile.specs.MapText.{map_in}
+use Rattle.std.proofs.Common.{map}
+use Rattle.std.proofs.lemmas.Result.{on_ok_weaker}
 use Rattle.ps_linkfile.specs.Writing.{file_in}
 use Rattle.ps_command.proofs.running.map_bytes.Goals as goal
 
-pub returns-then-json-clause-ok : goal.returns-then-json-clause-ok
-returns-then-json-clause-ok g c = let plan = c.in_ok-linked.linked in (
-  file_in plan,
-  map_json_in plan,
-  c.in_ok-linked.ensures.linked.file,
-  rw c.if-json.true c.in_ok-linked.ensures.json,
-  c.in_ok-write_map_json.ensures.json,
-)
-
 pub returns-clause-ok : goal.returns-clause-ok
-returns-clause-ok g c = let plan = c.in_ok-linked.linked in (
-  file_in plan,
-  map_in plan,
-  c.in_ok-linked.ensures.linked.file,
-  rw c.if-json.false c.in_ok-linked.ensures.map,
-  c.in_ok-write_map.ensures.map,
-)
+returns-clause-ok g c =
+    let is = c.in_ok-linked.ensures in
+    let libs = map (λ lib. lib.now) c.args.libraries.now in
+    on_ok_weaker c.write_map.result
+    (λ printed. (file_in c.in_ok-linked.linked, printed.0, is.linked.file, printed.1, printed.2))
+    (c.write_map.ensures.ok c.args.host.now libs is.map is.json)
