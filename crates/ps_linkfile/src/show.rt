@@ -1,5 +1,5 @@
 //! What a code file has, as text.
-ghost use Rattle.std.specs.Prelude.{◌≡◌, ◌<◌, ◌++◌, ◌∷◌, [], if◌then◌else◌, None, Some, IfOk, IfErr, OnOk, codes};
+ghost use Rattle.std.specs.Prelude.{◌≡◌, ◌<◌, ◌++◌, ◌∷◌, [], if◌then◌else◌, None, Some, IfOk, IfErr, OnOk, codes, not};
 ghost use Rattle.std.specs.Io.KnownBytes.{Appends};
 ghost use Rattle.std.specs.List.{flat_map};
 ghost use Rattle.ps_words.specs.FaultPlaces.{in_file};
@@ -13,22 +13,21 @@ ghost use Rattle.ps_linkfile.specs.Adding.{Adds};
 ghost use Rattle.ps_linkfile.specs.Counts.{NoneFailed};
 ghost use Rattle.ps_linkfile.specs.declared.rows.Form.TheVariants.{Lines};
 ghost use Rattle.ps_linkfile.specs.Lines.{line};
-ghost use Rattle.ps_linkfile.specs.Rows.{Kind, Named, Number, Record, row_in};
+ghost use Rattle.ps_linkfile.specs.Rows.{Flag, Kind, Named, Number, Record, References, row_in};
 ghost use Rattle.ps_linkfile.specs.Outcomes.{LeavesFailure, LeavesTextPrefix, LeavesUntouched};
 ghost use Rattle.ps_linkfile.specs.ShowText.{entry_in, order_words, slot_line, unit_names as unit_names_spec, is_listed as is_listed_spec, record_in, fault_in, records_in, has_links as has_links_spec, links_head, links_in, show_of, order_shown, show_fault, IsUnshown, IsUnwritten};
 
 use crate::counts::Counts;
 use crate::error::LinkError;
 use crate::in_memory::in_memory;
-use crate::json::separator;
 use crate::lines::two_digits;
-use crate::rows::{Form, RowPart, add_by_form, add_parts, add_reason, add_row};
+use crate::rows::{Form, RowPart, add_by_form, add_part, add_reason, begin_row, end_row};
 use crate::stream::write_text;
 use crate::text_writer::{Text, TextWriter};
 use arrayvec::ArrayVec;
 use ps_codefile::dictionary_layout::{SLOT_COUNT, SLOTS};
 use ps_codefile::{Dict, Entry, Role};
-use ps_linkinfo::{Body, LinkRecord, Records, walk_from_start};
+use ps_linkinfo::{Body, LinkRecord, Records, Refs, walk_from_start};
 use ps_words::{Fault, Name, Order, Reason};
 use std::alloc::Allocator;
 use std::io::Write;
@@ -96,15 +95,20 @@ fn add_order<S: TextWriter>(text: &mut S, order: Option<Order>)
 pub(crate) fn add_entry<S: TextWriter>(text: &mut S, form: Form, slot: u8, entry: Entry)
     ensures { Adds S.added text.old (entry_in form slot entry) text.new }
 {
-    let parts = [
-        RowPart::InSlot(b"slot ", slot, entry.name),
-        RowPart::Number(b"kind", entry.kind as usize),
+    begin_row(text, form, slot as usize);
+    add_part(text, form, RowPart::InSlot(b"slot ", slot, entry.name));
+    add_part(text, form, RowPart::Number(b"kind", entry.kind as usize));
+    add_part(
+        text,
+        form,
         RowPart::Number(b"address", entry.address as usize),
+    );
+    add_part(
+        text,
+        form,
         RowPart::Number(b"length", entry.length as usize),
-        RowPart::Number(b"text", entry.text as usize),
-    ];
-    add_by_form(text, form, b"", separator(slot == 0));
-    add_parts(text, form, &parts);
+    );
+    add_part(text, form, RowPart::Number(b"text", entry.text as usize));
     add_by_form(text, form, b"\n", b"");
 }
 
@@ -179,13 +183,90 @@ fn add_valued<S: TextWriter>(
     ensures { Adds S.added text.old (row_in form rec (Record rec ∷ Kind kind.now ∷ Named name
         ∷ Number (codes "value") value ∷ [])) text.new }
 {
-    let parts = [
-        RowPart::Record(rec),
-        RowPart::Kind(kind),
-        RowPart::Named(name),
-        RowPart::Number(b"value", value as usize),
-    ];
-    add_row(text, form, rec, &parts);
+    begin_row(text, form, rec);
+    add_part(text, form, RowPart::Record(rec));
+    add_part(text, form, RowPart::Kind(kind));
+    add_part(text, form, RowPart::Named(name));
+    add_part(text, form, RowPart::Number(b"value", value as usize));
+    end_row(text, form);
+}
+
+/// Adds the row of a reference to a unit, in a file with these units.
+fn add_unit_reference<S: TextWriter>(
+    text: &mut S,
+    form: Form,
+    units: &[Name],
+    rec: usize,
+    name: Name,
+    refs: &Refs,
+)
+    ensures { Adds S.added text.old (row_in form rec (Record rec ∷ Kind (codes "UNITREF")
+        ∷ Named name ∷ References refs.now
+        ∷ Flag (codes "unlisted") (not (is_listed_spec units.now name)) ∷ [])) text.new }
+{
+    begin_row(text, form, rec);
+    add_part(text, form, RowPart::Record(rec));
+    add_part(text, form, RowPart::Kind(b"UNITREF"));
+    add_part(text, form, RowPart::Named(name));
+    add_part(text, form, RowPart::References(refs));
+    add_part(
+        text,
+        form,
+        RowPart::Flag(b"unlisted", !is_listed(units, name)),
+    );
+    end_row(text, form);
+}
+
+/// Adds the row of a reference to a public definition.
+fn add_public_reference<S: TextWriter>(
+    text: &mut S,
+    form: Form,
+    rec: usize,
+    name: Name,
+    refs: &Refs,
+)
+    ensures { Adds S.added text.old (row_in form rec (Record rec ∷ Kind (codes "PUBLREF")
+        ∷ Named name ∷ References refs.now ∷ [])) text.new }
+{
+    begin_row(text, form, rec);
+    add_part(text, form, RowPart::Record(rec));
+    add_part(text, form, RowPart::Kind(b"PUBLREF"));
+    add_part(text, form, RowPart::Named(name));
+    add_part(text, form, RowPart::References(refs));
+    end_row(text, form);
+}
+
+/// Adds the row of a private variable of so many words.
+fn add_private_reference<S: TextWriter>(
+    text: &mut S,
+    form: Form,
+    rec: usize,
+    name: Name,
+    words: u16,
+    refs: &Refs,
+)
+    ensures { Adds S.added text.old (row_in form rec (Record rec ∷ Kind (codes "PRIVREF")
+        ∷ Named name ∷ Number (codes "words") words ∷ References refs.now ∷ [])) text.new }
+{
+    begin_row(text, form, rec);
+    add_part(text, form, RowPart::Record(rec));
+    add_part(text, form, RowPart::Kind(b"PRIVREF"));
+    add_part(text, form, RowPart::Named(name));
+    add_part(text, form, RowPart::Number(b"words", words as usize));
+    add_part(text, form, RowPart::References(refs));
+    end_row(text, form);
+}
+
+/// Adds the row of an end mark.
+fn add_end_mark<S: TextWriter>(text: &mut S, form: Form, rec: usize, next_free: u16)
+    ensures { Adds S.added text.old (row_in form rec (Record rec ∷ Kind (codes "EOFMARK")
+        ∷ Number (codes "next") next_free ∷ [])) text.new }
+{
+    begin_row(text, form, rec);
+    add_part(text, form, RowPart::Record(rec));
+    add_part(text, form, RowPart::Kind(b"EOFMARK"));
+    add_part(text, form, RowPart::Number(b"next", next_free as usize));
+    end_row(text, form);
 }
 
 /// Adds the row of a record, which has the index `rec` in its segment's link information, in a
@@ -201,45 +282,14 @@ fn add_record<S: TextWriter>(
 {
     let name = entry.name;
     match &entry.body {
-        Body::UnitRef(refs) => {
-            let parts = [
-                RowPart::Record(rec),
-                RowPart::Kind(b"UNITREF"),
-                RowPart::Named(name),
-                RowPart::References(refs),
-                RowPart::Flag(b"unlisted", !is_listed(units, name)),
-            ];
-            add_row(text, form, rec, &parts);
-        }
-        Body::PublRef(refs) => {
-            let parts = [
-                RowPart::Record(rec),
-                RowPart::Kind(b"PUBLREF"),
-                RowPart::Named(name),
-                RowPart::References(refs),
-            ];
-            add_row(text, form, rec, &parts);
-        }
+        Body::UnitRef(refs) => add_unit_reference(text, form, units, rec, name, refs),
+        Body::PublRef(refs) => add_public_reference(text, form, rec, name, refs),
         Body::PrivRef { words, refs } => {
-            let parts = [
-                RowPart::Record(rec),
-                RowPart::Kind(b"PRIVREF"),
-                RowPart::Named(name),
-                RowPart::Number(b"words", *words as usize),
-                RowPart::References(refs),
-            ];
-            add_row(text, form, rec, &parts);
+            add_private_reference(text, form, rec, name, *words, refs);
         }
         Body::PublDef(value) => add_valued(text, form, rec, b"PUBLDEF", name, *value),
         Body::ConstDef(value) => add_valued(text, form, rec, b"CONSTDEF", name, *value),
-        Body::Eof(next) => {
-            let parts = [
-                RowPart::Record(rec),
-                RowPart::Kind(b"EOFMARK"),
-                RowPart::Number(b"next", *next as usize),
-            ];
-            add_row(text, form, rec, &parts);
-        }
+        Body::Eof(next) => add_end_mark(text, form, rec, *next),
     }
 }
 
@@ -247,12 +297,10 @@ fn add_record<S: TextWriter>(
 fn add_record_fault<S: TextWriter>(text: &mut S, form: Form, rec: usize, reason: Reason)
     ensures { Adds S.added text.old (fault_in form rec (Some reason)) text.new }
 {
-    add_row(
-        text,
-        form,
-        rec,
-        &[RowPart::Record(rec), RowPart::Fault(reason)],
-    );
+    begin_row(text, form, rec);
+    add_part(text, form, RowPart::Record(rec));
+    add_part(text, form, RowPart::Fault(reason));
+    end_row(text, form);
 }
 
 /// Adds the rows of link information in a file with these units: of each record up to its end, or

@@ -11,7 +11,7 @@ ghost use Rattle.ps_report.specs.SlotLines.{AddsSlotLines};
 use crate::overview::{add_files, add_segments};
 use ps_explained::{Case, Explanation};
 use ps_resolve::{Reading, read};
-use ps_warnings::{Inputs, Looks, Segment, looks_of, segments_of};
+use ps_warnings::{Inputs, Looks, ReadSegment, looks_of, segments_of};
 use ps_words::Fault;
 use std::alloc::{AllocError, Allocator};
 use std::fmt::Write as _;
@@ -83,7 +83,7 @@ fn overview_of<A: Allocator + Copy>(
     alloc: A,
     inputs: &Inputs<'_>,
     reading: &Reading<'_>,
-    list: &[Segment<'_>],
+    list: &[ReadSegment<'_>],
 ) -> Result<String<A>, AllocError>
     ensures { IfOk result (λ text. reading_fault reading.now.host reading.now.libs ≡ None
         → AddsSlotLines [] (segment_lines
@@ -101,7 +101,7 @@ fn explanation_of<'a, A: Allocator>(
     alloc: A,
     inputs: &Inputs<'a>,
     reading: &Reading<'a>,
-    list: &[Segment<'a>],
+    list: &[ReadSegment<'a>],
     fault: Option<Fault>,
 ) -> Result<String<A>, AllocError>
     ensures { IfOk result (λ text. fault ≡ None → string_bytes text ≡ []) }
