@@ -4,7 +4,7 @@ use Rattle.ps_linkfile.proofs.Vocabulary.{is_some, Appends, AppendsPrefix, Write
 use Rattle.ps_linkfile.specs.Counts.{Failures, failures_with}
 use Rattle.std.proofs.lemmas.Bool.{false≢true}
 use Rattle.ps_linkfile.specs.Adding.{IsCounted, IsSent, IsKept}
-use Rattle.ps_linkfile.proofs.Prefixes.{appends_twice, prefix_last, prefix_then}
+use Rattle.ps_linkfile.proofs.Prefixes.{appends_none, appends_twice, prefix_last, prefix_then}
 
 -- of what was gathered and of these bytes, some was sent, and the rest is gathered
 abbrev pub Sends : Option (List ℕ) → Option (List ℕ) → List ℕ → List ℕ → List ℕ
@@ -36,6 +36,14 @@ module _ (first old new : Option (List ℕ)) (text gathered bytes : List ℕ) wh
       (prefix_last first old new h.0 (gathered ++ bytes) h.1 k)
   sent_prefix (Some fault) e h k = absurd (false≢true (sym e))
 
+  -- so it does after a writer that had not failed took them, or failed
+  pub sent_after : (rest : List ℕ) (before after : Option WriteFault) → is_some before ≡ false
+      → IsSent first text old gathered before → IsSent old (gathered ++ bytes) new rest after
+      → IsSent first (text ++ bytes) new rest after
+  sent_after rest None None e h k = sent_more rest None e h k
+  sent_after rest None (Some fault) e h k = sent_prefix None e h k
+  sent_after rest (Some fault) after e h k = absurd (false≢true (sym e))
+
 module _ (first mid last : Option (List ℕ)) (text gathered : List ℕ) where
   -- what was gathered at the end is sent, or a prefix of it
   pub sent_all : IsSent first text mid gathered None
@@ -53,18 +61,30 @@ pub sent_no_more : (first now : Option (List ℕ)) (text gathered bytes : List �
 sent_no_more first now text gathered bytes None e h = absurd (false≢true e)
 sent_no_more first now text gathered bytes (Some fault) e h = prefix_then first now text bytes h
 
+-- where no write has failed, what is gathered and sent is all
+module _ (old new : Option (List ℕ)) (gathered bytes rest : List ℕ) where
+  pub sent_now : (fault : Option WriteFault) → is_some fault ≡ false
+      → Sends old new gathered bytes rest → IsSent old (gathered ++ bytes) new rest fault
+  sent_now None e h = h
+  sent_now (Some fault) e h = absurd (false≢true (sym e))
+
+  -- where nothing is sent, all is gathered
+  pub sends_none : new ≡ old → rest ≡ gathered ++ bytes → Sends old new gathered bytes rest
+  sends_none same e = rw same ([], appends_none old, e)
+
 module _ (first old new : Failures) where
   -- where no write had failed, and none did or one does
-  pub counted_more : (fault : Option WriteFault) → is_some fault ≡ false
-      → IsCounted first old fault → new ≡ old → IsCounted first new fault
-  counted_more None e h k = k ∙ h
-  counted_more (Some fault) e h k = absurd (false≢true (sym e))
+  pub counted_after : (before after : Option WriteFault) → is_some before ≡ false
+      → IsCounted first old before → IsCounted old new after → IsCounted first new after
+  counted_after None None e h k = k ∙ h
+  counted_after None (Some fault) e h k = k ∙ ap (λ failures. failures_with fault failures) h
+  counted_after (Some before) after e h k = absurd (false≢true (sym e))
 
-  pub counted_fault : (before : Option WriteFault) (fault : WriteFault)
-      → is_some before ≡ false → IsCounted first old before
-      → new ≡ failures_with fault old → new ≡ failures_with fault first
-  counted_fault None fault e h k = k ∙ ap (λ failures. failures_with fault failures) h
-  counted_fault (Some before) fault e h k = absurd (false≢true (sym e))
+-- where no write has failed
+pub counted_now : (old new : Failures) (fault : Option WriteFault) → is_some fault ≡ false
+    → new ≡ old → IsCounted old new fault
+counted_now old new None e h = h
+counted_now old new (Some fault) e h = absurd (false≢true (sym e))
 
 -- where memory was refused, what is added is not kept
 pub kept_no_more : {E : Type 0} (first text now bytes : List ℕ) (error : Option E) → is_some

@@ -13,7 +13,7 @@ use crate::block_layout::lay_out;
 use crate::error::LinkError;
 use crate::in_memory::in_memory;
 use crate::linked::{Linked, prepare};
-use crate::rows::{Form, RowPart, add_by_form, add_parts, add_row};
+use crate::rows::{Form, RowPart, add_by_form, add_part, begin_row, end_row};
 use crate::text_writer::{Text, TextWriter};
 use ps_laws::first_of_all;
 use ps_resolve::{Def, DefKind, Definitions, Plan, Private, Source};
@@ -33,15 +33,14 @@ fn add_segment<S: TextWriter>(
         (row_in form index (code_row source.now.slot name source.now.file source.now.index block
         (length source.now.code.now) source.now.added)) text.new }
 {
-    let parts = [
-        RowPart::InSlot(b"segment ", source.slot, name),
-        RowPart::Number(b"file", source.file),
-        RowPart::Short(b"entry", source.index),
-        RowPart::Number(b"block", block as usize),
-        RowPart::Number(b"length", source.code.len()),
-        RowPart::Flag(b"added", source.added),
-    ];
-    add_row(text, form, index, &parts);
+    begin_row(text, form, index);
+    add_part(text, form, RowPart::InSlot(b"segment ", source.slot, name));
+    add_part(text, form, RowPart::Number(b"file", source.file));
+    add_part(text, form, RowPart::Short(b"entry", source.index));
+    add_part(text, form, RowPart::Number(b"block", block as usize));
+    add_part(text, form, RowPart::Number(b"length", source.code.len()));
+    add_part(text, form, RowPart::Flag(b"added", source.added));
+    end_row(text, form);
 }
 
 /// Adds a row for each segment, by slot. Their codes begin in these blocks.
@@ -83,12 +82,11 @@ fn kind_word(kind: DefKind) -> &'static [u8]
 fn add_definition<S: TextWriter>(text: &mut S, form: Form, index: usize, name: Name, def: Def)
     ensures { Adds S.added text.old (row_in form index (definition_row (name, def))) text.new }
 {
-    let parts = [
-        RowPart::OfKind(kind_word(def.kind)),
-        RowPart::Named(name),
-        RowPart::Number(b"value", def.value as usize),
-    ];
-    add_row(text, form, index, &parts);
+    begin_row(text, form, index);
+    add_part(text, form, RowPart::OfKind(kind_word(def.kind)));
+    add_part(text, form, RowPart::Named(name));
+    add_part(text, form, RowPart::Number(b"value", def.value as usize));
+    end_row(text, form);
 }
 
 /// Adds a row for each definition, in record order.
@@ -112,12 +110,23 @@ fn add_definitions<A: Allocator + Copy, S: TextWriter>(
 fn add_private<S: TextWriter>(text: &mut S, form: Form, index: usize, private: &Private)
     ensures { Adds S.added text.old (row_in form index (private_row private.now)) text.new }
 {
-    let parts = [
+    begin_row(text, form, index);
+    add_part(
+        text,
+        form,
         RowPart::InSlot(b"private ", private.slot, private.name),
+    );
+    add_part(
+        text,
+        form,
         RowPart::Number(b"offset", private.offset as usize),
+    );
+    add_part(
+        text,
+        form,
         RowPart::Number(b"words", private.words as usize),
-    ];
-    add_row(text, form, index, &parts);
+    );
+    end_row(text, form);
 }
 
 /// Adds a row for each private variable, by slot and then by record.
@@ -142,12 +151,17 @@ fn add_last<A: Allocator + Copy, S: TextWriter>(
     ensures { Adds S.added text.old
         (values_in form (last_row plan.now.next_free plan.now.data_size blocks)) text.new }
 {
-    let parts = [
+    add_part(
+        text,
+        form,
         RowPart::Total(b"next", plan.next_free() as usize),
+    );
+    add_part(
+        text,
+        form,
         RowPart::Number(b"data", plan.data_size() as usize),
-        RowPart::Number(b"blocks", blocks),
-    ];
-    add_parts(text, form, &parts);
+    );
+    add_part(text, form, RowPart::Number(b"blocks", blocks));
 }
 
 /// Adds the map of a plan that can be written, but for the end of a document.

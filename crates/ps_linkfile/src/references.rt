@@ -19,7 +19,7 @@ use crate::counts::Counts;
 use crate::error::{LinkError, WriteFault};
 use crate::json::separator;
 use crate::linked::Linked;
-use crate::rows::{Form, RowPart, add_by_form, add_parts, by_form};
+use crate::rows::{Form, RowPart, add_by_form, add_part, by_form};
 use crate::stored_places::{StoredPlaces, stored_in_segments};
 use crate::stream::write_text;
 use crate::text_writer::{Text, TextWriter};
@@ -92,14 +92,15 @@ fn item_end(cause: Cause) -> &'static [u8]
 fn add_reference<S: TextWriter>(text: &mut S, form: Form, kind: Kind, name: Name, index: usize)
     ensures { Adds S.added text.old (record_in form (Reference kind name index)) text.new }
 {
-    let parts = [
-        RowPart::Named(name),
-        RowPart::Number(by_form(form, b"record", b"index"), index),
-    ];
     add_by_form(text, form, b" ", b",\"record\":{\"kind\":\"");
     text.add(kind.word().as_bytes());
     add_by_form(text, form, b"", b"\"");
-    add_parts(text, form, &parts);
+    add_part(text, form, RowPart::Named(name));
+    add_part(
+        text,
+        form,
+        RowPart::Number(by_form(form, b"record", b"index"), index),
+    );
     add_by_form(text, form, b"", b"}");
 }
 
@@ -127,17 +128,30 @@ fn add_place<S: TextWriter, A: Allocator>(
     ensures { Adds S.added text.old (place_in form stored.now (place, Some cause)) text.new }
 {
     let width = cause.width();
-    let parts = [
+    add_part(
+        text,
+        form,
         RowPart::Stored(cause.word(), stored.slot, stored.name),
-        RowPart::Number(b"at", place),
+    );
+    add_part(text, form, RowPart::Number(b"at", place));
+    add_part(
+        text,
+        form,
         RowPart::Number(
             by_form(form, b"file", b"offset"),
             file_offset(stored.block, place),
         ),
+    );
+    add_part(
+        text,
+        form,
         RowPart::Bytes(b"was", bytes_at(stored.code, place, width)),
+    );
+    add_part(
+        text,
+        form,
         RowPart::Bytes(b"is", bytes_at(stored.linked.as_slice(), place, width)),
-    ];
-    add_parts(text, form, &parts);
+    );
     add_record(text, form, cause);
     add_by_form(text, form, b"\n", item_end(cause));
 }

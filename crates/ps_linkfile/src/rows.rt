@@ -1,10 +1,10 @@
 //! What map and its kin print: rows of values, as lines of text or as items of a JSON document.
-ghost use Rattle.std.specs.Prelude.{◌≡◌, ◌++◌, ◌∷◌, [], if◌then◌else◌, codes, map};
+ghost use Rattle.std.specs.Prelude.{◌≡◌, ◌++◌, ◌∷◌, [], if◌then◌else◌, codes};
 ghost use Rattle.std.specs.List.{flat_map};
 ghost use Rattle.ps_linkfile.specs.Adding.{Adds};
-ghost use Rattle.ps_linkfile.specs.JsonText.{json_bool as json_bool_spec, json_name, member};
+ghost use Rattle.ps_linkfile.specs.JsonText.{json_bool as json_bool_spec, json_name, member, separator as separator_spec};
 ghost use Rattle.ps_linkfile.specs.Lines.{hex_byte};
-ghost use Rattle.ps_linkfile.specs.Rows.{by_form as by_form_spec, in_item, in_line, reason_in, row_in, value_in, value_of, values_in};
+ghost use Rattle.ps_linkfile.specs.Rows.{by_form as by_form_spec, in_item, in_line, reason_in, value_in, value_of};
 
 use crate::json::{self, add_json_name, add_json_reason, json_bool, separator};
 use crate::lines::{add_fault, add_number, add_slot_name, shown_codes, two_digits};
@@ -73,6 +73,7 @@ fn add_flag<S: TextWriter>(text: &mut S, word: &[u8], holds: bool)
 }
 
 /// Adds a value as a line has it.
+#[inline(always)]
 fn add_in_line<S: TextWriter>(text: &mut S, part: RowPart)
     ensures { Adds S.added text.old (in_line (value_of part.entry)) text.new }
 {
@@ -187,6 +188,7 @@ fn add_name<S: TextWriter>(text: &mut S, name: Name)
 }
 
 /// Adds a value as an item has it.
+#[inline(always)]
 fn add_in_item<S: TextWriter>(text: &mut S, part: RowPart)
     ensures { Adds S.added text.old (in_item (value_of part.entry)) text.new }
 {
@@ -216,22 +218,14 @@ fn add_in_item<S: TextWriter>(text: &mut S, part: RowPart)
     }
 }
 
-/// Adds a value.
-fn add_part<S: TextWriter>(text: &mut S, form: Form, part: RowPart)
+/// Adds a value of a row.
+#[inline(always)]
+pub(crate) fn add_part<S: TextWriter>(text: &mut S, form: Form, part: RowPart)
     ensures { Adds S.added text.old (value_in form (value_of part.entry)) text.new }
 {
     match form {
         Form::Lines => add_in_line(text, part),
         Form::Json => add_in_item(text, part),
-    }
-}
-
-/// Adds the values of a row.
-pub(crate) fn add_parts<S: TextWriter>(text: &mut S, form: Form, parts: &[RowPart])
-    ensures { Adds S.added text.old (values_in form (map value_of parts.now)) text.new }
-{
-    for part in parts {
-        add_part(text, form, *part);
     }
 }
 
@@ -249,7 +243,10 @@ pub(crate) fn by_form<'w>(form: Form, line: &'w [u8], item: &'w [u8]) -> &'w [u8
 pub(crate) fn add_by_form<S: TextWriter>(text: &mut S, form: Form, line: &[u8], item: &[u8])
     ensures { Adds S.added text.old (by_form_spec form line.now item.now) text.new }
 {
-    text.add(by_form(form, line, item));
+    match form {
+        Form::Lines => text.add(line),
+        Form::Json => text.add(item),
+    }
 }
 
 /// Adds a fault of a code.
@@ -262,11 +259,16 @@ pub(crate) fn add_reason<S: TextWriter>(text: &mut S, form: Form, reason: Reason
     }
 }
 
-/// Adds the row of this index.
-pub(crate) fn add_row<S: TextWriter>(text: &mut S, form: Form, index: usize, parts: &[RowPart])
-    ensures { Adds S.added text.old (row_in form index (map value_of parts.now)) text.new }
+/// Adds what is before the row of this index.
+pub(crate) fn begin_row<S: TextWriter>(text: &mut S, form: Form, index: usize)
+    ensures { Adds S.added text.old (by_form_spec form [] (separator_spec index)) text.new }
 {
     add_by_form(text, form, b"", separator(index == 0));
-    add_parts(text, form, parts);
+}
+
+/// Adds what is after a row.
+pub(crate) fn end_row<S: TextWriter>(text: &mut S, form: Form)
+    ensures { Adds S.added text.old (by_form_spec form (codes "\n") (codes "}")) text.new }
+{
     add_by_form(text, form, b"\n", b"}");
 }

@@ -12,16 +12,15 @@ ghost use Rattle.ps_linkfile.specs.Adding.{Adds};
 ghost use Rattle.ps_linkfile.specs.Counts.{NoneFailed};
 ghost use Rattle.ps_linkfile.specs.declared.rows.Form.TheVariants.{Lines};
 ghost use Rattle.ps_linkfile.specs.Lines.{line};
-ghost use Rattle.ps_linkfile.specs.Rows.{Kind, Named, Number, Record, row_in};
+ghost use Rattle.ps_linkfile.specs.Rows.{values_in};
 ghost use Rattle.ps_linkfile.specs.Outcomes.{LeavesFailure, LeavesTextPrefix, LeavesUntouched};
-ghost use Rattle.ps_linkfile.specs.ShowText.{entry_in, order_words, slot_line, unit_names as unit_names_spec, is_listed as is_listed_spec, record_in, fault_in, records_in, has_links as has_links_spec, links_head, links_in, show_of, order_shown, show_fault, IsUnshown, IsUnwritten};
+ghost use Rattle.ps_linkfile.specs.ShowText.{entry_in, order_words, slot_line, unit_names as unit_names_spec, is_listed as is_listed_spec, body_row, record_in, fault_in, records_in, has_links as has_links_spec, links_head, links_in, show_of, order_shown, show_fault, IsUnshown, IsUnwritten};
 
 use crate::counts::Counts;
 use crate::error::LinkError;
 use crate::in_memory::in_memory;
-use crate::json::separator;
 use crate::lines::two_digits;
-use crate::rows::{Form, RowPart, add_by_form, add_parts, add_reason, add_row};
+use crate::rows::{Form, RowPart, add_by_form, add_part, add_reason, begin_row, end_row};
 use crate::stream::write_text;
 use crate::text_writer::{Text, TextWriter};
 use arrayvec::ArrayVec;
@@ -95,15 +94,20 @@ fn add_order<S: TextWriter>(text: &mut S, order: Option<Order>)
 pub(crate) fn add_entry<S: TextWriter>(text: &mut S, form: Form, slot: u8, entry: Entry)
     ensures { Adds S.added text.old (entry_in form slot entry) text.new }
 {
-    let parts = [
-        RowPart::InSlot(b"slot ", slot, entry.name),
-        RowPart::Number(b"kind", entry.kind as usize),
+    begin_row(text, form, slot as usize);
+    add_part(text, form, RowPart::InSlot(b"slot ", slot, entry.name));
+    add_part(text, form, RowPart::Number(b"kind", entry.kind as usize));
+    add_part(
+        text,
+        form,
         RowPart::Number(b"address", entry.address as usize),
+    );
+    add_part(
+        text,
+        form,
         RowPart::Number(b"length", entry.length as usize),
-        RowPart::Number(b"text", entry.text as usize),
-    ];
-    add_by_form(text, form, b"", separator(slot == 0));
-    add_parts(text, form, &parts);
+    );
+    add_part(text, form, RowPart::Number(b"text", entry.text as usize));
     add_by_form(text, form, b"\n", b"");
 }
 
@@ -167,25 +171,35 @@ pub(crate) fn is_listed(units: &[Name], name: Name) -> bool
     units.iter().any(|unit| *unit == name)
 }
 
-/// Adds the row of a definition of this kind.
-fn add_valued<S: TextWriter>(
-    text: &mut S,
-    form: Form,
-    rec: usize,
-    kind: &[u8],
-    name: Name,
-    value: u16,
-)
-    ensures { Adds S.added text.old (row_in form rec (Record rec ∷ Kind kind.now ∷ Named name
-        ∷ Number (codes "value") value ∷ [])) text.new }
+/// Adds what a record of this name says beside its kind, in a file with these units.
+fn add_body<S: TextWriter>(text: &mut S, form: Form, units: &[Name], name: Name, body: &Body)
+    ensures { Adds S.added text.old (values_in form (body_row units.now name body.now)) text.new }
 {
-    let parts = [
-        RowPart::Record(rec),
-        RowPart::Kind(kind),
-        RowPart::Named(name),
-        RowPart::Number(b"value", value as usize),
-    ];
-    add_row(text, form, rec, &parts);
+    match body {
+        Body::UnitRef(refs) => {
+            add_part(text, form, RowPart::Named(name));
+            add_part(text, form, RowPart::References(refs));
+            add_part(
+                text,
+                form,
+                RowPart::Flag(b"unlisted", !is_listed(units, name)),
+            );
+        }
+        Body::PublRef(refs) => {
+            add_part(text, form, RowPart::Named(name));
+            add_part(text, form, RowPart::References(refs));
+        }
+        Body::PrivRef { words, refs } => {
+            add_part(text, form, RowPart::Named(name));
+            add_part(text, form, RowPart::Number(b"words", *words as usize));
+            add_part(text, form, RowPart::References(refs));
+        }
+        Body::PublDef(value) | Body::ConstDef(value) => {
+            add_part(text, form, RowPart::Named(name));
+            add_part(text, form, RowPart::Number(b"value", *value as usize));
+        }
+        Body::Eof(next) => add_part(text, form, RowPart::Number(b"next", *next as usize)),
+    }
 }
 
 /// Adds the row of a record, which has the index `rec` in its segment's link information, in a
@@ -199,62 +213,25 @@ fn add_record<S: TextWriter>(
 )
     ensures { Adds S.added text.old (record_in form units.now (rec, entry.now)) text.new }
 {
-    let name = entry.name;
-    let kind = entry.body.kind().word().as_bytes();
-    match &entry.body {
-        Body::UnitRef(refs) => {
-            let parts = [
-                RowPart::Record(rec),
-                RowPart::Kind(kind),
-                RowPart::Named(name),
-                RowPart::References(refs),
-                RowPart::Flag(b"unlisted", !is_listed(units, name)),
-            ];
-            add_row(text, form, rec, &parts);
-        }
-        Body::PublRef(refs) => {
-            let parts = [
-                RowPart::Record(rec),
-                RowPart::Kind(kind),
-                RowPart::Named(name),
-                RowPart::References(refs),
-            ];
-            add_row(text, form, rec, &parts);
-        }
-        Body::PrivRef { words, refs } => {
-            let parts = [
-                RowPart::Record(rec),
-                RowPart::Kind(kind),
-                RowPart::Named(name),
-                RowPart::Number(b"words", *words as usize),
-                RowPart::References(refs),
-            ];
-            add_row(text, form, rec, &parts);
-        }
-        Body::PublDef(value) | Body::ConstDef(value) => {
-            add_valued(text, form, rec, kind, name, *value)
-        }
-        Body::Eof(next) => {
-            let parts = [
-                RowPart::Record(rec),
-                RowPart::Kind(kind),
-                RowPart::Number(b"next", *next as usize),
-            ];
-            add_row(text, form, rec, &parts);
-        }
-    }
+    begin_row(text, form, rec);
+    add_part(text, form, RowPart::Record(rec));
+    add_part(
+        text,
+        form,
+        RowPart::Kind(entry.body.kind().word().as_bytes()),
+    );
+    add_body(text, form, units, entry.name, &entry.body);
+    end_row(text, form);
 }
 
 /// Adds the row of a fault that occurs in place of the record of index `rec`.
 fn add_record_fault<S: TextWriter>(text: &mut S, form: Form, rec: usize, reason: Reason)
     ensures { Adds S.added text.old (fault_in form rec (Some reason)) text.new }
 {
-    add_row(
-        text,
-        form,
-        rec,
-        &[RowPart::Record(rec), RowPart::Fault(reason)],
-    );
+    begin_row(text, form, rec);
+    add_part(text, form, RowPart::Record(rec));
+    add_part(text, form, RowPart::Fault(reason));
+    end_row(text, form);
 }
 
 /// Adds the rows of link information in a file with these units: of each record up to its end, or

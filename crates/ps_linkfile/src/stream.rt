@@ -36,8 +36,8 @@ fn flush<W: Write>(
     Ok(())
 }
 
-/// Gathers these bytes, and writes what was gathered before where there is no room for them.
-fn gather<W: Write>(
+/// Writes what was gathered, and gathers these bytes, or writes them where they do not fit.
+fn send<W: Write>(
     out: &mut W,
     counts: &mut Counts,
     gathered: &mut Gathered,
@@ -51,9 +51,6 @@ fn gather<W: Write>(
     ensures ok { OnOk result (NoneFailed counts.old counts.new) }
     ensures failed { IfErr result (λ fault. OneFailed fault counts.old counts.new) }
 {
-    if gathered.try_extend_from_slice(bytes).is_ok() {
-        return Ok(());
-    }
     flush(out, counts, gathered)?;
     if gathered.try_extend_from_slice(bytes).is_ok() {
         return Ok(());
@@ -69,6 +66,30 @@ struct Stream<'w, W: Write> {
     fault: Option<WriteFault>,
 }
 
+impl<W: Write> Stream<'_, W> {
+    ghost use Rattle.std.specs.Prelude.{◌≡◌, ◌++◌, false, is_some};
+    ghost use Rattle.ps_linkfile.specs.Adding.{IsCounted, IsSent};
+    ghost use Rattle.ps_linkfile.specs.Counts.{failures_in};
+
+    /// Adds bytes for which there is no room beside what was gathered. It is rare, so it is no part
+    /// of `add`.
+    #[inline(never)]
+    fn add_after_flush(&mut self, bytes: &[u8])
+        requires { is_some self.old.fault ≡ false }
+        ensures out { self.new.out.ghost_name ≡ self.old.out.ghost_name }
+        ensures counts { self.new.counts.ghost_name ≡ self.old.counts.ghost_name }
+        ensures sent { IsSent (W.contents self.old.out.now) (self.old.gathered.items ++ bytes.now)
+            (W.contents self.new.out.now) self.new.gathered.items self.new.fault }
+        ensures counted { IsCounted (failures_in self.old.counts.now)
+            (failures_in self.new.counts.now) self.new.fault }
+    {
+        match send(self.out, self.counts, &mut self.gathered, bytes) {
+            Ok(()) => {}
+            Err(fault) => self.fault = Some(fault),
+        }
+    }
+}
+
 impl<W: Write> TextWriter for Stream<'_, W> {
     ghost use Rattle.std.specs.Prelude.{◌≡◌};
     ghost use Rattle.ps_linkfile.specs.Adding.{IsCounted, IsSent};
@@ -76,14 +97,15 @@ impl<W: Write> TextWriter for Stream<'_, W> {
 
     ghost added = { λ first text now. (now.out.ghost_name ≡ first.out.ghost_name) × (now.counts.ghost_name ≡ first.counts.ghost_name) × IsSent (W.contents first.out.now) text (W.contents now.out.now) now.gathered.items now.fault × IsCounted (failures_in first.counts.now) (failures_in now.counts.now) now.fault };
 
+    #[inline]
     fn add(&mut self, bytes: &[u8]) {
         if self.fault.is_some() {
             return;
         }
-        match gather(self.out, self.counts, &mut self.gathered, bytes) {
-            Ok(()) => {}
-            Err(fault) => self.fault = Some(fault),
+        if self.gathered.try_extend_from_slice(bytes).is_ok() {
+            return;
         }
+        self.add_after_flush(bytes);
     }
 
     fn has_failed(&self) -> bool {

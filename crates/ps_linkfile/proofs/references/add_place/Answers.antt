@@ -1,4 +1,4 @@
-use Rattle.ps_linkfile.proofs.Written.{adds_is, ◌⨾◌}
+use Rattle.ps_linkfile.proofs.Written.{adds_is, adds_none, ◌⨾◌}
 use Rattle.ps_linkfile.proofs.references.add_place.Goals as goal
 
 pub returns : goal.returns
@@ -12,4 +12,5 @@ returns g c = adds_is (rw (
   c.as_slice.ensures.value,
   c.item_end.ensures,
   ← c.stored.view_is,
-)) (c.add_parts.ensures ⨾ c.add_record.ensures ⨾ c.add_by_form.ensures)
+)) ((c.add_part.ensures ⨾ (c.add_part-2.ensures ⨾ (c.add_part-3.ensures ⨾ (c.add_part-4.ensures
+    ⨾ (c.add_part-5.ensures ⨾ adds_none))))) ⨾ c.add_record.ensures ⨾ c.add_by_form.ensures)
