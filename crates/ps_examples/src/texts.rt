@@ -11,7 +11,6 @@ ghost use Rattle.ps_linkfile.specs.ShowText.{show_of, slot_line, links_lines};
 ghost use Rattle.ps_words.specs.declared.order.Order.TheVariants.{Little, Big};
 
 /// What map prints of a link.
-#[tactic(auto, unfolding(ps_linkfile::specs::MapText::map_of, ps_resolve::specs::Sources::own_segments, ps_resolve::specs::Added::empty_slots, ps_resolve::specs::Added::rounds, ps_resolve::specs::Added::segments, core::specs::Fmt::digits))]
 pub fn map_texts()
     ensures a_host_and_its_library { map_of host (library ∷ []) ≡ map_of_the_pair }
     ensures a_constant_after_the_public_variable { map_of
@@ -26,7 +25,6 @@ pub fn map_texts()
 {}
 
 /// What map prints of what a link stores, as lines.
-#[tactic(auto, unfolding(ps_linkfile::specs::ReferencesText::references_of, ps_linkfile::specs::ReferencesText::all_stored_of, ps_resolve::specs::Sources::own_segments, ps_resolve::specs::Added::empty_slots, ps_resolve::specs::Added::rounds, ps_resolve::specs::Added::segments, core::specs::Fmt::digits))]
 pub fn reference_texts()
     ensures a_host_and_its_library { references_of host (library ∷ []) ≡ references_of_the_pair }
     ensures a_unit_that_names_itself { references_of host (library_with Little
@@ -46,7 +44,6 @@ pub fn json_documents()
 {}
 
 /// What show prints of a file, of a slot, and of the link information of a slot.
-#[tactic(auto, unfolding(ps_linkfile::specs::ShowText::show_of, ps_linkfile::specs::ShowText::slot_line, ps_linkfile::specs::ShowText::links_in, ps_linkfile::specs::ShowText::links_lines, ps_linkfile::specs::ShowText::unit_names, core::specs::Fmt::digits))]
 pub fn show_texts()
     ensures the_library { show_of library ≡ show_of_the_library }
     ensures the_library_cut_in_its_end_mark { show_of (take 1103 library) ≡ show_without_an_end }

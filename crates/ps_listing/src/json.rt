@@ -42,7 +42,6 @@ fn add_optional<S: TextWriter>(text: &mut S, number: Option<usize>)
 }
 
 /// Adds a fault: its number, its name, and the index of the record, if it has one.
-#[tactic(auto, using(ps_linkfile::proofs::Written::adds_is))]
 pub(crate) fn add_fault<S: TextWriter>(text: &mut S, reason: Reason, rec: Option<usize>)
     ensures { Adds S.added text.old (fault_json reason rec) text.new }
 {

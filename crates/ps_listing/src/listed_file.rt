@@ -40,7 +40,6 @@ impl Text for ListedFile<'_> {
 }
 
 /// Adds the lines of a file of so many bytes that was opened, or was not.
-#[tactic(auto, using(ps_linkfile::proofs::Written::adds_is))]
 fn add_lines<S: TextWriter>(
     text: &mut S,
     path: &str,
@@ -80,7 +79,6 @@ fn add_segments<S: TextWriter>(text: &mut S, path: &str, phrase: &str, dict: &Di
 }
 
 /// Adds the line of a file of so many bytes.
-#[tactic(auto, using(ps_linkfile::proofs::Written::adds_is), unfolding(crate::specs::ListText::file_line))]
 fn add_file<S: TextWriter>(text: &mut S, path: &str, phrase: &str, size: usize, dict: &Dict)
     ensures { Adds S.added text.old
         (file_line path.now phrase.now size dict.now.order dict.now.file) text.new }

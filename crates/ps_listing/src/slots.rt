@@ -83,7 +83,6 @@ fn add_found_line<S: TextWriter>(
 }
 
 /// Adds the line of a segment whose kind is refused.
-#[tactic(auto, using(ps_linkfile::proofs::Written::adds_is), unfolding(crate::specs::ListText::refused_line))]
 fn add_refused_line<S: TextWriter>(text: &mut S, path: &str, dict: &Dict, slot: u8, reason: Reason)
     requires { slot < 16 }
     ensures { Adds S.added text.old

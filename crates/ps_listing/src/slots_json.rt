@@ -75,7 +75,6 @@ fn add_found<S: TextWriter>(text: &mut S, dict: &Dict, slot: u8, role: Role)
 }
 
 /// Adds what the item of a slot begins with.
-#[tactic(auto, using(ps_linkfile::proofs::Written::adds_is), unfolding(crate::specs::ListJson::slot_members))]
 fn add_head<S: TextWriter>(text: &mut S, dict: &Dict, slot: u8, first: bool)
     requires { slot < 16 }
     ensures { Adds S.added text.old (slot_members first dict.now.order dict.now.file slot)
@@ -96,7 +95,6 @@ pub(crate) fn add_length<S: TextWriter>(text: &mut S, size: usize)
 }
 
 /// Adds the item of a segment of this role that is in the file, with the member for it.
-#[tactic(auto, using(ps_linkfile::proofs::Written::adds_is), unfolding(crate::specs::ListJson::found_item))]
 fn add_found_item<S: TextWriter>(
     text: &mut S,
     dict: &Dict,
@@ -117,7 +115,6 @@ fn add_found_item<S: TextWriter>(
 }
 
 /// Adds the item of a segment whose kind is refused.
-#[tactic(auto, using(ps_linkfile::proofs::Written::adds_is), unfolding(crate::specs::ListJson::refused_item))]
 fn add_refused_item<S: TextWriter>(text: &mut S, dict: &Dict, slot: u8, first: bool, reason: Reason)
     requires { slot < 16 }
     ensures { Adds S.added text.old
