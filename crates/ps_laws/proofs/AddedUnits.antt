@@ -181,8 +181,14 @@ giver units segs k p g t = ((of.0, of.1, of.3.5, of.3.6), requested, first)
     of = of_place segs p g t.0
 
     requested : RequestsAt segs (owner segs p) g.at.rec g.name
-    requested = (of.0, of.1, of.3.0, (let a = of.3.4 in let b = of.3.1 in grind arith), of.3.2,
-        of.3.3)
+    requested = (
+      of.0,
+      of.1,
+      of.3.0,
+      (let a = of.3.4 in let b = of.3.1 in grind arith),
+      of.3.2,
+      of.3.3,
+    )
 
     first : (j k : ℕ) → Before (j ∷ k ∷ []) (owner segs p ∷ g.at.rec ∷ [])
         → RequestsAt segs j k g.name → ⊥

@@ -84,7 +84,7 @@ module _ (order : Order) (host : List ℕ) (libs : List (List ℕ))
   in_round : (k : ℕ) (f : Fault) → InRound order host libs k f → Told f
   in_round k f t = elim t.2 [
     | inl m ↦ subst Told (sym m.0)
-    (missing_requested t.0.at.segment.file t.0.at.segment.slot t.0.at.rec
+        (missing_requested t.0.at.segment.file t.0.at.segment.slot t.0.at.rec
         (not_wanted k t.0 t.1))
     | inr (inl n) ↦ grind arith
     | inr (inr (slot, left, inl e)) ↦ of_entries order t.0.name libs slot f e
