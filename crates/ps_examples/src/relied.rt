@@ -6,7 +6,7 @@ ghost use Rattle.ps_linkfile.specs.LinkedFile.{LinkedFile, linked_file};
 ghost use Rattle.ps_relied.specs.Alike.{AreFilesAlike};
 ghost use Rattle.ps_relied.specs.Numbered.{exchanged, renumbered, without, HaveNoNameInCommon};
 ghost use Rattle.ps_relied.specs.SameSegments.{AreSameSegments, HaveSameHeads};
-ghost use Rattle.ps_relied.specs.StoredLines.{listings, AreMadeByLines, IsLine};
+ghost use Rattle.ps_relied.specs.StoredLines.{all_stored, AreMadeByLines, IsLine};
 ghost use Rattle.ps_resolve.specs.AllFaults.{first_fault};
 ghost use Rattle.ps_resolve.specs.LinkedBytes.{segments_of};
 ghost use Rattle.ps_words.specs.FaultPlaces.{in_file, in_slot};
@@ -25,7 +25,7 @@ use ps_relied::{
 /// mark; a library that gives nothing, or stands elsewhere; and a unit in another slot.
 pub fn what_may_be_relied_on()
     ensures made_by_its_lines { AreMadeByLines host (library ∷ []) (linked_pair Little) }
-    ensures a_line { IsLine (listings host (library ∷ [])) 7 1 (128 ∷ 3 ∷ []) }
+    ensures a_line { IsLine (all_stored host (library ∷ [])) 7 1 (128 ∷ 3 ∷ []) }
     ensures alike { AreFilesAlike host host (library ∷ []) (library_elsewhere ∷ []) }
     ensures linked_alike { LinkedFile host (library_elsewhere ∷ [])
         (linked_pair Little) }
@@ -53,7 +53,7 @@ pub fn what_may_be_relied_on()
 /// opened; that libraries may be exchanged that have a unit in common; and that the same segments
 /// make one file for hosts of other tails.
 pub fn what_is_not_to_be_relied_on()
-    ensures a_line_of_a_byte_that_stays { IsLine (listings host (library ∷ [])) 1 16 (1 ∷ []) }
+    ensures a_line_of_a_byte_that_stays { IsLine (all_stored host (library ∷ [])) 1 16 (1 ∷ []) }
     ensures a_byte_of_the_input { slice_index library 514 ≡ 0 }
     ensures a_byte_of_a_line { slice_index (linked_pair Little) 1026 ≡ 3 }
     ensures another_tail { AreFilesAlike host (put_at 300 (43 ∷ []) host) [] [] → ⊥ }

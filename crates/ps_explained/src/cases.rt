@@ -6,7 +6,7 @@ use ps_codefile::{Dict, Entry, ProcedureDictionary, ProcedureFault, Role};
 use ps_filetype::{CodeFile, FileType, ShownName};
 use ps_linkinfo::{LinkRecord, Operand};
 use ps_resolve::Reading;
-use ps_warnings::{Inputs, Segment, SegmentPart, Source, in_slot};
+use ps_warnings::{Inputs, ReadEntry, ReadSegment, SegmentPart, in_slot};
 use ps_words::{Fault, Name, Reason};
 
 /// A fault, and what of the files it is about.
@@ -17,11 +17,11 @@ pub struct Case<'c, 'a> {
     /// The files.
     pub inputs: &'c Inputs<'a>,
     /// The segments of the link.
-    pub list: &'c [Segment<'a>],
+    pub list: &'c [ReadSegment<'a>],
     /// The fault.
     pub fault: Fault,
     /// The segment of its slot.
-    pub segment: Option<Segment<'a>>,
+    pub segment: Option<ReadSegment<'a>>,
     /// The words of the private variables before the record of the fault; of all if it has none.
     pub(crate) words: u64,
 }
@@ -32,7 +32,7 @@ impl<'c, 'a> Case<'c, 'a> {
     pub fn new(
         inputs: &'c Inputs<'a>,
         reading: &'c Reading<'a>,
-        list: &'c [Segment<'a>],
+        list: &'c [ReadSegment<'a>],
         fault: Fault,
     ) -> Self {
         let segment = match fault.slot {
@@ -92,7 +92,7 @@ impl<'c, 'a> Case<'c, 'a> {
 
     /// Where its segment comes from.
     /// Source: this project's profile.
-    pub fn source(&self) -> Option<Source<'a>> {
+    pub fn source(&self) -> Option<ReadEntry<'a>> {
         self.segment?.source
     }
 

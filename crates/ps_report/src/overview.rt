@@ -12,7 +12,7 @@ use ps_codefile::dictionary_layout::SLOTS;
 use ps_explained::OrderOf;
 use ps_filetype::{ShownName, ShownPath};
 use ps_resolve::{HostReading, Reading, Segment as LinkedSegment, UnitReference};
-use ps_warnings::{Inputs, Segment, SegmentPart, in_slot};
+use ps_warnings::{Inputs, ReadSegment, SegmentPart, in_slot};
 use ps_words::Name;
 use std::alloc::{AllocError, Allocator};
 use std::fmt::{self, Formatter, Write as _};
@@ -123,7 +123,7 @@ pub(crate) fn add_segments<A: Allocator + Copy>(
     text: &mut String<A>,
     inputs: &Inputs<'_>,
     reading: &Reading<'_>,
-    list: &[Segment<'_>],
+    list: &[ReadSegment<'_>],
 ) -> Result<(), AllocError>
     ensures { reading_fault reading.now.host reading.now.libs ≡ None
         → OnOk result (AddsSlotLines (string_bytes text.old)
@@ -141,7 +141,7 @@ fn add_each<A: Allocator + Copy>(
     text: &mut String<A>,
     inputs: &Inputs<'_>,
     reading: &Reading<'_>,
-    list: &[Segment<'_>],
+    list: &[ReadSegment<'_>],
 ) -> Result<(), AllocError>
     ensures { reading_fault reading.now.host reading.now.libs ≡ None
         → OnOk result (AddsSlotLines (string_bytes text.old)
@@ -291,7 +291,7 @@ fn add_read<A: Allocator + Copy>(
     alloc: A,
     text: &mut String<A>,
     inputs: &Inputs<'_>,
-    list: &[Segment<'_>],
+    list: &[ReadSegment<'_>],
 ) -> Result<(), AllocError> {
     for segment in list {
         add_segment(alloc, text, inputs, segment)?;
@@ -303,7 +303,7 @@ fn add_segment<A: Allocator + Copy>(
     alloc: A,
     text: &mut String<A>,
     inputs: &Inputs<'_>,
-    segment: &Segment<'_>,
+    segment: &ReadSegment<'_>,
 ) -> Result<(), AllocError> {
     let head = Head {
         slot: segment.slot,
@@ -321,7 +321,7 @@ fn add_segment<A: Allocator + Copy>(
 }
 
 /// Why a segment comes from no file.
-fn why_no_source(segment: &Segment<'_>) -> &'static str {
+fn why_no_source(segment: &ReadSegment<'_>) -> &'static str {
     if segment.is_missing {
         "which no library has"
     } else if segment.slot.is_none() {
@@ -393,7 +393,7 @@ fn lines_after<A: Allocator>(
     alloc: A,
     inputs: &Inputs<'_>,
     reading: &Reading<'_>,
-    list: &[Segment<'_>],
+    list: &[ReadSegment<'_>],
 ) -> Result<String<A>, AllocError> {
     let mut text = String::new(alloc);
     if let Ok(host) = reading.host() {
@@ -409,7 +409,7 @@ fn lines_after<A: Allocator>(
 fn add_empty<A: Allocator>(
     text: &mut String<A>,
     host: &HostReading<'_>,
-    list: &[Segment<'_>],
+    list: &[ReadSegment<'_>],
 ) -> Result<(), AllocError> {
     text.push_str("slots without a segment:")?;
     for slot in 0..SLOTS {
@@ -424,7 +424,7 @@ fn add_empty<A: Allocator>(
 fn add_unused<A: Allocator>(
     text: &mut String<A>,
     inputs: &Inputs<'_>,
-    list: &[Segment<'_>],
+    list: &[ReadSegment<'_>],
 ) -> Result<(), AllocError> {
     let mut unused = (1..=inputs.libs.len()).filter(|file| !is_used(list, *file));
     let Some(file) = unused.next() else {
@@ -435,6 +435,6 @@ fn add_unused<A: Allocator>(
 }
 
 /// Some segment comes from the file.
-fn is_used(list: &[Segment<'_>], file: usize) -> bool {
+fn is_used(list: &[ReadSegment<'_>], file: usize) -> bool {
     list.iter().any(|segment| segment.source.is_some_and(|source| source.file == file))
 }

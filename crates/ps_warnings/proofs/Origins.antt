@@ -13,15 +13,15 @@ use Rattle.ps_resolve.specs.Readings.{HostFiles}
 use Rattle.ps_warnings.specs.Seen.{Seen, code_as, code_in, part_needs_linking, records_in, seen}
 use Rattle.ps_warnings.specs.SeenSegments.{origin_as, origin_at, records_from, seen_with, taken_of, takes_slot}
 use Rattle.ps_warnings.specs.declared.segments.SegmentPart.{SegmentPart}
-use Rattle.ps_warnings.specs.declared.segments.Segment.{Segment}
-use Rattle.ps_warnings.specs.declared.segments.Source.{Source}
+use Rattle.ps_warnings.specs.declared.segments.ReadSegment.{ReadSegment}
+use Rattle.ps_warnings.specs.declared.segments.ReadEntry.{ReadEntry}
 
 same_ok : (r : Result (Bor (List ℕ)) Reason) → is_ok r ≡ is_ok (code_as r)
 same_ok (Ok code) = refl
 same_ok (Err why) = refl
 
 -- the origin of a source that is the entry of a file
-pub origin_is : (s : Source) (file index : ℕ) (f : OpenedFile) → s.file ≡ file
+pub origin_is : (s : ReadEntry) (file index : ℕ) (f : OpenedFile) → s.file ≡ file
     → s.order ≡ f.order → code_in s ≡ code_of f.file (entry_at f.order f.file index)
     → s.after.now ≡ information_of f.file (entry_at f.order f.file index)
     → origin_as s ≡ origin_at file index f
@@ -59,19 +59,19 @@ none_of : (b : Bool) → ◌≡◌ {A = List Record} [] (if b then [] else [])
 none_of true = refl
 none_of false = refl
 
-same_records : (what : SegmentPart) (o : Option Source) → records_in what o
+same_records : (what : SegmentPart) (o : Option ReadEntry) → records_in what o
     ≡ (if part_needs_linking what then records_from (option_map origin_as o) else [])
 same_records what None = none_of (part_needs_linking what)
 same_records what (Some s) = sym (both (part_needs_linking what) (is_ok s.code)
     (reading s.order s.after.now).0)
 
-same_file : (o : Option Source)
+same_file : (o : Option ReadEntry)
     → option_map (λ s. s.file) o ≡ option_map (λ x. x.file) (option_map origin_as o)
 same_file None = refl
 same_file (Some s) = refl
 
 -- what is seen of a segment, by where it comes from
-pub seen_is : (s : Segment)
+pub seen_is : (s : ReadSegment)
     → seen s ≡ seen_with s.slot s.name s.part (option_map origin_as s.source)
 unfolding seen_with
 seen_is s = ap (λ (k : Option ℕ). record {

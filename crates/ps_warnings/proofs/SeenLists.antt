@@ -6,15 +6,15 @@ use Rattle.ps_words.specs.declared.fault.Reason.{Reason}
 use Rattle.ps_codefile.specs.Dictionary.{IsViewOf}
 use Rattle.ps_resolve.specs.Sources.{contents}
 use Rattle.ps_warnings.specs.Seen.{Seen, code_as, seen}
-use Rattle.ps_warnings.specs.declared.segments.Segment.{Segment}
+use Rattle.ps_warnings.specs.declared.segments.ReadSegment.{ReadSegment}
 
 -- those that are left
-pub seen_left : (ss : List Segment) (i : ℕ) (s : Segment) → drop i ss ≡ s ∷ drop (i + 1) ss
+pub seen_left : (ss : List ReadSegment) (i : ℕ) (s : ReadSegment) → drop i ss ≡ s ∷ drop (i + 1) ss
     → drop i (map seen ss) ≡ seen s ∷ drop (i + 1) (map seen ss)
-seen_left ss i s h = drop-map seen i ss ∙ (ap (λ (l : List Segment). map seen l) h
+seen_left ss i s h = drop-map seen i ss ∙ (ap (λ (l : List ReadSegment). map seen l) h
     ∙ ap (λ (l : List Seen). seen s ∷ l) (sym (drop-map seen (i + 1) ss)))
 
-pub seen_over : (ss : List Segment) (i : ℕ) → length ss ≤ i → length (map seen ss) ≤ i
+pub seen_over : (ss : List ReadSegment) (i : ℕ) → length ss ≤ i → length (map seen ss) ≤ i
 seen_over ss i h = omega (arith, length-map ss seen)
 
 -- files that are left

@@ -21,7 +21,7 @@ use Rattle.ps_warnings.specs.Paths.{path_of}
 use Rattle.ps_warnings.specs.RecordLooks.{first_definition, first_high, low_mark}
 use Rattle.ps_warnings.specs.Seen.{Seen, code_in, has_slot}
 use Rattle.ps_warnings.specs.declared.looks.extents.Extent.{Extent}
-use Rattle.ps_warnings.specs.declared.segments.Source.{Source}
+use Rattle.ps_warnings.specs.declared.segments.ReadEntry.{ReadEntry}
 use Rattle.ps_warnings.specs.declared.warnings.Look.TheVariants as look
 
 module _ (path : List ℕ) (host : Option (List Record)) (list : List Seen) (order : Order)
@@ -69,7 +69,7 @@ module _ (path : List ℕ) (host : Option (List Record)) (list : List Seen) (ord
       (role_of (entry_at order bytes slot)))) else []) k
 
 -- a segment that is looked at by its source
-pub source_is : (paths : List (List ℕ)) (host : Option (List Record)) (s : Source) (order : Order)
+pub source_is : (paths : List (List ℕ)) (host : Option (List Record)) (s : ReadEntry) (order : Order)
     (bytes : List ℕ) (file : ℕ) (e : Entry) → s.file ≡ file → s.entry ≡ e → s.order ≡ order
     → code_in s ≡ code_of bytes e → s.after.now ≡ information_of bytes e
     → looks_of_source (path_of paths s.file) host s

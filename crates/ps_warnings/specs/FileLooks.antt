@@ -20,7 +20,7 @@ use Rattle.ps_warnings.specs.Found.{LookAt, found_at, found_in_record}
 use Rattle.ps_warnings.specs.RecordLooks.{first_definition, first_high, first_past, low_mark}
 use Rattle.ps_warnings.specs.Seen.{Seen, code_in, has_slot}
 use Rattle.ps_warnings.specs.declared.looks.extents.Extent.{Extent}
-use Rattle.ps_warnings.specs.declared.segments.Source.{Source}
+use Rattle.ps_warnings.specs.declared.segments.ReadEntry.{ReadEntry}
 use Rattle.ps_warnings.specs.declared.warnings.Look.TheVariants as look
 
 -- the data size of the outer block of a code, in bytes, where its procedure tables can be read
@@ -54,7 +54,7 @@ looks_of_segment path host order e (Ok code) after = if kind_needs_linking e.kin
     then looks_of_records path host order e code (reading order after).0 else []
 
 -- so in one that is looked at by its source
-abbrev pub looks_of_source : List ℕ → Option (List Record) → Source → List LookAt
+abbrev pub looks_of_source : List ℕ → Option (List Record) → ReadEntry → List LookAt
 looks_of_source path host s = looks_of_segment path host s.order s.entry (code_in s) s.after.now
 
 -- what looks wrong in a slot of a file: in its segment, or, in the host, in an entry that is not

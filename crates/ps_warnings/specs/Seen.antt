@@ -10,8 +10,8 @@ use Rattle.ps_linkinfo.specs.Records.{reading}
 use Rattle.ps_linkinfo.specs.declared.record.LinkRecord.{LinkRecord as Record}
 use Rattle.ps_warnings.specs.declared.segments.SegmentPart.{SegmentPart}
 use Rattle.ps_warnings.specs.declared.segments.SegmentPart.TheVariants as part
-use Rattle.ps_warnings.specs.declared.segments.Segment.{Segment}
-use Rattle.ps_warnings.specs.declared.segments.Source.{Source}
+use Rattle.ps_warnings.specs.declared.segments.ReadSegment.{ReadSegment}
+use Rattle.ps_warnings.specs.declared.segments.ReadEntry.{ReadEntry}
 
 -- what is seen of a segment: its slot in the host, its name, what it is, the file that it comes
 -- from, and its records, up to the first that cannot be read
@@ -35,16 +35,16 @@ abbrev pub code_as : Result (Bor (List ℕ)) Reason → Result (List ℕ) Reason
 code_as (Ok code) = Ok code.now
 code_as (Err why) = Err why
 
-abbrev pub code_in : Source → Result (List ℕ) Reason
+abbrev pub code_in : ReadEntry → Result (List ℕ) Reason
 code_in s = code_as s.code
 
 -- the records of a segment: none where they are not to be read, or where it has no code
-abbrev pub records_in : SegmentPart → Option Source → List Record
+abbrev pub records_in : SegmentPart → Option ReadEntry → List Record
 records_in what None = []
 records_in what (Some s) = if part_needs_linking what && is_ok s.code
     then (reading s.order s.after.now).0 else []
 
-abbrev pub seen : Segment → Seen
+abbrev pub seen : ReadSegment → Seen
 seen s = record {
   slot = s.slot;
   name = s.name;

@@ -23,7 +23,7 @@ use Rattle.ps_warnings.specs.Paths.{host_order}
 use Rattle.ps_warnings.specs.Seen.{Seen, part_needs_linking}
 use Rattle.ps_warnings.specs.declared.segments.SegmentPart.{SegmentPart}
 use Rattle.ps_warnings.specs.declared.segments.SegmentPart.TheVariants as part
-use Rattle.ps_warnings.specs.declared.segments.Source.{Source}
+use Rattle.ps_warnings.specs.declared.segments.ReadEntry.{ReadEntry}
 
 -- where a segment comes from: its file, and the records that can be read there, if it has a code
 pub record Origin : Type 0 where
@@ -31,7 +31,7 @@ pub record Origin : Type 0 where
   pub records : List Record
 
 -- that of a source, and that of an entry of a file that was opened
-abbrev pub origin_as : Source → Origin
+abbrev pub origin_as : ReadEntry → Origin
 origin_as s = record {
   file = s.file;
   records = if is_ok s.code then (reading s.order s.after.now).0 else [];

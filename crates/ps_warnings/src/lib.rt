@@ -13,7 +13,7 @@ pub use looks::codes::dead_look;
 pub use looks::names::{is_near, plain};
 pub use looks::{Looks, looks_of};
 pub use segments::{
-    Segment, SegmentPart, Source, host_of, in_slot, length_of, segments_of, source_of,
+    ReadEntry, ReadSegment, SegmentPart, host_of, in_slot, length_of, segments_of, source_of,
 };
 pub use warnings::{
     CodeLook, DictionaryLook, EntryLook, FileLook, Guess, LinkLook, Look, Oddity, OtherLook,

@@ -20,7 +20,7 @@ mod numbers;
 mod records;
 
 use crate::inputs::Inputs;
-use crate::segments::{Segment, Source, host_of, in_slot};
+use crate::segments::{ReadEntry, ReadSegment, host_of, in_slot};
 use crate::warnings::{
     EntryLook, Guess, LinkLook, Look, OtherLook, RecordLook, Warning, WarningAt,
 };
@@ -33,7 +33,7 @@ use std::alloc::{AllocError, Allocator};
 #[derive(Clone, Copy)]
 struct Context<'c, 'a> {
     inputs: &'c Inputs<'a>,
-    list: &'c [Segment<'a>],
+    list: &'c [ReadSegment<'a>],
     /// The fault that the report explains.
     fault: Option<Fault>,
     /// The file and the slot there of the segment that the fault is in.
@@ -45,7 +45,7 @@ struct Context<'c, 'a> {
 }
 
 /// Where the segment comes from that a fault is in: its file, and its slot there.
-fn refused_entry(list: &[Segment<'_>], fault: Option<Fault>) -> Option<(usize, u8)> {
+fn refused_entry(list: &[ReadSegment<'_>], fault: Option<Fault>) -> Option<(usize, u8)> {
     let source = in_slot(list, fault?.slot?)?.source?;
     Some((source.file, source.index))
 }
@@ -68,7 +68,7 @@ impl Context<'_, '_> {
     }
 
     /// The fault is in the segment that comes from this entry.
-    fn is_refused(&self, source: &Source<'_>) -> bool {
+    fn is_refused(&self, source: &ReadEntry<'_>) -> bool {
         self.refused == Some((source.file, source.index))
     }
 }
@@ -275,7 +275,7 @@ fn in_file(path: &str) -> WarningAt<'_> {
 pub fn looks_of<'a, A: Allocator + Copy>(
     alloc: A,
     inputs: &Inputs<'a>,
-    list: &[Segment<'a>],
+    list: &[ReadSegment<'a>],
     fault: Option<Fault>,
 ) -> Result<Looks<'a, A>, AllocError>
     ensures { IfOk result (λ looks. link_looks looks.warnings.items looks.harmless.items
@@ -293,7 +293,7 @@ pub fn looks_of<'a, A: Allocator + Copy>(
 }
 
 /// The records of the host program of a link, if it has one.
-fn records_of_host<'a>(list: &[Segment<'a>]) -> Option<LinkInformation<'a>>
+fn records_of_host<'a>(list: &[ReadSegment<'a>]) -> Option<LinkInformation<'a>>
     ensures { result ≡ host_records (map seen list.now) }
 {
     match host_of(list) {
@@ -306,7 +306,7 @@ fn records_of_host<'a>(list: &[Segment<'a>]) -> Option<LinkInformation<'a>>
 fn add_looks<'a, A: Allocator>(
     looks: &mut Looks<'a, A>,
     inputs: &Inputs<'a>,
-    list: &[Segment<'a>],
+    list: &[ReadSegment<'a>],
     host: Option<&LinkInformation<'a>>,
     fault: Option<Fault>,
 ) -> Result<(), AllocError>

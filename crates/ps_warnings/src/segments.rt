@@ -111,7 +111,7 @@ impl fmt::Display for SegmentPart {
 ///
 /// Source: UCSD Pascal II.0 manual, code file format.
 #[derive(Clone, Copy)]
-pub struct Source<'a> {
+pub struct ReadEntry<'a> {
     /// The file, 0 for the host.
     pub file: usize,
     /// The slot of its entry there.
@@ -126,7 +126,7 @@ pub struct Source<'a> {
     pub after: &'a [u8],
 }
 
-impl Source<'_> {
+impl ReadEntry<'_> {
     /// A link resolves its references, if it takes it.
     /// Source: the published II.0 Linker source.
     pub fn needs_linking(&self) -> bool
@@ -147,18 +147,18 @@ impl Source<'_> {
 ///
 /// Source: this project's profile.
 #[derive(Clone, Copy)]
-pub struct Segment<'a> {
+pub struct ReadSegment<'a> {
     /// Its slot in the host; none where no empty slot is left for it.
     pub slot: Option<u8>,
     pub name: Name,
     pub part: SegmentPart,
     /// Where it comes from; none where no library has it, or where it was not read.
-    pub source: Option<Source<'a>>,
+    pub source: Option<ReadEntry<'a>>,
     /// No library has it.
     pub is_missing: bool,
 }
 
-impl<'a> Segment<'a> {
+impl<'a> ReadSegment<'a> {
     /// Its records, up to the first that cannot be read; none where they are not to be read.
     /// Source: the published II.0 Linker source.
     pub fn records(&self) -> LinkInformation<'a>
@@ -189,7 +189,7 @@ pub fn length_of(records: &LinkInformation<'_>) -> usize
 /// The segment of this entry of a file; `index` is its slot there, 0 to 15.
 ///
 /// Source: UCSD Pascal II.0 manual, code file format.
-pub fn source_of<'a>(dict: &Dict<'a>, file: usize, index: u8) -> Source<'a>
+pub fn source_of<'a>(dict: &Dict<'a>, file: usize, index: u8) -> ReadEntry<'a>
     requires { index < 16 }
     ensures file { result.file ≡ file }
     ensures entry { result.entry ≡ entry_at dict.now.order dict.now.file index }
@@ -199,7 +199,7 @@ pub fn source_of<'a>(dict: &Dict<'a>, file: usize, index: u8) -> Source<'a>
     ensures after { result.after.now
         ≡ information_of dict.now.file (entry_at dict.now.order dict.now.file index) }
 {
-    Source {
+    ReadEntry {
         file,
         index,
         entry: dict.entry(index),
@@ -211,7 +211,7 @@ pub fn source_of<'a>(dict: &Dict<'a>, file: usize, index: u8) -> Source<'a>
 
 /// An entry of a file; none where the file cannot be read, or has no such entry.
 #[tactic(auto, unfolding(crate::specs::SeenSegments::origin_of))]
-fn source_at<'a>(inputs: &Inputs<'a>, file: usize, index: u8) -> Option<Source<'a>>
+fn source_at<'a>(inputs: &Inputs<'a>, file: usize, index: u8) -> Option<ReadEntry<'a>>
     ensures { option_map origin_as result
         ≡ origin_of inputs.now.host.now (contents inputs.now.libs.now) (file, index) }
 {
@@ -223,7 +223,7 @@ fn source_at<'a>(inputs: &Inputs<'a>, file: usize, index: u8) -> Option<Source<'
 }
 
 /// An entry of a file; none where the file cannot be read.
-fn source_from<'a>(inputs: &Inputs<'a>, file: usize, index: u8) -> Option<Source<'a>>
+fn source_from<'a>(inputs: &Inputs<'a>, file: usize, index: u8) -> Option<ReadEntry<'a>>
     requires { index < 16 }
     ensures { option_map origin_as result ≡ origin_in file index
         (opened_beside (host_order inputs.now.host.now)
@@ -244,7 +244,7 @@ pub(crate) fn is_slot(slot: u8) -> bool
 
 /// Where the segment of a slot comes from, also where it is refused; none where no library has the
 /// unit.
-fn source_in<'a>(inputs: &Inputs<'a>, host: &HostReading<'a>, slot: u8) -> Option<Source<'a>>
+fn source_in<'a>(inputs: &Inputs<'a>, host: &HostReading<'a>, slot: u8) -> Option<ReadEntry<'a>>
     requires { slot < 16 }
     ensures { option_map origin_as result ≡ option_and_then (origin_of inputs.now.host.now
         (contents inputs.now.libs.now)) (entry_in host.now slot) }
@@ -398,7 +398,7 @@ fn slot_source<'a>(
     host: &HostReading<'a>,
     slot: u8,
     is_read: bool,
-) -> Option<Source<'a>>
+) -> Option<ReadEntry<'a>>
     requires { slot < 16 }
     ensures { is_read ≡ is_some (reading_in host.now slot)
         → option_map origin_as result ≡ slot_origin inputs.now.host.now
@@ -412,7 +412,7 @@ fn slot_source<'a>(
 }
 
 /// The segment of a slot; none where there is none.
-fn segment_in<'a>(inputs: &Inputs<'a>, host: &HostReading<'a>, slot: u8) -> Option<Segment<'a>>
+fn segment_in<'a>(inputs: &Inputs<'a>, host: &HostReading<'a>, slot: u8) -> Option<ReadSegment<'a>>
     requires { slot < 16 }
     ensures { option_map seen result ≡ seen_in inputs.now.host.now
         (contents inputs.now.libs.now) host.now slot }
@@ -423,7 +423,7 @@ fn segment_in<'a>(inputs: &Inputs<'a>, host: &HostReading<'a>, slot: u8) -> Opti
             let (is_read, is_missing) = state_of(host, slot);
             let name = name_in(host, slot);
             let source = slot_source(inputs, host, slot, is_read);
-            Some(Segment {
+            Some(ReadSegment {
                 slot: Some(slot),
                 name,
                 part,
@@ -435,14 +435,14 @@ fn segment_in<'a>(inputs: &Inputs<'a>, host: &HostReading<'a>, slot: u8) -> Opti
 }
 
 /// A unit that is requested and for which no slot is left.
-fn segment_of<'a>(host: &HostReading<'a>, unit: &UnitReference) -> Option<Segment<'a>>
+fn segment_of<'a>(host: &HostReading<'a>, unit: &UnitReference) -> Option<ReadSegment<'a>>
     ensures { option_map seen result ≡ seen_unit host.now unit.now }
 {
     if is_of_host(host, &unit.name) {
         return None;
     }
     let requester = name_in(host, unit.slot);
-    Some(Segment {
+    Some(ReadSegment {
         slot: None,
         name: unit.name,
         part: SegmentPart::Added {
@@ -455,7 +455,7 @@ fn segment_of<'a>(host: &HostReading<'a>, unit: &UnitReference) -> Option<Segmen
 }
 
 /// The unit that is requested and for which no slot is left, after so many that take one.
-fn unit_without_slot<'a>(host: &HostReading<'a>, added: usize) -> Option<Segment<'a>>
+fn unit_without_slot<'a>(host: &HostReading<'a>, added: usize) -> Option<ReadSegment<'a>>
     ensures { option_map seen result ≡ option_and_then (seen_unit host.now)
         (slice_get (read_requests host.now.order host.now.file
         (opened_files host.now.order host.now.libs)) added) }
@@ -469,7 +469,7 @@ fn unit_without_slot<'a>(host: &HostReading<'a>, added: usize) -> Option<Segment
 /// The first segment of the list that has this slot of the host.
 ///
 /// Source: this project's profile.
-pub fn in_slot<'a>(list: &[Segment<'a>], slot: u8) -> Option<Segment<'a>> {
+pub fn in_slot<'a>(list: &[ReadSegment<'a>], slot: u8) -> Option<ReadSegment<'a>> {
     for segment in list {
         if segment.slot == Some(slot) {
             return Some(*segment);
@@ -481,7 +481,7 @@ pub fn in_slot<'a>(list: &[Segment<'a>], slot: u8) -> Option<Segment<'a>> {
 /// The segment of the host program.
 ///
 /// Source: this project's profile.
-pub fn host_of<'a>(list: &[Segment<'a>]) -> Option<Segment<'a>>
+pub fn host_of<'a>(list: &[ReadSegment<'a>]) -> Option<ReadSegment<'a>>
     ensures { option_map seen result ≡ find (λ s. is_host_part s.part) (map seen list.now) }
 {
     for segment in list {
@@ -501,7 +501,7 @@ pub fn segments_of<'a, A: Allocator + Copy>(
     alloc: A,
     inputs: &Inputs<'a>,
     reading: &Reading<'a>,
-) -> Result<Vec<Segment<'a>, A>, AllocError>
+) -> Result<Vec<ReadSegment<'a>, A>, AllocError>
     ensures { IfOk result (λ list. map seen list.items ≡ seen_by inputs.now.host.now
         (contents inputs.now.libs.now) (opened_host reading.now.host reading.now.libs)) }
 {
@@ -516,7 +516,7 @@ fn segments_in<'a, A: Allocator + Copy>(
     alloc: A,
     inputs: &Inputs<'a>,
     host: &HostReading<'a>,
-) -> Result<Vec<Segment<'a>, A>, AllocError>
+) -> Result<Vec<ReadSegment<'a>, A>, AllocError>
     ensures { IfOk result (λ list. map seen list.items ≡ seen_of inputs.now.host.now
         (contents inputs.now.libs.now) host.now) }
 {
@@ -540,8 +540,8 @@ fn slots_taken(host: &HostReading<'_>) -> usize
 
 /// Adds a segment, if there is one.
 fn add_segment<'a, A: Allocator>(
-    list: &mut Vec<Segment<'a>, A>,
-    segment: Option<Segment<'a>>,
+    list: &mut Vec<ReadSegment<'a>, A>,
+    segment: Option<ReadSegment<'a>>,
 ) -> Result<(), AllocError>
     ensures { OnOk result (map seen list.new.items
         ≡ map seen list.old.items ++ cons_option (option_map seen segment.entry) []) }
@@ -554,8 +554,8 @@ fn add_segment<'a, A: Allocator>(
 
 /// Adds a segment.
 fn push_segment<'a, A: Allocator>(
-    list: &mut Vec<Segment<'a>, A>,
-    segment: Segment<'a>,
+    list: &mut Vec<ReadSegment<'a>, A>,
+    segment: ReadSegment<'a>,
 ) -> Result<(), AllocError>
     ensures { OnOk result (list.new.items ≡ list.old.items ++ segment.entry ∷ []) }
 {
@@ -567,7 +567,7 @@ fn segments_in_slots<'a, A: Allocator + Copy>(
     alloc: A,
     inputs: &Inputs<'a>,
     host: &HostReading<'a>,
-) -> Result<Vec<Segment<'a>, A>, AllocError>
+) -> Result<Vec<ReadSegment<'a>, A>, AllocError>
     ensures { IfOk result (λ list. map seen list.items ≡ filter_map (seen_in inputs.now.host.now
         (contents inputs.now.libs.now) host.now) slots) }
 {

@@ -5,7 +5,7 @@ ghost use Rattle.ps_warnings.specs.Found.{Adds, link_looks};
 use super::numbers::number_look;
 use super::records::begins_with_record;
 use super::{Context, Looks};
-use crate::segments::Source;
+use crate::segments::ReadEntry;
 use crate::warnings::{CodeLook, Look, OtherLook, ProcedureLook, WarningAt};
 use ps_codefile::code_layout::NUMBERS;
 use ps_codefile::kinds::{LINKED, SEPRTSEG};
@@ -34,7 +34,7 @@ pub(super) fn look_at<'a, A: Allocator>(
     context: &Context<'_, '_>,
     place: WarningAt<'a>,
     dict: &Dict<'_>,
-    source: &Source<'_>,
+    source: &ReadEntry<'_>,
     code: &[u8],
 ) -> Result<(), AllocError>
     ensures { OnOk result (Adds (link_looks looks.old.warnings.items looks.old.harmless.items)
@@ -72,7 +72,11 @@ pub(super) fn is_without_procedures(code: &[u8]) -> bool {
 }
 
 /// A part of the code that was not read, where no fault tells of it. Zeros of native code are data.
-fn unread_look(context: &Context<'_, '_>, source: &Source<'_>, code: &[u8]) -> Option<OtherLook> {
+fn unread_look(
+    context: &Context<'_, '_>,
+    source: &ReadEntry<'_>,
+    code: &[u8],
+) -> Option<OtherLook> {
     if context.is_refused(source) {
         return None;
     }
@@ -85,7 +89,7 @@ fn unread_look(context: &Context<'_, '_>, source: &Source<'_>, code: &[u8]) -> O
 }
 
 /// The segment has a native procedure whose table is not in these bytes.
-fn may_be_native(source: &Source<'_>, code: &[u8], run: Run) -> bool {
+fn may_be_native(source: &ReadEntry<'_>, code: &[u8], run: Run) -> bool {
     if source.entry.kind == SEPRTSEG {
         return true;
     }
@@ -128,7 +132,7 @@ fn stripped_look(code: &[u8]) -> Option<OtherLook> {
 }
 
 /// A record after the code of a segment that is linked.
-fn records_look(source: &Source<'_>) -> Option<OtherLook> {
+fn records_look(source: &ReadEntry<'_>) -> Option<OtherLook> {
     if source.entry.kind == LINKED && begins_with_record(source.order, source.after) {
         Some(OtherLook::Procedure(ProcedureLook::LinkedWithRecords))
     } else {
@@ -182,7 +186,7 @@ pub fn dead_look(code: &[u8]) -> Option<Look> {
 }
 
 /// A procedure dictionary that has no procedure, or that is not whole.
-fn procedures_look(source: &Source<'_>, code: &[u8]) -> Option<OtherLook> {
+fn procedures_look(source: &ReadEntry<'_>, code: &[u8]) -> Option<OtherLook> {
     let is_lost = if source.needs_linking() {
         is_without_number(source, code)
     } else {
@@ -197,7 +201,7 @@ fn procedures_look(source: &Source<'_>, code: &[u8]) -> Option<OtherLook> {
 
 /// The number of procedures is 0 and no other look tells of it, in a code that is longer than that
 /// of a unit without procedures.
-fn is_without_number(source: &Source<'_>, code: &[u8]) -> bool {
+fn is_without_number(source: &ReadEntry<'_>, code: &[u8]) -> bool {
     match code {
         [.., number, 0] if *number != 0 || source.index == 0 => SHORTEST <= code.len(),
         _ => false,
@@ -206,7 +210,7 @@ fn is_without_number(source: &Source<'_>, code: &[u8]) -> bool {
 
 /// The first procedure whose table has another number, or says that it is entered or left before
 /// the code.
-fn table_look(source: &Source<'_>, code: &[u8]) -> Option<OtherLook> {
+fn table_look(source: &ReadEntry<'_>, code: &[u8]) -> Option<OtherLook> {
     let procedures = procedures_of(source.order, code)?;
     for procedure in 1..=procedures.count() {
         if let Some(place) = procedures.table(procedure) {

@@ -1,5 +1,5 @@
 //! Entries of dictionaries that look wrong.
-ghost use Rattle.std.specs.Prelude.{◌≡◌, ◌∷◌, ◌<◌, Ok, OnOk, false, map, true};
+ghost use Rattle.std.specs.Prelude.{◌≡◌, ◌∷◌, ◌<◌, [], Ok, OnOk, false, map, true};
 ghost use Rattle.std.specs.List.{flat_map, list_any};
 ghost use Rattle.std.specs.Option.{option_map};
 ghost use Rattle.ps_codefile.specs.Dictionary.{entry_at, kind_needs_linking, role_of, slots};
@@ -14,7 +14,7 @@ use super::codes::{REPEATED, SECTOR};
 use super::names::oddity_of;
 use super::numbers::{info_of, p_code_of};
 use super::{Context, Looks, codes, in_file, notes, records};
-use crate::segments::{Segment, Source, source_of};
+use crate::segments::{ReadEntry, ReadSegment, source_of};
 use crate::warnings::{DictionaryLook, EntryLook, OtherLook, SegmentLook, WarningAt};
 use ps_codefile::code_layout::NUMBERS;
 use ps_codefile::dictionary_layout::{SLOTS, TAIL};
@@ -54,13 +54,24 @@ pub(super) fn look_at<'a, A: Allocator>(
         (link_looks looks.new.warnings.items looks.new.harmless.items)) }
 {
     let place = in_file(context.inputs.path(file));
-    let found = [no_names(dict), dead_tail(dict).or(full_tail(dict))];
-    looks.add_others(place, &found)?;
+    look_at_tail(looks, place, dict)?;
     for slot in 0..SLOTS {
         looks.add_other(place, name_look(context, dict, slot))?;
         look_at_slot(looks, context, file, dict, shown, slot)?;
     }
     Ok(())
+}
+
+/// Looks at the second half of a dictionary.
+fn look_at_tail<'a, A: Allocator>(
+    looks: &mut Looks<'a, A>,
+    place: WarningAt<'a>,
+    dict: &Dict<'_>,
+) -> Result<(), AllocError>
+    ensures { OnOk result (Adds (link_looks looks.old.warnings.items looks.old.harmless.items)
+        [] (link_looks looks.new.warnings.items looks.new.harmless.items)) }
+{
+    looks.add_other(place, dead_tail(dict).or(full_tail(dict)))
 }
 
 /// Looks at a slot: at its segment, or, in the host, at an entry that is not filled.
@@ -102,7 +113,7 @@ fn look_at_entry<'a, A: Allocator>(
     context: &Context<'_, 'a>,
     dict: &Dict<'a>,
     shown: &FileCode,
-    source: &Source<'a>,
+    source: &ReadEntry<'a>,
 ) -> Result<(), AllocError>
     ensures { OnOk result (Adds (link_looks looks.old.warnings.items looks.old.harmless.items)
         (looks_of_source (path_of (context.now.inputs.now.host_path.now
@@ -111,7 +122,7 @@ fn look_at_entry<'a, A: Allocator>(
         (link_looks looks.new.warnings.items looks.new.harmless.items)) }
 {
     let found = [
-        nameless_look(dict, source),
+        nameless_look(source),
         intrinsic_look(context, source),
         machine_look(dict, source),
     ];
@@ -140,7 +151,7 @@ fn look_at_segment<'a, A: Allocator>(
     context: &Context<'_, 'a>,
     dict: &Dict<'a>,
     shown: &FileCode,
-    source: &Source<'a>,
+    source: &ReadEntry<'a>,
 ) -> Result<(), AllocError>
     ensures { OnOk result (Adds (link_looks looks.old.warnings.items looks.old.harmless.items)
         (looks_of_source (path_of (context.now.inputs.now.host_path.now
@@ -168,7 +179,7 @@ fn look_at_code<'a, A: Allocator>(
     path: &'a str,
     dict: &Dict<'a>,
     shown: &FileCode,
-    source: &Source<'a>,
+    source: &ReadEntry<'a>,
     code: &'a [u8],
 ) -> Result<(), AllocError>
     ensures { OnOk result (Adds (link_looks looks.old.warnings.items looks.old.harmless.items)
@@ -190,7 +201,7 @@ fn look_at_code<'a, A: Allocator>(
 }
 
 /// Why a link that takes the segment is refused, where no fault tells of it.
-fn refused_look(context: &Context<'_, '_>, source: &Source<'_>) -> Option<OtherLook> {
+fn refused_look(context: &Context<'_, '_>, source: &ReadEntry<'_>) -> Option<OtherLook> {
     if context.is_refused(source) {
         None
     } else {
@@ -199,7 +210,7 @@ fn refused_look(context: &Context<'_, '_>, source: &Source<'_>) -> Option<OtherL
 }
 
 /// Why a link that takes the segment is refused, by the segment alone.
-fn refusal_of(source: &Source<'_>) -> Option<SegmentLook> {
+fn refusal_of(source: &ReadEntry<'_>) -> Option<SegmentLook> {
     let code = match source.code {
         Ok(code) => code,
         Err(reason) => return Some(SegmentLook::Refused { reason, rec: None }),
@@ -220,10 +231,11 @@ fn refusal_of(source: &Source<'_>) -> Option<SegmentLook> {
     }
 }
 
-/// A filled slot without a name, where others have one.
-fn nameless_look(dict: &Dict<'_>, source: &Source<'_>) -> Option<OtherLook> {
+/// A filled slot without a name. Others have one: a file in which no slot has a name is no code
+/// file, and its entries are not looked at.
+fn nameless_look(source: &ReadEntry<'_>) -> Option<OtherLook> {
     let slot = source.index;
-    if is_nameless(&source.entry.name) && !are_nameless(dict) {
+    if is_nameless(&source.entry.name) {
         Some(OtherLook::Dictionary(DictionaryLook::NoName { slot }))
     } else {
         None
@@ -231,7 +243,7 @@ fn nameless_look(dict: &Dict<'_>, source: &Source<'_>) -> Option<OtherLook> {
 }
 
 /// An entry of a library that Apple Pascal has, where no fault tells of it.
-fn intrinsic_look(context: &Context<'_, '_>, source: &Source<'_>) -> Option<OtherLook> {
+fn intrinsic_look(context: &Context<'_, '_>, source: &ReadEntry<'_>) -> Option<OtherLook> {
     let (slot, kind) = (source.index, source.entry.kind);
     if context.is_refused(source) {
         None
@@ -243,29 +255,10 @@ fn intrinsic_look(context: &Context<'_, '_>, source: &Source<'_>) -> Option<Othe
 }
 
 /// The entry is of Apple Pascal: an intrinsic unit, or its data. No link reads its records.
-fn is_intrinsic(source: &Source<'_>) -> bool
+fn is_intrinsic(source: &ReadEntry<'_>) -> bool
     ensures { result ≡ true → kind_needs_linking source.now.entry.kind ≡ false }
 {
     matches!(source.entry.kind, FIRST_INTRINSIC..=LAST_INTRINSIC)
-}
-
-/// No slot has a name.
-fn are_nameless(dict: &Dict<'_>) -> bool {
-    for name in dict.names() {
-        if !is_nameless(&name) {
-            return false;
-        }
-    }
-    true
-}
-
-/// A dictionary without a name.
-fn no_names(dict: &Dict<'_>) -> Option<OtherLook> {
-    if are_nameless(dict) {
-        Some(OtherLook::Dictionary(DictionaryLook::NoNames))
-    } else {
-        None
-    }
 }
 
 /// The byte that a sector is throughout, as if it was not read, but for zeros.
@@ -315,7 +308,7 @@ fn is_control(byte: u8) -> bool {
 }
 
 /// A machine type that is not P-code's, of the host program or of a unit.
-fn machine_look(dict: &Dict<'_>, source: &Source<'_>) -> Option<OtherLook> {
+fn machine_look(dict: &Dict<'_>, source: &ReadEntry<'_>) -> Option<OtherLook> {
     if !source.needs_linking() {
         return None;
     }
@@ -370,7 +363,7 @@ fn empty_slot(slot: u8, is_taken: bool, entry: &Entry) -> Option<EntryLook>
 }
 
 /// The segment has this slot of the host.
-fn has_slot(segment: &Segment<'_>, slot: u8) -> bool
+fn has_slot(segment: &ReadSegment<'_>, slot: u8) -> bool
     ensures { result ≡ has_slot_spec slot (seen segment.now) }
 {
     match segment.slot {
@@ -380,7 +373,7 @@ fn has_slot(segment: &Segment<'_>, slot: u8) -> bool
 }
 
 /// A segment of the link takes the slot.
-fn is_taken(list: &[Segment<'_>], slot: u8) -> bool
+fn is_taken(list: &[ReadSegment<'_>], slot: u8) -> bool
     ensures { result ≡ list_any (has_slot_spec slot) (map seen list.now) }
 {
     for segment in list {

@@ -10,7 +10,7 @@ ghost use Rattle.ps_warnings.specs.Seen.{seen};
 use super::entries::has_name_or_kind;
 use super::names::is_near;
 use super::{Context, Looks};
-use crate::segments::{Segment, SegmentPart};
+use crate::segments::{ReadSegment, SegmentPart};
 use crate::warnings::{LinkLook, WarningAt};
 use ps_codefile::Dict;
 use ps_codefile::dictionary_layout::SLOTS;
@@ -56,7 +56,7 @@ fn look_at_unit<'a, A: Allocator>(
     context: &Context<'_, 'a>,
     host: &Dict<'a>,
     index: usize,
-    segment: &Segment<'a>,
+    segment: &ReadSegment<'a>,
 ) -> Result<(), AllocError>
     requires { index ≤ length context.now.list.now }
     ensures { OnOk result (Adds (link_looks looks.old.warnings.items looks.old.harmless.items)
@@ -79,7 +79,7 @@ fn look_at_unit<'a, A: Allocator>(
 }
 
 /// The segments before the one of this index.
-fn before<'s, 'a>(list: &'s [Segment<'a>], index: usize) -> &'s [Segment<'a>]
+fn before<'s, 'a>(list: &'s [ReadSegment<'a>], index: usize) -> &'s [ReadSegment<'a>]
     requires { index ≤ length list.now }
     ensures { result.now ≡ take index list.now }
 {
@@ -87,7 +87,7 @@ fn before<'s, 'a>(list: &'s [Segment<'a>], index: usize) -> &'s [Segment<'a>]
 }
 
 /// The file of a segment: the host's, where it comes from none.
-fn file_of(segment: &Segment<'_>) -> usize
+fn file_of(segment: &ReadSegment<'_>) -> usize
     ensures { result ≡ unwrap_or (seen segment.now).file 0 }
 {
     match segment.source {
@@ -121,14 +121,14 @@ fn taken_by(host: &Dict<'_>, slot: Option<u8>, part: SegmentPart) -> Option<Link
 }
 
 /// The segment is a unit of nearly this name.
-fn is_near_unit(segment: &Segment<'_>, name: &Name) -> bool
+fn is_near_unit(segment: &ReadSegment<'_>, name: &Name) -> bool
     ensures { result ≡ is_near_unit_spec name.now (seen segment.now) }
 {
     segment.part.is_unit() && is_near(&segment.name, name)
 }
 
 /// An earlier unit whose name differs in small letters, high bits or padding alone.
-fn other_spelling(earlier: &[Segment<'_>], segment: &Segment<'_>) -> Option<LinkLook>
+fn other_spelling(earlier: &[ReadSegment<'_>], segment: &ReadSegment<'_>) -> Option<LinkLook>
     ensures { result ≡ other_spelling_spec (map seen earlier.now) (seen segment.now) }
 {
     if !segment.part.is_unit() {

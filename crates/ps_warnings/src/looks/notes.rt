@@ -3,7 +3,7 @@ ghost use Rattle.std.specs.Prelude.{[], OnOk};
 ghost use Rattle.ps_warnings.specs.Found.{Adds, link_looks};
 
 use super::Looks;
-use crate::segments::Source;
+use crate::segments::ReadEntry;
 use crate::warnings::{Guess, WarningAt};
 use ps_codefile::kinds::UNITSEG;
 use ps_linkinfo::{Body, LinkInformation, LinkRecord, Refs};
@@ -34,7 +34,7 @@ pub(super) fn of_records<'a, A: Allocator>(
     looks: &mut Looks<'a, A>,
     place: WarningAt<'a>,
     shown: &FileCode,
-    source: &Source<'_>,
+    source: &ReadEntry<'_>,
     records: &LinkInformation<'_>,
     code: &[u8],
 ) -> Result<(), AllocError>
@@ -61,7 +61,11 @@ fn shown_reference(
 }
 
 /// References of a unit that are fewer than the operands that a compiler leaves for them.
-fn lost_in(shown: &FileCode, source: &Source<'_>, records: &LinkInformation<'_>) -> Option<Guess> {
+fn lost_in(
+    shown: &FileCode,
+    source: &ReadEntry<'_>,
+    records: &LinkInformation<'_>,
+) -> Option<Guess> {
     if source.entry.kind == UNITSEG {
         lost_references(records, shown.operands_left_to_link(source.index))
     } else {

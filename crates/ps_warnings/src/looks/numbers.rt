@@ -1,6 +1,6 @@
 //! The segment numbers at the ends of codes, beside those that the dictionary has.
 use super::codes::is_without_procedures;
-use crate::segments::Source;
+use crate::segments::ReadEntry;
 use crate::warnings::{CodeLook, OtherLook};
 use ps_codefile::Dict;
 use ps_codefile::dictionary_layout::SLOTS;
@@ -85,7 +85,11 @@ fn number_in(dict: &Dict<'_>, slot: u8) -> Option<u8> {
 }
 
 /// What looks wrong in the numbers at the end of a code.
-pub(super) fn number_look(dict: &Dict<'_>, source: &Source<'_>, code: &[u8]) -> Option<OtherLook> {
+pub(super) fn number_look(
+    dict: &Dict<'_>,
+    source: &ReadEntry<'_>,
+    code: &[u8],
+) -> Option<OtherLook> {
     let slot = source.index;
     let (found, procedures) = match code {
         [.., found, procedures] => (*found, *procedures),
@@ -104,7 +108,7 @@ pub(super) fn number_look(dict: &Dict<'_>, source: &Source<'_>, code: &[u8]) -> 
 }
 
 /// The segment is the host program or a unit.
-fn is_linkable(source: &Source<'_>) -> bool {
+fn is_linkable(source: &ReadEntry<'_>) -> bool {
     matches!(source.entry.kind, HOSTSEG | UNITSEG)
 }
 

@@ -11,7 +11,7 @@ ghost use Rattle.ps_warnings.specs.RecordLooks.{at_index as at_index_spec, defin
 
 use super::names::oddity_of;
 use super::{Context, Looks, notes};
-use crate::segments::Source;
+use crate::segments::ReadEntry;
 use crate::warnings::{OtherLook, RecordLook, SegmentLook, WarningAt};
 use ps_codefile::ProcedureDictionary;
 use ps_codefile::code_layout::NUMBERS;
@@ -26,7 +26,7 @@ pub(super) fn look_at<'a, A: Allocator>(
     context: &Context<'_, '_>,
     path: &'a str,
     shown: &FileCode,
-    source: &Source<'_>,
+    source: &ReadEntry<'_>,
     code: &[u8],
 ) -> Result<(), AllocError>
     ensures { OnOk result (Adds (link_looks looks.old.warnings.items looks.old.harmless.items)
@@ -52,7 +52,7 @@ fn look_at_definitions<'a, A: Allocator>(
     looks: &mut Looks<'a, A>,
     context: &Context<'_, '_>,
     path: &'a str,
-    source: &Source<'_>,
+    source: &ReadEntry<'_>,
     size: Option<u16>,
     records: &LinkInformation<'_>,
 ) -> Result<(), AllocError>

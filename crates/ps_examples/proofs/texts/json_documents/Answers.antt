@@ -5,12 +5,12 @@ use Rattle.std.proofs.lemmas.Bool.{false≢true}
 use Rattle.ps_examples.specs.Texts.{json_with_references}
 use Rattle.ps_resolve.specs.Added.{empty_slots, rounds, segments}
 use Rattle.ps_linkfile.specs.MapText.{members_of}
-use Rattle.ps_linkfile.specs.ReferencesText.{listings_of}
+use Rattle.ps_linkfile.specs.ReferencesText.{all_stored_of}
 use Rattle.ps_resolve.specs.Sources.{own_segments}
 use Rattle.ps_examples.proofs.texts.json_documents.Goals as goal
 
 pub returns : goal.returns
-unfolding members_of listings_of own_segments empty_slots rounds segments digits
+unfolding members_of all_stored_of own_segments empty_slots rounds segments digits
 returns c = record {
   a_host_and_its_library = refl;
   with_its_references = refl;

@@ -4,7 +4,7 @@ use Rattle.std.specs.Option.{option_map}
 use Rattle.ps_resolve.specs.Sources.{contents}
 use Rattle.ps_warnings.specs.SeenSegments.{Origin, name_in, origin_as, seen_in, seen_with, slot_origin}
 use Rattle.ps_warnings.specs.declared.segments.SegmentPart.{SegmentPart}
-use Rattle.ps_warnings.specs.declared.segments.Segment.{Segment}
+use Rattle.ps_warnings.specs.declared.segments.ReadSegment.{ReadSegment}
 use Rattle.ps_warnings.proofs.Origins.{seen_is}
 use Rattle.ps_warnings.proofs.segments.segment_in.Goals as goal
 
@@ -25,7 +25,7 @@ returns-in-Some c =
     let h = c.args.host.now in
     let slot = c.args.slot in
     let what = c.in-Some.part in
-    let s : Segment = record {
+    let s : ReadSegment = record {
       slot = Some slot;
       name = c.name_in-name.result;
       part = what;

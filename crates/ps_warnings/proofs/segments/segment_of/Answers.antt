@@ -3,7 +3,7 @@ use Rattle.std.specs.Prelude.{Bool, Option, if◌then◌else◌}
 use Rattle.ps_warnings.specs.Seen.{Seen}
 use Rattle.ps_warnings.specs.SeenSegments.{name_in, seen_with}
 use Rattle.ps_warnings.specs.declared.segments.SegmentPart.TheVariants as part
-use Rattle.ps_warnings.specs.declared.segments.Segment.{Segment}
+use Rattle.ps_warnings.specs.declared.segments.ReadSegment.{ReadSegment}
 use Rattle.ps_warnings.proofs.Origins.{seen_is}
 use Rattle.ps_warnings.proofs.segments.segment_of.Goals as goal
 
@@ -22,7 +22,7 @@ returns c =
     let u = c.args.unit.now in
     let found : Option Seen = Some (seen_with None u.name (part.Added
     (name_in h u.slot) u.rec) None) in
-    let s : Segment = record {
+    let s : ReadSegment = record {
       slot = None;
       name = u.name;
       part = part.Added

@@ -13,7 +13,7 @@ returns-in-Err g c =
       after = λ first before h. (
         h.0,
         h.1,
-        sent_prefix _ _ _ before c.args.self.now.gathered.items c.args.bytes.now
+        sent_prefix _ _ _ before c.args.self.now.gathered.now.items c.args.bytes.now
             c.args.self.now.fault none h.2 c.in-Err.ensures.prefix,
         counted_fault _ _ _ c.args.self.now.fault _ none h.3 c.in-Err.ensures.failed,
       );

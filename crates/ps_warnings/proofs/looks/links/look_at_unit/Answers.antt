@@ -4,7 +4,7 @@ use Rattle.std.proofs.lemmas.Result.{on_ok_weaker}
 use Rattle.ps_warnings.specs.AllLooks.{looks_of_unit}
 use Rattle.ps_warnings.specs.LinkLooks.{other_spelling}
 use Rattle.ps_warnings.specs.Seen.{Seen, seen}
-use Rattle.ps_warnings.specs.declared.segments.Segment.{Segment}
+use Rattle.ps_warnings.specs.declared.segments.ReadSegment.{ReadSegment}
 use Rattle.ps_warnings.proofs.Found.{adds_both}
 use Rattle.ps_warnings.proofs.looks.links.look_at_unit.Goals as goal
 
@@ -14,7 +14,7 @@ returns g c =
     let s = seen c.args.segment.now in
     let ss = c.args.context.now.list.now in
     let spelled = c.other_spelling-other.ensures
-    ∙ (ap (λ (l : List Segment). other_spelling (map seen l) s) c.before-earlier.ensures
+    ∙ (ap (λ (l : List ReadSegment). other_spelling (map seen l) s) c.before-earlier.ensures
     ∙ ap (λ (l : List Seen). other_spelling l s) (sym (take-map seen c.args.index ss))) in
     let taken = rw (c.path-path.ensures, c.file_of-file.ensures, c.taken_by-taken.ensures)
     at c.in_ok-add_of_link.ensures in
