@@ -60,13 +60,15 @@ const FOREIGN: usize = 3;
 
 /// Each second byte of a text in UTF-16 is 0, and the others are those of a text.
 fn is_wide(sample: &[u8], zeros: usize) -> bool {
-    let (mut has_text, mut are_pairs) = (false, true);
+    let mut has_text = false;
     for (place, byte) in sample.iter().enumerate() {
         let is_zero = place % 2 == zeros;
-        are_pairs = are_pairs && (*byte == 0) == is_zero && (is_zero || is_text(*byte));
+        if (*byte == 0) != is_zero || !is_zero && !is_text(*byte) {
+            return false;
+        }
         has_text = has_text || byte.is_ascii_alphanumeric();
     }
-    are_pairs && has_text
+    has_text
 }
 
 /// The text is in UTF-16: it has its mark, or each second byte is 0.

@@ -59,14 +59,15 @@ fn send<W: Write>(
 }
 
 /// A writer of text in front of a writer of bytes, which is not called again once it failed.
-struct Stream<'w, W: Write> {
+struct Stream<'w, 'g, W: Write> {
     out: &'w mut W,
     counts: &'w mut Counts,
-    gathered: Gathered,
+    /// It stands with the caller, who writes what is left of it: so it is not copied.
+    gathered: &'g mut Gathered,
     fault: Option<WriteFault>,
 }
 
-impl<W: Write> Stream<'_, W> {
+impl<W: Write> Stream<'_, '_, W> {
     ghost use Rattle.std.specs.Prelude.{◌≡◌, ◌++◌, false, is_some};
     ghost use Rattle.ps_linkfile.specs.Adding.{IsCounted, IsSent};
     ghost use Rattle.ps_linkfile.specs.Counts.{failures_in};
@@ -78,24 +79,25 @@ impl<W: Write> Stream<'_, W> {
         requires { is_some self.old.fault ≡ false }
         ensures out { self.new.out.ghost_name ≡ self.old.out.ghost_name }
         ensures counts { self.new.counts.ghost_name ≡ self.old.counts.ghost_name }
-        ensures sent { IsSent (W.contents self.old.out.now) (self.old.gathered.items ++ bytes.now)
-            (W.contents self.new.out.now) self.new.gathered.items self.new.fault }
+        ensures sent { IsSent (W.contents self.old.out.now)
+            (self.old.gathered.now.items ++ bytes.now)
+            (W.contents self.new.out.now) self.new.gathered.now.items self.new.fault }
         ensures counted { IsCounted (failures_in self.old.counts.now)
             (failures_in self.new.counts.now) self.new.fault }
     {
-        match send(self.out, self.counts, &mut self.gathered, bytes) {
+        match send(self.out, self.counts, self.gathered, bytes) {
             Ok(()) => {}
             Err(fault) => self.fault = Some(fault),
         }
     }
 }
 
-impl<W: Write> TextWriter for Stream<'_, W> {
+impl<W: Write> TextWriter for Stream<'_, '_, W> {
     ghost use Rattle.std.specs.Prelude.{◌≡◌};
     ghost use Rattle.ps_linkfile.specs.Adding.{IsCounted, IsSent};
     ghost use Rattle.ps_linkfile.specs.Counts.{failures_in};
 
-    ghost added = { λ first text now. (now.out.ghost_name ≡ first.out.ghost_name) × (now.counts.ghost_name ≡ first.counts.ghost_name) × IsSent (W.contents first.out.now) text (W.contents now.out.now) now.gathered.items now.fault × IsCounted (failures_in first.counts.now) (failures_in now.counts.now) now.fault };
+    ghost added = { λ first text now. (now.out.ghost_name ≡ first.out.ghost_name) × (now.counts.ghost_name ≡ first.counts.ghost_name) × IsSent (W.contents first.out.now) text (W.contents now.out.now) now.gathered.now.items now.fault × IsCounted (failures_in first.counts.now) (failures_in now.counts.now) now.fault };
 
     #[inline]
     fn add(&mut self, bytes: &[u8]) {
@@ -133,21 +135,22 @@ pub fn write_text<W: Write, T: Text>(
     ensures ok { OnOk result (NoneFailed counts.old counts.new) }
     ensures failed { IfErr result (λ fault. OneFailed fault counts.old counts.new) }
 {
+    let mut room = ArrayVec::new();
     let mut stream = Stream {
         out,
         counts,
-        gathered: ArrayVec::new(),
+        gathered: &mut room,
         fault: None,
     };
     text.add_to(&mut stream);
     let Stream {
         out,
         counts,
-        mut gathered,
+        gathered,
         fault,
     } = stream;
     match fault {
         Some(fault) => Err(fault),
-        None => flush(out, counts, &mut gathered),
+        None => flush(out, counts, gathered),
     }
 }

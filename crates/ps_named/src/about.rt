@@ -176,3 +176,55 @@ pub fn fault_name(host: &[u8], libs: &[&[u8]], fault: Fault) -> Option<Name>
         Some(slot) => name_in_host(host, libs, rec, slot),
     }
 }
+
+/// The name that goes with a slot and no record, of files that were read.
+fn slot_name_in(host: &[u8], reading: &Reading, slot: u8) -> Option<Name>
+    requires in_range { slot < 16 }
+    requires same { reading.now.host ≡ host.now }
+    ensures { result ≡ slot_name_spec host.now reading.now.libs slot }
+{
+    match entry_name(host, slot) {
+        Some(name) => Some(name),
+        None => name_read(reading, slot, None),
+    }
+}
+
+/// The name that goes with a slot and perhaps a record, of files that were read.
+fn place_name_in(host: &[u8], reading: &Reading, slot: u8, rec: Option<usize>) -> Option<Name>
+    requires in_range { slot < 16 }
+    requires same { reading.now.host ≡ host.now }
+    ensures { result ≡ place_name_spec host.now reading.now.libs slot rec }
+{
+    match rec {
+        None => slot_name_in(host, reading, slot),
+        Some(rec) => name_read(reading, slot, Some(rec)),
+    }
+}
+
+/// The same; none where the host has no such slot.
+fn name_in_read_host(host: &[u8], reading: &Reading, rec: Option<usize>, slot: u8) -> Option<Name>
+    requires { reading.now.host ≡ host.now }
+    ensures { result ≡ name_in_host_spec host.now reading.now.libs rec slot }
+{
+    if SLOTS <= slot {
+        None
+    } else {
+        place_name_in(host, reading, slot, rec)
+    }
+}
+
+/// The name that `fault_name` gives, of files that were read: `host` is the file of the reading's
+/// host. It reads them no second time.
+///
+/// Source: UCSD Pascal II.0 manual, code file format; which name it is, this project's profile.
+#[tactic(auto, unfolding(crate::specs::FaultNames::fault_name))]
+pub fn fault_name_in(host: &[u8], reading: &Reading, fault: Fault) -> Option<Name>
+    requires { reading.now.host ≡ host.now }
+    ensures { result ≡ fault_name_spec host.now reading.now.libs fault }
+{
+    let rec = read_record(fault);
+    match fault.slot {
+        None => None,
+        Some(slot) => name_in_read_host(host, reading, rec, slot),
+    }
+}

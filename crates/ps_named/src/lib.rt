@@ -5,5 +5,5 @@
 mod about;
 mod units;
 
-pub use about::fault_name;
+pub use about::{fault_name, fault_name_in};
 pub use units::{units_had, units_wanted};

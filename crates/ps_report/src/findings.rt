@@ -7,12 +7,15 @@ ghost use Rattle.ps_warnings.specs.Found.{link_looks, sorted};
 ghost use Rattle.ps_warnings.specs.SeenSegments.{seen_segments};
 ghost use Rattle.ps_report.specs.SegmentLines.{segment_lines};
 ghost use Rattle.ps_report.specs.SlotLines.{AddsSlotLines};
+ghost use Rattle.ps_report.specs.Verdicts.{fault_of, verdict_name as verdict_name_spec};
 
+use crate::names::verdict_name;
 use crate::overview::{add_files, add_segments};
+use crate::verdict::Verdict;
 use ps_explained::{Case, Explanation};
 use ps_resolve::{Reading, read};
 use ps_warnings::{Inputs, Looks, ReadSegment, looks_of, segments_of};
-use ps_words::Fault;
+use ps_words::{Fault, Name};
 use std::alloc::{AllocError, Allocator};
 use std::fmt::Write as _;
 
@@ -21,6 +24,8 @@ use std::fmt::Write as _;
 pub(crate) struct Findings<'a, A: Allocator> {
     /// The files, and the segments with where each comes from, in lines.
     pub overview: String<A>,
+    /// The name of what the fault is about, where there is one and it has a name.
+    pub name: Option<Name>,
     /// What the fault is in these files, and what to do about it, in lines; empty where there is
     /// none.
     pub explanation: String<A>,
@@ -28,7 +33,7 @@ pub(crate) struct Findings<'a, A: Allocator> {
     pub looks: Looks<'a, A>,
 }
 
-/// What is found in a host and its libraries, which are refused for this fault, if for any.
+/// What is found in a host and its libraries, of which this is the verdict.
 ///
 /// `host_path` and `paths` name the files; `host` and each of `libs` are whole code files, the
 /// libraries in the order in which units are looked up in them. Returns an error where memory was
@@ -39,12 +44,14 @@ pub(crate) fn findings_of<'a, A: Allocator + Copy>(
     paths: &'a [&'a str],
     host: &'a [u8],
     libs: &'a [&'a [u8]],
-    fault: Option<Fault>,
+    verdict: Verdict,
 ) -> Result<Findings<'a, A>, AllocError>
     ensures segments { IfOk result (λ findings. reading_fault host.now (contents libs.now) ≡ None
         → AddsSlotLines [] (segment_lines (host_path.now ∷ contents paths.now) host.now
         (contents libs.now)) (string_bytes findings.overview)) }
-    ensures explanation { IfOk result (λ findings. fault ≡ None
+    ensures name { IfOk result (λ findings. findings.name
+        ≡ verdict_name_spec host.now (contents libs.now) verdict) }
+    ensures explanation { IfOk result (λ findings. fault_of verdict ≡ None
         → string_bytes findings.explanation ≡ []) }
     ensures looks { IfOk result (λ findings.
         link_looks findings.looks.warnings.items findings.looks.harmless.items
@@ -58,12 +65,15 @@ pub(crate) fn findings_of<'a, A: Allocator + Copy>(
         libs,
     };
     let reading = read_files(host, libs);
+    let fault = verdict.fault();
+    let name = verdict_name(host, &reading, verdict);
     let list = segments_of(alloc, &inputs, &reading)?;
     let overview = overview_of(alloc, &inputs, &reading, list.as_slice())?;
     let explanation = explanation_of(alloc, &inputs, &reading, list.as_slice(), fault)?;
     let looks = looks_of(alloc, &inputs, list.as_slice(), fault)?;
     Ok(Findings {
         overview,
+        name,
         explanation,
         looks,
     })

@@ -13,7 +13,6 @@ ghost use Rattle.ps_report.specs.WarningLines.{AddsWarnings, HasWarning, other_l
 
 use crate::findings::{Findings, findings_of};
 use crate::lines::{add_looks, add_other_lines};
-use crate::names::verdict_name;
 use crate::verdict::{Verdict, verdict_of};
 use crate::without_host::lists_without_host;
 use ps_laws::first_of_all;
@@ -108,11 +107,10 @@ pub fn check<'a, A: Allocator + Copy>(
 {
     first_of_all();
     let verdict = verdict_of(alloc, host, libs)?;
-    let name = verdict_name(host, libs, verdict);
-    let fault = verdict.fault();
-    let findings = findings_of(alloc, host_path, paths, host, libs, fault)?;
+    let findings = findings_of(alloc, host_path, paths, host, libs, verdict)?;
     let Findings {
         overview,
+        name,
         explanation,
         looks,
     } = findings;

@@ -84,8 +84,6 @@ impl fmt::Display for FileLook {
 /// Source: this project's profile.
 #[derive(Clone, Copy)]
 pub enum DictionaryLook {
-    /// The dictionary is damaged, or the compiler wrote no names. Compile it again.
-    NoNames,
     /// A part of the dictionary was not read, which a link copies. Copy the file again.
     DeadTail { start: usize, end: usize, byte: u8 },
     /// Another sector may have been written over a part of the dictionary. Copy the file again.
@@ -102,8 +100,7 @@ impl DictionaryLook {
     fn weight(self) -> Weight {
         match self {
             DictionaryLook::IntrinsicKind { .. } => Weight::Harmless,
-            DictionaryLook::NoNames
-            | DictionaryLook::FullTail { .. }
+            DictionaryLook::FullTail { .. }
             | DictionaryLook::NoName { .. }
             | DictionaryLook::MachineType { .. } => Weight::Look,
             DictionaryLook::DeadTail { .. } => Weight::Damaged,
@@ -114,7 +111,6 @@ impl DictionaryLook {
 impl fmt::Display for DictionaryLook {
     fn fmt<W: fmt::Write>(&self, f: &mut Formatter<W>) -> fmt::Result {
         match *self {
-            DictionaryLook::NoNames => f.write_str("no segment has a name"),
             DictionaryLook::DeadTail { start, end, byte } => {
                 write!(
                     f,

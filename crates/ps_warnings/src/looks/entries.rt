@@ -1,5 +1,5 @@
 //! Entries of dictionaries that look wrong.
-ghost use Rattle.std.specs.Prelude.{◌≡◌, ◌∷◌, ◌<◌, Ok, OnOk, false, map, true};
+ghost use Rattle.std.specs.Prelude.{◌≡◌, ◌∷◌, ◌<◌, [], Ok, OnOk, false, map, true};
 ghost use Rattle.std.specs.List.{flat_map, list_any};
 ghost use Rattle.std.specs.Option.{option_map};
 ghost use Rattle.ps_codefile.specs.Dictionary.{entry_at, kind_needs_linking, role_of, slots};
@@ -55,13 +55,24 @@ pub(super) fn look_at<'a, A: Allocator>(
         (link_looks looks.new.warnings.items looks.new.harmless.items)) }
 {
     let place = in_file(context.inputs.path(file));
-    let found = [no_names(dict), dead_tail(dict).or(full_tail(dict))];
-    looks.add_others(place, &found)?;
+    look_at_tail(looks, place, dict)?;
     for slot in 0..SLOTS {
         looks.add_other(place, name_look(context, dict, slot))?;
         look_at_slot(looks, context, file, dict, shown, slot)?;
     }
     Ok(())
+}
+
+/// Looks at the second half of a dictionary.
+fn look_at_tail<'a, A: Allocator>(
+    looks: &mut Looks<'a, A>,
+    place: WarningAt<'a>,
+    dict: &Dict<'_>,
+) -> Result<(), AllocError>
+    ensures { OnOk result (Adds (link_looks looks.old.warnings.items looks.old.harmless.items)
+        [] (link_looks looks.new.warnings.items looks.new.harmless.items)) }
+{
+    looks.add_other(place, dead_tail(dict).or(full_tail(dict)))
 }
 
 /// Looks at a slot: at its segment, or, in the host, at an entry that is not filled.
@@ -113,7 +124,7 @@ fn look_at_entry<'a, A: Allocator>(
         (link_looks looks.new.warnings.items looks.new.harmless.items)) }
 {
     let found = [
-        nameless_look(dict, source),
+        nameless_look(source),
         intrinsic_look(context, source),
         machine_look(dict, source),
     ];
@@ -222,10 +233,11 @@ fn refusal_of(source: &ReadEntry<'_>) -> Option<SegmentLook> {
     }
 }
 
-/// A filled slot without a name, where others have one.
-fn nameless_look(dict: &Dict<'_>, source: &ReadEntry<'_>) -> Option<OtherLook> {
+/// A filled slot without a name. Others have one: a file in which no slot has a name is no code
+/// file, and its entries are not looked at.
+fn nameless_look(source: &ReadEntry<'_>) -> Option<OtherLook> {
     let slot = source.index;
-    if is_nameless(&source.entry.name) && !are_nameless(dict) {
+    if is_nameless(&source.entry.name) {
         Some(OtherLook::Dictionary(DictionaryLook::NoName { slot }))
     } else {
         None
@@ -249,25 +261,6 @@ fn is_intrinsic(source: &ReadEntry<'_>) -> bool
     ensures { result ≡ true → kind_needs_linking source.now.entry.kind ≡ false }
 {
     matches!(source.entry.kind, FIRST_INTRINSIC..=LAST_INTRINSIC)
-}
-
-/// No slot has a name.
-fn are_nameless(dict: &Dict<'_>) -> bool {
-    for name in dict.names() {
-        if !is_nameless(&name) {
-            return false;
-        }
-    }
-    true
-}
-
-/// A dictionary without a name.
-fn no_names(dict: &Dict<'_>) -> Option<OtherLook> {
-    if are_nameless(dict) {
-        Some(OtherLook::Dictionary(DictionaryLook::NoNames))
-    } else {
-        None
-    }
 }
 
 /// The byte that a sector is throughout, as if it was not read, but for zeros.

@@ -41,12 +41,17 @@ pub(super) fn look_at<'a, A: Allocator>(
     if is_code_type(bytes) {
         return look_at_code_file(looks, context, file, bytes);
     }
-    let file_type = FileType::of(bytes);
-    let look = match context.is_type_told(file) {
-        true => None,
-        false => Some(OtherLook::File(FileLook::NoCodeFile { file_type })),
-    };
+    let look = type_look(context, file, bytes);
     looks.add_other(in_file(context.inputs.path(file)), look)
+}
+
+/// What a file is that is no code file, where the fault does not tell it.
+fn type_look(context: &Context<'_, '_>, file: usize, bytes: &[u8]) -> Option<OtherLook> {
+    if context.is_type_told(file) {
+        return None;
+    }
+    let file_type = FileType::of(bytes);
+    Some(OtherLook::File(FileLook::NoCodeFile { file_type }))
 }
 
 /// Looks at a code file.

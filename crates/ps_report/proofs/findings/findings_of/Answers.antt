@@ -8,6 +8,7 @@ use Rattle.ps_resolve.specs.Readings.{ReadFiles, opened_host}
 use Rattle.ps_resolve.specs.Sources.{contents}
 use Rattle.ps_report.specs.SegmentLines.{segment_lines}
 use Rattle.ps_report.specs.SlotLines.{AddsSlotLines}
+use Rattle.ps_report.specs.Verdicts.{verdict_name}
 use Rattle.ps_report.proofs.findings.findings_of.Goals as goal
 
 pub returns-clause-segments : goal.returns-clause-segments
@@ -29,3 +30,15 @@ returns-clause-looks g c =
     ∙ (c.in_ok-list.ensures
     ∙ ap (λ (f : ReadFiles). seen_by host libs (opened_host f.host f.libs))
     c.read_files-reading.ensures))
+
+pub verdict_name-name-requires : goal.verdict_name-name-requires
+verdict_name-name-requires g c = ap (λ (f : ReadFiles). f.host) c.read_files-reading.ensures
+
+pub returns-clause-name : goal.returns-clause-name
+returns-clause-name g c = c.verdict_name-name.ensures
+    ∙ ap (λ (f : ReadFiles). verdict_name c.args.host.now f.libs c.args.verdict)
+    c.read_files-reading.ensures
+
+pub returns-clause-explanation : goal.returns-clause-explanation
+returns-clause-explanation g c = λ none.
+    c.in_ok-explanation.ensures (c.fault-fault.ensures ∙ none)

@@ -69,8 +69,7 @@ returns-clause-segments g c = λ none.
     let links = links_of host libs verdict c.in_ok-verdict.ensures.right none in
     let read = c.first_of_all.ensures.unread host libs
     (λ step f reading stands. none step f stands) in
-    let silent = c.as_str-2.ensures.value ∙ c.in_ok-findings.ensures.explanation
-    (c.fault-fault.ensures ∙ links) in
+    let silent = c.as_str-2.ensures.value ∙ c.in_ok-findings.ensures.explanation links in
     let unlisted = c.as_str-3.ensures.value
     ∙ c.in_ok-lists.ensures.none (no_lists verdict libs links) in
     let shown = ap slot_lines c.as_str.ensures.value
@@ -82,3 +81,6 @@ returns-clause-segments g c = λ none.
 
 pub returns-clause-looks : goal.returns-clause-looks
 returns-clause-looks g c = c.in_ok-findings.ensures.looks
+
+pub returns-clause-name : goal.returns-clause-name
+returns-clause-name g c = c.in_ok-findings.ensures.name

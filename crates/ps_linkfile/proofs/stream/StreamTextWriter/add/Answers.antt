@@ -12,14 +12,14 @@ returns-then-is_ok g c = grind (arith, sends_none, sent_more)
 pub returns : goal.returns
 returns g c =
     let none : is_some c.args.self.now.fault ≡ false = search rules in
-    let same : c.try_extend_from_slice.new.self.items ≡ c.args.self.now.gathered.items =
+    let same : c.try_extend_from_slice.new.self.items ≡ c.args.self.now.gathered.now.items =
     search rules in
     let more = c.add_after_flush.ensures in
     record {
       after = λ first before h. (
         more.out ∙ h.0,
         more.counts ∙ h.1,
-        sent_after _ _ _ before c.args.self.now.gathered.items c.args.bytes.now _
+        sent_after _ _ _ before c.args.self.now.gathered.now.items c.args.bytes.now _
             c.args.self.now.fault _ none h.2 (rw same at more.sent),
         counted_after _ _ _ c.args.self.now.fault _ none h.3 more.counted,
       );

@@ -8,7 +8,7 @@ use Rattle.ps_warnings.proofs.Found.{none_then, owes_after, owes_all, owes_less,
 use Rattle.ps_warnings.proofs.looks.entries.look_at.Goals as goal
 
 pub loop-slot-init : goal.loop-slot-init
-loop-slot-init g c = owes_after c.in_ok-add_others.ensures (owes_all refl)
+loop-slot-init g c = owes_after c.in_ok-look_at_tail.ensures (owes_all refl)
 
 pub loop-slot-preserved : goal.loop-slot-preserved
 loop-slot-preserved g c =
