@@ -56,6 +56,7 @@ pub(crate) fn two_digits(number: u8) -> [u8; 2]
 
 /// Adds a slot, which is below 100, and a name after this text.
 /// Source: this project's profile.
+#[inline(always)]
 pub fn add_slot_name<S: TextWriter>(text: &mut S, before: &[u8], slot: u8, name: Name)
     ensures { Adds S.added text.old
         (before.now ++ two_digits_spec slot ++ (32 ∷ []) ++ shown_name name) text.new }
