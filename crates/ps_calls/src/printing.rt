@@ -9,7 +9,7 @@ ghost use Rattle.ps_calls.specs.declared.kinds.TextKind.{TextKind as TheKind};
 use crate::checking::is_one_each;
 use crate::file_names::file_names;
 use crate::kinds::TextKind;
-use crate::libraries::{LIBRARIES_IN_PLACE, split};
+use crate::libraries::listed;
 use crate::making::make;
 use crate::outcome::{Done, NotDone};
 use crate::texts::put;
@@ -128,7 +128,7 @@ fn put_kind(
     ensures untouched { OnErr result (room.new ≡ room.old) }
 {
     let count = lengths.len();
-    let libs = split::<LIBRARIES_IN_PLACE>(alloc, libs, lengths)?;
+    let libs = listed(alloc, libs, lengths)?;
     let names = names_for(alloc, kind.needs_names(), count, names, name_lengths)?;
     put_named(alloc, kind, names.as_slice(), host, libs.as_slice(), room)
 }
