@@ -6,7 +6,7 @@ use Rattle.ps_warnings.specs.declared.warnings.Warning.{Warning}
 use Rattle.ps_report.specs.ReportJson.{AreLooks, IsReportJson}
 use Rattle.ps_report.specs.Reports.{ArePrintedLooks, IsPrintedText, IsReport}
 use Rattle.ps_report.specs.Verdicts.{verdict_name}
-use Rattle.ps_report.specs.WarningLines.{warnings_in}
+use Rattle.ps_report.specs.WarningLines.{AreLookLines, warnings_in}
 use Rattle.ps_report.specs.declared.verdict.Verdict.{Verdict}
 use Rattle.ps_calls.specs.Printed.{IsPrintedLooks, IsPrintedReport, is_json}
 use Rattle.ps_calls.specs.declared.kinds.TextForm.{TextForm}
@@ -43,11 +43,17 @@ report_printed how names host libs verdict name warnings report (Ok text) is sam
 report_printed how names host libs verdict name warnings report (Err error) is same made = tt
 
 -- what looks wrong as lines, by the bytes of them
-pub looks_lines : {E : Type 0} (n : ℕ) (lines : List ℕ) (r : Result (Vec ℕ Global) E)
-    → warnings_in lines ≡ n → IfOk r (λ text. text.items ≡ lines)
+pub looks_lines : {E : Type 0} (warnings harmless notes : List Warning) (n : ℕ)
+    (lines : List ℕ) (r : Result (Vec ℕ Global) E) → length warnings ≡ n → warnings_in lines ≡ n
+    → AreLookLines warnings harmless notes lines → IfOk r (λ text. text.items ≡ lines)
     → IfOk r (λ text. ArePrintedLooks false n text.items)
-looks_lines n lines (Ok text) are made = ap warnings_in made ∙ are
-looks_lines n lines (Err error) are made = tt
+looks_lines warnings harmless notes n lines (Ok text) many counted are made = (
+  ap warnings_in made ∙ counted,
+  warnings,
+  many,
+  (harmless, notes, subst (λ (t : List ℕ). AreLookLines warnings harmless notes t) (sym made) are),
+)
+looks_lines warnings harmless notes n lines (Err error) many counted are made = tt
 
 -- what looks wrong as a document, by the bytes of it
 pub looks_document : {E : Type 0} (warnings harmless notes : List Warning) (n : ℕ)

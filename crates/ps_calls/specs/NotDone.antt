@@ -96,6 +96,15 @@ IsUnsplit libs lengths NoMemory = (sum lengths ≡ length libs)
     × (LIBRARIES_IN_PLACE < length lengths)
 IsUnsplit libs lengths (TooSmall size) = ⊥
 
+-- why parts that are one after another are not listed in memory
+abbrev pub IsUnlisted : List ℕ → List ℕ → NotDone → Type 0
+IsUnlisted bytes lengths (Refused r) = ⊥
+IsUnlisted bytes lengths WrongLengths = sum lengths ≢ length bytes
+IsUnlisted bytes lengths WrongNames = ⊥
+IsUnlisted bytes lengths NoSuchText = ⊥
+IsUnlisted bytes lengths NoMemory = sum lengths ≡ length bytes
+IsUnlisted bytes lengths (TooSmall size) = ⊥
+
 -- these bytes are more than there is room for
 abbrev pub IsOnlyAbove : List ℕ → List ℕ → NotDone → Type 0
 IsOnlyAbove bytes room (Refused r) = ⊥

@@ -6,7 +6,7 @@ ghost use Rattle.ps_calls.specs.Libraries.{split as split_spec};
 ghost use Rattle.ps_calls.specs.Checks.{IsFound, IsCheckable, StopsCheck, StopsReport};
 
 use crate::file_names::file_names;
-use crate::libraries::{LIBRARIES_IN_PLACE, split};
+use crate::libraries::listed;
 use crate::outcome::NotDone;
 use crate::texts::put;
 use ps_report::{Report, Verdict};
@@ -110,7 +110,7 @@ pub fn check(
     if !is_one_each(name_lengths.len(), lengths.len()) {
         return Err(NotDone::WrongLengths);
     }
-    let libs = split::<LIBRARIES_IN_PLACE>(alloc, libs, lengths)?;
+    let libs = listed(alloc, libs, lengths)?;
     let names = file_names(alloc, names, name_lengths)?;
     check_all(alloc, host, libs.as_slice(), names.as_slice(), strict, room)
 }

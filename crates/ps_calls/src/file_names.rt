@@ -5,7 +5,7 @@ ghost use Rattle.ps_resolve.specs.Sources.{contents};
 ghost use Rattle.ps_calls.specs.Checks.{IsMisnamed, IsUnreadable};
 ghost use Rattle.ps_calls.specs.Libraries.{split as split_spec};
 
-use crate::libraries::{LIBRARIES_IN_PLACE, split};
+use crate::libraries::listed;
 use crate::outcome::NotDone;
 use std::alloc::Global;
 
@@ -39,6 +39,6 @@ pub(crate) fn file_names<'a>(
     ensures utf8 { IfOk result (λ _. All IsUtf8 (split_spec names.now lengths.now)) }
     ensures err { IfErr result (IsMisnamed names.now lengths.now) }
 {
-    let parts = split::<LIBRARIES_IN_PLACE>(alloc, names, lengths)?;
+    let parts = listed(alloc, names, lengths)?;
     texts(alloc, parts.as_slice())
 }

@@ -2,7 +2,7 @@
 ghost use Rattle.std.specs.Prelude.{◌≡◌, ◌≤◌, ◌<◌, ◌↔◌, length, sum, IfOk, IfErr, IsOk, IsTrue, OnErr};
 ghost use Rattle.ps_resolve.specs.Sources.{contents};
 ghost use Rattle.ps_calls.specs.Libraries.{split as split_spec};
-ghost use Rattle.ps_calls.specs.NotDone.{IsUnsplit};
+ghost use Rattle.ps_calls.specs.NotDone.{IsUnlisted, IsUnsplit};
 
 use crate::outcome::NotDone;
 use smallvec::SmallVec;
@@ -53,6 +53,45 @@ fn parts<'a, const N: usize>(
         rest = behind;
     }
     Ok(parts)
+}
+
+/// The parts of these lengths, listed in memory.
+fn listed_parts<'a>(
+    alloc: Global,
+    bytes: &'a [u8],
+    lengths: &[usize],
+) -> Result<Vec<&'a [u8]>, AllocError>
+    requires { sum lengths.now ≡ length bytes.now }
+    ensures { IfOk result (λ parts. contents parts.items ≡ split_spec bytes.now lengths.now) }
+{
+    let mut parts = Vec::new(alloc);
+    let mut rest = bytes;
+    for length in lengths {
+        let (part, behind) = rest.split_at(*length);
+        parts.push(part)?;
+        rest = behind;
+    }
+    Ok(parts)
+}
+
+/// The parts that are one after another in `bytes`, with these lengths, listed in memory: many of
+/// them take no more of the stack than few.
+pub(crate) fn listed<'a>(
+    alloc: Global,
+    bytes: &'a [u8],
+    lengths: &[usize],
+) -> Result<Vec<&'a [u8]>, NotDone>
+    ensures ok { IfOk result (λ parts. contents parts.items ≡ split_spec bytes.now lengths.now) }
+    ensures right { IfOk result (λ _. sum lengths.now ≡ length bytes.now) }
+    ensures err { IfErr result (IsUnlisted bytes.now lengths.now) }
+{
+    if !add_up(lengths, bytes.len()) {
+        return Err(NotDone::WrongLengths);
+    }
+    match listed_parts(alloc, bytes, lengths) {
+        Ok(parts) => Ok(parts),
+        Err(_) => Err(NotDone::NoMemory),
+    }
 }
 
 /// The libraries that are one after another in `libs`, with these lengths.

@@ -1,5 +1,5 @@
 //! What the program prints of files, into the caller's room.
-ghost use Rattle.std.specs.Prelude.{◌≡◌, ◌∷◌, ◌<◌, ◌≤◌, IfErr, IfOk, OnErr, length, sum, true};
+ghost use Rattle.std.specs.Prelude.{◌≡◌, ◌∷◌, ◌<◌, IfErr, IfOk, OnErr, length, sum, true};
 ghost use Rattle.ps_resolve.specs.Sources.{contents};
 ghost use Rattle.ps_calls.specs.Kinds.{needs_names as needs_names_spec};
 ghost use Rattle.ps_calls.specs.Libraries.{split as split_spec};
@@ -9,7 +9,7 @@ ghost use Rattle.ps_calls.specs.declared.kinds.TextKind.{TextKind as TheKind};
 use crate::checking::is_one_each;
 use crate::file_names::file_names;
 use crate::kinds::TextKind;
-use crate::libraries::{FEW_LIBRARIES, LIBRARIES_IN_PLACE, split};
+use crate::libraries::listed;
 use crate::making::make;
 use crate::outcome::{Done, NotDone};
 use crate::texts::put;
@@ -110,10 +110,8 @@ fn names_for<'a>(
     }
 }
 
-/// Puts this kind of text of a host and the libraries that are one after another in the room. A
-/// function by itself for few libraries, which then need little of the stack.
-#[inline(never)]
-fn put_kind<const N: usize>(
+/// Puts this kind of text of a host and the libraries that are one after another in the room.
+fn put_kind(
     alloc: Global,
     kind: TextKind,
     host: &[u8],
@@ -123,7 +121,6 @@ fn put_kind<const N: usize>(
     name_lengths: &[usize],
     room: &mut [u8],
 ) -> Result<Done, NotDone>
-    requires { length lengths.now ≤ LIBRARIES_IN_PLACE → length lengths.now ≤ N }
     ensures printed { IfOk result (IsPrinted (Some kind) host.now libs.now lengths.now names.now
         name_lengths.now room.old room.new) }
     ensures stopped { IfErr result (StopsKind kind room.old host.now libs.now lengths.now
@@ -131,35 +128,9 @@ fn put_kind<const N: usize>(
     ensures untouched { OnErr result (room.new ≡ room.old) }
 {
     let count = lengths.len();
-    let libs = split::<N>(alloc, libs, lengths)?;
+    let libs = listed(alloc, libs, lengths)?;
     let names = names_for(alloc, kind.needs_names(), count, names, name_lengths)?;
     put_named(alloc, kind, names.as_slice(), host, libs.as_slice(), room)
-}
-
-/// Puts this kind of text in the room, with no more of the stack than these libraries need.
-fn put_text(
-    alloc: Global,
-    kind: TextKind,
-    host: &[u8],
-    libs: &[u8],
-    lengths: &[usize],
-    names: &[u8],
-    name_lengths: &[usize],
-    room: &mut [u8],
-) -> Result<Done, NotDone>
-    ensures printed { IfOk result (IsPrinted (Some kind) host.now libs.now lengths.now names.now
-        name_lengths.now room.old room.new) }
-    ensures stopped { IfErr result (StopsKind kind room.old host.now libs.now lengths.now
-        names.now name_lengths.now) }
-    ensures untouched { OnErr result (room.new ≡ room.old) }
-{
-    if lengths.len() <= 1 {
-        put_kind::<1>(alloc, kind, host, libs, lengths, names, name_lengths, room)
-    } else if lengths.len() <= FEW_LIBRARIES {
-        put_kind::<FEW_LIBRARIES>(alloc, kind, host, libs, lengths, names, name_lengths, room)
-    } else {
-        put_kind::<LIBRARIES_IN_PLACE>(alloc, kind, host, libs, lengths, names, name_lengths, room)
-    }
 }
 
 /// Puts a text of a host and the libraries that are one after another in `libs` in the room, as the
@@ -192,6 +163,6 @@ pub fn text(
 {
     match kind {
         None => Err(NotDone::NoSuchText),
-        Some(kind) => put_text(alloc, kind, host, libs, lengths, names, name_lengths, room),
+        Some(kind) => put_kind(alloc, kind, host, libs, lengths, names, name_lengths, room),
     }
 }

@@ -8,3 +8,4 @@ pub mod Texts
 pub mod SegmentTexts
 pub mod WarningLines
 pub mod ReportItems
+pub mod LookLines

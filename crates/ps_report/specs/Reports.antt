@@ -8,7 +8,7 @@ use Rattle.ps_warnings.specs.declared.warnings.Warning.{Warning}
 use Rattle.ps_report.specs.Lists.{HasLists, lacks_host}
 use Rattle.ps_report.specs.ReportJson.{AreLooksOf, IsReportJson}
 use Rattle.ps_report.specs.Verdicts.{IsVerdict, Tells, check_status, verdict_name}
-use Rattle.ps_report.specs.WarningLines.{warnings_in}
+use Rattle.ps_report.specs.WarningLines.{AreLookLinesOf, warnings_in}
 use Rattle.ps_report.specs.declared.verdict.Verdict.{Verdict}
 
 -- The verdict is right, and its line is in the text; so many lines begin with `warning: `; where the
@@ -40,9 +40,10 @@ IsPrintedReport paths host libs strict json status text =
     × (status ≡ check_status strict (warnings_in report) verdict)
     × IsPrintedText json verdict (verdict_name host libs verdict) warnings report text
 
--- What looks wrong, one by one, as it is printed: lines of which so many begin with `warning: `, or
--- the JSON document that has so many warnings.
+-- What looks wrong, one by one, as it is printed: the lines of so many warnings and of others, of
+-- which so many begin with `warning: `, or the JSON document that has so many warnings.
 abbrev pub ArePrintedLooks : Bool → ℕ → List ℕ → Type 0
-ArePrintedLooks false warnings text = warnings_in text ≡ warnings
+ArePrintedLooks false warnings text = (warnings_in text ≡ warnings) × (items : List Warning)
+    × (length items ≡ warnings) × AreLookLinesOf items text
 ArePrintedLooks true warnings text = (items : List Warning)
     × (length items ≡ warnings) × AreLooksOf items text

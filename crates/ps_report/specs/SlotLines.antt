@@ -33,7 +33,7 @@ AddsSlotLines old lines new =
 abbrev pub one_line : List ℕ → Bool
 one_line text = list_all (λ byte. not (byte == 10)) text
 
--- what goes before a line that is no segment's
+-- what goes before a line that would begin as it must not
 abbrev pub indent : Bool → List ℕ
 indent begins = if begins then codes "  " else []
 

@@ -59,9 +59,3 @@ check_status strict warnings (Refused f) = 1
 abbrev pub Tells : List ℕ → Verdict → Type 0
 Tells text verdict = (before : List ℕ) × (after : List ℕ)
     × (text ≡ before ++ (codes "\n" ++ (verdict_line verdict ++ after)))
-
--- a text and a status that a check of these files may give
-abbrev pub IsReported : List ℕ → List (List ℕ) → Bool → ℕ → List ℕ → Type 0
-IsReported host libs strict status text =
-    (verdict : Verdict) × (warnings : ℕ) × IsVerdict host libs verdict
-    × (status ≡ check_status strict warnings verdict) × Tells text verdict

@@ -1,8 +1,9 @@
 //! Lines of a report that are a warning's, and lines that are no warning's.
-ghost use Rattle.std.specs.Prelude.{◌≡◌, ◌++◌, [], OnOk, length, string_bytes, true};
+ghost use Rattle.std.specs.Prelude.{◌≡◌, ◌++◌, [], List, ℕ, OnOk, false, length, string_bytes, true};
 ghost use Rattle.ps_report.specs.SlotLines.{AddsSlotLines, one_line};
-ghost use Rattle.ps_report.specs.WarningLines.{AddsWarnings, head as head_spec, indent as indent_spec, is_warning_line as is_warning_line_spec, mark as mark_spec, note_line, other_line, other_lines, warning_line};
+ghost use Rattle.ps_report.specs.WarningLines.{AddsWarnings, AreLinesBy, AreLookLines, head as head_spec, is_warning_line as is_warning_line_spec, mark as mark_spec, note_line, other_line, other_lines, warning_line};
 
+use crate::slot_lines::indent;
 use ps_warnings::Warning;
 use std::alloc::{AllocError, Allocator};
 use std::fmt::Write as _;
@@ -15,13 +16,6 @@ fn is_warning_line(line: &str) -> bool
     ensures { result ≡ is_warning_line_spec line.now }
 {
     line.starts_with(WARNING)
-}
-
-/// What goes before a line that is no warning's.
-fn indent(begins: bool) -> &'static str
-    ensures { result.now ≡ indent_spec begins }
-{
-    if begins { "  " } else { "" }
 }
 
 /// What goes before the line of a warning.
@@ -89,6 +83,8 @@ fn add_warning<A: Allocator + Copy>(
         (string_bytes text.new)) }
     ensures lines { OnOk result (AddsSlotLines (string_bytes text.old) []
         (string_bytes text.new)) }
+    ensures line { OnOk result ((words : List ℕ) × (one_line words ≡ true)
+        × (string_bytes text.new ≡ string_bytes text.old ++ warning_line words)) }
 {
     let words = format!(in alloc; "{warning}")?;
     push_warning(text, first_line(words.as_str()))
@@ -126,6 +122,8 @@ fn add_note<A: Allocator + Copy>(
         (string_bytes text.new)) }
     ensures lines { OnOk result (AddsSlotLines (string_bytes text.old) []
         (string_bytes text.new)) }
+    ensures line { OnOk result ((words : List ℕ) × (one_line words ≡ true)
+        × (string_bytes text.new ≡ string_bytes text.old ++ note_line is_note words)) }
 {
     let (place, look) = (note.place, note.look);
     let words = format!(in alloc; "{place}: {look}")?;
@@ -143,6 +141,8 @@ fn add_notes<A: Allocator + Copy>(
         (string_bytes text.new)) }
     ensures lines { OnOk result (AddsSlotLines (string_bytes text.old) []
         (string_bytes text.new)) }
+    ensures added { OnOk result ((more : List ℕ) × AreLinesBy (note_line is_note) notes.now more
+        × (string_bytes text.new ≡ string_bytes text.old ++ more)) }
 {
     for note in notes {
         add_note(alloc, text, is_note, note)?;
@@ -162,6 +162,9 @@ pub(crate) fn add_looks<A: Allocator + Copy>(
         (string_bytes text.new)) }
     ensures lines { OnOk result (AddsSlotLines (string_bytes text.old) []
         (string_bytes text.new)) }
+    ensures added { OnOk result ((more : List ℕ)
+        × AreLookLines warnings.now harmless.now notes.now more
+        × (string_bytes text.new ≡ string_bytes text.old ++ more)) }
 {
     add_warnings(alloc, text, warnings)?;
     add_notes(alloc, text, false, harmless)?;
@@ -178,6 +181,8 @@ fn add_warnings<A: Allocator + Copy>(
         (string_bytes text.new)) }
     ensures lines { OnOk result (AddsSlotLines (string_bytes text.old) []
         (string_bytes text.new)) }
+    ensures added { OnOk result ((more : List ℕ) × AreLinesBy warning_line warnings.now more
+        × (string_bytes text.new ≡ string_bytes text.old ++ more)) }
 {
     for warning in warnings {
         add_warning(alloc, text, warning)?;

@@ -15,8 +15,8 @@ fn is_slot_line(line: &str) -> bool
     line.starts_with(SLOT)
 }
 
-/// What goes before a line that is no segment's.
-fn indent(begins: bool) -> &'static str
+/// What goes before a line that would begin as it must not.
+pub(crate) fn indent(begins: bool) -> &'static str
     ensures { result.now ≡ indent_spec begins }
 {
     if begins { "  " } else { "" }

@@ -1,6 +1,7 @@
-use Rattle.std.proofs.Common.{[], length, string_bytes}
+use Rattle.std.proofs.Common.{[], ◌++◌, length, refl, string_bytes}
 use Rattle.std.proofs.lemmas.Result.{on_ok_weaker}
 use Rattle.ps_report.proofs.SlotLines.{adds_then_none}
+use Rattle.ps_report.proofs.LookLines.{three_added}
 use Rattle.ps_report.proofs.WarningLines.{added_none}
 use Rattle.ps_report.proofs.lines.add_looks.Goals as goal
 
@@ -26,3 +27,17 @@ returns-clause-lines g c =
     on_ok_weaker c.add_notes-2.result
     (λ more. adds_then_none old calm (string_bytes c.add_notes-2.new.text) [] none more)
     c.add_notes-2.ensures.lines
+
+pub returns-clause-added : goal.returns-clause-added
+returns-clause-added g c =
+    let old = string_bytes c.args.text.now in
+    let warned = string_bytes c.add_warnings.new.text in
+    let calm = string_bytes c.add_notes.new.text in
+    let a = c.in_ok-add_warnings.ensures.added in
+    let b = c.in_ok-add_notes.ensures.added in
+    on_ok_weaker c.add_notes-2.result (λ last. (
+      a.0 ++ (b.0 ++ last.0),
+      (a.0, b.0, last.0, a.1, b.1, last.1, refl),
+      three_added old warned calm (string_bytes c.add_notes-2.new.text) a.0 b.0 last.0 a.2 b.2
+          last.2,
+    )) c.add_notes-2.ensures.added

@@ -12,3 +12,7 @@ pub returns-clause-lines : goal.returns-clause-lines
 returns-clause-lines g c = on_ok_weaker c.push_warning.result
     (λ is. (adds_warning_line (string_bytes c.args.text.now) c.first_line.result.now
     (string_bytes c.push_warning.new.text) c.first_line.ensures is).1) c.push_warning.ensures
+
+pub returns-clause-line : goal.returns-clause-line
+returns-clause-line g c = on_ok_weaker c.push_warning.result
+    (λ is. (c.first_line.result.now, c.first_line.ensures, is)) c.push_warning.ensures
