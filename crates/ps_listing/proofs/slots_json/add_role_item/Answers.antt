@@ -1,4 +1,4 @@
-use Rattle.ps_listing.proofs.Vocabulary.{ap, rules, sym, Result, Ok, Reason, Role, adds_is, ◌⨾◌, role_item}
+use Rattle.ps_listing.proofs.Vocabulary.{◌≡◌, ap, rules, sym, Result, Ok, Reason, Role, adds_is, ◌⨾◌, role_item}
 use Rattle.ps_codefile.specs.declared.entry.Role.TheVariants as role
 use Rattle.ps_listing.proofs.slots_json.add_role_item.Goals as goal
 
