@@ -1,12 +1,9 @@
 pub mod Vocabulary
 pub mod Lists
-pub mod Slots
-pub mod Elsewhere
-pub mod Information
 pub mod Entries
 pub mod SameFile
-pub mod OneFile
 pub mod Moved
 pub mod AlikeFiles
 pub mod Rearranged
+pub mod Information
 pub mod StoredLines

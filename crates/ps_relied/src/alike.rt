@@ -7,8 +7,8 @@ ghost use Rattle.ps_linkinfo.specs.declared.record.LinkRecord.{LinkRecord};
 ghost use Rattle.ps_linkfile.specs.LinkedFile.{LinkedFile};
 ghost use Rattle.ps_relied.specs.Alike.{AreFilesAlike};
 
+use crate::same_segments::link_is_its_segments;
 use ps_laws::first_of_all;
-use ps_linkfile::linked_file_is_one;
 use ps_linkinfo::one_reading;
 
 /// What is not read does not matter. Two hosts, and their libraries one by one, that are read alike
@@ -30,6 +30,6 @@ pub fn what_is_not_read()
         → Spells order read rs → reading order (read ++ rest) ≡ reading order (read ++ more) }
 {
     first_of_all();
-    linked_file_is_one();
+    link_is_its_segments();
     one_reading();
 }

@@ -4,8 +4,8 @@ ghost use Rattle.ps_resolve.specs.Sources.{library_file, order_of};
 ghost use Rattle.ps_linkfile.specs.LinkedFile.{LinkedFile};
 ghost use Rattle.ps_relied.specs.Numbered.{exchanged, renumbered, without, HaveNoNameInCommon};
 
+use crate::same_segments::link_is_its_segments;
 use ps_laws::first_of_all;
-use ps_linkfile::linked_file_is_one;
 
 /// A library that gives nothing may be left out. Where no segment of the link is of it, and the
 /// files link, they link to the same bytes without it; the segments are the same, and the number of
@@ -25,7 +25,7 @@ pub fn library_is_left_out()
         (segments_of host (before ++ lib ∷ after)) }
 {
     first_of_all();
-    linked_file_is_one();
+    link_is_its_segments();
 }
 
 /// Neighbours may be exchanged. Two libraries that follow one another and have no filled entry of
@@ -49,5 +49,5 @@ pub fn neighbours_are_exchanged()
         (segments_of host (before ++ lib ∷ next ∷ after)) }
 {
     first_of_all();
-    linked_file_is_one();
+    link_is_its_segments();
 }

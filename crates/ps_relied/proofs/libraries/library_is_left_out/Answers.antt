@@ -1,18 +1,17 @@
-use Rattle.std.proofs.Common.{◌∷◌, ◌++◌}
-use Rattle.ps_relied.proofs.OneFile.{moved_file, none_first}
+use Rattle.std.proofs.Common.{◌∷◌, ◌++◌, refl}
+use Rattle.ps_linkfile.proofs.Whole.{none_found}
 use Rattle.ps_relied.proofs.Rearranged.{left_out}
 use Rattle.ps_relied.proofs.libraries.library_is_left_out.Goals as goal
 
-pub returns : goal.returns
-returns c =
-    let some = c.first_of_all.ensures.some in
-    let file_law = c.linked_file_is_one.ensures in
-    record {
-      linked = λ host lib file before after gives is.
-          let kept = left_out host before after lib
-          (none_first some host (before ++ (lib ∷ after)) is.accepted) gives in
-          moved_file file_law.one file_law.there host host (before ++ (lib ∷ after))
-          (before ++ after) file is kept.fine kept.file;
-      numbers = λ host lib file before after gives is. (left_out host before after lib
-          (none_first some host (before ++ (lib ∷ after)) is.accepted) gives).segments;
-    }
+pub returns-clause-linked : goal.returns-clause-linked
+returns-clause-linked c = λ host lib file before after gives is.
+    let kept = left_out host before after lib
+    (none_found c.first_of_all.ensures.some host (before ++ (lib ∷ after)) is.accepted) gives in
+    c.link_is_its_segments.ensures host host (before ++ (lib ∷ after)) (before ++ after) file is
+    (c.first_of_all.ensures.none host (before ++ after) kept.fine)
+    (record { order = refl; names = λ slot h. refl; tail = refl }) kept.same
+
+pub returns-clause-numbers : goal.returns-clause-numbers
+returns-clause-numbers c = λ host lib file before after gives is.
+    (left_out host before after lib (none_found c.first_of_all.ensures.some host
+    (before ++ (lib ∷ after)) is.accepted) gives).segments

@@ -1,9 +1,12 @@
-use Rattle.ps_relied.proofs.OneFile.{moved_file, none_first}
+use Rattle.std.proofs.Common.{sym, subst, ◌∙◌}
+use Rattle.ps_linkfile.proofs.Whole.{none_found}
+use Rattle.ps_linkfile.specs.LinkedFile.{LinkedFile}
 use Rattle.ps_relied.proofs.SameFile.{same_file}
 use Rattle.ps_relied.proofs.same_segments.link_is_its_segments.Goals as goal
 
 pub returns : goal.returns
 returns c = λ host other libs others file is none heads same.
-    moved_file c.linked_file_is_one.ensures.one c.linked_file_is_one.ensures.there host other libs
-    others file is (none_first c.first_of_all.ensures.some other others none)
-    (same_file host other libs others heads same)
+    let law = c.linked_file_is_one.ensures in
+    subst (λ f. LinkedFile other others f)
+    (sym (law.one host libs file is ∙ same_file host other libs others heads same))
+    (law.there other others (none_found c.first_of_all.ensures.some other others none))
