@@ -6,7 +6,7 @@ use Rattle.std.proofs.lemmas.List.Elements.{All-cons, All-nil}
 use Rattle.ps_examples.specs.ReadAlike.{library_elsewhere}
 use Rattle.ps_examples.proofs.NotLinked.{util_aux}
 use Rattle.ps_examples.proofs.SegmentOrigins.{any_below, fails}
-use Rattle.ps_relied.proofs.StoredLines.{ranged}
+use Rattle.ps_relied.proofs.StoredLines.{made_at}
 use Rattle.ps_relied.specs.Alike.{IsReadAlike, AreReadAlike, AreFilesAlike, HasSameCode, HasSameRecords}
 use Rattle.ps_relied.specs.Numbered.{HaveNoNameInCommon}
 
@@ -14,8 +14,7 @@ use Rattle.ps_relied.specs.Numbered.{HaveNoNameInCommon}
 same_at : {A : Type 0} (f g : ℕ → A) → map f (range_with_len 0 16)
     ≡ map g (range_with_len 0 16) → (i : ℕ) → i < 16 → f i ≡ g i
 same_at f g e i h =
-    let x = sym (ranged f 0 16 i h) ∙ (ap (λ xs. slice_get xs i) e ∙ ranged g 0 16 i h) in
-    let z : 0 + i ≡ i = omega arith in
+    let x = sym (made_at f 16 i h) ∙ (ap (λ xs. slice_get xs i) e ∙ made_at g 16 i h) in
     cc
 
 lone : (a b : Bool) → (a && not b) ≡ false → a ≡ true → b ≡ true

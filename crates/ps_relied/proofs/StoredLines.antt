@@ -11,7 +11,7 @@ as_one g test f [] = refl
 as_one g test f (x ∷ xs) = grind (arith, as_one g test f xs)
 
 -- a list that a function makes of its places, and a piece of it
-made_at : {A : Type 0} (f : ℕ → A) (n p : ℕ) → p < n
+pub made_at : {A : Type 0} (f : ℕ → A) (n p : ℕ) → p < n
     → slice_get (map f (range_with_len 0 n)) p ≡ Some (f p)
 made_at f n p h =
     let at = get_or-map-range_with_len f 0 n p p (f p) in

@@ -1,5 +1,5 @@
 -- The words and lemmas that several proofs use, each with its home.
-pub use Rattle.ps_laws.proofs.Vocabulary.{if◌then◌else◌, nat_lt, not, ◌&&◌, ◌||◌, ◌==◌, ◌⊎◌, ◌≢◌, list_any, find, filter_map, enumerate_from, range_with_len, slice_get, flat_map, option_and_then, option_map, option_map_or, option_or, result_ok, result_err, bytes_eq, same_Some, fault_if, first_of, in_record, in_slot, Edit, Fault, Reason, Order, Role, Record, Body, Segment, Request, UnitReference, RoundsOutcome, entry_at, role_of, slots, is_empty, is_host, is_unit, needs_linking, next_of, reading, refs_of, added_made, after, added_segments, all_unit_references, as_added, request_of, requested_from, unit_references, code_fault, request_fault, role_fault, is_role, segments_of, known_of, owner_of, private_words, total_words, request_by_slot, chosen_library, file_at, host_of, host_records, is_named, order_of, own_segment, source_of, unit_source, units_of}
+pub use Rattle.ps_laws.proofs.Vocabulary.{if◌then◌else◌, nat_lt, not, ◌&&◌, ◌||◌, ◌==◌, ◌⊎◌, ◌≢◌, list_any, find, filter_map, enumerate_from, range_with_len, slice_get, flat_map, option_and_then, option_map, option_map_or, option_or, result_ok, result_err, bytes_eq, same_Some, fault_if, first_of, in_record, in_slot, Edit, Fault, Reason, Order, Role, Record, Body, Segment, Request, UnitReference, RoundsOutcome, entry_at, role_of, slots, is_empty, is_host, is_unit, needs_linking, next_of, reading, refs_of, after, added_segments, all_unit_references, request_of, requested_from, unit_references, code_fault, request_fault, role_fault, is_role, segments_of, known_of, owner_of, private_words, total_words, request_by_slot, chosen_library, file_at, host_of, host_records, is_named, order_of, own_segment, source_of, unit_source, units_of}
 pub use Rattle.ps_linkfile.proofs.Vocabulary.{nat_tests, get_or_append_left, All-head, All-tail, length-map-range_with_len, filter, blocks, word_bytes, Origin, origin_of, edited_from, edited_segments, Known, linked_file, pair_of, all_blocks, padded_segment, in_file}
 pub use Rattle.std.specs.List.{fold}
 pub use Rattle.std.specs.Prelude.{◌↔◌, All, slice_index, replicate}
@@ -11,7 +11,7 @@ pub use Rattle.ps_words.specs.Words.{word_at}
 pub use Rattle.ps_codefile.specs.Dictionary.{is_nameless, name_at, tail_of, block_len}
 pub use Rattle.ps_codefile.specs.Procedures.{tables_fault, table_of}
 pub use Rattle.ps_linkinfo.specs.Records.{Spells, AreSpelled, IsBody, refs_at, size_of}
-pub use Rattle.ps_resolve.specs.Added.{unplaced_fault, placed_fault, added_segment, added_at, rounds_from, segment_at, slot_name}
+pub use Rattle.ps_resolve.specs.Added.{unplaced_fault, placed_fault, added_segment, added_at, as_added, rounds_from, segment_at, slot_name}
 unfoldable pub use Rattle.ps_resolve.specs.Added.{rounds, empty_slots, segments, slot_names}
 pub use Rattle.ps_resolve.specs.AllFaults.{reading_rest}
 unfoldable pub use Rattle.ps_resolve.specs.AllFaults.{first_fault, reading_fault}
@@ -28,7 +28,7 @@ pub use Rattle.ps_resolve.specs.declared.edits.data_size.TheConstants.{MAX_DATA_
 pub use Rattle.ps_resolve.specs.declared.reading.request.Requester.{Requester}
 pub use Rattle.ps_resolve.specs.declared.reading.request.Requester.TheVariants.{Slot}
 pub use Rattle.ps_resolve.proofs.EachRound.{request_parts, source_made, unit_there}
-pub use Rattle.ps_resolve.proofs.EachSegment.{own_made}
+pub use Rattle.ps_resolve.proofs.EachSegment.{added_made, own_made}
 pub use Rattle.ps_resolve.proofs.FirstSlots.{or_none, none_mapped, some_mapped}
 pub use Rattle.ps_resolve.proofs.OfLink.{sources_fine, rounds_fine}
 pub use Rattle.ps_resolve.proofs.OfRounds.{each_added}
