@@ -1,49 +1,16 @@
 -- The answer of a fault reports that fault.
 use Rattle.std.proofs.Common.{◌≡◌, ℕ, List, Option, Some, None, ◌∙◌, ap, refl}
 use Rattle.std.specs.Prelude.{option_map, unwrap_or}
-use Rattle.ps_words.specs.FaultText.{number_of, kind_of}
+use Rattle.ps_words.specs.FaultText.{number_of, kind_of, reason_of}
 use Rattle.ps_words.specs.declared.fault.Reason.{Reason}
 use Rattle.ps_words.specs.declared.fault.Reason.TheVariants as reason
 use Rattle.ps_words.specs.declared.fault.Fault.{Fault}
-use Rattle.ps_calls.specs.Answers.{fault_with, flag, part, reason_of, refusal, refusal_fault}
+use Rattle.ps_calls.specs.Answers.{fault_with, flag, part, refusal, refusal_fault}
 
--- a reason is found by its number
+-- a reason is found by its number: one proof for each, which computes
 reason_back : (why : Reason) → reason_of (number_of why) (unwrap_or (kind_of why) 0) ≡ Some why
 reason_back reason.ShortFile = refl
-reason_back reason.NoOrder = refl
-reason_back reason.OrderMismatch = refl
-reason_back reason.NoHost = refl
-reason_back reason.TwoHosts = refl
-reason_back reason.DoubledSegment = refl
-reason_back reason.SegmentProcedure = refl
-reason_back reason.NativeSegment = refl
-reason_back reason.Intrinsic = refl
-reason_back reason.UnknownKind = refl
-reason_back reason.BadLength = refl
-reason_back reason.BadAddress = refl
-reason_back reason.MissingUnit = refl
-reason_back (reason.NotAUnit kind) = refl
-reason_back reason.DoubledUnit = refl
-reason_back reason.Truncated = refl
-reason_back reason.BadProcDict = refl
-reason_back reason.NativeProcedure = refl
-reason_back reason.RecordsTruncated = refl
-reason_back reason.UnknownRecord = refl
-reason_back reason.NativeRecord = refl
-reason_back reason.SeparateRecord = refl
-reason_back reason.BadFormat = refl
-reason_back reason.DoubledDefinition = refl
-reason_back reason.DoubledPrivate = refl
-reason_back reason.NoRoom = refl
-reason_back reason.DataTooLarge = refl
-reason_back reason.MissingDefinition = refl
-reason_back reason.IllKind = refl
-reason_back reason.MissingUnitRef = refl
-reason_back reason.OutsideCode = refl
-reason_back reason.ReservedPlace = refl
-reason_back reason.Overlap = refl
-reason_back reason.OperandTooLarge = refl
-reason_back reason.NoSlot = refl
+reason_back other = refl
 
 -- a part is reported by its flag and its value
 part_back : (o : Option ℕ) → part (flag o) (unwrap_or o 0) ≡ o

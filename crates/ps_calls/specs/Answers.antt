@@ -1,10 +1,8 @@
 -- What an answer says of a call, and which fault a refusal reports.
 -- Source: this project's profile.
 use Rattle.std.specs.Prelude.{◌≡◌, ℕ, ◌==◌, ◌⊎◌, if◌then◌else◌, List, [], ◌∷◌, ◌++◌, Option, Some, None, option_map, unwrap_or, is_some}
-use Rattle.std.specs.List.{find}
-use Rattle.ps_words.specs.FaultText.{number_of, kind_of, fault_text}
+use Rattle.ps_words.specs.FaultText.{number_of, kind_of, reason_of, fault_text}
 use Rattle.ps_words.specs.declared.fault.Reason.{Reason}
-use Rattle.ps_words.specs.declared.fault.Reason.TheVariants as reason
 use Rattle.ps_words.specs.declared.fault.Fault.{Fault}
 use Rattle.ps_linkfile.specs.declared.summary.Summary.{Summary}
 use Rattle.ps_calls.specs.declared.answer.Answer.{Answer}
@@ -76,25 +74,6 @@ refusal f name = record (bare REFUSED) {
   name = unwrap_or name no_name;
   has_name = flag name;
 }
-
--- each reason, in the order of their numbers; an entry that is no unit has this kind word
-abbrev pub reasons : ℕ → List Reason
-reasons kind =
-    reason.ShortFile ∷ reason.NoOrder ∷ reason.OrderMismatch ∷ reason.NoHost
-    ∷ reason.TwoHosts ∷ reason.DoubledSegment ∷ reason.SegmentProcedure
-    ∷ reason.NativeSegment ∷ reason.Intrinsic ∷ reason.UnknownKind ∷ reason.BadLength
-    ∷ reason.BadAddress ∷ reason.MissingUnit ∷ reason.NotAUnit kind
-    ∷ reason.DoubledUnit ∷ reason.Truncated ∷ reason.BadProcDict ∷ reason.NativeProcedure
-    ∷ reason.RecordsTruncated ∷ reason.UnknownRecord
-    ∷ reason.NativeRecord ∷ reason.SeparateRecord ∷ reason.BadFormat
-    ∷ reason.DoubledDefinition ∷ reason.DoubledPrivate ∷ reason.NoRoom
-    ∷ reason.DataTooLarge ∷ reason.MissingDefinition ∷ reason.IllKind
-    ∷ reason.MissingUnitRef ∷ reason.OutsideCode ∷ reason.ReservedPlace
-    ∷ reason.Overlap ∷ reason.OperandTooLarge ∷ reason.NoSlot ∷ []
-
--- the reason of this number
-abbrev pub reason_of : ℕ → ℕ → Option Reason
-reason_of number kind = find (λ why. number_of why == number) (reasons kind)
 
 -- a part that is there where its flag is not 0
 abbrev pub part : ℕ → ℕ → Option ℕ

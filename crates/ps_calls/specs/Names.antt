@@ -2,9 +2,8 @@
 -- Source: this project's profile.
 use Rattle.std.specs.Prelude.{ℕ, ◌==◌, if◌then◌else◌, List, [], ◌∷◌, ◌++◌, codes, Option, Some, None}
 use Rattle.ps_explained.specs.Sentences.{meaning_of, remedy_of}
-use Rattle.ps_words.specs.FaultText.{name_of}
+use Rattle.ps_words.specs.FaultText.{name_of, reason_of}
 use Rattle.ps_words.specs.declared.fault.Reason.{Reason}
-use Rattle.ps_calls.specs.Answers.{reason_of}
 use Rattle.ps_calls.specs.declared.answer.TheConstants.{DONE, REFUSED, WRONG_LENGTHS, NO_MEMORY, TOO_SMALL, WRONG_NAMES, WRONG_TEXT}
 
 -- a text with a closing 0; nothing of one that is empty

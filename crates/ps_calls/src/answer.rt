@@ -2,8 +2,7 @@
 ghost use Rattle.std.specs.Prelude.{◌≡◌};
 
 use crate::outcome::{Done, NotDone};
-use crate::reasons::{kind_of, reason_of};
-use ps_words::{Fault, Name};
+use ps_words::{Fault, Name, Reason};
 
 /// The status of a call that was done.
 /// Source: this project's profile.
@@ -148,7 +147,7 @@ impl Answer {
     pub(crate) fn refusal(fault: Fault, name: Option<Name>) -> Answer
         ensures { result ≡ refusal_spec fault name }
     {
-        let kind = kind_of(fault.reason);
+        let kind = fault.reason.kind();
         Answer {
             kind: kind.unwrap_or(0),
             fault: fault.reason.number(),
@@ -175,7 +174,7 @@ impl Answer {
         if self.status != REFUSED {
             return None;
         }
-        let reason = reason_of(self.fault, self.kind)?;
+        let reason = Reason::from_number(self.fault, self.kind)?;
         Some(Fault {
             reason,
             file: self.file,

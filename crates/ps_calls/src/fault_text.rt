@@ -5,7 +5,6 @@ ghost use Rattle.ps_words.specs.FaultText.{name_of, number_of, part_text, kind_o
 ghost use Rattle.ps_calls.specs.Answers.{closed_text};
 ghost use Rattle.ps_calls.specs.Rooms.{RoomBeginsWith};
 
-use crate::reasons::kind_of;
 use crate::texts::put;
 use arrayvec::ArrayString;
 use itoa::Buffer;
@@ -50,7 +49,7 @@ fn push_kind(text: &mut Text, reason: Reason)
         ≡ text.old.bytes ++ part_text (codes "kind") (kind_of_spec reason) }
     ensures most { array_string_len text.new ≤ array_string_len text.old + 11 }
 {
-    match kind_of(reason) {
+    match reason.kind() {
         Some(kind) => {
             text.push_str(" kind ");
             text.push_str(Buffer::new().format(kind));

@@ -19,7 +19,6 @@ mod making;
 mod names;
 mod outcome;
 mod printing;
-mod reasons;
 mod refusal_law;
 mod room;
 mod sentences;

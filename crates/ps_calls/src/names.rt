@@ -5,8 +5,8 @@ ghost use Rattle.ps_calls.specs.Rooms.{RoomBeginsWith};
 
 use crate::answer::{DONE, NO_MEMORY, REFUSED, TOO_SMALL, WRONG_LENGTHS, WRONG_NAMES, WRONG_TEXT};
 use crate::fault_text::{FAULT_TEXT_MAX, Text};
-use crate::reasons::reason_of;
 use crate::texts::put;
+use ps_words::Reason;
 
 /// The release of pslink.
 const RELEASE: &str = "0.2.0";
@@ -21,7 +21,7 @@ fn name_of_fault(number: u8) -> &'static str
     ensures name { result.now ≡ fault_name number }
     ensures short { length result.now ≤ 17 }
 {
-    match reason_of(number, 0) {
+    match Reason::from_number(number, 0) {
         Some(reason) => reason.name(),
         None => "",
     }

@@ -1,30 +1,17 @@
 -- The name of what a fault is about: that of the record that is at fault, or that of the slot.
 -- Source: this project's profile.
-use Rattle.std.specs.Prelude.{ℕ, if◌then◌else◌, List, Bool, true, false, Option, Some, None, Result, Ok, Err, nat_le, option_and_then, slice_get}
+use Rattle.std.specs.Prelude.{ℕ, if◌then◌else◌, List, Option, Some, None, Result, Ok, Err, nat_le, option_and_then, slice_get}
 use Rattle.std.specs.List.{find}
 use Rattle.std.specs.Option.{option_map, option_map_or, option_or}
+use Rattle.ps_words.specs.FaultPlaces.{read_record}
 use Rattle.ps_words.specs.declared.fault.Fault.{Fault}
 use Rattle.ps_words.specs.declared.fault.Reason.{Reason}
-use Rattle.ps_words.specs.declared.fault.Reason.TheVariants as reason
 use Rattle.ps_codefile.specs.Dictionary.{OpenedFile, entry_at, opened_alone, role_of}
 use Rattle.ps_codefile.specs.declared.entry.Role.{Role}
 use Rattle.ps_codefile.specs.declared.entry.Role.TheVariants as role
 use Rattle.ps_resolve.specs.KnownSegments.{is_in_slot}
 use Rattle.ps_resolve.specs.Readings.{HostFiles, all_read, opened_host, slot_request}
 use Rattle.ps_resolve.specs.Sources.{Segment, opened_files}
-
--- the record cannot be read, so it has no name
-abbrev pub is_unread : Reason → Bool
-is_unread reason.RecordsTruncated = true
-is_unread reason.UnknownRecord = true
-is_unread reason.NativeRecord = true
-is_unread reason.SeparateRecord = true
-is_unread reason.BadFormat = true
-is_unread why = false
-
--- the record of a fault, where it was read
-abbrev pub read_record : Fault → Option ℕ
-read_record f = if is_unread f.reason then None else f.rec
 
 -- the name in the record of this index of a segment, where it has so many
 abbrev pub name_of_record : ℕ → Segment → Option (List ℕ)

@@ -5,7 +5,7 @@ ghost use Rattle.std.specs.Option.{option_map};
 ghost use Rattle.ps_codefile.specs.Dictionary.{opened_alone};
 ghost use Rattle.ps_resolve.specs.KnownSegments.{is_in_slot};
 ghost use Rattle.ps_resolve.specs.Sources.{contents};
-ghost use Rattle.ps_named.specs.FaultNames.{entry_name as entry_name_spec, fault_name as fault_name_spec, name_at as name_at_spec, name_in_host as name_in_host_spec, name_in_record as name_in_record_spec, name_in_slot as name_in_slot_spec, name_by_role as name_by_role_spec, name_of_record as name_of_record_spec, place_name as place_name_spec, read_name as read_name_spec, slot_name as slot_name_spec, read_record as read_record_spec};
+ghost use Rattle.ps_named.specs.FaultNames.{entry_name as entry_name_spec, fault_name as fault_name_spec, name_at as name_at_spec, name_in_host as name_in_host_spec, name_in_record as name_in_record_spec, name_in_slot as name_in_slot_spec, name_by_role as name_by_role_spec, name_of_record as name_of_record_spec, place_name as place_name_spec, read_name as read_name_spec, slot_name as slot_name_spec};
 
 use ps_codefile::dictionary_layout::SLOTS;
 use ps_codefile::{Dict, Role};
@@ -88,20 +88,6 @@ fn read_name(host: &[u8], libs: &[&[u8]], slot: u8, rec: Option<usize>) -> Optio
     name_read(&reading, slot, rec)
 }
 
-/// The record of a fault, where it was read.
-fn read_record(fault: Fault) -> Option<usize>
-    ensures { result ≡ read_record_spec fault }
-{
-    match fault.reason {
-        Reason::RecordsTruncated
-        | Reason::UnknownRecord
-        | Reason::NativeRecord
-        | Reason::SeparateRecord
-        | Reason::BadFormat => None,
-        _ => fault.rec,
-    }
-}
-
 /// The name that a slot of this role has by its own entry: of one that is not empty.
 fn name_by_role(name: Name, role: Result<Role, Reason>) -> Option<Name>
     ensures { result ≡ name_by_role_spec name role }
@@ -160,9 +146,9 @@ fn name_in_host(host: &[u8], libs: &[&[u8]], rec: Option<usize>, slot: u8) -> Op
 ///
 /// `host` and each of `libs` are whole code files, and `fault` is the one for which they are
 /// refused. Of a fault with a record that could be read it is the name in that record: of the unit
-/// that is requested, by 13 and 35, or of the symbol. Of any other fault with a slot it is the name
-/// that the slot has in the host's dictionary, of a unit that is wanted or of a segment; and where
-/// the slot is empty, that of the unit that is requested there. `None` of a fault of a file as a
+/// that is requested, or of the symbol. Of any other fault with a slot it is the name that the slot
+/// has in the host's dictionary, of a unit that is wanted or of a segment; and where the slot is
+/// empty, that of the unit that is requested there. `None` of a fault of a file as a
 /// whole. It takes no memory.
 ///
 /// Source: UCSD Pascal II.0 manual, code file format; which name it is, this project's profile.
@@ -170,7 +156,7 @@ fn name_in_host(host: &[u8], libs: &[&[u8]], rec: Option<usize>, slot: u8) -> Op
 pub fn fault_name(host: &[u8], libs: &[&[u8]], fault: Fault) -> Option<Name>
     ensures { result ≡ fault_name_spec host.now (contents libs.now) fault }
 {
-    let rec = read_record(fault);
+    let rec = fault.read_record();
     match fault.slot {
         None => None,
         Some(slot) => name_in_host(host, libs, rec, slot),
@@ -222,7 +208,7 @@ pub fn fault_name_in(host: &[u8], reading: &Reading, fault: Fault) -> Option<Nam
     requires { reading.now.host ≡ host.now }
     ensures { result ≡ fault_name_spec host.now reading.now.libs fault }
 {
-    let rec = read_record(fault);
+    let rec = fault.read_record();
     match fault.slot {
         None => None,
         Some(slot) => name_in_read_host(host, reading, rec, slot),

@@ -52,43 +52,10 @@ links_end s =
     ∙ ap (λ (t : List ℕ). decimal s.segments ++ (codes " private words " ++ t))
     (append_assoc (decimal s.private_words) blocks (10 ∷ []))))
 
--- the line of a verdict that they are refused
+-- the line of a verdict that they are refused; each name computes
 one_reason : (why : Reason) → one_line (name_of why) ≡ true
 one_reason reason.ShortFile = refl
-one_reason reason.NoOrder = refl
-one_reason reason.OrderMismatch = refl
-one_reason reason.NoHost = refl
-one_reason reason.TwoHosts = refl
-one_reason reason.DoubledSegment = refl
-one_reason reason.SegmentProcedure = refl
-one_reason reason.NativeSegment = refl
-one_reason reason.Intrinsic = refl
-one_reason reason.UnknownKind = refl
-one_reason reason.BadLength = refl
-one_reason reason.BadAddress = refl
-one_reason reason.MissingUnit = refl
-one_reason (reason.NotAUnit kind) = refl
-one_reason reason.DoubledUnit = refl
-one_reason reason.Truncated = refl
-one_reason reason.BadProcDict = refl
-one_reason reason.NativeProcedure = refl
-one_reason reason.RecordsTruncated = refl
-one_reason reason.UnknownRecord = refl
-one_reason reason.NativeRecord = refl
-one_reason reason.SeparateRecord = refl
-one_reason reason.BadFormat = refl
-one_reason reason.DoubledDefinition = refl
-one_reason reason.DoubledPrivate = refl
-one_reason reason.NoRoom = refl
-one_reason reason.DataTooLarge = refl
-one_reason reason.MissingDefinition = refl
-one_reason reason.IllKind = refl
-one_reason reason.MissingUnitRef = refl
-one_reason reason.OutsideCode = refl
-one_reason reason.ReservedPlace = refl
-one_reason reason.Overlap = refl
-one_reason reason.OperandTooLarge = refl
-one_reason reason.NoSlot = refl
+one_reason other = refl
 
 one_part : (label : List ℕ) (part : Option ℕ) → one_line label ≡ true
     → one_line (part_text label part) ≡ true

@@ -1,7 +1,8 @@
 -- Where a fault occurs: in a file as a whole, in a slot of the host, in a record of that slot's
 -- link information, or in a reference of that record.
 -- Source: this project's profile.
-use Rattle.std.specs.Prelude.{ℕ, ◌==◌, ◌&&◌, ◌||◌, not, nat_le, Bool, Some, None}
+use Rattle.std.specs.Prelude.{ℕ, ◌==◌, ◌&&◌, ◌||◌, not, nat_le, if◌then◌else◌, Bool, Option, Some, None}
+use Rattle.ps_words.specs.FaultText.{number_of}
 use Rattle.ps_words.specs.declared.fault.Reason.{Reason}
 use Rattle.ps_words.specs.declared.fault.Fault.{Fault}
 
@@ -48,6 +49,14 @@ has_slot number = nat_le 5 number
 -- the number of a fault that is reported with a record
 abbrev pub has_record : ℕ → Bool
 has_record number = nat_le 19 number && not (number == 27)
+
+-- the number of a fault of a record that cannot be read
+abbrev pub is_unread : ℕ → Bool
+is_unread number = nat_le 19 number && nat_le number 23
+
+-- the record of a fault, where it could be read
+abbrev pub read_record : Fault → Option ℕ
+read_record f = if is_unread (number_of f.reason) then None else f.rec
 
 -- the number of a fault that is reported with a reference
 abbrev pub has_reference : ℕ → Bool

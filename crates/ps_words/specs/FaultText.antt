@@ -1,6 +1,7 @@
 -- Numbers and names of the reasons, and the text of a fault.
 -- Source: this project's profile.
-use Rattle.std.specs.Prelude.{ℕ, List, [], ◌++◌, codes, decimal, Option, Some, None}
+use Rattle.std.specs.Prelude.{ℕ, ◌==◌, List, [], ◌∷◌, ◌++◌, codes, decimal, Option, Some, None}
+use Rattle.std.specs.List.{find}
 use Rattle.ps_words.specs.declared.fault.Reason.{Reason}
 use Rattle.ps_words.specs.declared.fault.Reason.TheVariants as reason
 use Rattle.ps_words.specs.declared.fault.Fault.{Fault}
@@ -85,6 +86,25 @@ name_of reason.NoSlot = codes "NoSlot"
 abbrev pub kind_of : Reason → Option ℕ
 kind_of (reason.NotAUnit kind) = Some kind
 kind_of why = None
+
+-- each reason, in the order of their numbers; an entry that is no unit has this kind word
+abbrev pub reasons : ℕ → List Reason
+reasons kind =
+    reason.ShortFile ∷ reason.NoOrder ∷ reason.OrderMismatch ∷ reason.NoHost
+    ∷ reason.TwoHosts ∷ reason.DoubledSegment ∷ reason.SegmentProcedure
+    ∷ reason.NativeSegment ∷ reason.Intrinsic ∷ reason.UnknownKind ∷ reason.BadLength
+    ∷ reason.BadAddress ∷ reason.MissingUnit ∷ reason.NotAUnit kind
+    ∷ reason.DoubledUnit ∷ reason.Truncated ∷ reason.BadProcDict ∷ reason.NativeProcedure
+    ∷ reason.RecordsTruncated ∷ reason.UnknownRecord
+    ∷ reason.NativeRecord ∷ reason.SeparateRecord ∷ reason.BadFormat
+    ∷ reason.DoubledDefinition ∷ reason.DoubledPrivate ∷ reason.NoRoom
+    ∷ reason.DataTooLarge ∷ reason.MissingDefinition ∷ reason.IllKind
+    ∷ reason.MissingUnitRef ∷ reason.OutsideCode ∷ reason.ReservedPlace
+    ∷ reason.Overlap ∷ reason.OperandTooLarge ∷ reason.NoSlot ∷ []
+
+-- the reason of this number, where one has it
+abbrev pub reason_of : ℕ → ℕ → Option Reason
+reason_of number kind = find (λ why. number_of why == number) (reasons kind)
 
 -- a label and a number, as ` slot 7`, and nothing where there is no number
 abbrev pub part_text : List ℕ → Option ℕ → List ℕ

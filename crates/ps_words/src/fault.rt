@@ -1,6 +1,6 @@
 ghost use Rattle.std.specs.Prelude.{◌≡◌, Some};
-ghost use Rattle.ps_words.specs.FaultPlaces.{in_file as in_file_spec, in_record as in_record_spec, in_reference as in_reference_spec, in_slot as in_slot_spec};
-ghost use Rattle.ps_words.specs.FaultText.{fault_text, kind_of, name_of, number_of, part_text};
+ghost use Rattle.ps_words.specs.FaultPlaces.{in_file as in_file_spec, in_record as in_record_spec, in_reference as in_reference_spec, in_slot as in_slot_spec, read_record as read_record_spec};
+ghost use Rattle.ps_words.specs.FaultText.{fault_text, kind_of, name_of, number_of, part_text, reason_of};
 
 use std::fmt;
 
@@ -179,12 +179,64 @@ impl Reason {
 }
 
 impl Reason {
-    /// The kind word of an entry that is no unit.
-    fn kind(self) -> Option<usize>
+    /// The reason that has this number: the inverse of [`number`](Reason::number). `NotAUnit` has
+    /// this kind word, which is that of an entry, and any other reason has none.
+    ///
+    /// `None` where no reason has the number.
+    /// Source: this project's profile.
+    pub fn from_number(number: u8, kind: u16) -> Option<Reason>
+        ensures { result ≡ reason_of number kind }
+    {
+        [
+            Reason::ShortFile,
+            Reason::NoOrder,
+            Reason::OrderMismatch,
+            Reason::NoHost,
+            Reason::TwoHosts,
+            Reason::DoubledSegment,
+            Reason::SegmentProcedure,
+            Reason::NativeSegment,
+            Reason::Intrinsic,
+            Reason::UnknownKind,
+            Reason::BadLength,
+            Reason::BadAddress,
+            Reason::MissingUnit,
+            Reason::NotAUnit { kind },
+            Reason::DoubledUnit,
+            Reason::Truncated,
+            Reason::BadProcDict,
+            Reason::NativeProcedure,
+            Reason::RecordsTruncated,
+            Reason::UnknownRecord,
+            Reason::NativeRecord,
+            Reason::SeparateRecord,
+            Reason::BadFormat,
+            Reason::DoubledDefinition,
+            Reason::DoubledPrivate,
+            Reason::NoRoom,
+            Reason::DataTooLarge,
+            Reason::MissingDefinition,
+            Reason::IllKind,
+            Reason::MissingUnitRef,
+            Reason::OutsideCode,
+            Reason::ReservedPlace,
+            Reason::Overlap,
+            Reason::OperandTooLarge,
+            Reason::NoSlot,
+        ]
+        .iter()
+        .copied()
+        .find(|reason| reason.number() == number)
+    }
+
+    /// The kind word that the reason carries: that of an entry that is no unit, any but 3. `None`
+    /// of every reason but `NotAUnit`.
+    /// Source: this project's profile.
+    pub fn kind(self) -> Option<u16>
         ensures { result ≡ kind_of self }
     {
         match self {
-            Reason::NotAUnit { kind } => Some(kind.into()),
+            Reason::NotAUnit { kind } => Some(kind),
             _ => None,
         }
     }
@@ -272,6 +324,20 @@ impl Fault {
             ..Fault::in_record(file, slot, rec, reason)
         }
     }
+
+    /// The index, from 0, of the fault's record, where that record could be read.
+    ///
+    /// `None` of a fault that has no record, and of those that say why a record cannot be read, 19
+    /// to 23.
+    /// Source: this project's profile.
+    pub fn read_record(self) -> Option<usize>
+        ensures { result ≡ read_record_spec self }
+    {
+        match self.reason.number() {
+            19..=23 => None,
+            _ => self.rec,
+        }
+    }
 }
 
 impl fmt::Display for Fault {
@@ -280,7 +346,7 @@ impl fmt::Display for Fault {
     fn fmt<W: fmt::Write>(&self, f: &mut fmt::Formatter<W>) -> fmt::Result {
         let Fault { reason, file, .. } = *self;
         let number = reason.number();
-        let kind = Labelled::new("kind", reason.kind());
+        let kind = Labelled::new("kind", reason.kind().map(usize::from));
         let slot = Labelled::new("slot", self.slot.map(usize::from));
         let rec = Labelled::new("record", self.rec);
         let reference = Labelled::new("reference", self.reference);

@@ -1,0 +1,30 @@
+-- A reason is found by its number, and what is found by a number has it.
+use Rattle.std.proofs.Common.{◌≡◌, ◌==◌, ℕ, List, [], ◌∷◌, Bool, true, false, Some, cond, refl, subst, arith}
+use Rattle.std.specs.Prelude.{find, unwrap_or}
+use Rattle.std.proofs.lemmas.Bool.Decides.{nat_tests}
+use Rattle.ps_words.specs.FaultText.{kind_of, number_of, reason_of}
+use Rattle.ps_words.specs.declared.fault.Reason.{Reason}
+use Rattle.ps_words.specs.declared.fault.Reason.TheVariants as reason
+
+-- one proof for each reason: it computes
+pub found_by_number : (why : Reason) (kind : ℕ)
+    → reason_of (number_of why) (unwrap_or (kind_of why) kind) ≡ Some why
+found_by_number reason.ShortFile kind = refl
+found_by_number other kind = refl
+
+same_number : (m n : ℕ) → (m == n) ≡ true → m ≡ n
+same_number m n h = grind (arith, nat_tests)
+
+pub has_number : (number : ℕ) (whys : List Reason) (why : Reason)
+    → find (λ v. number_of v == number) whys ≡ Some why → number_of why ≡ number
+has_number number [] why e = cc
+has_number number (w ∷ ws) why e =
+    at (λ k. has_number number ws why k) (number_of w == number) refl e
+  where
+    at : (find (λ v. number_of v == number) ws ≡ Some why → number_of why ≡ number)
+        → (b : Bool) → (number_of w == number) ≡ b
+        → cond b (Some w) (find (λ v. number_of v == number) ws) ≡ Some why
+        → number_of why ≡ number
+    at rest true h k = let same : w ≡ why = cc in
+        subst (λ (v : Reason). number_of v ≡ number) same (same_number (number_of w) number h)
+    at rest false h k = rest k
