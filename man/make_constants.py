@@ -1,7 +1,8 @@
 #!/usr/bin/env python3
 """Writes the faults into include/pslink.h and bindings/rust/src/reason.rs, between the comment that names this script and the
-next one, from the variants of `Reason`, so that they have one home.
-Usage: make_constants.py [HEADER REASONS], which are those two if none is given."""
+next one, from the variants of `Reason`, so that they have one home; and the highest number of them into the comments of reason.rs
+and into docs/json-schema.json.
+Usage: make_constants.py [FOLDER], which is the files' own if none is given."""
 import pathlib
 import re
 import sys
@@ -11,6 +12,12 @@ from make_fault_table import ROOT, numbers
 SOURCE = ROOT / "crates/ps_words/src/fault.rt"
 HEADER = ROOT / "include/pslink.h"
 REASONS = ROOT / "bindings/rust/src/reason.rs"
+SCHEMA = ROOT / "docs/json-schema.json"
+# each file that has the highest number, and what stands around it
+HIGHEST = {
+    REASONS: r"(number, 1 to )\d+()\b",
+    SCHEMA: r'("fault_number": \{"type": "integer", "minimum": 1, "maximum": )\d+(\})',
+}
 
 
 def in_order():
@@ -39,10 +46,25 @@ def between(file, lines):
     return re.sub(pattern, lambda match: match[1] + lines + match[2], file.read_text(), flags=re.M | re.S)
 
 
+def with_highest(file, text):
+    """The text of this file with the highest number of a fault wherever it has one."""
+    highest = max(numbers().values())
+    text, count = re.subn(HIGHEST[file], rf"\g<1>{highest}\g<2>", text)
+    if count == 0:
+        raise ValueError(f"{file} has no highest number of a fault")
+    return text
+
+
+def made():
+    """Each file, as this script writes it."""
+    yield HEADER, between(HEADER, constants())
+    yield REASONS, with_highest(REASONS, between(REASONS, "".join(variants())))
+    yield SCHEMA, with_highest(SCHEMA, SCHEMA.read_text())
+
+
 def main():
-    header, reasons = map(pathlib.Path, sys.argv[1:] or [HEADER, REASONS])
-    header.write_text(between(HEADER, constants()))
-    reasons.write_text(between(REASONS, "".join(variants())))
+    for file, text in made():
+        (pathlib.Path(sys.argv[1]) / file.name if len(sys.argv) > 1 else file).write_text(text)
 
 
 if __name__ == "__main__":

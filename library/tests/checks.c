@@ -1,5 +1,6 @@
 /* What a C caller may rely on, of a host that its library completes: prints what is otherwise, and is then not 0. malloc and
- * realloc are those of refusing_heap.h (-Wl,--wrap=malloc,--wrap=realloc). Usage: checks HOST LIBRARY LINKED MAP SHOW */
+ * realloc are those of refusing_heap.h (-Wl,--wrap=malloc,--wrap=realloc), and HIGHEST_FAULT is the highest number of a fault
+ * (-DHIGHEST_FAULT=NUMBER). Usage: checks HOST LIBRARY LINKED MAP SHOW */
 #include <pslink.h>
 #include <pthread.h>
 #include <stdio.h>
@@ -250,7 +251,7 @@ static void check_texts(void)
     for (number = 0; number < 256; number++) {
         answer.fault = (uint8_t)number;
         size = pslink_fault_name(answer.fault, name, sizeof name);
-        check((size != 0) == (number >= 1 && number <= 35), "a fault has no name, or what is none has one", number);
+        check((size != 0) == (1 <= number && number <= HIGHEST_FAULT), "a fault has no name, or what is none has one", number);
         if (size == 0) {
             check(pslink_fault_text(&answer, text, sizeof text) == 0, "what is no fault has a text", number);
             continue;
@@ -311,7 +312,7 @@ static void check_sentences(void)
         for (number = 0; number < 256; number++) {
             memset(text, FILLER, sizeof text);
             size = calls[k]((uint8_t)number, text, sizeof text);
-            check((size != 0) == (number >= 1 && number <= 35), "a fault has no sentence, or what is none has one", number);
+            check((size != 0) == (1 <= number && number <= HIGHEST_FAULT), "a fault has no sentence, or what is none has one", number);
             check(is_untouched((unsigned char *)text, size, sizeof text), "what is behind a sentence is written to", number);
             check(size == 0 || (size == strlen(text) + 1 && text[size - 2] == '.'), "a sentence is not closed", number);
             for (at = 0; at + 1 < size; at++)
@@ -343,7 +344,7 @@ static void check_too_long(void)
           "a library that is too long is taken", 1);
     check(pslink_map_files(host, too_long, 2, NULL, 0, &answer) == PSLINK_NO_MEMORY, "libraries that are too long are taken", 2);
     check(pslink_map_files(host, too_long, SIZE_MAX, NULL, 0, &answer) == PSLINK_NO_MEMORY, "too many libraries are taken", 3);
-#if PSLINK_LINKED_MAX != 1025 * 512 || PSLINK_FAULT_TEXT_MAX < 125 || PSLINK_VERSION < 1 || PSLINK_FAULT_NO_SLOT != 35
+#if PSLINK_LINKED_MAX != 1025 * 512 || PSLINK_FAULT_TEXT_MAX < 125 || PSLINK_VERSION < 1 || PSLINK_FAULT_MISSING_UNIT != 13
     check(0, "the constants are others", 0);
 #endif
 }

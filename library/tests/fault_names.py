@@ -1,7 +1,7 @@
 #!/usr/bin/env python3
 """Names that the library answers, of each set of files of .ci/report: that of what a fault is about beside the words of the report, where
-a record was read its name, and else that of the segment; and those of units beside the document of the list. And the sentences on each
-fault beside the table of docs/LINKING.md. Prints what is otherwise.
+a record was read its name, and else that of the segment; and those of units beside the document of the list. And the names of
+faults and the sentences on each beside the tables of docs/LINKING.md. Prints what is otherwise.
 Usage: fault_names.py LIBRARY"""
 import ctypes
 import json
@@ -13,6 +13,7 @@ import sys
 ROOT = pathlib.Path(__file__).resolve().parents[2]
 sys.dont_write_bytecode = True
 sys.path[:0] = [str(ROOT / name) for name in ("bench", "samples", ".ci")]
+NAMES = re.compile(r"^\| (\d+) \| ([A-Z]\w+) \|", re.M)
 SENTENCES = re.compile(r"^\| (\d+) \| ([^|]*\.) \| ([^|]*) \|$", re.M)
 RECORD = re.compile(r"^  record \d+: [A-Z]+ (.*)$", re.M)
 SEGMENT = re.compile(r"^  segment (.*), of slot \d\d of the host$", re.M)
@@ -90,13 +91,21 @@ def unit_differences(library, room, host, libraries):
             yield f"the units {wanted} are wanted and {had} had"
 
 
-def sentence_differences(library, room):
-    """What a number has other sentences than in the table, or has any without a row of it."""
-    table = (ROOT / "docs/LINKING.md").read_text().split("### What to do about each fault\n", 1)[1].split("\n#", 1)[0]
-    rows = {int(number): sentences for number, *sentences in SENTENCES.findall(table)}
-    if len(rows) != 35:
-        yield f"the table has {len(rows)} faults"
+def below(heading):
+    """What docs/LINKING.md has below this heading."""
+    return (ROOT / "docs/LINKING.md").read_text().split(f"### {heading}\n", 1)[1].split("\n#", 1)[0]
+
+
+def fault_differences(library, room):
+    """What a number has another name or other sentences than in the tables, or has any without a row of it."""
+    names = {int(number): name for number, name in NAMES.findall(below("When each fault occurs"))}
+    rows = {int(number): sentences for number, *sentences in SENTENCES.findall(below("What to do about each fault"))}
+    if not names or names.keys() != rows.keys():
+        yield f"one table has the faults {sorted(names)}, and the other {sorted(rows)}"
     for number in range(256):
+        size = library.pslink_fault_name_nonnull(ctypes.c_uint8(number), room, ctypes.c_size_t(ROOM))
+        if (room.value.decode() if size else "") != names.get(number, ""):
+            yield f"fault {number} has the name {room.value if size else b''}"
         calls = library.pslink_fault_meaning_nonnull, library.pslink_fault_remedy_nonnull
         put = [room.value.decode() if call(ctypes.c_uint8(number), room, ctypes.c_size_t(ROOM)) else "" for call in calls]
         found = [text.replace(" in pslink(1)", "") for text in put]
@@ -109,7 +118,7 @@ def main():
     room = ctypes.create_string_buffer(ROOM)
     sets = {(bytes(host), tuple(map(bytes, libraries))): None for host, libraries in runpy.run_path(str(ROOT / ".ci/report"))["sets"]()}
     found = [] if len(sets) >= 2000 else [f"there are {len(sets)} sets of files"]
-    found += sentence_differences(library, room)
+    found += fault_differences(library, room)
     for number, (host, libraries) in enumerate(sets):
         for differ in (differences, unit_differences):
             found += [f"set {number}: {line}" for line in differ(library, room, host, libraries)]

@@ -123,12 +123,12 @@ def of_refusals():
     with multiprocessing.Pool(2) as pool:
         fault = raised(pslink.Refused, pool.apply_async(pslink.link, [HOST]).get, 60)
         check(fault and parts(fault) == MISSING, "a refusal of a pool is another")
-    check(pslink.fault_name(13) == "MissingUnit" and [pslink.fault_name(n) for n in (-1, 0, 36, 255, 256, 1 << 40)] == [""] * 6, "the name of a fault is another")
+    check(pslink.fault_name(13) == "MissingUnit" and [pslink.fault_name(n) for n in (-1, 0, 100, 255, 256, 1 << 40)] == [""] * 6, "the name of a fault is another")
     check(fault.meaning == pslink.fault_meaning(13) and fault.remedy == pslink.fault_remedy(13), "the sentences of a refusal are others")
     check(fault.remedy == "Give the library that has it. If you gave it, see DAMAGED FILES in pslink(1).", f"what to do is {fault.remedy}")
     check(pslink.fault_meaning(28) == "The host program defines no such name.", f"fault 28 means {pslink.fault_meaning(28)}")
     for sentence in (pslink.fault_meaning, pslink.fault_remedy):
-        check([sentence(n) for n in (-1, 0, 36, 255, 256, 1 << 40)] == [""] * 6, f"{sentence.__name__} has a sentence of no fault")
+        check([sentence(n) for n in (-1, 0, 100, 255, 256, 1 << 40)] == [""] * 6, f"{sentence.__name__} has a sentence of no fault")
     check(pslink.release() == pslink.__version__, f"the release is {pslink.release()}, and that of the package {pslink.__version__}")
 
 

@@ -4,21 +4,18 @@ have the rules; the comments name their sections."""
 import dataclasses
 import functools
 import pathlib
+import re
 import struct
 import sys
 
-sys.path.insert(0, str(pathlib.Path(__file__).resolve().parents[2] / "samples"))
+ROOT = pathlib.Path(__file__).resolve().parents[2]
+sys.path.insert(0, str(ROOT / "samples"))
 from make_samples import BLOCK, HOSTSEG, LINKED, UNITSEG, whole
 
-# LINKING.md, When each fault occurs. 30 is no longer used.
-REASONS = {
-    1: "ShortFile", 2: "NoOrder", 3: "OrderMismatch", 4: "NoHost", 5: "TwoHosts", 6: "DoubledSegment",
-    7: "SegmentProcedure", 8: "NativeSegment", 9: "Intrinsic", 10: "UnknownKind", 11: "BadLength", 12: "BadAddress",
-    13: "MissingUnit", 14: "NotAUnit", 15: "DoubledUnit", 16: "Truncated", 17: "BadProcDict", 18: "NativeProcedure",
-    19: "RecordsTruncated", 20: "UnknownRecord", 21: "NativeRecord", 22: "SeparateRecord", 23: "BadFormat",
-    24: "DoubledDefinition", 25: "DoubledPrivate", 26: "NoRoom", 27: "DataTooLarge", 28: "MissingDefinition",
-    29: "IllKind", 31: "OutsideCode", 32: "ReservedPlace", 33: "Overlap", 34: "OperandTooLarge", 35: "NoSlot",
-}
+UNUSED = {30}  # faults that no link reports
+# LINKING.md, When each fault occurs: the names of the faults, by their numbers
+REASONS = {int(number): name for number, name in re.findall(r"^\| (\d+) \| ([A-Z]\w+) \|", (ROOT / "docs/LINKING.md").read_text(), re.M)
+           if int(number) not in UNUSED}
 EOFMARK, UNITREF, PUBLREF, PRIVREF, PUBLDEF, CONSTDEF = 0, 1, 3, 4, 7, 8
 SHOWN = {EOFMARK: "EOFMARK", UNITREF: "UNITREF", PUBLREF: "PUBLREF", PRIVREF: "PRIVREF",
          PUBLDEF: "PUBLDEF", CONSTDEF: "CONSTDEF"}
