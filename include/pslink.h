@@ -179,9 +179,9 @@ extern "C" {
  * `record`, `reference` and `name` are set where `has_kind`, `has_slot`, `has_record`,
  * `has_reference` and `has_name` are 1. The fault is the first of all that apply; pslink(1) lists
  * them. `name` is what the fault is about, eight bytes as the files have them: of a fault of a
- * record that could be read, its name, which is the unit that is requested (13, 35) or the symbol
- * (24 to 34); of any other fault of a slot, the name of the unit that is wanted or requested there
- * (14, 15, and 13 without a record), or of the segment. So after 13 `name` is the unit to look for.
+ * record that could be read, its name, which is the unit that is requested or the symbol; of any
+ * other fault of a slot, the name of the unit that is wanted or requested there, or of the segment.
+ * So after 13 `name` is the unit to look for.
  * Where it is PSLINK_TOO_SMALL: `needed` is how many bytes the result has.
  * All other fields are 0.
  */

@@ -339,9 +339,9 @@ fn add_all_links<S: TextWriter>(text: &mut S, dict: &Dict)
 /// `file` is a whole code file, of any contents. Its words are read in the byte order that its kind
 /// words show, and as little-endian where all of these are 0, which the first line then calls
 /// `unknown`. Where a code is refused (`BadLength`, `BadAddress` or `Truncated`), a line of that
-/// fault is in place of its records; where a record cannot be read (`RecordsTruncated`,
-/// `UnknownRecord`, `NativeRecord`, `SeparateRecord` or `BadFormat`), a line of that fault is the
-/// last of the segment. Nothing else is checked.
+/// fault is in place of its records; where a record cannot be read, a line of that fault, as
+/// [`LinkInformation::read`](ps_linkinfo::LinkInformation::read) lists them, is the last of the
+/// segment. Nothing else is checked.
 ///
 /// Refuses `Refused` with `ShortFile` for a file of fewer than 512 bytes, and with `NoOrder` where
 /// the kind words fit neither byte order, each of file 0, also where there is no memory; and

@@ -17,7 +17,7 @@ pub struct ReadFault {
     /// How many records are before the fault, so the index, from 0, of the record that could not be
     /// read.
     pub rec: usize,
-    /// `RecordsTruncated`, `UnknownRecord`, `NativeRecord`, `SeparateRecord` or `BadFormat`.
+    /// Why it could not be read: one of the reasons that [`LinkInformation::read`] lists.
     pub reason: Reason,
 }
 

@@ -12,8 +12,8 @@ use std::alloc::{AllocFailed, Allocator};
 #[derive(Clone, Copy, Debug, PartialEq, Eq)]
 pub enum ReadStop {
     /// A fault occurs in place of a record. `rec` records precede it, so `rec` is the index, from
-    /// 0, of the record that could not be read. `reason` is `RecordsTruncated`, `UnknownRecord`,
-    /// `NativeRecord`, `SeparateRecord` or `BadFormat`.
+    /// 0, of the record that could not be read. `reason` is one of those that
+    /// [`LinkInformation::read`](crate::LinkInformation::read) lists.
     Refused { rec: usize, reason: Reason },
     /// An allocation of the list was refused.
     Memory,
@@ -30,12 +30,8 @@ impl<T: Drop> From<AllocFailed<T>> for ReadStop {
 /// The records up to the EOFMARK, which is the last item; what follows it is not read. The bytes
 /// spell this list, and no other.
 ///
-/// `Refused` at the first record that cannot be read, for the first reason that fits:
-/// - `RecordsTruncated` where fewer than 16 bytes are left, also where an EOFMARK is missing;
-/// - `UnknownRecord`, `NativeRecord` or `SeparateRecord` by its type;
-/// - `NativeRecord` for format 0, WORD, of a reference record, and `BadFormat` for another that is
-///   not its own: 1, BYTE, of a UNITREF, 2, BIG, of a PUBLREF and a PRIVREF;
-/// - `RecordsTruncated` where its list is not whole.
+/// `Refused` at the first record that cannot be read, for the reason for which
+/// [`LinkInformation::read`](crate::LinkInformation::read) refuses it.
 ///
 /// `Memory` where an allocation of the list was refused, which happens only if there is a record.
 /// Nothing is reserved from a count that a record claims: the list grows by a record that was read.

@@ -12,9 +12,8 @@ use std::marker::Model;
 /// too; then None for ever.
 /// It takes no memory, and of n bytes it gives at most n / 16 + 1 items.
 ///
-/// The records and the fault are those of [`read_records`](crate::read_records): a fault is
-/// `RecordsTruncated`, `UnknownRecord`, `NativeRecord`, `SeparateRecord` or `BadFormat`, and its
-/// record's index is the number of records given before it.
+/// The records and the fault are those of [`read_records`](crate::read_records): the index of the
+/// record that cannot be read is the number of records given before the fault.
 ///
 /// Source: the published II.0 Linker source; the reasons are this project's profile.
 #[derive(Drop)]

@@ -71,15 +71,15 @@ static FAULTS: [(Fault, u8, &str, &str); 6] = [
     ),
     (
         Fault {
-            reason: Reason::NoSlot,
+            reason: Reason::MissingDefinition,
             file: 2,
             slot: Some(8),
             rec: Some(3),
             reference: None,
         },
-        35,
-        "NoSlot",
-        "refused 35 NoSlot file 2 slot 8 record 3",
+        28,
+        "MissingDefinition",
+        "refused 28 MissingDefinition file 2 slot 8 record 3",
     ),
     (
         Fault {
