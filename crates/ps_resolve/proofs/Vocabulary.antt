@@ -7,13 +7,13 @@ pub use Rattle.ps_linkinfo.specs.Records.{reading, refs_of}
 pub use Rattle.ps_linkinfo.specs.declared.record.Body.{Body}
 pub use Rattle.ps_linkinfo.specs.declared.record.LinkRecord.{LinkRecord as Record}
 pub use Rattle.ps_reading.specs.Added.{segments, slot_names}
-pub use Rattle.ps_reading.specs.KnownSegments.{IsLike, IsSound, AscendFrom, HasOneHost}
+pub use Rattle.ps_reading.specs.KnownSegments.{AscendFrom, HasOneHost, IsLike, IsSound}
 pub use Rattle.ps_reading.specs.OfLink.{AreOfLink}
-pub use Rattle.ps_reading.specs.Readings.{reading_fault, HostFiles, all_read, host_reading_fault, opened_host, own_reading_fault, read_rounds}
+pub use Rattle.ps_reading.specs.Readings.{HostFiles, all_read, host_reading_fault, opened_host, own_reading_fault, read_rounds, reading_fault}
 pub use Rattle.ps_reading.specs.Searches.{fault_if, first_of}
 pub use Rattle.ps_reading.specs.Sources.{Segment, contents, host_of, host_records, opened_files, order_of, units_of}
 pub use Rattle.ps_resolve.specs.AllFaults.{first_fault}
-pub use Rattle.ps_resolve.specs.Builders.{AreByRecord, FindsNamesake, HaveDistinctPrivates, HaveNoNamesakes, HaveRoom, IsFirstNamesake, IsFirstUnfit, IsUnfit, StopsDefinitions, StopsPrivates, all_requested, requested_in, requested_of, offset_at, private_numbers, words_of_all}
+pub use Rattle.ps_resolve.specs.Builders.{AreByRecord, FindsNamesake, HaveDistinctPrivates, HaveNoNamesakes, HaveRoom, IsFirstNamesake, IsFirstUnfit, IsUnfit, StopsDefinitions, StopsPrivates, all_requested, offset_at, private_numbers, requested_in, requested_of, words_of_all}
 pub use Rattle.ps_resolve.specs.EditTables.{IsTableOf, edit_in, edits_from, edits_of, first_state, is_taken, is_taken_at, is_wide, put_in}
 pub use Rattle.ps_resolve.specs.Edits.{AreOfReferences, IsOfSize, IsOfTable, data_size_edit, reason_in, refs_fault_at}
 pub use Rattle.ps_resolve.specs.Faults.{in_segment, linking_fault, references_fault_from, segment_fault}
