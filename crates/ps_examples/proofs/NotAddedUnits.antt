@@ -5,7 +5,7 @@ use Rattle.ps_examples.proofs.NotOrigins.{no_name, count_aux, state_aux, blank_a
 use Rattle.ps_examples.proofs.SegmentOrigins.{no_slot_has}
 use Rattle.ps_resolve.specs.Sources.{Segment, own_segments}
 use Rattle.ps_resolve.specs.RequestedUnits.{RequestsAt, AddedUnits}
-use Rattle.ps_resolve.specs.declared.reading.added.UnitReference.{UnitReference}
+use Rattle.ps_reading.specs.declared.reading.added.UnitReference.{UnitReference}
 
 -- the host's own segments, where AUX of the library names itself and where UTIL names AUX
 own_of_itself : own_segments Little host (library_naming_itself ∷ [])

@@ -4,7 +4,7 @@ ghost use Rattle.ps_examples.specs.Segments.{past_segment};
 ghost use Rattle.ps_resolve.specs.AllFaults.{first_fault};
 ghost use Rattle.ps_resolve.specs.Sources.{Segment};
 ghost use Rattle.ps_resolve.specs.RequestedUnits.{AddedUnits};
-ghost use Rattle.ps_resolve.specs.declared.reading.added.UnitReference.{UnitReference};
+ghost use Rattle.ps_reading.specs.declared.reading.added.UnitReference.{UnitReference};
 ghost use Rattle.ps_words.specs.FaultPlaces.{in_slot, in_record};
 ghost use Rattle.ps_words.specs.declared.fault.Reason.TheVariants as reason;
 ghost use Rattle.ps_words.specs.declared.order.Order.TheVariants.{Little};

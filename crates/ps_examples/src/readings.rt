@@ -3,7 +3,7 @@ ghost use Rattle.ps_examples.specs.Files.{host, library, library_of_two, library
 ghost use Rattle.ps_examples.specs.Segments.{demo_segment, util_segment, using_segment, aux_segment};
 ghost use Rattle.ps_resolve.specs.Readings.{all_read, host_reading_fault, read_requests, slot_entry, slot_reading, slot_request};
 ghost use Rattle.ps_resolve.specs.Sources.{opened_files};
-ghost use Rattle.ps_resolve.specs.declared.reading.request.Requester.TheVariants.{Slot, Record};
+ghost use Rattle.ps_reading.specs.declared.reading.request.Requester.TheVariants.{Slot, Record};
 ghost use Rattle.ps_words.specs.FaultPlaces.{in_file, in_slot, in_record};
 ghost use Rattle.ps_words.specs.declared.fault.Reason.TheVariants as reason;
 ghost use Rattle.ps_words.specs.declared.order.Order.TheVariants.{Little};

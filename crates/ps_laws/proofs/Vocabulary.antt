@@ -40,8 +40,8 @@ pub use Rattle.ps_resolve.specs.Standing.Rounds.{InRound, IsMissing, IsRequested
 pub use Rattle.ps_resolve.specs.Standing.Segments.{IsSegment, SomeSegment}
 pub use Rattle.ps_resolve.specs.Standing.Slots.{HasRole, InNoHost, InSlots, IsUnitSlot, SlotHas}
 pub use Rattle.ps_resolve.specs.Standing.Sources.{AreBad, CodeFault, EntriesHave, EntryFault, HasBadTable, HasEntry, InSources, IsNamed, NoneHas, TablesHave, UnitFault}
-pub use Rattle.ps_resolve.specs.declared.reading.added.UnitReference.{UnitReference}
-pub use Rattle.ps_resolve.specs.declared.reading.request.Request.{Request}
+pub use Rattle.ps_reading.specs.declared.reading.added.UnitReference.{UnitReference}
+pub use Rattle.ps_reading.specs.declared.reading.request.Request.{Request}
 pub use Rattle.ps_resolve.specs.declared.references.Target.{Target}
 pub use Rattle.ps_words.specs.FaultPlaces.{in_file, in_record, in_reference, in_slot}
 pub use Rattle.ps_words.specs.declared.edit.Edit.{Edit}

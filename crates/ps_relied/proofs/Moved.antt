@@ -2,7 +2,7 @@
 -- the number of each file may be another, and the block in which link information begins.
 use Rattle.std.proofs.Common.{◌≡◌, ℕ, ◌+◌, ◌<◌, List, [], ◌∷◌, ◌++◌, length, map, Option, Some, None, Result, Ok, Err, Bool, true, false, refl, sym, subst, ap, ◌∙◌, inl, inr, arith, is_none}
 use Rattle.ps_codefile.specs.declared.entry.Role.TheVariants as role
-use Rattle.ps_resolve.specs.declared.locations.RecordAt.{RecordAt}
+use Rattle.ps_reading.specs.declared.locations.RecordAt.{RecordAt}
 use Rattle.ps_words.specs.declared.fault.Reason.TheVariants as reason
 use Rattle.ps_relied.specs.SameSegments.{AreSameSegments, of_any_file}
 use Rattle.ps_relied.proofs.Vocabulary.{is_missing, none_mapped, fault_if, nat_lt, bytes_eq, MAX_DATA_SIZE, grown_data_size, table_of, total_words, ◌⊎◌, ◌||◌, ◌==◌, All, if◌then◌else◌, slots, find, slice_get, range_with_len, filter, option_and_then, option_map, option_map_or, option_or, result_ok, map-map, map-append, slice_get-map, All-head, All-tail, Fault, Reason, Order, Role, Record, Segment, Request, Requester, Slot, UnitReference, RoundsOutcome, Known, none_at, find_in, find_passes, is_there, entry_at, role_of, name_at, is_nameless, needs_linking, is_empty, is_host, is_in_place, in_slot, in_record, tables_fault, code_fault, request_fault, role_fault, source_fault, sources_fault, entries_reason, definitions_fault, privates_fault, data_fault, references_fault, references_fault_from, linking_fault, first_private_fault, reading_rest, file_at, is_named, is_role, chosen_library, library_file, own_segment, own_segments, source_of, unit_source, segment_with, segment_from, information_block, units_of, host_of, host_records, known_of, next_of, owner_of, private_words, after, request_of, request_by_slot, missing_at, unit_references, all_unit_references, requested_from, added_segment, added_segments, added_at, as_added, placed_fault, unplaced_fault, rounds_from, rounds, empty_slots, segment_at, segments, added_made, request_parts, source_made, unit_there, kind_is, chosen_file, IsReadAlike, HasSameCode, HasSameRecords}

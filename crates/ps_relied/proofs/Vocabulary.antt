@@ -25,8 +25,8 @@ pub use Rattle.ps_resolve.specs.Sources.{has_entry, information_block, library_f
 unfoldable pub use Rattle.ps_resolve.specs.Sources.{own_segments}
 pub use Rattle.ps_resolve.specs.Symbols.{definitions}
 pub use Rattle.ps_resolve.specs.declared.edits.data_size.TheConstants.{MAX_DATA_SIZE}
-pub use Rattle.ps_resolve.specs.declared.reading.request.Requester.{Requester}
-pub use Rattle.ps_resolve.specs.declared.reading.request.Requester.TheVariants.{Slot}
+pub use Rattle.ps_reading.specs.declared.reading.request.Requester.{Requester}
+pub use Rattle.ps_reading.specs.declared.reading.request.Requester.TheVariants.{Slot}
 pub use Rattle.ps_resolve.proofs.EachRound.{request_parts, source_made, unit_there}
 pub use Rattle.ps_resolve.proofs.EachSegment.{added_made, own_made}
 pub use Rattle.ps_resolve.proofs.FirstSlots.{or_none, none_mapped, some_mapped}

@@ -4,7 +4,7 @@ use Rattle.std.proofs.lemmas.List.{map-append, take_more}
 use Rattle.ps_resolve.specs.Sources.{Segment, opened_files, order_of}
 use Rattle.ps_resolve.specs.Added.{segments}
 use Rattle.ps_resolve.specs.Readings.{HostFiles, opened_host, read_requests}
-use Rattle.ps_resolve.specs.declared.reading.added.UnitReference.{UnitReference}
+use Rattle.ps_reading.specs.declared.reading.added.UnitReference.{UnitReference}
 use Rattle.ps_resolve.proofs.ReadingSlots.{host_of_files}
 use Rattle.ps_warnings.specs.Paths.{path_of}
 use Rattle.ps_report.specs.SegmentLines.{from_words, head_words, lines_of_segments, part_as, segment_line, segment_lines}

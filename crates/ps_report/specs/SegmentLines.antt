@@ -10,7 +10,7 @@ use Rattle.ps_codefile.specs.declared.entry.Role.TheVariants as role
 use Rattle.ps_resolve.specs.Sources.{Segment, opened_files, order_of}
 use Rattle.ps_resolve.specs.Added.{segments}
 use Rattle.ps_resolve.specs.Readings.{read_requests}
-use Rattle.ps_resolve.specs.declared.reading.added.UnitReference.{UnitReference}
+use Rattle.ps_reading.specs.declared.reading.added.UnitReference.{UnitReference}
 use Rattle.ps_filetype.specs.Shown.{shown_name, shown_path}
 use Rattle.ps_warnings.specs.SegmentParts.{part_words}
 use Rattle.ps_warnings.specs.Paths.{path_of}

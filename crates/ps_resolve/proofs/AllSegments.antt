@@ -1,7 +1,7 @@
 -- One segment more of those that are linked one after another.
-use Rattle.ps_resolve.proofs.Vocabulary.{◌≡◌, ℕ, ◌+◌, ◌<◌, ◌≤◌, ◌++◌, List, [], ◌∷◌, length, map, get_or, drop, Option, None, arith, Order, Edit, Fault, Segment, owner_of, private_words, all_words, AreOfReferences, IsStop, Known, segment_edits, edited_from, segment_fault, references_fault_from, LinksSegment, LinkSegments, Stop, drop_all}
+use Rattle.ps_resolve.proofs.Vocabulary.{◌≡◌, ℕ, ◌+◌, ◌<◌, ◌≤◌, ◌++◌, List, [], ◌∷◌, length, map, get_or, drop, Option, None, arith, Order, Edit, Fault, Segment, owner_of, private_words, all_words, AreOfReferences, IsStop, Known, segment_edits, edited_from, segment_fault, references_fault_from, LinksSegment, LinkSegments, Stop, drop_all, refl}
 use Rattle.std.specs.Prelude.{⊤}
-use Rattle.ps_resolve.proofs.NextItems.{drop_at}
+use Rattle.ps_reading.proofs.NextItems.{drop_at}
 use Rattle.ps_words.specs.declared.words.TheConstants.{MAX_WORD}
 
 module _ (order : Order) (known : Known) (ss : List Segment) (i : ℕ) (v : Segment)
@@ -47,3 +47,9 @@ module _ (order : Order) (known : Known) (ss : List Segment) (i : ℕ) (v : Segm
 pub none_left : (order : Order) (known : Known) (words free i : ℕ) (ss : List Segment)
     → length ss ≤ i → LinkSegments order (edited_from order known words free (drop i ss)) []
 none_left order known words free i ss h = grind (arith, drop_all)
+
+-- their slots
+pub slots_are : (segs : List Segment) → map (λ o. o.0.slot) (map owner_of segs)
+    ≡ map (λ s. s.slot) segs
+slots_are [] = refl
+slots_are (s ∷ ss) = rw (slots_are ss) refl

@@ -1,10 +1,10 @@
 -- One record more of the privates.
 use Rattle.ps_resolve.proofs.Vocabulary.{rules, ◌≡◌, ℕ, ◌+◌, ◌<◌, ◌≤◌, ◌++◌, List, [], ◌∷◌, length, length-append, Bool, true, false, is_some, Option, Some, None, refl, sym, ◌∙◌, ap, arith, append_assoc, nat_eq, Decides, bytes_eq, option_eq, list_any, slice_get, nat_tests, is_private_reference, privates_in, Owner, words_in, allotted_privates, private_words, private_fault, all_allotted, first_private_fault, unallotted_fault, IsStop, Record, FindsNamesake, HasEarlierNamesake, Stop, Private, MAX_NEXT_FREE}
 use Rattle.ps_words.specs.declared.fault.Reason.TheVariants as reason
-use Rattle.ps_resolve.proofs.RecordCounts.{one_private}
+use Rattle.ps_reading.proofs.RecordCounts.{one_private}
 use Rattle.ps_resolve.proofs.LookingBack.{requests_is, names}
 use Rattle.ps_resolve.proofs.EarlierNames.{Stands, further, looked, one_name, same_names, there}
-use Rattle.ps_resolve.specs.declared.locations.SegmentAt.{SegmentAt}
+use Rattle.ps_reading.specs.declared.locations.SegmentAt.{SegmentAt}
 
 module _ (slot rec next : ℕ) (seen : List (List ℕ)) (ps : List Private) (r : Record)
     (rs : List Record) where

@@ -3,13 +3,14 @@
 use Rattle.ps_resolve.proofs.Vocabulary.{rules, ◌≡◌, ℕ, zero, suc, ◌+◌, ◌<◌, List, [], ◌∷◌, ◌++◌, length, length-append, take, map, Option, Some, None, Bool, true, refl, sym, ap, subst, ◌∙◌, inl, inr, arith, append_assoc, ◌==◌, ◌&&◌, ◌||◌, count_by, nat_le, nat_lt, Decides, enumerate_from, filter_map, slice_get, flat_map, option_map, option_or, cases_Bool, cases_lt, map-append, sum_by-append, sum_by-cons, get_or_from_slice_get, slice_get_within, Record, in_record, Fault, Reason, first_of, fault_if, definitions, first_duplicate, Owner, allotted_privates, private_words, private_fault, all_allotted, all_words, first_private_fault, RiseFrom, HasEarlierNamesake, is_definition, is_private_reference, words_taken, words_taken_by, IsStop, duplicate_fault, HaveNoNamesakes, StopsDefinitions, offset_at, HaveDistinctPrivates, HaveRoom, IsUnfit, IsFirstUnfit, StopsPrivates, requested_in, all_requested, requested_of, AreByRecord, words_of_all, Private, Stop, MAX_NEXT_FREE}
 use Rattle.ps_words.specs.declared.fault.Reason.TheVariants as reason
 use Rattle.ps_resolve.specs.First.{Before}
-use Rattle.ps_resolve.specs.Standing.Phrases.{SomeItem}
-use Rattle.ps_resolve.specs.declared.locations.SegmentAt.{SegmentAt}
+use Rattle.ps_reading.specs.Standing.Phrases.{SomeItem}
+use Rattle.ps_reading.specs.declared.locations.SegmentAt.{SegmentAt}
 use Rattle.ps_resolve.specs.declared.linkage.Stop.TheVariants.{Refused, Memory}
-use Rattle.ps_resolve.proofs.LookingBack.{is_again, again, take_prefix, longer, definitions_carried, words_before, reason_at, record_fault, privates_carried}
+use Rattle.ps_resolve.proofs.LookingBack.{is_again, again, definitions_carried, words_before, reason_at, record_fault, privates_carried}
+use Rattle.ps_reading.proofs.NextItems.{take_prefix, longer}
 use Rattle.ps_resolve.proofs.AllottedPrivates.{privates_counted}
 use Rattle.ps_resolve.proofs.Duplicates.{definitions_counted}
-use Rattle.ps_resolve.proofs.FirstSlots.{some_mapped}
+use Rattle.ps_reading.proofs.FirstSlots.{some_mapped}
 use Rattle.ps_resolve.proofs.PrivatesRise.{behind}
 
 -- the first that f gives of a list's items and their numbers

@@ -1,7 +1,7 @@
 -- One record more of a table of definitions.
 use Rattle.ps_resolve.proofs.Vocabulary.{rules, ◌≡◌, ℕ, ◌+◌, List, [], ◌∷◌, ◌++◌, length, true, false, Option, Some, None, is_some, refl, arith, append_assoc, length-append, ◌<◌, def_in, definitions, definition_of, first_duplicate, first_duplicate_from, is_definition, definitions_in, Record, nil_from_length}
 use Rattle.ps_resolve.specs.declared.definitions.Def.{Def}
-use Rattle.ps_resolve.proofs.RecordCounts.{one_more}
+use Rattle.ps_reading.proofs.RecordCounts.{one_more}
 
 pub none_is : {X : Type 0} (o : Option X) → is_some o ≡ false → o ≡ None
 none_is o h = grind arith

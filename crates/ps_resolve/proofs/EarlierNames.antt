@@ -5,7 +5,8 @@ use Rattle.std.specs.Int.{w64, from_be_bytes}
 use Rattle.std.specs.List.Sorted.{IsPermutation, IsSorted, IsStrictlyIncreasing}
 use Rattle.std.proofs.lemmas.List.Kept.{AllPairs-from_increasing}
 use Rattle.std.proofs.lemmas.Map.Keys.{IsDistinct-head, IsDistinct-tail, IsDistinct-from_apart, IsDistinct-IsPermutation, IsStrictlyIncreasing-from_distinct}
-use Rattle.ps_resolve.proofs.LookingBack.{again, is_again, longer, more_names, names_of, seen_is, take_prefix}
+use Rattle.ps_resolve.proofs.LookingBack.{again, is_again, more_names, names_of, seen_is}
+use Rattle.ps_reading.proofs.NextItems.{longer, take_prefix}
 
 abbrev number : Record → ℕ
 number r = from_be_bytes w64 r.name

@@ -1,6 +1,6 @@
 -- Where no fault applies each reference's edit lies in the code and can be stored.
 use Rattle.ps_resolve.proofs.Vocabulary.{◌≡◌, ℕ, ◌+◌, ◌++◌, List, [], ◌∷◌, length, map, Bool, Some, None, Result, Ok, Err, refl, sym, ◌∙◌, arith, All, option_map, ltb-false, All-nil, All-cons, All-append, IsInside, Reason, refs_of, Record, operands, width_of, refs_fault, edit_of, Known, words_taken, target_of, records_fault, record_edits, records_edits, Target}
-use Rattle.ps_resolve.proofs.FirstSlots.{or_none, none_mapped}
+use Rattle.ps_reading.proofs.FirstSlots.{or_none, none_mapped}
 use Rattle.ps_resolve.proofs.NextRecords.{record_refused, record_by}
 
 -- where no reference of a record has a fault, the edits of them lie in the code and can be stored

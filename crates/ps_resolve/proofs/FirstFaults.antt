@@ -1,6 +1,7 @@
 -- The first fault of all, by that of reading the files and that of linking their segments.
 use Rattle.ps_resolve.proofs.Vocabulary.{arith, ◌≡◌, ℕ, List, Some, None, Fault, order_of, segments, linking_fault, AreStopped, IsStopped, Stop}
-use Rattle.ps_resolve.specs.AllFaults.{first_fault, reading_fault}
+use Rattle.ps_resolve.specs.AllFaults.{first_fault}
+use Rattle.ps_reading.specs.Readings.{reading_fault}
 use Rattle.ps_resolve.proofs.LinkingFaults.{skip, keep}
 
 module _ (host : List ℕ) (libs : List (List ℕ)) where

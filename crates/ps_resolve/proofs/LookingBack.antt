@@ -1,8 +1,9 @@
 -- The searches of a segment's records that carry what came before are those that look back over the
 -- records. What is said of whole links, in ps_laws, is on them too.
-use Rattle.ps_resolve.proofs.Vocabulary.{◌≡◌, ℕ, zero, suc, ◌+◌, ◌<◌, List, [], ◌∷◌, ◌++◌, length, take, map, Option, Some, Bool, true, refl, sym, inl, inr, arith, append_assoc, append-nil, is_some, ◌⊎◌, ◌&&◌, ◌||◌, nat_lt, Decides, bytes_eq, enumerate_from, slice_get, list_any, filter, cons_option, option_map, option_or, Decides-and, Decides-or, Decides-like, length_push, map-append, take_at, filter-append, filter_map-append, bytes_eq-Decides, Body, Record, Fault, Reason, first_of, fault_if, def_in, definition_in, definitions, definition_of, first_duplicate_from, words_in, private_words, private_fault, HasEarlierNamesake, is_definition, is_private_reference, words_taken, MAX_NEXT_FREE}
+pub use Rattle.ps_reading.proofs.NextItems.{longer, take_prefix}
+use Rattle.ps_resolve.proofs.Vocabulary.{◌≡◌, ℕ, zero, suc, ◌+◌, ◌<◌, List, [], ◌∷◌, ◌++◌, length, take, map, Option, Some, Bool, true, refl, sym, inl, inr, arith, append_assoc, append-nil, is_some, ◌⊎◌, ◌&&◌, ◌||◌, nat_lt, Decides, bytes_eq, enumerate_from, slice_get, list_any, filter, cons_option, option_map, option_or, Decides-and, Decides-or, Decides-like, map-append, take_at, filter-append, filter_map-append, bytes_eq-Decides, Body, Record, Fault, Reason, first_of, fault_if, def_in, definition_in, definitions, definition_of, first_duplicate_from, words_in, private_words, private_fault, HasEarlierNamesake, is_definition, is_private_reference, words_taken, MAX_NEXT_FREE}
 use Rattle.ps_words.specs.declared.fault.Reason.TheVariants as reason
-use Rattle.ps_resolve.specs.Standing.Phrases.{SomeBelow}
+use Rattle.ps_reading.specs.Standing.Phrases.{SomeBelow}
 
 pub of_test : (b : Bool) → Decides b (b ≡ true)
 of_test b = (λ e. e, λ e. e)
@@ -43,15 +44,6 @@ again test records rec r =
     (λ q. Decides-and (test q.body) (bytes_eq r.name q.name) (of_test (test q.body))
     (Decides-like (bytes_eq r.name q.name) (λ e. sym e) (λ e. sym e)
     (bytes_eq-Decides r.name q.name))) rec records)
-
--- a prefix of a list
-pub take_prefix : {A : Type 0} (prefix rest : List A)
-    → take (length prefix) (prefix ++ rest) ≡ prefix
-take_prefix prefix rest = grind (arith, take_at)
-
-pub longer : {A : Type 0} (prefix : List A) (a : A)
-    → length (prefix ++ a ∷ []) ≡ length prefix + 1
-longer prefix a = length_push prefix a
 
 -- a record defines a name where it has a definition
 pub defines_is : (b : Body) → is_definition b ≡ is_some (def_in b)

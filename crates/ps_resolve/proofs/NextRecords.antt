@@ -2,7 +2,7 @@
 use Rattle.ps_resolve.proofs.Vocabulary.{◌≡◌, ℕ, ◌+◌, ◌++◌, List, [], ◌∷◌, map, Bool, true, false, Some, None, Ok, Err, refl, ap, subst, append_assoc, arith, IsPermutation, option_map, option_or, IsPermutation-trans, IsPermutation-append_left, refs_of, is_private_reference, is_public_reference, is_unit_reference, privates_in, publics_in, units_requested, private_words, Body, Record, Reason, Edit, in_reference, is_reserved, ProcedureTables, in_segment, edit_of, operands, refs_fault, AreTaken, IsTableOf, edits_of, PlaceState, IsStop, Known, words_taken, target_in, target_of, records_fault, records_edits, Target, Stop}
 use Rattle.ps_linkinfo.specs.declared.record.Body.TheVariants.{UnitRef, PublRef, PrivRef}
 use Rattle.ps_resolve.specs.declared.references.Target.TheVariants.{Slot}
-use Rattle.ps_resolve.proofs.RecordCounts.{one_private, one_public, one_unit}
+use Rattle.ps_reading.proofs.RecordCounts.{one_private, one_public, one_unit}
 use Rattle.ps_resolve.proofs.LookingBack.{words_before}
 
 module _ (known : Known) (R : ℕ → Bool) (code : List ℕ) (rec off : ℕ)

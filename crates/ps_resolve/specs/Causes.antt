@@ -10,9 +10,9 @@ use Rattle.ps_linkinfo.specs.declared.operand.Operand.{Operand}
 use Rattle.ps_linkinfo.specs.declared.record.Body.{Body}
 use Rattle.ps_linkinfo.specs.declared.record.LinkRecord.{LinkRecord as Record}
 use Rattle.ps_resolve.specs.References.{words_taken_by}
-use Rattle.ps_resolve.specs.Searches.{first_of}
-use Rattle.ps_resolve.specs.Sources.{Segment}
-use Rattle.ps_resolve.specs.declared.locations.ReferenceAt.{ReferenceAt}
+use Rattle.ps_reading.specs.Searches.{first_of}
+use Rattle.ps_reading.specs.Sources.{Segment}
+use Rattle.ps_reading.specs.declared.locations.ReferenceAt.{ReferenceAt}
 
 -- the two operands have a byte in common
 abbrev pub share_a_byte : Operand → Operand → Bool

@@ -8,12 +8,12 @@ use Rattle.ps_words.specs.FaultPlaces.{in_reference}
 use Rattle.ps_words.specs.declared.fault.Fault.{Fault}
 use Rattle.ps_words.specs.declared.fault.Reason.{Reason}
 use Rattle.ps_codefile.specs.Procedures.{is_reserved, ProcedureTables}
-use Rattle.ps_resolve.specs.Sources.{Segment}
+use Rattle.ps_reading.specs.Sources.{Segment}
 use Rattle.ps_resolve.specs.References.{Known}
 use Rattle.ps_resolve.specs.Faults.{references_fault_from, size_fault}
 use Rattle.ps_resolve.specs.Operands.{reference_reason, refs_fault}
 use Rattle.ps_resolve.specs.Stops.{IsStop}
-use Rattle.ps_resolve.specs.declared.locations.RecordAt.{RecordAt}
+use Rattle.ps_reading.specs.declared.locations.RecordAt.{RecordAt}
 use Rattle.ps_resolve.specs.declared.linkage.Stop.{Stop}
 use Rattle.ps_resolve.specs.declared.references.Target.{Target}
 

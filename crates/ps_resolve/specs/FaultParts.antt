@@ -8,7 +8,7 @@ use Rattle.ps_words.specs.declared.order.Order.{Order}
 use Rattle.ps_words.specs.declared.fault.Fault.{Fault}
 use Rattle.ps_codefile.specs.Dictionary.{entry_at}
 use Rattle.ps_codefile.specs.declared.entry.Role.TheVariants.{Wanted}
-use Rattle.ps_resolve.specs.Standing.Slots.{HasRole}
+use Rattle.ps_reading.specs.Standing.Slots.{HasRole}
 use Rattle.ps_resolve.specs.Standing.Sources.{NoneHas}
 
 -- the slot of the host wants a unit that no library has

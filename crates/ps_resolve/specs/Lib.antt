@@ -1,5 +1,3 @@
-pub mod Searches
-pub mod Sources
 pub mod Symbols
 pub mod Stops
 pub mod Operands
@@ -11,12 +9,8 @@ pub mod Offsets
 pub mod Linking
 pub mod Faults
 pub mod LoneUnits
-pub mod Requests
-pub mod Added
-pub mod Readings
 pub mod AllFaults
 pub mod Plans
-pub mod KnownSegments
 pub mod First
 pub mod Standing
 pub mod FaultParts
@@ -26,5 +20,11 @@ pub mod EditTables
 pub mod LinkedBytes
 pub mod Builders
 pub mod Origins
-pub mod OfLink
 pub mod Causes
+pub use Rattle.ps_reading.specs.Added
+pub use Rattle.ps_reading.specs.KnownSegments
+pub use Rattle.ps_reading.specs.OfLink
+pub use Rattle.ps_reading.specs.Readings
+pub use Rattle.ps_reading.specs.Requests
+pub use Rattle.ps_reading.specs.Searches
+pub use Rattle.ps_reading.specs.Sources

@@ -1,35 +1,20 @@
 -- What is known of the segments of a link, once the files were read without a fault.
 -- Source: this project's profile.
-use Rattle.std.specs.Prelude.{◌≡◌, ℕ, ◌+◌, ◌≤◌, List, [], ◌∷◌, length, map, true, Some, Result, All, ⊤}
+pub use Rattle.ps_reading.specs.KnownSegments.{AreSlots, AscendFrom, HasOneHost}
+use Rattle.std.specs.Prelude.{◌≡◌, ℕ, ◌+◌, ◌≤◌, List, length, map, true, Some, All}
 use Rattle.ps_words.specs.declared.order.Order.{Order}
 use Rattle.ps_words.specs.declared.edit.Edit.{Edit}
-use Rattle.ps_words.specs.declared.fault.Reason.{Reason}
-use Rattle.ps_codefile.specs.Dictionary.{OpenedFile, slots, entry_at, role_of}
-use Rattle.ps_codefile.specs.declared.entry.Role.{Role}
 use Rattle.ps_codefile.specs.Places.{IsWhole}
 use Rattle.ps_codefile.specs.Procedures.{procedures, table_of}
 use Rattle.ps_codefile.specs.Roles.{is_host}
-use Rattle.ps_resolve.specs.Sources.{Segment, host_of}
-use Rattle.ps_resolve.specs.Added.{slot_names}
+use Rattle.ps_reading.specs.Sources.{Segment, host_of}
+use Rattle.ps_reading.specs.Added.{slot_names}
 use Rattle.ps_resolve.specs.Edits.{IsOfTable}
 use Rattle.ps_resolve.specs.Privates.{owner_of, private_words, all_words}
 use Rattle.ps_resolve.specs.References.{Known, HaveTargets}
-use Rattle.ps_resolve.specs.KnownSegments.{IsSound, IsLike, AreAlike}
-use Rattle.ps_resolve.specs.declared.reading.host.HostSegment.{HostSegment}
+use Rattle.ps_reading.specs.KnownSegments.{IsSound, IsLike, AreAlike}
+use Rattle.ps_resolve.specs.declared.host_segment.HostSegment.{HostSegment}
 use Rattle.ps_words.specs.declared.words.TheConstants.{MAX_WORD}
-
--- This is what each slot of a host is for, or why its kind is refused.
-abbrev pub AreSlots : OpenedFile → List (Result Role Reason) → Type 0
-AreSlots dict roles = roles ≡ map (λ slot. role_of (entry_at dict.order dict.file slot)) slots
-
--- the numbers rise strictly, from `from` on
-abbrev pub AscendFrom : ℕ → List ℕ → Type 0
-AscendFrom from [] = ⊤
-AscendFrom from (s ∷ ss) = (from ≤ s) × AscendFrom (s + 1) ss
-
--- no segment is a host's but the first such
-abbrev pub HasOneHost : List Segment → Type 0
-HasOneHost segs = All (λ s. is_host s.role ≡ true → host_of segs ≡ Some s) segs
 
 -- a host's own segment: its records, and the place of the attribute table of its outer block, which
 -- lies in its code before the procedure dictionary

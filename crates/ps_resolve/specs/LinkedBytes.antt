@@ -11,9 +11,9 @@ use Rattle.ps_words.specs.declared.order.Order.{Order}
 use Rattle.ps_words.specs.declared.edit.Edit.{Edit}
 use Rattle.ps_words.specs.declared.edit.Edit.TheVariants.{Byte}
 use Rattle.ps_codefile.specs.Procedures.{table_of}
-use Rattle.ps_resolve.specs.Added.{segments}
+use Rattle.ps_reading.specs.Added.{segments}
 use Rattle.ps_resolve.specs.Privates.{total_words}
-use Rattle.ps_resolve.specs.Standing.Phrases.{SomeItem}
+use Rattle.ps_reading.specs.Standing.Phrases.{SomeItem}
 use Rattle.ps_resolve.specs.Standing.References.{Covers}
 use Rattle.ps_resolve.specs.Standing.Privates.{private_offset, words_before}
 use Rattle.ps_linkinfo.specs.Records.{refs_of}
@@ -21,7 +21,7 @@ use Rattle.ps_linkinfo.specs.declared.record.Body.{Body}
 use Rattle.ps_linkinfo.specs.declared.record.Body.TheVariants.{UnitRef, PublRef, PrivRef, PublDef, ConstDef, Eof}
 use Rattle.ps_linkinfo.specs.declared.record.LinkRecord.{LinkRecord as Record}
 use Rattle.ps_codefile.specs.Roles.{needs_linking, is_host, is_unit}
-use Rattle.ps_resolve.specs.Sources.{Segment, order_of}
+use Rattle.ps_reading.specs.Sources.{Segment, order_of}
 use Rattle.ps_resolve.specs.References.{words_taken_by, record_edits}
 use Rattle.ps_resolve.specs.Linking.{edited_segments, known_of, data_edits, grown_data_size, linked_byte}
 

@@ -13,7 +13,7 @@ use Rattle.ps_codefile.specs.Procedures.{table_of}
 use Rattle.ps_linkinfo.specs.RecordCounts.{next_of}
 use Rattle.ps_resolve.specs.Privates.{private_words, total_words}
 use Rattle.ps_codefile.specs.Roles.{needs_linking, is_host}
-use Rattle.ps_resolve.specs.Sources.{Segment, host_of, host_records, units_of}
+use Rattle.ps_reading.specs.Sources.{Segment, host_of, host_records, units_of}
 use Rattle.ps_resolve.specs.Symbols.{definitions}
 use Rattle.ps_resolve.specs.References.{Known, known_by, records_edits}
 

@@ -8,11 +8,11 @@ use Rattle.ps_words.specs.declared.fault.Fault.{Fault}
 use Rattle.ps_codefile.specs.Roles.{is_unit}
 use Rattle.ps_resolve.specs.declared.linkage.Stop.{Stop}
 use Rattle.ps_resolve.specs.declared.linkage.Stop.TheVariants.{Refused, Memory}
-use Rattle.ps_resolve.specs.Sources.{Segment}
+use Rattle.ps_reading.specs.Sources.{Segment}
 use Rattle.ps_resolve.specs.Privates.{unallotted_fault}
 use Rattle.ps_resolve.specs.References.{each_name, lone_base}
 use Rattle.ps_resolve.specs.Faults.{segment_fault}
-use Rattle.ps_resolve.specs.Readings.{slot_reading}
+use Rattle.ps_reading.specs.Readings.{slot_reading}
 
 -- the first fault of a unit's privates and references in a link with such a host, whose own
 -- variables take no room

@@ -4,7 +4,7 @@ use Rattle.std.specs.Prelude.{ℕ, ◌+◌, ◌&&◌, List, [], ◌∷◌, ◌++
 use Rattle.std.specs.List.{range_with_len, list_any}
 use Rattle.std.specs.Option.{option_map, option_or}
 use Rattle.ps_words.specs.Words.{displacement_at}
-use Rattle.ps_resolve.specs.Searches.{fault_if}
+use Rattle.ps_reading.specs.Searches.{fault_if}
 use Rattle.ps_words.specs.declared.edit.Edit.{Edit}
 use Rattle.ps_words.specs.declared.edit.Edit.TheVariants.{Big, Byte}
 use Rattle.ps_words.specs.declared.fault.Reason.{Reason}

@@ -7,15 +7,15 @@ use Rattle.std.specs.Prelude.{◌≡◌, ◌≢◌, ◌⊎◌, ℕ, ◌+◌, ◌
 use Rattle.ps_words.specs.declared.order.Order.{Order}
 use Rattle.ps_codefile.specs.Dictionary.{block_len, entry_at, is_nameless, code_of, information_of}
 use Rattle.ps_linkinfo.specs.RecordCounts.{is_unit_reference}
-use Rattle.ps_resolve.specs.Added.{added_segments}
-use Rattle.ps_resolve.specs.Standing.Phrases.{SomeItem}
-use Rattle.ps_resolve.specs.Standing.Slots.{HasRole}
+use Rattle.ps_reading.specs.Added.{added_segments}
+use Rattle.ps_reading.specs.Standing.Phrases.{SomeItem}
+use Rattle.ps_reading.specs.Standing.Slots.{HasRole}
 use Rattle.ps_resolve.specs.Standing.Sources.{IsNamed, HasEntry}
 use Rattle.ps_codefile.specs.declared.entry.Entry.{Entry}
 use Rattle.ps_codefile.specs.declared.entry.Role.TheVariants.{Empty, Wanted}
 use Rattle.ps_linkinfo.specs.Records.{Spells}
 use Rattle.ps_codefile.specs.Roles.{needs_linking}
-use Rattle.ps_resolve.specs.Sources.{Segment, information_block, order_of, tables_of}
+use Rattle.ps_reading.specs.Sources.{Segment, information_block, order_of, tables_of}
 use Rattle.ps_resolve.specs.RequestedUnits.{HasSlot}
 
 -- 1. which slots have a segment

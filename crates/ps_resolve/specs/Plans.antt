@@ -5,14 +5,15 @@ use Rattle.ps_words.specs.Edits.{AreEdits, patched_byte}
 use Rattle.ps_words.specs.declared.order.Order.{Order}
 use Rattle.ps_words.specs.declared.edit.Edit.{Edit}
 use Rattle.ps_codefile.specs.Roles.{needs_linking}
-use Rattle.ps_resolve.specs.Sources.{Segment, order_of, host_records}
-use Rattle.ps_resolve.specs.Added.{segments, slot_names}
+use Rattle.ps_reading.specs.Sources.{Segment, order_of, host_records}
+use Rattle.ps_reading.specs.Added.{segments, slot_names}
 use Rattle.ps_linkinfo.specs.RecordCounts.{next_of}
 use Rattle.ps_resolve.specs.Privates.{owner_of, all_allotted, total_words}
 use Rattle.ps_resolve.specs.Symbols.{definitions}
 use Rattle.ps_resolve.specs.Linking.{edited_segments, linked_byte, data_size}
 use Rattle.ps_resolve.specs.Faults.{linking_fault}
-use Rattle.ps_resolve.specs.AllFaults.{first_fault, reading_fault}
+use Rattle.ps_resolve.specs.AllFaults.{first_fault}
+use Rattle.ps_reading.specs.Readings.{reading_fault}
 use Rattle.ps_resolve.specs.Stops.{IsStop}
 use Rattle.ps_resolve.specs.declared.definitions.Def.{Def}
 use Rattle.ps_resolve.specs.declared.allotment.Private.{Private}

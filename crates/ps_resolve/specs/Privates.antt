@@ -6,9 +6,9 @@ use Rattle.std.specs.Prelude.{map, ℕ, ◌+◌, if◌then◌else◌, List, [], 
 use Rattle.std.specs.List.{list_any}
 use Rattle.std.specs.Option.{option_map, option_or}
 use Rattle.ps_linkinfo.specs.Records.{reading}
-use Rattle.ps_resolve.specs.Sources.{Segment}
+use Rattle.ps_reading.specs.Sources.{Segment}
 use Rattle.ps_resolve.specs.declared.linkage.Linkage.{Linkage}
-use Rattle.ps_resolve.specs.declared.locations.SegmentAt.{SegmentAt}
+use Rattle.ps_reading.specs.declared.locations.SegmentAt.{SegmentAt}
 use Rattle.ps_words.specs.declared.fault.Reason.{Reason}
 use Rattle.ps_words.specs.declared.fault.Reason.TheVariants as reason
 use Rattle.ps_words.specs.declared.fault.Fault.{Fault}

@@ -5,9 +5,9 @@ use Rattle.std.specs.Prelude.{◌≡◌, ◌⊎◌, ℕ, ◌+◌, ◌<◌, List,
 use Rattle.ps_words.specs.declared.order.Order.{Order}
 use Rattle.ps_codefile.specs.Dictionary.{entry_at, code_of, information_of}
 use Rattle.ps_linkinfo.specs.RecordCounts.{is_unit_reference}
-use Rattle.ps_resolve.specs.Added.{empty_slots, requested_units, added_segments, segments}
-use Rattle.ps_resolve.specs.Standing.Phrases.{SomeBelow, SomeItem}
-use Rattle.ps_resolve.specs.Standing.Slots.{IsUnitSlot}
+use Rattle.ps_reading.specs.Added.{empty_slots, requested_units, added_segments, segments}
+use Rattle.ps_reading.specs.Standing.Phrases.{SomeBelow, SomeItem}
+use Rattle.ps_reading.specs.Standing.Slots.{IsUnitSlot}
 use Rattle.ps_resolve.specs.Standing.Sources.{IsNamed, HasEntry}
 use Rattle.ps_resolve.specs.Standing.Segments.{IsSegment}
 use Rattle.ps_codefile.specs.declared.entry.Role.TheVariants.{Wanted}
@@ -15,8 +15,8 @@ use Rattle.ps_linkinfo.specs.Records.{reading}
 use Rattle.ps_linkinfo.specs.declared.record.LinkRecord.{LinkRecord as Record}
 use Rattle.ps_resolve.specs.First.{Before}
 use Rattle.ps_codefile.specs.Roles.{is_unit}
-use Rattle.ps_resolve.specs.Sources.{Segment, information_block, library_file, order_of, own_segments, tables_of}
-use Rattle.ps_resolve.specs.declared.reading.added.UnitReference.{UnitReference}
+use Rattle.ps_reading.specs.Sources.{Segment, information_block, library_file, order_of, own_segments, tables_of}
+use Rattle.ps_reading.specs.declared.reading.added.UnitReference.{UnitReference}
 
 -- record `rec` of the i-th segment is a UNITREF of this name
 abbrev pub RequestsAt : List Segment → ℕ → ℕ → List ℕ → Type 0

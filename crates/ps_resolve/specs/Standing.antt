@@ -3,12 +3,12 @@
 -- Source: this project's profile.
 use Rattle.std.specs.Prelude.{◌≡◌, ◌⊎◌, ℕ, List, true}
 use Rattle.ps_resolve.specs.First.{Before}
-use Rattle.ps_resolve.specs.Sources.{order_of}
+use Rattle.ps_reading.specs.Sources.{order_of}
 use Rattle.ps_words.specs.declared.order.Order.{Order}
 use Rattle.ps_words.specs.declared.fault.Fault.{Fault}
 use Rattle.ps_resolve.specs.Standing.Keys.{Step, is_of_reading, key, OfHost, OfSlots, OfNoHost, OfLibraries, OfSources, OfAdded, OfDefinitions, OfPrivates, OfDataSize, OfReferences}
 use Rattle.ps_resolve.specs.Standing.Hosts.{InHost}
-use Rattle.ps_resolve.specs.Standing.Slots.{InSlots, InNoHost}
+use Rattle.ps_reading.specs.Standing.Slots.{InSlots, InNoHost}
 use Rattle.ps_resolve.specs.Standing.Libraries.{InLibraries}
 use Rattle.ps_resolve.specs.Standing.Sources.{InSources}
 use Rattle.ps_resolve.specs.Standing.Rounds.{InRound}
@@ -16,10 +16,10 @@ use Rattle.ps_resolve.specs.Standing.Definitions.{InDefinitions}
 use Rattle.ps_resolve.specs.Standing.Privates.{InPrivates}
 use Rattle.ps_resolve.specs.Standing.DataSizes.{InDataSize}
 use Rattle.ps_resolve.specs.Standing.References.{InReferences}
-pub mod Phrases
+pub use Rattle.ps_reading.specs.Standing.Phrases
+pub use Rattle.ps_reading.specs.Standing.Slots
 pub mod Keys
 pub mod Hosts
-pub mod Slots
 pub mod Libraries
 pub mod Sources
 pub mod Rounds

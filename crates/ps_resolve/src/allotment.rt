@@ -1,5 +1,5 @@
 ghost use Rattle.std.specs.Prelude.{◌≡◌, ◌<◌, ◌≤◌, ◌+◌, ◌++◌, [], IfOk, IfErr, None, length, map, unwrap_or};
-ghost use Rattle.ps_resolve.specs.Linkable.{AscendFrom};
+ghost use Rattle.ps_reading.specs.KnownSegments.{AscendFrom};
 ghost use Rattle.ps_resolve.specs.Offsets.{FollowOn, offset_listed};
 ghost use Rattle.ps_resolve.specs.declared.linkage.Stop.TheVariants.{Memory};
 ghost use Rattle.ps_resolve.specs.Privates.{words_in, allotted_privates, private_words, private_fault, all_allotted, all_words, first_private_fault, owner_of, owner_of_linkage, allotment_of, unallotted_fault, Owner};
@@ -7,10 +7,9 @@ ghost use Rattle.ps_resolve.specs.Stops.{IsStop};
 ghost use Rattle.ps_resolve.specs.Builders.{HaveDistinctPrivates, HaveRoom, StopsPrivates, requested_of, all_requested, AreByRecord, words_of_all};
 
 use crate::linkage::{Linkage, Stop};
-use crate::locations::SegmentAt;
 use crate::namesakes::first_duplicate_private;
-use crate::reading::segment::Segment;
 use ps_linkinfo::{Body, LinkInformation};
+use ps_reading::{Segment, SegmentAt};
 use ps_words::{MAX_OPERAND, MAX_WORD, Name, Reason};
 use std::alloc::{Allocator, Global};
 use std::marker::Model;
@@ -74,10 +73,10 @@ pub(crate) fn allot<A: Allocator + Copy>(
     for (rec, record) in records.records() {
         if let Some(words) = words_of_private(&record.body) {
             if duplicate == Some(rec) {
-                return Err(place.record(rec).stop_for(Reason::DoubledPrivate));
+                return Err(Stop::in_record(place.record(rec), Reason::DoubledPrivate));
             }
             if free as usize + words as usize > MAX_NEXT_FREE {
-                return Err(place.record(rec).stop_for(Reason::NoRoom));
+                return Err(Stop::in_record(place.record(rec), Reason::NoRoom));
             }
             privates.push(Private {
                 rec,
@@ -153,7 +152,7 @@ impl<'a> RequestsPrivates for Segment<'a> {
 }
 
 /// The privates of all segments, and the next free offset.
-#[tactic(auto, using(std::proofs::lemmas::Result::err_from_is_err_and, crate::proofs::AllottedPrivates::stopped_in, crate::proofs::NextItems::drop_at))]
+#[tactic(auto, using(std::proofs::lemmas::Result::err_from_is_err_and, crate::proofs::AllottedPrivates::stopped_in, ps_reading::proofs::NextItems::drop_at))]
 fn allot_all<A: Allocator + Copy, S: RequestsPrivates>(
     alloc: A,
     next: u16,

@@ -4,10 +4,9 @@ ghost use Rattle.ps_linkinfo.specs.Numbered.{numbered_records};
 ghost use Rattle.ps_resolve.specs.Causes.{covering_in as covering_in_spec, covers as covers_spec, first_before, first_covering as first_covering_spec, records_before, references_before as references_before_spec, share_a_byte as share_a_byte_spec, words_before as words_before_spec};
 ghost use Rattle.ps_resolve.specs.References.{words_taken_by};
 
-use crate::locations::{RecordAt, ReferenceAt};
-use crate::reading::segment::Segment;
 use crate::references::records::words_taken;
 use ps_linkinfo::{LinkInformation, LinkRecord, Operand};
+use ps_reading::{RecordAt, ReferenceAt, Segment};
 
 /// The two operands have a byte in common.
 fn share_a_byte(a: Operand, b: Operand) -> bool
@@ -28,7 +27,7 @@ fn covers(operand: Operand, entry: &LinkRecord<'_>, reference: usize) -> bool
 }
 
 /// The first reference of a record, of its first `count`, that does.
-#[tactic(auto, using(crate::proofs::FirstSlots::found_later))]
+#[tactic(auto, using(ps_reading::proofs::FirstSlots::found_later))]
 fn first_covering(operand: Operand, count: usize, entry: &LinkRecord<'_>) -> Option<usize>
     ensures { result ≡ first_covering_spec operand count entry.now.body }
 {
@@ -116,8 +115,8 @@ fn words_of_segment(segment: &Segment<'_>, slot: u8, rec: usize) -> Option<u32>
 {
     match segment.records() {
         None => Some(0),
-        Some(records) if segment.slot < slot => words_of_first(records, records.len()),
-        Some(records) if segment.slot == slot => words_of_first(records, rec),
+        Some(records) if segment.slot() < slot => words_of_first(records, records.len()),
+        Some(records) if segment.slot() == slot => words_of_first(records, rec),
         Some(_) => Some(0),
     }
 }

@@ -7,10 +7,10 @@ ghost use Rattle.ps_resolve.specs.Stops.{IsStop, duplicate_fault};
 ghost use Rattle.ps_resolve.specs.Builders.{HaveNoNamesakes, StopsDefinitions};
 
 use crate::linkage::{Linkage, Stop};
-use crate::locations::SegmentAt;
 use crate::name_hasher::{NameHasher, NameKey};
 use indexmap::IndexMap;
 use ps_linkinfo::{Body, LinkInformation, LinkRecord};
+use ps_reading::SegmentAt;
 use ps_words::{Name, Reason};
 use std::alloc::{Allocator, Global};
 use std::marker::Model;
@@ -94,7 +94,7 @@ fn table_of<A: Allocator + Copy>(
     for (rec, record) in records.records() {
         if let Some(def) = def_of(&record) {
             if by_name.insert(NameKey(record.name), def)?.is_some() {
-                return Err(place.record(rec).stop_for(Reason::DoubledDefinition));
+                return Err(Stop::in_record(place.record(rec), Reason::DoubledDefinition));
             }
         }
     }

@@ -16,11 +16,11 @@ pub(crate) mod data_size;
 
 use crate::edit_table::EditTable;
 use crate::linkage::Stop;
-use crate::reading::segment::Segment;
 use crate::references::names::Linking;
 use crate::references::records::add_records;
 use ps_codefile::Procs;
 use ps_codefile::code_layout::NUMBERS;
+use ps_reading::Segment;
 use ps_words::Edit;
 use ps_words::word_laws::edits_patch_alike_in_any_order;
 use std::alloc::Allocator;
@@ -86,10 +86,10 @@ pub(crate) fn segment_edits<'a, A: Allocator + Copy>(
         None => Ok((Vec::new(alloc), free)),
         Some(resolvable) => {
             edits_patch_alike_in_any_order();
-            let host = segment.role.is_host();
+            let host = segment.role().is_host();
             let procedures = resolvable.procedures.procs();
             let records = &resolvable.records;
-            let own = own_edits(alloc, &procedures, segment.slot, host, link.size)?;
+            let own = own_edits(alloc, &procedures, segment.slot(), host, link.size)?;
             let (table, end) = add_records(link, earlier, segment, records, procedures, free, own)?;
             let references = records.references();
             let count = references.saturating_add(MOST_EDITS_BESIDE_REFERENCES);

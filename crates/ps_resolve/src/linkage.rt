@@ -2,7 +2,7 @@ ghost use Rattle.std.specs.Prelude.{◌≡◌};
 ghost use Rattle.ps_words.specs.FaultPlaces.{in_record, in_reference};
 ghost use Rattle.ps_resolve.specs.declared.linkage.Stop.TheVariants.{Memory, Refused};
 
-use crate::locations::{RecordAt, SegmentAt};
+use ps_reading::{RecordAt, SegmentAt};
 use ps_words::{Fault, Order, Reason};
 use std::alloc::{AllocError, AllocFailed};
 
@@ -42,22 +42,22 @@ pub enum Stop {
     Memory,
 }
 
-impl RecordAt {
-    /// The record has this fault, so nothing is built.
-    pub(crate) fn stop_for(self, reason: Reason) -> Stop
+impl Stop {
+    /// The record that is there has this fault.
+    pub(crate) fn in_record(place: RecordAt, reason: Reason) -> Stop
         ensures { result
-            ≡ Refused (in_record self.segment.file self.segment.slot self.rec reason) }
+            ≡ Refused (in_record place.segment.file place.segment.slot place.rec reason) }
     {
-        Stop::Refused(self.fault(reason))
+        Stop::Refused(place.fault(reason))
     }
 
-    /// The record's reference of this index, from 0, has this fault, so nothing is built.
-    pub(crate) fn reference_refused(self, reference: usize, reason: Reason) -> Stop
+    /// The reference of this index, from 0, of the record that is there has this fault.
+    pub(crate) fn in_reference(place: RecordAt, reference: usize, reason: Reason) -> Stop
         ensures { result ≡ Refused
-            (in_reference self.segment.file self.segment.slot self.rec reference reason) }
+            (in_reference place.segment.file place.segment.slot place.rec reference reason) }
     {
-        let SegmentAt { file, slot } = self.segment;
-        Stop::Refused(Fault::in_reference(file, slot, self.rec, reference, reason))
+        let SegmentAt { file, slot } = place.segment;
+        Stop::Refused(Fault::in_reference(file, slot, place.rec, reference, reason))
     }
 }
 

@@ -11,14 +11,11 @@ use crate::definitions::Definitions;
 use crate::edits::data_size::grown_data_size;
 use crate::edits::segment_edits;
 use crate::linkage::Stop;
-use crate::locations::SegmentAt;
 use crate::plan::{Plan, Source};
-use crate::reading::Segments;
-use crate::reading::segment::Segment;
-use crate::reading::slots::HOST_FILE;
-use crate::reading::unit_slots::UnitSlots;
 use crate::references::names::{LinkNames, Linking, Names};
+use crate::segments::Segments;
 use arrayvec::ArrayVec;
+use ps_reading::{HOST_FILE, Segment, SegmentAt, UnitSlots};
 use ps_words::Edit;
 use std::alloc::Allocator;
 
@@ -62,12 +59,12 @@ fn sources_of<'a>(segments: &[Segment<'a>]) -> ArrayVec<Source<'a>, 16>
     let mut sources = ArrayVec::new();
     for segment in segments {
         sources.push(Source {
-            slot: segment.slot,
-            file: segment.file,
-            index: segment.index,
-            linked: segment.role.needs_linking(),
-            added: segment.added,
-            code: segment.code,
+            slot: segment.slot(),
+            file: segment.file(),
+            index: segment.index(),
+            linked: segment.role().needs_linking(),
+            added: segment.added(),
+            code: segment.code(),
         });
     }
     sources

@@ -2,17 +2,16 @@
 ghost use Rattle.std.specs.Prelude.{◌≡◌, ◌<◌, IfOk, IfErr, OnOk, None, true, ⊤};
 ghost use Rattle.ps_codefile.specs.Roles.{is_unit as is_unit_spec};
 ghost use Rattle.ps_resolve.specs.LoneUnits.{Finds, IsSoundUnit, lone_fault as lone_fault_spec, placing_fault as placing_fault_spec};
-ghost use Rattle.ps_resolve.specs.Sources.{opened_files};
+ghost use Rattle.ps_reading.specs.Sources.{opened_files};
 ghost use Rattle.ps_resolve.specs.Stops.{IsStop};
-ghost use Rattle.ps_resolve.specs.KnownSegments.{IsSound};
+ghost use Rattle.ps_reading.specs.KnownSegments.{IsSound};
 
 use crate::allotment::allot;
 use crate::edits::segment_edits;
 use crate::linkage::Stop;
-use crate::reading::HostReading;
-use crate::reading::segment::Segment;
 use crate::references::names::{LONE_BASE, Linking, Names};
 use ps_linkinfo::LinkInformation;
+use ps_reading::{HostReading, Segment};
 use ps_words::{Edit, Fault, Order};
 use std::alloc::{AllocError, Allocator};
 

@@ -3,8 +3,8 @@ ghost use Rattle.std.specs.Cmp.Rules.{comparing, hashing};
 ghost use Rattle.std.proofs.Common.{rules};
 ghost use Rattle.ps_linkinfo.specs.RecordCounts.{digest_of};
 
-use crate::reading::unit_slots::is_same_name;
 use ps_linkinfo::LinkInformation;
+use ps_reading::is_same_name;
 use ps_words::Name;
 use std::hash::{BuildHasher, DefaultHasher, Hash, Hasher};
 use std::marker::Model;

@@ -3,7 +3,7 @@ ghost use Rattle.std.specs.List.{range_with_len, list_any};
 ghost use Rattle.std.specs.Result.{result_err};
 ghost use Rattle.ps_words.specs.declared.fault.Reason.TheVariants.{OperandTooLarge};
 ghost use Rattle.ps_linkinfo.specs.Records.{refs_of};
-ghost use Rattle.ps_resolve.specs.Searches.{fault_if};
+ghost use Rattle.ps_reading.specs.Searches.{fault_if};
 ghost use Rattle.ps_codefile.specs.Procedures.{is_reserved};
 ghost use Rattle.ps_resolve.specs.Operands.{width_of as width_of_spec, edit_of, value_of, operands};
 ghost use Rattle.ps_resolve.specs.TakenPlaces.{AreTaken};
@@ -16,9 +16,9 @@ pub(crate) mod records;
 
 use crate::edit_table::EditTable;
 use crate::linkage::Stop;
-use crate::locations::RecordAt;
 use ps_codefile::Procs;
 use ps_linkinfo::Body;
+use ps_reading::RecordAt;
 use ps_words::{Edit, MAX_OPERAND, MAX_WORD, Reason, get_big};
 use std::alloc::Allocator;
 
@@ -164,7 +164,7 @@ impl<A: Allocator + Copy> ReferenceEdits<'_, A> {
         for i in 0..refs.len() {
             let x = refs.get(i) as usize;
             match self.edit_at(target, x) {
-                Err(reason) => return Err(place.reference_refused(i, reason)),
+                Err(reason) => return Err(Stop::in_reference(place, i, reason)),
                 Ok(edit) => self.edits.put(edit),
             }
         }

@@ -1,22 +1,21 @@
 ghost use Rattle.std.specs.Prelude.{◌≡◌, [], IfOk, IfErr, None, Ok, All};
 ghost use Rattle.ps_codefile.specs.Dictionary.{opened_alone};
-ghost use Rattle.ps_resolve.specs.Sources.{contents, opened};
+ghost use Rattle.ps_reading.specs.Sources.{contents, opened};
 ghost use Rattle.ps_resolve.specs.LinkedBytes.{segments_of};
-ghost use Rattle.ps_resolve.specs.OfLink.{AreOfLink};
+ghost use Rattle.ps_reading.specs.OfLink.{AreOfLink};
 ghost use Rattle.ps_resolve.specs.Plans.{IsPlan, IsStopped};
 ghost use Rattle.ps_resolve.specs.AllFaults.{first_fault};
-ghost use Rattle.ps_resolve.specs.Readings.{own_reading_fault, read_segments};
-ghost use Rattle.ps_resolve.specs.KnownSegments.{IsRead};
+ghost use Rattle.ps_reading.specs.Readings.{own_reading_fault, read_segments};
+ghost use Rattle.ps_reading.specs.KnownSegments.{IsRead};
 
+use crate::host_segment::host_of;
 use crate::linkage::Stop;
 use crate::linking::link_segments;
 use crate::plan::Plan;
-use crate::reading::host::host_of;
-use crate::reading::segment::Segment;
-use crate::reading::slots::{HOST_FILE, HostSlots};
-use crate::reading::{Segments, add_to, read_own, slot_names};
+use crate::segments::Segments;
 use arrayvec::ArrayVec;
 use ps_codefile::Dict;
+use ps_reading::{HOST_FILE, HostSlots, Segment, read_added, read_own, slot_names};
 use ps_words::{Fault, Reason};
 use std::alloc::Allocator;
 
@@ -145,7 +144,7 @@ fn link_units<'a, A: Allocator + Copy>(
         (segments_of host.now (contents libs.now))) }
     ensures stop { IfErr result (IsStopped host.now (contents libs.now)) }
 {
-    if let Some(fault) = add_to(slots, libs, segments).fault {
+    if let Some(fault) = read_added(slots, libs, segments).fault {
         return Err(Stop::Refused(fault));
     }
     let order = slots.order();

@@ -15,10 +15,10 @@ use Rattle.ps_linkinfo.specs.Records.{reading}
 use Rattle.ps_linkinfo.specs.declared.record.LinkRecord.{LinkRecord as Record}
 use Rattle.ps_resolve.specs.Readings.{HostFiles, opened_host, read_requests, slot_entry, slot_reading, slot_request}
 use Rattle.ps_resolve.specs.Sources.{Segment, file_at, opened_files}
-use Rattle.ps_resolve.specs.declared.reading.added.UnitReference.{UnitReference}
-use Rattle.ps_resolve.specs.declared.reading.request.Request.{Request}
-use Rattle.ps_resolve.specs.declared.reading.request.Requester.{Requester}
-use Rattle.ps_resolve.specs.declared.reading.request.Requester.TheVariants as by
+use Rattle.ps_reading.specs.declared.reading.added.UnitReference.{UnitReference}
+use Rattle.ps_reading.specs.declared.reading.request.Request.{Request}
+use Rattle.ps_reading.specs.declared.reading.request.Requester.{Requester}
+use Rattle.ps_reading.specs.declared.reading.request.Requester.TheVariants as by
 use Rattle.ps_warnings.specs.Paths.{host_order}
 use Rattle.ps_warnings.specs.Seen.{Seen, part_needs_linking}
 use Rattle.ps_warnings.specs.declared.segments.SegmentPart.{SegmentPart}

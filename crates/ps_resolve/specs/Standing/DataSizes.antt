@@ -2,7 +2,7 @@
 -- Source: this project's profile.
 use Rattle.std.specs.Prelude.{◌≡◌, ℕ, ◌<◌, List, Some}
 use Rattle.ps_codefile.specs.Procedures.{table_of}
-use Rattle.ps_resolve.specs.Added.{segments}
+use Rattle.ps_reading.specs.Added.{segments}
 use Rattle.ps_resolve.specs.Privates.{total_words}
 use Rattle.ps_resolve.specs.Linking.{grown_data_size}
 use Rattle.ps_words.specs.FaultPlaces.{in_slot}

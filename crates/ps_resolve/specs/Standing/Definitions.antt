@@ -7,7 +7,7 @@ use Rattle.ps_words.specs.FaultPlaces.{in_record}
 use Rattle.ps_words.specs.declared.order.Order.{Order}
 use Rattle.ps_words.specs.declared.fault.Fault.{Fault}
 use Rattle.ps_words.specs.declared.fault.Reason.TheVariants as reason
-use Rattle.ps_resolve.specs.Standing.Phrases.{SomeBelow, SomeItem}
+use Rattle.ps_reading.specs.Standing.Phrases.{SomeBelow, SomeItem}
 use Rattle.ps_resolve.specs.Standing.Segments.{OfHostSegment}
 use Rattle.ps_linkinfo.specs.RecordCounts.{is_definition}
 

@@ -6,7 +6,7 @@ use Rattle.ps_words.specs.FaultPlaces.{in_file}
 use Rattle.ps_words.specs.declared.fault.Reason.{Reason}
 use Rattle.ps_words.specs.declared.fault.Fault.{Fault}
 use Rattle.ps_words.specs.declared.fault.Reason.TheVariants as reason
-use Rattle.ps_resolve.specs.Standing.Phrases.{Because}
+use Rattle.ps_reading.specs.Standing.Phrases.{Because}
 
 -- The host file is shorter than 512 bytes, or the kinds of its slots fit no byte order, or all of
 -- them are 0.

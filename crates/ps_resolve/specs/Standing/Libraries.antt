@@ -7,8 +7,8 @@ use Rattle.ps_words.specs.declared.order.Order.{Order}
 use Rattle.ps_words.specs.declared.fault.Reason.{Reason}
 use Rattle.ps_words.specs.declared.fault.Fault.{Fault}
 use Rattle.ps_words.specs.declared.fault.Reason.TheVariants as reason
-use Rattle.ps_resolve.specs.Sources.{library_file}
-use Rattle.ps_resolve.specs.Standing.Phrases.{Because, SomeItem}
+use Rattle.ps_reading.specs.Sources.{library_file}
+use Rattle.ps_reading.specs.Standing.Phrases.{Because, SomeItem}
 
 -- The library is shorter than 512 bytes, or the kinds of its entries fit no byte order, or the
 -- other one than the host's.

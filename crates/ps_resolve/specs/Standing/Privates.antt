@@ -2,8 +2,8 @@
 -- Source: this project's profile.
 use Rattle.std.specs.Prelude.{nat_lt, ◌==◌, ◌≡◌, ℕ, ◌+◌, ◌<◌, List, [], take, true, if◌then◌else◌, flat_map}
 use Rattle.ps_linkinfo.specs.declared.record.LinkRecord.{LinkRecord as Record}
-use Rattle.ps_resolve.specs.Sources.{Segment, host_records}
-use Rattle.ps_resolve.specs.Added.{segments}
+use Rattle.ps_reading.specs.Sources.{Segment, host_records}
+use Rattle.ps_reading.specs.Added.{segments}
 use Rattle.ps_linkinfo.specs.RecordCounts.{next_of, is_private_reference}
 use Rattle.ps_resolve.specs.References.{words_taken, words_taken_by}
 use Rattle.ps_words.specs.FaultPlaces.{in_record}
@@ -11,7 +11,7 @@ use Rattle.ps_words.specs.declared.order.Order.{Order}
 use Rattle.ps_words.specs.declared.fault.Reason.{Reason}
 use Rattle.ps_words.specs.declared.fault.Fault.{Fault}
 use Rattle.ps_words.specs.declared.fault.Reason.TheVariants as reason
-use Rattle.ps_resolve.specs.Standing.Phrases.{Because, SomeItem}
+use Rattle.ps_reading.specs.Standing.Phrases.{Because, SomeItem}
 use Rattle.ps_resolve.specs.Standing.Segments.{SomeSegment}
 use Rattle.ps_resolve.specs.Standing.Definitions.{HasEarlierNamesake}
 use Rattle.ps_resolve.specs.declared.allotment.TheConstants.{MAX_NEXT_FREE}

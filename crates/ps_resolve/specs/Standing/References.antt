@@ -8,8 +8,8 @@ use Rattle.ps_linkinfo.specs.declared.record.Body.{Body}
 use Rattle.ps_linkinfo.specs.declared.record.Body.TheVariants.{PublRef}
 use Rattle.ps_linkinfo.specs.declared.record.LinkRecord.{LinkRecord as Record}
 use Rattle.ps_resolve.specs.First.{Before}
-use Rattle.ps_resolve.specs.Sources.{Segment, host_records}
-use Rattle.ps_resolve.specs.Added.{segments}
+use Rattle.ps_reading.specs.Sources.{Segment, host_records}
+use Rattle.ps_reading.specs.Added.{segments}
 use Rattle.ps_resolve.specs.Linking.{known_of}
 use Rattle.ps_resolve.specs.Operands.{value_of}
 use Rattle.ps_resolve.specs.References.{target_of}
@@ -22,7 +22,7 @@ use Rattle.ps_words.specs.declared.order.Order.{Order}
 use Rattle.ps_words.specs.declared.fault.Reason.{Reason}
 use Rattle.ps_words.specs.declared.fault.Fault.{Fault}
 use Rattle.ps_words.specs.declared.fault.Reason.TheVariants as reason
-use Rattle.ps_resolve.specs.Standing.Phrases.{Because, SomeItem}
+use Rattle.ps_reading.specs.Standing.Phrases.{Because, SomeItem}
 use Rattle.ps_resolve.specs.Standing.Segments.{SomeSegment}
 use Rattle.ps_resolve.specs.Standing.Privates.{private_offset}
 use Rattle.ps_words.specs.declared.words.TheConstants.{MAX_OPERAND}

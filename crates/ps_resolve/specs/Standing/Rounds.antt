@@ -2,9 +2,9 @@
 -- Source: this project's profile.
 use Rattle.std.specs.Prelude.{◌≡◌, ◌⊎◌, ℕ, ◌≤◌, List, length, slice_get, take, true, Some, None}
 use Rattle.ps_codefile.specs.Dictionary.{entry_at, is_nameless}
-use Rattle.ps_resolve.specs.Sources.{unit_source, file_at}
-use Rattle.ps_resolve.specs.Added.{added_segments, requested_units, empty_slots}
-use Rattle.ps_resolve.specs.declared.reading.added.UnitReference.{UnitReference}
+use Rattle.ps_reading.specs.Sources.{unit_source, file_at}
+use Rattle.ps_reading.specs.Added.{added_segments, requested_units, empty_slots}
+use Rattle.ps_reading.specs.declared.reading.added.UnitReference.{UnitReference}
 use Rattle.ps_words.specs.FaultPlaces.{in_record}
 use Rattle.ps_words.specs.declared.order.Order.{Order}
 use Rattle.ps_words.specs.declared.fault.Fault.{Fault}

@@ -1,8 +1,8 @@
 -- What is said of a segment of the link.
 -- Source: this project's profile.
 use Rattle.std.specs.Prelude.{◌≡◌, ℕ, ◌<◌, List, Some}
-use Rattle.ps_resolve.specs.Sources.{Segment, host_of}
-use Rattle.ps_resolve.specs.Added.{segments, segment_at}
+use Rattle.ps_reading.specs.Sources.{Segment, host_of}
+use Rattle.ps_reading.specs.Added.{segments, segment_at}
 use Rattle.ps_words.specs.declared.order.Order.{Order}
 
 -- a segment of the linked file, in its slot

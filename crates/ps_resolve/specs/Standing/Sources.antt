@@ -9,15 +9,15 @@ use Rattle.ps_codefile.specs.declared.entry.Role.{Role}
 use Rattle.ps_linkinfo.specs.Records.{Stops}
 use Rattle.ps_linkinfo.specs.declared.record.LinkRecord.{LinkRecord as Record}
 use Rattle.ps_codefile.specs.Roles.{needs_linking, is_host}
-use Rattle.ps_resolve.specs.Sources.{source_of, file_at, library_file}
+use Rattle.ps_reading.specs.Sources.{source_of, file_at, library_file}
 use Rattle.ps_words.specs.FaultPlaces.{in_slot, in_record}
 use Rattle.ps_words.specs.declared.order.Order.{Order}
 use Rattle.ps_words.specs.declared.fault.Reason.{Reason}
 use Rattle.ps_words.specs.declared.fault.Fault.{Fault}
 use Rattle.ps_codefile.specs.declared.entry.Role.TheVariants as role
 use Rattle.ps_words.specs.declared.fault.Reason.TheVariants as reason
-use Rattle.ps_resolve.specs.Standing.Phrases.{Because, SomeBelow, SomeItem}
-use Rattle.ps_resolve.specs.Standing.Slots.{HasRole}
+use Rattle.ps_reading.specs.Standing.Phrases.{Because, SomeBelow, SomeItem}
+use Rattle.ps_reading.specs.Standing.Slots.{HasRole}
 
 -- entry i of a file is filled, and has this name
 abbrev pub IsNamed : Order → List ℕ → List ℕ → ℕ → Type 0

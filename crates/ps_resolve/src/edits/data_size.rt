@@ -5,10 +5,10 @@ ghost use Rattle.ps_resolve.specs.Faults.{size_fault};
 ghost use Rattle.ps_resolve.specs.Linking.{data_edits, data_size_of};
 ghost use Rattle.ps_resolve.specs.Linkable.{IsHost};
 
+use crate::host_segment::HostSegment;
 use crate::linkage::Stop;
-use crate::reading::host::HostSegment;
-use crate::reading::slots::HOST_FILE;
 use ps_codefile::code_layout::DATA_SIZE_BEFORE_TABLE;
+use ps_reading::HOST_FILE;
 use ps_words::{Edit, Fault, MAX_WORD, Order, Reason, WORD_LEN, get};
 
 /// The greatest data size of an outer block, in bytes: the greatest word.

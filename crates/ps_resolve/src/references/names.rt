@@ -2,7 +2,7 @@ ghost use Rattle.std.specs.Prelude.{◌≡◌};
 ghost use Rattle.ps_resolve.specs.References.{known_definition, known_unit};
 
 use crate::definitions::{Def, DefKind, Definitions};
-use crate::reading::unit_slots::UnitSlots;
+use ps_reading::UnitSlots;
 use ps_words::{Edit, Name, Order};
 use std::alloc::{Allocator, Global};
 use std::marker::Model;

@@ -12,11 +12,11 @@ use crate::allotment::words_of_private;
 use crate::definitions::DefKind;
 use crate::edit_table::EditTable;
 use crate::linkage::Stop;
-use crate::reading::segment::Segment;
 use crate::references::names::{Linking, Names};
 use crate::references::{ReferenceEdits, Target};
 use ps_codefile::Procs;
 use ps_linkinfo::{Body, LinkInformation, LinkRecord};
+use ps_reading::Segment;
 use ps_words::Reason;
 use std::alloc::Allocator;
 
@@ -93,7 +93,7 @@ pub(crate) fn add_records<'a, A: Allocator + Copy>(
     for (rec, record) in records.records() {
         let place = segment.place().record(rec);
         match target_of(link.names, next, &record) {
-            Err(reason) => return Err(place.stop_for(reason)),
+            Err(reason) => return Err(Stop::in_record(place, reason)),
             Ok(target) => {
                 found.add_record(place, target, &record.body)?;
                 next += words_taken(&record.body);

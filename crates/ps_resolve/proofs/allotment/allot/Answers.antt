@@ -1,6 +1,6 @@
 use Rattle.ps_resolve.proofs.Vocabulary.{◌∙◌, sym, arith, append-nil}
 use Rattle.ps_resolve.proofs.AllottedPrivates.{Allots, allot_more, allot_on, allots, duplicate_fault, is_duplicate, no_privates, not_duplicate, room_fault}
-use Rattle.ps_resolve.proofs.NumberedRecords.{one, none}
+use Rattle.ps_reading.proofs.NumberedRecords.{one, none}
 use Rattle.ps_resolve.proofs.allotment.allot.Goals as goal
 
 pub returns-then-privates-eq0 : goal.returns-then-privates-eq0

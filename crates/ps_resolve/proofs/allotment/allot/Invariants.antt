@@ -1,5 +1,5 @@
 use Rattle.ps_resolve.proofs.AllottedPrivates.{Allots}
-use Rattle.ps_resolve.proofs.NumberedRecords.{IsLeft}
+use Rattle.ps_reading.proofs.NumberedRecords.{IsLeft}
 use Rattle.ps_resolve.proofs.allotment.allot.Given as goal
 
 -- the privates so far and those of what is left are all, and so with words and faults

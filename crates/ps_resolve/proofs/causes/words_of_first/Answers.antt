@@ -1,5 +1,5 @@
 use Rattle.std.proofs.Common.{◌≤◌, ◌+◌, arith}
-use Rattle.ps_resolve.proofs.NumberedRecords.{one}
+use Rattle.ps_reading.proofs.NumberedRecords.{one}
 use Rattle.ps_resolve.proofs.WordsBefore.{counted, within}
 use Rattle.ps_resolve.proofs.causes.words_of_first.Goals as goal
 

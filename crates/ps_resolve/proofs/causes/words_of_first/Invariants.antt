@@ -1,4 +1,4 @@
-use Rattle.ps_resolve.proofs.NumberedRecords.{IsLeft}
+use Rattle.ps_reading.proofs.NumberedRecords.{IsLeft}
 use Rattle.ps_resolve.proofs.WordsBefore.{AddUp}
 use Rattle.ps_resolve.proofs.causes.words_of_first.Given as goal
 

@@ -1,7 +1,7 @@
 use Rattle.std.proofs.Common.{rules, arith, ◌≡◌, ◌∙◌, [], ◌∷◌, ◌++◌, ap, sym, append-nil, is_some, bytes_eq}
 use Rattle.indexmap.proofs.CallerLemmas.{insert_entry-new}
 use Rattle.ps_resolve.proofs.Duplicates.{again_first, new_entries, new_first, no_definitions, none_entries, none_first, none_is, some_there}
-use Rattle.ps_resolve.proofs.NumberedRecords.{one, none}
+use Rattle.ps_reading.proofs.NumberedRecords.{one, none}
 use Rattle.ps_resolve.proofs.definitions.table_of.Goals as goal
 
 pub loop-rec-preserved : goal.loop-rec-preserved

@@ -1,7 +1,7 @@
 use Rattle.ps_resolve.proofs.Vocabulary.{◌≡◌, digest_of}
 use Rattle.indexmap.specs.IndexMap.{hasher_of}
 use Rattle.ps_resolve.proofs.Duplicates.{Defines}
-use Rattle.ps_resolve.proofs.NumberedRecords.{IsLeft}
+use Rattle.ps_reading.proofs.NumberedRecords.{IsLeft}
 use Rattle.ps_resolve.proofs.definitions.table_of.Given as goal
 
 -- what the map has and what is left are all; so is the first of what is left

@@ -1,6 +1,6 @@
 use Rattle.ps_resolve.proofs.Vocabulary.{arith, ◌≡◌, ℕ, ◌-◌, ◌++◌, ◌∷◌, ◌∙◌, List, Option, true, length, sym, ap, IsPermutation, option_to_list, All-permutation, IsPermutation-append_left, IsPermutation-trans, AreEdits, IsInside, Edit, Byte, Segment, data_size_edit, edits_of, PlaceState, same_Some, ProcedureTables, needs_linking, is_host, Known, records_edits}
 use Rattle.ps_resolve.proofs.EditTables.{edits_apart}
-use Rattle.ps_resolve.proofs.FirstSlots.{none_mapped as map_none}
+use Rattle.ps_reading.proofs.FirstSlots.{none_mapped as map_none}
 use Rattle.ps_resolve.proofs.SegmentEdits.{all_of, linked_links}
 use Rattle.ps_resolve.proofs.ReservedEdits.{edits_inside, own_of_table}
 use Rattle.ps_resolve.proofs.edits.segment_edits.Goals as goal
@@ -27,10 +27,9 @@ returns-in_ok-edits-in-Some g c =
     ∙ same_Some _ _ (c.in-Some.ensures.tables ∙ c.requires.sound.kept linked) in
     let code_is : c.procs-procedures.result.code ≡ code =
     ap (λ (t : ProcedureTables). t.code) tables_is in
-    let slot_is : c.segment.inside.slot ≡ v.slot =
-    ap (λ (s : Segment). s.slot) c.segment.view_is in
+    let slot_is : c.slot.result ≡ v.slot = c.slot.ensures in
     let host_is : c.is_host-host.result ≡ is_host v.role =
-    c.is_host-host.ensures ∙ ap (λ (s : Segment). is_host s.role) c.segment.view_is in
+    c.is_host-host.ensures ∙ ap is_host c.role.ensures in
     let own_listed : IsPermutation own_edits (edits_of own_states) =
     rw (slot_is, code_is, host_is) at c.in_ok-own-in-Some.ensures.edits in
     let listed : IsPermutation (all_of known v own free) (edits_of states) =

@@ -1,8 +1,9 @@
 use Rattle.ps_resolve.proofs.Vocabulary.{rules, ◌≡◌, ℕ, ◌+◌, ◌<◌, ◌∷◌, [], List, length, map, get_or, true, sym, subst, arith, append-nil, All, All-take, err_from_is_err_and, Edit, Order, is_reserved, is_host, IsOfTable, references_fault_from, data_edits, edited_from, owner_of, all_words, Known, HaveTargets, Segment, IsSound, IsLike}
 use Rattle.ps_resolve.proofs.AllSegments.{room_at, stop_at, words_on, first_on, links_on, none_left}
-use Rattle.ps_resolve.proofs.FirstSlots.{none_mapped}
-use Rattle.ps_resolve.proofs.NextItems.{map_push}
-use Rattle.ps_resolve.proofs.SharedRecords.{all_taken, have_targets}
+use Rattle.ps_reading.proofs.FirstSlots.{none_mapped}
+use Rattle.ps_reading.proofs.NextItems.{map_push}
+use Rattle.ps_reading.proofs.SharedRecords.{all_taken}
+use Rattle.ps_resolve.proofs.KnownTargets.{have_targets}
 use Rattle.ps_resolve.proofs.linking.all_edits.Goals as goal
 
 pub segment_edits-requires : goal.segment_edits-requires

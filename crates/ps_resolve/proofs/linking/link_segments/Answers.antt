@@ -1,7 +1,7 @@
 use Rattle.ps_resolve.proofs.Vocabulary.{◌≡◌, ℕ, ◌+◌, [], ◌∷◌, List, map, Some, refl, sym, ◌∙◌, ap, arith, err_from_is_err_and, length-map, Edit, Order, Segment, host_of, definitions, Allotted, owner_of, all_words, AreSegments}
-use Rattle.ps_resolve.specs.declared.reading.host.HostSegment.{HostSegment}
+use Rattle.ps_resolve.specs.declared.host_segment.HostSegment.{HostSegment}
 use Rattle.ps_resolve.proofs.HostSegments.{of_hosts}
-use Rattle.ps_resolve.proofs.NextItems.{slots_are}
+use Rattle.ps_resolve.proofs.AllSegments.{slots_are}
 use Rattle.ps_resolve.proofs.LinkingFaults.{records_are, definitions_stop, privates_stop, words_are, allotment_is, size_stop, references_stop, none_stands, all_linked, as_many}
 use Rattle.ps_resolve.proofs.linking.link_segments.Goals as goal
 

@@ -1,6 +1,6 @@
 use Rattle.std.proofs.Common.{arith, ◌∙◌, sym, append-nil}
 use Rattle.ps_resolve.proofs.EarlierNames.{more_numbers, passed}
-use Rattle.ps_resolve.proofs.NumberedRecords.{one, none}
+use Rattle.ps_reading.proofs.NumberedRecords.{one, none}
 use Rattle.ps_resolve.proofs.namesakes.numbers_of.Goals as goal
 
 pub loop-record-init : goal.loop-record-init

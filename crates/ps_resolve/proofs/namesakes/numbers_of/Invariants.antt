@@ -1,5 +1,5 @@
 use Rattle.ps_resolve.proofs.EarlierNames.{AreNumbers}
-use Rattle.ps_resolve.proofs.NumberedRecords.{IsLeft}
+use Rattle.ps_reading.proofs.NumberedRecords.{IsLeft}
 use Rattle.ps_resolve.proofs.namesakes.numbers_of.Given as goal
 
 -- the numbers so far and those of what is left are all

@@ -1,11 +1,11 @@
 use Rattle.ps_resolve.proofs.Vocabulary.{◌≡◌, ◌≤◌, ℕ, List, length, map, Bool, true, false, if◌then◌else◌, Option, None, Ok, Err, is_some, refl, sym, ◌∙◌, ap, subst, arith, ltb, IfOk, nat_tests, IfErr-weaker, IfOk-weaker, Fault, Order, OpenedFile, FileOrder, file_order, opened_alone, opened_as, Segment, contents, host_of, opened_files, order_of, segments, slot_names, linking_fault, AscendFrom, HasOneHost, first_fault, reading_fault, AreOfLink, AreStopped, IsPlanOf, IsStopped, all_read, host_reading_fault, own_reading_fault, read_rounds}
 use Rattle.ps_words.specs.declared.fault.Reason.TheVariants as reason
 use Rattle.ps_resolve.proofs.FirstFaults.{first_read, first_linked, stopped}
-use Rattle.ps_resolve.proofs.OfLink.{has_host, of_link, slots_fine}
-use Rattle.ps_resolve.proofs.ReadingHosts.{host_is, host_read}
-use Rattle.ps_resolve.proofs.ReadingKnown.{ascend, one_host}
-use Rattle.ps_resolve.proofs.ReadingSlots.{reading_is, segments_are, units_last}
-use Rattle.ps_resolve.proofs.SharedRecords.{all_sound, read_alike}
+use Rattle.ps_reading.proofs.OfLink.{has_host, of_link, slots_fine}
+use Rattle.ps_reading.proofs.ReadingHosts.{host_is, host_read}
+use Rattle.ps_reading.proofs.ReadingKnown.{ascend, one_host}
+use Rattle.ps_reading.proofs.ReadingSlots.{reading_is, segments_are, units_last}
+use Rattle.ps_reading.proofs.SharedRecords.{all_sound, read_alike}
 use Rattle.ps_resolve.proofs.resolving.link_units.Goals as goal
 
 -- the first fault of reading a host that was opened
@@ -33,8 +33,8 @@ returns-in-Some-clause-stop g c =
     let fault : Fault = c.in-Some.fault in
     first_read host libs fault
     (sym (fault_of host libs o c.requires.opened)
-    ∙ (sym (units_last o.order o.file libs None c.add_to.result.fault
-    (sym c.requires.faultless) c.add_to.ensures.ends) ∙ c.in-Some.is))
+    ∙ (sym (units_last o.order o.file libs None c.read_added.result.fault
+    (sym c.requires.faultless) c.read_added.ensures.ends) ∙ c.in-Some.is))
 
 -- what is read of the units too has no fault
 faultless : (o : OpenedFile) (libs : List (List ℕ)) (last : Option Fault)
@@ -59,17 +59,17 @@ host_of-requires g c =
     let o : OpenedFile = c.args.slots.now in
     rw (c.as_slice-all.ensures.value, c.order-order.ensures)
     (all_sound o.order o.file (opened_files o.order (contents c.args.libs.now))
-    c.add_to.new.segments.items c.add_to.ensures.read)
+    c.read_added.new.segments.items c.read_added.ensures.read)
 
 pub returns-in-None-clause-stop : goal.returns-in-None-clause-stop
 returns-in-None-clause-stop g c =
     let o : OpenedFile = c.args.slots.now in
     let libs = contents c.args.libs.now in
-    let none = faultless o libs c.add_to.result.fault c.requires.faultless c.add_to.ensures.ends
+    let none = faultless o libs c.read_added.result.fault c.requires.faultless c.read_added.ensures.ends
     c.in_default.is in
     let host : List ℕ = c.args.host.now in
-    let t = all_of host libs o c.add_to.new.segments.items c.requires.opened
-    c.add_to.ensures.all none in
+    let t = all_of host libs o c.read_added.new.segments.items c.requires.opened
+    c.read_added.ensures.all none in
     let has = has_host host libs t.0 in
     let lacks = c.in-None.ensures.found ∙ ap host_of c.as_slice-all.ensures.value
     ∙ ap host_of t.1 in
@@ -83,15 +83,15 @@ invariant_of-linkable g c =
     let o : OpenedFile = c.args.slots.now in
     let libs = contents c.args.libs.now in
     let files = opened_files o.order libs in
-    let items : List Segment = c.add_to.new.segments.items in
-    let none = faultless o libs c.add_to.result.fault c.requires.faultless c.add_to.ensures.ends
+    let items : List Segment = c.read_added.new.segments.items in
+    let none = faultless o libs c.read_added.result.fault c.requires.faultless c.read_added.ensures.ends
     c.in_default.is in
     let host : List ℕ = c.args.host.now in
-    let t = all_of host libs o items c.requires.opened c.add_to.ensures.all none in
+    let t = all_of host libs o items c.requires.opened c.read_added.ensures.all none in
     let file : o.file ≡ c.args.host.now =
     ap (λ (x : OpenedFile). x.file) (host_is c.args.host.now o (sym c.requires.opened)) in
     record {
-      sound = rw c.order-order.ensures (all_sound o.order o.file files items c.add_to.ensures.read);
+      sound = rw c.order-order.ensures (all_sound o.order o.file files items c.read_added.ensures.read);
       found = sym (c.in-Some-host_of.ensures.found ∙ ap host_of c.as_slice-all.ensures.value);
       own = c.in-Some-host_of.ensures.is;
       one_host = subst HasOneHost (sym t.1)
@@ -99,7 +99,7 @@ invariant_of-linkable g c =
       ascending = subst (λ (ss : List Segment). AscendFrom 0 (map (λ s. s.slot) ss)) (sym t.1)
           (ascend (order_of host) host libs);
       whole = whole_of c.args.host.now o c.requires.opened;
-      alike = read_alike o.order o.file files items c.add_to.ensures.read;
+      alike = read_alike o.order o.file files items c.read_added.ensures.read;
       most = subst (λ (ss : List Segment). length ss ≤ 16) c.as_slice-all.ensures.value
           c.as_slice-all.ensures.fits;
       named = c.slot_names-names.ensures
@@ -114,13 +114,13 @@ returns-in-Some-host_of g c =
     let libs = contents c.args.libs.now in
     let is = host_is host o (sym c.requires.opened) in
     let order : Order = c.order-order.result in
-    let given : List Segment = c.add_to.new.segments.items in
+    let given : List Segment = c.read_added.new.segments.items in
     let all : List Segment = segments (order_of host) host libs in
-    let read = faultless o libs c.add_to.result.fault c.requires.faultless c.add_to.ensures.ends
+    let read = faultless o libs c.read_added.result.fault c.requires.faultless c.read_added.ensures.ends
     c.in_default.is in
     let order_is : order ≡ order_of host =
     c.order-order.ensures ∙ ap (λ (x : OpenedFile). x.order) is in
-    let t = all_of host libs o given c.requires.opened c.add_to.ensures.all read in
+    let t = all_of host libs o given c.requires.opened c.read_added.ensures.all read in
     let same : linking_fault order given ≡ linking_fault (order_of host) all =
     ap (linking_fault order) t.1 ∙ ap (λ (o : Order). linking_fault o all) order_is in
     record {

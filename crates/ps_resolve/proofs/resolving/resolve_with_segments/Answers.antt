@@ -1,6 +1,6 @@
 use Rattle.ps_resolve.proofs.Vocabulary.{◌∙◌, Some, sym, ap, map, Fault}
 use Rattle.ps_resolve.proofs.FirstFaults.{first_read}
-use Rattle.ps_resolve.proofs.ReadingHosts.{host_refused}
+use Rattle.ps_reading.proofs.ReadingHosts.{host_refused}
 use Rattle.ps_resolve.proofs.resolving.resolve_with_segments.Goals as goal
 
 pub returns-in-Err-clause-stop : goal.returns-in-Err-clause-stop

@@ -2,7 +2,7 @@ use Rattle.std.proofs.Common.{◌∙◌, sym, ap}
 use Rattle.std.specs.Prelude.{option_and_then}
 use Rattle.std.specs.Option.{option_map}
 use Rattle.ps_resolve.specs.Sources.{contents}
-use Rattle.ps_resolve.specs.declared.locations.EntryAt.{EntryAt}
+use Rattle.ps_reading.specs.declared.locations.EntryAt.{EntryAt}
 use Rattle.ps_warnings.specs.SeenSegments.{origin_of}
 use Rattle.ps_warnings.proofs.segments.source_in.Goals as goal
 

@@ -1,7 +1,7 @@
 use Rattle.std.proofs.Common.{◌∙◌, false, sym, ap}
 use Rattle.std.specs.Prelude.{Option}
 use Rattle.std.specs.Option.{option_map_or}
-use Rattle.ps_resolve.specs.declared.reading.request.Request.{Request}
+use Rattle.ps_reading.specs.declared.reading.request.Request.{Request}
 use Rattle.ps_warnings.specs.SeenSegments.{is_by_record, takes_slot}
 use Rattle.ps_warnings.proofs.segments.takes_slot.Goals as goal
 

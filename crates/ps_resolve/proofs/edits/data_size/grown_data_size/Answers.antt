@@ -1,6 +1,6 @@
 use Rattle.ps_resolve.proofs.Vocabulary.{◌≡◌, ℕ, ◌+◌, ◌-◌, ◌&&◌, true, arith, nat_le, nat_lt, or_right, nat_tests, covers, Order, procedures, table_of, is_reserved, IsOfTable, IsHost}
 use Rattle.ps_words.specs.declared.edit.Edit.TheVariants.{Word}
-use Rattle.ps_resolve.specs.declared.reading.host.HostSegment.{HostSegment}
+use Rattle.ps_resolve.specs.declared.host_segment.HostSegment.{HostSegment}
 use Rattle.ps_resolve.proofs.HostSegments.{some_table}
 use Rattle.ps_resolve.proofs.edits.data_size.grown_data_size.Goals as goal
 

@@ -1,9 +1,10 @@
 use Rattle.ps_resolve.proofs.Vocabulary.{rules, ℕ, ◌+◌, ◌++◌, ◌∙◌, [], sym, subst, arith, Option, append-nil, List, ap, option_map, err_from_is_err_and, Reason, refs_of, units_in, publics_in, privates_in, references_in, is_reserved, ProcedureTables, Record, Segment, operands, refs_fault_at, in_segment, Known, HaveTargets, records_fault, IsStop, Stop}
-use Rattle.ps_resolve.specs.declared.locations.RecordAt.{RecordAt}
-use Rattle.ps_resolve.proofs.NumberedRecords.{one, none}
-use Rattle.ps_resolve.proofs.FirstSlots.{none_mapped as map_none}
+use Rattle.ps_reading.specs.declared.locations.RecordAt.{RecordAt}
+use Rattle.ps_reading.proofs.NumberedRecords.{one, none}
+use Rattle.ps_reading.proofs.FirstSlots.{none_mapped as map_none}
 use Rattle.ps_resolve.proofs.NextRecords.{no_links, references_refused, record_stands, listed_more}
-use Rattle.ps_resolve.proofs.SharedRecords.{of_shared, no_references}
+use Rattle.ps_reading.proofs.SharedRecords.{of_shared}
+use Rattle.ps_resolve.proofs.KnownTargets.{no_references}
 use Rattle.ps_resolve.proofs.references.records.add_records.Goals as goal
 use Rattle.ps_resolve.proofs.LookingBack.{words_before}
 

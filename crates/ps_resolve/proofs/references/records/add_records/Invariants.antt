@@ -1,5 +1,5 @@
 use Rattle.ps_resolve.proofs.Vocabulary.{◌≡◌, edits_of}
-use Rattle.ps_resolve.proofs.NumberedRecords.{IsLeft}
+use Rattle.ps_reading.proofs.NumberedRecords.{IsLeft}
 use Rattle.ps_resolve.proofs.NextRecords.{Links}
 use Rattle.ps_resolve.proofs.references.records.add_records.Given as goal
 

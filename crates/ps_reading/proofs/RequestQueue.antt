@@ -1,0 +1,177 @@
+-- The queue of names that are requested, of which only the first ten are kept, and the rounds that
+-- it gives.
+use Rattle.ps_reading.proofs.Vocabulary.{◌≡◌, ℕ, ◌+◌, ◌<◌, ◌≤◌, List, [], ◌∷◌, ◌++◌, ◌-◌, length, length-append, append_assoc, append-nil, take, Bool, true, false, Option, Some, None, inl, inr, refl, sym, ◌∙◌, ap, arith, ◌⊎◌, All, if◌then◌else◌, cases_lt, take-append-le, take_all, length-take, length-take-le, All-nil, All-cons, All-append, slice_get, filter, range_with_len, Order, is_unit_reference, units_requested, is_already_known, unit_references, all_unit_references, requested_from, unplaced_fault, placed_fault, added_segment, RoundsOutcome, after, rounds_from, Fault, Body, Record, Segment, UnitReference}
+use Rattle.ps_linkinfo.specs.declared.record.Body.TheVariants.{UnitRef}
+use Rattle.ps_reading.proofs.RecordCounts.{one_unit}
+
+-- with this queue, the names that the records from this index on request make the whole queue:
+-- that of all records, after `old`
+abbrev pub Enqueues : List (List ℕ × ℕ) → ℕ → ℕ → List Record → List UnitReference
+    → List UnitReference → ℕ → List Record → Type 0
+Enqueues units file slot all old queue n rs =
+    take 10 (requested_from units queue (unit_references file slot n rs))
+    ≡ take 10 (requested_from units old (unit_references file slot 0 all))
+
+-- what requests a unit is counted
+requests_is : (b : Body) → is_unit_reference b ≡ is_unit_reference b
+requests_is (UnitRef refs) = refl
+requests_is other = refl
+
+-- where none requests a unit, there is no reference to one
+pub no_references : (file slot n : ℕ) (rs : List Record) → units_requested rs ≡ 0
+    → unit_references file slot n rs ≡ []
+no_references file slot n [] h = refl
+no_references file slot n (r ∷ rs) h =
+    grind (arith, requests_is r.body, one_unit r rs true, no_references file slot (n + 1) rs)
+
+-- names that are requested after others
+pub requested-append : (units : List (List ℕ × ℕ)) (queue xs ys : List UnitReference)
+    → requested_from units queue (xs ++ ys)
+    ≡ requested_from units (requested_from units queue xs) ys
+requested-append units queue [] ys = refl
+requested-append units queue (x ∷ xs) ys =
+    requested-append units (if is_already_known units queue x.name then queue
+    else queue ++ x ∷ []) xs ys
+
+-- one segment more, whose records request names after those of segments before it
+flat_more : (xs : List Segment) (s : Segment) → all_unit_references (xs ++ s ∷ [])
+    ≡ all_unit_references xs ++ unit_references s.file s.slot 0 s.records
+flat_more [] s = append-nil (unit_references s.file s.slot 0 s.records)
+flat_more (x ∷ xs) s = grind (arith, append_assoc, flat_more xs s)
+
+pub references_more : (units : List (List ℕ × ℕ)) (queue : List UnitReference)
+    (xs : List Segment) (s : Segment)
+    → requested_from units (requested_from units queue (all_unit_references xs))
+    (unit_references s.file s.slot 0 s.records)
+    ≡ requested_from units queue (all_unit_references (xs ++ s ∷ []))
+references_more units queue xs s = grind (arith, flat_more, requested-append)
+
+-- all that two lists of segments request
+pub references_both : (xs ys : List Segment)
+    → all_unit_references (xs ++ ys) ≡ all_unit_references xs ++ all_unit_references ys
+references_both [] ys = refl
+references_both (x ∷ xs) ys = grind (arith, append_assoc, references_both xs ys)
+
+-- the prefix of a queue stays
+pub queue_prefix : (units : List (List ℕ × ℕ)) (n : ℕ) (queue gs : List UnitReference)
+    → n ≤ length queue → take n (requested_from units queue gs) ≡ take n queue
+queue_prefix units n queue [] h = refl
+queue_prefix units n queue (g ∷ gs) h =
+    by (λ r l. queue_prefix units n r gs l) (is_already_known units queue g.name) refl
+  where
+    by : ((r : List UnitReference) → n ≤ length r
+        → take n (requested_from units r gs) ≡ take n r) → (b : Bool)
+        → is_already_known units queue g.name ≡ b
+        → take n (requested_from units queue (g ∷ gs)) ≡ take n queue
+    by rest b e = grind (arith, length-append, take-append-le)
+
+-- what is kept of a queue decides what is kept of the queue after it
+pub kept : (units : List (List ℕ × ℕ)) (queue gs : List UnitReference)
+    → take 10 (requested_from units (take 10 queue) gs)
+    ≡ take 10 (requested_from units queue gs)
+kept units queue gs = by (cases_lt (length queue) 10)
+  where
+    by : (length queue < 10) ⊎ (10 ≤ length queue)
+        → take 10 (requested_from units (take 10 queue) gs)
+        ≡ take 10 (requested_from units queue gs)
+    by (inl h) = ap (λ (r : List UnitReference). take 10 (requested_from units r gs))
+        (take_all 10 queue (omega arith))
+    by (inr h) =
+        let long : length (take 10 queue) ≡ 10 = length-take-le 10 queue h in
+        queue_prefix units 10 (take 10 queue) gs (omega (arith, long))
+        ∙ (take_all 10 (take 10 queue) (omega (arith, long))
+        ∙ sym (queue_prefix units 10 queue gs h))
+
+-- one name more, which is known, or for which there is no place, or which is kept
+pub kept_known : (units : List (List ℕ × ℕ)) (queue : List UnitReference) (g : UnitReference)
+    → length queue ≤ 10 → is_already_known units queue g.name ≡ true
+    → queue ≡ take 10 (requested_from units queue (g ∷ []))
+kept_known units queue g h e = rw e (sym (take_all 10 queue h))
+
+pub kept_full : (units : List (List ℕ × ℕ)) (queue : List UnitReference) (g : UnitReference)
+    → length queue ≡ 10 → is_already_known units queue g.name ≡ false
+    → queue ≡ take 10 (requested_from units queue (g ∷ []))
+kept_full units queue g h e =
+    rw e (sym (take-append-le 10 queue (g ∷ []) (omega arith)
+    ∙ take_all 10 queue (omega arith)))
+
+-- one record more
+pub references-cons : (file slot rec : ℕ) (r : Record) (rs : List Record)
+    → unit_references file slot rec (r ∷ rs)
+    ≡ unit_references file slot rec (r ∷ []) ++ unit_references file slot (rec + 1) rs
+references-cons file slot rec r rs = grind arith
+
+-- the names that a record requests, and then those of the records after it
+pub kept_more : (units : List (List ℕ × ℕ)) (queue now : List UnitReference)
+    (file slot rec : ℕ) (r : Record) (rs : List Record)
+    → now ≡ take 10 (requested_from units queue (unit_references file slot rec (r ∷ [])))
+    → take 10 (requested_from units now (unit_references file slot (rec + 1) rs))
+    ≡ take 10 (requested_from units queue (unit_references file slot rec (r ∷ rs)))
+kept_more units queue now file slot rec r rs is =
+    grind (arith, kept, references-cons, requested-append)
+
+-- the names that a segment requests, and then those of the segments after it
+pub kept_segment : (units : List (List ℕ × ℕ)) (queue now one rest all : List UnitReference)
+    → all ≡ one ++ rest → now ≡ take 10 (requested_from units queue one)
+    → take 10 (requested_from units now rest) ≡ take 10 (requested_from units queue all)
+kept_segment units queue now one rest all split is = grind (arith, kept, requested-append)
+
+-- the rounds, one by one
+module _ (order : Order) (host : List ℕ) (libs : List (List ℕ)) (units : List (List ℕ × ℕ))
+    (k : ℕ) (queue : List UnitReference) where
+  pub no_name_left : (left : List ℕ) → slice_get queue k ≡ None
+      → rounds_from order host libs units left k queue ≡ record { added = []; fault = None }
+  no_name_left [] h = rw h refl
+  no_name_left (slot ∷ left) h = rw (h, rounds_from) refl
+
+  pub no_slot_left : (g : UnitReference) → slice_get queue k ≡ Some g
+      → rounds_from order host libs units [] k queue
+      ≡ record { added = []; fault = Some (unplaced_fault order libs g) }
+  no_slot_left g h = rw h refl
+
+  pub round_refused : (slot : ℕ) (left : List ℕ) (g : UnitReference) (f : Fault)
+      → slice_get queue k ≡ Some g → placed_fault order host libs g slot ≡ Some f
+      → rounds_from order host libs units (slot ∷ left) k queue
+      ≡ record { added = []; fault = Some f }
+  round_refused slot left g f h e = grind arith
+
+  pub round_adds : (slot : ℕ) (left : List ℕ) (g : UnitReference) (s : Segment)
+      → slice_get queue k ≡ Some g → placed_fault order host libs g slot ≡ None
+      → added_segment order host libs g slot ≡ Some s
+      → rounds_from order host libs units (slot ∷ left) k queue
+      ≡ after s (rounds_from order host libs units left (k + 1)
+      (requested_from units queue (unit_references s.file s.slot 0 s.records)))
+  round_adds slot left g s h e f = grind arith
+
+-- segments that were added before the rounds that are left
+abbrev pub joined : List Segment → RoundsOutcome → RoundsOutcome
+joined xs r = record { added = xs ++ r.added; fault = r.fault }
+
+pub joined_more : (xs : List Segment) (s : Segment) (r : RoundsOutcome)
+    → joined xs (after s r) ≡ joined (xs ++ s ∷ []) r
+joined_more xs s r = grind (arith, append_assoc)
+
+-- the k-th name, as the queue that is kept has it
+pub at_round : (queue items : List UnitReference) (i n : ℕ) (o : Option UnitReference)
+    → items ≡ take 10 queue → i < 10 → n ≡ i → o ≡ slice_get items n
+    → slice_get queue i ≡ o
+at_round queue items i n o is lt same h = grind arith
+
+-- what is kept of a queue has ten names at most
+pub few_kept : (queue : List UnitReference) → length (take 10 queue) ≤ 10
+few_kept queue = omega (arith, length-take 10 queue)
+
+-- one number more, where it passes
+pub filter_more : (test : ℕ → Bool) (xs : List ℕ) (i n : ℕ) → i < n
+    → xs ++ filter test (range_with_len i (n - i)) ≡ (xs ++ (if test i then i ∷ [] else []))
+    ++ filter test (range_with_len (i + 1) (n - (i + 1)))
+filter_more test xs i n lt = grind (arith, append_assoc, append-nil)
+
+pub all_if : (P : ℕ → Type 0) (b : Bool) (xs : List ℕ) (i : ℕ) → All P xs → P i
+    → All P (xs ++ (if b then i ∷ [] else []))
+all_if P true xs i all h = All-append P xs (i ∷ []) all (All-cons P i [] h (All-nil P))
+all_if P false xs i all h = All-append P xs [] all (All-nil P)
+
+pub few_if : (b : Bool) (xs : List ℕ) (i n m : ℕ) → length xs + m ≤ i → n ≡ i + 1
+    → length (xs ++ (if b then i ∷ [] else [])) + m ≤ n
+few_if b xs i n m h e = grind (arith, length-append)

@@ -1,0 +1,30 @@
+use Rattle.ps_reading.proofs.Vocabulary.{◌≡◌, ◌∙◌, ℕ, List, Bor, ap, OpenedFile, contents, HostFiles}
+use Rattle.ps_reading.proofs.ReadingSlots.{units_last}
+use Rattle.ps_reading.proofs.reading.HostReading.of.Goals as goal
+
+files_of : (libs : List (Bor (List ℕ))) (a b : OpenedFile) → a ≡ b
+    → ◌≡◌ {A = HostFiles} (record { order = a.order; file = a.file; libs = contents libs })
+    (record { order = b.order; file = b.file; libs = contents libs })
+files_of libs a b e = ap (λ (o : OpenedFile). record
+    { order = o.order; file = o.file; libs = contents libs }) e
+
+pub returns : goal.returns
+returns c = files_of c.args.libs.now c.of-slots.result c.args.dict c.of-slots.ensures
+
+pub invariant_of-result : goal.invariant_of-result
+invariant_of-result c =
+    let host = c.of-slots.result in
+    let libs = contents c.args.libs.now in
+    let own = c.read_own-own in
+    let added = c.read_added-added in
+    record {
+      whole = rw c.of-slots.ensures c.requires;
+      slots_left = added.ensures.empty;
+      all = added.ensures.all;
+      read = added.ensures.read;
+      requested = added.ensures.requested;
+      following = added.ensures.following;
+      ends = added.ensures.ends;
+      first = c.or.ensures ∙ units_last host.order host.file libs own.result added.result.fault
+          own.ensures.first added.ensures.ends;
+    }

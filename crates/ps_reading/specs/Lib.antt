@@ -1,0 +1,9 @@
+pub mod Searches
+pub mod Sources
+pub mod Faults
+pub mod Requests
+pub mod Added
+pub mod Readings
+pub mod KnownSegments
+pub mod OfLink
+pub mod Standing

@@ -1,0 +1,16 @@
+//! What a link reads: of each slot of the host its segment or its fault, the units that are requested
+//! and added, and the first fault of the files.
+#![tactic(auto)]
+
+mod locations;
+mod reading;
+mod slot_name_law;
+
+pub use locations::{EntryAt, RecordAt, ReferenceAt, SegmentAt};
+pub use reading::added::UnitReference;
+pub use reading::request::{Request, Requester};
+pub use reading::segment::{Resolvable, Segment};
+pub use reading::slots::{HOST_FILE, HostSlots};
+pub use reading::unit_slots::{UnitSlots, is_same_name};
+pub use reading::{AddedUnits, HostReading, Reading, read, read_added, read_own, slot_names};
+pub use slot_name_law::slot_names_are_whole;

@@ -1,0 +1,492 @@
+ghost use Rattle.std.specs.Prelude.{◌≡◌, ◌<◌, ◌≤◌, [], length, slice_get, None, Some, Ok, Err, IfOk, IfErr, IfSome, All, option_and_then, find};
+ghost use Rattle.std.specs.Option.{option_map, option_or};
+ghost use Rattle.std.specs.Result.{result_ok};
+ghost use Rattle.ps_codefile.specs.Dictionary.{entry_at, role_of, opened_beside};
+ghost use Rattle.ps_reading.specs.Sources.{order_of, contents, opened, opened_files};
+ghost use Rattle.ps_reading.specs.Added.{request_of, empty_slots as empty_slots_spec, segments as all_segments, slot_name as slot_name_spec, slot_names as slot_names_spec};
+ghost use Rattle.ps_reading.specs.Faults.{slots_fault as slots_fault_spec, no_host_fault as no_host_fault_spec, libraries_fault as libraries_fault_spec};
+ghost use Rattle.ps_reading.specs.Readings.{reading_fault, all_read, host_reading_fault, opened_host, own_reading_fault, queued_request as queued_request_spec, read_requests, read_rounds, read_segments, segments_read, named_entry, slot_after, slot_entry, slot_fault, slot_reading, slot_request, wanted_request};
+ghost use Rattle.ps_reading.specs.OfLink.{AreOfLink};
+ghost use Rattle.ps_reading.specs.KnownSegments.{IsRead, IsSound, is_in_slot};
+
+pub(crate) mod added;
+pub(crate) mod entries;
+pub(crate) mod libraries;
+pub(crate) mod request;
+pub(crate) mod segment;
+pub(crate) mod slots;
+pub(crate) mod sources;
+pub(crate) mod unit_slots;
+pub(crate) mod units;
+
+use crate::locations::EntryAt;
+use crate::reading::added::{UnitReference, add_units, empty_slots, requested_by, slot_at};
+use crate::reading::libraries::libraries_fault;
+use crate::reading::request::{Request, unit_named};
+use crate::reading::segment::Segment;
+use crate::reading::slots::{HOST_FILE, HostSlots, no_host_fault, slots_fault};
+use crate::reading::sources::{read_slot, read_slots};
+use crate::reading::unit_slots::UnitSlots;
+use arrayvec::ArrayVec;
+use ps_codefile::dictionary_layout::SLOTS;
+use ps_codefile::{Dict, Entry, Role};
+use ps_words::{Fault, Name, Order, Reason};
+use std::marker::Model;
+
+/// The segment that is in a slot.
+fn segment_in<'s, 'a>(segments: &'s [Segment<'a>], slot: u8) -> Option<&'s Segment<'a>>
+    ensures { option_map (λ s. s.now) result ≡ find (is_in_slot slot) segments.now }
+{
+    for segment in segments {
+        if segment.slot == slot {
+            return Some(segment);
+        }
+    }
+    None
+}
+
+/// The name of a slot in the linked file.
+fn slot_name(host: &HostSlots, segments: &[Segment], slot: u8) -> Name
+    requires { slot < 16 }
+    ensures { result ≡ slot_name_spec host.now.file segments.now slot }
+{
+    match segment_in(segments, slot) {
+        Some(segment) => segment.name,
+        None => host.entry(slot).name,
+    }
+}
+
+/// The names of all slots, 0 to 15, in the linked file of this host: of each slot that one of these
+/// segments is in that segment's name, and of the others the host's own.
+/// Source: this project's profile.
+pub fn slot_names(host: &HostSlots, segments: &[Segment]) -> [Name; 16]
+    ensures { result ≡ slot_names_spec host.now.file segments.now }
+{
+    let mut names = [[0; 8]; SLOTS as usize];
+    for slot in 0..SLOTS {
+        names[slot as usize] = slot_name(host, segments, slot);
+    }
+    names
+}
+
+/// The first fault of the slots of the host, of its want of a host segment, or of the libraries.
+fn files_fault(host: &HostSlots, libs: &[&[u8]]) -> Option<Fault>
+    ensures { result ≡ option_or (slots_fault_spec host.now.order host.now.file)
+        (option_or (no_host_fault_spec host.now.order host.now.file)
+        (libraries_fault_spec host.now.order (contents libs.now))) }
+{
+    if let Some(fault) = slots_fault(host) {
+        return Some(fault);
+    }
+    if let Some(fault) = no_host_fault(host) {
+        return Some(fault);
+    }
+    libraries_fault(host.order(), libs)
+}
+
+/// What was requested in the rounds that add units to the own segments of a host.
+/// Source: this project's profile.
+#[derive(Drop)]
+pub struct AddedUnits {
+    /// The empty slots that a unit may be added in, 7 to 15, ascending.
+    pub empty: ArrayVec<u8, 9>,
+    /// The names that are requested, each with the record that first gave it, ten at most.
+    pub queue: ArrayVec<UnitReference, 10>,
+    /// The empty slot after those that were given, if one is left.
+    pub next: Option<u8>,
+    /// The fault of the first unit that could not be added, which ends the rounds.
+    pub fault: Option<Fault>,
+}
+
+/// Reads the own slots of a host and its libraries: fills the table, which has to be empty, with the
+/// own segments that have no fault, by slot ascending, and returns the first fault: of the slots, of
+/// the want of a host segment, of the libraries, or of the sources of the slots.
+/// Source: this project's profile.
+pub fn read_own<'a>(
+    host: &HostSlots<'a>,
+    libs: &'a [&'a [u8]],
+    segments: &mut ArrayVec<Segment<'a>, 16>,
+) -> Option<Fault>
+    requires { segments.old.items ≡ [] }
+    ensures first { result ≡ own_reading_fault host.now.order host.now.file (contents libs.now) }
+    ensures segments { segments.new.items
+        ≡ read_segments host.now.order host.now.file (opened host.now.order libs.now) }
+    ensures read { All (IsRead host.now.order host.now.file (opened host.now.order libs.now))
+        segments.new.items }
+{
+    let sources = read_slots(host, libs, segments);
+    files_fault(host, libs).or(sources)
+}
+
+/// Adds the units that records request to the own segments of a host, which `read_own` has read into
+/// the table, each in its place by slot, and returns what was requested, with the fault of the first
+/// unit that cannot be added. A function by itself, so that the queue takes room of the stack only
+/// until it returns.
+/// Source: this project's profile.
+#[inline(never)]
+pub fn read_added<'a>(
+    host: &HostSlots<'a>,
+    libs: &'a [&'a [u8]],
+    segments: &mut ArrayVec<Segment<'a>, 16>,
+) -> AddedUnits
+    requires own { segments.old.items
+        ≡ read_segments host.now.order host.now.file (opened host.now.order libs.now) }
+    requires read { All (IsRead host.now.order host.now.file (opened host.now.order libs.now))
+        segments.old.items }
+    ensures all { segments.new.items
+        ≡ all_read host.now.order host.now.file (opened host.now.order libs.now) }
+    ensures read { All (IsRead host.now.order host.now.file (opened host.now.order libs.now))
+        segments.new.items }
+    ensures empty { result.empty.items ≡ empty_slots_spec host.now.order host.now.file }
+    ensures requested { result.queue.items
+        ≡ read_requests host.now.order host.now.file (opened host.now.order libs.now) }
+    ensures following { result.next
+        ≡ slot_after (read_rounds host.now.order host.now.file (opened host.now.order libs.now))
+        (empty_slots_spec host.now.order host.now.file) }
+    ensures ends { result.fault
+        ≡ (read_rounds host.now.order host.now.file (opened host.now.order libs.now)).fault }
+{
+    let own = segments.len();
+    let empty = empty_slots(host);
+    let units = UnitSlots::of(segments.as_slice());
+    let mut queue = requested_by(&units, segments.as_slice());
+    let rounds = add_units(host, libs, &units, empty.as_slice(), &mut queue, segments);
+    let next = slot_at(&empty, segments.len() - own);
+    AddedUnits {
+        empty,
+        queue,
+        next,
+        fault: rounds.err(),
+    }
+}
+
+/// The request of a slot that wants a unit.
+fn own_request(host: &HostSlots, slot: u8) -> Option<Request>
+    requires { slot < 16 }
+    ensures { result ≡ option_and_then (wanted_request host.now.order host.now.file slot)
+        (result_ok (role_of (entry_at host.now.order host.now.file slot))) }
+{
+    match host.role(slot) {
+        Ok(Role::Wanted) => Some(Request::of_slot(host, slot)),
+        Ok(Role::Empty | Role::Plain | Role::Host | Role::Unit) | Err(_) => None,
+    }
+}
+
+/// The request of a name of the queue that takes this empty slot.
+fn queued_request(queue: &[UnitReference], empty: &[u8], slot: u8) -> Option<Request>
+    ensures { result ≡ queued_request_spec queue.now empty.now slot }
+{
+    for (k, other) in empty.iter().enumerate() {
+        if *other == slot {
+            return requested_from_queue(queue, k, slot);
+        }
+    }
+    None
+}
+
+/// The request of the k-th name of the queue, which takes this slot, where there are so many.
+fn requested_from_queue(queue: &[UnitReference], k: usize, slot: u8) -> Option<Request>
+    ensures { result ≡ option_map (λ g. request_of g slot) (slice_get queue.now k) }
+{
+    match queue.get(k) {
+        None => None,
+        Some(requested) => Some(requested.in_slot(slot)),
+    }
+}
+
+/// What was read of a host that can be opened, and of its libraries: of each slot its segment or
+/// its fault, also after the first fault.
+///
+/// It borrows the files and copies none of them.
+/// Source: the segment dictionary, UCSD Pascal II.0 manual, code file format; which units are added,
+/// and which fault is first, this project's profile.
+#[derive(Drop)]
+pub struct HostReading<'a> {
+    slots: HostSlots<'a>,
+    libs: &'a [&'a [u8]],
+    /// The empty slots that a unit may be added in, ascending.
+    empty: ArrayVec<u8, 9>,
+    /// The segments that have no fault, by slot ascending.
+    segments: ArrayVec<Segment<'a>, 16>,
+    /// The names that are requested.
+    queue: ArrayVec<UnitReference, 10>,
+    /// The empty slot after those that were given.
+    next: Option<u8>,
+    /// The fault of the first unit that could not be added.
+    last: Option<Fault>,
+    /// The first fault.
+    fault: Option<Fault>,
+}
+
+impl<'a> Model for HostReading<'a> {
+    ghost use Rattle.ps_reading.specs.Sources.{contents};
+    ghost use Rattle.ps_reading.specs.Readings.{HostFiles, IsReading};
+
+    ghost Value = { HostFiles };
+
+    ghost view = { λ r. record { order = r.slots.order; file = r.slots.file; libs = contents r.libs.now } };
+
+    ghost invariant = { λ r. IsReading r.slots.order r.slots.file (contents r.libs.now) r.empty.items r.segments.items r.queue.items r.next r.last r.fault };
+}
+
+impl<'a> HostReading<'a> {
+    /// Reads the slots of a host that was opened, and its libraries.
+    fn of(dict: Dict<'a>, libs: &'a [&'a [u8]]) -> HostReading<'a>
+        requires { 512 ≤ length dict.file }
+        ensures { result
+            ≡ record { order = dict.entry.order; file = dict.entry.file; libs = contents libs.now } }
+    {
+        let slots = HostSlots::of(dict);
+        let mut segments = ArrayVec::new();
+        let own = read_own(&slots, libs, &mut segments);
+        let added = read_added(&slots, libs, &mut segments);
+        HostReading {
+            slots,
+            libs,
+            empty: added.empty,
+            segments,
+            queue: added.queue,
+            next: added.next,
+            last: added.fault,
+            fault: own.or(added.fault),
+        }
+    }
+
+    /// The first fault of the host and its libraries, in their order: of the host's slots, of its
+    /// want of a host segment, of the libraries, of the sources of its slots, and of the units that
+    /// are added.
+    /// Source: this project's profile.
+    pub fn fault(&self) -> Option<Fault>
+        ensures { result ≡ host_reading_fault self.now.order self.now.file self.now.libs }
+    {
+        self.fault
+    }
+
+    /// The byte order of the host.
+    /// Source: UCSD Pascal II.0 manual, code file format.
+    pub fn order(&self) -> Order
+        ensures { result ≡ self.now.order }
+    {
+        self.slots.order()
+    }
+
+    /// What the host's dictionary says of a slot, 0 to 15.
+    /// Source: UCSD Pascal II.0 manual, code file format.
+    pub fn entry(&self, slot: u8) -> Entry
+        requires { slot < 16 }
+        ensures { result ≡ entry_at self.now.order self.now.file slot }
+    {
+        self.slots.entry(slot)
+    }
+
+    /// What a slot of the host, 0 to 15, is for, or why its kind is refused.
+    /// Source: this project's profile.
+    pub fn role(&self, slot: u8) -> Result<Role, Reason>
+        requires { slot < 16 }
+        ensures { result ≡ role_of (entry_at self.now.order self.now.file slot) }
+    {
+        self.slots.role(slot)
+    }
+
+    /// The request for a unit that a slot, 0 to 15, has, if it has one: its own, where it wants a unit,
+    /// or that of a name that is requested, which takes the slot if it is empty.
+    /// Source: this project's profile.
+    #[tactic(auto, using(crate::proofs::ReadingSlots::request_by))]
+    pub fn request(&self, slot: u8) -> Option<Request>
+        requires { slot < 16 }
+        ensures { result ≡ slot_request self.now.order self.now.file
+            (opened_files self.now.order self.now.libs) slot }
+    {
+        if let Some(request) = own_request(&self.slots, slot) {
+            return Some(request);
+        }
+        queued_request(self.queue.as_slice(), self.empty.as_slice(), slot)
+    }
+
+    /// Why a slot has no segment.
+    #[tactic(auto, using(crate::proofs::ReadingSlots::next_by, crate::proofs::ReadingSlots::none_by, crate::proofs::ReadingSlots::other_by))]
+    fn fault_in(&self, slot: u8) -> Option<Fault>
+        requires { slot < 16 }
+        ensures { result ≡ slot_fault self.now.order self.now.file
+            (opened_files self.now.order self.now.libs) slot }
+    {
+        if let Err(fault) = read_slot(&self.slots, self.libs, slot, self.segments.as_slice()) {
+            return Some(fault);
+        }
+        match self.next {
+            Some(next) if next == slot => self.last,
+            _ => None,
+        }
+    }
+
+    /// What was read of a slot, 0 to 15: its segment, or the first fault of its source or of the
+    /// unit that would be added there; `None` where it has none of its own and no unit is added.
+    /// Source: this project's profile.
+    #[tactic(auto, using(crate::proofs::EachSegment::find_has))]
+    pub fn segment(&self, slot: u8) -> Option<Result<&Segment<'a>, Fault>>
+        requires { slot < 16 }
+        ensures read { IfSome result (λ r. IfOk r (λ s. slot_reading self.now.order self.now.file
+            (opened_files self.now.order self.now.libs) slot ≡ Some (Ok s.now))) }
+        ensures refused { IfSome result (λ r. IfErr r (λ f. slot_reading self.now.order
+            self.now.file (opened_files self.now.order self.now.libs) slot ≡ Some (Err f))) }
+        ensures none { result ≡ None → slot_reading self.now.order self.now.file
+            (opened_files self.now.order self.now.libs) slot ≡ None }
+        ensures sound { IfSome result (λ r. IfOk r (λ s. IsSound self.now.order s.now)) }
+    {
+        if let Some(fault) = self.fault_in(slot) {
+            return Some(Err(fault));
+        }
+        match segment_in(self.segments.as_slice(), slot) {
+            None => None,
+            Some(segment) => Some(Ok(segment)),
+        }
+    }
+
+    /// The entry that has the unit of a name.
+    fn entry_of_unit(&self, name: Name) -> Option<EntryAt>
+        ensures { option_map (λ p. (p.file, p.index)) result
+            ≡ named_entry self.now.order (opened_files self.now.order self.now.libs) name }
+    {
+        match unit_named(&self.slots, name, self.libs) {
+            None => None,
+            Some((_, place)) => Some(place),
+        }
+    }
+
+    /// Where the segment of a slot, 0 to 15, comes from, also where it is refused: `None` where it
+    /// has none, or where no library has the unit that it wants or that is requested.
+    /// Source: this project's profile.
+    pub fn source(&self, slot: u8) -> Option<EntryAt>
+        requires { slot < 16 }
+        ensures { option_map (λ p. (p.file, p.index)) result ≡ slot_entry self.now.order
+            self.now.file (opened_files self.now.order self.now.libs) slot }
+    {
+        if let Some(request) = self.request(slot) {
+            return self.entry_of_unit(request.name);
+        }
+        match self.role(slot) {
+            Ok(Role::Plain | Role::Host | Role::Unit) => Some(EntryAt {
+                file: HOST_FILE,
+                index: slot,
+            }),
+            Ok(Role::Empty | Role::Wanted) | Err(_) => None,
+        }
+    }
+
+    /// The library of this index, from 0, read beside the host, or why it cannot be opened; `None`
+    /// where there are not so many.
+    /// Source: this project's profile.
+    pub fn library(&self, index: usize) -> Option<Result<Dict<'a>, Reason>>
+        ensures { result
+            ≡ option_map (opened_beside self.now.order) (slice_get self.now.libs index) }
+    {
+        match self.libs.get(index) {
+            None => None,
+            Some(lib) => Some(Dict::read_beside(lib, self.slots.order())),
+        }
+    }
+
+    /// The names that are requested and that no unit of the host has, each with the UNITREF record
+    /// that first gave it, in that order; of more than ten the first ten.
+    /// Source: this project's profile.
+    pub fn requested(&self) -> &[UnitReference]
+        ensures { result.now
+            ≡ read_requests self.now.order self.now.file (opened_files self.now.order self.now.libs) }
+    {
+        self.queue.as_slice()
+    }
+
+    /// The segments that have no fault, by slot ascending.
+    /// Source: this project's profile.
+    pub fn segments(&self) -> &[Segment<'a>]
+        ensures { result.now
+            ≡ all_read self.now.order self.now.file (opened_files self.now.order self.now.libs) }
+    {
+        self.segments.as_slice()
+    }
+}
+
+/// What was read of the files of a link.
+/// Source: this project's profile.
+#[derive(Drop)]
+pub struct Reading<'a> {
+    file: &'a [u8],
+    libs: &'a [&'a [u8]],
+    host: Result<HostReading<'a>, Reason>,
+}
+
+impl<'a> Model for Reading<'a> {
+    ghost use Rattle.std.specs.Prelude.{◌≡◌};
+    ghost use Rattle.ps_reading.specs.Sources.{contents};
+    ghost use Rattle.ps_reading.specs.Readings.{ReadFiles, opened_host};
+
+    ghost Value = { ReadFiles };
+
+    ghost view = { λ r. record { host = r.file.now; libs = contents r.libs.now } };
+
+    ghost invariant = { λ r. r.host ≡ opened_host r.file.now (contents r.libs.now) };
+}
+
+/// Reads a host file and the libraries that have the units it wants, in their order. It takes no
+/// memory, and refuses nothing: what is wrong with the files is in what it returns.
+///
+/// Source: this project's profile.
+pub fn read<'a>(host: &'a [u8], libs: &'a [&'a [u8]]) -> Reading<'a>
+    ensures { result ≡ record { host = host.now; libs = contents libs.now } }
+{
+    let read = match Dict::read(host) {
+        Err(reason) => Err(reason),
+        Ok(dict) => Ok(HostReading::of(dict, libs)),
+    };
+    Reading {
+        file: host,
+        libs,
+        host: read,
+    }
+}
+
+impl<'a> Reading<'a> {
+    /// The host as it was read, or why it cannot be opened: `ShortFile`, `NoOrder`, or `NoHost`
+    /// where all its kinds are 0.
+    /// Source: this project's profile.
+    pub fn host(&self) -> Result<&HostReading<'a>, Reason>
+        ensures opened { IfOk result (λ host. opened_host self.now.host self.now.libs
+            ≡ Ok host.now) }
+        ensures refused { IfErr result (λ reason. opened_host self.now.host self.now.libs
+            ≡ Err reason) }
+    {
+        match &self.host {
+            Err(reason) => Err(*reason),
+            Ok(host) => Ok(host),
+        }
+    }
+
+    /// The first fault of reading the files: of the host, its slots, the want of a host segment,
+    /// the libraries, the sources of the slots, and the units that are added.
+    /// Source: this project's profile.
+    #[tactic(auto, using(crate::proofs::ReadingSlots::fault_of_host))]
+    pub fn fault(&self) -> Option<Fault>
+        ensures { result ≡ reading_fault self.now.host self.now.libs }
+    {
+        match &self.host {
+            Err(reason) => Some(Fault::in_file(HOST_FILE, *reason)),
+            Ok(host) => host.fault(),
+        }
+    }
+
+    /// The segments that have no fault, by slot ascending: those of the link, where reading has no
+    /// fault, and none where the host cannot be opened.
+    /// Source: this project's profile.
+    pub fn segments(&self) -> &[Segment<'a>]
+        ensures read { result.now ≡ segments_read self.now.host self.now.libs }
+        ensures all { reading_fault self.now.host self.now.libs ≡ None → result.now
+            ≡ all_segments (order_of self.now.host) self.now.host self.now.libs }
+        ensures known { reading_fault self.now.host self.now.libs ≡ None
+            → AreOfLink self.now.host self.now.libs result.now }
+    {
+        match &self.host {
+            Err(_) => &[],
+            Ok(host) => host.segments(),
+        }
+    }
+}

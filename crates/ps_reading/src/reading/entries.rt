@@ -1,0 +1,156 @@
+ghost use Rattle.std.specs.Prelude.{◌≡◌, ◌<◌, ◌≤◌, ◌+◌, [], List, ℕ, length, true, Some, None, IfOk, if◌then◌else◌, is_some};
+ghost use Rattle.std.specs.Option.{option_map, option_map_or, option_or};
+ghost use Rattle.std.specs.Result.{result_err};
+ghost use Rattle.ps_words.specs.FaultPlaces.{in_record, in_slot as in_slot_spec};
+ghost use Rattle.ps_codefile.specs.Dictionary.{entry_at, kind_needs_linking, information_of};
+ghost use Rattle.ps_codefile.specs.Procedures.{tables_fault as tables_fault_spec};
+ghost use Rattle.ps_linkinfo.specs.Records.{reading};
+ghost use Rattle.ps_codefile.specs.Roles.{needs_linking as needs_linking_spec, is_host as is_host_spec};
+ghost use Rattle.ps_reading.specs.Sources.{file_at, information_block, records_of, segment_from, tables_of};
+ghost use Rattle.ps_reading.specs.Faults.{code_fault, information_fault};
+ghost use Rattle.ps_reading.specs.KnownSegments.{ArePlacedIn, IsRead};
+
+use crate::locations::SegmentAt;
+use crate::reading::segment::{Resolvable, Segment, records_at};
+use ps_codefile::{Dict, ProcedureDictionary, Role};
+use ps_linkinfo::LinkInformation;
+use ps_words::{Fault, Name, blocks_of};
+
+impl<'a> Default for Segment<'a> {
+    fn default() -> Self {
+        Segment {
+            slot: 0,
+            name: [0; 8],
+            role: Role::Plain,
+            added: false,
+            file: 0,
+            index: 0,
+            code: &[],
+            resolvable: None,
+        }
+    }
+}
+
+/// The block after the code of an entry, in which its link information begins.
+fn block_behind(from: &Dict, index: u8) -> usize
+    requires { index < 16 }
+    ensures { result ≡ information_block (entry_at from.now.order from.now.file index) true }
+{
+    let entry = from.entry(index);
+    entry.address as usize + blocks_of(entry.length as usize)
+}
+
+/// The link information of an entry, or its first fault. What an earlier segment has is not read
+/// again.
+fn read_information<'a>(
+    from: &Dict<'a>,
+    index: u8,
+    place: SegmentAt,
+    earlier: &[Segment<'a>],
+) -> Result<LinkInformation<'a>, Fault>
+    requires in_range { index < 16 }
+    requires placed { ArePlacedIn from.now.order from.now.file place.file earlier.now }
+    ensures fault { result_err result ≡ information_fault from.now.order from.now.file
+        (entry_at from.now.order from.now.file index) place.file place.slot }
+    ensures records { IfOk result (λ records. records ≡ (reading from.now.order
+        (information_of from.now.file (entry_at from.now.order from.now.file index))).0) }
+{
+    if let Some(records) = records_at(earlier, place.file, block_behind(from, index)) {
+        return Ok(records);
+    }
+    match LinkInformation::read(from.order(), from.after(index)) {
+        Err(fault) => Err(Fault::in_record(place.file, place.slot, fault.rec, fault.reason)),
+        Ok(records) => Ok(records),
+    }
+}
+
+/// What only a segment has whose references are resolved: its procedure tables, which are read
+/// first, and its link information; or the first fault of either. Neither is looked at where the
+/// segment is linked already.
+fn read_resolvable<'a>(
+    from: &Dict<'a>,
+    index: u8,
+    code: &'a [u8],
+    role: Role,
+    place: SegmentAt,
+    earlier: &[Segment<'a>],
+) -> Result<Option<Resolvable<'a>>, Fault>
+    requires in_range { index < 16 }
+    requires large { needs_linking_spec role ≡ true → 2 ≤ length code.now }
+    requires placed { ArePlacedIn from.now.order from.now.file place.file earlier.now }
+    ensures fault { result_err result ≡ (if needs_linking_spec role
+        then option_or (option_map (in_slot_spec place.file place.slot)
+        (tables_fault_spec from.now.order code.now (is_host_spec role)))
+        (information_fault from.now.order from.now.file
+        (entry_at from.now.order from.now.file index) place.file place.slot)
+        else None) }
+    ensures records { IfOk result (λ resolvable. option_map_or (λ c. c.records) resolvable []
+        ≡ records_of from.now.order from.now.file
+        (entry_at from.now.order from.now.file index) (needs_linking_spec role)) }
+    ensures linked { IfOk result (λ resolvable. is_some resolvable ≡ needs_linking_spec role) }
+    ensures tables { IfOk result (λ resolvable. option_map (λ c. c.procedures) resolvable
+        ≡ tables_of from.now.order code.now (needs_linking_spec role)) }
+    ensures block { IfOk result (λ resolvable. option_map_or (λ c. c.block) resolvable 0
+        ≡ information_block (entry_at from.now.order from.now.file index)
+        (needs_linking_spec role)) }
+{
+    if !role.needs_linking() {
+        return Ok(None);
+    }
+    match ProcedureDictionary::read(from.order(), code, role.is_host()) {
+        Err(reason) => Err(Fault::in_slot(place.file, place.slot, reason)),
+        Ok(procedures) => {
+            let records = read_information(from, index, place, earlier)?;
+            Ok(Some(Resolvable {
+                procedures,
+                block: block_behind(from, index),
+                records,
+            }))
+        }
+    }
+}
+
+/// The segment of a slot, whose code and link information are those of an entry of a file; the
+/// segments that were read before it are `earlier`.
+pub(crate) fn read_segment<'a>(
+    place: SegmentAt,
+    name: Name,
+    role: Role,
+    from: &Dict<'a>,
+    index: u8,
+    earlier: &[Segment<'a>],
+) -> Result<Segment<'a>, Fault>
+    requires slots { place.slot < 16 }
+    requires in_range { index < 16 }
+    requires placed { ArePlacedIn from.now.order from.now.file place.file earlier.now }
+    requires kind { needs_linking_spec role ≡ true
+        → kind_needs_linking (entry_at from.now.order from.now.file index).kind ≡ true }
+    ensures fault { (host : List ℕ) (libs : List (List ℕ))
+        → file_at host libs place.file ≡ from.now.file
+        → result_err result ≡ code_fault from.now.order host libs place.slot role
+        (place.file, index) }
+    ensures segment { (host : List ℕ) (libs : List (List ℕ))
+        → file_at host libs place.file ≡ from.now.file
+        → IfOk result (λ s. segment_from from.now.order host libs place.slot name role
+        (place.file, index) ≡ Some s) }
+    ensures read { (host : List ℕ) (libs : List (List ℕ))
+        → file_at host libs place.file ≡ from.now.file
+        → IfOk result (IsRead from.now.order host libs) }
+{
+    match from.code(index) {
+        Err(reason) => Err(Fault::in_slot(place.file, place.slot, reason)),
+        Ok(code) => {
+            let resolvable = read_resolvable(from, index, code, role, place, earlier)?;
+            Ok(Segment {
+                slot: place.slot,
+                name,
+                role,
+                added: false,
+                file: place.file,
+                index,
+                code,
+                resolvable,
+            })
+        }
+    }
+}

@@ -1,0 +1,108 @@
+ghost use Rattle.std.specs.Prelude.{◌≡◌, ◌<◌, ◌++◌, [], IfOk, IfSome, All, option_and_then};
+ghost use Rattle.std.specs.Option.{option_or, option_to_list};
+ghost use Rattle.arrayvec.specs.ArrayVec.{array_vec_len};
+ghost use Rattle.std.specs.Result.{result_err, result_ok};
+ghost use Rattle.ps_reading.specs.Sources.{own_segment, opened};
+ghost use Rattle.ps_reading.specs.Faults.{source_fault, sources_fault};
+ghost use Rattle.ps_reading.specs.Readings.{read_segments};
+ghost use Rattle.ps_reading.specs.KnownSegments.{IsRead};
+
+use crate::locations::SegmentAt;
+use crate::reading::entries::read_segment;
+use crate::reading::request::{Request, read_unit};
+use crate::reading::segment::Segment;
+use crate::reading::slots::{HOST_FILE, HostSlots, is_empty};
+use arrayvec::ArrayVec;
+use ps_codefile::Role;
+use ps_codefile::dictionary_layout::SLOTS;
+use ps_words::Fault;
+
+/// The segment of a slot, or None where the slot is empty or has a kind that was refused. `earlier`
+/// are segments that were read before. It stands in the body of its caller, so that the segment is
+/// handed up once less.
+#[inline(always)]
+pub(crate) fn read_slot<'a>(
+    host: &HostSlots<'a>,
+    libs: &'a [&'a [u8]],
+    slot: u8,
+    earlier: &[Segment<'a>],
+) -> Result<Option<Segment<'a>>, Fault>
+    requires slots { slot < 16 }
+    requires read { All (IsRead host.now.order host.now.file (opened host.now.order libs.now))
+        earlier.now }
+    ensures fault { result_err result ≡ source_fault host.now.order host.now.file
+        (opened host.now.order libs.now) slot }
+    ensures segment { IfOk result (λ s. s
+        ≡ own_segment host.now.order host.now.file (opened host.now.order libs.now) slot) }
+    ensures read { IfOk result (λ s. IfSome s
+        (IsRead host.now.order host.now.file (opened host.now.order libs.now))) }
+{
+    match host.role(slot) {
+        Err(_) => Ok(None),
+        Ok(role) => match role {
+            Role::Empty => Ok(None),
+            Role::Plain | Role::Host | Role::Unit => {
+                let place = SegmentAt {
+                    file: HOST_FILE,
+                    slot,
+                };
+                let name = host.entry(slot).name;
+                let own = read_segment(place, name, role, host.dict(), slot, earlier)?;
+                Ok(Some(own))
+            }
+            Role::Wanted => {
+                let request = Request::of_slot(host, slot);
+                let wanted = read_unit(host, libs, &request, earlier)?;
+                Ok(Some(wanted))
+            }
+        },
+    }
+}
+
+/// Adds the segment of a slot, where it has one, or keeps its fault, if it is the first.
+#[inline(always)]
+fn add_segment_or_fault<'a>(
+    segments: &mut ArrayVec<Segment<'a>, 16>,
+    first: &mut Option<Fault>,
+    read: Result<Option<Segment<'a>>, Fault>,
+)
+    requires { array_vec_len segments.old < 16 }
+    ensures segments { segments.new.items ≡ segments.old.items
+        ++ option_to_list (option_and_then (λ s. s) (result_ok read.entry)) }
+    ensures first { first.new ≡ option_or first.old (result_err read.entry) }
+{
+    match read {
+        Err(fault) => *first = first.or(Some(fault)),
+        Ok(segment) => {
+            if let Some(segment) = segment {
+                segments.push(segment);
+            }
+        }
+    }
+}
+
+/// Reads the host's own slots: fills the table with their segments, by slot ascending, and answers
+/// the first fault of their sources.
+pub(crate) fn read_slots<'a>(
+    host: &HostSlots<'a>,
+    libs: &'a [&'a [u8]],
+    segments: &mut ArrayVec<Segment<'a>, 16>,
+) -> Option<Fault>
+    requires { segments.old.items ≡ [] }
+    ensures first { result ≡ sources_fault host.now.order host.now.file
+        (opened host.now.order libs.now) }
+    ensures segments { segments.new.items
+        ≡ read_segments host.now.order host.now.file (opened host.now.order libs.now) }
+    ensures read { All (IsRead host.now.order host.now.file (opened host.now.order libs.now))
+        segments.new.items }
+{
+    let mut first = None;
+    for slot in 0..SLOTS {
+        if is_empty(host, slot) {
+            continue;
+        }
+        let read = read_slot(host, libs, slot, segments.as_slice());
+        add_segment_or_fault(segments, &mut first, read);
+    }
+    first
+}

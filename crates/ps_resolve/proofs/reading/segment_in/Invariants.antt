@@ -1,7 +1,0 @@
-use Rattle.ps_resolve.proofs.Vocabulary.{◌≡◌, drop, find, is_in_slot}
-use Rattle.ps_resolve.proofs.reading.segment_in.Given as goal
-
--- the segment is looked for in what is left
-abbrev pub invariant-loop-segment : goal.invariant-loop-segment
-invariant-loop-segment l = find (is_in_slot l.slot) l.segments
-    ≡ find (is_in_slot l.slot) (drop l.segment-index l.segments)

@@ -1,9 +1,0 @@
-use Rattle.ps_resolve.proofs.Vocabulary.{◌≡◌, length, take, map, range_with_len, slot_name}
-use Rattle.ps_resolve.proofs.reading.slot_names.Given as goal
-
--- the names so far
-abbrev pub invariant-loop-slot : goal.invariant-loop-slot
-invariant-loop-slot l = record {
-  all : length l.names ≡ 16;
-  done : take l.slot l.names ≡ map (slot_name l.host.file l.segments) (range_with_len 0 l.slot);
-}
