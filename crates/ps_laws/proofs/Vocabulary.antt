@@ -2,6 +2,7 @@
 pub use Rattle.ps_codefile.specs.Dictionary.{FileOrder, code_of, entry_at, file_order, information_of, is_nameless, opened_alone, opened_as, opened_beside_as, role_of, same_order, slots}
 pub use Rattle.ps_codefile.specs.Procedures.{ProcedureTables, content_of, dictionary_len, dictionary_start, is_placed, is_reserved, numbers, procedures, table_of, tables, tables_fault}
 pub use Rattle.ps_codefile.specs.Roles.{is_empty, is_host, is_unit, needs_linking}
+pub use Rattle.ps_codefile.specs.declared.dictionary_layout.TheConstants.{FIRST_ADDED, SLOTS}
 pub use Rattle.ps_codefile.specs.declared.entry.Entry.{Entry}
 pub use Rattle.ps_codefile.specs.declared.entry.Role.{Role}
 pub use Rattle.ps_linkinfo.specs.RecordCounts.{is_definition, is_private_reference, is_unit_reference, next_in, next_of}
@@ -40,6 +41,7 @@ pub use Rattle.ps_resolve.specs.Standing.Rounds.{InRound, IsMissing, IsRequested
 pub use Rattle.ps_resolve.specs.Standing.Segments.{IsSegment, SomeSegment}
 pub use Rattle.ps_resolve.specs.Standing.Slots.{HasRole, InNoHost, InSlots, IsUnitSlot, SlotHas}
 pub use Rattle.ps_resolve.specs.Standing.Sources.{AreBad, CodeFault, EntriesHave, EntryFault, HasBadTable, HasEntry, InSources, IsNamed, NoneHas, TablesHave, UnitFault}
+pub use Rattle.ps_resolve.specs.declared.reading.added.TheConstants.{MAX_ADDED}
 pub use Rattle.ps_resolve.specs.declared.reading.added.UnitReference.{UnitReference}
 pub use Rattle.ps_resolve.specs.declared.reading.request.Request.{Request}
 pub use Rattle.ps_resolve.specs.declared.references.Target.{Target}

@@ -1,5 +1,5 @@
 -- The segments of a link, put together slot by slot from the host's own and those that were added.
-use Rattle.ps_resolve.proofs.Vocabulary.{◌≡◌, ◌≢◌, ℕ, zero, suc, ◌+◌, ◌<◌, ◌≤◌, List, false, if◌then◌else◌, Option, Some, None, refl, ap, arith, ne_eqb, eq-eqb, range_with_len, filter_map, find, option_or, Order, is_empty, is_role}
+use Rattle.ps_resolve.proofs.Vocabulary.{◌≡◌, ◌≢◌, ℕ, zero, suc, ◌+◌, ◌<◌, ◌≤◌, List, false, if◌then◌else◌, Option, Some, None, refl, ap, arith, ne_eqb, eq-eqb, range_with_len, filter_map, find, option_or, Order, is_empty, is_role, SLOTS}
 use Rattle.ps_resolve.specs.Sources.{Segment, own_segment, own_segments}
 use Rattle.ps_resolve.specs.Added.{added_segments, segments, segment_at}
 use Rattle.ps_resolve.specs.KnownSegments.{is_in_slot, segment_in_slot, segments_in_slots}
@@ -39,9 +39,9 @@ pub in_slots_are : (order : Order) (host : List ℕ) (libs : List (List ℕ))
 unfolding segments_in_slots segments own_segments
 in_slots_are order host libs =
     same_kept (segment_in_slot order host (own_segments order host libs)
-    (added_segments order host libs)) (segment_at order host libs) 16 0
+    (added_segments order host libs)) (segment_at order host libs) SLOTS 0
     (λ i low h. ap (λ (o : Option Segment). option_or o
     (if is_role is_empty order host i then find (is_in_slot i) (added_segments order host libs)
     else None))
     (found_there (own_segment order host libs)
-    (λ j s e. (own_parts order host libs j s e).0) i 16 0 (omega arith) h))
+    (λ j s e. (own_parts order host libs j s e).0) i SLOTS 0 (omega arith) h))

@@ -1,5 +1,5 @@
 -- What is read of the slots of a host, where reading has no fault: the segments of the link.
-use Rattle.ps_resolve.proofs.Vocabulary.{arith, ◌≡◌, ℕ, List, [], ◌∷◌, ◌++◌, ◌≢◌, take, Option, Some, None, Result, Ok, Err, refl, ◌∙◌, filter_map, option_and_then, option_or, result_ok, Order, in_file, Fault, Reason, OpenedFile, entry_at, opened_alone, role_of, slots, first_of, reading_fault, Request, segments_in_slots}
+use Rattle.ps_resolve.proofs.Vocabulary.{arith, ◌≡◌, ℕ, List, [], ◌∷◌, ◌++◌, ◌≢◌, take, Option, Some, None, Result, Ok, Err, refl, ◌∙◌, filter_map, option_and_then, option_or, result_ok, Order, in_file, Fault, Reason, OpenedFile, entry_at, opened_alone, role_of, slots, first_of, reading_fault, Request, segments_in_slots, MAX_REQUESTED}
 use Rattle.ps_resolve.specs.Sources.{Segment, own_segment, own_segments, opened_files, order_of, units_of}
 use Rattle.ps_resolve.specs.Faults.{slots_fault, no_host_fault, libraries_fault, source_fault, sources_fault}
 use Rattle.ps_resolve.specs.Added.{RoundsOutcome, all_unit_references, empty_slots, requested_from, rounds, rounds_in, segments}
@@ -84,7 +84,7 @@ module _ (order : Order) (host : List ℕ) (libs : List (List ℕ)) where
       unfolding all_read
       all_of = grind arith
 
-      pub requests_of : take 10 (requested_from (units_of own) []
+      pub requests_of : take MAX_REQUESTED (requested_from (units_of own) []
           (all_unit_references (own ++ added))) ≡ read_requests order host files
       unfolding read_requests
       requests_of = grind arith

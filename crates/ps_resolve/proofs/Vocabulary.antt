@@ -2,6 +2,7 @@
 pub use Rattle.ps_codefile.specs.Dictionary.{FileOrder, OpenedFile, code_of, entry_at, file_order, is_nameless, kind_needs_linking, name_at, opened_alone, opened_as, opened_beside, opened_beside_as, role_of, role_of_kind, slots}
 pub use Rattle.ps_codefile.specs.Procedures.{ProcedureTables, is_reserved, procedures, table_of, tables_fault, unless}
 pub use Rattle.ps_codefile.specs.Roles.{is_empty, is_host, needs_linking}
+pub use Rattle.ps_codefile.specs.declared.dictionary_layout.TheConstants.{FIRST_ADDED, SLOT_COUNT, SLOTS}
 pub use Rattle.ps_codefile.specs.declared.entry.Entry.{Entry}
 pub use Rattle.ps_codefile.specs.declared.entry.Role.{Role}
 pub use Rattle.ps_codefile.specs.declared.entry.Role.TheVariants.{Empty, Wanted}
@@ -36,6 +37,7 @@ pub use Rattle.ps_resolve.specs.declared.allotment.Private.{Private}
 pub use Rattle.ps_resolve.specs.declared.allotment.TheConstants.{MAX_NEXT_FREE}
 pub use Rattle.ps_resolve.specs.declared.edit_table.PlaceState.{PlaceState}
 pub use Rattle.ps_resolve.specs.declared.linkage.Stop.{Stop}
+pub use Rattle.ps_resolve.specs.declared.reading.added.TheConstants.{MAX_ADDED, MAX_REQUESTED}
 pub use Rattle.ps_resolve.specs.declared.reading.added.UnitReference.{UnitReference}
 pub use Rattle.ps_resolve.specs.declared.reading.request.Request.{Request}
 pub use Rattle.ps_resolve.specs.declared.references.Target.{Target}

@@ -1,6 +1,6 @@
 -- What is known of the segments that were read, and which of them is in which slot.
 -- Source: this project's profile.
-use Rattle.std.specs.Prelude.{◌≡◌, ◌≤◌, ◌*◌, ◌==◌, nat_lt, if◌then◌else◌, ℕ, All, List, [], ◌∷◌, length, drop, Bool, true, Option, Some, None, ◌&&◌}
+use Rattle.std.specs.Prelude.{◌≡◌, ◌≤◌, ◌*◌, ◌==◌, nat_lt, if◌then◌else◌, ℕ, All, List, [], ◌∷◌, length, drop, Bool, true, Option, Some, None, ◌&&◌, ◌<◌}
 use Rattle.std.specs.List.{find, filter_map, list_any, Contains}
 use Rattle.std.specs.Option.{option_or}
 use Rattle.ps_words.specs.declared.order.Order.{Order}
@@ -11,6 +11,7 @@ use Rattle.ps_codefile.specs.Procedures.{tables_fault}
 use Rattle.ps_codefile.specs.Roles.{needs_linking, is_host, is_empty}
 use Rattle.ps_resolve.specs.Sources.{Segment, file_at}
 use Rattle.ps_resolve.specs.Faults.{is_role}
+use Rattle.ps_codefile.specs.declared.dictionary_layout.TheConstants.{SLOTS}
 
 -- the records of each segment that is from this file, which has this number, are all that are in
 -- its block there and after it, where its references are resolved
@@ -68,7 +69,7 @@ pub record IsSound (order : Order) (s : Segment) : Type 0 where
   pub tables : needs_linking s.role ≡ true → tables_fault order s.code (is_host s.role) ≡ None
   pub kept : needs_linking s.role ≡ true
       → s.tables ≡ Some (record { order = order; code = s.code })
-  pub slot : s.slot ≤ 15
+  pub slot : s.slot < SLOTS
 
 -- a segment as the files have it: its records, if its references are resolved, are all that are in
 -- its block of its file and after it, and it is sound

@@ -17,6 +17,7 @@ use Rattle.ps_resolve.specs.References.{Known, HaveTargets}
 use Rattle.ps_resolve.specs.KnownSegments.{IsSound, IsLike, AreAlike}
 use Rattle.ps_resolve.specs.declared.reading.host.HostSegment.{HostSegment}
 use Rattle.ps_words.specs.declared.words.TheConstants.{MAX_WORD}
+use Rattle.ps_codefile.specs.declared.dictionary_layout.TheConstants.{SLOT_COUNT}
 
 -- This is what each slot of a host is for, or why its kind is refused.
 abbrev pub AreSlots : OpenedFile → List (Result Role Reason) → Type 0
@@ -50,7 +51,7 @@ pub record AreSegments (order : Order) (host : List ℕ) (names : List (List ℕ
   pub ascending : AscendFrom 0 (map (λ s. s.slot) ss)
   pub whole : 512 ≤ length host
   pub alike : AreAlike ss
-  pub most : length ss ≤ 16
+  pub most : length ss ≤ SLOT_COUNT
   pub named : names ≡ slot_names host ss
 
 -- the byte order of the files, the host file, the names of the slots of the linked file, the host's

@@ -34,7 +34,7 @@ impl Model for UnitSlots {
 impl UnitSlots {
     /// Those of the units among these segments, of which there are sixteen at most.
     pub(crate) fn of(segments: &[Segment]) -> UnitSlots
-        requires { length segments.now ≤ 16 }
+        requires { length segments.now ≤ SLOT_COUNT }
         ensures { result ≡ units_of segments.now }
     {
         let mut by_name = ArrayVec::new();

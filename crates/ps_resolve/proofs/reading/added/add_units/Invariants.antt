@@ -1,4 +1,4 @@
-use Rattle.ps_resolve.proofs.Vocabulary.{◌≡◌, ◌<◌, ◌≤◌, ◌+◌, ℕ, List, length, take, drop, All, Segment, opened, all_unit_references, requested_from, rounds_from, AscendFrom, segments_in_slots, IsRead, UnitReference}
+use Rattle.ps_resolve.proofs.Vocabulary.{◌≡◌, ◌<◌, ◌≤◌, ◌+◌, ℕ, List, length, take, drop, All, Segment, opened, all_unit_references, requested_from, rounds_from, AscendFrom, segments_in_slots, IsRead, UnitReference, MAX_REQUESTED}
 use Rattle.ps_resolve.proofs.RequestQueue.{joined}
 use Rattle.ps_resolve.proofs.reading.added.add_units.Given as goal
 
@@ -16,13 +16,13 @@ invariant-loop-round l =
           × (AscendFrom from (drop l.round l.slots))
           × (l.segments.items ≡ segments_in_slots order l.host.file old added)
           × (length l.segments.items ≡ length old + length added)
-          × ((whole : List UnitReference) → l.fn.queue.items ≡ take 10 whole
+          × ((whole : List UnitReference) → l.fn.queue.items ≡ take MAX_REQUESTED whole
           → (queue : List UnitReference)
           × (queue ≡ requested_from l.units whole (all_unit_references added))
-          × (l.queue.items ≡ take 10 queue)
+          × (l.queue.items ≡ take MAX_REQUESTED queue)
           × (rounds_from order l.host.file libs l.units l.slots 0 whole
           ≡ joined added (rounds_from order l.host.file libs l.units
           (drop l.round l.slots) l.round queue)));
-      short : length l.queue.items ≤ 10;
+      short : length l.queue.items ≤ MAX_REQUESTED;
       read : All (IsRead order l.host.file libs) l.segments.items;
     }

@@ -1,4 +1,4 @@
-use Rattle.ps_resolve.proofs.Vocabulary.{rules, ◌≡◌, ◌+◌, ◌<◌, ◌∙◌, ◌-◌, ℕ, List, append-nil, if◌then◌else◌, true, Option, Some, None, Result, Ok, Err, refl, sym, arith, is_none, IfOk, IfSome, option_and_then, range_with_len, option_or, result_err, result_ok, All-nil, Fault, Segment, opened, is_empty, first_of}
+use Rattle.ps_resolve.proofs.Vocabulary.{rules, ◌≡◌, ◌+◌, ◌<◌, ◌∙◌, ◌-◌, ℕ, List, append-nil, if◌then◌else◌, true, Option, Some, None, Result, Ok, Err, refl, sym, arith, is_none, IfOk, IfSome, option_and_then, range_with_len, option_or, result_err, result_ok, All-nil, Fault, Segment, opened, is_empty, first_of, SLOTS}
 use Rattle.ps_resolve.specs.Faults.{is_role, source_fault, sources_fault}
 use Rattle.ps_resolve.specs.Readings.{read_segment, read_segments}
 use Rattle.ps_resolve.proofs.BySlot.{fine_of_empty, none_of_empty}
@@ -34,9 +34,9 @@ kept_read P (Ok None) h = tt
 kept_read P (Ok (Some s)) h = h
 
 -- one fault more
-more_faults : (f : ℕ → Option Fault) (first now : Option Fault) (i : ℕ) → i < 16
-    → now ≡ f i → option_or first (first_of f (range_with_len i (16 - i)))
-    ≡ option_or (option_or first now) (first_of f (range_with_len (i + 1) (16 - (i + 1))))
+more_faults : (f : ℕ → Option Fault) (first now : Option Fault) (i : ℕ) → i < SLOTS
+    → now ≡ f i → option_or first (first_of f (range_with_len i (SLOTS - i)))
+    ≡ option_or (option_or first now) (first_of f (range_with_len (i + 1) (SLOTS - (i + 1))))
 more_faults f first now i lt is = grind arith
 
 pub loop-slot-preserved : goal.loop-slot-preserved
@@ -64,7 +64,7 @@ loop-slot-preserved-then-is_empty c =
           c.loop-slot-test.true (sym (fine_of_empty host.order host.file libs i empty)),
       fine_of_empty host.order host.file libs i empty,
       last_fault c.loop-slot.first,
-      kept_on (read_segment host.order host.file libs) old none i 16
+      kept_on (read_segment host.order host.file libs) old none i SLOTS
           c.loop-slot-test.true (sym (none_of_empty host.order host.file libs i empty)),
       none_of_empty host.order host.file libs i empty,
     )
