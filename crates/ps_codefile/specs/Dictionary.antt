@@ -2,8 +2,8 @@
 -- each, the code and the link information of an entry.
 -- Source: UCSD Pascal II.0 manual, code file format. How the byte order is found, the roles, and
 -- the tail, which is copied unread, are this project's profile.
-use Rattle.std.specs.Prelude.{◌≡◌, Result, ℕ, ◌+◌, ◌*◌, ◌%◌, ◌==◌, ◌&&◌, ◌||◌, not, if◌then◌else◌, List, [], ◌∷◌, length, slice_index, slice_range, drop, map, nat_le, nat_lt, Bool, true, false, Ok, Err}
-use Rattle.std.specs.List.{list_all}
+use Rattle.std.specs.Prelude.{◌≡◌, Result, ℕ, ◌+◌, ◌*◌, ◌%◌, ◌==◌, ◌&&◌, ◌||◌, not, if◌then◌else◌, List, length, slice_index, slice_range, drop, map, nat_le, nat_lt, Bool, true, false, Ok, Err}
+use Rattle.std.specs.List.{list_all, range_with_len}
 use Rattle.ps_words.specs.Words.{word_at, blocks}
 use Rattle.ps_words.specs.declared.order.Order.{Order}
 use Rattle.ps_words.specs.declared.order.Order.TheVariants.{Little, Big}
@@ -14,12 +14,11 @@ use Rattle.ps_words.specs.declared.fault.Reason.{Reason}
 use Rattle.ps_words.specs.declared.fault.Reason.TheVariants as reason
 use Rattle.ps_words.specs.declared.words.TheConstants.{BLOCK_SIZE}
 use Rattle.ps_codefile.specs.declared.code_layout.TheConstants.{MAX_CODE_LEN}
-use Rattle.ps_codefile.specs.declared.dictionary_layout.TheConstants.{NAMES, KINDS, TEXTS, TAIL}
+use Rattle.ps_codefile.specs.declared.dictionary_layout.TheConstants.{NAMES, KINDS, TEXTS, TAIL, SLOTS}
 
 -- the slots of a dictionary
 abbrev pub slots : List ℕ
-slots = 0 ∷ 1 ∷ 2 ∷ 3 ∷ 4 ∷ 5 ∷ 6 ∷ 7 ∷ 8 ∷ 9 ∷ 10 ∷ 11 ∷ 12 ∷ 13 ∷ 14
-    ∷ 15 ∷ []
+slots = range_with_len 0 SLOTS
 
 -- the length of a block in bytes, and so of the dictionary
 abbrev pub block_len : ℕ

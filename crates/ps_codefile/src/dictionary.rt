@@ -2,7 +2,7 @@ ghost use Rattle.std.specs.Prelude.{◌≡◌, ◌<◌, ◌≤◌, ◌+◌, ◌*
 ghost use Rattle.std.specs.List.{list_all};
 ghost use Rattle.ps_codefile.specs.Dictionary.{slots, OpenedFile, opened_alone, opened_beside, entry_at, name_at, names_of, tail_of, role_of, is_filled, code_of, information_of, IsViewOf};
 
-use crate::dictionary_layout::{KINDS, NAMES, PAIR, SLOT_COUNT, TAIL, TEXTS};
+use crate::dictionary_layout::{KINDS, NAMES, PAIR, SLOT_COUNT, SLOTS, TAIL, TEXTS};
 use crate::entry::{Entry, Role};
 use ps_words::{BLOCK_SIZE, NAME_LEN, Name, Order, Reason, WORD_LEN, blocks_of, get};
 use std::marker::Model;
@@ -31,7 +31,7 @@ impl<'a> Model for Dict<'a> {
 
 #[inline(always)]
 fn name_of(file: &[u8], slot: usize) -> Name
-    requires in_range { slot < 16 }
+    requires in_range { slot < SLOTS }
     requires whole { 512 ≤ length file.now }
     ensures { result ≡ name_at file.now slot }
 {
@@ -134,7 +134,7 @@ impl<'a> Dict<'a> {
     /// Source: UCSD Pascal II.0 manual, code file format.
     #[inline(always)]
     pub fn entry(&self, slot: u8) -> Entry
-        requires { slot < 16 }
+        requires { slot < SLOTS }
         ensures { result ≡ entry_at self.now.order self.now.file slot }
     {
         let i = slot as usize;
@@ -149,7 +149,7 @@ impl<'a> Dict<'a> {
 
     /// The names of all slots, eight bytes each.
     /// Source: UCSD Pascal II.0 manual, code file format.
-    pub fn names(&self) -> [Name; 16]
+    pub fn names(&self) -> [Name; SLOT_COUNT]
         ensures { result ≡ names_of self.now.file }
     {
         let mut names = [[0; NAME_LEN]; SLOT_COUNT];
@@ -177,7 +177,7 @@ impl<'a> Dict<'a> {
     /// Source: this project's profile.
     #[inline(always)]
     pub fn role(&self, slot: u8) -> Result<Role, Reason>
-        requires { slot < 16 }
+        requires { slot < SLOTS }
         ensures { result ≡ role_of (entry_at self.now.order self.now.file slot) }
     {
         self.entry(slot).role()
@@ -189,7 +189,7 @@ impl<'a> Dict<'a> {
     /// Source: this project's profile.
     #[inline(always)]
     pub fn filled(&self, slot: u8) -> bool
-        requires { slot < 16 }
+        requires { slot < SLOTS }
         ensures { result ≡ is_filled (entry_at self.now.order self.now.file slot) }
     {
         self.entry(slot).is_filled()
@@ -202,7 +202,7 @@ impl<'a> Dict<'a> {
     /// before the code does.
     /// Source: UCSD Pascal II.0 manual, code file format.
     pub fn code(&self, slot: u8) -> Result<&'a [u8], Reason>
-        requires { slot < 16 }
+        requires { slot < SLOTS }
         ensures { IsViewOf (λ code. code.now) result
             (code_of self.now.file (entry_at self.now.order self.now.file slot)) }
     {
@@ -225,7 +225,7 @@ impl<'a> Dict<'a> {
     /// that is to be linked begins; empty if that block is past the end of the file.
     /// Source: UCSD Pascal II.0 manual, code file format.
     pub fn after(&self, slot: u8) -> &'a [u8]
-        requires { slot < 16 }
+        requires { slot < SLOTS }
         ensures { result.now ≡ information_of self.now.file
             (entry_at self.now.order self.now.file slot) }
     {

@@ -14,7 +14,7 @@ impl Dict<'_> {
     /// The code of a slot is in the file, from its first byte to its last.
     /// Source: this project's profile.
     pub fn is_in_file(&self, slot: u8) -> bool
-        requires { slot < 16 }
+        requires { slot < SLOTS }
         ensures { result ≡ is_ok (code_of self.now.file
             (entry_at self.now.order self.now.file slot)) }
     {
@@ -27,7 +27,7 @@ impl Dict<'_> {
     /// The slot is filled, its entry has a name, and its code is in the file.
     /// Source: this project's profile.
     pub fn is_whole(&self, slot: u8) -> bool
-        requires { slot < 16 }
+        requires { slot < SLOTS }
         ensures { result ≡ is_whole_spec self.now.order self.now.file slot }
     {
         self.filled(slot) && !is_nameless(&self.entry(slot).name) && self.is_in_file(slot)
@@ -35,7 +35,7 @@ impl Dict<'_> {
 
     /// So it is with one of the slots below `end`.
     fn has_code_below(&self, end: u8) -> bool
-        requires { end ≤ 16 }
+        requires { end ≤ SLOTS }
         ensures { result ≡ list_any (is_whole_spec self.now.order self.now.file)
             (range_with_len 0 end) }
     {

@@ -1,5 +1,5 @@
 -- Files that are read like the samples, and libraries that have no name in common.
-use Rattle.ps_examples.proofs.Vocabulary.{◌≡◌, ℕ, ◌+◌, ◌<◌, List, [], ◌∷◌, map, Bool, true, false, refl, sym, ap, subst, ◌∙◌, arith, ◌==◌, ◌&&◌, not, slice_get, All, ◌≢◌, entry_at, is_filled, host, library, put_at, aux, demo_segment, util_segment, Segment, library_file, HasEntry, Little}
+use Rattle.ps_examples.proofs.Vocabulary.{◌≡◌, ℕ, ◌+◌, ◌<◌, List, [], ◌∷◌, map, Bool, true, false, refl, sym, ap, subst, ◌∙◌, arith, ◌==◌, ◌&&◌, not, slice_get, All, ◌≢◌, entry_at, is_filled, host, library, put_at, aux, demo_segment, util_segment, Segment, library_file, HasEntry, Little, SLOTS}
 use Rattle.std.specs.List.{range_with_len}
 use Rattle.std.proofs.lemmas.Bool.Decides.{Decides-eqb}
 use Rattle.std.proofs.lemmas.List.Elements.{All-cons, All-nil}
@@ -11,8 +11,8 @@ use Rattle.ps_relied.specs.Alike.{IsReadAlike, AreReadAlike, AreFilesAlike, HasS
 use Rattle.ps_relied.specs.Numbered.{HaveNoNameInCommon}
 
 -- functions that give the same list give the same at each place
-same_at : {A : Type 0} (f g : ℕ → A) → map f (range_with_len 0 16)
-    ≡ map g (range_with_len 0 16) → (i : ℕ) → i < 16 → f i ≡ g i
+same_at : {A : Type 0} (f g : ℕ → A) → map f (range_with_len 0 SLOTS)
+    ≡ map g (range_with_len 0 SLOTS) → (i : ℕ) → i < SLOTS → f i ≡ g i
 same_at f g e i h =
     let x = sym (made_at f 16 i h) ∙ (ap (λ xs. slice_get xs i) e ∙ made_at g 16 i h) in
     cc
@@ -21,11 +21,11 @@ lone : (a b : Bool) → (a && not b) ≡ false → a ≡ true → b ≡ true
 lone a b h e = grind arith
 
 -- the only filled entry
-only_filled : (file : List ℕ) → any_below 16
-    (λ k. is_filled (entry_at Little file k) && not (k == 2)) ≡ false → (i : ℕ) → i < 16
+only_filled : (file : List ℕ) → any_below SLOTS
+    (λ k. is_filled (entry_at Little file k) && not (k == 2)) ≡ false → (i : ℕ) → i < SLOTS
     → is_filled (entry_at Little file i) ≡ true → i ≡ 2
 only_filled file all i h filled = (Decides-eqb i 2).0 (lone (is_filled (entry_at Little file i))
-    (i == 2) (fails 16 (λ k. is_filled (entry_at Little file k) && not (k == 2)) all i h) filled)
+    (i == 2) (fails SLOTS (λ k. is_filled (entry_at Little file k) && not (k == 2)) all i h) filled)
 
 -- the library is read like the one whose unit is elsewhere
 pub library_alike : IsReadAlike Little library library_elsewhere
@@ -58,7 +58,7 @@ abbrev pub of_aux : List ℕ
 of_aux = put_at 80 aux library
 
 -- the one filled entry of a file has the name
-one_name : (file : List ℕ) → any_below 16
+one_name : (file : List ℕ) → any_below SLOTS
     (λ k. is_filled (entry_at Little file k) && not (k == 2)) ≡ false → (name : List ℕ)
     → HasEntry Little name file → (entry_at Little file 2).name ≡ name
 one_name file all name t =

@@ -1,5 +1,5 @@
 -- Units that are added in slots of the small files, and the only entry of a name, computed.
-use Rattle.ps_examples.proofs.Vocabulary.{◌≡◌, ℕ, zero, suc, ◌<◌, ◌≤◌, List, [], ◌∷◌, Bool, true, false, refl, sym, subst, ◌∙◌, inl, inr, arith, ◌||◌, ◌==◌, ◌&&◌, not, bytes_eq, Decides, cases_lt, false≢true, entry_at, is_filled, host, host_without_7, aux, tools, library, put_at, util, using_segment, aux_segment, naming_segment, named_segment, IsTaken, IsAddedUnit, IsUnitOf, Little, IsNamed}
+use Rattle.ps_examples.proofs.Vocabulary.{◌≡◌, ℕ, zero, suc, ◌<◌, ◌≤◌, List, [], ◌∷◌, Bool, true, false, refl, sym, subst, ◌∙◌, inl, inr, arith, ◌||◌, ◌==◌, ◌&&◌, not, bytes_eq, Decides, cases_lt, false≢true, entry_at, is_filled, host, host_without_7, aux, tools, library, put_at, util, using_segment, aux_segment, naming_segment, named_segment, IsTaken, IsAddedUnit, IsUnitOf, Little, IsNamed, SLOTS}
 use Rattle.std.proofs.lemmas.Slice.Eq.{bytes_eq-Decides}
 use Rattle.ps_resolve.specs.Standing.Slots.{HasRole}
 use Rattle.ps_codefile.specs.declared.entry.Role.TheVariants as role
@@ -37,10 +37,10 @@ other_entry order name file i k = is_filled (entry_at order file k)
 
 -- where no other entry is a filled one of the name, each filled entry of the name is this one
 only_entry : (order : Order) (name file : List ℕ) (i : ℕ)
-    → any_below 16 (other_entry order name file i) ≡ false → (k : ℕ) → k < 16
+    → any_below SLOTS (other_entry order name file i) ≡ false → (k : ℕ) → k < SLOTS
     → IsNamed order name file k → k ≡ i
 only_entry order name file i all k h n =
-    go (k == i) (Decides-eqb k i) (fails 16 (other_entry order name file i) all k h)
+    go (k == i) (Decides-eqb k i) (fails SLOTS (other_entry order name file i) all k h)
   where
     test : (a b c : Bool) → a ≡ true → b ≡ true → (a && (b && not c)) ≡ false
         → c ≡ true
@@ -70,10 +70,10 @@ the_only_one_of_sixteen = record {
 
 -- no slot of the file has the name
 pub no_slot_has : (file name : List ℕ)
-    → any_below 16 (λ k. bytes_eq (entry_at Little file k).name name) ≡ false
+    → any_below SLOTS (λ k. bytes_eq (entry_at Little file k).name name) ≡ false
     → HasSlot Little file name → ⊥
 no_slot_has file name all t = false≢true
-    (sym (fails 16 (λ k. bytes_eq (entry_at Little file k).name name) all t.0 t.1)
+    (sym (fails SLOTS (λ k. bytes_eq (entry_at Little file k).name name) all t.0 t.1)
     ∙ (bytes_eq-Decides (entry_at Little file t.0).name name).1 t.2.1)
 
 -- TOOLS is an added unit in slot 9, which AUX requests, and which is added in slot 8

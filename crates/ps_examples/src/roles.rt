@@ -1,13 +1,16 @@
 ghost use Rattle.std.specs.Prelude.{◌≡◌, [], ◌∷◌, Some, None};
+ghost use Rattle.ps_codefile.specs.Dictionary.{slots};
 ghost use Rattle.ps_examples.specs.Files.{host, library, put_at, with_slot, blank_name, util, zeros};
 ghost use Rattle.ps_resolve.specs.AllFaults.{first_fault};
 ghost use Rattle.ps_words.specs.FaultPlaces.{in_slot};
 ghost use Rattle.ps_words.specs.declared.fault.Reason.TheVariants as reason;
 ghost use Rattle.ps_words.specs.declared.order.Order.TheVariants.{Little};
 
-/// What a slot of the host is for.
+/// Which slots there are, and what a slot of the host is for.
 #[tactic(auto, unfolding(ps_resolve::specs::AllFaults::first_fault, ps_resolve::specs::AllFaults::reading_fault, ps_resolve::specs::Faults::slots_fault, ps_resolve::specs::Faults::no_host_fault, ps_resolve::specs::Faults::libraries_fault, ps_resolve::specs::Faults::sources_fault, ps_resolve::specs::Faults::linking_fault, ps_resolve::specs::Faults::definitions_fault, ps_resolve::specs::Faults::privates_fault, ps_resolve::specs::Faults::data_fault, ps_resolve::specs::Faults::references_fault, ps_resolve::specs::Sources::own_segments, ps_resolve::specs::Added::empty_slots, ps_resolve::specs::Added::rounds, ps_resolve::specs::Added::segments))]
 pub fn roles_of_slots()
+    ensures the_slots { slots ≡ 0 ∷ 1 ∷ 2 ∷ 3 ∷ 4 ∷ 5 ∷ 6 ∷ 7 ∷ 8 ∷ 9 ∷ 10 ∷ 11 ∷ 12 ∷ 13
+        ∷ 14 ∷ 15 ∷ [] }
     ensures the_first_slot_counts { first_fault (with_slot Little 0 blank_name 8 1 18 host)
         (library ∷ []) ≡ Some (in_slot 0 0 reason.UnknownKind) }
     ensures the_last_slot_counts { first_fault (with_slot Little 15 blank_name 8 1 18 host)

@@ -39,7 +39,7 @@ impl fmt::Display for CodeFile {
 
 /// The slot wants a unit.
 fn wants_unit(dict: &Dict<'_>, slot: u8) -> bool
-    requires { slot < 16 }
+    requires { slot < SLOTS }
     ensures { result ≡ wants_unit_spec (role_of (entry_at dict.now.order dict.now.file slot)) }
 {
     match dict.role(slot) {
@@ -50,7 +50,7 @@ fn wants_unit(dict: &Dict<'_>, slot: u8) -> bool
 
 /// The entry says what its file is for: it is filled, or wants a unit.
 fn tells(dict: &Dict<'_>, slot: u8) -> bool
-    requires { slot < 16 }
+    requires { slot < SLOTS }
     ensures { result ≡ tells_spec (entry_at dict.now.order dict.now.file slot) }
 {
     dict.filled(slot) || wants_unit(dict, slot)
@@ -58,7 +58,7 @@ fn tells(dict: &Dict<'_>, slot: u8) -> bool
 
 /// The entry says what its file is for, and is of this kind.
 fn is_kind(dict: &Dict<'_>, kind: u16, slot: u8) -> bool
-    requires { slot < 16 }
+    requires { slot < SLOTS }
     ensures { result ≡ is_kind_spec kind dict.now.order dict.now.file slot }
 {
     tells(dict, slot) && dict.entry(slot).kind == kind
@@ -66,7 +66,7 @@ fn is_kind(dict: &Dict<'_>, kind: u16, slot: u8) -> bool
 
 /// One of the entries below `end` says what its file is for, and is of this kind.
 fn has_kind_below(dict: &Dict<'_>, kind: u16, end: u8) -> bool
-    requires { end ≤ 16 }
+    requires { end ≤ SLOTS }
     ensures { result ≡ list_any (is_kind_spec kind dict.now.order dict.now.file)
         (range_with_len 0 end) }
 {
@@ -82,7 +82,7 @@ fn has_kind(dict: &Dict<'_>, kind: u16) -> bool
 
 /// The entry says what its file is for, and is neither of a host program nor of a linked segment.
 fn is_other(dict: &Dict<'_>, slot: u8) -> bool
-    requires { slot < 16 }
+    requires { slot < SLOTS }
     ensures { result ≡ is_other_spec dict.now.order dict.now.file slot }
 {
     tells(dict, slot) && !is_kind(dict, HOSTSEG, slot) && !is_kind(dict, LINKED, slot)
@@ -90,7 +90,7 @@ fn is_other(dict: &Dict<'_>, slot: u8) -> bool
 
 /// One of the entries below `end` says what its file is for, and is of another kind than these.
 fn has_other_below(dict: &Dict<'_>, end: u8) -> bool
-    requires { end ≤ 16 }
+    requires { end ≤ SLOTS }
     ensures { result ≡ list_any (is_other_spec dict.now.order dict.now.file)
         (range_with_len 0 end) }
 {
@@ -177,7 +177,7 @@ pub(crate) fn are_letters(text: &[u8]) -> bool
 
 /// The entry is that of a code: its kind is one of those that there are, and its name can be read.
 fn shows_code(dict: &Dict<'_>, slot: u8) -> bool
-    requires { slot < 16 }
+    requires { slot < SLOTS }
     ensures { result ≡ shows_code_spec dict.now.order dict.now.file slot }
 {
     let entry = dict.entry(slot);
@@ -186,7 +186,7 @@ fn shows_code(dict: &Dict<'_>, slot: u8) -> bool
 
 /// One of the entries below `end` is that of a code.
 fn has_shown_code_below(dict: &Dict<'_>, end: u8) -> bool
-    requires { end ≤ 16 }
+    requires { end ≤ SLOTS }
     ensures { result ≡ list_any (shows_code_spec dict.now.order dict.now.file)
         (range_with_len 0 end) }
 {
@@ -202,7 +202,7 @@ fn has_shown_code(dict: &Dict<'_>) -> bool
 
 /// The kind of a slot is not 0.
 fn has_other_kind(dict: &Dict<'_>, slot: u8) -> bool
-    requires { slot < 16 }
+    requires { slot < SLOTS }
     ensures { result ≡ has_other_kind_spec dict.now.order dict.now.file slot }
 {
     dict.entry(slot).kind != LINKED
@@ -210,7 +210,7 @@ fn has_other_kind(dict: &Dict<'_>, slot: u8) -> bool
 
 /// One of the kinds below `end` is not 0.
 fn has_kinds_below(dict: &Dict<'_>, end: u8) -> bool
-    requires { end ≤ 16 }
+    requires { end ≤ SLOTS }
     ensures { result ≡ list_any (has_other_kind_spec dict.now.order dict.now.file)
         (range_with_len 0 end) }
 {
@@ -376,7 +376,7 @@ pub fn is_swapped(order: Order, code: &[u8]) -> bool
 
 /// A slot is filled with a code of which a link resolves the references.
 fn is_linkable(dict: &Dict<'_>, slot: u8) -> bool
-    requires { slot < 16 }
+    requires { slot < SLOTS }
     ensures { result ≡ is_linkable_spec dict.now.order dict.now.file slot }
 {
     let kind = dict.entry(slot).kind;
@@ -385,7 +385,7 @@ fn is_linkable(dict: &Dict<'_>, slot: u8) -> bool
 
 /// The bytes of the code of a slot are exchanged in pairs.
 fn is_swapped_code(dict: &Dict<'_>, slot: u8) -> bool
-    requires { slot < 16 }
+    requires { slot < SLOTS }
     ensures { result ≡ is_swapped_code_spec dict.now.order (code_of dict.now.file
         (entry_at dict.now.order dict.now.file slot)) }
 {
@@ -397,7 +397,7 @@ fn is_swapped_code(dict: &Dict<'_>, slot: u8) -> bool
 
 /// So are those of a slot, if it is to be linked.
 fn is_swapped_slot(dict: &Dict<'_>, slot: u8) -> bool
-    requires { slot < 16 }
+    requires { slot < SLOTS }
     ensures { result ≡ is_swapped_slot_spec dict.now.order dict.now.file slot }
 {
     !is_linkable(dict, slot) || is_swapped_code(dict, slot)
@@ -405,7 +405,7 @@ fn is_swapped_slot(dict: &Dict<'_>, slot: u8) -> bool
 
 /// So are those of each of the slots below `end`.
 fn are_swapped(dict: &Dict<'_>, end: u8) -> bool
-    requires { end ≤ 16 }
+    requires { end ≤ SLOTS }
     ensures { result ≡ list_all (is_swapped_slot_spec dict.now.order dict.now.file)
         (range_with_len 0 end) }
 {
@@ -414,7 +414,7 @@ fn are_swapped(dict: &Dict<'_>, end: u8) -> bool
 
 /// One of the slots below `end` is to be linked.
 fn has_linkable(dict: &Dict<'_>, end: u8) -> bool
-    requires { end ≤ 16 }
+    requires { end ≤ SLOTS }
     ensures { result ≡ list_any (is_linkable_spec dict.now.order dict.now.file)
         (range_with_len 0 end) }
 {

@@ -104,7 +104,7 @@ fn is_four(order: Order, block: &[u8]) -> bool
 
 /// The slot has a segment: neither its address nor its length is 0.
 fn is_used(order: Order, block: &[u8], slot: u8) -> bool
-    requires in_range { slot < 16 }
+    requires in_range { slot < SLOTS }
     requires whole { 512 ≤ length block.now }
     ensures { result ≡ is_used_spec order block.now slot }
 {
@@ -114,7 +114,7 @@ fn is_used(order: Order, block: &[u8], slot: u8) -> bool
 
 /// The version and the number of a slot.
 fn information(order: Order, block: &[u8], slot: u8) -> u16
-    requires in_range { slot < 16 }
+    requires in_range { slot < SLOTS }
     requires whole { 512 ≤ length block.now }
     ensures { result ≡ information_spec order block.now slot }
 {
@@ -127,7 +127,7 @@ fn information(order: Order, block: &[u8], slot: u8) -> u16
 
 /// The name of a slot is one that a person can read.
 fn has_name(block: &[u8], slot: u8) -> bool
-    requires in_range { slot < 16 }
+    requires in_range { slot < SLOTS }
     requires whole { 512 ≤ length block.now }
     ensures { result ≡ list_all is_letter (name_at block.now slot) }
 {
@@ -145,7 +145,7 @@ fn has_version(first: u16, last: u16, word: u16) -> bool
 /// The slot has a segment with a name, a number and a version from `first` to `last`, or none of
 /// these.
 fn is_of_version(order: Order, block: &[u8], first: u16, last: u16, slot: u8) -> bool
-    requires in_range { slot < 16 }
+    requires in_range { slot < SLOTS }
     requires whole { 512 ≤ length block.now }
     ensures { result ≡ is_of_version_spec order block.now first last slot }
 {
@@ -159,7 +159,7 @@ fn is_of_version(order: Order, block: &[u8], first: u16, last: u16, slot: u8) ->
 
 /// So is each of the slots below `end`.
 fn are_of_version(order: Order, block: &[u8], first: u16, last: u16, end: u8) -> bool
-    requires in_range { end ≤ 16 }
+    requires in_range { end ≤ SLOTS }
     requires whole { 512 ≤ length block.now }
     ensures { result ≡ list_all (is_of_version_spec order block.now first last)
         (range_with_len 0 end) }
@@ -177,7 +177,7 @@ fn are_all_of_version(order: Order, block: &[u8], first: u16, last: u16) -> bool
 
 /// One of the slots below `end` has a segment.
 fn has_segment(order: Order, block: &[u8], end: u8) -> bool
-    requires in_range { end ≤ 16 }
+    requires in_range { end ≤ SLOTS }
     requires whole { 512 ≤ length block.now }
     ensures { result ≡ list_any (is_used_spec order block.now) (range_with_len 0 end) }
 {

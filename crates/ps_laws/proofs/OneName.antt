@@ -1,5 +1,5 @@
 -- Where no fault applies, no two units of a link have a name in common.
-use Rattle.ps_laws.proofs.Vocabulary.{◌⊎◌, slice_get, same_Some, entry_at, is_unit, added_segments, segments_of, IsOfRound, AddedUnits, Segment, order_of, NoneStands, OfSlots, IsSegment, IsUnitSlot, UnitReference, Order, rules, ◌≡◌, ℕ, ◌<◌, List, Some, None, true, refl, sym, ap, ◌∙◌, inl, inr, SlotHas, segments, reading_fault, IsSlotOf, queue_of, rounds_fine, sources_fine, all_at}
+use Rattle.ps_laws.proofs.Vocabulary.{◌⊎◌, slice_get, same_Some, entry_at, is_unit, added_segments, segments_of, IsOfRound, AddedUnits, Segment, order_of, NoneStands, OfSlots, IsSegment, IsUnitSlot, UnitReference, Order, rules, ◌≡◌, ℕ, ◌<◌, List, Some, None, true, refl, sym, ap, ◌∙◌, inl, inr, SlotHas, segments, reading_fault, IsSlotOf, queue_of, rounds_fine, sources_fine, all_at, SLOTS}
 use Rattle.ps_laws.proofs.AddedUnits.{unit_slot, units_are}
 use Rattle.ps_laws.proofs.Items.{not_apart, of_all}
 use Rattle.ps_laws.proofs.OfLink.{of_link}
@@ -21,7 +21,7 @@ module _ (host : List ℕ) (libs : List (List ℕ)) (none : NoneStands host libs
 
   -- a unit that is the host's own has its slot there; one that was added has its name in the queue
   abbrev IsOwn : Segment → Type 0
-  IsOwn s = (s.slot < 16) × IsUnitSlot order host s.slot
+  IsOwn s = (s.slot < SLOTS) × IsUnitSlot order host s.slot
       × ((entry_at order host s.slot).name ≡ s.name)
 
   abbrev IsAdded : Segment → Type 0

@@ -1,5 +1,5 @@
 -- Just one queue of names and one list of segments have what is said of the units that are added.
-use Rattle.ps_laws.proofs.Vocabulary.{slice_get, cases_order, same_Some, Role, Record, IsNamed, HasEntry, Before, Segment, RequestsAt, IsGiver, AddedUnits, UnitReference, Order, rules, ◌≡◌, ℕ, zero, suc, ◌+◌, ◌<◌, List, [], ◌∷◌, ◌++◌, length, take, Option, Some, None, Bool, refl, sym, ap, subst, ◌∙◌, inl, inr, arith, ProcedureTables, own_segments, IsOfFirstLibrary}
+use Rattle.ps_laws.proofs.Vocabulary.{slice_get, cases_order, same_Some, Role, Record, IsNamed, HasEntry, Before, Segment, RequestsAt, IsGiver, AddedUnits, UnitReference, Order, rules, ◌≡◌, ℕ, zero, suc, ◌+◌, ◌<◌, List, [], ◌∷◌, ◌++◌, length, take, Option, Some, None, Bool, refl, sym, ap, subst, ◌∙◌, inl, inr, arith, ProcedureTables, own_segments, IsOfFirstLibrary, SLOTS}
 use Rattle.ps_laws.proofs.Items.{not_apart, some_before}
 use Rattle.ps_laws.proofs.Least.{not_both}
 
@@ -180,7 +180,7 @@ HasOneEntry order libs name =
     (k : ℕ) (lib : List ℕ) → slice_get libs k ≡ Some lib
     → ((lesser : ℕ) (other : List ℕ) → lesser < k
     → slice_get libs lesser ≡ Some other → HasEntry order name other → ⊥)
-    → (i j : ℕ) → i < 16 → j < 16 → IsNamed order name lib i → IsNamed order name lib j
+    → (i j : ℕ) → i < SLOTS → j < SLOTS → IsNamed order name lib i → IsNamed order name lib j
     → i ≡ j
 
 segment : ℕ → List ℕ → Role → Bool → ℕ → ℕ → List ℕ → Option ProcedureTables

@@ -1,6 +1,6 @@
 -- Each unit that a record of the link requests has its segment there, where the rounds end without
 -- a fault.
-use Rattle.ps_laws.proofs.Vocabulary.{◌⊎◌, if◌then◌else◌, ◌&&◌, ◌==◌, Decides, slice_get, list_any, find, lookup, bytes_eq, enumerate_from, filter_map, Decides-at, Decides-and, Decides-like, Decides-eqb, bytes_eq-Decides, slots, is_unit_reference, unit_references, all_unit_references, requested_from, added_segments, added_fault, SomeItem, IsSegment, Record, is_role, is_unit, is_empty, Segment, own_segment, units_of, UnitReference, Order, rules, ◌≡◌, ℕ, zero, suc, ◌+◌, ◌<◌, ◌≤◌, List, [], ◌∷◌, ◌++◌, Option, Some, None, Bool, true, refl, sym, ap, subst, ◌∙◌, inl, inr, arith, is_some, or_cases, at_slot, own_units, references_of, in_empty, name_placed, queue_of}
+use Rattle.ps_laws.proofs.Vocabulary.{◌⊎◌, if◌then◌else◌, ◌&&◌, ◌==◌, Decides, slice_get, list_any, find, lookup, bytes_eq, enumerate_from, filter_map, Decides-at, Decides-and, Decides-like, Decides-eqb, bytes_eq-Decides, slots, is_unit_reference, unit_references, all_unit_references, requested_from, added_segments, added_fault, SomeItem, IsSegment, Record, is_role, is_unit, is_empty, Segment, own_segment, units_of, UnitReference, Order, rules, ◌≡◌, ℕ, zero, suc, ◌+◌, ◌<◌, ◌≤◌, List, [], ◌∷◌, ◌++◌, Option, Some, None, Bool, true, refl, sym, ap, subst, ◌∙◌, inl, inr, arith, is_some, or_cases, at_slot, own_units, references_of, in_empty, name_placed, queue_of, FIRST_ADDED, MAX_ADDED, SLOTS}
 use Rattle.ps_resolve.specs.Added.{is_already_known, empty_slots, requested_units, segment_at, segments}
 use Rattle.ps_resolve.specs.Sources.{own_segments}
 use Rattle.ps_laws.proofs.Looking.{is_there, of_test, any_of_items, find_none}
@@ -26,14 +26,16 @@ all_known units queue (h ∷ gs) g (suc i) e = all_known units
 
 module _ (order : Order) (host : List ℕ) where
   pub empty_slot : (j slot : ℕ) → slice_get (empty_slots order host) j ≡ Some slot
-      → (7 ≤ slot) × (slot < 7 + 9) × (is_role is_empty order host slot ≡ true)
+      → (FIRST_ADDED ≤ slot) × (slot < FIRST_ADDED + MAX_ADDED)
+      × (is_role is_empty order host slot ≡ true)
   unfolding empty_slots
-  empty_slot j slot e = of_filter (is_role is_empty order host) 7 9 slot j e
+  empty_slot j slot e = of_filter (is_role is_empty order host) FIRST_ADDED MAX_ADDED slot j e
 
   pub empty_ascend : (i j x y : ℕ) → i < j → slice_get (empty_slots order host) i ≡ Some x
       → slice_get (empty_slots order host) j ≡ Some y → x < y
   unfolding empty_slots
-  empty_ascend i j x y h e u = filter_ascends (is_role is_empty order host) 7 9 i j x y h e u
+  empty_ascend i j x y h e u = filter_ascends (is_role is_empty order host) FIRST_ADDED MAX_ADDED
+      i j x y h e u
 
 module _ (order : Order) (host : List ℕ) (libs : List (List ℕ)) where
   -- an empty slot has no segment of its own
@@ -60,25 +62,25 @@ module _ (order : Order) (host : List ℕ) (libs : List (List ℕ)) where
       one i q u same = grind (arith, in_empty, not_apart, empty_ascend)
 
   -- all segments
-  pub in_segments : (slot : ℕ) (s : Segment) → slot < 16
+  pub in_segments : (slot : ℕ) (s : Segment) → slot < SLOTS
       → segment_at order host libs slot ≡ Some s → In s (segments order host libs)
   unfolding segments
   in_segments slot s h e = in_filter_map (segment_at order host libs) slots slot s
-      (in_range 0 16 slot (omega arith) (omega (arith, h))) e
+      (in_range 0 SLOTS slot (omega arith) (omega (arith, h))) e
 
-  pub own_in : (slot : ℕ) (s : Segment) → slot < 16
+  pub own_in : (slot : ℕ) (s : Segment) → slot < SLOTS
       → own_segment order host libs slot ≡ Some s → In s (own_segments order host libs)
   unfolding own_segments
   own_in slot s h e = in_filter_map (own_segment order host libs) slots slot s
-      (in_range 0 16 slot (omega arith) (omega (arith, h))) e
+      (in_range 0 SLOTS slot (omega arith) (omega (arith, h))) e
 
-  -- each of the host's own segments is that of a slot below 16
+  -- each of the host's own segments is that of a slot below SLOTS
   pub own_at : (s : Segment) → In s (own_segments order host libs)
-      → (slot : ℕ) × (slot < 16) × (own_segment order host libs slot ≡ Some s)
+      → (slot : ℕ) × (slot < SLOTS) × (own_segment order host libs slot ≡ Some s)
   unfolding own_segments
   own_at s t =
       let r = of_filter_map (own_segment order host libs) slots s t in
-      (r.0, (let a = (of_range 0 16 r.0 r.1.0 r.1.1).1 in omega (arith, a)), r.2)
+      (r.0, (let a = (of_range 0 SLOTS r.0 r.1.0 r.1.1).1 in omega (arith, a)), r.2)
 
   -- a segment of the link is its slot's own, or one that was added
   pub own_or_added : (s : Segment) → IsSegment order host libs s

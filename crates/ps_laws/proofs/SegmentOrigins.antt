@@ -1,5 +1,5 @@
 -- Where no fault applies, the segments of a link have the origins that are said plainly.
-use Rattle.ps_laws.proofs.Vocabulary.{◌≢◌, false≢true, request_fault, UnitReference, ◌⊎◌, slice_get, or_parts, request_of, NoneStands, role_fault, range_with_len, option_map_or, added_segments, request_by_slot, option_map, result_err, added_fault, segments_of, unit_source, option_or, result_ok, IsOfRound, IsSegment, source_of, entry_at, role_of, code_of, SomeItem, IsOfFile, is_empty, order_of, Request, HasRole, reading, Segment, file_at, is_role, IsGiver, Entry, Role, Record, IsFile, RequestsAt, in_slot, Order, Reason, ◌≡◌, ℕ, zero, suc, ◌+◌, ◌<◌, ◌≤◌, List, [], ◌∷◌, ◌++◌, take, Some, None, Result, Ok, true, false, refl, sym, ap, subst, ◌∙◌, inl, inr, arith, ◌↔◌, All, ltb, ltb-false, some_pair_parts, is_nameless, reading_fault, IsOfSlot, Spells, own_segments, IsOwn, IsAddedUnit, IsInPlace, IsUnitOf, IsSliceOf, IsReadFrom, HaveOneEach, AreBySlot, AreOwn, AreAdded, AreInPlace, AreOfLibraries, AreRead, AreOfRounds, IsTaken, RequestsName, HasSlot, map_none, request_parts, own_known, round_known, rounds_fine, slots_fine, sources_fine, none_at, in_empty}
+use Rattle.ps_laws.proofs.Vocabulary.{◌≢◌, false≢true, request_fault, UnitReference, ◌⊎◌, slice_get, or_parts, request_of, NoneStands, role_fault, range_with_len, option_map_or, added_segments, request_by_slot, option_map, result_err, added_fault, segments_of, unit_source, option_or, result_ok, IsOfRound, IsSegment, source_of, entry_at, role_of, code_of, SomeItem, IsOfFile, is_empty, order_of, Request, HasRole, reading, Segment, file_at, is_role, IsGiver, Entry, Role, Record, IsFile, RequestsAt, in_slot, Order, Reason, ◌≡◌, ℕ, zero, suc, ◌+◌, ◌<◌, ◌≤◌, List, [], ◌∷◌, ◌++◌, take, Some, None, Result, Ok, true, false, refl, sym, ap, subst, ◌∙◌, inl, inr, arith, ◌↔◌, All, ltb, ltb-false, some_pair_parts, is_nameless, reading_fault, IsOfSlot, Spells, own_segments, IsOwn, IsAddedUnit, IsInPlace, IsUnitOf, IsSliceOf, IsReadFrom, HaveOneEach, AreBySlot, AreOwn, AreAdded, AreInPlace, AreOfLibraries, AreRead, AreOfRounds, IsTaken, RequestsName, HasSlot, map_none, request_parts, own_known, round_known, rounds_fine, slots_fine, sources_fine, none_at, in_empty, FIRST_ADDED, MAX_ADDED, SLOTS}
 use Rattle.ps_resolve.specs.Added.{added_at, segments, empty_slots, requested_units}
 use Rattle.ps_codefile.specs.declared.entry.Role.TheVariants as role
 use Rattle.ps_resolve.specs.Faults.{slot_reason, slots_fault, sources_fault}
@@ -28,7 +28,7 @@ slice_of file e code h = grind (arith, whole_code, ltb, ltb-false)
 
 -- what is read of a segment's entry
 read_from : OneSpelling → (order : Order) (host : List ℕ) (libs : List (List ℕ)) (s : Segment)
-    → IsFile host libs s.file (file_at host libs s.file) → s.index < 16
+    → IsFile host libs s.file (file_at host libs s.file) → s.index < SLOTS
     → IsOfFile order host libs s → IsReadFrom order host libs s
 read_from law order host libs s there inside h = record {
   source = file_at host libs s.file;
@@ -112,7 +112,7 @@ module _ (law : OneStop) (spells : OneSpelling) (host : List ℕ) (libs : List (
         (unit, read_from spells order host libs s file unit.within h)
 
     -- a slot's own segment
-    of_slot : s.slot < 16 → IsOfSlot order host libs s → HasOrigin order host libs s
+    of_slot : s.slot < SLOTS → IsOfSlot order host libs s → HasOrigin order host libs s
     of_slot inside known = by s.role refl known.source known.fits
       where
         made : IsReadFrom order host libs s → HasPlace order host libs s → s.role ≢ role.Empty
@@ -157,14 +157,16 @@ module _ (law : OneStop) (spells : OneSpelling) (host : List ℕ) (libs : List (
         → slice_get (empty_slots order host) j ≡ Some y → i < j
     rises_with i x y lt e u = grind (arith, empty_ascend order host j i y x)
 
-    is_empty_slot : (slot : ℕ) → 7 ≤ slot → slot < 16 → HasRole order host slot role.Empty
+    is_empty_slot : (slot : ℕ) → FIRST_ADDED ≤ slot → slot < SLOTS
+        → HasRole order host slot role.Empty
         → In slot (empty_slots order host)
     unfolding empty_slots
     is_empty_slot slot low high has = in_filter (is_role is_empty order host)
-        (range_with_len 7 9) slot (in_range 7 9 slot low (omega (arith, high)))
+        (range_with_len FIRST_ADDED MAX_ADDED) slot
+        (in_range FIRST_ADDED MAX_ADDED slot low (omega (arith, high)))
         (ap (λ (o : Result Role Reason). option_map_or is_empty (result_ok o) false) has)
 
-    none_left : (slot : ℕ) → 7 ≤ slot → slot < s.slot → HasRole order host slot role.Empty
+    none_left : (slot : ℕ) → FIRST_ADDED ≤ slot → slot < s.slot → HasRole order host slot role.Empty
         → IsTaken (segments order host libs) slot
     none_left slot low lt has =
         let at = in_empty order host libs j s in_round in
@@ -275,10 +277,10 @@ module _ (law : OneStop) (spells : OneSpelling) (host : List ℕ) (libs : List (
   all_read = each _ (λ s k. k.read)
 
   -- 4. each slot that is not empty has a segment
-  has_role : (slot : ℕ) → slot < 16 → (r : Role) × HasRole order host slot r
+  has_role : (slot : ℕ) → slot < SLOTS → (r : Role) × HasRole order host slot r
   unfolding slots_fault
   has_role slot inside = role_is _ (both_none _ _ (map_none _ _ (none_at (λ n. option_map (in_slot
-      0 n) (slot_reason order host n)) 0 16 slot (slots_fine host libs no_fault) (omega arith)
+      0 n) (slot_reason order host n)) 0 SLOTS slot (slots_fine host libs no_fault) (omega arith)
       (omega (arith, inside))))).0
 
   pub one_each : HaveOneEach host (segments_of host libs)
@@ -293,7 +295,7 @@ module _ (law : OneStop) (spells : OneSpelling) (host : List ℕ) (libs : List (
       let only = one_place segs (rises 0 segs (ascend order host libs)) in
       (i.0, s.0, i.1, (at, λ other q e same. only other i.0 q s.0 e i.1 (same ∙ sym at)))
 
--- the segments of a link are by slot, and each slot is below 16
+-- the segments of a link are by slot, and each slot is below SLOTS
 pub by_slot : (host : List ℕ) (libs : List (List ℕ)) → AreBySlot (segments_of host libs)
 by_slot host libs = (
   rises 0 (segments_of host libs) (ascend (order_of host) host libs),

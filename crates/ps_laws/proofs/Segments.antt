@@ -1,5 +1,5 @@
 -- The segments of a link, one slot after another.
-use Rattle.ps_laws.proofs.Vocabulary.{SomeBelow, ◌==◌, slice_get, find, Decides-eqb, slots, SomeItem, IsSegment, first_of, Segment, own_segment, Order, Fault, ◌≡◌, ℕ, ◌<◌, List, map, Option, Some, sym, subst, arith, SomeSegment, own_parts, slot_parts}
+use Rattle.ps_laws.proofs.Vocabulary.{SomeBelow, ◌==◌, slice_get, find, Decides-eqb, slots, SomeItem, IsSegment, first_of, Segment, own_segment, Order, Fault, ◌≡◌, ℕ, ◌<◌, List, map, Option, Some, sym, subst, arith, SomeSegment, own_parts, slot_parts, SLOTS}
 use Rattle.ps_resolve.specs.Added.{segments, segment_at}
 use Rattle.ps_resolve.specs.Linkable.{AscendFrom}
 pub use Rattle.ps_resolve.proofs.ReadingKnown.{ascend}
@@ -31,17 +31,17 @@ pub over_segments : {B : Fault → Fault → Type 0} {S : Segment → Fault → 
 unfolding segments
 over_segments {B} {S} order host libs g each apart =
     rw (first_of_filter_map g (segment_at order host libs) slots) (least_same to
-    (λ f t. (t.0.slot, t.1.0, (t.0, t.1.1, t.2))) (least_below _ 16
+    (λ f t. (t.0.slot, t.1.0, (t.0, t.1.1, t.2))) (least_below _ SLOTS
     (λ slot lt. least_then g _ (λ s e. each s (here slot s lt e))) (λ i j x y h s t.
     (let a = slot_is order host libs i s.0 s.1 in let b = slot_is order host libs j t.0 t.1 in
     apart s.0 t.0 x y (omega (arith, h, a, b)) s.2 t.2))))
   where
-    here : (slot : ℕ) (s : Segment) → slot < 16 → segment_at order host libs slot ≡ Some s
+    here : (slot : ℕ) (s : Segment) → slot < SLOTS → segment_at order host libs slot ≡ Some s
         → IsSegment order host libs s
     here slot s lt e = let at = slot_is order host libs slot s e in
         (rw at lt, subst (λ i. segment_at order host libs i ≡ Some s) (sym at) e)
 
-    to : (f : Fault) → SomeBelow 16 (λ slot. (s : Segment)
+    to : (f : Fault) → SomeBelow SLOTS (λ slot. (s : Segment)
         × (segment_at order host libs slot ≡ Some s) × S s f)
         → SomeSegment order host libs (λ s. S s f)
     to f t = (t.2.0, here t.0 t.2.0 t.1 t.2.1, t.2.2)

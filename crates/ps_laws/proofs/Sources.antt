@@ -1,5 +1,5 @@
 -- The first fault of the sources is the smallest that is.
-use Rattle.ps_laws.proofs.Vocabulary.{◌⊎◌, ◌≢◌, if◌then◌else◌, nat_lt, not, ◌&&◌, ◌||◌, ◌==◌, nat_le, Decides, range_with_len, enumerate_from, slice_get, list_any, filter_map, find, option_or, option_map, option_and_then, option_map_or, result_ok, false≢true, Decides-at, Decides-ltb, Decides-and, Decides-or, Decides-like, Decides-eqb, none-some, same_Some, bytes_eq-Decides, slots, entry_at, role_of, code_of, information_of, table_of, Because, SomeBelow, SomeItem, OfSources, rank, part, IsNamed, HasEntry, EntryFault, CodeFault, Entry, Role, reading, Record, entry_fault, code_fault, role_fault, first_of, fault_if, is_host, needs_linking, is_named, chosen_library, source_of, unit_source, file_at, in_slot, in_record, Order, Reason, Fault, rules, ◌≡◌, ℕ, ◌+◌, ◌-◌, ◌*◌, ◌<◌, ◌≤◌, List, [], ◌∷◌, length, Option, Some, None, Result, Ok, Err, Bool, true, false, refl, sym, ap, ◌∙◌, inl, inr, arith, leb-true, le-leb, unwrap_or, is_none, ◌↔◌, slice_index, list_all, Decides-not, procedures, content_of, dictionary_start, dictionary_len, is_placed, numbers, tables, tables_fault, EntriesHave, NoneHas, UnitFault, HasBadTable, AreBad, TablesHave, InSources, Stops, is_missing, has_entry, PlacedFault}
+use Rattle.ps_laws.proofs.Vocabulary.{◌⊎◌, ◌≢◌, if◌then◌else◌, nat_lt, not, ◌&&◌, ◌||◌, ◌==◌, nat_le, Decides, range_with_len, enumerate_from, slice_get, list_any, filter_map, find, option_or, option_map, option_and_then, option_map_or, result_ok, false≢true, Decides-at, Decides-ltb, Decides-and, Decides-or, Decides-like, Decides-eqb, none-some, same_Some, bytes_eq-Decides, slots, entry_at, role_of, code_of, information_of, table_of, Because, SomeBelow, SomeItem, OfSources, rank, part, IsNamed, HasEntry, EntryFault, CodeFault, Entry, Role, reading, Record, entry_fault, code_fault, role_fault, first_of, fault_if, is_host, needs_linking, is_named, chosen_library, source_of, unit_source, file_at, in_slot, in_record, Order, Reason, Fault, rules, ◌≡◌, ℕ, ◌+◌, ◌-◌, ◌*◌, ◌<◌, ◌≤◌, List, [], ◌∷◌, length, Option, Some, None, Result, Ok, Err, Bool, true, false, refl, sym, ap, ◌∙◌, inl, inr, arith, leb-true, le-leb, unwrap_or, is_none, ◌↔◌, slice_index, list_all, Decides-not, procedures, content_of, dictionary_start, dictionary_len, is_placed, numbers, tables, tables_fault, EntriesHave, NoneHas, UnitFault, HasBadTable, AreBad, TablesHave, InSources, Stops, is_missing, has_entry, PlacedFault, SLOTS}
 use Rattle.ps_resolve.specs.Faults.{entries_reason, information_fault, sources_fault}
 use Rattle.ps_resolve.proofs.RequestedSegments.{has_name}
 pub use Rattle.ps_resolve.proofs.FirstSlots.{ok_is}
@@ -45,27 +45,27 @@ module _ (order : Order) (name file : List ℕ) where
   named i = grind (arith, bytes_eq-Decides)
 
   pub has : Decides (has_entry order name file) (HasEntry order name file)
-  has = any_lesser _ _ named 16
+  has = any_lesser _ _ named SLOTS
 
 -- the entries of a name, by their numbers
 abbrev NamedAt : Order → List ℕ → List ℕ → ℕ → Type 0
-NamedAt order name lib y = SomeBelow 16 (λ i. IsNamed order name lib i × (y ≡ i))
+NamedAt order name lib y = SomeBelow SLOTS (λ i. IsNamed order name lib i × (y ≡ i))
 
 abbrev Duplicate : Order → List ℕ → List ℕ → Type 0
 Duplicate order name lib =
-    SomeBelow 16 (λ i. IsNamed order name lib i × SomeBelow i (λ j. IsNamed order name lib j))
+    SomeBelow SLOTS (λ i. IsNamed order name lib i × SomeBelow i (λ j. IsNamed order name lib j))
 
 module _ (order : Order) (name lib : List ℕ) where
   -- the test of a library's entries says whether two have the name
   duplicate : Decides (list_any (λ i. is_named order name lib i
       && list_any (is_named order name lib) (range_with_len 0 i)) slots) (Duplicate order name lib)
   duplicate = any_lesser _ _ (λ i. Decides-and _ _ (named order name lib i)
-      (any_lesser _ _ (named order name lib) i)) 16
+      (any_lesser _ _ (named order name lib) i)) SLOTS
 
   -- the entry that is found for a name is the smallest that has it
   first_entry : Least
       (λ i j. i < j) (NamedAt order name lib) (find (is_named order name lib) slots)
-  first_entry = rw (find_first (is_named order name lib) slots) (least_below _ 16
+  first_entry = rw (find_first (is_named order name lib) slots) (least_below _ SLOTS
       (λ i lt. least_guard _ (named order name lib i) (this i refl (λ y e. inl e)))
       (λ i j x y h s t. grind arith))
 
@@ -77,7 +77,7 @@ module _ (order : Order) (name lib : List ℕ) where
       Has : Reason → Type 0
       Has = EntriesHave order name lib
 
-      single : Decides false (Duplicate order name lib) → (i j : ℕ) → i < 16 → j < 16
+      single : Decides false (Duplicate order name lib) → (i j : ℕ) → i < SLOTS → j < SLOTS
           → IsNamed order name lib i → IsNamed order name lib j → i ≡ j
       single d i j a b m n = grind (arith, not_apart, false≢true)
 
@@ -99,7 +99,7 @@ module _ (order : Order) (name lib : List ℕ) where
           here : IsNamed order name lib i
           here = rw s.2.1 s.2.0
 
-          within : i < 16
+          within : i < SLOTS
           within = rw s.2.1 s.1
 
           to : (y : Reason) → (y ≡ reason.NotAUnit (entry_at order lib i).kind)
@@ -437,7 +437,7 @@ unfolding sources_fault
 step_5 law order host libs =
     least_same (λ f t. (t.0, t.1, (t.2.0, ok_is _ t.2.0 t.2.1, t.2.2)))
     (λ f t. (t.0, t.1, (t.2.0, is_ok _ t.2.0 t.2.1, t.2.2)))
-    (least_below _ 16 (λ slot lt. least_then _ _
+    (least_below _ SLOTS (λ slot lt. least_then _ _
     (λ r e. of_role law order host libs slot r (ok_is _ r e)))
     (λ i j x y h s t. (let a = in_place order host libs i s.0 x s.2 in
     let b = in_place order host libs j t.0 y t.2 in inr (refl, inl (omega (arith, a, b, h))))))

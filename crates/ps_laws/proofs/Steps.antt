@@ -1,5 +1,5 @@
 -- The first fault of each step is the smallest that is.
-use Rattle.ps_laws.proofs.Vocabulary.{◌⊎◌, if◌then◌else◌, ◌&&◌, Decides, range_with_len, list_any, option_map, option_map_or, result_ok, result_err, bytes_eq, cases_lt, false≢true, Decides-ltb, Decides-and, Decides-like, bytes_eq-Decides, entry_at, role_of, Because, SomeBelow, HasRole, IsUnitSlot, Step, OfHost, OfSlots, OfNoHost, OfLibraries, rank, Role, is_role, is_host, is_unit, Order, Reason, Fault, rules, ◌≡◌, ℕ, zero, suc, ◌+◌, ◌<◌, ◌≤◌, List, length, Option, Result, Ok, Err, Bool, false, refl, subst, inl, inr, arith, Decides-not, FileOrder, file_order, opened_alone, opened_as, opened_beside_as, same_order, SlotHas, InSlots, InNoHost, in_file}
+use Rattle.ps_laws.proofs.Vocabulary.{◌⊎◌, if◌then◌else◌, ◌&&◌, Decides, range_with_len, list_any, option_map, option_map_or, result_ok, result_err, bytes_eq, cases_lt, false≢true, Decides-ltb, Decides-and, Decides-like, bytes_eq-Decides, entry_at, role_of, Because, SomeBelow, HasRole, IsUnitSlot, Step, OfHost, OfSlots, OfNoHost, OfLibraries, rank, Role, is_role, is_host, is_unit, Order, Reason, Fault, rules, ◌≡◌, ℕ, zero, suc, ◌+◌, ◌<◌, ◌≤◌, List, length, Option, Result, Ok, Err, Bool, false, refl, subst, inl, inr, arith, Decides-not, FileOrder, file_order, opened_alone, opened_as, opened_beside_as, same_order, SlotHas, InSlots, InNoHost, in_file, SLOTS}
 use Rattle.ps_resolve.specs.Standing.Hosts.{HostHas, InHost}
 use Rattle.ps_resolve.specs.Standing.Libraries.{LibraryHas, InLibraries}
 use Rattle.ps_resolve.specs.Faults.{host_fault, slot_reason, slots_fault, no_host_fault, library_reason, libraries_fault}
@@ -130,7 +130,7 @@ module _ (order : Order) (host : List ℕ) where
   -- the first fault of the slots is the smallest that applies
   pub step_2 : Least (Precedes OfSlots) (InSlots order host) (slots_fault order host)
   unfolding slots_fault
-  step_2 = least_below _ 16
+  step_2 = least_below _ SLOTS
       (λ slot lt. because OfSlots _ (λ a b r. grind arith) (slot_rows slot))
       (λ i j x y h. because_apart OfSlots _ _ (λ r q. inr (refl, inl h)) x y)
 
@@ -138,4 +138,4 @@ module _ (order : Order) (host : List ℕ) where
   pub step_3 : Least (Precedes OfNoHost) (InNoHost order host) (no_host_fault order host)
   unfolding no_host_fault
   step_3 = least_if _ _ (Decides-like _ (λ n slot h r. n (slot, h, r)) (λ n t. n t.0 t.1 t.2)
-      (Decides-not _ (any_lesser _ (λ i. HasRole order host i role.Host) (λ i. host_role _) 16)))
+      (Decides-not _ (any_lesser _ (λ i. HasRole order host i role.Host) (λ i. host_role _) SLOTS)))

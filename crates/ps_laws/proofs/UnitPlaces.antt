@@ -1,5 +1,5 @@
 -- The place of a unit: the first library that has an entry of its name, and the first such entry.
-use Rattle.ps_laws.proofs.Vocabulary.{slice_get, option_map, slots, EntryFault, ◌≢◌, find, IsFile, Order, Request, in_slot, Fault, is_named, chosen_library, unit_source, request_fault, file_at, IsNamed, HasEntry, entry_at, ◌≡◌, ℕ, zero, suc, ◌+◌, ◌<◌, List, [], Some, sym, ap, subst, arith, unwrap_or, refl, ◌≤◌, None, option_and_then_some, library_file, EntriesHave, some_mapped, IsUnitOf, request_parts}
+use Rattle.ps_laws.proofs.Vocabulary.{slice_get, option_map, slots, EntryFault, ◌≢◌, find, IsFile, Order, Request, in_slot, Fault, is_named, chosen_library, unit_source, request_fault, file_at, IsNamed, HasEntry, entry_at, ◌≡◌, ℕ, zero, suc, ◌+◌, ◌<◌, List, [], Some, sym, ap, subst, arith, unwrap_or, refl, ◌≤◌, None, option_and_then_some, library_file, EntriesHave, some_mapped, IsUnitOf, request_parts, SLOTS}
 use Rattle.ps_laws.proofs.Least.{quiet, Least}
 use Rattle.ps_laws.proofs.Items.{find_in, find_passes, of_range, not_apart}
 use Rattle.ps_laws.proofs.Sources.{Found, IsChosen, chosen, is_chosen, named, entry_least}
@@ -16,7 +16,7 @@ pub record UnitPlace (order : Order) (name : List ℕ) (libs : List (List ℕ))
   pub first : (lesser : ℕ) (other : List ℕ) → lesser < number
       → slice_get libs lesser ≡ Some other → HasEntry order name other → ⊥
   pub file : at.0 ≡ number + 1
-  pub within : at.1 < 16
+  pub within : at.1 < SLOTS
   pub named : IsNamed order name library at.1
   pub is_file : (host : List ℕ) → IsFile host libs at.0 library
   pub file_is : (host : List ℕ) → file_at host libs at.0 ≡ library
@@ -52,7 +52,7 @@ module _ (order : Order) (name : List ℕ) (libs : List (List ℕ)) where
             there = first.there;
             first = first.lesser;
             file = refl;
-            within = (of_range 0 16 i in_slots.0 in_slots.1).1;
+            within = (of_range 0 SLOTS i in_slots.0 in_slots.1).1;
             named = (named order name p.1 i).0
                 (find_passes (is_named order name p.1) slots i found);
             is_file = λ host. library_at host p.0 p.1 first.there;
@@ -71,7 +71,7 @@ pub one_entry : (order : Order) (libs : List (List ℕ)) (name : List ℕ) (slot
 one_entry order libs name slot fine n lib there first i j h k a b =
     not_apart i j (λ l. not_two i j l k a b) (λ l. not_two j i l h b a)
   where
-    not_two : (i j : ℕ) → i < j → j < 16 → IsNamed order name lib i
+    not_two : (i j : ℕ) → i < j → j < SLOTS → IsNamed order name lib i
         → IsNamed order name lib j → ⊥
     not_two i j lt h a b = fine (in_slot (n + 1) slot reason.DoubledUnit)
         (n, lib, there, (((j, h, b), first), (reason.DoubledUnit, refl, (j, h, (b, (i, lt, a))))))
@@ -109,7 +109,7 @@ module _ (order : Order) (host : List ℕ) (libs : List (List ℕ)) (q : Request
       none_lesser zero other low lt is has = omega (arith, low)
       none_lesser (suc k) other low lt is has = u.first k other (omega (arith, lt, u.file)) is has
 
-      one : (j : ℕ) → j < 16 → IsNamed order q.name u.library j → j ≡ at.1
+      one : (j : ℕ) → j < SLOTS → IsNamed order q.name u.library j → j ≡ at.1
       one j h n = one_entry order
           libs q.name q.slot fine u.number u.library u.there u.first j at.1 h u.within n u.named
 

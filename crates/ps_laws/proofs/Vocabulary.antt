@@ -2,6 +2,7 @@
 pub use Rattle.ps_codefile.specs.Dictionary.{FileOrder, code_of, entry_at, file_order, information_of, is_nameless, opened_alone, opened_as, opened_beside_as, role_of, same_order, slots}
 pub use Rattle.ps_codefile.specs.Procedures.{ProcedureTables, content_of, dictionary_len, dictionary_start, is_placed, is_reserved, numbers, procedures, table_of, tables, tables_fault}
 pub use Rattle.ps_codefile.specs.Roles.{is_empty, is_host, is_unit, needs_linking}
+pub use Rattle.ps_codefile.specs.declared.dictionary_layout.TheConstants.{FIRST_ADDED, SLOTS}
 pub use Rattle.ps_codefile.specs.declared.entry.Entry.{Entry}
 pub use Rattle.ps_codefile.specs.declared.entry.Role.{Role}
 pub use Rattle.ps_linkinfo.specs.RecordCounts.{is_definition, is_private_reference, is_unit_reference, next_in, next_of}
@@ -9,6 +10,7 @@ pub use Rattle.ps_linkinfo.specs.Records.{EndsOnce, Spells, Stops, bad, is_end, 
 pub use Rattle.ps_linkinfo.specs.declared.record.Body.{Body}
 pub use Rattle.ps_linkinfo.specs.declared.record.Body.TheVariants.{Eof, PrivRef, PublDef, PublRef, UnitRef}
 pub use Rattle.ps_linkinfo.specs.declared.record.LinkRecord.{LinkRecord as Record}
+pub use Rattle.ps_reading.specs.declared.reading.added.TheConstants.{MAX_ADDED}
 pub use Rattle.ps_resolve.proofs.EachRound.{IsTurn, all_rounds, own_units, references_of, request_parts, round_fault, segments_before, source_made, unit_there}
 pub use Rattle.ps_resolve.proofs.EachSegment.{at_slot, find_has, own_made, own_made as made_from}
 pub use Rattle.ps_resolve.proofs.FirstSlots.{none_mapped, none_mapped as map_none, or_none as both_none, some_mapped}

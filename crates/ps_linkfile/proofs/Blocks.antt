@@ -1,5 +1,5 @@
 -- The blocks of codes whose slots ascend.
-use Rattle.ps_linkfile.proofs.Vocabulary.{nat_lt, filter, find, blocks, Order, Origin, pair_of, Ascend, All, All-nil, All-cons, All-head, All-tail, MAX_WORD, block_of, nat_tests, word_bytes, all_blocks, starts_of, ◌≡◌, ◌≤◌, ◌==◌, ◌∷◌, length-append, ◌∙◌, ℕ, List, map, take, drop, None, refl, ◌+◌, ◌*◌, ◌<◌, [], ◌++◌, length, arith, eq-eqb, take-add, map-append, take_all, MAX_CODE_LEN, MAX_CODE_BLOCKS}
+use Rattle.ps_linkfile.proofs.Vocabulary.{nat_lt, filter, find, blocks, Order, Origin, pair_of, Ascend, All, All-nil, All-cons, All-head, All-tail, MAX_WORD, block_of, nat_tests, word_bytes, all_blocks, starts_of, ◌≡◌, ◌≤◌, ◌==◌, ◌∷◌, length-append, ◌∙◌, ℕ, List, map, take, drop, None, refl, ◌+◌, ◌*◌, ◌<◌, [], ◌++◌, length, arith, eq-eqb, take-add, map-append, take_all, MAX_CODE_LEN, MAX_CODE_BLOCKS, SLOT_COUNT, SLOTS}
 use Rattle.std.proofs.lemmas.List.Sums.{sum_by-cons, sum_by_push}
 
 pub all_blocks-cons : (o : Origin) (os : List Origin)
@@ -7,8 +7,8 @@ pub all_blocks-cons : (o : Origin) (os : List Origin)
 all_blocks-cons o os = sum_by-cons (λ (p : Origin). blocks (length p.code)) o os
 
 -- sixteen slots at most
-pub few_codes : (from : ℕ) (os : List Origin) → from ≤ 16 → Ascend from os
-    → from + length os ≤ 16
+pub few_codes : (from : ℕ) (os : List Origin) → from ≤ SLOTS → Ascend from os
+    → from + length os ≤ SLOT_COUNT
 few_codes from [] k h = omega arith
 few_codes from (o ∷ os) k h = let rest = few_codes (o.slot + 1) os (omega (arith, h.1)) h.2 in
     omega (arith, rest, h.0)
@@ -24,9 +24,9 @@ few_blocks (o ∷ os) h =
     omega (arith, all_blocks-cons o os, one, rest)
 
 -- each slot is one of sixteen
-pub slots_below : (from : ℕ) (os : List Origin) → Ascend from os → All (λ o. o.slot < 16) os
-slots_below from [] h = All-nil (λ (o : Origin). o.slot < 16)
-slots_below from (o ∷ os) h = All-cons (λ (p : Origin). p.slot < 16) o os h.1
+pub slots_below : (from : ℕ) (os : List Origin) → Ascend from os → All (λ o. o.slot < SLOTS) os
+slots_below from [] h = All-nil (λ (o : Origin). o.slot < SLOTS)
+slots_below from (o ∷ os) h = All-cons (λ (p : Origin). p.slot < SLOTS) o os h.1
     (slots_below (o.slot + 1) os h.2)
 
 -- no code is before the first
@@ -102,7 +102,7 @@ module _ (all : List Origin) (count : ℕ) (starts : List ℕ) (block from : ℕ
 
   -- where a code is left, fewer than sixteen are laid out, and its first block is a word
   pub laid_next : (o : Origin) → drop count all ≡ o ∷ drop (count + 1) all
-      → LaidSoFar all count starts block from → (count < 16) × (block ≤ MAX_WORD)
+      → LaidSoFar all count starts block from → (count < SLOTS) × (block ≤ MAX_WORD)
   laid_next o is h = grind arith
 
   -- with one code more laid out, its start is the block that was reached, and the next begins after

@@ -1,6 +1,6 @@
 -- The map of a plan is the map of its link, and the row of a source.
 use Rattle.std.proofs.Common.{◌≡◌, ℕ, zero, suc, ◌+◌, ◌≤◌, ◌<◌, List, [], ◌∷◌, ◌++◌, length, map, get_or, Some, refl, sym, ◌∙◌, ap, arith}
-use Rattle.ps_linkfile.proofs.Vocabulary.{find, order_of, get_or-map-range_with_len, Segment, Planned, Origin, origin_of, origin_of_source, IsPlan, nat_tests, Source, block_of, starts_of, Ascend}
+use Rattle.ps_linkfile.proofs.Vocabulary.{find, order_of, get_or-map-range_with_len, Segment, Planned, Origin, origin_of, origin_of_source, IsPlan, nat_tests, Source, block_of, starts_of, Ascend, SLOTS}
 use Rattle.std.specs.Prelude.{◌==◌, slice_get}
 use Rattle.std.proofs.lemmas.Option.{unwrap_or-slice_get}
 use Rattle.ps_resolve.specs.Added.{segments, slot_name, slot_names}
@@ -11,11 +11,11 @@ use Rattle.ps_linkfile.specs.declared.rows.Form.TheVariants.{Lines, Json}
 use Rattle.ps_linkfile.proofs.Slots.{segments_ascend}
 use Rattle.ps_linkfile.proofs.Views.{no_source, start_at}
 
--- of a list that rises from a number on, each segment has a slot not below it and below 16, and is
--- found by this slot
+-- of a list that rises from a number on, each segment has a slot not below it and below SLOTS, and
+-- is found by this slot
 found_in : (ss : List Segment) (from : ℕ) → Ascend from (map origin_of ss)
     → (i : ℕ) (s : Segment) → slice_get ss i ≡ Some s → (from ≤ s.slot)
-    × (s.slot < 16) × (find (λ (t : Segment). t.slot == s.slot) ss ≡ Some s)
+    × (s.slot < SLOTS) × (find (λ (t : Segment). t.slot == s.slot) ss ≡ Some s)
 found_in [] from a i s h = cc
 found_in (t ∷ ss) from a zero s h = grind arith
 found_in (t ∷ ss) from a (suc i) s h =
@@ -29,7 +29,7 @@ name_within host ss a i s h =
     let found = found_in ss 0 a i s h in
     rw (
       unwrap_or-slice_get,
-      get_or-map-range_with_len (slot_name host ss) 0 16 s.slot s.slot []
+      get_or-map-range_with_len (slot_name host ss) 0 SLOTS s.slot s.slot []
           found.1 (omega arith),
       found.2,
     )

@@ -1,5 +1,5 @@
 -- The sixteen pairs of a segment dictionary, byte by byte.
-use Rattle.ps_linkfile.proofs.Vocabulary.{flat_map, range_with_len, cases_lt, word_bytes, blocks, Order, Origin, slots, Ascend, get_or-replicate, length-replicate, get_or_append_left, ext_get_or, drop_all, ◌≡◌, ◌≢◌, ℕ, zero, suc, ◌+◌, ◌*◌, ◌/◌, ◌%◌, ◌≤◌, ◌<◌, List, [], ◌∷◌, ◌++◌, length, get_or, drop, replicate, sym, ◌∙◌, ap, subst, inl, inr, arith, length-append, get_or-append_right}
+use Rattle.ps_linkfile.proofs.Vocabulary.{flat_map, range_with_len, cases_lt, word_bytes, blocks, Order, Origin, slots, Ascend, get_or-replicate, length-replicate, get_or_append_left, ext_get_or, drop_all, ◌≡◌, ◌≢◌, ℕ, zero, suc, ◌+◌, ◌*◌, ◌/◌, ◌%◌, ◌≤◌, ◌<◌, List, [], ◌∷◌, ◌++◌, length, get_or, drop, replicate, sym, ◌∙◌, ap, subst, inl, inr, arith, length-append, get_or-append_right, SLOTS}
 use Rattle.ps_linkfile.specs.LinkedFile.{block_of, pair_of, all_pairs}
 use Rattle.ps_linkfile.proofs.Blocks.{Left, left_start, left_more, first_block, first_pair, no_pair}
 
@@ -25,23 +25,24 @@ module _ (order : Order) (all : List Origin) where
   pair_four slot = grind arith
 
   -- the sixteen pairs, slot by slot and byte by byte
-  pub pairs_at : (slot j : ℕ) → slot < 16 → j < 4 → get_or
+  pub pairs_at : (slot j : ℕ) → slot < SLOTS → j < 4 → get_or
       (flat_map (pair_of order all) slots) (4 * slot + j) 0 ≡ get_or (pair_of order all slot) j 0
   pairs_at slot j k l =
       let is : 0 + slot ≡ slot = omega arith in
-      four_at (pair_of order all) (pair_four) 16 0 slot j k l
+      four_at (pair_of order all) (pair_four) SLOTS 0 slot j k l
       ∙ ap (λ s. get_or (pair_of order all s) j 0) is
 
   pub pairs_len : length (flat_map (pair_of order all) slots) ≡ 64
-  pairs_len = four_each (pair_of order all) (pair_four) 16 0
+  pairs_len = four_each (pair_of order all) (pair_four) SLOTS 0
 
   -- 64 bytes that have those of each slot's pair at its place are the sixteen pairs
-  pub pairs_are : (xs : List ℕ) → length xs ≡ 64 → ((slot j : ℕ) → slot < 16
+  pub pairs_are : (xs : List ℕ) → length xs ≡ 64 → ((slot j : ℕ) → slot < SLOTS
       → j < 4 → get_or xs (4 * slot + j) 0 ≡ get_or (pair_of order all slot) j 0)
       → xs ≡ flat_map (pair_of order all) slots
   pairs_are xs len h = ext_get_or 0 xs (flat_map (pair_of order all) slots)
       (len ∙ sym (pairs_len)) (λ i lt. let parts : 4 * (i / 4) + i % 4 ≡ i =
-      omega arith in let slot : i / 4 < 16 = omega arith in let within : i % 4 < 4 = omega arith in
+      omega arith in let slot : i / 4 < SLOTS = omega arith in
+      let within : i % 4 < 4 = omega arith in
       rw parts at (h (i / 4) (i % 4) slot within ∙ sym (pairs_at (i / 4) (i % 4) slot within)))
 
 -- what storing a word leaves
@@ -71,7 +72,7 @@ pub record PairsSoFar (order : Order) (all : List Origin) (count : ℕ) (pairs :
   pub left : Left all from block (drop count all)
   pub stored : (slot j : ℕ) → slot < from → j < 4
       → get_or pairs (4 * slot + j) 0 ≡ get_or (pair_of order all slot) j 0
-  pub empty : (slot j : ℕ) → from ≤ slot → slot < 16 → j < 4
+  pub empty : (slot j : ℕ) → from ≤ slot → slot < SLOTS → j < 4
       → get_or pairs (4 * slot + j) 0 ≡ 0
 
 module _ (order : Order) (all : List Origin) where

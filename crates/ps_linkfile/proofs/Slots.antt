@@ -1,5 +1,5 @@
 -- The segments of a link are by slot, and no code is longer than MAX_CODE_LEN bytes.
-use Rattle.ps_linkfile.proofs.Vocabulary.{All, Order, entry_at, MAX_CODE_LEN, Origin, Ascend, origin_of, ℕ, ◌+◌, ◌<◌, ◌≤◌, List, [], ◌∷◌, length, map, sym, subst, inl, inr, arith, All-map, All-tail, Segment, file_at}
+use Rattle.ps_linkfile.proofs.Vocabulary.{All, Order, entry_at, MAX_CODE_LEN, Origin, Ascend, origin_of, ℕ, ◌+◌, ◌<◌, ◌≤◌, List, [], ◌∷◌, length, map, sym, subst, inl, inr, arith, All-map, All-tail, Segment, file_at, SLOTS}
 use Rattle.ps_codefile.specs.declared.entry.Role.{Role}
 use Rattle.ps_codefile.specs.declared.entry.Role.TheVariants.{Wanted}
 use Rattle.ps_resolve.specs.Added.{segments, segment_at, added_segments}
@@ -36,18 +36,18 @@ module _ (order : Order) (host : List ℕ) (libs : List (List ℕ)) where
           (λ j g s round. let t = added_made order host libs g s.slot s round.brought in
           subst IsSmall (sym t.2) (made_small s.slot g.name Wanted t.0 t.1 t.3))
 
-  all_within : All (λ s. s.slot < 16) (segments order host libs)
+  all_within : All (λ s. s.slot < SLOTS) (segments order host libs)
   unfolding segments
-  all_within = each_slot (λ (s : Segment). s.slot < 16) (segment_at order host libs)
+  all_within = each_slot (λ (s : Segment). s.slot < SLOTS) (segment_at order host libs)
       (λ x s lt h. let at = (slot_parts order host libs x s h).0 in omega arith)
 
 origins_ascend : (from : ℕ) (ss : List Segment) → AscendFrom from (map
-    (λ (s : Segment). s.slot) ss) → All (λ s. s.slot < 16) ss → Ascend from (map origin_of ss)
+    (λ (s : Segment). s.slot) ss) → All (λ s. s.slot < SLOTS) ss → Ascend from (map origin_of ss)
 origins_ascend from [] rises within = tt
 origins_ascend from (s ∷ ss) rises within = (
   rises.0,
   within 0 s (omega arith),
-  origins_ascend (s.slot + 1) ss rises.1 (All-tail (λ (q : Segment). q.slot < 16) s ss within),
+  origins_ascend (s.slot + 1) ss rises.1 (All-tail (λ (q : Segment). q.slot < SLOTS) s ss within),
 )
 
 module _ (order : Order) (host : List ℕ) (libs : List (List ℕ)) where

@@ -1,5 +1,5 @@
 -- The sources of a plan and their origins.
-use Rattle.ps_linkfile.proofs.Vocabulary.{All, slice_get, Edit, MAX_CODE_LEN, Origin, origin_of_source, Source, block_of, starts_of, Ascend, arith, ℕ, List, [], map, get_or, drop, Some, false, ap, sym, ◌≡◌, ◌+◌, ◌≤◌, ◌<◌, ◌∷◌, length, ◌∙◌, drop-map, drop_more, length-map, get_or-map, get_or-drop}
+use Rattle.ps_linkfile.proofs.Vocabulary.{All, slice_get, Edit, MAX_CODE_LEN, Origin, origin_of_source, Source, block_of, starts_of, Ascend, arith, ℕ, List, [], map, get_or, drop, Some, false, ap, sym, ◌≡◌, ◌+◌, ◌≤◌, ◌<◌, ◌∷◌, length, ◌∙◌, drop-map, drop_more, length-map, get_or-map, get_or-drop, SLOTS}
 use Rattle.std.proofs.lemmas.Option.{get_or_from_slice_get, slice_get_within}
 use Rattle.ps_linkfile.proofs.Blocks.{slots_below}
 use Rattle.ps_linkfile.proofs.Codes.{IsAt}
@@ -50,8 +50,8 @@ module _ (ss : List Source) where
 
   -- its slot is one of sixteen
   pub slot_at : (i : ℕ)
-      → Ascend 0 (map origin_of_source ss) → i < length ss → (get_or ss i no_source).slot < 16
-  slot_at i h lt = seen_at (λ (o : Origin). o.slot < 16) origin_of_source ss i no_source
+      → Ascend 0 (map origin_of_source ss) → i < length ss → (get_or ss i no_source).slot < SLOTS
+  slot_at i h lt = seen_at (λ (o : Origin). o.slot < SLOTS) origin_of_source ss i no_source
       (slots_below 0 (map origin_of_source ss) h) lt
 
   -- there are as many starts as sources

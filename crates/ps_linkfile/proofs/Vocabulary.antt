@@ -1,6 +1,7 @@
 -- The words that several proofs use, each with its home.
 pub use Rattle.ps_codefile.specs.Dictionary.{FileOrder, OpenedFile, Ordered, Zero, block_len, code_of, entry_at, file_order, information_of, opened_as, opened_beside_as, slots}
 pub use Rattle.ps_codefile.specs.declared.code_layout.TheConstants.{MAX_CODE_BLOCKS, MAX_CODE_LEN}
+pub use Rattle.ps_codefile.specs.declared.dictionary_layout.TheConstants.{SLOT_COUNT, SLOTS}
 pub use Rattle.ps_codefile.specs.declared.entry.Entry.{Entry}
 pub use Rattle.ps_linkfile.specs.Counts.{AreAtMost, AreBelow, Failures, HasRoom, IfDevice, IfStalled, NoneFailed, OneError, OneFailed, OneStall, Rises, RisesByPieces, counts_after, one_more, saturated_after}
 pub use Rattle.ps_linkfile.specs.JsonText.{json_byte, reference_item}

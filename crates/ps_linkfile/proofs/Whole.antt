@@ -1,5 +1,5 @@
 -- The linked file is one list: where its facts hold, each byte is that of the list.
-use Rattle.ps_linkfile.proofs.Vocabulary.{flat_map, length-map-range_with_len, get_or-map-range_with_len, nat_tests, file_order, ext_get_or, all_blocks, LinkedFile, All-nil, in_file, Segment, drop_all, block_of, All-cons, opened_as, order_of, drop-drop, blocks, get_or_append_left, get_or-replicate, Order, Fault, Origin, pair_of, origins, Reason, origin_of, Edit, padded_segment, linked_file, OpenedFile, patched_or_zero, linked_segments, ◌≡◌, ℕ, suc, List, ◌+◌, ◌-◌, ◌*◌, ◌/◌, ◌≤◌, ◌<◌, [], ◌∷◌, ◌++◌, length, map, get_or, take, drop, replicate, Option, Some, None, Result, Err, Bool, true, false, cond, refl, sym, ◌∙◌, ap, subst, inl, inr, arith, append_assoc, length-append, length-take, length-drop, All, nat_lt, slice_range, option_map, append-nil, get_or-take, get_or-drop, get_or-append-add, take_at, drop_at, cases_lt, ltb-false, le-ltb, IsLinkedByte, segments_of, HaveLinkedBytes, HaveOneLinkedByte, IsStopped, linked_byte, NamesFirst, error_of, All-map}
+use Rattle.ps_linkfile.proofs.Vocabulary.{flat_map, length-map-range_with_len, get_or-map-range_with_len, nat_tests, file_order, ext_get_or, all_blocks, LinkedFile, All-nil, in_file, Segment, drop_all, block_of, All-cons, opened_as, order_of, drop-drop, blocks, get_or_append_left, get_or-replicate, Order, Fault, Origin, pair_of, origins, Reason, origin_of, Edit, padded_segment, linked_file, OpenedFile, patched_or_zero, linked_segments, ◌≡◌, ℕ, suc, List, ◌+◌, ◌-◌, ◌*◌, ◌/◌, ◌≤◌, ◌<◌, [], ◌∷◌, ◌++◌, length, map, get_or, take, drop, replicate, Option, Some, None, Result, Err, Bool, true, false, cond, refl, sym, ◌∙◌, ap, subst, inl, inr, arith, append_assoc, length-append, length-take, length-drop, All, nat_lt, slice_range, option_map, append-nil, get_or-take, get_or-drop, get_or-append-add, take_at, drop_at, cases_lt, ltb-false, le-ltb, IsLinkedByte, segments_of, HaveLinkedBytes, HaveOneLinkedByte, IsStopped, linked_byte, NamesFirst, error_of, All-map, SLOTS}
 use Rattle.std.specs.Result.{result_err}
 use Rattle.std.proofs.lemmas.List.Folds.{drop_split}
 use Rattle.std.proofs.Math.Seq.{take-append_seam, drop-append-add}
@@ -213,7 +213,7 @@ dictionary_is order all_names host all d pairs names tail h p n t = grind arith
 
 -- where a file begins with sixteen pairs, it has the pair of each slot
 pair_part : (order : Order) (all : List Origin) (file : List ℕ) → 512 ≤ length file
-    → slice_range file 0 64 ≡ all_pairs order all → (slot : ℕ) → slot < 16
+    → slice_range file 0 64 ≡ all_pairs order all → (slot : ℕ) → slot < SLOTS
     → slice_range file (4 * slot) (4 * slot + 4) ≡ pair_of order all slot
 unfolding all_pairs
 pair_part order all file long h slot lt =
@@ -331,7 +331,7 @@ module _ (host : List ℕ) (libs : List (List ℕ)) where
   one single f g h k = ext_get_or 0 f g (h.size ∙ sym k.size) (λ p lt.
       elim (cases_lt p 64) [
         | inl in_pairs ↦
-            let slot : p / 4 < 16 = omega arith in
+            let slot : p / 4 < SLOTS = omega arith in
             part_same f g _ (4 * (p / 4)) (4 * (p / 4) + 4) p
             (h.pairs (p / 4) slot) (k.pairs (p / 4) slot) (omega arith) (omega arith)
         | inr behind_pairs ↦ elim (cases_lt p 192) [

@@ -17,6 +17,7 @@ use Rattle.ps_resolve.specs.Sources.{Segment, order_of}
 use Rattle.ps_resolve.specs.Linking.{edited_segments}
 use Rattle.ps_patch.specs.Patched.{patched_or_zero}
 use Rattle.ps_linkfile.specs.declared.summary.Summary.{Summary}
+use Rattle.ps_codefile.specs.declared.dictionary_layout.TheConstants.{SLOTS}
 
 -- how many blocks the codes take
 abbrev pub all_blocks : List Origin → ℕ
@@ -43,7 +44,7 @@ origins host libs = map origin_of (segments_of host libs)
 pub record LinkedFile (host : List ℕ) (libs : List (List ℕ)) (file : List ℕ) : Type 0 where
   pub accepted : NoneStands host libs
   pub size : length file ≡ block_len * (1 + all_blocks (origins host libs))
-  pub pairs : (slot : ℕ) → slot < 16
+  pub pairs : (slot : ℕ) → slot < SLOTS
       → slice_range file (4 * slot) (4 * slot + 4)
       ≡ pair_of (order_of host) (origins host libs) slot
   pub names : slice_range file names_start kinds_start

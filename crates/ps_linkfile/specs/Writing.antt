@@ -9,6 +9,7 @@ use Rattle.ps_codefile.specs.declared.code_layout.TheConstants.{MAX_CODE_LEN}
 use Rattle.ps_resolve.specs.Plans.{Planned, Origin}
 use Rattle.ps_linkfile.specs.LinkedFile.{all_blocks, block_of, dictionary, padded_code, LinkedFile, summary_of}
 use Rattle.ps_linkfile.specs.declared.summary.Summary.{Summary}
+use Rattle.ps_codefile.specs.declared.dictionary_layout.TheConstants.{SLOT_COUNT, SLOTS}
 
 -- the code of each source with its edits, in whole blocks
 abbrev pub padded_codes : Order → List Origin → List (List Edit) → List ℕ
@@ -39,7 +40,7 @@ pub record StandsFor (host : List ℕ) (libs : List (List ℕ)) (plan : Planned)
 -- slots of a dictionary, each above the one before it
 abbrev pub Ascend : ℕ → List Origin → Type 0
 Ascend from [] = ⊤
-Ascend from (o ∷ os) = (from ≤ o.slot) × (o.slot < 16) × Ascend (o.slot + 1) os
+Ascend from (o ∷ os) = (from ≤ o.slot) × (o.slot < SLOTS) × Ascend (o.slot + 1) os
 
 -- each code has its own edits
 abbrev pub HaveEdits : List Origin → List (List Edit) → Type 0
@@ -52,7 +53,7 @@ HaveEdits (o ∷ os) (edits ∷ rest) = AreEdits (length o.code) edits × HaveEd
 -- MAX_CODE_LEN bytes, and edits inside them
 pub record IsReady (plan : Planned) : Type 0 where
   pub host : block_len ≤ length plan.host
-  pub names : length plan.names ≡ 16
+  pub names : length plan.names ≡ SLOT_COUNT
   pub slots : Ascend 0 plan.origins
   pub sizes : All (λ o. length o.code ≤ MAX_CODE_LEN) plan.origins
   pub edits : HaveEdits plan.origins plan.edits

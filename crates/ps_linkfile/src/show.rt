@@ -114,7 +114,7 @@ pub(crate) fn add_entry<S: TextWriter>(text: &mut S, form: Form, slot: u8, entry
 /// Adds the line of a slot.
 #[tactic(auto, unfolding(crate::specs::ShowText::slot_line))]
 fn add_slot<S: TextWriter>(text: &mut S, dict: &Dict, slot: u8)
-    requires { slot < 16 }
+    requires { slot < SLOTS }
     ensures { Adds S.added text.old
         (slot_line dict.now.order dict.now.file slot) text.new }
 {
@@ -134,16 +134,16 @@ fn add_slots<S: TextWriter>(text: &mut S, dict: &Dict)
 
 /// The slot has a unit, in place or wanted.
 fn is_unit(dict: &Dict, slot: u8) -> bool
-    requires { slot < 16 }
+    requires { slot < SLOTS }
     ensures { result ≡ is_role is_unit_role dict.now.order dict.now.file slot }
 {
     matches!(dict.role(slot), Ok(Role::Unit | Role::Wanted))
 }
 
 /// Adds the name of the slot after the others, where it has a unit.
-fn add_unit(dict: &Dict, names: &mut ArrayVec<Name, 16>, slot: u8)
-    requires in_range { slot < 16 }
-    requires room { array_vec_len names.old < 16 }
+fn add_unit(dict: &Dict, names: &mut ArrayVec<Name, SLOT_COUNT>, slot: u8)
+    requires in_range { slot < SLOTS }
+    requires room { array_vec_len names.old < SLOT_COUNT }
     ensures { names.new.items ≡ names.old.items
         ++ (if is_role is_unit_role dict.now.order dict.now.file slot
         then (entry_at dict.now.order dict.now.file slot).name ∷ [] else []) }
@@ -154,7 +154,7 @@ fn add_unit(dict: &Dict, names: &mut ArrayVec<Name, 16>, slot: u8)
 }
 
 /// The names of the units of a file, in place or wanted, by slot.
-pub(crate) fn unit_names(dict: &Dict) -> ArrayVec<Name, 16>
+pub(crate) fn unit_names(dict: &Dict) -> ArrayVec<Name, SLOT_COUNT>
     ensures { result.items ≡ unit_names_spec dict.now.order dict.now.file }
 {
     let mut names: ArrayVec<Name, SLOT_COUNT> = ArrayVec::new();
@@ -265,7 +265,7 @@ fn add_records<S: TextWriter>(
 
 /// The slot has a host segment or a unit, with a code in this file.
 pub(crate) fn has_links(dict: &Dict, slot: u8) -> bool
-    requires { slot < 16 }
+    requires { slot < SLOTS }
     ensures { result ≡ has_links_spec (entry_at dict.now.order dict.now.file slot) }
 {
     matches!(dict.role(slot), Ok(Role::Host | Role::Unit))
@@ -295,7 +295,7 @@ pub(crate) fn add_links<S: TextWriter>(
     units: &[Name],
     slot: u8,
 )
-    requires in_range { slot < 16 }
+    requires in_range { slot < SLOTS }
     requires units { units.now ≡ unit_names_spec dict.now.order dict.now.file }
     ensures { Adds S.added text.old
         (links_in form dict.now.order dict.now.file slot) text.new }

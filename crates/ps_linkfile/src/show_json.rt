@@ -64,7 +64,7 @@ fn add_slots<S: TextWriter>(text: &mut S, dict: &Dict)
 /// Adds the item of a slot, in a file with these units.
 #[tactic(auto, unfolding(crate::specs::ShowJson::slot_item))]
 fn add_slot<S: TextWriter>(text: &mut S, dict: &Dict, units: &[Name], slot: u8)
-    requires in_range { slot < 16 }
+    requires in_range { slot < SLOTS }
     requires units { units.now ≡ unit_names_spec dict.now.order dict.now.file }
     ensures { Adds S.added text.old
         (slot_item dict.now.order dict.now.file slot) text.new }

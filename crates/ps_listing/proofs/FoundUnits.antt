@@ -1,5 +1,5 @@
 -- The units of a file, slot by slot.
-use Rattle.ps_listing.proofs.Vocabulary.{◌≡◌, ℕ, suc, ◌+◌, ◌-◌, ◌<◌, List, [], ◌∷◌, ◌++◌, drop, Bool, true, false, Option, Some, None, append_assoc, append-nil, length, length-append, sym, ◌∙◌, ap, arith, is_some, true≢false, ◌||◌, Result, Ok, Err, IfErr, option_to_list, cons_option, filter_map, list_any, range_with_len, is_refused_unit}
+use Rattle.ps_listing.proofs.Vocabulary.{◌≡◌, ℕ, suc, ◌+◌, ◌-◌, ◌<◌, List, [], ◌∷◌, ◌++◌, drop, Bool, true, false, Option, Some, None, append_assoc, append-nil, length, length-append, sym, ◌∙◌, ap, arith, is_some, true≢false, ◌||◌, Result, Ok, Err, IfErr, option_to_list, cons_option, filter_map, list_any, range_with_len, is_refused_unit, SLOTS}
 use Rattle.ps_listing.specs.declared.lone.LoneUnit.{LoneUnit}
 
 -- what holds by itself holds of an error
@@ -9,34 +9,34 @@ of_error (Err y) p = p
 
 module _ (f : ℕ → Option LoneUnit) (all old : List LoneUnit) (i : ℕ) where
   -- what is found in one slot more
-  pub one_more : (o : Option LoneUnit) → i < 16 → f i ≡ o
-      → all ≡ old ++ filter_map f (range_with_len i (16 - i))
-      → all ≡ (old ++ option_to_list o) ++ filter_map f (range_with_len (i + 1) (16 - (i + 1)))
+  pub one_more : (o : Option LoneUnit) → i < SLOTS → f i ≡ o
+      → all ≡ old ++ filter_map f (range_with_len i (SLOTS - i))
+      → all ≡ (old ++ option_to_list o) ++ filter_map f (range_with_len (i + 1) (SLOTS - (i + 1)))
   one_more o lt is h =
-      let left : 16 - i ≡ suc (16 - (i + 1)) = omega arith in
+      let left : SLOTS - i ≡ suc (SLOTS - (i + 1)) = omega arith in
       h ∙ ap (λ (k : ℕ). old ++ filter_map f (range_with_len i k)) left
       ∙ ap (λ (p : Option LoneUnit). old ++ cons_option p rest) is ∙ at o
     where
       rest : List LoneUnit
-      rest = filter_map f (range_with_len (i + 1) (16 - (i + 1)))
+      rest = filter_map f (range_with_len (i + 1) (SLOTS - (i + 1)))
 
       at : (o : Option LoneUnit) → old ++ cons_option o rest ≡ (old ++ option_to_list o) ++ rest
       at None = ap (λ (xs : List LoneUnit). xs ++ rest) (sym (append-nil old))
       at (Some u) = sym (append_assoc old (u ∷ []) rest)
 
-  pub none_more : i < 16 → f i ≡ None
-      → all ≡ old ++ filter_map f (range_with_len i (16 - i))
-      → all ≡ old ++ filter_map f (range_with_len (i + 1) (16 - (i + 1)))
+  pub none_more : i < SLOTS → f i ≡ None
+      → all ≡ old ++ filter_map f (range_with_len i (SLOTS - i))
+      → all ≡ old ++ filter_map f (range_with_len (i + 1) (SLOTS - (i + 1)))
   none_more lt is h = one_more None lt is h
-      ∙ ap (λ (xs : List LoneUnit). xs ++ filter_map f (range_with_len (i + 1) (16 - (i + 1))))
+      ∙ ap (λ (xs : List LoneUnit). xs ++ filter_map f (range_with_len (i + 1) (SLOTS - (i + 1))))
       (append-nil old)
 
   -- where one is found, there is one
-  pub some_found : (o : Option LoneUnit) → i < 16 → f i ≡ o → is_some o ≡ true
-      → all ≡ old ++ filter_map f (range_with_len i (16 - i)) → 0 < length all
+  pub some_found : (o : Option LoneUnit) → i < SLOTS → f i ≡ o → is_some o ≡ true
+      → all ≡ old ++ filter_map f (range_with_len i (SLOTS - i)) → 0 < length all
   some_found None lt is some h = absurd (true≢false (sym some))
   some_found (Some u) lt is some h =
-      let rest = filter_map f (range_with_len (i + 1) (16 - (i + 1))) in
+      let rest = filter_map f (range_with_len (i + 1) (SLOTS - (i + 1))) in
       omega (
         arith,
         ap length (one_more (Some u) lt is h),
@@ -45,7 +45,7 @@ module _ (f : ℕ → Option LoneUnit) (all old : List LoneUnit) (i : ℕ) where
       )
 
   -- after the last slot
-  pub no_more : 16 - i ≡ 0 → all ≡ old ++ filter_map f (range_with_len i (16 - i))
+  pub no_more : SLOTS - i ≡ 0 → all ≡ old ++ filter_map f (range_with_len i (SLOTS - i))
       → all ≡ old
   no_more left h = h ∙ ap (λ (k : ℕ). old ++ filter_map f (range_with_len i k)) left
       ∙ append-nil old

@@ -11,6 +11,7 @@ ghost use Rattle.ps_resolve.specs.Faults.{information_fault};
 ghost use Rattle.ps_resolve.specs.Sources.{records_of};
 ghost use Rattle.ps_listing.specs.ListText.{fault_alone};
 
+use ps_codefile::dictionary_layout::SLOTS;
 use ps_codefile::{Dict, ProcedureDictionary, Role};
 use ps_linkinfo::LinkInformation;
 use ps_words::{Fault, Order};
@@ -40,7 +41,7 @@ fn read_code<'a>(
     role: Role,
     code: &[u8],
 ) -> Result<LinkInformation<'a>, Fault>
-    requires in_range { slot < 16 }
+    requires in_range { slot < SLOTS }
     requires large { needs_linking_spec role ≡ true → 2 ≤ length code.now }
     ensures fault { result_err result ≡ (if needs_linking_spec role
         then option_or (option_map (in_slot_spec 0 slot)
@@ -67,7 +68,7 @@ pub(crate) fn read_by_itself<'a>(
     slot: u8,
     role: Role,
 ) -> Result<LinkInformation<'a>, Fault>
-    requires in_range { slot < 16 }
+    requires in_range { slot < SLOTS }
     requires role { role_of (entry_at dict.now.order dict.now.file slot) ≡ Ok role }
     ensures fault { result_err result ≡ fault_alone dict.now.order dict.now.file slot role }
     ensures records { IfOk result (λ records. records ≡ records_of dict.now.order dict.now.file

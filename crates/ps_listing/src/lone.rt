@@ -37,7 +37,7 @@ fn lone_unit<A: Allocator + Copy>(
     file: &HostReading,
     slot: u8,
 ) -> Result<Option<LoneUnit>, AllocError>
-    requires { slot < 16 }
+    requires { slot < SLOTS }
     ensures unit { IfOk result (λ unit. unit ≡ lone_unit_spec file.now slot) }
     ensures there { IfErr result (λ _. is_some (lone_unit_spec file.now slot) ≡ true) }
     ensures memory { IfErr result (λ _. IsSoundUnit file.now.order file.now.file

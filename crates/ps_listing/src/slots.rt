@@ -14,7 +14,7 @@ use ps_words::{Fault, Name, Reason};
 
 /// The name of the segment in a slot.
 pub(crate) fn name_of(dict: &Dict, slot: u8) -> Name
-    requires { slot < 16 }
+    requires { slot < SLOTS }
     ensures { result ≡ (entry_at dict.now.order dict.now.file slot).name }
 {
     dict.entry(slot).name
@@ -22,7 +22,7 @@ pub(crate) fn name_of(dict: &Dict, slot: u8) -> Name
 
 /// The length of the code of a slot.
 pub(crate) fn size_of(dict: &Dict, slot: u8) -> usize
-    requires { slot < 16 }
+    requires { slot < SLOTS }
     ensures { result ≡ (entry_at dict.now.order dict.now.file slot).length }
 {
     dict.entry(slot).length as usize
@@ -30,7 +30,7 @@ pub(crate) fn size_of(dict: &Dict, slot: u8) -> usize
 
 /// The kind of the segment in a slot.
 pub(crate) fn kind_of(dict: &Dict, slot: u8) -> u16
-    requires { slot < 16 }
+    requires { slot < SLOTS }
     ensures { result ≡ (entry_at dict.now.order dict.now.file slot).kind }
 {
     dict.entry(slot).kind
@@ -39,7 +39,7 @@ pub(crate) fn kind_of(dict: &Dict, slot: u8) -> u16
 /// Adds what the line of a slot begins with.
 #[tactic(auto, using(ps_linkfile::proofs::Written::adds_is), unfolding(crate::specs::ListText::slot_head))]
 fn add_head<S: TextWriter>(text: &mut S, path: &str, dict: &Dict, slot: u8)
-    requires { slot < 16 }
+    requires { slot < SLOTS }
     ensures { Adds S.added text.old (slot_head path.now dict.now.order dict.now.file slot)
         text.new }
 {
@@ -50,7 +50,7 @@ fn add_head<S: TextWriter>(text: &mut S, path: &str, dict: &Dict, slot: u8)
 
 /// Adds why the segment in a slot of this role is refused, or else the units that it uses.
 fn add_found<S: TextWriter>(text: &mut S, dict: &Dict, slot: u8, role: Role)
-    requires in_range { slot < 16 }
+    requires in_range { slot < SLOTS }
     requires role { role_of (entry_at dict.now.order dict.now.file slot) ≡ Ok role }
     ensures { Adds S.added text.old (found_words dict.now.order dict.now.file slot role)
         text.new }
@@ -70,7 +70,7 @@ fn add_found_line<S: TextWriter>(
     role: Role,
     word: &[u8],
 )
-    requires in_range { slot < 16 }
+    requires in_range { slot < SLOTS }
     requires role { role_of (entry_at dict.now.order dict.now.file slot) ≡ Ok role }
     ensures { Adds S.added text.old
         (found_line path.now dict.now.order dict.now.file slot role word.now) text.new }
@@ -84,7 +84,7 @@ fn add_found_line<S: TextWriter>(
 
 /// Adds the line of a segment whose kind is refused.
 fn add_refused_line<S: TextWriter>(text: &mut S, path: &str, dict: &Dict, slot: u8, reason: Reason)
-    requires { slot < 16 }
+    requires { slot < SLOTS }
     ensures { Adds S.added text.old
         (refused_line path.now dict.now.order dict.now.file slot reason) text.new }
 {
@@ -103,7 +103,7 @@ fn add_role_line<S: TextWriter>(
     slot: u8,
     role: Result<Role, Reason>,
 )
-    requires in_range { slot < 16 }
+    requires in_range { slot < SLOTS }
     requires role { role_of (entry_at dict.now.order dict.now.file slot) ≡ role }
     ensures { Adds S.added text.old
         (role_line path.now dict.now.order dict.now.file slot role) text.new }
@@ -124,7 +124,7 @@ fn add_role_line<S: TextWriter>(
 /// Adds the line of a slot, where it has one.
 #[tactic(auto, using(ps_linkfile::proofs::Written::adds_is), unfolding(crate::specs::ListText::slot_line))]
 fn add_slot<S: TextWriter>(text: &mut S, path: &str, dict: &Dict, slot: u8)
-    requires { slot < 16 }
+    requires { slot < SLOTS }
     ensures { Adds S.added text.old (slot_line path.now dict.now.order dict.now.file slot)
         text.new }
 {
@@ -144,7 +144,7 @@ pub(crate) fn add_slots<S: TextWriter>(text: &mut S, path: &str, dict: &Dict)
 
 /// The first fault of the segment in a slot of this role, by itself.
 fn fault_of(dict: &Dict, slot: u8, role: Role) -> Option<Fault>
-    requires in_range { slot < 16 }
+    requires in_range { slot < SLOTS }
     requires role { role_of (entry_at dict.now.order dict.now.file slot) ≡ Ok role }
     ensures { result ≡ fault_alone dict.now.order dict.now.file slot role }
 {
@@ -153,7 +153,7 @@ fn fault_of(dict: &Dict, slot: u8, role: Role) -> Option<Fault>
 
 /// A slot of this role is refused.
 fn is_refused_role(dict: &Dict, slot: u8, role: Result<Role, Reason>) -> bool
-    requires in_range { slot < 16 }
+    requires in_range { slot < SLOTS }
     requires role { role_of (entry_at dict.now.order dict.now.file slot) ≡ role }
     ensures { result ≡ is_refused_role_spec dict.now.order dict.now.file slot role }
 {
@@ -170,7 +170,7 @@ fn is_refused_role(dict: &Dict, slot: u8, role: Result<Role, Reason>) -> bool
 /// A slot is refused.
 #[tactic(auto, unfolding(crate::specs::ListText::is_refused_slot))]
 fn is_refused_slot(dict: &Dict, slot: u8) -> bool
-    requires { slot < 16 }
+    requires { slot < SLOTS }
     ensures { result ≡ is_refused_slot_spec dict.now.order dict.now.file slot }
 {
     is_refused_role(dict, slot, dict.role(slot))
@@ -178,7 +178,7 @@ fn is_refused_slot(dict: &Dict, slot: u8) -> bool
 
 /// One of the slots below `end` is refused.
 fn has_refused_below(dict: &Dict, end: u8) -> bool
-    requires { end ≤ 16 }
+    requires { end ≤ SLOTS }
     ensures { result ≡ list_any (is_refused_slot_spec dict.now.order dict.now.file)
         (range_with_len 0 end) }
 {

@@ -63,7 +63,7 @@ fn add_fault_members<S: TextWriter>(text: &mut S, reason: Reason, rec: Option<us
 
 /// Adds why the segment in a slot of this role is refused, or else the units that it uses.
 fn add_found<S: TextWriter>(text: &mut S, dict: &Dict, slot: u8, role: Role)
-    requires in_range { slot < 16 }
+    requires in_range { slot < SLOTS }
     requires role { role_of (entry_at dict.now.order dict.now.file slot) ≡ Ok role }
     ensures { Adds S.added text.old (found_members dict.now.order dict.now.file slot role)
         text.new }
@@ -76,7 +76,7 @@ fn add_found<S: TextWriter>(text: &mut S, dict: &Dict, slot: u8, role: Role)
 
 /// Adds what the item of a slot begins with.
 fn add_head<S: TextWriter>(text: &mut S, dict: &Dict, slot: u8, first: bool)
-    requires { slot < 16 }
+    requires { slot < SLOTS }
     ensures { Adds S.added text.old (slot_members first dict.now.order dict.now.file slot)
         text.new }
 {
@@ -103,7 +103,7 @@ fn add_found_item<S: TextWriter>(
     role: Role,
     word: &[u8],
 )
-    requires in_range { slot < 16 }
+    requires in_range { slot < SLOTS }
     requires role { role_of (entry_at dict.now.order dict.now.file slot) ≡ Ok role }
     ensures { Adds S.added text.old
         (found_item first dict.now.order dict.now.file slot role word.now) text.new }
@@ -116,7 +116,7 @@ fn add_found_item<S: TextWriter>(
 
 /// Adds the item of a segment whose kind is refused.
 fn add_refused_item<S: TextWriter>(text: &mut S, dict: &Dict, slot: u8, first: bool, reason: Reason)
-    requires { slot < 16 }
+    requires { slot < SLOTS }
     ensures { Adds S.added text.old
         (refused_item first dict.now.order dict.now.file slot reason) text.new }
 {
@@ -134,7 +134,7 @@ fn add_role_item<S: TextWriter>(
     first: bool,
     role: Result<Role, Reason>,
 )
-    requires in_range { slot < 16 }
+    requires in_range { slot < SLOTS }
     requires role { role_of (entry_at dict.now.order dict.now.file slot) ≡ role }
     ensures { Adds S.added text.old
         (role_item first dict.now.order dict.now.file slot role) text.new }
@@ -178,7 +178,7 @@ fn is_first_after_slot_of(role: Result<Role, Reason>, first: bool) -> bool
 /// Adds the item of a slot, where it has one. Returns whether the first item is still to come.
 #[tactic(auto, using(ps_linkfile::proofs::Written::adds_is), unfolding(crate::specs::ListJson::is_first_after_slot, crate::specs::ListJson::slot_item))]
 fn add_slot<S: TextWriter>(text: &mut S, dict: &Dict, slot: u8, first: bool) -> bool
-    requires { slot < 16 }
+    requires { slot < SLOTS }
     ensures item { Adds S.added text.old (slot_item first dict.now.order dict.now.file slot)
         text.new }
     ensures first { result ≡ is_first_after_slot first dict.now.order dict.now.file slot }

@@ -12,6 +12,7 @@ use Rattle.ps_codefile.specs.declared.entry.Role.TheVariants as role
 use Rattle.ps_resolve.specs.KnownSegments.{is_in_slot}
 use Rattle.ps_resolve.specs.Readings.{HostFiles, all_read, opened_host, slot_request}
 use Rattle.ps_resolve.specs.Sources.{Segment, opened_files}
+use Rattle.ps_codefile.specs.declared.dictionary_layout.TheConstants.{SLOTS}
 
 -- the name in the record of this index of a segment, where it has so many
 abbrev pub name_of_record : ℕ → Segment → Option (List ℕ)
@@ -67,7 +68,7 @@ place_name host libs slot None = slot_name host libs slot
 place_name host libs slot (Some rec) = read_name host libs slot (Some rec)
 
 abbrev pub name_in_host : List ℕ → List (List ℕ) → Option ℕ → ℕ → Option (List ℕ)
-name_in_host host libs rec slot = if nat_le 16 slot then None
+name_in_host host libs rec slot = if nat_le SLOTS slot then None
     else place_name host libs slot rec
 
 -- The name of what a fault of these files is about, eight bytes. Of a fault with a record that

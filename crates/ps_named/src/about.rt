@@ -46,7 +46,7 @@ fn name_in_record(host: &HostReading, slot: u8, rec: usize) -> Option<Name>
 
 /// The name of the unit that is requested in an empty slot, or that of the slot.
 fn name_in_slot(host: &HostReading, slot: u8) -> Name
-    requires { slot < 16 }
+    requires { slot < SLOTS }
     ensures { result ≡ name_in_slot_spec host.now slot }
 {
     match host.request(slot) {
@@ -58,7 +58,7 @@ fn name_in_slot(host: &HostReading, slot: u8) -> Name
 /// The name of a slot of the host or, where the index of a record is given, that in the record of
 /// its segment.
 fn name_at(host: &HostReading, slot: u8, rec: Option<usize>) -> Option<Name>
-    requires { slot < 16 }
+    requires { slot < SLOTS }
     ensures { result ≡ name_at_spec host.now slot rec }
 {
     match rec {
@@ -69,7 +69,7 @@ fn name_at(host: &HostReading, slot: u8, rec: Option<usize>) -> Option<Name>
 
 /// That of files that were read.
 fn name_read(reading: &Reading, slot: u8, rec: Option<usize>) -> Option<Name>
-    requires { slot < 16 }
+    requires { slot < SLOTS }
     ensures { result ≡ read_name_spec reading.now.host reading.now.libs slot rec }
 {
     match reading.host() {
@@ -81,7 +81,7 @@ fn name_read(reading: &Reading, slot: u8, rec: Option<usize>) -> Option<Name>
 /// That of these files.
 #[inline(never)]
 fn read_name(host: &[u8], libs: &[&[u8]], slot: u8, rec: Option<usize>) -> Option<Name>
-    requires { slot < 16 }
+    requires { slot < SLOTS }
     ensures { result ≡ read_name_spec host.now (contents libs.now) slot rec }
 {
     let reading = read(host, libs);
@@ -100,7 +100,7 @@ fn name_by_role(name: Name, role: Result<Role, Reason>) -> Option<Name>
 
 /// The name that a slot of a file has by its own entry.
 fn entry_name(host: &[u8], slot: u8) -> Option<Name>
-    requires { slot < 16 }
+    requires { slot < SLOTS }
     ensures { result ≡ entry_name_spec (opened_alone host.now) slot }
 {
     match Dict::read(host) {
@@ -111,7 +111,7 @@ fn entry_name(host: &[u8], slot: u8) -> Option<Name>
 
 /// The name that goes with a slot and no record.
 fn slot_name(host: &[u8], libs: &[&[u8]], slot: u8) -> Option<Name>
-    requires { slot < 16 }
+    requires { slot < SLOTS }
     ensures { result ≡ slot_name_spec host.now (contents libs.now) slot }
 {
     match entry_name(host, slot) {
@@ -122,7 +122,7 @@ fn slot_name(host: &[u8], libs: &[&[u8]], slot: u8) -> Option<Name>
 
 /// The name that goes with a slot and perhaps a record.
 fn place_name(host: &[u8], libs: &[&[u8]], slot: u8, rec: Option<usize>) -> Option<Name>
-    requires { slot < 16 }
+    requires { slot < SLOTS }
     ensures { result ≡ place_name_spec host.now (contents libs.now) slot rec }
 {
     match rec {
@@ -165,7 +165,7 @@ pub fn fault_name(host: &[u8], libs: &[&[u8]], fault: Fault) -> Option<Name>
 
 /// The name that goes with a slot and no record, of files that were read.
 fn slot_name_in(host: &[u8], reading: &Reading, slot: u8) -> Option<Name>
-    requires in_range { slot < 16 }
+    requires in_range { slot < SLOTS }
     requires same { reading.now.host ≡ host.now }
     ensures { result ≡ slot_name_spec host.now reading.now.libs slot }
 {
@@ -177,7 +177,7 @@ fn slot_name_in(host: &[u8], reading: &Reading, slot: u8) -> Option<Name>
 
 /// The name that goes with a slot and perhaps a record, of files that were read.
 fn place_name_in(host: &[u8], reading: &Reading, slot: u8, rec: Option<usize>) -> Option<Name>
-    requires in_range { slot < 16 }
+    requires in_range { slot < SLOTS }
     requires same { reading.now.host ≡ host.now }
     ensures { result ≡ place_name_spec host.now reading.now.libs slot rec }
 {

@@ -5,7 +5,7 @@ use crate::rules::{Rule, Shown, ShownRules};
 use crate::tables::procedures_of;
 use crate::walks::Walk;
 use ps_codefile::Dict;
-use ps_codefile::dictionary_layout::SLOTS;
+use ps_codefile::dictionary_layout::{SLOT_COUNT, SLOTS};
 use ps_words::Order;
 
 /// So many long procedures that keep to a rule are no chance.
@@ -81,7 +81,7 @@ pub struct FileCode {
     /// By rule, in their order.
     tallies: [Tally; 4],
     /// How many operands a compiler has left to a link, by slot.
-    left_to_link: [usize; 16],
+    left_to_link: [usize; SLOT_COUNT],
     /// Its compiler writes other operands longer than need be too.
     is_lengthened: bool,
 }
@@ -89,7 +89,7 @@ pub struct FileCode {
 impl FileCode {
     const NONE: FileCode = FileCode {
         tallies: [Tally::NONE; 4],
-        left_to_link: [0; 16],
+        left_to_link: [0; SLOT_COUNT],
         is_lengthened: false,
     };
 

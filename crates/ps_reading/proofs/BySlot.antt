@@ -1,5 +1,6 @@
 -- The one table of segments: the host's own by slot, into which the added ones are put.
 use Rattle.ps_reading.proofs.Vocabulary.{◌≡◌, ◌≢◌, ℕ, zero, suc, ◌+◌, ◌<◌, ◌≤◌, List, [], ◌∷◌, ◌++◌, length, take, drop, get_or, Bool, true, false, if◌then◌else◌, Option, Some, None, Result, Ok, refl, sym, ◌∙◌, ap, subst, arith, All, is_none, nat_lt, filter, filter_map, find, insert, range_with_len, option_map_or, option_or, result_ok, All-nil, All-cons, All-head, All-tail, All-append, All-weaker, filter_passes, find-append, take-append-drop, drop_all, Order, Reason, is_empty, Role, Segment, is_role, source_fault, AscendFrom, UnitReference}
+use Rattle.ps_resolve.proofs.Vocabulary.{FIRST_ADDED, MAX_ADDED, SLOT_COUNT, SLOTS}
 use Rattle.ps_codefile.specs.declared.entry.Role.TheVariants as role
 use Rattle.ps_reading.specs.Added.{added_segment, empty_slots}
 use Rattle.ps_reading.specs.Readings.{read_segment, read_segments}
@@ -95,7 +96,7 @@ fewer_kept f j none (suc n) a le lt = grind (arith, few_from, fewer_kept f j non
 -- a segment that is added in the slot at i of those that are left
 pub record IsNewIn (order : Order) (host : List ℕ) (slots : List ℕ) (i : ℕ)
     (added : List Segment) (s : Segment) : Type 0 where
-  pub low : s.slot < 16
+  pub low : s.slot < SLOTS
   pub empty : is_role is_empty order host s.slot ≡ true
   pub none : find (is_in_slot s.slot) added ≡ None
   pub below : All (λ x. x.slot < s.slot + 1) (added ++ s ∷ [])
@@ -141,10 +142,10 @@ module _ (order : Order) (host : List ℕ) (libs : List (List ℕ)) where
       → source_fault order host libs i ≡ None
   fine_of_empty i h = grind (arith, empty_role)
 
-  found_own : (i : ℕ) → i < 16 → find (is_in_slot i) (read_segments order host libs)
+  found_own : (i : ℕ) → i < SLOTS → find (is_in_slot i) (read_segments order host libs)
       ≡ read_segment order host libs i
   unfolding read_segments
-  found_own i h = found_there (read_segment order host libs) own_in_place i 16 0 (omega arith) h
+  found_own i h = found_there (read_segment order host libs) own_in_place i SLOTS 0 (omega arith) h
 
   abbrev own : List Segment
   own = read_segments order host libs
@@ -159,7 +160,7 @@ module _ (order : Order) (host : List ℕ) (libs : List (List ℕ)) where
   -- without added ones they are the own ones
   pub own_by_slot : segments_in_slots order host own [] ≡ own
   unfolding segments_in_slots read_segments
-  own_by_slot = same_kept (kept_in []) (read_segment order host libs) 16 0
+  own_by_slot = same_kept (kept_in []) (read_segment order host libs) SLOTS 0
       (λ i low h. ap (option_or (find (is_in_slot i) own)) (either (is_role is_empty order host i))
       ∙ (or_none (find (is_in_slot i) own) ∙ found_own i h))
 
@@ -173,7 +174,7 @@ module _ (order : Order) (host : List ℕ) (libs : List (List ℕ)) where
       by None e false d = let wrong : None ≡ Some s = rw (e, d) at h in cc
 
   -- one added segment more, in an empty slot behind those of the others
-  module _ (xs : List Segment) (s : Segment) (low : s.slot < 16)
+  module _ (xs : List Segment) (s : Segment) (low : s.slot < SLOTS)
       (is : is_role is_empty order host s.slot ≡ true)
       (none : find (is_in_slot s.slot) xs ≡ None) where
     no_own : find (is_in_slot s.slot) own ≡ None
@@ -192,11 +193,11 @@ module _ (order : Order) (host : List ℕ) (libs : List (List ℕ)) where
         ≡ segments_in_slots order host own (xs ++ s ∷ [])
     unfolding segments_in_slots
     put_one = put_kept (kept_in xs) (kept_in (xs ++ s ∷ []))
-        (kept_in_place xs) s not_yet then_found others 16 0 (omega arith) low
+        (kept_in_place xs) s not_yet then_found others SLOTS 0 (omega arith) low
 
-    pub is_room : length (segments_in_slots order host own xs) < 16
+    pub is_room : length (segments_in_slots order host own xs) < SLOT_COUNT
     unfolding segments_in_slots
-    is_room = fewer_kept (kept_in xs) s.slot not_yet 16 0 (omega arith) low
+    is_room = fewer_kept (kept_in xs) s.slot not_yet SLOTS 0 (omega arith) low
 
   -- 4. the empty slots ascend
   ascend_filtered : (p : ℕ → Bool) (n a from : ℕ) → from ≤ a
@@ -206,14 +207,14 @@ module _ (order : Order) (host : List ℕ) (libs : List (List ℕ)) where
 
   pub empty_ascend : AscendFrom 0 (empty_slots order host)
   unfolding empty_slots
-  empty_ascend = ascend_filtered (is_role is_empty order host) 9 7 0 (omega arith)
+  empty_ascend = ascend_filtered (is_role is_empty order host) MAX_ADDED FIRST_ADDED 0 (omega arith)
 
   pub empty_are : All (λ slot. is_role is_empty order host slot ≡ true) (empty_slots order host)
   unfolding empty_slots
-  empty_are = filter_passes (is_role is_empty order host) (range_with_len 7 9)
+  empty_are = filter_passes (is_role is_empty order host) (range_with_len FIRST_ADDED MAX_ADDED)
 
   pub new_in : (slots : List ℕ) (i slot from : ℕ) (added : List Segment) (s : Segment)
-      (g : UnitReference) → slots ≡ empty_slots order host → All (λ j. j < 16) slots
+      (g : UnitReference) → slots ≡ empty_slots order host → All (λ j. j < SLOTS) slots
       → i < length slots → slot ≡ get_or slots i slot
       → AscendFrom from (drop i slots) → All (λ (x : Segment). x.slot < from) added
       → added_segment order host libs g slot ≡ Some s → IsNewIn order host slots i added s
@@ -222,7 +223,7 @@ module _ (order : Order) (host : List ℕ) (libs : List (List ℕ)) where
       let is : s.slot ≡ slot = grind arith in
       let left : AscendFrom from (slot ∷ drop (i + 1) slots) = grind (arith, drop_at) in
       let first : from ≤ slot = left.0 in
-      let small : slot < 16 = grind arith in
+      let small : slot < SLOTS = grind arith in
       let has : is_role is_empty order host slot ≡ true = grind (arith, empty_are)
       in
       let next : AscendFrom (slot + 1) (drop (i + 1) slots) = left.1 in
@@ -243,13 +244,13 @@ module _ (order : Order) (host : List ℕ) (libs : List (List ℕ)) where
     pub own_table : old ≡ segments_in_slots order host old []
     own_table = grind (arith, own_by_slot)
 
-    pub put_table : (xs : List Segment) (s : Segment) → s.slot < 16
+    pub put_table : (xs : List Segment) (s : Segment) → s.slot < SLOTS
         → is_role is_empty order host s.slot ≡ true → find (is_in_slot s.slot) xs ≡ None
         → put_by_slot s (segments_in_slots order host old xs)
         ≡ segments_in_slots order host old (xs ++ s ∷ [])
     put_table xs s low is none = grind (arith, put_one)
 
-    pub room_in_table : (xs : List Segment) (s : Segment) → s.slot < 16
+    pub room_in_table : (xs : List Segment) (s : Segment) → s.slot < SLOTS
         → is_role is_empty order host s.slot ≡ true → find (is_in_slot s.slot) xs ≡ None
-        → length (segments_in_slots order host old xs) < 16
+        → length (segments_in_slots order host old xs) < SLOT_COUNT
     room_in_table xs s low is none = grind (arith, is_room)

@@ -1,6 +1,7 @@
 -- What a segment of a link is made of, and what holds of each.
 use Rattle.ps_reading.proofs.Vocabulary.{rules, ◌≡◌, ℕ, ◌<◌, List, [], ◌∷◌, Bool, true, false, Option, Some, None, Result, Ok, refl, ◌∙◌, ◌==◌, inl, inr, arith, ◌⊎◌, All, option_and_then, option_map, eqb-true, filter_map, cons_option, find, result_ok, option_and_then_some, All-nil, All-cons, All-tail, All-from_get_or, get_or-range_with_len, Order, Reason, slots, entry_at, role_of, code_of, is_empty, Role, Wanted, added_segment, added_segments, as_added, segment_at, is_role, Segment, file_at, own_segment, segment_from, segment_with, source_of, unit_source, UnitReference}
 use Rattle.ps_reading.proofs.FirstSlots.{some_mapped}
+use Rattle.ps_resolve.proofs.Vocabulary.{SLOTS}
 
 -- what is found passes the test, and has what all have
 pub find_has : {X : Type 0} (P : X → Type 0) (test : X → Bool) (xs : List X) (x : X)
@@ -94,14 +95,14 @@ module _ (order : Order) (host : List ℕ) (libs : List (List ℕ)) where
 
 -- what each slot gives
 pub each_slot : (P : Segment → Type 0) (f : ℕ → Option Segment)
-    → ((x : ℕ) (s : Segment) → x < 16 → f x ≡ Some s → P s)
+    → ((x : ℕ) (s : Segment) → x < SLOTS → f x ≡ Some s → P s)
     → All P (filter_map f slots)
-each_slot P f h = each slots (All-from_get_or (λ (x : ℕ). x < 16) slots 0
-    (λ i lt. omega (arith, lt, get_or-range_with_len 0 16 i 0)))
+each_slot P f h = each slots (All-from_get_or (λ (x : ℕ). x < SLOTS) slots 0
+    (λ i lt. omega (arith, lt, get_or-range_with_len 0 SLOTS i 0)))
   where
-    each : (xs : List ℕ) → All (λ (x : ℕ). x < 16) xs → All P (filter_map f xs)
+    each : (xs : List ℕ) → All (λ (x : ℕ). x < SLOTS) xs → All P (filter_map f xs)
     each [] all = All-nil P
-    each (x ∷ xs) all = by (f x) refl (each xs (All-tail (λ (y : ℕ). y < 16) x xs all))
+    each (x ∷ xs) all = by (f x) refl (each xs (All-tail (λ (y : ℕ). y < SLOTS) x xs all))
       where
         by : (o : Option Segment) → f x ≡ o → All P (filter_map f xs)
             → All P (cons_option o (filter_map f xs))

@@ -4,6 +4,7 @@ use Rattle.ps_reading.specs.Sources.{Segment, own_segment, own_segments}
 use Rattle.ps_reading.specs.Added.{added_segments, segments, segment_at}
 use Rattle.ps_reading.specs.KnownSegments.{is_in_slot, segment_in_slot, segments_in_slots}
 use Rattle.ps_reading.proofs.ReadingKnown.{own_parts}
+use Rattle.ps_resolve.proofs.Vocabulary.{SLOTS}
 
 -- each number's segment is in its slot
 abbrev pub InPlace : (ℕ → Option Segment) → Type 0
@@ -39,9 +40,9 @@ pub in_slots_are : (order : Order) (host : List ℕ) (libs : List (List ℕ))
 unfolding segments_in_slots segments own_segments
 in_slots_are order host libs =
     same_kept (segment_in_slot order host (own_segments order host libs)
-    (added_segments order host libs)) (segment_at order host libs) 16 0
+    (added_segments order host libs)) (segment_at order host libs) SLOTS 0
     (λ i low h. ap (λ (o : Option Segment). option_or o
     (if is_role is_empty order host i then find (is_in_slot i) (added_segments order host libs)
     else None))
     (found_there (own_segment order host libs)
-    (λ j s e. (own_parts order host libs j s e).0) i 16 0 (omega arith) h))
+    (λ j s e. (own_parts order host libs j s e).0) i SLOTS 0 (omega arith) h))

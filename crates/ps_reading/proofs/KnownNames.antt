@@ -3,6 +3,7 @@ use Rattle.ps_reading.proofs.Vocabulary.{◌≡◌, ◌∙◌, ℕ, ◌+◌, ◌
 use Rattle.ps_reading.proofs.RequestQueue.{few_kept, kept_segment, queue_prefix}
 use Rattle.ps_reading.proofs.NextItems.{drop_at}
 use Rattle.ps_reading.proofs.SharedRecords.{all_taken}
+use Rattle.ps_resolve.proofs.Vocabulary.{MAX_REQUESTED}
 
 module _ (units : List (List ℕ × ℕ)) where
   -- what is known stays so
@@ -96,7 +97,7 @@ module _ (units : List (List ℕ × ℕ)) where
 
   -- the names that a segment requests are known after it
   pub known_here : (file slot : ℕ) (rs : List Record) (queue now : List UnitReference)
-      → now ≡ take 10 (requested_from units queue (unit_references file slot 0 rs))
+      → now ≡ take MAX_REQUESTED (requested_from units queue (unit_references file slot 0 rs))
       → AreAlreadyKnown units now rs
   known_here file slot rs queue now is = grind (arith, all_known)
 
@@ -108,7 +109,7 @@ module _ (units : List (List ℕ × ℕ)) where
 
   -- and after any names more
   pub still_known : (queue gs now : List UnitReference) (rs : List Record)
-      → now ≡ take 10 (requested_from units queue gs) → AreAlreadyKnown units queue rs
+      → now ≡ take MAX_REQUESTED (requested_from units queue gs) → AreAlreadyKnown units queue rs
       → AreAlreadyKnown units now rs
   still_known queue gs now rs is (inl full) = grind (arith, grown queue gs, length-append queue)
   still_known queue gs now rs is (inr h) = grind (arith, more_known)
@@ -129,27 +130,28 @@ module _ (units : List (List ℕ × ℕ)) where
 
   -- names that are known change no queue
   pub nothing_new : (file slot : ℕ) (queue : List UnitReference) (rs : List Record)
-      → length queue ≤ 10 → AreAlreadyKnown units queue rs
-      → queue ≡ take 10 (requested_from units queue (unit_references file slot 0 rs))
+      → length queue ≤ MAX_REQUESTED → AreAlreadyKnown units queue rs
+      → queue ≡ take MAX_REQUESTED (requested_from units queue (unit_references file slot 0 rs))
   nothing_new file slot queue rs few (inl full) =
-      sym (queue_prefix units 10 queue (unit_references file slot 0 rs) full
-      ∙ take_all 10 queue few)
+      sym (queue_prefix units MAX_REQUESTED queue (unit_references file slot 0 rs) full
+      ∙ take_all MAX_REQUESTED queue few)
   nothing_new file slot queue rs few (inr h) =
-      grind (arith, same_queue file slot 0 queue rs h, take_all 10 queue few)
+      grind (arith, same_queue file slot 0 queue rs h, take_all MAX_REQUESTED queue few)
 
 -- The queue after the first i of these segments: with what the others request it is that of all,
 -- and what these request is known.
 pub record HaveRequested (units : List (List ℕ × ℕ)) (own : List Segment) (i : ℕ)
     (queue : List UnitReference) : Type 0 where
-  pub whole : take 10 (requested_from units queue (all_unit_references (drop i own)))
-      ≡ take 10 (requested_from units [] (all_unit_references own))
-  pub few : length queue ≤ 10
+  pub whole : take MAX_REQUESTED (requested_from units queue (all_unit_references (drop i own)))
+      ≡ take MAX_REQUESTED (requested_from units [] (all_unit_references own))
+  pub few : length queue ≤ MAX_REQUESTED
   pub known : All (λ s. AreAlreadyKnown units queue s.records) (take i own)
 
 -- one segment more
 pub requested_more : (units : List (List ℕ × ℕ)) (own : List Segment) (i : ℕ)
     (v : Segment) (queue now : List UnitReference) → i < length own → v ≡ get_or own i v
-    → now ≡ take 10 (requested_from units queue (unit_references v.file v.slot 0 v.records))
+    → now ≡ take MAX_REQUESTED (requested_from units queue
+    (unit_references v.file v.slot 0 v.records))
     → HaveRequested units own i queue → HaveRequested units own (i + 1) now
 requested_more units own i v queue now lt there is so_far =
     let one = unit_references v.file v.slot 0 v.records in

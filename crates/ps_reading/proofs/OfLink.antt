@@ -1,5 +1,6 @@
 -- What is known of each segment of a link whose files were read without a fault.
 use Rattle.ps_reading.proofs.Vocabulary.{◌≡◌, ℕ, ◌<◌, List, get_or, Some, None, true, sym, ap, subst, ◌∙◌, inl, inr, is_some, arith, ◌⊎◌, option_and_then, entry_at, role_of, Role, added_fault, added_segments, as_added, request_of, segment_at, segments, AreOfLink, IsOfFile, IsOfSlot, IsOfRound, request_by_slot, Segment, host_of, order_of, source_of, own_segment, UnitReference, Order}
+use Rattle.ps_resolve.proofs.Vocabulary.{SLOTS}
 use Rattle.ps_codefile.specs.declared.entry.Role.TheVariants as role
 use Rattle.ps_reading.specs.Readings.{reading_fault}
 use Rattle.ps_reading.specs.Faults.{code_fault, role_fault, source_fault, sources_fault, slots_fault, no_host_fault}
@@ -24,17 +25,17 @@ module _ (order : Order) (host : List ℕ) (libs : List (List ℕ)) where
 
   -- 2. a slot's own segment, where the sources have no fault
   module _ (fine : sources_fault order host libs ≡ None) where
-    source_none : (slot : ℕ) → slot < 16 → source_fault order host libs slot ≡ None
+    source_none : (slot : ℕ) → slot < SLOTS → source_fault order host libs slot ≡ None
     unfolding sources_fault
-    source_none slot h = none_at (source_fault order host libs) 0 16 slot fine (omega arith)
+    source_none slot h = none_at (source_fault order host libs) 0 SLOTS slot fine (omega arith)
         (omega (arith, h))
 
     -- a slot has none by its role
-    pub role_none : (slot : ℕ) → slot < 16 → (r : Role) → HasRole order host slot r
+    pub role_none : (slot : ℕ) → slot < SLOTS → (r : Role) → HasRole order host slot r
         → role_fault order host libs slot r ≡ None
     role_none slot inside r has = grind (arith, source_none slot inside)
 
-    pub own_known : (slot : ℕ) (s : Segment) → slot < 16
+    pub own_known : (slot : ℕ) (s : Segment) → slot < SLOTS
         → own_segment order host libs slot ≡ Some s
         → IsOfFile order host libs s × IsOfSlot order host libs s
     own_known slot s inside e =
@@ -94,7 +95,7 @@ module _ (host : List ℕ) (libs : List (List ℕ)) (read : reading_fault host l
       × (IsOfSlot order host libs s ⊎
       ((j : ℕ) × (g : UnitReference) × IsOfRound order host libs j g s))
 
-  known : (s : Segment) → s.slot < 16 → segment_at order host libs s.slot ≡ Some s
+  known : (s : Segment) → s.slot < SLOTS → segment_at order host libs s.slot ≡ Some s
       → IsKnown s
   known s inside there =
       let added = added_segments order host libs in

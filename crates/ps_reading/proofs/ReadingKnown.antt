@@ -1,6 +1,7 @@
 -- What is known of the segments of a link once the files were read without a fault: they rise by
 -- slot, and one of them is the host's own.
 use Rattle.ps_reading.proofs.Vocabulary.{◌≡◌, ℕ, zero, suc, ◌+◌, ◌<◌, ◌≤◌, List, [], ◌∷◌, map, length, get_or, Bool, true, false, ◌&&◌, not, Option, Some, None, is_some, Result, Ok, refl, sym, ◌∙◌, ap, arith, All, range_with_len, filter_map, find, list_any, option_map, option_map_or, result_ok, and_from, false≢true, list_any_at, get_or-range_with_len, length-range_with_len, same_Some, in_slot, Order, Reason, Fault, Role, entry_at, role_of, slots, first_of, fault_if, is_host, is_empty, Segment, own_segment, segment_from, host_of, AscendFrom, HasOneHost}
+use Rattle.ps_resolve.proofs.Vocabulary.{SLOTS}
 use Rattle.ps_codefile.specs.declared.entry.Role.TheVariants as role
 use Rattle.ps_reading.specs.Added.{segment_at, segments, added_segments}
 use Rattle.ps_reading.specs.Faults.{is_role, slot_reason, slots_fault, no_host_fault, sources_fault, source_fault}
@@ -140,11 +141,11 @@ module _ (order : Order) (host : List ℕ) (libs : List (List ℕ)) where
 
   pub ascend : AscendFrom 0 (map (λ (s : Segment). s.slot) (segments order host libs))
   unfolding segments
-  ascend = ascend_from 16 0 0 (omega arith)
+  ascend = ascend_from SLOTS 0 0 (omega arith)
 
   -- a segment is that of its slot
   abbrev IsAt : Segment → Type 0
-  IsAt s = (s.slot < 16) × (segment_at order host libs s.slot ≡ Some s)
+  IsAt s = (s.slot < SLOTS) × (segment_at order host libs s.slot ≡ Some s)
 
   pub all_at : All IsAt (segments order host libs)
   unfolding segments
@@ -160,8 +161,8 @@ module _ (order : Order) (host : List ℕ) (libs : List (List ℕ)) where
     unfolding slots_fault
     not_two s q a b u v lt =
         let test = is_role is_host order host in
-        let fine = none_at (λ slot. option_map (in_slot 0 slot) (slot_reason order host slot)) 0 16
-        q.slot none (omega arith) (omega (arith, b.0)) in
+        let fine = none_at (λ slot. option_map (in_slot 0 slot) (slot_reason order host slot)) 0
+        SLOTS q.slot none (omega arith) (omega (arith, b.0)) in
         let reason = none_mapped (in_slot 0 q.slot) (slot_reason order host q.slot) fine in
         let two : (test q.slot && list_any test (range_with_len 0 q.slot)) ≡ false =
         stands_not _ _ (neither_first _ _ (neither_second _ _ reason)) in

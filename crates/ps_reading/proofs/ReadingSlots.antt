@@ -8,6 +8,7 @@ use Rattle.ps_reading.proofs.FirstSlots.{neither_first, neither_second}
 use Rattle.ps_reading.proofs.InSlots.{in_slots_are}
 use Rattle.ps_reading.proofs.ReadingHosts.{host_is, host_read, host_refused, rest_of}
 use Rattle.ps_reading.proofs.ReadingLibraries.{all_opened}
+use Rattle.ps_resolve.proofs.Vocabulary.{MAX_REQUESTED}
 
 module _ (order : Order) (host : List ℕ) (libs : List (List ℕ)) where
   -- where no source has a fault, the segments that were read are all own ones
@@ -84,7 +85,7 @@ module _ (order : Order) (host : List ℕ) (libs : List (List ℕ)) where
       unfolding all_read
       all_of = grind arith
 
-      pub requests_of : take 10 (requested_from (units_of own) []
+      pub requests_of : take MAX_REQUESTED (requested_from (units_of own) []
           (all_unit_references (own ++ added))) ≡ read_requests order host files
       unfolding read_requests
       requests_of = grind arith

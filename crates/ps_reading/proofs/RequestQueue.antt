@@ -1,6 +1,7 @@
 -- The queue of names that are requested, of which only the first ten are kept, and the rounds that
 -- it gives.
 use Rattle.ps_reading.proofs.Vocabulary.{◌≡◌, ℕ, ◌+◌, ◌<◌, ◌≤◌, List, [], ◌∷◌, ◌++◌, ◌-◌, length, length-append, append_assoc, append-nil, take, Bool, true, false, Option, Some, None, inl, inr, refl, sym, ◌∙◌, ap, arith, ◌⊎◌, All, if◌then◌else◌, cases_lt, take-append-le, take_all, length-take, length-take-le, All-nil, All-cons, All-append, slice_get, filter, range_with_len, Order, is_unit_reference, units_requested, is_already_known, unit_references, all_unit_references, requested_from, unplaced_fault, placed_fault, added_segment, RoundsOutcome, after, rounds_from, Fault, Body, Record, Segment, UnitReference}
+use Rattle.ps_resolve.proofs.Vocabulary.{MAX_REQUESTED}
 use Rattle.ps_linkinfo.specs.declared.record.Body.TheVariants.{UnitRef}
 use Rattle.ps_reading.proofs.RecordCounts.{one_unit}
 
@@ -9,8 +10,8 @@ use Rattle.ps_reading.proofs.RecordCounts.{one_unit}
 abbrev pub Enqueues : List (List ℕ × ℕ) → ℕ → ℕ → List Record → List UnitReference
     → List UnitReference → ℕ → List Record → Type 0
 Enqueues units file slot all old queue n rs =
-    take 10 (requested_from units queue (unit_references file slot n rs))
-    ≡ take 10 (requested_from units old (unit_references file slot 0 all))
+    take MAX_REQUESTED (requested_from units queue (unit_references file slot n rs))
+    ≡ take MAX_REQUESTED (requested_from units old (unit_references file slot 0 all))
 
 -- what requests a unit is counted
 requests_is : (b : Body) → is_unit_reference b ≡ is_unit_reference b
@@ -67,33 +68,34 @@ queue_prefix units n queue (g ∷ gs) h =
 
 -- what is kept of a queue decides what is kept of the queue after it
 pub kept : (units : List (List ℕ × ℕ)) (queue gs : List UnitReference)
-    → take 10 (requested_from units (take 10 queue) gs)
-    ≡ take 10 (requested_from units queue gs)
-kept units queue gs = by (cases_lt (length queue) 10)
+    → take MAX_REQUESTED (requested_from units (take MAX_REQUESTED queue) gs)
+    ≡ take MAX_REQUESTED (requested_from units queue gs)
+kept units queue gs = by (cases_lt (length queue) MAX_REQUESTED)
   where
-    by : (length queue < 10) ⊎ (10 ≤ length queue)
-        → take 10 (requested_from units (take 10 queue) gs)
-        ≡ take 10 (requested_from units queue gs)
-    by (inl h) = ap (λ (r : List UnitReference). take 10 (requested_from units r gs))
-        (take_all 10 queue (omega arith))
+    by : (length queue < MAX_REQUESTED) ⊎ (MAX_REQUESTED ≤ length queue)
+        → take MAX_REQUESTED (requested_from units (take MAX_REQUESTED queue) gs)
+        ≡ take MAX_REQUESTED (requested_from units queue gs)
+    by (inl h) = ap (λ (r : List UnitReference). take MAX_REQUESTED (requested_from units r gs))
+        (take_all MAX_REQUESTED queue (omega arith))
     by (inr h) =
-        let long : length (take 10 queue) ≡ 10 = length-take-le 10 queue h in
-        queue_prefix units 10 (take 10 queue) gs (omega (arith, long))
-        ∙ (take_all 10 (take 10 queue) (omega (arith, long))
-        ∙ sym (queue_prefix units 10 queue gs h))
+        let long : length (take MAX_REQUESTED queue) ≡ MAX_REQUESTED =
+        length-take-le MAX_REQUESTED queue h in
+        queue_prefix units MAX_REQUESTED (take MAX_REQUESTED queue) gs (omega (arith, long))
+        ∙ (take_all MAX_REQUESTED (take MAX_REQUESTED queue) (omega (arith, long))
+        ∙ sym (queue_prefix units MAX_REQUESTED queue gs h))
 
 -- one name more, which is known, or for which there is no place, or which is kept
 pub kept_known : (units : List (List ℕ × ℕ)) (queue : List UnitReference) (g : UnitReference)
-    → length queue ≤ 10 → is_already_known units queue g.name ≡ true
-    → queue ≡ take 10 (requested_from units queue (g ∷ []))
-kept_known units queue g h e = rw e (sym (take_all 10 queue h))
+    → length queue ≤ MAX_REQUESTED → is_already_known units queue g.name ≡ true
+    → queue ≡ take MAX_REQUESTED (requested_from units queue (g ∷ []))
+kept_known units queue g h e = rw e (sym (take_all MAX_REQUESTED queue h))
 
 pub kept_full : (units : List (List ℕ × ℕ)) (queue : List UnitReference) (g : UnitReference)
-    → length queue ≡ 10 → is_already_known units queue g.name ≡ false
-    → queue ≡ take 10 (requested_from units queue (g ∷ []))
+    → length queue ≡ MAX_REQUESTED → is_already_known units queue g.name ≡ false
+    → queue ≡ take MAX_REQUESTED (requested_from units queue (g ∷ []))
 kept_full units queue g h e =
-    rw e (sym (take-append-le 10 queue (g ∷ []) (omega arith)
-    ∙ take_all 10 queue (omega arith)))
+    rw e (sym (take-append-le MAX_REQUESTED queue (g ∷ []) (omega arith)
+    ∙ take_all MAX_REQUESTED queue (omega arith)))
 
 -- one record more
 pub references-cons : (file slot rec : ℕ) (r : Record) (rs : List Record)
@@ -104,16 +106,17 @@ references-cons file slot rec r rs = grind arith
 -- the names that a record requests, and then those of the records after it
 pub kept_more : (units : List (List ℕ × ℕ)) (queue now : List UnitReference)
     (file slot rec : ℕ) (r : Record) (rs : List Record)
-    → now ≡ take 10 (requested_from units queue (unit_references file slot rec (r ∷ [])))
-    → take 10 (requested_from units now (unit_references file slot (rec + 1) rs))
-    ≡ take 10 (requested_from units queue (unit_references file slot rec (r ∷ rs)))
+    → now ≡ take MAX_REQUESTED (requested_from units queue (unit_references file slot rec (r ∷ [])))
+    → take MAX_REQUESTED (requested_from units now (unit_references file slot (rec + 1) rs))
+    ≡ take MAX_REQUESTED (requested_from units queue (unit_references file slot rec (r ∷ rs)))
 kept_more units queue now file slot rec r rs is =
     grind (arith, kept, references-cons, requested-append)
 
 -- the names that a segment requests, and then those of the segments after it
 pub kept_segment : (units : List (List ℕ × ℕ)) (queue now one rest all : List UnitReference)
-    → all ≡ one ++ rest → now ≡ take 10 (requested_from units queue one)
-    → take 10 (requested_from units now rest) ≡ take 10 (requested_from units queue all)
+    → all ≡ one ++ rest → now ≡ take MAX_REQUESTED (requested_from units queue one)
+    → take MAX_REQUESTED (requested_from units now rest)
+    ≡ take MAX_REQUESTED (requested_from units queue all)
 kept_segment units queue now one rest all split is = grind (arith, kept, requested-append)
 
 -- the rounds, one by one
@@ -153,13 +156,13 @@ joined_more xs s r = grind (arith, append_assoc)
 
 -- the k-th name, as the queue that is kept has it
 pub at_round : (queue items : List UnitReference) (i n : ℕ) (o : Option UnitReference)
-    → items ≡ take 10 queue → i < 10 → n ≡ i → o ≡ slice_get items n
+    → items ≡ take MAX_REQUESTED queue → i < MAX_REQUESTED → n ≡ i → o ≡ slice_get items n
     → slice_get queue i ≡ o
 at_round queue items i n o is lt same h = grind arith
 
 -- what is kept of a queue has ten names at most
-pub few_kept : (queue : List UnitReference) → length (take 10 queue) ≤ 10
-few_kept queue = omega (arith, length-take 10 queue)
+pub few_kept : (queue : List UnitReference) → length (take MAX_REQUESTED queue) ≤ MAX_REQUESTED
+few_kept queue = omega (arith, length-take MAX_REQUESTED queue)
 
 -- one number more, where it passes
 pub filter_more : (test : ℕ → Bool) (xs : List ℕ) (i n : ℕ) → i < n

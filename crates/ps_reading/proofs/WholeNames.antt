@@ -6,6 +6,7 @@ use Rattle.ps_reading.specs.Sources.{Segment, own_segment, own_segments, units_o
 use Rattle.ps_reading.proofs.EachSegment.{IsMade, added_made, at_slot, each_slot, find_has, own_made}
 use Rattle.ps_reading.proofs.Items.{of_all}
 use Rattle.ps_reading.proofs.OfRounds.{each_added, queue_of}
+use Rattle.ps_resolve.proofs.Vocabulary.{SLOTS}
 
 -- the law of link information
 abbrev pub ReadWhole : Type 0
@@ -62,7 +63,7 @@ made_whole : ReadWhole → (order : Order) (host : List ℕ) (libs : List (List 
     → IsMade order host libs slot name r at s → HasWholeNames s
 made_whole law order host libs slot name r k s h = grind arith
 
-name_long : (host : List ℕ) (slot : ℕ) → 512 ≤ length host → slot < 16
+name_long : (host : List ℕ) (slot : ℕ) → 512 ≤ length host → slot < SLOTS
     → length (name_at host slot) ≡ 8
 name_long host slot long lt = grind (arith, length-drop)
 
@@ -107,7 +108,7 @@ all_named law order host libs long =
 
 -- where the host has its whole dictionary, each slot of the linked file has a name of eight bytes
 eight : (host : List ℕ) (ss : List Segment) → 512 ≤ length host → All HasName ss
-    → (slot : ℕ) → slot < 16 → length (slot_name host ss slot) ≡ 8
+    → (slot : ℕ) → slot < SLOTS → length (slot_name host ss slot) ≡ 8
 eight host ss long all slot lt = by (find (λ (x : Segment). x.slot == slot) ss) refl
   where
     by : (o : Option Segment) → find (λ (x : Segment). x.slot == slot) ss ≡ o
@@ -116,13 +117,13 @@ eight host ss long all slot lt = by (find (λ (x : Segment). x.slot == slot) ss)
     by (Some s) e = (find_has HasName (λ (x : Segment). x.slot == slot) ss s e all).1
 
 -- names of eight bytes each, one after another, have eight times as many bytes as there are names
-run : (f : ℕ → List ℕ) → (xs : List ℕ) → ((x : ℕ) → x < 16 → length (f x) ≡ 8)
-    → All (λ (x : ℕ). x < 16) xs → length (flat_map (λ name. name) (map f xs))
+run : (f : ℕ → List ℕ) → (xs : List ℕ) → ((x : ℕ) → x < SLOTS → length (f x) ≡ 8)
+    → All (λ (x : ℕ). x < SLOTS) xs → length (flat_map (λ name. name) (map f xs))
     ≡ 8 * length xs
 run f [] h all = refl
 run f (x ∷ xs) h all =
     let one = h x (all 0 x (omega arith)) in
-    let rest = run f xs h (All-tail (λ (y : ℕ). y < 16) x xs all) in
+    let rest = run f xs h (All-tail (λ (y : ℕ). y < SLOTS) x xs all) in
     grind (arith, length-append)
 
 -- where the host has its whole dictionary, the names of the sixteen slots have 128 bytes in all
@@ -134,5 +135,5 @@ names_whole law order host libs long =
     let ss = segments order host libs in
     run (slot_name host ss) slots (λ x lt. eight host ss long
     (all_named law order host libs long) x lt)
-    (All-from_get_or (λ (x : ℕ). x < 16) slots 0
-    (λ i lt. omega (arith, lt, get_or-range_with_len 0 16 i 0)))
+    (All-from_get_or (λ (x : ℕ). x < SLOTS) slots 0
+    (λ i lt. omega (arith, lt, get_or-range_with_len 0 SLOTS i 0)))

@@ -20,6 +20,8 @@ use Rattle.ps_reading.specs.Requests.{requested_segment}
 use Rattle.ps_reading.specs.declared.reading.request.Request.{Request}
 use Rattle.ps_reading.specs.declared.reading.request.Requester.TheVariants.{Record}
 use Rattle.ps_reading.specs.declared.reading.added.UnitReference.{UnitReference}
+use Rattle.ps_codefile.specs.declared.dictionary_layout.TheConstants.{FIRST_ADDED}
+use Rattle.ps_reading.specs.declared.reading.added.TheConstants.{MAX_ADDED, MAX_REQUESTED}
 
 -- the UNITREF records of a segment from this file in this slot, the first of whose records has
 -- number `rec`
@@ -55,14 +57,16 @@ abbrev pub IsAlreadyKnown : List (List ℕ × ℕ) → List UnitReference → Li
 IsAlreadyKnown units queue r = is_unit_reference r.body ≡ true
     → is_already_known units queue r.name ≡ true
 
--- so it is with all of the records, or the queue has ten names, of which no more are kept
+-- so it is with all of the records, or the queue has MAX_REQUESTED names, of which no more are
+-- kept
 abbrev pub AreAlreadyKnown : List (List ℕ × ℕ) → List UnitReference → List LinkRecord
     → Type 0
-AreAlreadyKnown units queue rs = (10 ≤ length queue) ⊎ All (IsAlreadyKnown units queue) rs
+AreAlreadyKnown units queue rs =
+    (MAX_REQUESTED ≤ length queue) ⊎ All (IsAlreadyKnown units queue) rs
 
 -- the slots that units may be added in, ascending
 unfoldable pub empty_slots : Order → List ℕ → List ℕ
-empty_slots order host = filter (is_role is_empty order host) (range_with_len 7 9)
+empty_slots order host = filter (is_role is_empty order host) (range_with_len FIRST_ADDED MAX_ADDED)
 
 -- the fault of a name for which no slot is left
 abbrev pub unplaced_fault : Order → List (List ℕ) → UnitReference → Fault

@@ -1,6 +1,6 @@
 -- What is known of the segments that were read, and which of them is in which slot.
 -- Source: this project's profile.
-use Rattle.std.specs.Prelude.{◌≡◌, ◌≤◌, ◌*◌, ◌==◌, nat_lt, if◌then◌else◌, ℕ, All, List, [], ◌∷◌, length, drop, Bool, true, Option, Some, None, ◌&&◌, ◌+◌, map, Result, ⊤}
+use Rattle.std.specs.Prelude.{◌≡◌, ◌≤◌, ◌*◌, ◌==◌, nat_lt, if◌then◌else◌, ℕ, All, List, [], ◌∷◌, length, drop, Bool, true, Option, Some, None, ◌&&◌, ◌+◌, map, Result, ⊤, ◌<◌}
 use Rattle.std.specs.List.{find, filter_map, list_any, Contains}
 use Rattle.std.specs.Option.{option_or}
 use Rattle.ps_words.specs.declared.order.Order.{Order}
@@ -13,6 +13,7 @@ use Rattle.ps_reading.specs.Sources.{Segment, file_at, host_of}
 use Rattle.ps_reading.specs.Faults.{is_role}
 use Rattle.ps_words.specs.declared.fault.Reason.{Reason}
 use Rattle.ps_codefile.specs.declared.entry.Role.{Role}
+use Rattle.ps_codefile.specs.declared.dictionary_layout.TheConstants.{SLOTS}
 
 -- the records of each segment that is from this file, which has this number, are all that are in
 -- its block there and after it, where its references are resolved
@@ -83,7 +84,7 @@ pub record IsSound (order : Order) (s : Segment) : Type 0 where
   pub tables : needs_linking s.role ≡ true → tables_fault order s.code (is_host s.role) ≡ None
   pub kept : needs_linking s.role ≡ true
       → s.tables ≡ Some (record { order = order; code = s.code })
-  pub slot : s.slot ≤ 15
+  pub slot : s.slot < SLOTS
 
 -- a segment as the files have it: its records, if its references are resolved, are all that are in
 -- its block of its file and after it, and it is sound

@@ -12,6 +12,7 @@ use Rattle.ps_reading.specs.Faults.{role_fault}
 use Rattle.ps_reading.specs.Sources.{Segment, file_at, host_of, information_block, order_of, own_segment, source_of, tables_of, unit_source}
 use Rattle.ps_reading.specs.Standing.Slots.{HasRole}
 use Rattle.ps_reading.specs.declared.reading.added.UnitReference.{UnitReference}
+use Rattle.ps_codefile.specs.declared.dictionary_layout.TheConstants.{SLOTS}
 
 -- its code is that of its entry of its file; where its references are resolved, its tables are
 -- those of its code and have no fault, and its records are all that are in the blocks after it
@@ -59,7 +60,7 @@ pub record IsOfRound (order : Order) (host : List ℕ) (libs : List (List ℕ)) 
 -- All of it: the segment is that of its slot, and if it is a host's, it is the only one.
 pub record IsOfLink (order : Order) (host : List ℕ) (libs : List (List ℕ))
     (s : Segment) : Type 0 where
-  pub slot : s.slot < 16
+  pub slot : s.slot < SLOTS
   pub there : segment_at order host libs s.slot ≡ Some s
   pub file : IsOfFile order host libs s
   pub one_host : is_host s.role ≡ true → host_of (segments order host libs) ≡ Some s

@@ -18,6 +18,7 @@ use Rattle.ps_reading.specs.Added.{RoundsOutcome, all_unit_references, empty_slo
 use Rattle.ps_reading.specs.KnownSegments.{IsRead, segments_in_slots}
 use Rattle.ps_reading.specs.declared.reading.added.UnitReference.{UnitReference}
 use Rattle.ps_reading.specs.declared.reading.request.Request.{Request}
+use Rattle.ps_reading.specs.declared.reading.added.TheConstants.{MAX_REQUESTED}
 
 -- the own segment of a slot, where its source has no fault
 abbrev pub read_segment : Order → List ℕ → List (List ℕ) → ℕ → Option Segment
@@ -37,11 +38,12 @@ unfoldable pub all_read : Order → List ℕ → List (List ℕ) → List Segmen
 all_read order host libs = segments_in_slots order host (read_segments order host libs)
     (read_rounds order host libs).added
 
--- the names that they request, each with the record that first gave it, of which ten are kept
+-- the names that they request, each with the record that first gave it, of which
+-- MAX_REQUESTED are kept
 unfoldable pub read_requests : Order → List ℕ → List (List ℕ) → List UnitReference
 read_requests order host libs =
     let own = read_segments order host libs in
-    take 10 (requested_from (units_of own) []
+    take MAX_REQUESTED (requested_from (units_of own) []
     (all_unit_references (own ++ (read_rounds order host libs).added)))
 
 -- the empty slot that is next after those that rounds have given

@@ -20,7 +20,7 @@ pub(crate) mod unit_slots;
 pub(crate) mod units;
 
 use crate::locations::EntryAt;
-use crate::reading::added::{UnitReference, add_units, empty_slots, requested_by, slot_at};
+use crate::reading::added::{MAX_ADDED, MAX_REQUESTED, UnitReference, add_units, empty_slots, requested_by, slot_at};
 use crate::reading::libraries::libraries_fault;
 use crate::reading::request::{Request, unit_named};
 use crate::reading::segment::Segment;
@@ -28,7 +28,7 @@ use crate::reading::slots::{HOST_FILE, HostSlots, no_host_fault, slots_fault};
 use crate::reading::sources::{read_slot, read_slots};
 use crate::reading::unit_slots::UnitSlots;
 use arrayvec::ArrayVec;
-use ps_codefile::dictionary_layout::SLOTS;
+use ps_codefile::dictionary_layout::{SLOT_COUNT, SLOTS};
 use ps_codefile::{Dict, Entry, Role};
 use ps_words::{Fault, Name, Order, Reason};
 use std::marker::Model;
@@ -47,7 +47,7 @@ fn segment_in<'s, 'a>(segments: &'s [Segment<'a>], slot: u8) -> Option<&'s Segme
 
 /// The name of a slot in the linked file.
 fn slot_name(host: &HostSlots, segments: &[Segment], slot: u8) -> Name
-    requires { slot < 16 }
+    requires { slot < SLOTS }
     ensures { result ≡ slot_name_spec host.now.file segments.now slot }
 {
     match segment_in(segments, slot) {
@@ -59,10 +59,10 @@ fn slot_name(host: &HostSlots, segments: &[Segment], slot: u8) -> Name
 /// The names of all slots, 0 to 15, in the linked file of this host: of each slot that one of these
 /// segments is in that segment's name, and of the others the host's own.
 /// Source: this project's profile.
-pub fn slot_names(host: &HostSlots, segments: &[Segment]) -> [Name; 16]
+pub fn slot_names(host: &HostSlots, segments: &[Segment]) -> [Name; SLOT_COUNT]
     ensures { result ≡ slot_names_spec host.now.file segments.now }
 {
-    let mut names = [[0; 8]; SLOTS as usize];
+    let mut names = [[0; 8]; SLOT_COUNT];
     for slot in 0..SLOTS {
         names[slot as usize] = slot_name(host, segments, slot);
     }
@@ -89,9 +89,10 @@ fn files_fault(host: &HostSlots, libs: &[&[u8]]) -> Option<Fault>
 #[derive(Drop)]
 pub struct AddedUnits {
     /// The empty slots that a unit may be added in, 7 to 15, ascending.
-    pub empty: ArrayVec<u8, 9>,
-    /// The names that are requested, each with the record that first gave it, ten at most.
-    pub queue: ArrayVec<UnitReference, 10>,
+    pub empty: ArrayVec<u8, MAX_ADDED>,
+    /// The names that are requested, each with the record that first gave it, at most
+    /// `MAX_REQUESTED`.
+    pub queue: ArrayVec<UnitReference, MAX_REQUESTED>,
     /// The empty slot after those that were given, if one is left.
     pub next: Option<u8>,
     /// The fault of the first unit that could not be added, which ends the rounds.
@@ -105,7 +106,7 @@ pub struct AddedUnits {
 pub fn read_own<'a>(
     host: &HostSlots<'a>,
     libs: &'a [&'a [u8]],
-    segments: &mut ArrayVec<Segment<'a>, 16>,
+    segments: &mut ArrayVec<Segment<'a>, SLOT_COUNT>,
 ) -> Option<Fault>
     requires { segments.old.items ≡ [] }
     ensures first { result ≡ own_reading_fault host.now.order host.now.file (contents libs.now) }
@@ -127,7 +128,7 @@ pub fn read_own<'a>(
 pub fn read_added<'a>(
     host: &HostSlots<'a>,
     libs: &'a [&'a [u8]],
-    segments: &mut ArrayVec<Segment<'a>, 16>,
+    segments: &mut ArrayVec<Segment<'a>, SLOT_COUNT>,
 ) -> AddedUnits
     requires own { segments.old.items
         ≡ read_segments host.now.order host.now.file (opened host.now.order libs.now) }
@@ -162,7 +163,7 @@ pub fn read_added<'a>(
 
 /// The request of a slot that wants a unit.
 fn own_request(host: &HostSlots, slot: u8) -> Option<Request>
-    requires { slot < 16 }
+    requires { slot < SLOTS }
     ensures { result ≡ option_and_then (wanted_request host.now.order host.now.file slot)
         (result_ok (role_of (entry_at host.now.order host.now.file slot))) }
 {
@@ -205,11 +206,11 @@ pub struct HostReading<'a> {
     slots: HostSlots<'a>,
     libs: &'a [&'a [u8]],
     /// The empty slots that a unit may be added in, ascending.
-    empty: ArrayVec<u8, 9>,
+    empty: ArrayVec<u8, MAX_ADDED>,
     /// The segments that have no fault, by slot ascending.
-    segments: ArrayVec<Segment<'a>, 16>,
+    segments: ArrayVec<Segment<'a>, SLOT_COUNT>,
     /// The names that are requested.
-    queue: ArrayVec<UnitReference, 10>,
+    queue: ArrayVec<UnitReference, MAX_REQUESTED>,
     /// The empty slot after those that were given.
     next: Option<u8>,
     /// The fault of the first unit that could not be added.
@@ -273,7 +274,7 @@ impl<'a> HostReading<'a> {
     /// What the host's dictionary says of a slot, 0 to 15.
     /// Source: UCSD Pascal II.0 manual, code file format.
     pub fn entry(&self, slot: u8) -> Entry
-        requires { slot < 16 }
+        requires { slot < SLOTS }
         ensures { result ≡ entry_at self.now.order self.now.file slot }
     {
         self.slots.entry(slot)
@@ -282,7 +283,7 @@ impl<'a> HostReading<'a> {
     /// What a slot of the host, 0 to 15, is for, or why its kind is refused.
     /// Source: this project's profile.
     pub fn role(&self, slot: u8) -> Result<Role, Reason>
-        requires { slot < 16 }
+        requires { slot < SLOTS }
         ensures { result ≡ role_of (entry_at self.now.order self.now.file slot) }
     {
         self.slots.role(slot)
@@ -293,7 +294,7 @@ impl<'a> HostReading<'a> {
     /// Source: this project's profile.
     #[tactic(auto, using(crate::proofs::ReadingSlots::request_by))]
     pub fn request(&self, slot: u8) -> Option<Request>
-        requires { slot < 16 }
+        requires { slot < SLOTS }
         ensures { result ≡ slot_request self.now.order self.now.file
             (opened_files self.now.order self.now.libs) slot }
     {
@@ -306,7 +307,7 @@ impl<'a> HostReading<'a> {
     /// Why a slot has no segment.
     #[tactic(auto, using(crate::proofs::ReadingSlots::next_by, crate::proofs::ReadingSlots::none_by, crate::proofs::ReadingSlots::other_by))]
     fn fault_in(&self, slot: u8) -> Option<Fault>
-        requires { slot < 16 }
+        requires { slot < SLOTS }
         ensures { result ≡ slot_fault self.now.order self.now.file
             (opened_files self.now.order self.now.libs) slot }
     {
@@ -324,7 +325,7 @@ impl<'a> HostReading<'a> {
     /// Source: this project's profile.
     #[tactic(auto, using(crate::proofs::EachSegment::find_has))]
     pub fn segment(&self, slot: u8) -> Option<Result<&Segment<'a>, Fault>>
-        requires { slot < 16 }
+        requires { slot < SLOTS }
         ensures read { IfSome result (λ r. IfOk r (λ s. slot_reading self.now.order self.now.file
             (opened_files self.now.order self.now.libs) slot ≡ Some (Ok s.now))) }
         ensures refused { IfSome result (λ r. IfErr r (λ f. slot_reading self.now.order
@@ -357,7 +358,7 @@ impl<'a> HostReading<'a> {
     /// has none, or where no library has the unit that it wants or that is requested.
     /// Source: this project's profile.
     pub fn source(&self, slot: u8) -> Option<EntryAt>
-        requires { slot < 16 }
+        requires { slot < SLOTS }
         ensures { option_map (λ p. (p.file, p.index)) result ≡ slot_entry self.now.order
             self.now.file (opened_files self.now.order self.now.libs) slot }
     {

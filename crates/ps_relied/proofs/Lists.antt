@@ -1,16 +1,16 @@
 -- Lists whose items are changed one by one, and searches by functions that agree.
 use Rattle.std.proofs.Common.{◌≡◌, ℕ, suc, ◌<◌, List, [], ◌∷◌, map, Option, Some, None, Bool, true, false, refl, arith}
 use Rattle.std.proofs.lemmas.Bool.Decides.{nat_tests}
-use Rattle.ps_relied.proofs.Vocabulary.{◌&&◌, list_any, if◌then◌else◌, nat_lt, find, filter_map, option_map, option_or, first_of, slots, In, of_range}
+use Rattle.ps_relied.proofs.Vocabulary.{◌&&◌, list_any, if◌then◌else◌, nat_lt, find, filter_map, option_map, option_or, first_of, slots, In, of_range, SLOTS}
 
 -- both are there, and so related, or neither is
 pub data Both {A : Type 0} (R : A → A → Type 0) : Option A → Option A → Type 0 where
   neither : Both R None None
   both : (a b : A) → R a b → Both R (Some a) (Some b)
 
--- a slot is below 16
-pub in_slots : (i : ℕ) → In i slots → i < 16
-in_slots i t = let h = (of_range 0 16 i t.0 t.1).1 in omega (arith, h)
+-- a slot is below SLOTS
+pub in_slots : (i : ℕ) → In i slots → i < SLOTS
+in_slots i t = let h = (of_range 0 SLOTS i t.0 t.1).1 in omega (arith, h)
 
 pub and_left : (a b : Bool) → (a && b) ≡ true → a ≡ true
 and_left true b h = refl
@@ -18,10 +18,10 @@ and_left false b h = h
 
 -- the function, of slots alone
 abbrev pub clipped : {A : Type 0} → A → (ℕ → A) → ℕ → A
-clipped d f i = if nat_lt i 16 then f i else d
+clipped d f i = if nat_lt i SLOTS then f i else d
 
 -- functions that agree on the slots: so do searches among these by such functions
-pub same_clipped : {A : Type 0} (d : A) (f g : ℕ → A) → ((i : ℕ) → i < 16 → f i ≡ g i)
+pub same_clipped : {A : Type 0} (d : A) (f g : ℕ → A) → ((i : ℕ) → i < SLOTS → f i ≡ g i)
     → clipped d f ≡ clipped d g
 same_clipped {A} d f g h = λ j i. at i j
   where

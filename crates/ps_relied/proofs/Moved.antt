@@ -5,7 +5,7 @@ use Rattle.ps_codefile.specs.declared.entry.Role.TheVariants as role
 use Rattle.ps_reading.specs.declared.locations.RecordAt.{RecordAt}
 use Rattle.ps_words.specs.declared.fault.Reason.TheVariants as reason
 use Rattle.ps_relied.specs.SameSegments.{AreSameSegments, of_any_file}
-use Rattle.ps_relied.proofs.Vocabulary.{is_missing, none_mapped, fault_if, nat_lt, bytes_eq, MAX_DATA_SIZE, grown_data_size, table_of, total_words, ◌⊎◌, ◌||◌, ◌==◌, All, if◌then◌else◌, slots, find, slice_get, range_with_len, filter, option_and_then, option_map, option_map_or, option_or, result_ok, map-map, map-append, slice_get-map, All-head, All-tail, Fault, Reason, Order, Role, Record, Segment, Request, Requester, Slot, UnitReference, RoundsOutcome, Known, none_at, find_in, find_passes, is_there, entry_at, role_of, name_at, is_nameless, needs_linking, is_empty, is_host, is_in_place, in_slot, in_record, tables_fault, code_fault, request_fault, role_fault, source_fault, sources_fault, entries_reason, definitions_fault, privates_fault, data_fault, references_fault, references_fault_from, linking_fault, first_private_fault, reading_rest, file_at, is_named, is_role, chosen_library, library_file, own_segment, own_segments, source_of, unit_source, segment_with, segment_from, information_block, units_of, host_of, host_records, known_of, next_of, owner_of, private_words, after, request_of, request_by_slot, missing_at, unit_references, all_unit_references, requested_from, added_segment, added_segments, added_at, as_added, placed_fault, unplaced_fault, rounds_from, rounds, empty_slots, segment_at, segments, added_made, request_parts, source_made, unit_there, kind_is, chosen_file, IsReadAlike, HasSameCode, HasSameRecords}
+use Rattle.ps_relied.proofs.Vocabulary.{is_missing, none_mapped, fault_if, nat_lt, bytes_eq, MAX_DATA_SIZE, grown_data_size, table_of, total_words, ◌⊎◌, ◌||◌, ◌==◌, All, if◌then◌else◌, slots, find, slice_get, range_with_len, filter, option_and_then, option_map, option_map_or, option_or, result_ok, map-map, map-append, slice_get-map, All-head, All-tail, Fault, Reason, Order, Role, Record, Segment, Request, Requester, Slot, UnitReference, RoundsOutcome, Known, none_at, find_in, find_passes, is_there, entry_at, role_of, name_at, is_nameless, needs_linking, is_empty, is_host, is_in_place, in_slot, in_record, tables_fault, code_fault, request_fault, role_fault, source_fault, sources_fault, entries_reason, definitions_fault, privates_fault, data_fault, references_fault, references_fault_from, linking_fault, first_private_fault, reading_rest, file_at, is_named, is_role, chosen_library, library_file, own_segment, own_segments, source_of, unit_source, segment_with, segment_from, information_block, units_of, host_of, host_records, known_of, next_of, owner_of, private_words, after, request_of, request_by_slot, missing_at, unit_references, all_unit_references, requested_from, added_segment, added_segments, added_at, as_added, placed_fault, unplaced_fault, rounds_from, rounds, empty_slots, segment_at, segments, added_made, request_parts, source_made, unit_there, kind_is, chosen_file, IsReadAlike, HasSameCode, HasSameRecords, FIRST_ADDED, MAX_ADDED, SLOTS}
 use Rattle.ps_relied.proofs.Lists.{and_left, any_mapped, Both, neither, both, in_slots, same_clipped, find_mapped, first_mapped, all_mapped, or_moved}
 use Rattle.ps_relied.proofs.Entries.{same_index, same_reasons}
 use Rattle.ps_relied.proofs.SameFile.{known_moved}
@@ -374,19 +374,19 @@ module _ (c : Change) where
 
   -- 6. the hosts' slots are read the same, and what is requested is found
   pub record AreMoved : Type 0 where
-    pub roles : (slot : ℕ) → slot < 16
+    pub roles : (slot : ℕ) → slot < SLOTS
         → role_of (entry_at c.order c.host slot) ≡ role_of (entry_at c.order c.other slot)
-    pub names : (slot : ℕ) → slot < 16 → name_at c.host slot ≡ name_at c.other slot
-    pub own : (slot : ℕ) → slot < 16 → (r : Role)
+    pub names : (slot : ℕ) → slot < SLOTS → name_at c.host slot ≡ name_at c.other slot
+    pub own : (slot : ℕ) → slot < SLOTS → (r : Role)
         → role_of (entry_at c.order c.host slot) ≡ Ok r
         → is_in_place r ≡ true → IsSource c.host c.other r 0 slot
-    pub found : (slot : ℕ) → slot < 16
+    pub found : (slot : ℕ) → slot < SLOTS
         → role_of (entry_at c.order c.host slot) ≡ Ok role.Wanted
         → IsFound (name_at c.host slot)
     pub fits : Fits (mine rounds)
 
   module _ (all : AreMoved) where
-    slot_moved : (slot : ℕ) → slot < 16 → Moves (mine source_fault slot)
+    slot_moved : (slot : ℕ) → slot < SLOTS → Moves (mine source_fault slot)
         (theirs source_fault slot) (mine own_segment slot) (theirs own_segment slot)
     slot_moved slot inside = rw (← all.roles slot inside)
         (by_role (role_of (entry_at c.order c.host slot)) refl)
@@ -416,14 +416,15 @@ module _ (c : Change) where
     same_empty = λ j. filter (λ slot. option_map_or is_empty (result_ok (same_clipped
         (Ok role.Empty) (λ slot. role_of (entry_at c.order c.other slot))
         (λ slot. role_of (entry_at c.order c.host slot))
-        (λ slot inside. sym (all.roles slot inside)) j slot)) false) (range_with_len 7 9)
+        (λ slot inside. sym (all.roles slot inside)) j slot)) false)
+        (range_with_len FIRST_ADDED MAX_ADDED)
 
     module _ (none : mine sources_fault ≡ None) where
-      own_at : (slot : ℕ) → slot < 16
+      own_at : (slot : ℕ) → slot < SLOTS
           → theirs own_segment slot ≡ option_map renewed (mine own_segment slot)
       unfolding sources_fault
       own_at slot inside = (slot_moved slot inside).1
-          (none_at (mine source_fault) 0 16 slot none (omega arith) (omega (arith, inside)))
+          (none_at (mine source_fault) 0 SLOTS slot none (omega arith) (omega (arith, inside)))
 
       rounds_moved : theirs rounds ≡ moved_rounds (mine rounds)
       unfolding rounds own_segments
@@ -436,7 +437,7 @@ module _ (c : Change) where
           (rounds_from_moved (units_of own) (empty_slots c.order c.host) 0
           (requested_from (units_of own) [] (all_unit_references own)) all.fits)
 
-      empty_moved : (slot : ℕ) → slot < 16
+      empty_moved : (slot : ℕ) → slot < SLOTS
           → theirs added_at slot ≡ option_map renewed (mine added_at slot)
       empty_moved slot inside =
           (λ j. if option_map_or is_empty (result_ok (sym (all.roles slot inside) j)) false

@@ -1,7 +1,7 @@
 -- Links whose libraries stand elsewhere, or one of which is left out.
 use Rattle.std.proofs.Common.{◌≡◌, ℕ, ◌+◌, ◌<◌, ◌≤◌, List, [], ◌∷◌, ◌++◌, length, map, Option, Some, None, Result, Ok, Bool, true, false, refl, sym, ap, ◌∙◌, inl, inr, arith, is_some}
 use Rattle.ps_codefile.specs.declared.entry.Role.TheVariants as role
-use Rattle.ps_relied.proofs.Vocabulary.{IsReadAlike, ◌≢◌, Reason, in_file, All, find, first_of, list_any, enumerate_from, option_map, option_or, result_ok, nat_tests, list_any-append, Order, Segment, Role, order_of, has_entry, has, role_of, entry_at, name_at, chosen_library, unit_source, library_file, source_of, AreSameSegments, segments_of, rounds, added_at, added_segments, first_fault, reading_fault, library_reason, libraries_fault, In, of_all, or_none, some_mapped, same_Some, sources_fine, rounds_fine, has_own, in_segments, own_made, each_added, empty_slot, found_added}
+use Rattle.ps_relied.proofs.Vocabulary.{IsReadAlike, ◌≢◌, Reason, in_file, All, find, first_of, list_any, enumerate_from, option_map, option_or, result_ok, nat_tests, list_any-append, Order, Segment, Role, order_of, has_entry, has, role_of, entry_at, name_at, chosen_library, unit_source, library_file, source_of, AreSameSegments, segments_of, rounds, added_at, added_segments, first_fault, reading_fault, library_reason, libraries_fault, In, of_all, or_none, some_mapped, same_Some, sources_fine, rounds_fine, has_own, in_segments, own_made, each_added, empty_slot, found_added, SLOTS}
 use Rattle.ps_relied.proofs.Lists.{Both, neither, both}
 use Rattle.ps_relied.proofs.Moved.{Change, IsFound, AreChosenAlike, AreMoved, Fits, same_renewed, linking_moved, rest_moved, segments_moved}
 use Rattle.ps_relied.specs.Numbered.{renumbered, without, exchanged, HaveNoNameInCommon}
@@ -127,7 +127,7 @@ module _ (host : List ℕ) (libs others : List (List ℕ)) (number place : ℕ �
             units = λ i h f k. (refl, refl);
           }
 
-  kept : first_fault host libs ≡ None → ((slot : ℕ) → slot < 16
+  kept : first_fault host libs ≡ None → ((slot : ℕ) → slot < SLOTS
       → role_of (entry_at (order_of host) host slot) ≡ Ok role.Wanted
       → IsFound change (name_at host slot)) → Fits change (rounds (order_of host) host libs)
       → (list_any (λ lib. is_some (library_reason (order_of host) lib)) libs ≡ false
@@ -221,7 +221,7 @@ module _ (host : List ℕ) (before after : List (List ℕ)) (lib : List ℕ)
   unfolding first_fault
   read = (or_none (reading_fault host all) _ none).0
 
-  of_slots : (slot : ℕ) → slot < 16 → role_of (entry_at order host slot) ≡ Ok role.Wanted
+  of_slots : (slot : ℕ) → slot < SLOTS → role_of (entry_at order host slot) ≡ Ok role.Wanted
       → IsThere (name_at host slot)
   of_slots slot inside wants =
       let own = has_own order host all (sources_fine host all read) slot inside role.Wanted wants

@@ -1,6 +1,8 @@
 -- The words and lemmas that several proofs use, each with its home.
+pub use Rattle.ps_codefile.specs.declared.dictionary_layout.TheConstants.{FIRST_ADDED, SLOTS}
 pub use Rattle.ps_laws.proofs.Vocabulary.{if◌then◌else◌, nat_lt, not, ◌&&◌, ◌||◌, ◌==◌, ◌⊎◌, ◌≢◌, list_any, find, filter_map, enumerate_from, range_with_len, slice_get, flat_map, option_and_then, option_map, option_map_or, option_or, result_ok, result_err, bytes_eq, same_Some, fault_if, first_of, in_record, in_slot, Edit, Fault, Reason, Order, Role, Record, Body, Segment, Request, UnitReference, RoundsOutcome, entry_at, role_of, slots, is_empty, is_host, is_unit, needs_linking, next_of, reading, refs_of, after, added_segments, all_unit_references, request_of, requested_from, unit_references, code_fault, request_fault, role_fault, is_role, segments_of, known_of, owner_of, private_words, total_words, request_by_slot, chosen_library, file_at, host_of, host_records, is_named, order_of, own_segment, source_of, unit_source, units_of}
 pub use Rattle.ps_linkfile.proofs.Vocabulary.{nat_tests, get_or_append_left, All-head, All-tail, length-map-range_with_len, filter, blocks, word_bytes, Origin, origin_of, edited_from, edited_segments, Known, linked_file, pair_of, all_blocks, padded_segment, in_file}
+pub use Rattle.ps_reading.specs.declared.reading.added.TheConstants.{MAX_ADDED}
 pub use Rattle.std.specs.List.{fold}
 pub use Rattle.std.specs.Prelude.{◌↔◌, All, slice_index, replicate}
 pub use Rattle.std.proofs.lemmas.List.{map-append, take-append-le, drop-append-le, length-append, length-take, get_or-take, get_or-drop}

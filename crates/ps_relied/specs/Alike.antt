@@ -11,6 +11,7 @@ use Rattle.ps_codefile.specs.declared.entry.Role.TheVariants.{Empty, Wanted, Pla
 use Rattle.ps_linkinfo.specs.Records.{reading}
 use Rattle.ps_resolve.specs.Sources.{order_of}
 use Rattle.ps_relied.specs.SameSegments.{HaveSameHeads}
+use Rattle.ps_codefile.specs.declared.dictionary_layout.TheConstants.{SLOTS}
 
 -- slot i of both files has the same code, or none for the same reason
 abbrev pub HasSameCode : Order → List ℕ → List ℕ → ℕ → Type 0
@@ -27,13 +28,13 @@ HasSameRecords order file other i = reading order (information_of file (entry_at
 -- such a slot has the same name and kind, and that of a unit (kind 3) the same code and records.
 pub record IsReadAlike (order : Order) (lib other : List ℕ) : Type 0 where
   pub opened : result_err (opened_beside order lib) ≡ result_err (opened_beside order other)
-  pub filled : (i : ℕ) → i < 16
+  pub filled : (i : ℕ) → i < SLOTS
       → is_filled (entry_at order lib i) ≡ is_filled (entry_at order other i)
-  pub names : (i : ℕ) → i < 16 → is_filled (entry_at order lib i) ≡ true
+  pub names : (i : ℕ) → i < SLOTS → is_filled (entry_at order lib i) ≡ true
       → (entry_at order lib i).name ≡ (entry_at order other i).name
-  pub kinds : (i : ℕ) → i < 16 → is_filled (entry_at order lib i) ≡ true
+  pub kinds : (i : ℕ) → i < SLOTS → is_filled (entry_at order lib i) ≡ true
       → (entry_at order lib i).kind ≡ (entry_at order other i).kind
-  pub units : (i : ℕ) → i < 16 → is_filled (entry_at order lib i) ≡ true
+  pub units : (i : ℕ) → i < SLOTS → is_filled (entry_at order lib i) ≡ true
       → (entry_at order lib i).kind ≡ 3
       → HasSameCode order lib other i × HasSameRecords order lib other i
 
@@ -60,13 +61,13 @@ is_in_place Unit = true
 pub record AreFilesAlike (host other : List ℕ) (libs others : List (List ℕ)) : Type 0 where
   pub heads : HaveSameHeads host other
   pub opened : result_err (opened_alone host) ≡ result_err (opened_alone other)
-  pub roles : (slot : ℕ) → slot < 16
+  pub roles : (slot : ℕ) → slot < SLOTS
       → role_of (entry_at (order_of host) host slot)
       ≡ role_of (entry_at (order_of host) other slot)
-  pub codes : (slot : ℕ) → slot < 16 → (r : Role)
+  pub codes : (slot : ℕ) → slot < SLOTS → (r : Role)
       → role_of (entry_at (order_of host) host slot) ≡ Ok r → is_in_place r ≡ true
       → HasSameCode (order_of host) host other slot
-  pub records : (slot : ℕ) → slot < 16 → (r : Role)
+  pub records : (slot : ℕ) → slot < SLOTS → (r : Role)
       → role_of (entry_at (order_of host) host slot) ≡ Ok r → is_in_place r ≡ true
       → needs_linking r ≡ true → HasSameRecords (order_of host) host other slot
   pub libraries : AreReadAlike (order_of host) libs others

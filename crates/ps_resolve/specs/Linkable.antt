@@ -15,6 +15,7 @@ use Rattle.ps_resolve.specs.References.{Known, HaveTargets}
 use Rattle.ps_reading.specs.KnownSegments.{IsSound, IsLike, AreAlike}
 use Rattle.ps_resolve.specs.declared.host_segment.HostSegment.{HostSegment}
 use Rattle.ps_words.specs.declared.words.TheConstants.{MAX_WORD}
+use Rattle.ps_codefile.specs.declared.dictionary_layout.TheConstants.{SLOT_COUNT}
 
 -- a host's own segment: its records, and the place of the attribute table of its outer block, which
 -- lies in its code before the procedure dictionary
@@ -35,7 +36,7 @@ pub record AreSegments (order : Order) (host : List ℕ) (names : List (List ℕ
   pub ascending : AscendFrom 0 (map (λ s. s.slot) ss)
   pub whole : 512 ≤ length host
   pub alike : AreAlike ss
-  pub most : length ss ≤ 16
+  pub most : length ss ≤ SLOT_COUNT
   pub named : names ≡ slot_names host ss
 
 -- the byte order of the files, the host file, the names of the slots of the linked file, the host's

@@ -17,6 +17,7 @@ use Rattle.ps_linkinfo.specs.Records.{Spells}
 use Rattle.ps_codefile.specs.Roles.{needs_linking}
 use Rattle.ps_reading.specs.Sources.{Segment, information_block, order_of, tables_of}
 use Rattle.ps_resolve.specs.RequestedUnits.{HasSlot}
+use Rattle.ps_codefile.specs.declared.dictionary_layout.TheConstants.{FIRST_ADDED, SLOTS}
 
 -- 1. which slots have a segment
 -- a segment of the list has this slot
@@ -47,8 +48,8 @@ pub record IsAddedUnit (order : Order) (host : List ℕ) (segs : List Segment)
     (s : Segment) : Type 0 where
   -- its slot is empty in the host's dictionary, is 7 or above, and is the first such that is left
   pub empty : HasRole order host s.slot Empty
-  pub low : 7 ≤ s.slot
-  pub next : (slot : ℕ) → 7 ≤ slot → slot < s.slot → HasRole order host slot Empty
+  pub low : FIRST_ADDED ≤ s.slot
+  pub next : (slot : ℕ) → FIRST_ADDED ≤ slot → slot < s.slot → HasRole order host slot Empty
       → IsTaken segs slot
   -- it has the role of a wanted unit
   pub role : s.role ≡ Wanted
@@ -80,9 +81,9 @@ pub record IsUnitOf (order : Order) (host : List ℕ) (libs : List (List ℕ)) (
   pub first : (lesser : ℕ) (other : List ℕ) → 1 ≤ lesser → lesser < k
       → IsFile host libs lesser other → HasEntry order name other → ⊥
   -- the entry is a filled one of the name there, and the only one
-  pub within : i < 16
+  pub within : i < SLOTS
   pub entry : IsNamed order name library i
-  pub only : (other : ℕ) → other < 16 → IsNamed order name library other → other ≡ i
+  pub only : (other : ℕ) → other < SLOTS → IsNamed order name library other → other ≡ i
   -- its kind is UNITSEG
   pub kind : (entry_at order library i).kind ≡ 3
 
@@ -99,7 +100,7 @@ pub record IsReadFrom (order : Order) (host : List ℕ) (libs : List (List ℕ))
     (s : Segment) : Type 0 where
   pub source : List ℕ
   pub file : IsFile host libs s.file source
-  pub within : s.index < 16
+  pub within : s.index < SLOTS
   -- its code is the entry's, with which nothing is wrong, and so a slice of the file
   pub code : code_of source (entry_at order source s.index) ≡ Ok s.code
   pub slice : IsSliceOf source (entry_at order source s.index) s.code
@@ -114,14 +115,14 @@ pub record IsReadFrom (order : Order) (host : List ℕ) (libs : List (List ℕ))
 -- 4. of all segments of a link
 -- each of the host's sixteen slots that is not empty has one
 abbrev pub HaveOneEach : List ℕ → List Segment → Type 0
-HaveOneEach host segs = (slot : ℕ) → slot < 16
+HaveOneEach host segs = (slot : ℕ) → slot < SLOTS
     → (HasRole (order_of host) host slot Empty → ⊥) → HasOne segs slot
 
--- they are by slot, ascending, so no two have one slot; there is no slot 16
+-- they are by slot, ascending, so no two have one slot; each slot is below SLOTS
 abbrev pub AreBySlot : List Segment → Type 0
 AreBySlot segs =
     ((i j : ℕ) (s q : Segment) → i < j → slice_get segs i ≡ Some s
-    → slice_get segs j ≡ Some q → s.slot < q.slot) × All (λ s. s.slot < 16) segs
+    → slice_get segs j ≡ Some q → s.slot < q.slot) × All (λ s. s.slot < SLOTS) segs
 
 -- one that was not added has its slot in the host's dictionary, so an empty slot has no segment but
 -- one that was added

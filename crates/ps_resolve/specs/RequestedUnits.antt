@@ -17,6 +17,7 @@ use Rattle.ps_resolve.specs.First.{Before}
 use Rattle.ps_codefile.specs.Roles.{is_unit}
 use Rattle.ps_reading.specs.Sources.{Segment, information_block, library_file, order_of, own_segments, tables_of}
 use Rattle.ps_reading.specs.declared.reading.added.UnitReference.{UnitReference}
+use Rattle.ps_codefile.specs.declared.dictionary_layout.TheConstants.{SLOTS}
 
 -- record `rec` of the i-th segment is a UNITREF of this name
 abbrev pub RequestsAt : List Segment → ℕ → ℕ → List ℕ → Type 0
@@ -28,7 +29,7 @@ RequestsAt segs i rec name =
 -- a slot of role Unit or Wanted of the host has the name
 abbrev pub HasSlot : Order → List ℕ → List ℕ → Type 0
 HasSlot order host name =
-    SomeBelow 16 (λ slot. IsUnitSlot order host slot × ((entry_at order host slot).name ≡ name))
+    SomeBelow SLOTS (λ slot. IsUnitSlot order host slot × ((entry_at order host slot).name ≡ name))
 
 -- the reference is of the i-th segment, and its record is the first of all that requests the name
 abbrev pub IsGiver : List Segment → ℕ → UnitReference → Type 0
@@ -51,7 +52,7 @@ IsOfFirstLibrary order libs s =
     SomeItem libs (λ k lib.
     ((lesser : ℕ) (other : List ℕ) → lesser < k → slice_get libs lesser ≡ Some other
     → HasEntry order s.name other → ⊥)
-    × (s.file ≡ library_file k) × (s.index < 16) × IsNamed order s.name lib s.index
+    × (s.file ≡ library_file k) × (s.index < SLOTS) × IsNamed order s.name lib s.index
     × (code_of lib (entry_at order lib s.index) ≡ Ok s.code)
     × (s.tables ≡ tables_of order s.code true)
     × (s.block ≡ information_block (entry_at order lib s.index) true)

@@ -16,6 +16,7 @@ use crate::references::names::{LinkNames, Linking, Names};
 use crate::segments::Segments;
 use arrayvec::ArrayVec;
 use ps_reading::{HOST_FILE, Segment, SegmentAt, UnitSlots};
+use ps_codefile::dictionary_layout::SLOT_COUNT;
 use ps_words::Edit;
 use std::alloc::Allocator;
 
@@ -52,8 +53,8 @@ fn all_edits<A: Allocator + Copy>(
 /// Where the code of each segment comes from. It stands in the body of its caller, so that the
 /// table is handed up once less.
 #[inline(always)]
-fn sources_of<'a>(segments: &[Segment<'a>]) -> ArrayVec<Source<'a>, 16>
-    requires { length segments.now ≤ 16 }
+fn sources_of<'a>(segments: &[Segment<'a>]) -> ArrayVec<Source<'a>, SLOT_COUNT>
+    requires { length segments.now ≤ SLOT_COUNT }
     ensures { map origin_of_source result.items ≡ map origin_of segments.now }
 {
     let mut sources = ArrayVec::new();

@@ -10,6 +10,7 @@ use crate::allotment::allot;
 use crate::edits::segment_edits;
 use crate::linkage::Stop;
 use crate::references::names::{LONE_BASE, Linking, Names};
+use ps_codefile::dictionary_layout::SLOTS;
 use ps_linkinfo::LinkInformation;
 use ps_reading::{HostReading, Segment};
 use ps_words::{Edit, Fault, Order};
@@ -84,7 +85,7 @@ pub fn lone_fault<A: Allocator + Copy>(
     reading: &HostReading<'_>,
     slot: u8,
 ) -> Result<Option<Fault>, AllocError>
-    requires { slot < 16 }
+    requires { slot < SLOTS }
     ensures fault { IfOk result (λ fault. fault ≡ lone_fault_spec reading.now.order
         reading.now.file (opened_files reading.now.order reading.now.libs) slot) }
     ensures memory { IfErr result (λ _. IsSoundUnit reading.now.order reading.now.file

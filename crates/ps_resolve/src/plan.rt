@@ -5,7 +5,7 @@ ghost use Rattle.ps_resolve.specs.Plans.{origin_of_source};
 use crate::allotment::Allotment;
 use crate::definitions::Definitions;
 use arrayvec::ArrayVec;
-use ps_codefile::dictionary_layout::TAIL;
+use ps_codefile::dictionary_layout::{SLOT_COUNT, TAIL};
 use ps_words::{BLOCK_SIZE, Edit, Name, Order};
 use std::alloc::{Allocator, Global};
 use std::marker::Model;
@@ -52,8 +52,8 @@ impl<'a> Default for Source<'a> {
 pub struct Plan<'a, A: Allocator + Copy = Global> {
     pub(crate) order: Order,
     pub(crate) host: &'a [u8],
-    pub(crate) names: [Name; 16],
-    pub(crate) sources: ArrayVec<Source<'a>, 16>,
+    pub(crate) names: [Name; SLOT_COUNT],
+    pub(crate) sources: ArrayVec<Source<'a>, SLOT_COUNT>,
     pub(crate) edits: Vec<Vec<Edit, A>, A>,
     pub(crate) definitions: Definitions<A>,
     pub(crate) allotment: Allotment<A>,
@@ -83,7 +83,7 @@ impl<'a, A: Allocator + Copy> Plan<'a, A> {
     /// The names of all slots of the linked file, of eight bytes each: the host's, and in the slot
     /// of an added unit that unit's.
     /// Source: UCSD Pascal II.0 manual, code file format.
-    pub fn names(&self) -> &[Name; 16]
+    pub fn names(&self) -> &[Name; SLOT_COUNT]
         ensures { result.now ≡ self.now.names }
     {
         &self.names

@@ -16,6 +16,7 @@ use crate::segments::Segments;
 use arrayvec::ArrayVec;
 use ps_codefile::Dict;
 use ps_reading::{HOST_FILE, HostSlots, Segment, read_added, read_own, slot_names};
+use ps_codefile::dictionary_layout::SLOT_COUNT;
 use ps_words::{Fault, Reason};
 use std::alloc::Allocator;
 
@@ -53,7 +54,7 @@ pub fn resolve_with_segments<'a, A: Allocator + Copy>(
     alloc: A,
     host: &'a [u8],
     libs: &'a [&'a [u8]],
-) -> Result<(Plan<'a, A>, ArrayVec<Segment<'a>, 16>), Stop>
+) -> Result<(Plan<'a, A>, ArrayVec<Segment<'a>, SLOT_COUNT>), Stop>
     ensures plan { IfOk result (λ found. IsPlan host.now (contents libs.now) found.0) }
     ensures segments { IfOk result (λ found. found.1.items
         ≡ segments_of host.now (contents libs.now)) }
@@ -100,7 +101,7 @@ fn link_opened<'a, A: Allocator + Copy>(
     host: &'a [u8],
     dict: Dict<'a>,
     libs: &'a [&'a [u8]],
-    segments: &mut ArrayVec<Segment<'a>, 16>,
+    segments: &mut ArrayVec<Segment<'a>, SLOT_COUNT>,
 ) -> Result<Plan<'a, A>, Stop>
     requires opened { Ok dict ≡ opened_alone host.now }
     requires empty { segments.old.items ≡ [] }
@@ -127,7 +128,7 @@ fn link_units<'a, A: Allocator + Copy>(
     host: &'a [u8],
     libs: &'a [&'a [u8]],
     slots: &HostSlots<'a>,
-    segments: &mut ArrayVec<Segment<'a>, 16>,
+    segments: &mut ArrayVec<Segment<'a>, SLOT_COUNT>,
 ) -> Result<Plan<'a, A>, Stop>
     requires opened { Ok slots.now ≡ opened_alone host.now }
     requires own { segments.old.items

@@ -1,5 +1,6 @@
 use crate::host_segment::HostSegment;
 use arrayvec::ArrayVec;
+use ps_codefile::dictionary_layout::SLOT_COUNT;
 use ps_reading::Segment;
 use ps_words::{Name, Order};
 use std::marker::Model;
@@ -12,11 +13,11 @@ pub(crate) struct Segments<'r, 'a> {
     /// The host file.
     pub(crate) host: &'a [u8],
     /// The names of all slots in the linked file.
-    pub(crate) names: [Name; 16],
+    pub(crate) names: [Name; SLOT_COUNT],
     /// The host's own segment.
     pub(crate) own: HostSegment<'r, 'a>,
     /// All segments by slot ascending.
-    pub(crate) items: &'r ArrayVec<Segment<'a>, 16>,
+    pub(crate) items: &'r ArrayVec<Segment<'a>, SLOT_COUNT>,
 }
 
 impl<'r, 'a> Model for Segments<'r, 'a> {

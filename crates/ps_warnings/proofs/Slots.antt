@@ -23,6 +23,7 @@ use Rattle.ps_warnings.specs.Seen.{Seen, code_in, has_slot}
 use Rattle.ps_warnings.specs.declared.looks.extents.Extent.{Extent}
 use Rattle.ps_warnings.specs.declared.segments.ReadEntry.{ReadEntry}
 use Rattle.ps_warnings.specs.declared.warnings.Look.TheVariants as look
+use Rattle.ps_codefile.specs.declared.dictionary_layout.TheConstants.{SLOTS}
 
 module _ (path : List ℕ) (host : Option (List Record)) (list : List Seen) (order : Order)
     (bytes : List ℕ) (file slot : ℕ) where
@@ -127,7 +128,7 @@ module _ (path : List ℕ) (segment : Option (List ℕ)) (host : Option (List Re
 
 module _ (path : List ℕ) (order : Order) (bytes : List ℕ) (extents : List Extent) (x : Extent)
   where
-    pub in_slot : nat_lt x.slot 16 ≡ true → overlap_look path order bytes extents x
+    pub in_slot : nat_lt x.slot SLOTS ≡ true → overlap_look path order bytes extents x
         ≡ found_at path (Some (entry_at order bytes x.slot).name) None
         (option_map look.Entry (overlap extents x))
     unfolding overlap_look
@@ -135,7 +136,7 @@ module _ (path : List ℕ) (order : Order) (bytes : List ℕ) (extents : List Ex
         (Some (entry_at order bytes x.slot).name) None (option_map look.Entry (overlap extents x))
         else []) h
 
-    pub no_slot : nat_lt x.slot 16 ≡ false → overlap_look path order bytes extents x ≡ []
+    pub no_slot : nat_lt x.slot SLOTS ≡ false → overlap_look path order bytes extents x ≡ []
     unfolding overlap_look
     no_slot h = ap (λ (b : Bool). if b then found_at path
         (Some (entry_at order bytes x.slot).name) None (option_map look.Entry (overlap extents x))

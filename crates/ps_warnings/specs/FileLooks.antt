@@ -22,6 +22,7 @@ use Rattle.ps_warnings.specs.Seen.{Seen, code_in, has_slot}
 use Rattle.ps_warnings.specs.declared.looks.extents.Extent.{Extent}
 use Rattle.ps_warnings.specs.declared.segments.ReadEntry.{ReadEntry}
 use Rattle.ps_warnings.specs.declared.warnings.Look.TheVariants as look
+use Rattle.ps_codefile.specs.declared.dictionary_layout.TheConstants.{SLOTS}
 
 -- the data size of the outer block of a code, in bytes, where its procedure tables can be read
 unfoldable pub data_size : Order → List ℕ → Option ℕ
@@ -92,7 +93,7 @@ extent_at order bytes slot = let e = entry_at order bytes slot in
 
 -- the first earlier entry that has bytes of this one
 unfoldable pub overlap_look : List ℕ → Order → List ℕ → List Extent → Extent → List LookAt
-overlap_look path order bytes extents e = if nat_lt e.slot 16
+overlap_look path order bytes extents e = if nat_lt e.slot SLOTS
     then found_at path (Some (entry_at order bytes e.slot).name) None
     (option_map look.Entry (overlap extents e)) else []
 

@@ -14,6 +14,7 @@ use Rattle.ps_warnings.specs.EntryLooks.{has_name_or_kind}
 use Rattle.ps_warnings.specs.Seen.{Seen}
 use Rattle.ps_warnings.specs.declared.warnings.LinkLook.{LinkLook}
 use Rattle.ps_warnings.specs.declared.warnings.LinkLook.TheVariants as look
+use Rattle.ps_codefile.specs.declared.dictionary_layout.TheConstants.{SLOTS}
 
 -- a byte of a name as it ought to be written: without bit 7, a capital letter, and a blank for a 0
 abbrev pub plain_byte : ℕ → ℕ
@@ -35,7 +36,7 @@ taken_slot slot what e = if is_added what && has_name_or_kind e
 -- so does the one that has this slot of the host, if it has one
 abbrev pub taken_by : Order → List ℕ → Option ℕ → SegmentPart → Option LinkLook
 taken_by order host None what = None
-taken_by order host (Some slot) what = if nat_lt slot 16
+taken_by order host (Some slot) what = if nat_lt slot SLOTS
     then taken_slot slot what (entry_at order host slot) else None
 
 -- the segment is a unit of nearly this name

@@ -24,6 +24,7 @@ use Rattle.ps_warnings.specs.Seen.{Seen, part_needs_linking}
 use Rattle.ps_warnings.specs.declared.segments.SegmentPart.{SegmentPart}
 use Rattle.ps_warnings.specs.declared.segments.SegmentPart.TheVariants as part
 use Rattle.ps_warnings.specs.declared.segments.ReadEntry.{ReadEntry}
+use Rattle.ps_codefile.specs.declared.dictionary_layout.TheConstants.{SLOTS}
 
 -- where a segment comes from: its file, and the records that can be read there, if it has a code
 pub record Origin : Type 0 where
@@ -49,7 +50,7 @@ origin_in file index (Ok f) = Some (origin_at file index f)
 origin_in file index (Err why) = None
 
 unfoldable pub origin_of : List ℕ → List (List ℕ) → ℕ × ℕ → Option Origin
-origin_of host libs at = if nat_lt at.1 16
+origin_of host libs at = if nat_lt at.1 SLOTS
     then origin_in at.0 at.1 (opened_beside (host_order host) (file_at host libs at.0)) else None
 
 -- what is seen of a segment that comes from there
@@ -85,7 +86,8 @@ name_by h slot None = (entry_at h.order h.file slot).name
 name_by h slot (Some r) = r.name
 
 unfoldable pub name_in : HostFiles → ℕ → List ℕ
-name_in h slot = if nat_lt slot 16 then name_by h slot (request_in h slot) else codes "        "
+name_in h slot = if nat_lt slot SLOTS then name_by h slot (request_in h slot)
+    else codes "        "
 
 -- a slot of this role has or wants a unit
 abbrev pub is_for_unit : Result Role Reason → Bool

@@ -190,7 +190,7 @@ pub fn length_of(records: &LinkInformation<'_>) -> usize
 ///
 /// Source: UCSD Pascal II.0 manual, code file format.
 pub fn source_of<'a>(dict: &Dict<'a>, file: usize, index: u8) -> ReadEntry<'a>
-    requires { index < 16 }
+    requires { index < SLOTS }
     ensures file { result.file ≡ file }
     ensures entry { result.entry ≡ entry_at dict.now.order dict.now.file index }
     ensures order { result.order ≡ dict.now.order }
@@ -224,7 +224,7 @@ fn source_at<'a>(inputs: &Inputs<'a>, file: usize, index: u8) -> Option<ReadEntr
 
 /// An entry of a file; none where the file cannot be read.
 fn source_from<'a>(inputs: &Inputs<'a>, file: usize, index: u8) -> Option<ReadEntry<'a>>
-    requires { index < 16 }
+    requires { index < SLOTS }
     ensures { option_map origin_as result ≡ origin_in file index
         (opened_beside (host_order inputs.now.host.now)
         (file_at inputs.now.host.now (contents inputs.now.libs.now) file)) }
@@ -237,7 +237,7 @@ fn source_from<'a>(inputs: &Inputs<'a>, file: usize, index: u8) -> Option<ReadEn
 
 /// There is such a slot.
 pub(crate) fn is_slot(slot: u8) -> bool
-    ensures { result ≡ nat_lt slot 16 }
+    ensures { result ≡ nat_lt slot SLOTS }
 {
     slot < SLOTS
 }
@@ -245,7 +245,7 @@ pub(crate) fn is_slot(slot: u8) -> bool
 /// Where the segment of a slot comes from, also where it is refused; none where no library has the
 /// unit.
 fn source_in<'a>(inputs: &Inputs<'a>, host: &HostReading<'a>, slot: u8) -> Option<ReadEntry<'a>>
-    requires { slot < 16 }
+    requires { slot < SLOTS }
     ensures { option_map origin_as result ≡ option_and_then (origin_of inputs.now.host.now
         (contents inputs.now.libs.now)) (entry_in host.now slot) }
 {
@@ -269,7 +269,7 @@ fn name_in(host: &HostReading<'_>, slot: u8) -> Name
 
 /// The same of a slot that there is.
 fn name_by(host: &HostReading<'_>, slot: u8) -> Name
-    requires { slot < 16 }
+    requires { slot < SLOTS }
     ensures { result ≡ name_by_spec host.now slot (request_in host.now slot) }
 {
     match host.request(slot) {
@@ -280,7 +280,7 @@ fn name_by(host: &HostReading<'_>, slot: u8) -> Name
 
 /// A slot of the host has or wants a unit.
 fn is_for_unit(host: &HostReading<'_>, slot: u8) -> bool
-    requires { slot < 16 }
+    requires { slot < SLOTS }
     ensures { result ≡ is_for_unit_spec (role_in host.now slot) }
 {
     match host.role(slot) {
@@ -291,7 +291,7 @@ fn is_for_unit(host: &HostReading<'_>, slot: u8) -> bool
 
 /// It is a unit of this name.
 fn is_unit_of(host: &HostReading<'_>, name: &Name, slot: u8) -> bool
-    requires { slot < 16 }
+    requires { slot < SLOTS }
     ensures { result ≡ is_unit_of_spec host.now name.now slot }
 {
     is_for_unit(host, slot) && host.entry(slot).name == *name
@@ -299,7 +299,7 @@ fn is_unit_of(host: &HostReading<'_>, name: &Name, slot: u8) -> bool
 
 /// One of the slots below `end` has or wants a unit of the name.
 fn is_of_slots(host: &HostReading<'_>, name: &Name, end: u8) -> bool
-    requires { end ≤ 16 }
+    requires { end ≤ SLOTS }
     ensures { result ≡ list_any (is_unit_of_spec host.now name.now) (range_with_len 0 end) }
 {
     (0..end).any(|slot| is_unit_of(host, name, slot))
@@ -335,7 +335,7 @@ fn requested_part(host: &HostReading<'_>, request: Request) -> Option<SegmentPar
 
 /// What the segment of a slot is that is not requested; none where there is none.
 fn own_part(host: &HostReading<'_>, slot: u8) -> Option<SegmentPart>
-    requires { slot < 16 }
+    requires { slot < SLOTS }
     ensures { result ≡ part_of_role (role_in host.now slot) }
 {
     match host.role(slot) {
@@ -349,7 +349,7 @@ fn own_part(host: &HostReading<'_>, slot: u8) -> Option<SegmentPart>
 /// What the segment of a slot is; none where there is none.
 #[tactic(auto, unfolding(crate::specs::SeenSegments::part_in))]
 fn part_in(host: &HostReading<'_>, slot: u8) -> Option<SegmentPart>
-    requires { slot < 16 }
+    requires { slot < SLOTS }
     ensures { result ≡ part_in_spec host.now slot }
 {
     match host.request(slot) {
@@ -361,7 +361,7 @@ fn part_in(host: &HostReading<'_>, slot: u8) -> Option<SegmentPart>
 /// A record requests the unit that takes the slot.
 #[tactic(auto, unfolding(crate::specs::SeenSegments::takes_slot))]
 fn takes_slot(host: &HostReading<'_>, slot: u8) -> bool
-    requires { slot < 16 }
+    requires { slot < SLOTS }
     ensures { result ≡ takes_slot_spec host.now slot }
 {
     match host.request(slot) {
@@ -381,7 +381,7 @@ fn is_by_record(requester: Requester) -> bool
 
 /// A slot has a segment that was read, also where it is refused, and no library has it.
 fn state_of(host: &HostReading<'_>, slot: u8) -> (bool, bool)
-    requires { slot < 16 }
+    requires { slot < SLOTS }
     ensures { result.0 ≡ is_some (reading_in host.now slot) }
 {
     match host.segment(slot) {
@@ -399,7 +399,7 @@ fn slot_source<'a>(
     slot: u8,
     is_read: bool,
 ) -> Option<ReadEntry<'a>>
-    requires { slot < 16 }
+    requires { slot < SLOTS }
     ensures { is_read ≡ is_some (reading_in host.now slot)
         → option_map origin_as result ≡ slot_origin inputs.now.host.now
         (contents inputs.now.libs.now) host.now slot }
@@ -413,7 +413,7 @@ fn slot_source<'a>(
 
 /// The segment of a slot; none where there is none.
 fn segment_in<'a>(inputs: &Inputs<'a>, host: &HostReading<'a>, slot: u8) -> Option<ReadSegment<'a>>
-    requires { slot < 16 }
+    requires { slot < SLOTS }
     ensures { option_map seen result ≡ seen_in inputs.now.host.now
         (contents inputs.now.libs.now) host.now slot }
 {

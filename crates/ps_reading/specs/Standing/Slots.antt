@@ -10,6 +10,7 @@ use Rattle.ps_words.specs.declared.fault.Fault.{Fault}
 use Rattle.ps_codefile.specs.declared.entry.Role.TheVariants as role
 use Rattle.ps_words.specs.declared.fault.Reason.TheVariants as reason
 use Rattle.ps_reading.specs.Standing.Phrases.{Because, SomeBelow}
+use Rattle.ps_codefile.specs.declared.dictionary_layout.TheConstants.{SLOTS}
 
 -- the slot of the host has this role
 abbrev pub HasRole : Order → List ℕ → ℕ → Role → Type 0
@@ -32,11 +33,12 @@ SlotHas order host slot reason.DoubledSegment =
     × ((entry_at order host other).name ≡ (entry_at order host slot).name))
 SlotHas order host slot why = role_of (entry_at order host slot) ≡ Err why
 
--- a fault of one of the 16 slots, reported with it
+-- a fault of one of the slots, reported with it
 abbrev pub InSlots : Order → List ℕ → Fault → Type 0
-InSlots order host f = SomeBelow 16 (λ slot. Because (in_slot 0 slot) (SlotHas order host slot) f)
+InSlots order host f =
+    SomeBelow SLOTS (λ slot. Because (in_slot 0 slot) (SlotHas order host slot) f)
 
 -- no slot has role Host
 abbrev pub InNoHost : Order → List ℕ → Fault → Type 0
 InNoHost order host f = (f ≡ in_file 0 reason.NoHost)
-    × ((slot : ℕ) → slot < 16 → HasRole order host slot role.Host → ⊥)
+    × ((slot : ℕ) → slot < SLOTS → HasRole order host slot role.Host → ⊥)

@@ -15,15 +15,15 @@ use crate::reading::segment::Segment;
 use crate::reading::slots::{HostSlots, is_empty};
 use crate::reading::unit_slots::UnitSlots;
 use arrayvec::ArrayVec;
-use ps_codefile::dictionary_layout::{FIRST_ADDED, SLOTS};
+use ps_codefile::dictionary_layout::{FIRST_ADDED, SLOT_COUNT, SLOTS};
 use ps_linkinfo::{LinkInformation, LinkRecord};
 use ps_words::{Fault, Name, Reason};
 
 /// How many units may be added: one in each slot from the first on.
-const MAX_ADDED: usize = 9;
+pub(crate) const MAX_ADDED: usize = (SLOTS - FIRST_ADDED) as usize;
 
 /// How many names are kept: those that may have a slot, and the first that has none.
-const MAX_REQUESTED: usize = 10;
+pub(crate) const MAX_REQUESTED: usize = MAX_ADDED + 1;
 
 /// A UNITREF record: the name that it requests, and where it is.
 /// Source: this project's profile.
@@ -58,9 +58,9 @@ impl UnitReference {
 }
 
 /// Appends the slot if it is empty.
-fn add_empty(host: &HostSlots, slots: &mut ArrayVec<u8, 9>, slot: u8)
-    requires in_range { slot < 16 }
-    requires room { array_vec_len slots.old < 9 }
+fn add_empty(host: &HostSlots, slots: &mut ArrayVec<u8, MAX_ADDED>, slot: u8)
+    requires in_range { slot < SLOTS }
+    requires room { array_vec_len slots.old < MAX_ADDED }
     ensures { slots.new.items ≡ slots.old.items
         ++ (if is_role is_empty_role host.now.order host.now.file slot then slot ∷ [] else []) }
 {
@@ -70,10 +70,10 @@ fn add_empty(host: &HostSlots, slots: &mut ArrayVec<u8, 9>, slot: u8)
 }
 
 /// The empty slots that a unit may be added in, ascending.
-pub(crate) fn empty_slots(host: &HostSlots) -> ArrayVec<u8, 9>
+pub(crate) fn empty_slots(host: &HostSlots) -> ArrayVec<u8, MAX_ADDED>
     ensures slots { result.items ≡ empty_slots_spec host.now.order host.now.file }
-    ensures in_range { All (λ slot. slot < 16) result.items }
-    ensures few { length result.items ≤ 9 }
+    ensures in_range { All (λ slot. slot < SLOTS) result.items }
+    ensures few { length result.items ≤ MAX_ADDED }
 {
     let mut slots: ArrayVec<u8, MAX_ADDED> = ArrayVec::new();
     for slot in FIRST_ADDED..SLOTS {
@@ -83,14 +83,18 @@ pub(crate) fn empty_slots(host: &HostSlots) -> ArrayVec<u8, 9>
 }
 
 /// The queue has the name.
-fn is_in_queue(queue: &ArrayVec<UnitReference, 10>, name: Name) -> bool
+fn is_in_queue(queue: &ArrayVec<UnitReference, MAX_REQUESTED>, name: Name) -> bool
     ensures { result ≡ list_any (λ requested. bytes_eq requested.name name) queue.now.items }
 {
     queue.iter().any(|requested| requested.name == name)
 }
 
 /// A unit of the host has the name, or the queue has it.
-fn is_already_known(units: &UnitSlots, queue: &ArrayVec<UnitReference, 10>, name: Name) -> bool
+fn is_already_known(
+    units: &UnitSlots,
+    queue: &ArrayVec<UnitReference, MAX_REQUESTED>,
+    name: Name,
+) -> bool
     ensures { result ≡ is_already_known_spec units.now queue.now.items name }
 {
     match units.slot_of(name) {
@@ -101,9 +105,13 @@ fn is_already_known(units: &UnitSlots, queue: &ArrayVec<UnitReference, 10>, name
 
 /// Appends the reference to the queue, unless its name is already known or the queue is full.
 #[tactic(auto, using(crate::proofs::RequestQueue::kept_known, crate::proofs::RequestQueue::kept_full))]
-fn enqueue(units: &UnitSlots, queue: &mut ArrayVec<UnitReference, 10>, reference: UnitReference)
-    requires { length queue.old.items ≤ 10 }
-    ensures { queue.new.items ≡ take 10 (requested_from units.now queue.old.items
+fn enqueue(
+    units: &UnitSlots,
+    queue: &mut ArrayVec<UnitReference, MAX_REQUESTED>,
+    reference: UnitReference,
+)
+    requires { length queue.old.items ≤ MAX_REQUESTED }
+    ensures { queue.new.items ≡ take MAX_REQUESTED (requested_from units.now queue.old.items
         (reference ∷ [])) }
 {
     if is_already_known(units, queue, reference.name) {
@@ -118,12 +126,12 @@ fn enqueue(units: &UnitSlots, queue: &mut ArrayVec<UnitReference, 10>, reference
 /// yet.
 fn enqueue_record(
     units: &UnitSlots,
-    queue: &mut ArrayVec<UnitReference, 10>,
+    queue: &mut ArrayVec<UnitReference, MAX_REQUESTED>,
     place: RecordAt,
     entry: &LinkRecord,
 )
-    requires { length queue.old.items ≤ 10 }
-    ensures { queue.new.items ≡ take 10 (requested_from units.now queue.old.items
+    requires { length queue.old.items ≤ MAX_REQUESTED }
+    ensures { queue.new.items ≡ take MAX_REQUESTED (requested_from units.now queue.old.items
         (unit_references place.segment.file place.segment.slot place.rec (entry.now ∷ []))) }
 {
     if entry.body.kind().requests_unit() {
@@ -135,12 +143,12 @@ fn enqueue_record(
 /// Appends the unit names that these records of the segment that is there request to the queue.
 fn enqueue_records(
     units: &UnitSlots,
-    queue: &mut ArrayVec<UnitReference, 10>,
+    queue: &mut ArrayVec<UnitReference, MAX_REQUESTED>,
     place: SegmentAt,
     records: &LinkInformation,
 )
-    requires { length queue.old.items ≤ 10 }
-    ensures { queue.new.items ≡ take 10 (requested_from units.now queue.old.items
+    requires { length queue.old.items ≤ MAX_REQUESTED }
+    ensures { queue.new.items ≡ take MAX_REQUESTED (requested_from units.now queue.old.items
         (unit_references place.file place.slot 0 records.now)) }
 {
     if records.units() == 0 {
@@ -153,9 +161,13 @@ fn enqueue_records(
 
 /// Appends the unit names that the records of a segment request to the queue.
 #[tactic(auto, using(std::proofs::lemmas::List::take_all))]
-fn enqueue_segment(units: &UnitSlots, queue: &mut ArrayVec<UnitReference, 10>, segment: &Segment)
-    requires { length queue.old.items ≤ 10 }
-    ensures { queue.new.items ≡ take 10 (requested_from units.now queue.old.items
+fn enqueue_segment(
+    units: &UnitSlots,
+    queue: &mut ArrayVec<UnitReference, MAX_REQUESTED>,
+    segment: &Segment,
+)
+    requires { length queue.old.items ≤ MAX_REQUESTED }
+    ensures { queue.new.items ≡ take MAX_REQUESTED (requested_from units.now queue.old.items
         (unit_references segment.now.file segment.now.slot 0 segment.now.records)) }
 {
     if let Some(resolvable) = segment.resolvable() {
@@ -168,9 +180,10 @@ fn enqueue_segment(units: &UnitSlots, queue: &mut ArrayVec<UnitReference, 10>, s
 pub(crate) fn requested_by<'a>(
     units: &UnitSlots,
     own: &[Segment<'a>],
-) -> ArrayVec<UnitReference, 10>
+) -> ArrayVec<UnitReference, MAX_REQUESTED>
     requires { AreAlike own.now }
-    ensures { result.items ≡ take 10 (requested_from units.now [] (all_unit_references own.now)) }
+    ensures { result.items
+        ≡ take MAX_REQUESTED (requested_from units.now [] (all_unit_references own.now)) }
 {
     let mut queue: ArrayVec<UnitReference, MAX_REQUESTED> = ArrayVec::new();
     for (index, segment) in own.iter().enumerate() {
@@ -195,14 +208,14 @@ fn no_slot<'a>(host: &HostSlots<'a>, libs: &'a [&'a [u8]], requested: &UnitRefer
 }
 
 /// The k-th request of the queue, from 0; `None` if the queue is shorter.
-fn requested_at(queue: &ArrayVec<UnitReference, 10>, k: usize) -> Option<UnitReference>
+fn requested_at(queue: &ArrayVec<UnitReference, MAX_REQUESTED>, k: usize) -> Option<UnitReference>
     ensures { result ≡ slice_get queue.now.items k }
 {
     queue.get(k).copied()
 }
 
 /// The k-th of the empty slots, from 0; `None` if there are fewer.
-pub(crate) fn slot_at(empty: &ArrayVec<u8, 9>, k: usize) -> Option<u8>
+pub(crate) fn slot_at(empty: &ArrayVec<u8, MAX_ADDED>, k: usize) -> Option<u8>
     ensures { result ≡ slice_get empty.now.items k }
 {
     empty.get(k).copied()
@@ -224,8 +237,8 @@ fn count_before(segments: &[Segment], slot: u8) -> usize
 }
 
 /// Puts the segment into the table, which is by slot ascending.
-fn put<'a>(segments: &mut ArrayVec<Segment<'a>, 16>, segment: Segment<'a>)
-    requires { array_vec_len segments.old < 16 }
+fn put<'a>(segments: &mut ArrayVec<Segment<'a>, SLOT_COUNT>, segment: Segment<'a>)
+    requires { array_vec_len segments.old < SLOT_COUNT }
     ensures segments { segments.new.items ≡ put_by_slot segment.entry segments.old.items }
     ensures len { length segments.new.items ≡ length segments.old.items + 1 }
 {
@@ -243,31 +256,31 @@ pub(crate) fn add_units<'a>(
     libs: &'a [&'a [u8]],
     units: &UnitSlots,
     slots: &[u8],
-    queue: &mut ArrayVec<UnitReference, 10>,
-    segments: &mut ArrayVec<Segment<'a>, 16>,
+    queue: &mut ArrayVec<UnitReference, MAX_REQUESTED>,
+    segments: &mut ArrayVec<Segment<'a>, SLOT_COUNT>,
 ) -> Result<(), Fault>
     requires own { segments.old.items
         ≡ read_segments host.now.order host.now.file (opened host.now.order libs.now) }
     requires read { All (IsRead host.now.order host.now.file (opened host.now.order libs.now))
         segments.old.items }
     requires empty { slots.now ≡ empty_slots_spec host.now.order host.now.file }
-    requires few { length slots.now ≤ 9 }
-    requires short { length queue.old.items ≤ 10 }
-    requires in_range { All (λ slot. slot < 16) slots.now }
-    ensures fault { (whole : List UnitReference) → queue.old.items ≡ take 10 whole
+    requires few { length slots.now ≤ MAX_ADDED }
+    requires short { length queue.old.items ≤ MAX_REQUESTED }
+    requires in_range { All (λ slot. slot < SLOTS) slots.now }
+    ensures fault { (whole : List UnitReference) → queue.old.items ≡ take MAX_REQUESTED whole
         → result_err result ≡ (rounds_from host.now.order host.now.file
         (opened host.now.order libs.now) units.now slots.now 0 whole).fault }
-    ensures added { (whole : List UnitReference) → queue.old.items ≡ take 10 whole
+    ensures added { (whole : List UnitReference) → queue.old.items ≡ take MAX_REQUESTED whole
         → segments.new.items ≡ segments_in_slots host.now.order host.now.file
         segments.old.items (rounds_from host.now.order host.now.file
         (opened host.now.order libs.now) units.now slots.now 0 whole).added }
-    ensures count { (whole : List UnitReference) → queue.old.items ≡ take 10 whole
+    ensures count { (whole : List UnitReference) → queue.old.items ≡ take MAX_REQUESTED whole
         → length segments.new.items ≡ length segments.old.items
         + length (rounds_from host.now.order host.now.file
         (opened host.now.order libs.now) units.now slots.now 0 whole).added }
     ensures more { length segments.old.items ≤ length segments.new.items }
-    ensures requested { (whole : List UnitReference) → queue.old.items ≡ take 10 whole
-        → queue.new.items ≡ take 10 (requested_from units.now whole
+    ensures requested { (whole : List UnitReference) → queue.old.items ≡ take MAX_REQUESTED whole
+        → queue.new.items ≡ take MAX_REQUESTED (requested_from units.now whole
         (all_unit_references (rounds_from host.now.order host.now.file
         (opened host.now.order libs.now) units.now slots.now 0 whole).added)) }
     ensures read { All (IsRead host.now.order host.now.file (opened host.now.order libs.now))

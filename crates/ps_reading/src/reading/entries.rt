@@ -12,6 +12,7 @@ ghost use Rattle.ps_reading.specs.KnownSegments.{ArePlacedIn, IsRead};
 
 use crate::locations::SegmentAt;
 use crate::reading::segment::{Resolvable, Segment, records_at};
+use ps_codefile::dictionary_layout::SLOTS;
 use ps_codefile::{Dict, ProcedureDictionary, Role};
 use ps_linkinfo::LinkInformation;
 use ps_words::{Fault, Name, blocks_of};
@@ -33,7 +34,7 @@ impl<'a> Default for Segment<'a> {
 
 /// The block after the code of an entry, in which its link information begins.
 fn block_behind(from: &Dict, index: u8) -> usize
-    requires { index < 16 }
+    requires { index < SLOTS }
     ensures { result ≡ information_block (entry_at from.now.order from.now.file index) true }
 {
     let entry = from.entry(index);
@@ -48,7 +49,7 @@ fn read_information<'a>(
     place: SegmentAt,
     earlier: &[Segment<'a>],
 ) -> Result<LinkInformation<'a>, Fault>
-    requires in_range { index < 16 }
+    requires in_range { index < SLOTS }
     requires placed { ArePlacedIn from.now.order from.now.file place.file earlier.now }
     ensures fault { result_err result ≡ information_fault from.now.order from.now.file
         (entry_at from.now.order from.now.file index) place.file place.slot }
@@ -75,7 +76,7 @@ fn read_resolvable<'a>(
     place: SegmentAt,
     earlier: &[Segment<'a>],
 ) -> Result<Option<Resolvable<'a>>, Fault>
-    requires in_range { index < 16 }
+    requires in_range { index < SLOTS }
     requires large { needs_linking_spec role ≡ true → 2 ≤ length code.now }
     requires placed { ArePlacedIn from.now.order from.now.file place.file earlier.now }
     ensures fault { result_err result ≡ (if needs_linking_spec role
@@ -120,8 +121,8 @@ pub(crate) fn read_segment<'a>(
     index: u8,
     earlier: &[Segment<'a>],
 ) -> Result<Segment<'a>, Fault>
-    requires slots { place.slot < 16 }
-    requires in_range { index < 16 }
+    requires slots { place.slot < SLOTS }
+    requires in_range { index < SLOTS }
     requires placed { ArePlacedIn from.now.order from.now.file place.file earlier.now }
     requires kind { needs_linking_spec role ≡ true
         → kind_needs_linking (entry_at from.now.order from.now.file index).kind ≡ true }

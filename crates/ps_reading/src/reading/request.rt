@@ -10,6 +10,7 @@ use crate::reading::entries::read_segment;
 use crate::reading::segment::Segment;
 use crate::reading::slots::{HOST_FILE, HostSlots};
 use crate::reading::units::{chosen_library, entries_reason};
+use ps_codefile::dictionary_layout::SLOTS;
 use ps_codefile::{Dict, Role, is_nameless};
 use ps_words::{Fault, Name, Reason};
 
@@ -38,7 +39,7 @@ pub struct Request {
 impl Request {
     /// The request of a slot of the host, for the unit of its name.
     pub(crate) fn of_slot(host: &HostSlots, slot: u8) -> Request
-        requires { slot < 16 }
+        requires { slot < SLOTS }
         ensures { result ≡ request_by_slot host.now.order host.now.file slot }
     {
         let name = host.entry(slot).name;
@@ -75,7 +76,7 @@ pub(crate) fn unit_named<'a>(
       order = host.now.order;
       file = file_at file (opened host.now.order libs.now) u.1.file;
     }) }
-    ensures in_range { IfSome result (λ u. u.1.index < 16) }
+    ensures in_range { IfSome result (λ u. u.1.index < SLOTS) }
 {
     if is_nameless(&name) {
         return None;
@@ -102,7 +103,7 @@ pub(crate) fn read_unit<'a>(
     request: &Request,
     earlier: &[Segment<'a>],
 ) -> Result<Segment<'a>, Fault>
-    requires slots { request.now.slot < 16 }
+    requires slots { request.now.slot < SLOTS }
     requires read { All (IsRead host.now.order host.now.file (opened host.now.order libs.now))
         earlier.now }
     ensures fault { result_err result

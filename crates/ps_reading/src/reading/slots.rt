@@ -5,7 +5,7 @@ ghost use Rattle.ps_codefile.specs.Roles.{is_host as is_host_role, is_unit as is
 ghost use Rattle.ps_reading.specs.Sources.{library_file as library_file_spec};
 ghost use Rattle.ps_reading.specs.Faults.{is_role, slot_reason as slot_reason_spec, slots_fault as slots_fault_spec, no_host_fault as no_host_fault_spec};
 
-use ps_codefile::dictionary_layout::SLOTS;
+use ps_codefile::dictionary_layout::{SLOT_COUNT, SLOTS};
 use ps_codefile::{Dict, Entry, Role};
 use ps_words::{Fault, Name, Order, Reason};
 use std::marker::Model;
@@ -29,7 +29,7 @@ pub(crate) fn library_file(library: usize) -> usize
 pub struct HostSlots<'a> {
     dict: Dict<'a>,
     /// The role of each slot, or why its kind is refused.
-    roles: [Result<Role, Reason>; 16],
+    roles: [Result<Role, Reason>; SLOT_COUNT],
 }
 
 impl<'a> Model for HostSlots<'a> {
@@ -49,7 +49,7 @@ impl<'a> HostSlots<'a> {
     pub fn of(dict: Dict<'a>) -> HostSlots<'a>
         ensures { result ≡ dict.entry }
     {
-        let mut roles = [Ok(Role::Empty); SLOTS as usize];
+        let mut roles = [Ok(Role::Empty); SLOT_COUNT];
         for slot in 0..SLOTS {
             roles[slot as usize] = dict.role(slot);
         }
@@ -73,7 +73,7 @@ impl<'a> HostSlots<'a> {
 
     /// What the dictionary says of a slot.
     pub(crate) fn entry(&self, slot: u8) -> Entry
-        requires { slot < 16 }
+        requires { slot < SLOTS }
         ensures { result ≡ entry_at self.now.order self.now.file slot }
     {
         self.dict.entry(slot)
@@ -81,7 +81,7 @@ impl<'a> HostSlots<'a> {
 
     /// What a slot is for, or why its kind is refused.
     pub(crate) fn role(&self, slot: u8) -> Result<Role, Reason>
-        requires { slot < 16 }
+        requires { slot < SLOTS }
         ensures { result ≡ role_of (entry_at self.now.order self.now.file slot) }
     {
         self.roles[slot as usize]
@@ -90,7 +90,7 @@ impl<'a> HostSlots<'a> {
 
 /// The slot has no segment of its own.
 pub(crate) fn is_empty(host: &HostSlots, slot: u8) -> bool
-    requires { slot < 16 }
+    requires { slot < SLOTS }
     ensures { result ≡ is_role is_empty_role host.now.order host.now.file slot }
 {
     matches!(host.role(slot), Ok(Role::Empty))
@@ -98,7 +98,7 @@ pub(crate) fn is_empty(host: &HostSlots, slot: u8) -> bool
 
 /// The slot has the host's own segment.
 fn is_host(host: &HostSlots, slot: u8) -> bool
-    requires { slot < 16 }
+    requires { slot < SLOTS }
     ensures { result ≡ is_role is_host_role host.now.order host.now.file slot }
 {
     matches!(host.role(slot), Ok(Role::Host))
@@ -106,7 +106,7 @@ fn is_host(host: &HostSlots, slot: u8) -> bool
 
 /// The slot has a unit, in place or wanted.
 fn is_unit(host: &HostSlots, slot: u8) -> bool
-    requires { slot < 16 }
+    requires { slot < SLOTS }
     ensures { result ≡ is_role is_unit_role host.now.order host.now.file slot }
 {
     matches!(host.role(slot), Ok(Role::Unit | Role::Wanted))
@@ -114,7 +114,7 @@ fn is_unit(host: &HostSlots, slot: u8) -> bool
 
 /// One of the slots below `end` has the host's own segment.
 fn has_host_below(host: &HostSlots, end: u8) -> bool
-    requires { end ≤ 16 }
+    requires { end ≤ SLOTS }
     ensures { result ≡ list_any (is_role is_host_role host.now.order host.now.file)
         (range_with_len 0 end) }
 {
@@ -123,7 +123,7 @@ fn has_host_below(host: &HostSlots, end: u8) -> bool
 
 /// One of the slots below `end` has a unit of this name.
 fn has_unit_below(host: &HostSlots, name: Name, end: u8) -> bool
-    requires { end ≤ 16 }
+    requires { end ≤ SLOTS }
     ensures { result ≡ list_any (λ s. is_role is_unit_role host.now.order host.now.file s
         && bytes_eq (entry_at host.now.order host.now.file s).name name) (range_with_len 0 end) }
 {
@@ -133,7 +133,7 @@ fn has_unit_below(host: &HostSlots, name: Name, end: u8) -> bool
 /// What is wrong with a slot of the host: its kind, a second host segment, or a second unit of a
 /// name.
 fn slot_reason(host: &HostSlots, slot: u8) -> Option<Reason>
-    requires { slot < 16 }
+    requires { slot < SLOTS }
     ensures { result ≡ slot_reason_spec host.now.order host.now.file slot }
 {
     if let Err(reason) = host.role(slot) {

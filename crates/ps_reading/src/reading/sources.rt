@@ -14,7 +14,7 @@ use crate::reading::segment::Segment;
 use crate::reading::slots::{HOST_FILE, HostSlots, is_empty};
 use arrayvec::ArrayVec;
 use ps_codefile::Role;
-use ps_codefile::dictionary_layout::SLOTS;
+use ps_codefile::dictionary_layout::{SLOT_COUNT, SLOTS};
 use ps_words::Fault;
 
 /// The segment of a slot, or None where the slot is empty or has a kind that was refused. `earlier`
@@ -27,7 +27,7 @@ pub(crate) fn read_slot<'a>(
     slot: u8,
     earlier: &[Segment<'a>],
 ) -> Result<Option<Segment<'a>>, Fault>
-    requires slots { slot < 16 }
+    requires slots { slot < SLOTS }
     requires read { All (IsRead host.now.order host.now.file (opened host.now.order libs.now))
         earlier.now }
     ensures fault { result_err result ≡ source_fault host.now.order host.now.file
@@ -62,11 +62,11 @@ pub(crate) fn read_slot<'a>(
 /// Adds the segment of a slot, where it has one, or keeps its fault, if it is the first.
 #[inline(always)]
 fn add_segment_or_fault<'a>(
-    segments: &mut ArrayVec<Segment<'a>, 16>,
+    segments: &mut ArrayVec<Segment<'a>, SLOT_COUNT>,
     first: &mut Option<Fault>,
     read: Result<Option<Segment<'a>>, Fault>,
 )
-    requires { array_vec_len segments.old < 16 }
+    requires { array_vec_len segments.old < SLOT_COUNT }
     ensures segments { segments.new.items ≡ segments.old.items
         ++ option_to_list (option_and_then (λ s. s) (result_ok read.entry)) }
     ensures first { first.new ≡ option_or first.old (result_err read.entry) }
@@ -86,7 +86,7 @@ fn add_segment_or_fault<'a>(
 pub(crate) fn read_slots<'a>(
     host: &HostSlots<'a>,
     libs: &'a [&'a [u8]],
-    segments: &mut ArrayVec<Segment<'a>, 16>,
+    segments: &mut ArrayVec<Segment<'a>, SLOT_COUNT>,
 ) -> Option<Fault>
     requires { segments.old.items ≡ [] }
     ensures first { result ≡ sources_fault host.now.order host.now.file

@@ -37,7 +37,7 @@ impl UnitSlots {
     /// Those of the units among these segments, of which there are sixteen at most.
     /// Source: this project's profile.
     pub fn of(segments: &[Segment]) -> UnitSlots
-        requires { length segments.now ≤ 16 }
+        requires { length segments.now ≤ SLOT_COUNT }
         ensures { result ≡ units_of segments.now }
     {
         let mut by_name = ArrayVec::new();

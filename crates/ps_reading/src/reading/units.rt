@@ -13,7 +13,7 @@ use ps_words::{Name, Order, Reason};
 
 /// The entry has a code in its file, and this name.
 fn is_named(dict: &Dict, name: Name, index: u8) -> bool
-    requires { index < 16 }
+    requires { index < SLOTS }
     ensures { result ≡ is_named_spec dict.now.order name dict.now.file index }
 {
     dict.filled(index) && dict.entry(index).name == name
@@ -21,7 +21,7 @@ fn is_named(dict: &Dict, name: Name, index: u8) -> bool
 
 /// One of the entries below `end` has this name.
 fn has_name_below(dict: &Dict, name: Name, end: u8) -> bool
-    requires { end ≤ 16 }
+    requires { end ≤ SLOTS }
     ensures { result ≡ list_any (is_named_spec dict.now.order name dict.now.file)
         (range_with_len 0 end) }
 {
@@ -30,7 +30,7 @@ fn has_name_below(dict: &Dict, name: Name, end: u8) -> bool
 
 /// One of the entries below `end` has this name, and so has one below it.
 fn has_duplicate_below(dict: &Dict, name: Name, end: u8) -> bool
-    requires { end ≤ 16 }
+    requires { end ≤ SLOTS }
     ensures { result ≡ list_any (λ i. is_named_spec dict.now.order name dict.now.file i
         && list_any (is_named_spec dict.now.order name dict.now.file) (range_with_len 0 i))
         (range_with_len 0 end) }
@@ -41,7 +41,7 @@ fn has_duplicate_below(dict: &Dict, name: Name, end: u8) -> bool
 /// The first entry of this name.
 fn entry_named(dict: &Dict, name: Name) -> Option<u8>
     ensures entry { result ≡ find (is_named_spec dict.now.order name dict.now.file) slots }
-    ensures in_range { IfSome result (λ i. i < 16) }
+    ensures in_range { IfSome result (λ i. i < SLOTS) }
 {
     for index in 0..SLOTS {
         if is_named(dict, name, index) {
@@ -59,7 +59,7 @@ fn entry_in<'a>(order: Order, name: Name, lib: &'a [u8]) -> Option<(Dict<'a>, u8
         ≡ find (is_named_spec order name (opened_file order lib.now)) slots }
     ensures dict { IfSome result (λ e. e.0
         ≡ record { order = order; file = opened_file order lib.now }) }
-    ensures in_range { IfSome result (λ e. e.1 < 16) }
+    ensures in_range { IfSome result (λ e. e.1 < SLOTS) }
 {
     match Dict::read_beside(lib, order) {
         Err(_) => None,
@@ -83,7 +83,7 @@ pub(crate) fn chosen_library<'a>(
         ≡ Some (u.1.file, u.1.index)) }
     ensures dict { (host : List ℕ) → IfSome result (λ u. u.0
         ≡ record { order = order; file = file_at host (opened order libs.now) u.1.file }) }
-    ensures in_range { IfSome result (λ u. u.1.index < 16) }
+    ensures in_range { IfSome result (λ u. u.1.index < SLOTS) }
 {
     for (library, lib) in libs.iter().enumerate() {
         if let Some((dict, index)) = entry_in(order, name, lib) {
@@ -98,7 +98,7 @@ pub(crate) fn chosen_library<'a>(
 /// is not that of a unit.
 pub(crate) fn entries_reason(dict: &Dict, name: Name, index: u8) -> Option<Reason>
     requires entry { find (is_named_spec dict.now.order name dict.now.file) slots ≡ Some index }
-    requires in_range { index < 16 }
+    requires in_range { index < SLOTS }
     ensures { result ≡ entries_reason_spec dict.now.order name dict.now.file }
 {
     if has_duplicate_below(dict, name, SLOTS) {

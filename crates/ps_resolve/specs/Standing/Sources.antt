@@ -18,6 +18,7 @@ use Rattle.ps_codefile.specs.declared.entry.Role.TheVariants as role
 use Rattle.ps_words.specs.declared.fault.Reason.TheVariants as reason
 use Rattle.ps_reading.specs.Standing.Phrases.{Because, SomeBelow, SomeItem}
 use Rattle.ps_reading.specs.Standing.Slots.{HasRole}
+use Rattle.ps_codefile.specs.declared.dictionary_layout.TheConstants.{SLOTS}
 
 -- entry i of a file is filled, and has this name
 abbrev pub IsNamed : Order → List ℕ → List ℕ → ℕ → Type 0
@@ -26,15 +27,15 @@ IsNamed order name file i = (is_filled (entry_at order file i) ≡ true)
 
 -- a filled entry of a file has this name
 abbrev pub HasEntry : Order → List ℕ → List ℕ → Type 0
-HasEntry order name file = SomeBelow 16 (λ i. IsNamed order name file i)
+HasEntry order name file = SomeBelow SLOTS (λ i. IsNamed order name file i)
 
 -- two filled entries of a library have the name, or one alone has it and is not of kind UNITSEG (3)
 abbrev pub EntriesHave : Order → List ℕ → List ℕ → Reason → Type 0
 EntriesHave order name lib reason.DoubledUnit =
-    SomeBelow 16 (λ i. IsNamed order name lib i × SomeBelow i (λ j. IsNamed order name lib j))
+    SomeBelow SLOTS (λ i. IsNamed order name lib i × SomeBelow i (λ j. IsNamed order name lib j))
 EntriesHave order name lib (reason.NotAUnit kind) =
-    SomeBelow 16 (λ i. IsNamed order name lib i
-    × ((j : ℕ) → j < 16 → IsNamed order name lib j → j ≡ i)
+    SomeBelow SLOTS (λ i. IsNamed order name lib i
+    × ((j : ℕ) → j < SLOTS → IsNamed order name lib j → j ≡ i)
     × (kind ≡ (entry_at order lib i).kind) × (kind ≢ 3))
 EntriesHave order name lib other = ⊥
 
@@ -96,7 +97,7 @@ CodeFault order file k e slot role f =
 -- its code, its tables and its records
 abbrev pub InSources : Order → List ℕ → List (List ℕ) → Fault → Type 0
 InSources order host libs f =
-    SomeBelow 16 (λ slot. (r : Role) × HasRole order host slot r
+    SomeBelow SLOTS (λ slot. (r : Role) × HasRole order host slot r
     × (((r ≡ role.Wanted) × UnitFault order (entry_at order host slot).name libs slot f)
     ⊎ ((at : ℕ × ℕ) × (source_of order host libs slot r ≡ Some at)
     × CodeFault order (file_at host libs at.0) at.0

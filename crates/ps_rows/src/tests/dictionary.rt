@@ -7,6 +7,7 @@ use crate::base::{HOST_RECORDS, UTIL, UTIL_ENTRY, demo_code, util_code};
 use crate::code_file::CodeFile;
 use crate::information::Information;
 use crate::line::Line;
+use ps_codefile::dictionary_layout::SLOTS;
 use ps_codefile::{Dict, Entry, Role};
 use ps_words::{Order, Reason};
 use std::alloc::{AllocError, Global};
@@ -17,7 +18,7 @@ const ORDERS: [(Order, Order); 2] = [(Order::Little, Order::Big), (Order::Big, O
 
 /// Adds a slot to the text unless it is empty.
 fn add_slot(line: &mut Line, dictionary: &Dict<'_>, slot: u8)
-    requires { slot < 16 }
+    requires { slot < SLOTS }
 {
     let role = dictionary.role(slot);
     if role != Ok(Role::Empty) {
@@ -35,7 +36,7 @@ fn add_slot(line: &mut Line, dictionary: &Dict<'_>, slot: u8)
 
 /// Adds how long a slot's code is, and what follows it.
 fn add_code(line: &mut Line, dictionary: &Dict<'_>, slot: u8)
-    requires { slot < 16 }
+    requires { slot < SLOTS }
 {
     if dictionary.filled(slot) {
         line.value(" code ", &dictionary.code(slot).map(|code| code.len()));
@@ -56,7 +57,7 @@ fn describe(
             if dictionary.order() != order {
                 line.word("another order ");
             }
-            for slot in 0..16 {
+            for slot in 0..SLOTS {
                 add_slot(&mut line, &dictionary, slot);
             }
         }

@@ -5,6 +5,7 @@ use super::answers::{LITTLE, is, text_of_fault};
 use super::rows::{changes, field};
 use super::tables::{HOST_TEXTS, LIBRARY_TEXTS};
 use crate::code_file::CodeFile;
+use ps_codefile::dictionary_layout::SLOTS;
 use ps_resolve::{lone_fault, read};
 use ps_words::Order;
 use std::process::Abort;
@@ -37,7 +38,7 @@ a private that is larger | records 2; PRIVREF STATE words 32767 at 4; EOFMARK ne
 
 /// Checks the first fault of the segment in a slot of a file.
 fn has_fault(rt: &(impl Abort + AllocGlobal), file: &[u8], slot: u8, what: &str, wanted: &str)
-    requires { slot < 16 }
+    requires { slot < SLOTS }
 {
     let alloc = rt.alloc();
     let reading = read(file, &[]);

@@ -35,7 +35,7 @@ slot 7 wants a unit; slot 7 has file 1 entry 2; segments 2 | no fault";
 
 /// Adds who requests the unit of a slot.
 fn add_request(line: &mut Line, host: &HostReading, slot: u8)
-    requires { slot < 16 }
+    requires { slot < SLOTS }
 {
     match host.request(slot).map(|request| request.requester) {
         None => (),
@@ -55,7 +55,7 @@ fn add_request(line: &mut Line, host: &HostReading, slot: u8)
 
 /// Adds the segment of a slot, or why there is none.
 fn add_segment(line: &mut Line, host: &HostReading, slot: u8)
-    requires { slot < 16 }
+    requires { slot < SLOTS }
 {
     match host.segment(slot) {
         None => (),

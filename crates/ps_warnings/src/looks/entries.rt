@@ -84,7 +84,7 @@ fn look_at_slot<'a, A: Allocator>(
     shown: &FileCode,
     slot: u8,
 ) -> Result<(), AllocError>
-    requires { slot < 16 }
+    requires { slot < SLOTS }
     ensures { OnOk result (Adds (link_looks looks.old.warnings.items looks.old.harmless.items)
         (looks_of_slot (path_of (context.now.inputs.now.host_path.now
         ∷ contents context.now.inputs.now.paths.now) file)
@@ -137,7 +137,7 @@ fn look_at_entry<'a, A: Allocator>(
 
 /// An odd name of an entry that is filled, or of a unit that may be wanted.
 fn name_look(context: &Context<'_, '_>, dict: &Dict<'_>, slot: u8) -> Option<OtherLook>
-    requires { slot < 16 }
+    requires { slot < SLOTS }
 {
     let Entry { name, kind, .. } = dict.entry(slot);
     if !dict.filled(slot) && kind != UNITSEG {
@@ -388,7 +388,7 @@ fn is_taken(list: &[ReadSegment<'_>], slot: u8) -> bool
 
 /// What looks wrong in a slot of the host that is not filled, which a unit takes or not.
 fn empty_look(dict: &Dict<'_>, slot: u8, is_taken: bool) -> Option<EntryLook>
-    requires { slot < 16 }
+    requires { slot < SLOTS }
     ensures { result ≡ empty_look_spec slot is_taken (entry_at dict.now.order dict.now.file slot)
         (role_of (entry_at dict.now.order dict.now.file slot)) }
 {

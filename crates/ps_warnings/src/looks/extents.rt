@@ -12,7 +12,7 @@ use super::Looks;
 use crate::segments::{is_slot, length_of};
 use crate::warnings::{EntryLook, WarningAt};
 use ps_codefile::Dict;
-use ps_codefile::dictionary_layout::SLOTS;
+use ps_codefile::dictionary_layout::{SLOT_COUNT, SLOTS};
 use ps_codefile::kinds::{HOSTSEG, LINKED, UNITSEG};
 use ps_linkinfo::LinkInformation;
 use ps_words::{BLOCK_SIZE, Order, blocks_of};
@@ -57,7 +57,7 @@ fn information_len(order: Order, bytes: &[u8]) -> usize
 
 /// Where the link information of an entry ends, up to the first record that cannot be read.
 fn information_end(dict: &Dict<'_>, slot: u8) -> usize
-    requires { slot < 16 }
+    requires { slot < SLOTS }
     ensures { result ≡ information_end_spec dict.now.order dict.now.file
         (entry_at dict.now.order dict.now.file slot) }
 {
@@ -71,7 +71,7 @@ fn information_end(dict: &Dict<'_>, slot: u8) -> usize
 /// The bytes that an entry of this kind has: its code, and the link information after it if that is
 /// read.
 fn extent_of_kind(dict: &Dict<'_>, slot: u8) -> Extent
-    requires { slot < 16 }
+    requires { slot < SLOTS }
     ensures { result ≡ extent_of_kind_spec dict.now.order dict.now.file slot
         (entry_at dict.now.order dict.now.file slot) }
 {
@@ -91,7 +91,7 @@ fn extent_of_kind(dict: &Dict<'_>, slot: u8) -> Extent
 /// The bytes that an entry has; none where it is not filled or has no code.
 #[tactic(auto, unfolding(crate::specs::FileLooks::extent_at))]
 fn extent_at(dict: &Dict<'_>, slot: u8) -> Extent
-    requires { slot < 16 }
+    requires { slot < SLOTS }
     ensures { result ≡ extent_at_spec dict.now.order dict.now.file slot }
 {
     if dict.filled(slot) && has_code(dict, slot) {
@@ -103,7 +103,7 @@ fn extent_at(dict: &Dict<'_>, slot: u8) -> Extent
 
 /// The entry has a code.
 fn has_code(dict: &Dict<'_>, slot: u8) -> bool
-    requires { slot < 16 }
+    requires { slot < SLOTS }
     ensures { result ≡ is_ok (code_of dict.now.file
         (entry_at dict.now.order dict.now.file slot)) }
 {
@@ -114,10 +114,10 @@ fn has_code(dict: &Dict<'_>, slot: u8) -> bool
 }
 
 /// What each entry has of its file, by slot; no bytes where it has none.
-pub(super) fn extents_of(dict: &Dict<'_>) -> [Extent; SLOTS as usize]
+pub(super) fn extents_of(dict: &Dict<'_>) -> [Extent; SLOT_COUNT]
     ensures { result ≡ map (extent_at_spec dict.now.order dict.now.file) slots }
 {
-    let mut extents = [Extent::EMPTY; SLOTS as usize];
+    let mut extents = [Extent::EMPTY; SLOT_COUNT];
     for slot in 0..SLOTS {
         extents[slot as usize] = extent_at(dict, slot);
     }

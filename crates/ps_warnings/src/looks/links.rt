@@ -101,7 +101,7 @@ fn file_of(segment: &ReadSegment<'_>) -> usize
 
 /// The slot of an added unit that has a name or a kind in the host.
 fn taken_slot(host: &Dict<'_>, slot: u8, part: SegmentPart) -> Option<LinkLook>
-    requires { slot < 16 }
+    requires { slot < SLOTS }
     ensures { result ≡ taken_slot_spec slot part (entry_at host.now.order host.now.file slot) }
 {
     let entry = host.entry(slot);

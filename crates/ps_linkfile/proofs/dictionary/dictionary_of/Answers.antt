@@ -1,4 +1,4 @@
-use Rattle.ps_linkfile.proofs.Vocabulary.{length-replicate, ◌≡◌, ◌∙◌, ℕ, length, replicate, refl, ap, arith}
+use Rattle.ps_linkfile.proofs.Vocabulary.{length-replicate, ◌≡◌, ◌∙◌, ℕ, length, replicate, refl, ap, arith, SLOT_COUNT}
 use Rattle.ps_linkfile.proofs.Whole.{part_len, all_pairs_len, stored_parts, dictionary_is}
 use Rattle.ps_linkfile.proofs.dictionary.dictionary_of.Goals as goal
 
@@ -23,7 +23,7 @@ returns g c =
     let plan = c.args.plan.now in
     let pairs_64 : length c.pairs_of-pairs.result ≡ 64 =
     rw c.pairs_of-pairs.ensures (all_pairs_len _ _) in
-    let sixteen : length c.names.result.now ≡ 16 =
+    let sixteen : length c.names.result.now ≡ SLOT_COUNT =
     rw c.names.ensures c.requires.ready.names in
     let names_128 : length c.as_flattened.result.now ≡ 128 =
     omega (arith, c.as_flattened.ensures.len, sixteen) in

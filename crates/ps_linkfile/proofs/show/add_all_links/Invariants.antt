@@ -1,4 +1,4 @@
-use Rattle.ps_linkfile.proofs.Vocabulary.{flat_map, range_with_len, slots, ◌-◌, links_in, Lines}
+use Rattle.ps_linkfile.proofs.Vocabulary.{flat_map, range_with_len, slots, ◌-◌, links_in, Lines, SLOTS}
 use Rattle.ps_linkfile.proofs.Written.{Written}
 use Rattle.ps_linkfile.proofs.show.add_all_links.Given as goal
 
@@ -7,5 +7,5 @@ abbrev pub invariant-loop-slot : goal.invariant-loop-slot
 invariant-loop-slot g l =
     Written g.S.TextWriter.added l.fn.text
     (flat_map (links_in Lines l.dict.order l.dict.file) slots)
-    (flat_map (links_in Lines l.dict.order l.dict.file) (range_with_len l.slot (16 - l.slot)))
+    (flat_map (links_in Lines l.dict.order l.dict.file) (range_with_len l.slot (SLOTS - l.slot)))
     l.text

@@ -1,4 +1,4 @@
-use Rattle.ps_linkfile.proofs.Vocabulary.{flat_map, range_with_len, slots, ◌-◌}
+use Rattle.ps_linkfile.proofs.Vocabulary.{flat_map, range_with_len, slots, ◌-◌, SLOTS}
 use Rattle.ps_linkfile.specs.ShowJson.{slot_item}
 use Rattle.ps_linkfile.proofs.Written.{Written}
 use Rattle.ps_linkfile.proofs.show_json.add_slots.Given as goal
@@ -7,4 +7,4 @@ use Rattle.ps_linkfile.proofs.show_json.add_slots.Given as goal
 abbrev pub invariant-loop-slot : goal.invariant-loop-slot
 invariant-loop-slot g l =
     Written g.S.TextWriter.added l.fn.text (flat_map (slot_item l.dict.order l.dict.file) slots)
-    (flat_map (slot_item l.dict.order l.dict.file) (range_with_len l.slot (16 - l.slot))) l.text
+    (flat_map (slot_item l.dict.order l.dict.file) (range_with_len l.slot (SLOTS - l.slot))) l.text

@@ -3,6 +3,7 @@ use Rattle.ps_reading.proofs.RequestQueue.{references_both, requested-append, fe
 use Rattle.ps_reading.proofs.ReadingSlots.{all_of, in_rounds, requests_of}
 use Rattle.ps_reading.proofs.SharedRecords.{read_alike}
 use Rattle.ps_reading.proofs.reading.read_added.Goals as goal
+use Rattle.ps_resolve.proofs.Vocabulary.{MAX_REQUESTED}
 
 pub requested_by-queue-requires : goal.requested_by-queue-requires
 requested_by-queue-requires c =
@@ -34,7 +35,8 @@ returns c =
     let empty : c.as_slice-3.result.now ≡ empty_slots host.order host.file =
     c.as_slice-3.ensures.value ∙ c.empty_slots-empty.ensures.slots in
     let queue = c.requested_by-queue.ensures
-    ∙ ap (λ (ss : List Segment). take 10 (requested_from units [] (all_unit_references ss)))
+    ∙ ap (λ (ss : List Segment). take MAX_REQUESTED
+    (requested_from units [] (all_unit_references ss)))
     c.as_slice-2.ensures.value in
     let named : units ≡ units_of own =
     c.of-units.ensures ∙ ap units_of c.as_slice.ensures.value in
@@ -60,12 +62,12 @@ returns c =
       read = c.add_units-rounds.ensures.read;
       empty = c.empty_slots-empty.ensures.slots;
       requested = c.add_units-rounds.ensures.requested whole queue
-          ∙ (ap (λ (r : RoundsOutcome). take 10
+          ∙ (ap (λ (r : RoundsOutcome). take MAX_REQUESTED
           (requested_from units whole (all_unit_references r.added))) is
-          ∙ (ap (take 10)
+          ∙ (ap (take MAX_REQUESTED)
           (sym (requested-append units [] (all_unit_references own) (all_unit_references added))
           ∙ ap (requested_from units []) (sym (references_both own added)))
-          ∙ (ap (λ (u : List (List ℕ × ℕ)). take 10
+          ∙ (ap (λ (u : List (List ℕ × ℕ)). take MAX_REQUESTED
           (requested_from u [] (all_unit_references (own ++ added)))) named
           ∙ requests_of host.order host.file libs own c.requires.own added refl)));
       following = c.slot_at-next.ensures

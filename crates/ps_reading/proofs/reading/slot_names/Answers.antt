@@ -1,6 +1,7 @@
 use Rattle.ps_reading.proofs.Vocabulary.{◌≡◌, ◌<◌, ◌≤◌, ◌∙◌, length, take, map, ℕ, sym, subst, arith, take_all, range_with_len, map-range_with_len_more, common_steps}
 use Rattle.ps_reading.specs.Added.{slot_name, slot_names}
 use Rattle.ps_reading.proofs.reading.slot_names.Goals as goal
+use Rattle.ps_resolve.proofs.Vocabulary.{SLOT_COUNT, SLOTS}
 
 pub loop-slot-preserved : goal.loop-slot-preserved
 loop-slot-preserved c =
@@ -17,9 +18,9 @@ pub returns : goal.returns
 unfolding slot_names
 returns c =
     let names = c.loop-slot.names in
-    let done : c.loop-slot.slot ≡ 16 = omega arith in
-    let whole : length names ≤ 16 = omega (arith, c.loop-slot.invariant.all) in
-    sym (take_all 16 names whole)
+    let done : c.loop-slot.slot ≡ SLOTS = omega arith in
+    let whole : length names ≤ SLOT_COUNT = omega (arith, c.loop-slot.invariant.all) in
+    sym (take_all SLOTS names whole)
     ∙ subst (λ (n : ℕ). take n names
     ≡ map (slot_name c.args.host.now.file c.args.segments.now)
     (range_with_len 0 n)) done c.loop-slot.invariant.done

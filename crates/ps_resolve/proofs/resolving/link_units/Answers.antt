@@ -1,4 +1,4 @@
-use Rattle.ps_resolve.proofs.Vocabulary.{◌≡◌, ◌≤◌, ℕ, List, length, map, Bool, true, false, if◌then◌else◌, Option, None, Ok, Err, is_some, refl, sym, ◌∙◌, ap, subst, arith, ltb, IfOk, nat_tests, IfErr-weaker, IfOk-weaker, Fault, Order, OpenedFile, FileOrder, file_order, opened_alone, opened_as, Segment, contents, host_of, opened_files, order_of, segments, slot_names, linking_fault, AscendFrom, HasOneHost, first_fault, reading_fault, AreOfLink, AreStopped, IsPlanOf, IsStopped, all_read, host_reading_fault, own_reading_fault, read_rounds}
+use Rattle.ps_resolve.proofs.Vocabulary.{◌≡◌, ◌≤◌, ℕ, List, length, map, Bool, true, false, if◌then◌else◌, Option, None, Ok, Err, is_some, refl, sym, ◌∙◌, ap, subst, arith, ltb, IfOk, nat_tests, IfErr-weaker, IfOk-weaker, Fault, Order, OpenedFile, FileOrder, file_order, opened_alone, opened_as, Segment, contents, host_of, opened_files, order_of, segments, slot_names, linking_fault, AscendFrom, HasOneHost, first_fault, reading_fault, AreOfLink, AreStopped, IsPlanOf, IsStopped, all_read, host_reading_fault, own_reading_fault, read_rounds, SLOT_COUNT}
 use Rattle.ps_words.specs.declared.fault.Reason.TheVariants as reason
 use Rattle.ps_resolve.proofs.FirstFaults.{first_read, first_linked, stopped}
 use Rattle.ps_reading.proofs.OfLink.{has_host, of_link, slots_fine}
@@ -100,7 +100,7 @@ invariant_of-linkable g c =
           (ascend (order_of host) host libs);
       whole = whole_of c.args.host.now o c.requires.opened;
       alike = read_alike o.order o.file files items c.read_added.ensures.read;
-      most = subst (λ (ss : List Segment). length ss ≤ 16) c.as_slice-all.ensures.value
+      most = subst (λ (ss : List Segment). length ss ≤ SLOT_COUNT) c.as_slice-all.ensures.value
           c.as_slice-all.ensures.fits;
       named = c.slot_names-names.ensures
           ∙ (ap (λ (xs : List ℕ). slot_names xs c.as_slice-all.result.now) file

@@ -6,6 +6,7 @@ use Rattle.ps_resolve.specs.Sources.{contents}
 use Rattle.ps_warnings.specs.Seen.{Seen, seen}
 use Rattle.ps_warnings.specs.SeenSegments.{seen_in}
 use Rattle.ps_warnings.proofs.Origins.{seen_left, seen_over}
+use Rattle.ps_codefile.specs.declared.dictionary_layout.TheConstants.{SLOTS}
 use Rattle.ps_warnings.proofs.segments.segments_in_slots.Goals as goal
 
 pub loop-slot-init : goal.loop-slot-init
@@ -20,11 +21,11 @@ loop-slot-preserved g c =
     c.args.host.now in
     let i = c.loop-slot.slot in
     let before = map seen c.loop-slot.list.items in
-    let rest = filter_map f (range_with_len (i + 1) (16 - (i + 1))) in
+    let rest = filter_map f (range_with_len (i + 1) (SLOTS - (i + 1))) in
     ap (λ (l : List Seen). l ++ rest) (c.in_ok-add_segment.ensures
     ∙ ap (λ (o : Option Seen). before ++ cons_option o []) c.segment_in-segment.ensures)
     ∙ (append_assoc before (cons_option (f i) []) rest
-    ∙ (ap (λ (l : List Seen). before ++ l) (sym (seen_left f i 16 c.loop-slot-test.true))
+    ∙ (ap (λ (l : List Seen). before ++ l) (sym (seen_left f i SLOTS c.loop-slot-test.true))
     ∙ c.loop-slot.invariant))
 
 pub returns : goal.returns
@@ -34,4 +35,4 @@ returns g c =
     let before = map seen c.loop-slot.list.items in
     sym (append-nil before)
     ∙ (ap (λ (l : List Seen). before ++ l)
-    (sym (seen_over f c.loop-slot.slot 16 c.loop-slot-test.false)) ∙ c.loop-slot.invariant)
+    (sym (seen_over f c.loop-slot.slot SLOTS c.loop-slot-test.false)) ∙ c.loop-slot.invariant)

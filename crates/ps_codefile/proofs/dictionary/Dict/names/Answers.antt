@@ -4,6 +4,7 @@ use Rattle.std.proofs.lemmas.List.{take_more_set, take_all}
 use Rattle.std.proofs.lemmas.List.FromFn.{map-range_with_len_more}
 use Rattle.std.proofs.lemmas.Grind.{common_steps}
 use Rattle.ps_codefile.specs.Dictionary.{name_at}
+use Rattle.ps_codefile.specs.declared.dictionary_layout.TheConstants.{SLOT_COUNT, SLOTS}
 use Rattle.ps_codefile.proofs.dictionary.Dict.names.Goals as goal
 
 pub loop-i-preserved : goal.loop-i-preserved
@@ -17,8 +18,8 @@ loop-i-preserved c =
 pub returns : goal.returns
 returns c =
     let names = c.loop-i.names in
-    let done : c.loop-i.i ≡ 16 = omega arith in
-    let whole : length names ≤ 16 = omega arith in
-    sym (take_all 16 names whole) ∙ subst
+    let done : c.loop-i.i ≡ SLOTS = omega arith in
+    let whole : length names ≤ SLOT_COUNT = omega arith in
+    sym (take_all SLOTS names whole) ∙ subst
     (λ (n : ℕ). take n names ≡ map (name_at c.args.self.now.file) (range_with_len 0 n))
     done c.loop-i.invariant.1

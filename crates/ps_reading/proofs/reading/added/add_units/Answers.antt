@@ -3,6 +3,7 @@ use Rattle.ps_reading.proofs.RequestQueue.{at_round, kept, no_name_left, no_slot
 use Rattle.ps_reading.proofs.BySlot.{All-put, empty_ascend, new_in, own_table, put_table, room_in_table}
 use Rattle.ps_reading.proofs.NextItems.{drop_at}
 use Rattle.ps_reading.proofs.reading.added.add_units.Goals as goal
+use Rattle.ps_resolve.proofs.Vocabulary.{MAX_REQUESTED}
 
 pub loop-round-init : goal.loop-round-init
 loop-round-init c =
@@ -38,12 +39,14 @@ returns-in-None c =
     let i : ℕ = c.loop-round.round in
     let old = c.args.segments.now.items in
     let xs : List Segment = t.0 in
-    let is = λ (whole : List UnitReference) (kept : c.args.queue.now.items ≡ take 10 whole).
+    let is = λ (whole : List UnitReference)
+    (kept : c.args.queue.now.items ≡ take MAX_REQUESTED whole).
     let r = t.6 whole kept in
     let at = at_round r.0 c.loop-round.queue.items i i None r.2 (omega arith) refl c.in-None.ensures
     in
     r.3 ∙ ap (joined xs) (no_name_left host.order host.file libs units i r.0 (drop i slots) at) in
-    let all = λ (whole : List UnitReference) (kept : c.args.queue.now.items ≡ take 10 whole). ap
+    let all = λ (whole : List UnitReference)
+    (kept : c.args.queue.now.items ≡ take MAX_REQUESTED whole). ap
     (λ (r : RoundsOutcome). r.added) (is whole kept) ∙ append-nil xs in
     record {
       fault = λ whole kept. sym (ap (λ (r : RoundsOutcome). r.fault) (is whole kept));
@@ -55,8 +58,8 @@ returns-in-None c =
       more = omega (arith, t.5);
       requested = λ whole kept.
           let r = t.6 whole kept in
-          r.2 ∙ (ap (take 10) r.1 ∙ ap
-          (λ (ys : List Segment). take 10
+          r.2 ∙ (ap (take MAX_REQUESTED) r.1 ∙ ap
+          (λ (ys : List Segment). take MAX_REQUESTED
           (requested_from units whole (all_unit_references ys))) (sym (all whole kept)));
       read = inv.read;
     }
@@ -75,7 +78,8 @@ returns-in_err-segment-in-Some c =
     let lt : i < length slots = c.loop-round-test.true in
     let slot = get_or slots i 0 in
     let left = drop (i + 1) slots in
-    let is = λ (whole : List UnitReference) (kept : c.args.queue.now.items ≡ take 10 whole).
+    let is = λ (whole : List UnitReference)
+    (kept : c.args.queue.now.items ≡ take MAX_REQUESTED whole).
     let r = t.6 whole kept in
     let at = at_round r.0 c.loop-round.queue.items i i (Some c.in-Some.requested) r.2
     (omega arith) refl c.in-Some.ensures in
@@ -85,7 +89,8 @@ returns-in_err-segment-in-Some c =
     c.in_err-segment-in-Some.field-0.0 at
     (rw c.in_slot-request.ensures at (sym c.in_err-segment-in-Some.ensures.fault)) in
     r.3 ∙ ap (joined xs) here in
-    let all = λ (whole : List UnitReference) (kept : c.args.queue.now.items ≡ take 10 whole). ap
+    let all = λ (whole : List UnitReference)
+    (kept : c.args.queue.now.items ≡ take MAX_REQUESTED whole). ap
     (λ (r : RoundsOutcome). r.added) (is whole kept) ∙ append-nil xs in
     let p = err_from_is_err_and c.from_residual.result c.from_residual.ensures.1 in
     rw (p.1, p.2) (record {
@@ -98,8 +103,8 @@ returns-in_err-segment-in-Some c =
       more = omega (arith, t.5);
       requested = λ whole kept.
           let r = t.6 whole kept in
-          r.2 ∙ (ap (take 10) r.1 ∙ ap
-          (λ (ys : List Segment). take 10
+          r.2 ∙ (ap (take MAX_REQUESTED) r.1 ∙ ap
+          (λ (ys : List Segment). take MAX_REQUESTED
           (requested_from units whole (all_unit_references ys))) (sym (all whole kept)));
       read = inv.read;
     })
@@ -164,9 +169,9 @@ loop-round-preserved c =
             let next = requested_from units queue gs in
             let at = at_round queue c.loop-round.queue.items i i (Some c.in-Some.requested) r.2
             (omega arith) refl c.in-Some.ensures in
-            let is : c.enqueue_segment.new.queue.items ≡ take 10 next =
+            let is : c.enqueue_segment.new.queue.items ≡ take MAX_REQUESTED next =
             c.enqueue_segment.ensures
-            ∙ (ap (λ (q : List UnitReference). take 10 (requested_from units q gs)) r.2
+            ∙ (ap (λ (q : List UnitReference). take MAX_REQUESTED (requested_from units q gs)) r.2
             ∙ kept units queue gs) in
             let rest = rounds_from host.order host.file libs units left (i + 1) next in
             let here = ap (λ (l : List ℕ). rounds_from host.order host.file libs units l i queue)
@@ -198,12 +203,14 @@ returns-in-None-requested_at c =
     let i : ℕ = c.loop-round.round in
     let old = c.args.segments.now.items in
     let xs : List Segment = t.0 in
-    let is = λ (whole : List UnitReference) (kept : c.args.queue.now.items ≡ take 10 whole).
+    let is = λ (whole : List UnitReference)
+    (kept : c.args.queue.now.items ≡ take MAX_REQUESTED whole).
     let r = t.6 whole kept in
     let at = at_round r.0 c.loop-round.queue.items i (length slots) None r.2 (omega arith)
     (omega arith) c.in-None-requested_at.ensures in
     r.3 ∙ ap (joined xs) (no_name_left host.order host.file libs units i r.0 (drop i slots) at) in
-    let all = λ (whole : List UnitReference) (kept : c.args.queue.now.items ≡ take 10 whole). ap
+    let all = λ (whole : List UnitReference)
+    (kept : c.args.queue.now.items ≡ take MAX_REQUESTED whole). ap
     (λ (r : RoundsOutcome). r.added) (is whole kept) ∙ append-nil xs in
     record {
       fault = λ whole kept. sym (ap (λ (r : RoundsOutcome). r.fault) (is whole kept));
@@ -215,8 +222,8 @@ returns-in-None-requested_at c =
       more = omega (arith, t.5);
       requested = λ whole kept.
           let r = t.6 whole kept in
-          r.2 ∙ (ap (take 10) r.1 ∙ ap
-          (λ (ys : List Segment). take 10
+          r.2 ∙ (ap (take MAX_REQUESTED) r.1 ∙ ap
+          (λ (ys : List Segment). take MAX_REQUESTED
           (requested_from units whole (all_unit_references ys))) (sym (all whole kept)));
       read = inv.read;
     }
@@ -234,7 +241,8 @@ returns-in-Some-requested_at c =
     let old = c.args.segments.now.items in
     let xs : List Segment = t.0 in
     let g = c.in-Some-requested_at.requested in
-    let is = λ (whole : List UnitReference) (kept : c.args.queue.now.items ≡ take 10 whole).
+    let is = λ (whole : List UnitReference)
+    (kept : c.args.queue.now.items ≡ take MAX_REQUESTED whole).
     let r = t.6 whole kept in
     let at = at_round r.0 c.loop-round.queue.items i (length slots) (Some g) r.2 (omega arith)
     (omega arith) c.in-Some-requested_at.ensures in
@@ -242,7 +250,8 @@ returns-in-Some-requested_at c =
     (ap (λ (l : List ℕ). rounds_from host.order host.file libs units l i r.0)
     (drop_all i slots c.loop-round-test.false)
     ∙ no_slot_left host.order host.file libs units i r.0 g at) in
-    let all = λ (whole : List UnitReference) (kept : c.args.queue.now.items ≡ take 10 whole). ap
+    let all = λ (whole : List UnitReference)
+    (kept : c.args.queue.now.items ≡ take MAX_REQUESTED whole). ap
     (λ (r : RoundsOutcome). r.added) (is whole kept) ∙ append-nil xs in
     record {
       fault = λ whole kept. ap (λ (f : Fault). Some f) c.no_slot.ensures
@@ -255,8 +264,8 @@ returns-in-Some-requested_at c =
       more = omega (arith, t.5);
       requested = λ whole kept.
           let r = t.6 whole kept in
-          r.2 ∙ (ap (take 10) r.1 ∙ ap
-          (λ (ys : List Segment). take 10
+          r.2 ∙ (ap (take MAX_REQUESTED) r.1 ∙ ap
+          (λ (ys : List Segment). take MAX_REQUESTED
           (requested_from units whole (all_unit_references ys))) (sym (all whole kept)));
       read = inv.read;
     }

@@ -2,11 +2,12 @@ use Rattle.ps_reading.proofs.Vocabulary.{◌∙◌, ◌<◌, ℕ, refl, arith, B
 use Rattle.ps_reading.specs.Added.{empty_slots}
 use Rattle.ps_reading.proofs.RequestQueue.{filter_more, all_if, few_if}
 use Rattle.ps_reading.proofs.reading.added.empty_slots.Goals as goal
+use Rattle.ps_resolve.proofs.Vocabulary.{SLOTS}
 
 pub loop-slot-init : goal.loop-slot-init
 unfolding empty_slots
 loop-slot-init c = rw c.new-slots.ensures
-    (record { all = refl; in_range = All-nil (λ (slot : ℕ). slot < 16); few = omega arith })
+    (record { all = refl; in_range = All-nil (λ (slot : ℕ). slot < SLOTS); few = omega arith })
 
 pub loop-slot-preserved : goal.loop-slot-preserved
 loop-slot-preserved c =
@@ -15,8 +16,8 @@ loop-slot-preserved c =
     let old = c.loop-slot.slots.items in
     let inv = c.loop-slot.invariant in
     rw c.add_empty.ensures (record {
-      all = inv.all ∙ filter_more test old i 16 c.loop-slot-test.true;
-      in_range = all_if (λ (slot : ℕ). slot < 16)
+      all = inv.all ∙ filter_more test old i SLOTS c.loop-slot-test.true;
+      in_range = all_if (λ (slot : ℕ). slot < SLOTS)
           (test i) old i inv.in_range c.loop-slot-test.true;
       few = grind (arith, few_if);
     })

@@ -1,12 +1,13 @@
 use Rattle.ps_reading.proofs.Vocabulary.{◌≡◌, ◌<◌, ◌≤◌, ◌+◌, ◌-◌, ◌++◌, length, All, filter, range_with_len, is_empty, empty_slots, is_role}
 use Rattle.ps_reading.proofs.reading.added.empty_slots.Given as goal
+use Rattle.ps_resolve.proofs.Vocabulary.{FIRST_ADDED, SLOTS}
 
 -- the slots so far and the empty ones of those that are left are all
 abbrev pub invariant-loop-slot : goal.invariant-loop-slot
 invariant-loop-slot l = record {
   all : empty_slots l.host.order l.host.file
       ≡ l.slots.items ++ filter (is_role is_empty l.host.order l.host.file)
-      (range_with_len l.slot (16 - l.slot));
-  in_range : All (λ slot. slot < 16) l.slots.items;
-  few : length l.slots.items + 7 ≤ l.slot;
+      (range_with_len l.slot (SLOTS - l.slot));
+  in_range : All (λ slot. slot < SLOTS) l.slots.items;
+  few : length l.slots.items + FIRST_ADDED ≤ l.slot;
 }

@@ -4,6 +4,7 @@ use Rattle.ps_reading.specs.Readings.{read_segment, read_segments}
 use Rattle.ps_reading.proofs.BySlot.{fine_of_empty, none_of_empty}
 use Rattle.ps_reading.proofs.ReadingSources.{all_with, kept_on, few_more}
 use Rattle.ps_reading.proofs.reading.sources.read_slots.Goals as goal
+use Rattle.ps_resolve.proofs.Vocabulary.{SLOTS}
 
 pub loop-slot-init : goal.loop-slot-init
 unfolding read_segments sources_fault
@@ -34,9 +35,9 @@ kept_read P (Ok None) h = tt
 kept_read P (Ok (Some s)) h = h
 
 -- one fault more
-more_faults : (f : ℕ → Option Fault) (first now : Option Fault) (i : ℕ) → i < 16
-    → now ≡ f i → option_or first (first_of f (range_with_len i (16 - i)))
-    ≡ option_or (option_or first now) (first_of f (range_with_len (i + 1) (16 - (i + 1))))
+more_faults : (f : ℕ → Option Fault) (first now : Option Fault) (i : ℕ) → i < SLOTS
+    → now ≡ f i → option_or first (first_of f (range_with_len i (SLOTS - i)))
+    ≡ option_or (option_or first now) (first_of f (range_with_len (i + 1) (SLOTS - (i + 1))))
 more_faults f first now i lt is = grind arith
 
 pub loop-slot-preserved : goal.loop-slot-preserved
@@ -64,7 +65,7 @@ loop-slot-preserved-then-is_empty c =
           c.loop-slot-test.true (sym (fine_of_empty host.order host.file libs i empty)),
       fine_of_empty host.order host.file libs i empty,
       last_fault c.loop-slot.first,
-      kept_on (read_segment host.order host.file libs) old none i 16
+      kept_on (read_segment host.order host.file libs) old none i SLOTS
           c.loop-slot-test.true (sym (none_of_empty host.order host.file libs i empty)),
       none_of_empty host.order host.file libs i empty,
     )

@@ -1,5 +1,6 @@
 use Rattle.ps_reading.proofs.Vocabulary.{◌≡◌, ◌≤◌, ◌-◌, ◌++◌, length, All, filter_map, range_with_len, option_or, first_of, opened, source_fault, sources_fault, read_segment, read_segments, IsRead}
 use Rattle.ps_reading.proofs.reading.sources.read_slots.Given as goal
+use Rattle.ps_resolve.proofs.Vocabulary.{SLOTS}
 
 -- the segments so far and those of the slots that are left are all, and so is the first fault
 abbrev pub invariant-loop-slot : goal.invariant-loop-slot
@@ -10,9 +11,9 @@ invariant-loop-slot l =
     record {
       faults : sources_fault order host libs
           ≡ option_or l.first (first_of (source_fault order host libs)
-          (range_with_len l.slot (16 - l.slot)));
+          (range_with_len l.slot (SLOTS - l.slot)));
       all : read_segments order host libs ≡ l.segments.items
-          ++ filter_map (read_segment order host libs) (range_with_len l.slot (16 - l.slot));
+          ++ filter_map (read_segment order host libs) (range_with_len l.slot (SLOTS - l.slot));
       read : All (IsRead order host libs) l.segments.items;
       few : length l.segments.items ≤ l.slot;
     }

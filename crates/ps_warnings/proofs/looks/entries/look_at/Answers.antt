@@ -5,6 +5,7 @@ use Rattle.ps_warnings.specs.FileLooks.{looks_of_slot}
 use Rattle.ps_warnings.specs.Paths.{path_of}
 use Rattle.ps_warnings.specs.Seen.{seen}
 use Rattle.ps_warnings.proofs.Found.{none_then, owes_after, owes_all, owes_less, owes_none, slots_left, slots_over}
+use Rattle.ps_codefile.specs.declared.dictionary_layout.TheConstants.{SLOTS}
 use Rattle.ps_warnings.proofs.looks.entries.look_at.Goals as goal
 
 pub loop-slot-init : goal.loop-slot-init
@@ -15,7 +16,7 @@ loop-slot-preserved g c =
     owes_less (slots_left (looks_of_slot (path_of (c.args.context.now.inputs.now.host_path.now
     ∷ contents c.args.context.now.inputs.now.paths.now) c.args.file)
     (option_map (λ h. h.now) c.args.context.now.host) (map seen c.args.context.now.list.now)
-    c.args.dict.now.order c.args.dict.now.file c.args.file) c.loop-slot.slot 16
+    c.args.dict.now.order c.args.dict.now.file c.args.file) c.loop-slot.slot SLOTS
     c.loop-slot-test.true)
     c.loop-slot.invariant (none_then c.in_ok-add_other.ensures c.in_ok-look_at_slot.ensures)
 
@@ -24,6 +25,6 @@ returns g c =
     owes_none (slots_over (looks_of_slot (path_of (c.args.context.now.inputs.now.host_path.now
     ∷ contents c.args.context.now.inputs.now.paths.now) c.args.file)
     (option_map (λ h. h.now) c.args.context.now.host) (map seen c.args.context.now.list.now)
-    c.args.dict.now.order c.args.dict.now.file c.args.file) c.loop-slot.slot 16
+    c.args.dict.now.order c.args.dict.now.file c.args.file) c.loop-slot.slot SLOTS
     c.loop-slot-test.false)
     c.loop-slot.invariant

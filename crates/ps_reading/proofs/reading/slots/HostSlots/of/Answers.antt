@@ -1,5 +1,6 @@
 use Rattle.ps_reading.proofs.Vocabulary.{◌≡◌, ◌<◌, ◌≤◌, ◌∙◌, ℕ, length, take, map, sym, subst, arith, range_with_len, take_more_set, take_all, map-range_with_len_more, common_steps, entry_at, role_of}
 use Rattle.ps_reading.proofs.reading.slots.HostSlots.of.Goals as goal
+use Rattle.ps_resolve.proofs.Vocabulary.{SLOT_COUNT, SLOTS}
 
 pub loop-slot-preserved : goal.loop-slot-preserved
 loop-slot-preserved c =
@@ -21,9 +22,9 @@ loop-slot-preserved c =
 pub invariant_of-result : goal.invariant_of-result
 invariant_of-result c =
     let inv = c.loop-slot.invariant in
-    let done : c.loop-slot.slot ≡ 16 = omega arith in
-    let whole : length c.loop-slot.roles ≤ 16 = omega (arith, inv.all_roles) in
-    sym (take_all 16 c.loop-slot.roles whole)
+    let done : c.loop-slot.slot ≡ SLOTS = omega arith in
+    let whole : length c.loop-slot.roles ≤ SLOT_COUNT = omega (arith, inv.all_roles) in
+    sym (take_all SLOTS c.loop-slot.roles whole)
     ∙ subst (λ (n : ℕ). take n c.loop-slot.roles
     ≡ map (λ (s : ℕ). role_of (entry_at c.args.dict.order c.args.dict.file s))
     (range_with_len 0 n)) done inv.roles
