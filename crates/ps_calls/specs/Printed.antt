@@ -7,7 +7,7 @@ use Rattle.ps_codefile.specs.Dictionary.{OpenedFile, opened_alone}
 use Rattle.ps_named.specs.UnitNames.{units_had, units_wanted}
 use Rattle.ps_resolve.specs.Readings.{HostFiles, opened_host}
 use Rattle.ps_resolve.specs.Standing.{NoneStands}
-use Rattle.ps_linkfile.specs.JsonText.{line_end}
+use Rattle.ps_writing.specs.JsonText.{line_end}
 use Rattle.ps_linkfile.specs.MapText.{map_json_of, map_of}
 use Rattle.ps_linkfile.specs.ReferencesJson.{IsReferencesJson}
 use Rattle.ps_linkfile.specs.ReferencesText.{references_of}

@@ -1,6 +1,6 @@
 //! The lists of files.
 ghost use Rattle.std.specs.Prelude.{◌≡◌, ◌∷◌, ◌++◌, ℕ, IfOk, List, OnOk, codes, false, map, true};
-ghost use Rattle.ps_linkfile.specs.JsonText.{line_end};
+ghost use Rattle.ps_writing.specs.JsonText.{line_end};
 ghost use Rattle.ps_listing.specs.ListJson.{list_json_of};
 ghost use Rattle.ps_listing.specs.ListText.{list_of};
 ghost use Rattle.ps_listing.specs.LoneText.{lone_text, lone_units as lone_units_spec};
@@ -8,7 +8,7 @@ ghost use Rattle.ps_resolve.specs.Sources.{contents};
 ghost use Rattle.ps_calls.specs.Printed.{AreListed, IsList, listed};
 
 use crate::kinds::ListForm;
-use ps_linkfile::{Counts, separator};
+use ps_writing::{Counts, separator};
 use ps_listing::{LoneUnit, lone_units, write_list, write_list_json, write_lone_units};
 use std::alloc::{AllocError, Global};
 

@@ -2,7 +2,8 @@
 ghost use Rattle.std.specs.Prelude.{◌≡◌, ◌*◌, ◌≤◌, ◌<◌, length};
 ghost use Rattle.ps_linkfile.specs.Writing.{file_in};
 
-use ps_linkfile::{Linked, ToldWriter};
+use ps_linkfile::Linked;
+use ps_writing::ToldWriter;
 use std::alloc::Global;
 use std::io::{self, Write};
 

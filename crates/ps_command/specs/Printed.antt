@@ -7,7 +7,7 @@ use Rattle.std.specs.List.{AllZip}
 use Rattle.std.specs.Io.KnownBytes.{Appends}
 use Rattle.clap.specs.Words.{IsAmong, Kinds, Row, Text, first_of}
 use Rattle.clap.specs.declared.error.ErrorKind.TheVariants.{DisplayHelp, DisplayVersion}
-use Rattle.ps_linkfile.specs.JsonText.{separator}
+use Rattle.ps_writing.specs.JsonText.{separator}
 use Rattle.ps_linkfile.specs.LinkedFile.{LinkedFile, summary_of}
 use Rattle.ps_linkfile.specs.MapJson.{map_json_of}
 use Rattle.ps_linkfile.specs.MapText.{map_of}

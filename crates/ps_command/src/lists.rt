@@ -7,7 +7,7 @@ ghost use Rattle.ps_command.specs.FilesRead.{IsReadError, Reads};
 use crate::files::{self, CodeFiles};
 use crate::output;
 use ps_errors::CommandError;
-use ps_linkfile::{Counts, separator};
+use ps_writing::{Counts, separator};
 use ps_listing::LoneUnit;
 use std::alloc::{AllocError, Allocator};
 use std::io::Write;

@@ -5,7 +5,8 @@ ghost use Rattle.ps_command.specs.SummaryLine.{summary_line};
 ghost use Rattle.ps_errors.specs.declared.error.CommandError.TheVariants.{StandardOutput};
 
 use ps_errors::CommandError;
-use ps_linkfile::{Counts, Summary, write_all_of};
+use ps_linkfile::Summary;
+use ps_writing::{Counts, write_all_of};
 use std::alloc::{AllocError, Allocator};
 use std::fmt::Write as _;
 use std::io::Write;

@@ -4,13 +4,14 @@ ghost use Rattle.clap.specs.Words.{kind_of};
 ghost use Rattle.clap.specs.declared.error.ErrorKind.TheVariants.{OutOfMemory};
 ghost use Rattle.ps_errors.specs.declared.error.CommandError.TheVariants.{Memory, StandardOutput, Usage};
 ghost use Rattle.ps_linkfile.specs.declared.error.LinkError.TheVariants.{Write};
-ghost use Rattle.ps_linkfile.specs.declared.error.WriteFault.{WriteFault};
+ghost use Rattle.ps_writing.specs.declared.write_fault.WriteFault.{WriteFault};
 ghost use Rattle.ps_errors.specs.Causes.{cause_of, caused, unread_error};
 ghost use Rattle.ps_errors.specs.Statuses.{command_error_of, status_of};
 
 use clap::error::ErrorKind;
 use ps_filetype::ShownPath;
-use ps_linkfile::{LinkError, WriteFault};
+use ps_linkfile::LinkError;
+use ps_writing::WriteFault;
 use ps_words::Fault;
 use std::alloc::{AllocError, AllocFailed};
 use std::fmt::{self, Formatter};

@@ -1,8 +1,8 @@
 ghost use Rattle.std.specs.Prelude.{◌≡◌, [], ◌∷◌, ◌++◌, take, codes};
 ghost use Rattle.ps_examples.specs.Files.{host, library, host_in, host_in_place, host_with, host_with_tools, library_with, put_at, zeros, util, aux, count, state, limit, unit_ref, publ_ref, priv_ref, publ_def, const_def, eof_mark, wanting_aux, library_of_two, util_information, library_of_used};
 ghost use Rattle.ps_examples.specs.Texts.{json_of_the_pair, json_with_references, json_without_an_item, references_of_the_pair, references_of_a_unit_reference, map_of_the_pair, map_with_a_constant, map_in_place, map_of_two, map_of_an_added_unit, show_of_the_library, show_without_an_end, show_without_a_code, show_of_the_linked_file, show_of_the_big_endian_host, slot_without_a_name, slot_with_a_text, links_of_every_kind, links_of_an_unlisted_unit, links_of_an_unknown_record, links_of_a_bad_length, links_of_a_bad_address};
-ghost use Rattle.ps_linkfile.specs.JsonText.{json_name};
-ghost use Rattle.ps_linkfile.specs.Lines.{shown_name};
+ghost use Rattle.ps_writing.specs.JsonText.{json_name};
+ghost use Rattle.ps_writing.specs.Lines.{shown_name};
 ghost use Rattle.ps_linkfile.specs.LinkedFile.{linked_file};
 ghost use Rattle.ps_linkfile.specs.MapText.{map_of, map_json_of};
 ghost use Rattle.ps_linkfile.specs.ReferencesJson.{IsReferencesJson};

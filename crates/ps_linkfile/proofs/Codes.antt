@@ -1,7 +1,7 @@
 -- The codes of a plan's sources, one after another.
 use Rattle.ps_linkfile.proofs.Vocabulary.{length-map-range_with_len, Appends, blocks, Order, Edit, Origin, patched_or_zero, all_blocks, padded_code, padded_codes, HaveEdits, AppendsPrefix, ◌≡◌, ℕ, ◌+◌, ◌*◌, List, [], ◌∷◌, ◌++◌, length, drop, Option, ◌∙◌, append_assoc, arith, length-append}
 use Rattle.ps_linkfile.proofs.Blocks.{all_blocks-cons}
-use Rattle.ps_linkfile.proofs.Prefixes.{appends_twice, prefix_more}
+use Rattle.ps_writing.proofs.Prefixes.{appends_twice, prefix_more}
 
 -- the codes of the first so many sources were appended
 pub record CodesSoFar (order : Order) (os : List Origin) (ds : List (List Edit)) (count : ℕ)

@@ -1,5 +1,5 @@
 pub mod Vocabulary
-pub mod Prefixes
+pub mod Images
 pub mod Blocks
 pub mod Rising
 pub mod Pairs
@@ -11,11 +11,5 @@ pub mod Whole
 pub mod Maps
 pub mod Walks
 pub mod Shows
-pub mod InPieces
-pub mod ReferenceText
-pub mod Written
-pub mod Sending
-pub mod ShownNames
 pub mod FilledPlaces
 pub mod StoredPlaces
-pub mod Numbered

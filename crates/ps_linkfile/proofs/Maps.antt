@@ -5,9 +5,9 @@ use Rattle.std.specs.Prelude.{◌==◌, slice_get}
 use Rattle.std.proofs.lemmas.Option.{unwrap_or-slice_get}
 use Rattle.ps_resolve.specs.Added.{segments, slot_name, slot_names}
 use Rattle.ps_linkfile.specs.MapText.{code_row, segment_row, name_in, source_row, map_of, map_in, json_end, map_json_in, map_json_of, members_in, members_of, plan_rows, rows_of}
-use Rattle.ps_linkfile.specs.Rows.{row_in, rows_from, rows_in}
-use Rattle.ps_linkfile.specs.declared.rows.Form.{Form}
-use Rattle.ps_linkfile.specs.declared.rows.Form.TheVariants.{Lines, Json}
+use Rattle.ps_writing.specs.Rows.{row_in, rows_from, rows_in}
+use Rattle.ps_writing.specs.declared.rows.Form.{Form}
+use Rattle.ps_writing.specs.declared.rows.Form.TheVariants.{Lines, Json}
 use Rattle.ps_linkfile.proofs.Slots.{segments_ascend}
 use Rattle.ps_linkfile.proofs.Views.{no_source, start_at}
 

@@ -1,88 +1,8 @@
 -- How the counts of a writer rise while a file is written.
-use Rattle.ps_linkfile.proofs.Vocabulary.{All, min, blocks, MAX_CODE_LEN, Origin, Counts, WriteFault, NoneFailed, OneFailed, Rises, all_blocks, Ascend, rules, ◌≡◌, ◌≢◌, ◌∙◌, ℕ, ◌+◌, ◌*◌, ◌-◌, ◌≤◌, ◌<◌, List, [], ◌∷◌, length, drop, Bool, true, false, Result, Ok, Err, ap, refl, arith, ◌^◌, AreAtMost, AreBelow, Failures, HasRoom, IfDevice, IfStalled, OneError, OneStall, RisesByPieces, counts_after, one_more, saturated_after}
-use Rattle.std.specs.declared.io.Error.{Error}
+use Rattle.ps_linkfile.proofs.Vocabulary.{All, blocks, MAX_CODE_LEN, Origin, Counts, NoneFailed, Rises, all_blocks, Ascend, rules, ◌≡◌, ◌∙◌, ℕ, ◌+◌, ◌*◌, ◌≤◌, List, [], ◌∷◌, length, drop, Bool, true, ap, refl, arith, AreAtMost, HasRoom}
 use Rattle.ps_linkfile.specs.declared.block_layout.TheConstants.{MAX_FILE_BLOCKS}
-use Rattle.ps_linkfile.specs.declared.error.WriteFault.TheVariants.{Device, Stalled}
 use Rattle.ps_linkfile.proofs.Blocks.{all_blocks-cons, few_codes, few_blocks}
-
--- a count that 64 bits can hold one more of rises by one
-one_more_is : (n : ℕ) → n < 18446744073709551615 → one_more n ≡ n + 1
-one_more_is n lt = omega arith
-
--- where each count can, each that applies rises by one
-pub none_saturated : {E : Type 0} (c : Counts) (size : ℕ) (result : Result ℕ E)
-    → AreBelow c 18446744073709551615
-    → saturated_after c size result ≡ counts_after c size result
-none_saturated c size (Ok taken) low = rw (
-  one_more_is c.writes low.writes,
-  one_more_is c.stalls low.stalls,
-  one_more_is c.shorts low.shorts,
-)
-none_saturated c size (Err error) low =
-    rw (one_more_is c.writes low.writes, one_more_is c.errors low.errors)
-
--- the counts after the first i of so many bytes went out; while some are left, each write was short
-pub record Progress (old new : Counts) (size i : ℕ) : Type 0 where
-  pub by_bytes : new.writes ≤ old.writes + i
-  pub by_pieces : old.shorts + size < 2 ^ 64
-      → new.writes + old.shorts ≤ old.writes + min 1 i + new.shorts
-  pub unfinished : i < size → old.shorts + size < 2 ^ 64
-      → new.writes + old.shorts ≤ old.writes + new.shorts
-  pub shorts : new.shorts ≤ old.shorts + i
-  pub none : NoneFailed old new
-
--- a write took some of those that were left
-pub progress : (old mid : Counts) (size i taken left : ℕ) → Progress old mid size i → i < size
-    → left ≡ size - i → taken ≤ left → taken ≢ 0
-    → Progress old (saturated_after {E = Error} mid left (Ok taken)) size (i + taken)
-progress old mid size i taken left h lt is le ne = grind arith
-
--- where the counts have room for n writes, and at most so many were made and none failed, they have
--- room for those that are left
-room_left : (needed : Bool) (old new : Counts) (n made left : ℕ) → HasRoom needed old n
-    → new.writes ≤ old.writes + made → new.shorts ≤ old.shorts + made → NoneFailed old new
-    → made + left ≤ n → HasRoom needed new left
-room_left true old new n made left room writes shorts none le = record {
-  writes = omega (arith, room.writes, writes, le);
-  errors = omega (arith, room.errors, ap (λ (f : Failures). f.errors) none, le);
-  stalls = omega (arith, room.stalls, ap (λ (f : Failures). f.stalls) none, le);
-  shorts = omega (arith, room.shorts, shorts, le);
-}
-room_left false old new n made left room writes shorts none le = tt
-
--- while some of the bytes are left, there is room for one write more
-pub room_here : (needed : Bool) (old mid : Counts) (size i : ℕ) → HasRoom needed old size
-    → Progress old mid size i → i < size → HasRoom needed mid 1
-room_here needed old mid size i room h lt =
-    room_left needed old mid size i 1 room h.by_bytes h.shorts h.none (omega (arith, lt))
-
--- after some pieces there is room for those that are left
-pub room_then : (needed : Bool) (old new : Counts) (n size pieces left : ℕ)
-    → HasRoom needed old n → Rises old new size pieces → NoneFailed old new → size + left ≤ n
-    → HasRoom needed new left
-room_then needed old new n size pieces left room h none le =
-    room_left needed old new n size left room h.by_bytes h.shorts none le
-
-pub rises_none : (c : Counts) → Rises c c 0 0
-rises_none c = record {
-  by_bytes = omega arith;
-  by_pieces = λ room. omega arith;
-  shorts = omega arith;
-}
-
--- some pieces, and then more, of a file that has still more
-pub rises_then : (a b c : Counts) (m x n y size pieces : ℕ) → Rises a b m x
-    → Rises b c n y → m + n ≤ size → x + y ≤ pieces → Rises a c size pieces
-rises_then a b c m x n y size pieces h k le few = record {
-  by_bytes = omega (arith, h.by_bytes, k.by_bytes);
-  by_pieces =
-      λ room. omega (
-        arith,
-        h.by_pieces (omega arith),
-        k.by_pieces (omega (arith, h.shorts)),
-      );
-  shorts = omega (arith, h.shorts, k.shorts);
-}
+use Rattle.ps_writing.proofs.Rising.{rises_none, rises_then, room_then}
 
 -- small counts have room for the longest file
 pub room_for_a_file : (c : Counts) → AreAtMost c 4294967296
@@ -93,28 +13,6 @@ room_for_a_file c small = record {
   stalls = omega (arith, small.stalls);
   shorts = omega (arith, small.shorts);
 }
-
--- a writer with small counts can count what is written of a file
-module _ (old new : Counts) (small : AreAtMost old 4294967296) where
-  pub by_pieces : (size pieces : ℕ) → size ≤ 4294967296 → Rises old new size pieces
-      → RisesByPieces old new pieces
-  by_pieces size pieces le h = h.by_pieces (omega (arith, small.shorts))
-
-  pub if_device : (fault : WriteFault) → OneFailed fault old new
-      → IfDevice fault (OneError old new)
-  if_device (Device error) h = record {
-    errors = omega (arith, small.errors, ap (λ (f : Failures). f.errors) h);
-    stalls = ap (λ (f : Failures). f.stalls) h;
-  }
-  if_device Stalled h = tt
-
-  pub if_stalled : (fault : WriteFault) → OneFailed fault old new
-      → IfStalled fault (OneStall old new)
-  if_stalled (Device error) h = tt
-  if_stalled Stalled h = record {
-    errors = ap (λ (f : Failures). f.errors) h;
-    stalls = omega (arith, small.stalls, ap (λ (f : Failures). f.stalls) h);
-  }
 
 -- a file has few blocks
 pub few_of_all : (os : List Origin) → Ascend 0 os

@@ -2,10 +2,10 @@
 use Rattle.ps_linkfile.proofs.Vocabulary.{filter, range_with_len, in_file, Order, Reason, reading, known_order, OpenedFile, FileOrder, Ordered, file_order, opened_as, entry_at, code_of, information_of, ◌≡◌, ℕ, suc, ◌+◌, ◌-◌, ◌<◌, ◌≤◌, List, [], ◌∷◌, ◌++◌, length, length-append, map, append_assoc, append-nil, Bool, true, if◌then◌else◌, Some, None, Ok, Err, refl, sym, ◌∙◌, ap, arith, codes, Zero, opened_beside_as}
 use Rattle.ps_words.specs.declared.order.Order.TheVariants.{Little}
 use Rattle.ps_words.specs.declared.fault.Reason.TheVariants as reason
-use Rattle.ps_linkfile.specs.Rows.{by_form, reason_in}
+use Rattle.ps_writing.specs.Rows.{by_form, reason_in}
 use Rattle.ps_linkfile.specs.ShowJson.{show_json_of, shown_json}
 use Rattle.ps_linkfile.specs.ShowText.{unit_names, records_in, has_links, links_head, links_in, shown_file, show_of, order_fault}
-use Rattle.ps_linkfile.specs.declared.rows.Form.{Form}
+use Rattle.ps_writing.specs.declared.rows.Form.{Form}
 
 -- a file whose kind words show an order
 pub record Shows (short : Bool) (of : FileOrder) (file : List ℕ) (shown : FileOrder)

@@ -1,16 +1,10 @@
 pub mod LinkedFile
 pub mod Writing
 pub mod Outcomes
-pub mod Counts
-pub mod Told
-pub mod Lines
-pub mod JsonText
 pub mod MapJson
-pub mod Rows
 pub mod ShowJson
 pub mod MapText
 pub mod ShowText
-pub mod Adding
 pub mod ReferencesText
 pub mod FilledPlaces
 pub mod ReferencesJson

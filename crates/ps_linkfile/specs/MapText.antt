@@ -14,9 +14,9 @@ use Rattle.ps_resolve.specs.declared.definitions.DefKind.{DefKind}
 use Rattle.ps_resolve.specs.declared.definitions.DefKind.TheVariants.{Public, Constant}
 use Rattle.ps_resolve.specs.declared.allotment.Private.{Private}
 use Rattle.ps_linkfile.specs.LinkedFile.{origins, block_of, all_blocks}
-use Rattle.ps_linkfile.specs.Rows.{Value, InSlot, OfKind, Named, Total, Number, Short, Flag, by_form, rows_in, values_in}
-use Rattle.ps_linkfile.specs.declared.rows.Form.{Form}
-use Rattle.ps_linkfile.specs.declared.rows.Form.TheVariants.{Lines, Json}
+use Rattle.ps_writing.specs.Rows.{Value, InSlot, OfKind, Named, Total, Number, Short, Flag, by_form, rows_in, values_in}
+use Rattle.ps_writing.specs.declared.rows.Form.{Form}
+use Rattle.ps_writing.specs.declared.rows.Form.TheVariants.{Lines, Json}
 
 -- `segment 08 AUX      file 1 entry 03 block 3 length 24 added`: the slot and the name of a
 -- segment, the file and the entry that its code comes from, the code's first block and its size in

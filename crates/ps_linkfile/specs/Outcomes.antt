@@ -1,6 +1,6 @@
 -- What a link leaves in its writer, and what each of its errors says.
 -- Source: this project's profile.
-use Rattle.std.specs.Prelude.{◌≡◌, ◌≢◌, ℕ, List, Option, Some, None, take, ⊤}
+use Rattle.std.specs.Prelude.{◌≡◌, ◌≢◌, ℕ, List, Option, Some, None, ⊤}
 use Rattle.std.specs.Io.KnownBytes.{Appends}
 use Rattle.ps_words.specs.FaultText.{number_of}
 use Rattle.ps_resolve.specs.AllFaults.{first_fault, reading_fault}
@@ -10,14 +10,11 @@ use Rattle.ps_resolve.specs.Standing.{NoneStandsInReading, IsFirst, NoneStands}
 use Rattle.ps_resolve.specs.declared.linkage.Stop.{Stop}
 use Rattle.ps_resolve.specs.declared.linkage.Stop.TheVariants as stop
 use Rattle.ps_linkfile.specs.LinkedFile.{LinkedFile}
-use Rattle.ps_linkfile.specs.Counts.{NoneFailed, OneFailed}
-use Rattle.ps_linkfile.specs.declared.counts.Counts.{Counts}
+use Rattle.ps_writing.specs.Prefixes.{AppendsPrefix}
+use Rattle.ps_writing.specs.Counts.{NoneFailed, OneFailed}
+use Rattle.ps_writing.specs.declared.counts.Counts.{Counts}
 use Rattle.ps_linkfile.specs.declared.error.LinkError.{LinkError}
 use Rattle.ps_linkfile.specs.declared.error.LinkError.TheVariants.{Refused, Memory, Write}
-
--- a known writer takes a prefix of these
-abbrev pub AppendsPrefix : Option (List ℕ) → Option (List ℕ) → List ℕ → Type 0
-AppendsPrefix old new bytes = (n : ℕ) × Appends old new (take n bytes)
 
 -- a known writer takes the linked file
 abbrev pub AppendsLinkedFile : List ℕ → List (List ℕ) → Option (List ℕ)

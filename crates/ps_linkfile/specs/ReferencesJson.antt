@@ -4,8 +4,8 @@ use Rattle.std.specs.Prelude.{◌≡◌, ℕ, List, ◌++◌}
 use Rattle.ps_resolve.specs.Plans.{Planned}
 use Rattle.ps_linkfile.specs.MapText.{members_of, plan_rows}
 use Rattle.ps_linkfile.specs.ReferencesText.{StoredIn, all_stored_of, references_in}
-use Rattle.ps_linkfile.specs.declared.rows.Form.{Form}
-use Rattle.ps_linkfile.specs.declared.rows.Form.TheVariants.{Lines, Json}
+use Rattle.ps_writing.specs.declared.rows.Form.{Form}
+use Rattle.ps_writing.specs.declared.rows.Form.TheVariants.{Lines, Json}
 
 -- a plan of a link, and what is listed of its segments
 pub record Referenced : Type 0 where

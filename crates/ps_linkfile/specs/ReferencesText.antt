@@ -17,11 +17,11 @@ use Rattle.ps_linkinfo.specs.declared.record.LinkRecord.{LinkRecord as Record}
 use Rattle.ps_resolve.specs.Sources.{Segment, order_of}
 use Rattle.ps_resolve.specs.Plans.{Origin}
 use Rattle.ps_linkfile.specs.LinkedFile.{origins, block_of, linked_segments}
-use Rattle.ps_linkfile.specs.JsonText.{separator}
-pub use Rattle.ps_linkfile.specs.Lines.{hex_byte}
-use Rattle.ps_linkfile.specs.Rows.{Value, Stored, Named, Number, Bytes, by_form, values_in}
-use Rattle.ps_linkfile.specs.declared.rows.Form.{Form}
-use Rattle.ps_linkfile.specs.declared.rows.Form.TheVariants.{Lines}
+use Rattle.ps_writing.specs.JsonText.{separator}
+pub use Rattle.ps_writing.specs.Lines.{hex_byte}
+use Rattle.ps_writing.specs.Rows.{Value, Stored, Named, Number, Bytes, by_form, values_in}
+use Rattle.ps_writing.specs.declared.rows.Form.{Form}
+use Rattle.ps_writing.specs.declared.rows.Form.TheVariants.{Lines}
 use Rattle.ps_linkfile.specs.declared.cause.Cause.{Cause}
 use Rattle.ps_linkfile.specs.declared.cause.Cause.TheVariants.{DataSize, Reference}
 use Rattle.ps_linkfile.specs.declared.cause.Cause.TheVariants as cause

@@ -7,7 +7,7 @@ use Rattle.ps_words.specs.declared.order.Order.TheVariants.{Little, Big}
 use Rattle.ps_codefile.specs.Dictionary.{slots, FileOrder, Zero, Ordered, Mixed, file_order, entry_at}
 use Rattle.ps_resolve.specs.Sources.{known_order}
 use Rattle.ps_linkfile.specs.ShowText.{entry_in, links_in}
-use Rattle.ps_linkfile.specs.declared.rows.Form.TheVariants.{Json}
+use Rattle.ps_writing.specs.declared.rows.Form.TheVariants.{Json}
 
 -- the byte order that is shown, and what is before the items of the slots
 abbrev pub order_member : FileOrder → List ℕ

@@ -20,11 +20,11 @@ use Rattle.ps_linkinfo.specs.declared.record.LinkRecord.{LinkRecord}
 use Rattle.ps_codefile.specs.Roles.{is_unit}
 use Rattle.ps_resolve.specs.Sources.{known_order}
 use Rattle.ps_resolve.specs.Faults.{is_role}
-use Rattle.ps_linkfile.specs.JsonText.{separator}
-use Rattle.ps_linkfile.specs.Lines.{line, two_digits}
-use Rattle.ps_linkfile.specs.Rows.{Value, InSlot, Number, Flag, Record, Kind, Named, References, Fault, by_form, reason_in, row_in, values_in}
-use Rattle.ps_linkfile.specs.declared.rows.Form.{Form}
-use Rattle.ps_linkfile.specs.declared.rows.Form.TheVariants.{Lines, Json}
+use Rattle.ps_writing.specs.JsonText.{separator}
+use Rattle.ps_writing.specs.Lines.{line, two_digits}
+use Rattle.ps_writing.specs.Rows.{Value, InSlot, Number, Flag, Record, Kind, Named, References, Fault, by_form, reason_in, row_in, values_in}
+use Rattle.ps_writing.specs.declared.rows.Form.{Form}
+use Rattle.ps_writing.specs.declared.rows.Form.TheVariants.{Lines, Json}
 use Rattle.ps_linkfile.specs.declared.error.LinkError.{LinkError}
 use Rattle.ps_linkfile.specs.declared.error.LinkError.TheVariants.{Refused, Memory, Write}
 

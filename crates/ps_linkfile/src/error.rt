@@ -4,22 +4,9 @@ ghost use Rattle.ps_linkfile.specs.declared.error.LinkError.TheVariants.{Memory,
 
 use ps_resolve::Stop;
 use ps_words::Fault;
+use ps_writing::WriteFault;
 use std::alloc::AllocError;
-use std::io;
 use thiserror::Error;
-
-/// Why a writer did not take the whole linked file.
-///
-/// Source: this project's profile.
-#[derive(Debug, Drop, Error)]
-pub enum WriteFault {
-    /// A write returned this error, of whatever kind. It was not repeated.
-    #[error("{0}")]
-    Device(io::Error),
-    /// A write of at least one byte took none.
-    #[error("the writer takes no more bytes")]
-    Stalled,
-}
 
 /// Why there is no linked file, or only a prefix of it.
 ///

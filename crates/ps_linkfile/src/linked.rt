@@ -3,26 +3,22 @@ ghost use Rattle.ps_resolve.specs.Sources.{contents};
 ghost use Rattle.std.specs.Io.KnownBytes.{Appends};
 ghost use Rattle.ps_resolve.specs.Plans.{IsPlan};
 ghost use Rattle.ps_resolve.specs.Standing.{NoneStands};
-ghost use Rattle.ps_linkfile.specs.Adding.{Adds};
+ghost use Rattle.ps_writing.specs.Adding.{Adds};
 ghost use Rattle.ps_linkfile.specs.LinkedFile.{summary_of};
 ghost use Rattle.ps_linkfile.specs.MapText.{map_in, map_json_in, map_json_of, map_of, plan_rows};
 ghost use Rattle.ps_linkfile.specs.Writing.{file_in, summary_in, IsReady, StandsFor};
-ghost use Rattle.ps_linkfile.specs.Outcomes.{AppendsPrefix, AppendsLinkedFile, HasUsedNumber, NamesFirst, IsUnprepared, IsUnlinked, LeavesUntouched, LeavesPrefix};
-ghost use Rattle.ps_linkfile.specs.Counts.{AreAtMost, IfDevice, IfStalled, NoneFailed, OneError, OneFailed, OneStall, RisesByBytes, RisesByPieces};
+ghost use Rattle.ps_writing.specs.Prefixes.{AppendsPrefix};
+ghost use Rattle.ps_linkfile.specs.Outcomes.{AppendsLinkedFile, HasUsedNumber, NamesFirst, IsUnprepared, IsUnlinked, LeavesUntouched, LeavesPrefix};
+ghost use Rattle.ps_writing.specs.Counts.{AreAtMost, IfDevice, IfStalled, NoneFailed, OneError, OneFailed, OneStall, RisesByBytes, RisesByPieces};
 
 use crate::block_layout::{MAX_FILE_BLOCKS, lay_out};
-use crate::counts::Counts;
-use crate::error::{LinkError, WriteFault};
+use crate::error::LinkError;
 use crate::map::{LinkMap, add_map};
-use crate::rows::Form;
-use crate::stream::write_text;
 use crate::summary::Summary;
-use crate::text_writer::TextWriter;
-use crate::told::ToldWriter;
-use crate::write_counter::ByWriter;
 use crate::writing::write_file;
 use ps_laws::{bytes_are_linked, first_of_all};
 use ps_resolve::{Plan, resolve, slot_names_are_whole};
+use ps_writing::{ByWriter, Counts, Form, TextWriter, ToldWriter, WriteFault, write_text};
 use std::alloc::{Allocator, Global};
 use std::io::Write;
 use std::marker::Model;
@@ -68,7 +64,7 @@ impl<'a, A: Allocator + Copy> Linked<'a, A> {
     /// Refuses `Device` where a write returned an error, which is not repeated, and `Stalled` where
     /// a write of at least one byte took none. The writer then has a prefix of the linked file.
     /// Source: this project's profile.
-    #[tactic(auto, using(crate::proofs::Prefixes::on_err_always))]
+    #[tactic(auto, using(ps_writing::proofs::Prefixes::on_err_always))]
     pub fn write<W: Write>(&self, out: &mut W) -> Result<Summary, WriteFault>
         ensures file { OnOk result (Appends (W.contents out.old) (W.contents out.new)
             (file_in self.now)) }
@@ -89,7 +85,7 @@ impl<'a, A: Allocator + Copy> Linked<'a, A> {
     /// `Stalled` where a write of at least one byte took none: `stalls` has then risen by one, and
     /// `errors` not. The writer then has a prefix of the linked file.
     /// Source: this project's profile.
-    #[tactic(auto, using(crate::proofs::Prefixes::on_err_always, crate::proofs::Rising::by_pieces))]
+    #[tactic(auto, using(ps_writing::proofs::Prefixes::on_err_always, ps_writing::proofs::Rising::by_pieces))]
     pub fn write_told<W: ToldWriter>(&self, out: &mut W) -> Result<Summary, WriteFault>
         requires { AreAtMost (W.counts out.old) 4294967296 }
         ensures file { OnOk result (Appends (W.contents out.old) (W.contents out.new)

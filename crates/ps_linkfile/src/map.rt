@@ -1,23 +1,21 @@
 //! The map of a link, as text and as JSON.
 ghost use Rattle.std.specs.Prelude.{◌≡◌, None, IfOk, IfErr, length};
-ghost use Rattle.ps_linkfile.specs.Adding.{Adds};
+ghost use Rattle.ps_writing.specs.Adding.{Adds};
 ghost use Rattle.ps_resolve.specs.AllFaults.{first_fault};
 ghost use Rattle.ps_resolve.specs.Sources.{contents};
 ghost use Rattle.ps_resolve.specs.Standing.{NoneStands};
 ghost use Rattle.ps_linkfile.specs.Writing.{starts_of, IsReady};
 ghost use Rattle.ps_linkfile.specs.Outcomes.{HasUsedNumber, IsUnprepared, NamesFirst};
 ghost use Rattle.ps_linkfile.specs.MapText.{code_row, source_row, kind_word as kind_word_spec, definition_row, private_row, last_row, plan_rows, map_of};
-ghost use Rattle.ps_linkfile.specs.Rows.{row_in, rows_in, values_in};
+ghost use Rattle.ps_writing.specs.Rows.{row_in, rows_in, values_in};
 
 use crate::block_layout::lay_out;
 use crate::error::LinkError;
-use crate::in_memory::in_memory;
 use crate::linked::{Linked, prepare};
-use crate::rows::{Form, RowPart, add_by_form, add_part, begin_row, end_row};
-use crate::text_writer::{Text, TextWriter};
 use ps_laws::first_of_all;
 use ps_resolve::{Def, DefKind, Definitions, Plan, Private, Source};
 use ps_words::Name;
+use ps_writing::{Form, RowPart, Text, TextWriter, add_by_form, add_part, begin_row, end_row, in_memory};
 use std::alloc::Allocator;
 
 /// Adds the row of a segment of this name, whose code begins in this block.

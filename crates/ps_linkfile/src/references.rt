@@ -2,64 +2,30 @@
 ghost use Rattle.std.specs.Prelude.{◌≡◌, ◌<◌, ◌+◌, ◌*◌, ◌++◌, List, ℕ, length, IfOk, IfErr, OnOk, OnErr, Some};
 ghost use Rattle.std.specs.List.{enumerate_from, flat_map};
 ghost use Rattle.std.specs.Io.KnownBytes.{Appends};
-ghost use Rattle.ps_linkfile.specs.Adding.{Adds};
-ghost use Rattle.ps_linkfile.specs.Counts.{NoneFailed, OneFailed};
+ghost use Rattle.ps_writing.specs.Adding.{Adds};
+ghost use Rattle.ps_writing.specs.Counts.{NoneFailed, OneFailed};
 ghost use Rattle.ps_resolve.specs.Sources.{contents};
 ghost use Rattle.ps_resolve.specs.Standing.{NoneStands};
-ghost use Rattle.ps_linkfile.specs.Lines.{hex_byte, hex_digit as hex_digit_spec};
 ghost use Rattle.ps_linkfile.specs.LinkedFile.{LinkedFile};
 ghost use Rattle.ps_linkfile.specs.MapText.{map_of};
-ghost use Rattle.ps_linkfile.specs.Outcomes.{AppendsPrefix, HasUsedNumber, IsUnprepared, NamesFirst};
+ghost use Rattle.ps_writing.specs.Prefixes.{AppendsPrefix};
+ghost use Rattle.ps_linkfile.specs.Outcomes.{HasUsedNumber, IsUnprepared, NamesFirst};
 ghost use Rattle.ps_linkfile.specs.ReferencesJson.{IsReferencesJson, referenced_json, references_text};
 ghost use Rattle.ps_linkfile.specs.declared.cause.Cause.TheVariants.{Reference};
 ghost use Rattle.ps_linkfile.specs.ReferencesText.{bytes_at as bytes_at_spec, item_end as item_end_spec, stored_rows, place_in, record_in, references_in, references_of};
 
 use crate::cause::Cause;
-use crate::counts::Counts;
-use crate::error::{LinkError, WriteFault};
-use crate::json::separator;
+use crate::error::LinkError;
 use crate::linked::Linked;
-use crate::rows::{Form, RowPart, add_by_form, add_part, by_form};
 use crate::stored_places::{StoredPlaces, stored_in_segments};
-use crate::stream::write_text;
-use crate::text_writer::{Text, TextWriter};
 use ps_laws::{bytes_are_linked, first_of_all};
 use ps_linkinfo::Kind;
 use ps_resolve::{resolve_with_segments, slot_names_are_whole};
 use ps_words::{BLOCK_SIZE, Name};
+use ps_writing::{Counts, Form, RowPart, Text, TextWriter, WriteFault, add_by_form, add_part, by_form, separator, write_text};
 use std::alloc::{Allocator, Global};
 use std::io::Write;
 use std::marker::Model;
-
-/// A digit of a hexadecimal number, for a value below 16.
-fn hex_digit(value: u8) -> u8
-    requires { value < 16 }
-    ensures { result ≡ hex_digit_spec value }
-{
-    if value < 10 {
-        b'0' + value
-    } else {
-        b'A' + (value - 10)
-    }
-}
-
-/// A byte in two hexadecimal digits.
-fn hex_digits(byte: u8) -> [u8; 2]
-    ensures { result ≡ hex_byte byte }
-{
-    [hex_digit(byte / 16), hex_digit(byte % 16)]
-}
-
-/// Adds these bytes in hexadecimal digits, two of each byte.
-/// Source: this project's profile.
-#[tactic(auto, using(crate::proofs::Written::all_written, crate::proofs::Written::none_yet, crate::proofs::Written::items_over))]
-pub fn add_hex<S: TextWriter>(text: &mut S, bytes: &[u8])
-    ensures { Adds S.added text.old (flat_map hex_byte bytes.now) text.new }
-{
-    for byte in bytes {
-        text.add(&hex_digits(*byte));
-    }
-}
 
 /// So many bytes of a code from a place on, or those that are there.
 fn bytes_at(code: &[u8], place: usize, width: usize) -> &[u8]

@@ -8,26 +8,21 @@ ghost use Rattle.arrayvec.specs.ArrayVec.{array_vec_len};
 ghost use Rattle.ps_resolve.specs.Faults.{is_role};
 ghost use Rattle.ps_codefile.specs.Roles.{is_unit as is_unit_role};
 ghost use Rattle.ps_resolve.specs.Sources.{known_order};
-ghost use Rattle.ps_linkfile.specs.Adding.{Adds};
-ghost use Rattle.ps_linkfile.specs.Counts.{NoneFailed};
-ghost use Rattle.ps_linkfile.specs.declared.rows.Form.TheVariants.{Lines};
-ghost use Rattle.ps_linkfile.specs.Lines.{line};
-ghost use Rattle.ps_linkfile.specs.Rows.{values_in};
+ghost use Rattle.ps_writing.specs.Adding.{Adds};
+ghost use Rattle.ps_writing.specs.Counts.{NoneFailed};
+ghost use Rattle.ps_writing.specs.declared.rows.Form.TheVariants.{Lines};
+ghost use Rattle.ps_writing.specs.Lines.{line};
+ghost use Rattle.ps_writing.specs.Rows.{values_in};
 ghost use Rattle.ps_linkfile.specs.Outcomes.{LeavesFailure, LeavesTextPrefix, LeavesUntouched};
 ghost use Rattle.ps_linkfile.specs.ShowText.{entry_in, order_words, slot_line, unit_names as unit_names_spec, is_listed as is_listed_spec, body_row, record_in, fault_in, records_in, has_links as has_links_spec, links_head, links_in, show_of, order_shown, show_fault, IsUnshown, IsUnwritten};
 
-use crate::counts::Counts;
 use crate::error::LinkError;
-use crate::in_memory::in_memory;
-use crate::lines::two_digits;
-use crate::rows::{Form, RowPart, add_by_form, add_part, add_reason, begin_row, end_row};
-use crate::stream::write_text;
-use crate::text_writer::{Text, TextWriter};
 use arrayvec::ArrayVec;
 use ps_codefile::dictionary_layout::{SLOT_COUNT, SLOTS};
 use ps_codefile::{Dict, Entry, Role};
 use ps_linkinfo::{Body, LinkRecord, Records, walk_from_start};
 use ps_words::{Fault, Name, Order, Reason};
+use ps_writing::{Counts, Form, RowPart, Text, TextWriter, add_by_form, add_part, add_reason, begin_row, end_row, in_memory, two_digits, write_text};
 use std::alloc::Allocator;
 use std::io::Write;
 
@@ -122,7 +117,7 @@ fn add_slot<S: TextWriter>(text: &mut S, dict: &Dict, slot: u8)
 }
 
 /// Adds the line of each slot.
-#[tactic(auto, using(crate::proofs::Written::all_written, crate::proofs::Written::none_yet, crate::proofs::Written::slots_over))]
+#[tactic(auto, using(ps_writing::proofs::Written::all_written, ps_writing::proofs::Written::none_yet, ps_writing::proofs::Written::slots_over))]
 fn add_slots<S: TextWriter>(text: &mut S, dict: &Dict)
     ensures { Adds S.added text.old
         (flat_map (slot_line dict.now.order dict.now.file) slots) text.new }
@@ -236,7 +231,7 @@ fn add_record_fault<S: TextWriter>(text: &mut S, form: Form, rec: usize, reason:
 
 /// Adds the rows of link information in a file with these units: of each record up to its end, or
 /// up to the first fault and that fault.
-#[tactic(auto, using(crate::proofs::Written::some_more, crate::proofs::Written::all_written, crate::proofs::Walks::walked, crate::proofs::Walks::record_next, crate::proofs::Walks::fault_next))]
+#[tactic(auto, using(ps_writing::proofs::Written::some_more, ps_writing::proofs::Written::all_written, crate::proofs::Walks::walked, crate::proofs::Walks::record_next, crate::proofs::Walks::fault_next))]
 fn add_records<S: TextWriter>(
     text: &mut S,
     form: Form,
@@ -320,7 +315,7 @@ pub(crate) fn add_links<S: TextWriter>(
 }
 
 /// Adds the link information of each slot.
-#[tactic(auto, using(crate::proofs::Written::all_written, crate::proofs::Written::none_yet, crate::proofs::Written::slots_over))]
+#[tactic(auto, using(ps_writing::proofs::Written::all_written, ps_writing::proofs::Written::none_yet, ps_writing::proofs::Written::slots_over))]
 fn add_all_links<S: TextWriter>(text: &mut S, dict: &Dict)
     ensures { Adds S.added text.old
         (flat_map (links_in Lines dict.now.order dict.now.file) slots) text.new }

@@ -2,21 +2,18 @@
 ghost use Rattle.std.specs.Prelude.{◌≡◌, ◌<◌, None, IfErr, OnOk, flat_map};
 ghost use Rattle.std.specs.Io.KnownBytes.{Appends};
 ghost use Rattle.ps_codefile.specs.Dictionary.{slots};
-ghost use Rattle.ps_linkfile.specs.Adding.{Adds};
-ghost use Rattle.ps_linkfile.specs.Counts.{NoneFailed};
+ghost use Rattle.ps_writing.specs.Adding.{Adds};
+ghost use Rattle.ps_writing.specs.Counts.{NoneFailed};
 ghost use Rattle.ps_linkfile.specs.Outcomes.{LeavesFailure, LeavesTextPrefix, LeavesUntouched};
 ghost use Rattle.ps_linkfile.specs.ShowJson.{order_member, show_json_of, slot_item};
 ghost use Rattle.ps_linkfile.specs.ShowText.{order_shown, show_fault, unit_names as unit_names_spec, IsUnwritten};
 
-use crate::counts::Counts;
 use crate::error::LinkError;
-use crate::rows::Form;
 use crate::show::{ShownFile, add_entry, add_links, read, unit_names};
-use crate::stream::write_text;
-use crate::text_writer::{Text, TextWriter};
 use ps_codefile::Dict;
 use ps_codefile::dictionary_layout::SLOTS;
 use ps_words::{Name, Order};
+use ps_writing::{Counts, Form, Text, TextWriter, write_text};
 use std::io::Write;
 
 /// A file that is shown as JSON.
@@ -50,7 +47,7 @@ fn add_order<S: TextWriter>(text: &mut S, order: Option<Order>)
 }
 
 /// Adds the item of each slot.
-#[tactic(auto, using(crate::proofs::Written::all_written, crate::proofs::Written::none_yet, crate::proofs::Written::slots_over))]
+#[tactic(auto, using(ps_writing::proofs::Written::all_written, ps_writing::proofs::Written::none_yet, ps_writing::proofs::Written::slots_over))]
 fn add_slots<S: TextWriter>(text: &mut S, dict: &Dict)
     ensures { Adds S.added text.old
         (flat_map (slot_item dict.now.order dict.now.file) slots) text.new }

@@ -3,7 +3,7 @@ pub use Rattle.ps_codefile.specs.Dictionary.{OpenedFile, entry_at, is_nameless, 
 pub use Rattle.ps_codefile.specs.Roles.{is_host, needs_linking}
 pub use Rattle.ps_codefile.specs.declared.dictionary_layout.TheConstants.{SLOTS}
 pub use Rattle.ps_codefile.specs.declared.entry.Role.{Role}
-pub use Rattle.ps_linkfile.proofs.Written.{Written, adds_is, all_written, items_left, items_over, none_yet, slots_left, slots_over, some_more, ◌⨾◌}
+pub use Rattle.ps_writing.proofs.Written.{Written, adds_is, all_written, items_left, items_over, none_yet, slots_left, slots_over, some_more, ◌⨾◌}
 pub use Rattle.ps_linkinfo.specs.declared.record.LinkRecord.{LinkRecord as Record}
 pub use Rattle.ps_listing.specs.ListJson.{is_first_after, is_first_after_slot, item_of, role_item, slot_item, slot_items, text_byte, use_item, use_items}
 pub use Rattle.ps_listing.specs.ListText.{lines_of, shown_char, slot_line, used_words}

@@ -16,8 +16,8 @@ use Rattle.ps_linkinfo.specs.declared.record.Body.{Body}
 use Rattle.ps_linkinfo.specs.RecordCounts.{is_unit_reference}
 use Rattle.ps_linkinfo.specs.declared.record.LinkRecord.{LinkRecord as Record}
 use Rattle.ps_resolve.specs.Sources.{records_of}
-use Rattle.ps_linkfile.specs.JsonText.{comma_unless, json_name, line_end}
-use Rattle.ps_linkfile.specs.MapJson.{member}
+use Rattle.ps_writing.specs.JsonText.{comma_unless, json_name, line_end}
+use Rattle.ps_writing.specs.JsonText.{member}
 use Rattle.ps_linkfile.specs.ReferencesText.{hex_byte}
 use Rattle.ps_filetype.specs.CodeFiles.{code_file, code_file_word}
 use Rattle.ps_filetype.specs.declared.code_file.CodeFile.{CodeFile}

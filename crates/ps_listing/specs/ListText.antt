@@ -19,7 +19,7 @@ use Rattle.ps_linkinfo.specs.RecordCounts.{is_unit_reference}
 use Rattle.ps_linkinfo.specs.declared.record.LinkRecord.{LinkRecord as Record}
 use Rattle.ps_resolve.specs.Faults.{code_fault}
 use Rattle.ps_resolve.specs.Sources.{records_of}
-use Rattle.ps_linkfile.specs.Lines.{line, shown_name, two_digits}
+use Rattle.ps_writing.specs.Lines.{line, shown_name, two_digits}
 use Rattle.ps_filetype.specs.Shown.{is_hidden}
 use Rattle.ps_filetype.specs.CodeFiles.{code_file, code_file_word}
 use Rattle.ps_filetype.specs.declared.code_file.CodeFile.{CodeFile}

@@ -11,7 +11,7 @@ use Rattle.ps_codefile.specs.declared.entry.Role.TheVariants as role
 use Rattle.ps_resolve.specs.LoneUnits.{lone_fault}
 use Rattle.ps_resolve.specs.Readings.{HostFiles, opened_host}
 use Rattle.ps_resolve.specs.Sources.{opened_files}
-use Rattle.ps_linkfile.specs.Lines.{line, shown_name, two_digits}
+use Rattle.ps_writing.specs.Lines.{line, shown_name, two_digits}
 use Rattle.ps_listing.specs.ListText.{refused_words, shown_path}
 use Rattle.ps_listing.specs.declared.lone.LoneUnit.{LoneUnit}
 

@@ -1,16 +1,16 @@
 //! What a file has, as JSON.
 ghost use Rattle.std.specs.Prelude.{◌≡◌, IfErr, OnOk, OnErr};
 ghost use Rattle.std.specs.Io.KnownBytes.{Appends};
-ghost use Rattle.ps_linkfile.specs.Adding.{Adds};
-ghost use Rattle.ps_linkfile.specs.Counts.{NoneFailed, OneFailed};
-ghost use Rattle.ps_linkfile.specs.Outcomes.{AppendsPrefix};
+ghost use Rattle.ps_writing.specs.Adding.{Adds};
+ghost use Rattle.ps_writing.specs.Counts.{NoneFailed, OneFailed};
+ghost use Rattle.ps_writing.specs.Prefixes.{AppendsPrefix};
 ghost use Rattle.ps_listing.specs.ListJson.{file_members, item_of, list_json_of, opened_members, order_member, path_member, phrase_member, purpose_member, segment_items, unopened_members, unread_json_of};
 
 use crate::json::{add_fault, add_text};
 use crate::slots_json::{add_length, add_slots};
 use ps_codefile::{Dict, open};
 use ps_filetype::CodeFile;
-use ps_linkfile::{Counts, Text, TextWriter, WriteFault, write_text};
+use ps_writing::{Counts, Text, TextWriter, WriteFault, write_text};
 use ps_words::{Order, Reason};
 use std::io::Write;
 
@@ -27,7 +27,7 @@ impl Text for JsonFile<'_> {
 
     ghost bytes = { λ l. list_json_of l.path.now l.phrase.now l.file.now };
 
-    #[tactic(auto, using(ps_linkfile::proofs::Written::adds_is), unfolding(crate::specs::ListJson::list_json_of))]
+    #[tactic(auto, using(ps_writing::proofs::Written::adds_is), unfolding(crate::specs::ListJson::list_json_of))]
     fn add_to<S: TextWriter>(&self, text: &mut S) {
         add_item(
             text,
@@ -56,7 +56,7 @@ impl Text for UnreadFile<'_> {
 }
 
 /// Adds the item of a file that could not be read.
-#[tactic(auto, using(ps_linkfile::proofs::Written::adds_is), unfolding(crate::specs::ListJson::unread_json_of))]
+#[tactic(auto, using(ps_writing::proofs::Written::adds_is), unfolding(crate::specs::ListJson::unread_json_of))]
 fn add_unread<S: TextWriter>(text: &mut S, path: &str)
     ensures { Adds S.added text.old (unread_json_of path.now) text.new }
 {
@@ -153,7 +153,7 @@ fn add_segments<S: TextWriter>(text: &mut S, phrase: &str, dict: &Dict)
 }
 
 /// Adds the item of a file of so many bytes that was opened, or was not.
-#[tactic(auto, using(ps_linkfile::proofs::Written::adds_is))]
+#[tactic(auto, using(ps_writing::proofs::Written::adds_is))]
 fn add_item<S: TextWriter>(
     text: &mut S,
     path: &str,

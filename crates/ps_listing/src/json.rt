@@ -1,10 +1,10 @@
 //! What the JSON documents of lists are made of beside names and items of an array: strings and
 //! faults.
 ghost use Rattle.std.specs.Prelude.{flat_map};
-ghost use Rattle.ps_linkfile.specs.Adding.{Adds};
+ghost use Rattle.ps_writing.specs.Adding.{Adds};
 ghost use Rattle.ps_listing.specs.ListJson.{fault_json, number_or_null, text_byte};
 
-use ps_linkfile::{TextWriter, add_hex, add_number};
+use ps_writing::{TextWriter, add_hex, add_number};
 use ps_words::Reason;
 
 /// Adds a byte of a text inside a string.
@@ -22,7 +22,7 @@ fn add_text_byte<S: TextWriter>(text: &mut S, byte: u8)
 }
 
 /// Adds a text inside a string.
-#[tactic(auto, using(std::proofs::lemmas::List::drop_more, ps_linkfile::proofs::Written::all_written, ps_linkfile::proofs::Written::items_left, ps_linkfile::proofs::Written::items_over, ps_linkfile::proofs::Written::none_yet, ps_linkfile::proofs::Written::some_more))]
+#[tactic(auto, using(std::proofs::lemmas::List::drop_more, ps_writing::proofs::Written::all_written, ps_writing::proofs::Written::items_left, ps_writing::proofs::Written::items_over, ps_writing::proofs::Written::none_yet, ps_writing::proofs::Written::some_more))]
 pub(crate) fn add_text<S: TextWriter>(text: &mut S, bytes: &[u8])
     ensures { Adds S.added text.old (flat_map text_byte bytes.now) text.new }
 {

@@ -1,16 +1,16 @@
 //! The list of a file.
 ghost use Rattle.std.specs.Prelude.{◌≡◌, IfErr, OnOk, OnErr};
 ghost use Rattle.std.specs.Io.KnownBytes.{Appends};
-ghost use Rattle.ps_linkfile.specs.Adding.{Adds};
-ghost use Rattle.ps_linkfile.specs.Counts.{NoneFailed, OneFailed};
-ghost use Rattle.ps_linkfile.specs.Outcomes.{AppendsPrefix};
+ghost use Rattle.ps_writing.specs.Adding.{Adds};
+ghost use Rattle.ps_writing.specs.Counts.{NoneFailed, OneFailed};
+ghost use Rattle.ps_writing.specs.Prefixes.{AppendsPrefix};
 ghost use Rattle.ps_listing.specs.ListText.{file_line, is_refused as is_refused_spec, is_refused_as as is_refused_as_spec, lines_of, list_of, slot_lines};
 
 use crate::slots::{add_slots, has_refused};
 use crate::words::{add_order, add_path, add_phrase, add_purpose, add_refusal, add_size};
 use ps_codefile::{Dict, open};
 use ps_filetype::CodeFile;
-use ps_linkfile::{Counts, Text, TextWriter, WriteFault, add_number, write_text};
+use ps_writing::{Counts, Text, TextWriter, WriteFault, add_number, write_text};
 use ps_words::Reason;
 use std::io::Write;
 
@@ -27,7 +27,7 @@ impl Text for ListedFile<'_> {
 
     ghost bytes = { λ l. list_of l.path.now l.phrase.now l.file.now };
 
-    #[tactic(auto, using(ps_linkfile::proofs::Written::adds_is), unfolding(crate::specs::ListText::list_of))]
+    #[tactic(auto, using(ps_writing::proofs::Written::adds_is), unfolding(crate::specs::ListText::list_of))]
     fn add_to<S: TextWriter>(&self, text: &mut S) {
         add_lines(
             text,

@@ -2,9 +2,9 @@
 ghost use Rattle.std.specs.Prelude.{◌≡◌, ◌<◌, IfErr, IfOk, OnOk, OnErr, is_some, length, true};
 ghost use Rattle.std.specs.List.{list_any};
 ghost use Rattle.std.specs.Io.KnownBytes.{Appends};
-ghost use Rattle.ps_linkfile.specs.Adding.{Adds};
-ghost use Rattle.ps_linkfile.specs.Counts.{NoneFailed, OneFailed};
-ghost use Rattle.ps_linkfile.specs.Outcomes.{AppendsPrefix};
+ghost use Rattle.ps_writing.specs.Adding.{Adds};
+ghost use Rattle.ps_writing.specs.Counts.{NoneFailed, OneFailed};
+ghost use Rattle.ps_writing.specs.Prefixes.{AppendsPrefix};
 ghost use Rattle.ps_resolve.specs.LoneUnits.{IsSoundUnit};
 ghost use Rattle.ps_resolve.specs.Sources.{opened_files};
 ghost use Rattle.ps_listing.specs.LoneText.{has_no_sound as has_no_sound_spec, is_refused_unit, lone_line, lone_text, lone_unit as lone_unit_spec, lone_units as lone_units_spec, lone_words, units_of as units_of_spec};
@@ -12,7 +12,7 @@ ghost use Rattle.ps_listing.specs.LoneText.{has_no_sound as has_no_sound_spec, i
 use crate::words::{add_path, add_reference, add_refusal};
 use ps_codefile::Role;
 use ps_codefile::dictionary_layout::SLOTS;
-use ps_linkfile::{Counts, Text, TextWriter, WriteFault, add_slot_name, write_text};
+use ps_writing::{Counts, Text, TextWriter, WriteFault, add_slot_name, write_text};
 use ps_resolve::{HostReading, lone_fault, read};
 use ps_words::{Fault, Name};
 use std::alloc::{AllocError, Allocator};
@@ -156,7 +156,7 @@ fn add_line<S: TextWriter>(text: &mut S, path: &str, unit: &LoneUnit)
 }
 
 /// Adds the line of each unit.
-#[tactic(auto, using(std::proofs::lemmas::List::drop_more, ps_linkfile::proofs::Written::all_written, ps_linkfile::proofs::Written::items_left, ps_linkfile::proofs::Written::items_over, ps_linkfile::proofs::Written::none_yet, ps_linkfile::proofs::Written::some_more))]
+#[tactic(auto, using(std::proofs::lemmas::List::drop_more, ps_writing::proofs::Written::all_written, ps_writing::proofs::Written::items_left, ps_writing::proofs::Written::items_over, ps_writing::proofs::Written::none_yet, ps_writing::proofs::Written::some_more))]
 fn add_lines<S: TextWriter>(text: &mut S, path: &str, units: &[LoneUnit])
     ensures { Adds S.added text.old (lone_text path.now units.now) text.new }
 {

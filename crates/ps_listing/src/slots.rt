@@ -2,14 +2,14 @@
 ghost use Rattle.std.specs.Prelude.{◌≡◌, ◌<◌, ◌≤◌, Ok};
 ghost use Rattle.std.specs.List.{flat_map, list_any, range_with_len};
 ghost use Rattle.ps_codefile.specs.Dictionary.{entry_at, role_of, slots};
-ghost use Rattle.ps_linkfile.specs.Adding.{Adds};
+ghost use Rattle.ps_writing.specs.Adding.{Adds};
 ghost use Rattle.ps_listing.specs.ListText.{fault_alone, found_line, found_words, has_refused as has_refused_spec, is_refused_role as is_refused_role_spec, is_refused_slot as is_refused_slot_spec, refused_line, role_line, slot_head, slot_line};
 
 use crate::by_itself::read_by_itself;
 use crate::words::{add_path, add_refusal, add_size, add_uses};
 use ps_codefile::dictionary_layout::SLOTS;
 use ps_codefile::{Dict, Role};
-use ps_linkfile::{TextWriter, add_number, add_slot_name};
+use ps_writing::{TextWriter, add_number, add_slot_name};
 use ps_words::{Fault, Name, Reason};
 
 /// The name of the segment in a slot.
@@ -37,7 +37,7 @@ pub(crate) fn kind_of(dict: &Dict, slot: u8) -> u16
 }
 
 /// Adds what the line of a slot begins with.
-#[tactic(auto, using(ps_linkfile::proofs::Written::adds_is), unfolding(crate::specs::ListText::slot_head))]
+#[tactic(auto, using(ps_writing::proofs::Written::adds_is), unfolding(crate::specs::ListText::slot_head))]
 fn add_head<S: TextWriter>(text: &mut S, path: &str, dict: &Dict, slot: u8)
     requires { slot < SLOTS }
     ensures { Adds S.added text.old (slot_head path.now dict.now.order dict.now.file slot)
@@ -122,7 +122,7 @@ fn add_role_line<S: TextWriter>(
 }
 
 /// Adds the line of a slot, where it has one.
-#[tactic(auto, using(ps_linkfile::proofs::Written::adds_is), unfolding(crate::specs::ListText::slot_line))]
+#[tactic(auto, using(ps_writing::proofs::Written::adds_is), unfolding(crate::specs::ListText::slot_line))]
 fn add_slot<S: TextWriter>(text: &mut S, path: &str, dict: &Dict, slot: u8)
     requires { slot < SLOTS }
     ensures { Adds S.added text.old (slot_line path.now dict.now.order dict.now.file slot)
@@ -132,7 +132,7 @@ fn add_slot<S: TextWriter>(text: &mut S, path: &str, dict: &Dict, slot: u8)
 }
 
 /// Adds the line of each slot that has one.
-#[tactic(auto, using(ps_linkfile::proofs::Written::all_written, ps_linkfile::proofs::Written::none_yet, ps_linkfile::proofs::Written::slots_over))]
+#[tactic(auto, using(ps_writing::proofs::Written::all_written, ps_writing::proofs::Written::none_yet, ps_writing::proofs::Written::slots_over))]
 pub(crate) fn add_slots<S: TextWriter>(text: &mut S, path: &str, dict: &Dict)
     ensures { Adds S.added text.old
         (flat_map (slot_line path.now dict.now.order dict.now.file) slots) text.new }

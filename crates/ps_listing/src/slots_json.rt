@@ -1,7 +1,7 @@
 //! The item of each slot, as JSON.
 ghost use Rattle.std.specs.Prelude.{◌≡◌, ◌<◌, Ok, true};
 ghost use Rattle.ps_codefile.specs.Dictionary.{entry_at, role_of, slots};
-ghost use Rattle.ps_linkfile.specs.Adding.{Adds};
+ghost use Rattle.ps_writing.specs.Adding.{Adds};
 ghost use Rattle.ps_listing.specs.ListJson.{fault_members, found_item, found_members, is_first_after, is_first_after_role, is_first_after_slot, length_member, refused_item, role_item, slot_item, slot_items, slot_members, use_item, use_items, uses_member};
 
 use crate::by_itself::read_by_itself;
@@ -9,7 +9,7 @@ use crate::json::add_fault;
 use crate::slots::{kind_of, name_of, size_of};
 use ps_codefile::dictionary_layout::SLOTS;
 use ps_codefile::{Dict, Role};
-use ps_linkfile::{TextWriter, add_json_name, add_number, comma, separator};
+use ps_writing::{TextWriter, add_json_name, add_number, comma, separator};
 use ps_linkinfo::{LinkInformation, LinkRecord};
 use ps_words::Reason;
 
@@ -43,7 +43,7 @@ fn add_uses<S: TextWriter>(text: &mut S, records: &LinkInformation)
 }
 
 /// Adds that there is no fault, and the units that these records use.
-#[tactic(auto, using(ps_linkfile::proofs::Written::adds_is))]
+#[tactic(auto, using(ps_writing::proofs::Written::adds_is))]
 fn add_uses_member<S: TextWriter>(text: &mut S, records: &LinkInformation)
     ensures { Adds S.added text.old (uses_member records.now) text.new }
 {
@@ -176,7 +176,7 @@ fn is_first_after_slot_of(role: Result<Role, Reason>, first: bool) -> bool
 }
 
 /// Adds the item of a slot, where it has one. Returns whether the first item is still to come.
-#[tactic(auto, using(ps_linkfile::proofs::Written::adds_is), unfolding(crate::specs::ListJson::is_first_after_slot, crate::specs::ListJson::slot_item))]
+#[tactic(auto, using(ps_writing::proofs::Written::adds_is), unfolding(crate::specs::ListJson::is_first_after_slot, crate::specs::ListJson::slot_item))]
 fn add_slot<S: TextWriter>(text: &mut S, dict: &Dict, slot: u8, first: bool) -> bool
     requires { slot < SLOTS }
     ensures item { Adds S.added text.old (slot_item first dict.now.order dict.now.file slot)

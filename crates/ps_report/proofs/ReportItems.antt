@@ -1,7 +1,7 @@
 -- The items of warnings, one after another.
 use Rattle.std.proofs.Common.{◌≡◌, ◌∙◌, ◌<◌, ◌+◌, ◌++◌, ◌∷◌, [], ℕ, Bool, List, Option, ap, false, true, codes, get_or, drop, length, refl, sym, subst, append-nil}
 use Rattle.std.proofs.lemmas.List.{append_assoc, drop_more}
-use Rattle.ps_linkfile.specs.JsonText.{comma_unless}
+use Rattle.ps_writing.specs.JsonText.{comma_unless}
 use Rattle.ps_warnings.specs.declared.warnings.Warning.{Warning}
 use Rattle.ps_warnings.specs.declared.weight.Weight.{Weight}
 use Rattle.ps_report.specs.JsonStrings.{json_text}

@@ -4,8 +4,8 @@ use Rattle.std.specs.Prelude.{ℕ, ◌==◌, ◌/◌, ◌%◌, if◌then◌else�
 use Rattle.std.specs.Char.{encode_utf8, is_control}
 use Rattle.std.specs.Fmt.{digit_glyph}
 use Rattle.std.specs.List.{flat_map}
-use Rattle.ps_linkfile.specs.JsonText.{json_byte}
-use Rattle.ps_linkfile.specs.Lines.{hex_byte}
+use Rattle.ps_writing.specs.JsonText.{json_byte}
+use Rattle.ps_writing.specs.Lines.{hex_byte}
 
 -- the letter that stands for a character after a backslash: a quote, a backslash and a line end have
 -- one

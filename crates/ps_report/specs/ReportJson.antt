@@ -1,7 +1,7 @@
 -- The report of a check as JSON.
 -- Source: RFC 8259; which members there are is this project's profile.
 use Rattle.std.specs.Prelude.{◌≡◌, ℕ, Bool, true, false, List, [], ◌∷◌, ◌++◌, Option, Some, None, codes, decimal}
-use Rattle.ps_linkfile.specs.JsonText.{comma_unless}
+use Rattle.ps_writing.specs.JsonText.{comma_unless}
 use Rattle.ps_warnings.specs.Weights.{weight_word}
 use Rattle.ps_warnings.specs.declared.warnings.Warning.{Warning}
 use Rattle.ps_warnings.specs.declared.weight.Weight.{Weight}

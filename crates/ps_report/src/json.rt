@@ -1,6 +1,6 @@
 //! The report of a check as JSON.
 ghost use Rattle.std.specs.Prelude.{◌≡◌, ◌++◌, ℕ, IfOk, List, OnOk, Some, string_bytes, true};
-ghost use Rattle.ps_linkfile.specs.JsonText.{comma_unless};
+ghost use Rattle.ps_writing.specs.JsonText.{comma_unless};
 ghost use Rattle.ps_words.specs.FaultText.{kind_of as kind_of_spec};
 ghost use Rattle.ps_report.specs.ReportJson.{AreItems, AreLooks, BeginsWith, IsDocument, IsReportJson, fault_json, lists_json, looks_json, number_or_null, place_members, reason_members, report_json, verdict_json, warning_json};
 

@@ -6,7 +6,7 @@ ghost use Rattle.ps_report.specs.Reports.{IsPrintedReport, IsPrintedText};
 ghost use Rattle.ps_report.specs.declared.printing.PrintError.TheVariants.{Memory, Write as WriteFailed};
 
 use crate::report::{Report, check};
-use ps_linkfile::{Counts, WriteFault, write_all_of};
+use ps_writing::{Counts, WriteFault, write_all_of};
 use std::alloc::{AllocError, Allocator};
 use std::io::Write;
 

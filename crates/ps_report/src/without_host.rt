@@ -8,7 +8,7 @@ ghost use Rattle.ps_report.specs.Lists.{AreLists, has_host as has_host_spec, has
 use crate::verdict::Verdict;
 use ps_codefile::{Dict, open};
 use ps_filetype::CodeFile;
-use ps_linkfile::Counts;
+use ps_writing::Counts;
 use ps_words::Reason;
 use std::alloc::{AllocError, Allocator};
 

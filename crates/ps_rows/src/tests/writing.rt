@@ -8,9 +8,8 @@ use super::writers::Full::{Fails, Stalls};
 use super::writers::{Counts, Full, Room, Writer};
 use crate::code_file::CodeFile;
 use crate::notation::{holds, holds_of};
-use ps_linkfile::{
-    Counting, LinkError, Linked, Summary, ToldWriter, WriteFault, link, prepare, write_show,
-};
+use ps_linkfile::{LinkError, Linked, Summary, link, prepare, write_show};
+use ps_writing::{Counting, ToldWriter, WriteFault};
 use refusing::Refusing;
 use std::alloc::{AllocError, Global};
 use std::io;

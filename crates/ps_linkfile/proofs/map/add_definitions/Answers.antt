@@ -1,9 +1,9 @@
 use Rattle.std.proofs.Common.{arith, refl}
 use Rattle.ps_linkfile.specs.MapText.{definition_row}
-use Rattle.ps_linkfile.specs.Rows.{row_item}
+use Rattle.ps_writing.specs.Rows.{row_item}
 use Rattle.ps_linkfile.proofs.Views.{got}
-use Rattle.ps_linkfile.proofs.Numbered.{numbered_left, numbered_over}
-use Rattle.ps_linkfile.proofs.Written.{all_stopped, all_written, none_yet, some_more}
+use Rattle.ps_writing.proofs.Numbered.{numbered_left, numbered_over}
+use Rattle.ps_writing.proofs.Written.{all_stopped, all_written, none_yet, some_more}
 use Rattle.ps_linkfile.proofs.map.add_definitions.Goals as goal
 
 pub loop-i-init : goal.loop-i-init

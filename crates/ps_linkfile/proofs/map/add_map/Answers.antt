@@ -1,8 +1,8 @@
 use Rattle.std.proofs.Common.{◌≡◌, ◌+◌, ap, rules}
 use Rattle.ps_linkfile.proofs.Vocabulary.{all_blocks}
 use Rattle.ps_linkfile.specs.MapText.{definition_row, last_row, private_row}
-use Rattle.ps_linkfile.specs.Rows.{rows_in, values_in}
-use Rattle.ps_linkfile.proofs.Written.{adds_is, ◌⨾◌}
+use Rattle.ps_writing.specs.Rows.{rows_in, values_in}
+use Rattle.ps_writing.proofs.Written.{adds_is, ◌⨾◌}
 use Rattle.ps_linkfile.proofs.map.add_map.Goals as goal
 
 pub returns : goal.returns

@@ -1,7 +1,7 @@
 use Rattle.std.proofs.Common.{drop}
 use Rattle.ps_linkfile.specs.MapText.{private_row}
-use Rattle.ps_linkfile.specs.Rows.{rows_from, rows_in}
-use Rattle.ps_linkfile.proofs.Written.{Written}
+use Rattle.ps_writing.specs.Rows.{rows_from, rows_in}
+use Rattle.ps_writing.proofs.Written.{Written}
 use Rattle.ps_linkfile.proofs.map.add_privates.Given as goal
 
 -- the rows of the privates that are left are still to be written

@@ -2,8 +2,8 @@ use Rattle.std.proofs.Common.{refl, arith}
 use Rattle.std.proofs.lemmas.List.{length-map}
 use Rattle.ps_linkfile.proofs.Maps.{row_at}
 use Rattle.ps_linkfile.proofs.Views.{many_starts, no_source, slot_at, source_at}
-use Rattle.ps_linkfile.proofs.Numbered.{numbered_left, numbered_over}
-use Rattle.ps_linkfile.proofs.Written.{all_written, none_yet, some_more}
+use Rattle.ps_writing.proofs.Numbered.{numbered_left, numbered_over}
+use Rattle.ps_writing.proofs.Written.{all_written, none_yet, some_more}
 use Rattle.ps_linkfile.proofs.map.add_segments.Goals as goal
 
 pub loop-k-init : goal.loop-k-init

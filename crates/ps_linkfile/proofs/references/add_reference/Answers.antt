@@ -1,4 +1,4 @@
-use Rattle.ps_linkfile.proofs.Written.{adds_is, adds_none, ◌⨾◌}
+use Rattle.ps_writing.proofs.Written.{adds_is, adds_none, ◌⨾◌}
 use Rattle.ps_linkfile.proofs.references.add_reference.Goals as goal
 
 pub returns : goal.returns

@@ -1,6 +1,6 @@
 use Rattle.ps_linkfile.proofs.Vocabulary.{drop_more, drop_all, rules, arith}
-use Rattle.ps_linkfile.proofs.Numbered.{numbered_left}
-use Rattle.ps_linkfile.proofs.Written.{adds_none, all_stopped, all_written, some_more}
+use Rattle.ps_writing.proofs.Numbered.{numbered_left}
+use Rattle.ps_writing.proofs.Written.{adds_none, all_stopped, all_written, some_more}
 use Rattle.ps_linkfile.proofs.references.add_stored_segment.Goals as goal
 use Rattle.ps_linkfile.proofs.references.add_stored_segment.Goals.{in-Some, in_default}
 

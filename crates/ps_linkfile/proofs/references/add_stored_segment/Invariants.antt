@@ -1,5 +1,5 @@
 use Rattle.ps_linkfile.proofs.Vocabulary.{flat_map, enumerate_from, stored_rows, place_in, drop}
-use Rattle.ps_linkfile.proofs.Written.{Written}
+use Rattle.ps_writing.proofs.Written.{Written}
 use Rattle.ps_linkfile.proofs.references.add_stored_segment.Given as goal
 
 -- the rows of the places that are left are still to be written

@@ -1,6 +1,6 @@
 use Rattle.ps_linkfile.proofs.Vocabulary.{drop_more, stored_rows, StoredIn, arith, refl, sym, ap, ◌∙◌, List, ◌≡◌, drop, ◌∷◌, ◌+◌}
-use Rattle.ps_linkfile.proofs.Numbered.{numbered_left, numbered_over}
-use Rattle.ps_linkfile.proofs.Written.{adds_is, all_stopped, all_written, none_yet, some_more}
+use Rattle.ps_writing.proofs.Numbered.{numbered_left, numbered_over}
+use Rattle.ps_writing.proofs.Written.{adds_is, all_stopped, all_written, none_yet, some_more}
 use Rattle.ps_linkfile.proofs.references.add_stored_segments.Goals as goal
 
 pub loop-stored-init : goal.loop-stored-init

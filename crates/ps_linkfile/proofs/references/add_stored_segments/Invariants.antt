@@ -1,5 +1,5 @@
 use Rattle.ps_linkfile.proofs.Vocabulary.{enumerate_from, flat_map, stored_rows, ◌≡◌, drop}
-use Rattle.ps_linkfile.proofs.Written.{Written}
+use Rattle.ps_writing.proofs.Written.{Written}
 use Rattle.ps_linkfile.proofs.references.add_stored_segments.Given as goal
 
 -- the rows of the segments that are left are still to be written

@@ -1,5 +1,5 @@
 use Rattle.std.proofs.Common.{inl, inr}
-use Rattle.ps_linkfile.proofs.Written.{adds_is, adds_none, ◌⨾◌}
+use Rattle.ps_writing.proofs.Written.{adds_is, adds_none, ◌⨾◌}
 use Rattle.ps_linkfile.proofs.show.add_body.Goals as goal
 
 pub returns-in-UnitRef : goal.returns-in-UnitRef

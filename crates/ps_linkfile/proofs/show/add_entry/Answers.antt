@@ -1,4 +1,4 @@
-use Rattle.ps_linkfile.proofs.Written.{adds_none, ◌⨾◌}
+use Rattle.ps_writing.proofs.Written.{adds_none, ◌⨾◌}
 use Rattle.ps_linkfile.proofs.show.add_entry.Goals as goal
 
 pub returns : goal.returns

@@ -1,6 +1,6 @@
 use Rattle.std.proofs.Common.{rules}
 use Rattle.ps_linkfile.proofs.Shows.{links_of_fault, links_of_records}
-use Rattle.ps_linkfile.proofs.Written.{adds_is, ◌⨾◌}
+use Rattle.ps_writing.proofs.Written.{adds_is, ◌⨾◌}
 use Rattle.ps_linkfile.proofs.show.add_links.Goals as goal
 
 pub returns-in-Err : goal.returns-in-Err

@@ -1,4 +1,4 @@
-use Rattle.ps_linkfile.proofs.Written.{adds_is, ◌⨾◌}
+use Rattle.ps_writing.proofs.Written.{adds_is, ◌⨾◌}
 use Rattle.ps_linkfile.proofs.show.add_record.Goals as goal
 
 pub returns : goal.returns

@@ -1,6 +1,6 @@
 use Rattle.ps_linkfile.proofs.Vocabulary.{arith, refl, fault_in, record_in}
 use Rattle.ps_linkfile.proofs.Walks.{walked, walked_all}
-use Rattle.ps_linkfile.proofs.Written.{none_yet, all_stopped}
+use Rattle.ps_writing.proofs.Written.{none_yet, all_stopped}
 use Rattle.ps_linkfile.proofs.show.add_records.Goals as goal
 
 pub loop-item-init : goal.loop-item-init

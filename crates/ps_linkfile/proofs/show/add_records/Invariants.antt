@@ -1,6 +1,6 @@
 use Rattle.ps_linkfile.proofs.Vocabulary.{reading, ◌≤◌, ◌+◌, ◌/◌, length, items_left, fault_in, record_in, records_in}
 use Rattle.ps_linkfile.proofs.Walks.{walked}
-use Rattle.ps_linkfile.proofs.Written.{Written}
+use Rattle.ps_writing.proofs.Written.{Written}
 use Rattle.ps_linkfile.proofs.show.add_records.Given as goal
 
 -- the rows of what is left are still to be written

@@ -1,6 +1,6 @@
 use Rattle.ps_linkfile.proofs.Vocabulary.{ap, entry_in, Json}
 use Rattle.ps_linkfile.specs.ShowJson.{slot_item}
-use Rattle.ps_linkfile.proofs.Written.{adds_is, ◌⨾◌}
+use Rattle.ps_writing.proofs.Written.{adds_is, ◌⨾◌}
 use Rattle.ps_linkfile.proofs.show_json.add_slot.Goals as goal
 
 pub returns : goal.returns

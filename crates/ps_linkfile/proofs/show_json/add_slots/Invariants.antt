@@ -1,6 +1,6 @@
 use Rattle.ps_linkfile.proofs.Vocabulary.{flat_map, range_with_len, slots, ◌-◌, SLOTS}
 use Rattle.ps_linkfile.specs.ShowJson.{slot_item}
-use Rattle.ps_linkfile.proofs.Written.{Written}
+use Rattle.ps_writing.proofs.Written.{Written}
 use Rattle.ps_linkfile.proofs.show_json.add_slots.Given as goal
 
 -- the items of the slots that are left are still to be written

@@ -1,5 +1,5 @@
 use Rattle.ps_linkfile.proofs.Vocabulary.{drop_all, length-map, arith}
-use Rattle.ps_linkfile.proofs.Prefixes.{appends_none, on_err_always}
+use Rattle.ps_writing.proofs.Prefixes.{appends_none, on_err_always}
 use Rattle.ps_linkfile.proofs.Codes.{edits_here, codes_more, codes_prefix}
 use Rattle.ps_linkfile.proofs.Views.{no_source, is_at}
 use Rattle.ps_linkfile.proofs.Rising.{blocks_done, blocks_more, blocks_none, blocks_room, blocks_stop}

@@ -1,8 +1,9 @@
 use Rattle.ps_linkfile.proofs.Vocabulary.{all_blocks, on_err_weaker, on_ok_weaker, padded_codes, arith, length, length-append, refl, ◌*◌, dictionary}
 use Rattle.ps_linkfile.specs.declared.block_layout.TheConstants.{MAX_FILE_BLOCKS}
-use Rattle.ps_linkfile.proofs.Prefixes.{appends_twice, prefix_last, prefix_then, on_err_always}
+use Rattle.ps_writing.proofs.Prefixes.{appends_twice, prefix_last, prefix_then, on_err_always}
 use Rattle.ps_linkfile.proofs.Codes.{codes_len}
-use Rattle.ps_linkfile.proofs.Rising.{few_of_all, rises_none, rises_then, room_then}
+use Rattle.ps_writing.proofs.Rising.{rises_none, rises_then, room_then}
+use Rattle.ps_linkfile.proofs.Rising.{few_of_all}
 use Rattle.ps_linkfile.proofs.writing.write_file.Goals as goal
 
 pub write_all-requires : goal.write_all-requires

@@ -1,6 +1,6 @@
 use Rattle.ps_listing.proofs.Vocabulary.{ℕ, List, ap, codes, adds_is, ◌⨾◌}
-use Rattle.ps_linkfile.specs.JsonText.{json_name}
-use Rattle.ps_linkfile.specs.MapJson.{member}
+use Rattle.ps_writing.specs.JsonText.{json_name}
+use Rattle.ps_writing.specs.JsonText.{member}
 use Rattle.ps_listing.specs.ListJson.{slot_members}
 use Rattle.ps_listing.proofs.slots_json.add_head.Goals as goal
 

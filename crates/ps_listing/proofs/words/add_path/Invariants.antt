@@ -1,5 +1,5 @@
 use Rattle.ps_listing.proofs.Vocabulary.{flat_map, shown_char}
-use Rattle.ps_linkfile.specs.Adding.{Adds}
+use Rattle.ps_writing.specs.Adding.{Adds}
 use Rattle.ps_listing.proofs.words.add_path.Given as goal
 
 -- the characters so far were added

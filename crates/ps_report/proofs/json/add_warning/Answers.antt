@@ -1,7 +1,7 @@
 use Rattle.std.proofs.Common.{◌∙◌, ◌++◌, ℕ, List, ap, string_bytes}
 use Rattle.std.proofs.lemmas.List.{append_assoc}
 use Rattle.std.proofs.lemmas.Result.{on_ok_weaker}
-use Rattle.ps_linkfile.specs.JsonText.{comma_unless}
+use Rattle.ps_writing.specs.JsonText.{comma_unless}
 use Rattle.ps_report.specs.ReportJson.{warning_json}
 use Rattle.ps_report.proofs.json.add_warning.Goals as goal
 

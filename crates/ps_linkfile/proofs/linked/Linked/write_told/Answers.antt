@@ -1,5 +1,6 @@
 use Rattle.ps_linkfile.proofs.Vocabulary.{err_from_is_err_and}
-use Rattle.ps_linkfile.proofs.Rising.{if_device, if_stalled, room_for_a_file}
+use Rattle.ps_writing.proofs.Rising.{if_device, if_stalled}
+use Rattle.ps_linkfile.proofs.Rising.{room_for_a_file}
 use Rattle.ps_linkfile.proofs.linked.Linked.write_told.Goals as goal
 
 pub write_file-requires-clause-room : goal.write_file-requires-clause-room

@@ -1,6 +1,6 @@
 use Rattle.ps_linkfile.proofs.Vocabulary.{StoredIn, references_in, ◌≡◌, List, ap}
 use Rattle.ps_linkfile.specs.ReferencesJson.{Referenced, referenced_in}
-use Rattle.ps_linkfile.proofs.Written.{adds_is, ◌⨾◌}
+use Rattle.ps_writing.proofs.Written.{adds_is, ◌⨾◌}
 use Rattle.ps_linkfile.proofs.references.ReferencedText.add_to.Goals as goal
 
 pub returns : goal.returns

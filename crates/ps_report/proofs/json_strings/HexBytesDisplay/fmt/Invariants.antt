@@ -1,7 +1,7 @@
 use Rattle.std.proofs.Common.{take}
 use Rattle.std.specs.Fmt.{HasWritten, IsPlainFormatter}
 use Rattle.std.specs.List.{flat_map}
-use Rattle.ps_linkfile.specs.Lines.{hex_byte}
+use Rattle.ps_writing.specs.Lines.{hex_byte}
 use Rattle.ps_report.proofs.json_strings.HexBytesDisplay.fmt.Given as goal
 
 -- the bytes so far are written

@@ -1,6 +1,0 @@
-use Rattle.std.proofs.Common.{arith, append-nil}
-use Rattle.ps_linkfile.proofs.Written.{adds_first}
-use Rattle.ps_linkfile.proofs.in_memory.in_memory.Goals as goal
-
-pub returns-in-None : goal.returns-in-None
-returns-in-None g c = grind (arith, adds_first, append-nil)

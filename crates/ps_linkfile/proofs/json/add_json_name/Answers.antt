@@ -1,6 +1,0 @@
-use Rattle.ps_linkfile.proofs.Written.{◌⨾◌}
-use Rattle.ps_linkfile.proofs.json.add_json_name.Goals as goal
-
-pub returns : goal.returns
-returns g c = c.add.ensures
-    ⨾ c.add_bytes.ensures ⨾ c.add-2.ensures ⨾ c.add_hex.ensures ⨾ c.add-3.ensures

@@ -1,6 +1,0 @@
-use Rattle.std.proofs.Common.{arith}
-use Rattle.ps_linkfile.proofs.ShownNames.{eight}
-use Rattle.ps_linkfile.proofs.lines.shown_codes.Goals as goal
-
-pub returns : goal.returns
-returns c = grind (arith, eight)

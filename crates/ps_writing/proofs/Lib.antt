@@ -1,0 +1,9 @@
+pub mod Vocabulary
+pub mod Prefixes
+pub mod Rising
+pub mod Written
+pub mod Numbered
+pub mod Sending
+pub mod InPieces
+pub mod ReferenceText
+pub mod ShownNames

@@ -1,0 +1,68 @@
+//! All bytes of a slice, written to a writer.
+ghost use Rattle.std.specs.Prelude.{length, min, IfErr, OnOk, OnErr};
+ghost use Rattle.std.specs.Io.KnownBytes.{Appends};
+ghost use Rattle.ps_writing.specs.Prefixes.{AppendsPrefix};
+ghost use Rattle.ps_writing.specs.Counts.{HasRoom, NoneFailed, OneFailed, Rises};
+
+use crate::counts::Counts;
+use crate::write_counter::WriteCounter;
+use crate::write_fault::WriteFault;
+use std::io::Write;
+
+/// Writes all bytes, by writes that `counter` makes and counts, each of all that are left. It takes
+/// no memory.
+///
+/// Where the counter needs room, each count has room for as many writes as there are bytes. After Ok
+/// no write failed. Refuses `Device` where a write returned an error, which is not repeated: that
+/// was one write, and none stalled. Refuses `Stalled` where a write of at least one byte took none:
+/// that was one write, and none returned an error. The writer then has a prefix of the bytes.
+/// Source: this project's profile.
+pub fn write_all<W: Write, T: WriteCounter<W>>(
+    out: &mut W,
+    counter: &mut T,
+    bytes: &[u8],
+) -> Result<(), WriteFault>
+    requires { HasRoom T.needs_room (T.counts counter.old out.old) (length bytes.now) }
+    ensures all { OnOk result (Appends (W.contents out.old) (W.contents out.new) bytes.now) }
+    ensures prefix { OnErr result (AppendsPrefix (W.contents out.old) (W.contents out.new)
+        bytes.now) }
+    ensures writes { Rises (T.counts counter.old out.old) (T.counts counter.new out.new)
+        (length bytes.now) (min 1 (length bytes.now)) }
+    ensures ok { OnOk result (NoneFailed (T.counts counter.old out.old)
+        (T.counts counter.new out.new)) }
+    ensures failed { IfErr result (λ fault. OneFailed fault (T.counts counter.old out.old)
+        (T.counts counter.new out.new)) }
+{
+    let mut at = 0;
+    while at < bytes.len() {
+        match counter.write(out, &bytes[at..]) {
+            Err(error) => return Err(WriteFault::Device(error)),
+            Ok(0) => return Err(WriteFault::Stalled),
+            Ok(taken) => at += taken,
+        }
+    }
+    Ok(())
+}
+
+/// Writes all bytes, by writes that are counted in `counts`, each of all that are left. It takes no
+/// memory.
+///
+/// After Ok no write failed. Refuses `Device` where a write returned an error, which is not
+/// repeated: that was one write, and none stalled. Refuses `Stalled` where a write of at least one
+/// byte took none: that was one write, and none returned an error. The writer then has a prefix of
+/// the bytes.
+/// Source: this project's profile.
+pub fn write_all_of<W: Write>(
+    out: &mut W,
+    counts: &mut Counts,
+    bytes: &[u8],
+) -> Result<(), WriteFault>
+    ensures all { OnOk result (Appends (W.contents out.old) (W.contents out.new) bytes.now) }
+    ensures prefix { OnErr result (AppendsPrefix (W.contents out.old) (W.contents out.new)
+        bytes.now) }
+    ensures writes { Rises counts.old counts.new (length bytes.now) (min 1 (length bytes.now)) }
+    ensures ok { OnOk result (NoneFailed counts.old counts.new) }
+    ensures failed { IfErr result (λ fault. OneFailed fault counts.old counts.new) }
+{
+    write_all(out, counts, bytes)
+}
