@@ -2,7 +2,7 @@
 pub use Rattle.ps_codefile.specs.Dictionary.{FileOrder, OpenedFile, Ordered, Zero, block_len, code_of, entry_at, file_order, information_of, opened_as, opened_beside_as, slots}
 pub use Rattle.ps_codefile.specs.declared.code_layout.TheConstants.{MAX_CODE_BLOCKS, MAX_CODE_LEN}
 pub use Rattle.ps_codefile.specs.declared.dictionary_layout.TheConstants.{SLOT_COUNT, SLOTS}
-pub use Rattle.ps_linkfile.specs.Counts.{AreAtMost, HasRoom, NoneFailed, Rises}
+pub use Rattle.ps_writing.specs.Counts.{AreAtMost, HasRoom, NoneFailed, Rises}
 pub use Rattle.ps_linkfile.specs.LinkedFile.{LinkedFile, all_blocks, block_of, dictionary, linked_file, linked_segments, origins, padded_code, padded_segment, pair_of, summary_of}
 pub use Rattle.ps_writing.specs.Prefixes.{AppendsPrefix}
 pub use Rattle.ps_linkfile.specs.Outcomes.{NamesFirst, error_of}

@@ -1,6 +1,5 @@
 -- The one table of segments: the host's own by slot, into which the added ones are put.
-use Rattle.ps_reading.proofs.Vocabulary.{◌≡◌, ◌≢◌, ℕ, zero, suc, ◌+◌, ◌<◌, ◌≤◌, List, [], ◌∷◌, ◌++◌, length, take, drop, get_or, Bool, true, false, if◌then◌else◌, Option, Some, None, Result, Ok, refl, sym, ◌∙◌, ap, subst, arith, All, is_none, nat_lt, filter, filter_map, find, insert, range_with_len, option_map_or, option_or, result_ok, All-nil, All-cons, All-head, All-tail, All-append, All-weaker, filter_passes, find-append, take-append-drop, drop_all, Order, Reason, is_empty, Role, Segment, is_role, source_fault, AscendFrom, UnitReference}
-use Rattle.ps_resolve.proofs.Vocabulary.{FIRST_ADDED, MAX_ADDED, SLOT_COUNT, SLOTS}
+use Rattle.ps_reading.proofs.Vocabulary.{◌≡◌, ◌≢◌, ℕ, zero, suc, ◌+◌, ◌<◌, ◌≤◌, List, [], ◌∷◌, ◌++◌, length, take, drop, get_or, Bool, true, false, if◌then◌else◌, Option, Some, None, Result, Ok, refl, sym, ◌∙◌, ap, subst, arith, All, is_none, nat_lt, filter, filter_map, find, insert, range_with_len, option_map_or, option_or, result_ok, All-nil, All-cons, All-head, All-tail, All-append, All-weaker, filter_passes, find-append, take-append-drop, drop_all, Order, Reason, is_empty, Role, Segment, is_role, source_fault, AscendFrom, UnitReference, FIRST_ADDED, MAX_ADDED, SLOT_COUNT, SLOTS}
 use Rattle.ps_codefile.specs.declared.entry.Role.TheVariants as role
 use Rattle.ps_reading.specs.Added.{added_segment, empty_slots}
 use Rattle.ps_reading.specs.Readings.{read_segment, read_segments}

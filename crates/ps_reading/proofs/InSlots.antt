@@ -1,10 +1,9 @@
 -- The segments of a link, put together slot by slot from the host's own and those that were added.
-use Rattle.ps_reading.proofs.Vocabulary.{◌≡◌, ◌≢◌, ℕ, zero, suc, ◌+◌, ◌<◌, ◌≤◌, List, false, if◌then◌else◌, Option, Some, None, refl, ap, arith, ne_eqb, eq-eqb, range_with_len, filter_map, find, option_or, Order, is_empty, is_role}
+use Rattle.ps_reading.proofs.Vocabulary.{◌≡◌, ◌≢◌, ℕ, zero, suc, ◌+◌, ◌<◌, ◌≤◌, List, false, if◌then◌else◌, Option, Some, None, refl, ap, arith, ne_eqb, eq-eqb, range_with_len, filter_map, find, option_or, Order, is_empty, is_role, SLOTS}
 use Rattle.ps_reading.specs.Sources.{Segment, own_segment, own_segments}
 use Rattle.ps_reading.specs.Added.{added_segments, segments, segment_at}
 use Rattle.ps_reading.specs.KnownSegments.{is_in_slot, segment_in_slot, segments_in_slots}
 use Rattle.ps_reading.proofs.ReadingKnown.{own_parts}
-use Rattle.ps_resolve.proofs.Vocabulary.{SLOTS}
 
 -- each number's segment is in its slot
 abbrev pub InPlace : (ℕ → Option Segment) → Type 0

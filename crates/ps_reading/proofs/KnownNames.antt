@@ -1,9 +1,8 @@
 -- Names that are already known: requesting them again does not change the queue.
-use Rattle.ps_reading.proofs.Vocabulary.{◌≡◌, ◌∙◌, ℕ, ◌+◌, ◌≤◌, ◌++◌, List, [], ◌∷◌, length, length-append, append_assoc, append-nil, take, drop, get_or, ◌<◌, Bool, true, false, inl, inr, refl, sym, subst, arith, All, take_all, or_left, or_right, All-nil, All-cons, All-head, All-tail, All-weaker, list_any-append, bytes_eq-Decides, is_unit_reference, Record, Segment, is_already_known, requested_from, unit_references, all_unit_references, IsAlreadyKnown, AreAlreadyKnown, UnitReference}
+use Rattle.ps_reading.proofs.Vocabulary.{◌≡◌, ◌∙◌, ℕ, ◌+◌, ◌≤◌, ◌++◌, List, [], ◌∷◌, length, length-append, append_assoc, append-nil, take, drop, get_or, ◌<◌, Bool, true, false, inl, inr, refl, sym, subst, arith, All, take_all, or_left, or_right, All-nil, All-cons, All-head, All-tail, All-weaker, list_any-append, bytes_eq-Decides, is_unit_reference, Record, Segment, is_already_known, requested_from, unit_references, all_unit_references, IsAlreadyKnown, AreAlreadyKnown, UnitReference, MAX_REQUESTED}
 use Rattle.ps_reading.proofs.RequestQueue.{few_kept, kept_segment, queue_prefix}
 use Rattle.ps_reading.proofs.NextItems.{drop_at}
 use Rattle.ps_reading.proofs.SharedRecords.{all_taken}
-use Rattle.ps_resolve.proofs.Vocabulary.{MAX_REQUESTED}
 
 module _ (units : List (List ℕ × ℕ)) where
   -- what is known stays so

@@ -1,6 +1,5 @@
 -- What is known of each segment of a link whose files were read without a fault.
-use Rattle.ps_reading.proofs.Vocabulary.{◌≡◌, ℕ, ◌<◌, List, get_or, Some, None, true, sym, ap, subst, ◌∙◌, inl, inr, is_some, arith, ◌⊎◌, option_and_then, entry_at, role_of, Role, added_fault, added_segments, as_added, request_of, segment_at, segments, AreOfLink, IsOfFile, IsOfSlot, IsOfRound, request_by_slot, Segment, host_of, order_of, source_of, own_segment, UnitReference, Order}
-use Rattle.ps_resolve.proofs.Vocabulary.{SLOTS}
+use Rattle.ps_reading.proofs.Vocabulary.{◌≡◌, ℕ, ◌<◌, List, get_or, Some, None, true, sym, ap, subst, ◌∙◌, inl, inr, is_some, arith, ◌⊎◌, option_and_then, entry_at, role_of, Role, added_fault, added_segments, as_added, request_of, segment_at, segments, AreOfLink, IsOfFile, IsOfSlot, IsOfRound, request_by_slot, Segment, host_of, order_of, source_of, own_segment, UnitReference, Order, SLOTS}
 use Rattle.ps_codefile.specs.declared.entry.Role.TheVariants as role
 use Rattle.ps_reading.specs.Readings.{reading_fault}
 use Rattle.ps_reading.specs.Faults.{code_fault, role_fault, source_fault, sources_fault, slots_fault, no_host_fault}

@@ -1,7 +1,6 @@
 -- What is known of the segments of a link once the files were read without a fault: they rise by
 -- slot, and one of them is the host's own.
-use Rattle.ps_reading.proofs.Vocabulary.{◌≡◌, ℕ, zero, suc, ◌+◌, ◌<◌, ◌≤◌, List, [], ◌∷◌, map, length, get_or, Bool, true, false, ◌&&◌, not, Option, Some, None, is_some, Result, Ok, refl, sym, ◌∙◌, ap, arith, All, range_with_len, filter_map, find, list_any, option_map, option_map_or, result_ok, and_from, false≢true, list_any_at, get_or-range_with_len, length-range_with_len, same_Some, in_slot, Order, Reason, Fault, Role, entry_at, role_of, slots, first_of, fault_if, is_host, is_empty, Segment, own_segment, segment_from, host_of, AscendFrom, HasOneHost}
-use Rattle.ps_resolve.proofs.Vocabulary.{SLOTS}
+use Rattle.ps_reading.proofs.Vocabulary.{◌≡◌, ℕ, zero, suc, ◌+◌, ◌<◌, ◌≤◌, List, [], ◌∷◌, map, length, get_or, Bool, true, false, ◌&&◌, not, Option, Some, None, is_some, Result, Ok, refl, sym, ◌∙◌, ap, arith, All, range_with_len, filter_map, find, list_any, option_map, option_map_or, result_ok, and_from, false≢true, list_any_at, get_or-range_with_len, length-range_with_len, same_Some, in_slot, Order, Reason, Fault, Role, entry_at, role_of, slots, first_of, fault_if, is_host, is_empty, Segment, own_segment, segment_from, host_of, AscendFrom, HasOneHost, SLOTS}
 use Rattle.ps_codefile.specs.declared.entry.Role.TheVariants as role
 use Rattle.ps_reading.specs.Added.{segment_at, segments, added_segments}
 use Rattle.ps_reading.specs.Faults.{is_role, slot_reason, slots_fault, no_host_fault, sources_fault, source_fault}

@@ -1,5 +1,5 @@
 -- What is read of the slots of a host, where reading has no fault: the segments of the link.
-use Rattle.ps_reading.proofs.Vocabulary.{arith, ◌≡◌, ℕ, List, [], ◌∷◌, ◌++◌, ◌≢◌, take, Option, Some, None, Result, Ok, Err, refl, ◌∙◌, filter_map, option_and_then, option_or, result_ok, Order, in_file, Fault, Reason, OpenedFile, entry_at, opened_alone, role_of, slots, first_of, reading_fault, Request, segments_in_slots}
+use Rattle.ps_reading.proofs.Vocabulary.{arith, ◌≡◌, ℕ, List, [], ◌∷◌, ◌++◌, ◌≢◌, take, Option, Some, None, Result, Ok, Err, refl, ◌∙◌, filter_map, option_and_then, option_or, result_ok, Order, in_file, Fault, Reason, OpenedFile, entry_at, opened_alone, role_of, slots, first_of, reading_fault, Request, segments_in_slots, MAX_REQUESTED}
 use Rattle.ps_reading.specs.Sources.{Segment, own_segment, own_segments, opened_files, order_of, units_of}
 use Rattle.ps_reading.specs.Faults.{slots_fault, no_host_fault, libraries_fault, source_fault, sources_fault}
 use Rattle.ps_reading.specs.Added.{RoundsOutcome, all_unit_references, empty_slots, requested_from, rounds, rounds_in, segments}
@@ -8,7 +8,6 @@ use Rattle.ps_reading.proofs.FirstSlots.{neither_first, neither_second}
 use Rattle.ps_reading.proofs.InSlots.{in_slots_are}
 use Rattle.ps_reading.proofs.ReadingHosts.{host_is, host_read, host_refused, rest_of}
 use Rattle.ps_reading.proofs.ReadingLibraries.{all_opened}
-use Rattle.ps_resolve.proofs.Vocabulary.{MAX_REQUESTED}
 
 module _ (order : Order) (host : List ℕ) (libs : List (List ℕ)) where
   -- where no source has a fault, the segments that were read are all own ones

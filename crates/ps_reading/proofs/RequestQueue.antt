@@ -1,7 +1,6 @@
 -- The queue of names that are requested, of which only the first ten are kept, and the rounds that
 -- it gives.
-use Rattle.ps_reading.proofs.Vocabulary.{◌≡◌, ℕ, ◌+◌, ◌<◌, ◌≤◌, List, [], ◌∷◌, ◌++◌, ◌-◌, length, length-append, append_assoc, append-nil, take, Bool, true, false, Option, Some, None, inl, inr, refl, sym, ◌∙◌, ap, arith, ◌⊎◌, All, if◌then◌else◌, cases_lt, take-append-le, take_all, length-take, length-take-le, All-nil, All-cons, All-append, slice_get, filter, range_with_len, Order, is_unit_reference, units_requested, is_already_known, unit_references, all_unit_references, requested_from, unplaced_fault, placed_fault, added_segment, RoundsOutcome, after, rounds_from, Fault, Body, Record, Segment, UnitReference}
-use Rattle.ps_resolve.proofs.Vocabulary.{MAX_REQUESTED}
+use Rattle.ps_reading.proofs.Vocabulary.{◌≡◌, ℕ, ◌+◌, ◌<◌, ◌≤◌, List, [], ◌∷◌, ◌++◌, ◌-◌, length, length-append, append_assoc, append-nil, take, Bool, true, false, Option, Some, None, inl, inr, refl, sym, ◌∙◌, ap, arith, ◌⊎◌, All, if◌then◌else◌, cases_lt, take-append-le, take_all, length-take, length-take-le, All-nil, All-cons, All-append, slice_get, filter, range_with_len, Order, is_unit_reference, units_requested, is_already_known, unit_references, all_unit_references, requested_from, unplaced_fault, placed_fault, added_segment, RoundsOutcome, after, rounds_from, Fault, Body, Record, Segment, UnitReference, MAX_REQUESTED}
 use Rattle.ps_linkinfo.specs.declared.record.Body.TheVariants.{UnitRef}
 use Rattle.ps_reading.proofs.RecordCounts.{one_unit}
 

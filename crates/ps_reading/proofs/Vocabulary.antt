@@ -5,6 +5,7 @@ pub use Rattle.ps_codefile.specs.Roles.{is_empty, is_host, needs_linking}
 pub use Rattle.ps_codefile.specs.declared.entry.Entry.{Entry}
 pub use Rattle.ps_codefile.specs.declared.entry.Role.{Role}
 pub use Rattle.ps_codefile.specs.declared.entry.Role.TheVariants.{Empty, Wanted}
+pub use Rattle.ps_codefile.specs.declared.dictionary_layout.TheConstants.{FIRST_ADDED, SLOT_COUNT, SLOTS}
 pub use Rattle.ps_linkinfo.specs.RecordCounts.{is_private_reference, is_public_reference, is_unit_reference, privates_in, publics_in, units_in, units_in as units_requested}
 pub use Rattle.ps_linkinfo.specs.Records.{reading}
 pub use Rattle.ps_linkinfo.specs.declared.record.Body.{Body}
@@ -19,6 +20,7 @@ pub use Rattle.ps_reading.specs.Searches.{fault_if, first_of}
 pub use Rattle.ps_reading.specs.Sources.{Segment, chosen_library, contents, file_at, has_entry, host_of, is_named, known_order, library_file, opened, opened_file, opened_files, order_of, own_segment, own_segments, segment_from, segment_with, source_of, unit_source, units_of}
 pub use Rattle.ps_reading.specs.declared.reading.added.UnitReference.{UnitReference}
 pub use Rattle.ps_reading.specs.declared.reading.request.Request.{Request}
+pub use Rattle.ps_reading.specs.declared.reading.added.TheConstants.{MAX_ADDED, MAX_REQUESTED}
 pub use Rattle.ps_words.specs.FaultPlaces.{in_file, in_slot}
 pub use Rattle.ps_words.specs.declared.fault.Fault.{Fault}
 pub use Rattle.ps_words.specs.declared.fault.Reason.{Reason}

@@ -1,12 +1,11 @@
 -- The names of all slots of a linked file have eight bytes each: those of the host's dictionary,
 -- and those of UNITREF records.
-use Rattle.ps_reading.proofs.Vocabulary.{◌≡◌, ℕ, ◌+◌, ◌*◌, ◌<◌, ◌≤◌, ◌==◌, List, [], ◌∷◌, ◌++◌, length, length-append, map, if◌then◌else◌, Option, Some, None, refl, sym, ap, ◌∙◌, subst, inl, inr, arith, All, flat_map, find, length-drop, option_map_or, All-nil, All-cons, All-tail, All-append, All-push, All-from_get_or, get_or-range_with_len, cond_both, Order, slots, name_at, entry_at, is_unit_reference, Role, Wanted, reading, Record, UnitReference}
+use Rattle.ps_reading.proofs.Vocabulary.{◌≡◌, ℕ, ◌+◌, ◌*◌, ◌<◌, ◌≤◌, ◌==◌, List, [], ◌∷◌, ◌++◌, length, length-append, map, if◌then◌else◌, Option, Some, None, refl, sym, ap, ◌∙◌, subst, inl, inr, arith, All, flat_map, find, length-drop, option_map_or, All-nil, All-cons, All-tail, All-append, All-push, All-from_get_or, get_or-range_with_len, cond_both, Order, slots, name_at, entry_at, is_unit_reference, Role, Wanted, reading, Record, UnitReference, SLOTS}
 use Rattle.ps_reading.specs.Added.{is_already_known, unit_references, all_unit_references, requested_from, added_segments, requested_units, segment_at, segments, slot_name, slot_names}
 use Rattle.ps_reading.specs.Sources.{Segment, own_segment, own_segments, units_of}
 use Rattle.ps_reading.proofs.EachSegment.{IsMade, added_made, at_slot, each_slot, find_has, own_made}
 use Rattle.ps_reading.proofs.Items.{of_all}
 use Rattle.ps_reading.proofs.OfRounds.{each_added, queue_of}
-use Rattle.ps_resolve.proofs.Vocabulary.{SLOTS}
 
 -- the law of link information
 abbrev pub ReadWhole : Type 0

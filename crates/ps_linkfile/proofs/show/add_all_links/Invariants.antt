@@ -1,5 +1,5 @@
 use Rattle.ps_linkfile.proofs.Vocabulary.{flat_map, range_with_len, slots, ◌-◌, links_in, Lines, SLOTS}
-use Rattle.ps_linkfile.proofs.Written.{Written}
+use Rattle.ps_writing.proofs.Written.{Written}
 use Rattle.ps_linkfile.proofs.show.add_all_links.Given as goal
 
 -- the lines of the slots that are left are still to be written

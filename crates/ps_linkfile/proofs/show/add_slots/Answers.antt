@@ -1,5 +1,5 @@
 use Rattle.ps_linkfile.proofs.Vocabulary.{slot_line, SLOTS}
-use Rattle.ps_linkfile.proofs.Written.{some_more, slots_left}
+use Rattle.ps_writing.proofs.Written.{some_more, slots_left}
 use Rattle.ps_linkfile.proofs.show.add_slots.Goals as goal
 
 pub loop-slot-preserved : goal.loop-slot-preserved

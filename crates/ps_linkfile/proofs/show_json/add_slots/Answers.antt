@@ -1,5 +1,5 @@
 use Rattle.ps_linkfile.specs.ShowJson.{slot_item}
-use Rattle.ps_linkfile.proofs.Written.{some_more, slots_left}
+use Rattle.ps_writing.proofs.Written.{some_more, slots_left}
 use Rattle.ps_codefile.specs.declared.dictionary_layout.TheConstants.{SLOTS}
 use Rattle.ps_linkfile.proofs.show_json.add_slots.Goals as goal
 

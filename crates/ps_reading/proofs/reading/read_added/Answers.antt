@@ -1,9 +1,8 @@
-use Rattle.ps_reading.proofs.Vocabulary.{◌≡◌, ◌∙◌, ◌-◌, ◌+◌, ◌++◌, ℕ, List, [], length, take, refl, sym, ap, subst, arith, slice_get, Segment, opened, contents, units_of, RoundsOutcome, all_unit_references, empty_slots, requested_from, rounds_from, read_rounds, segments_in_slots, AreAlike}
+use Rattle.ps_reading.proofs.Vocabulary.{◌≡◌, ◌∙◌, ◌-◌, ◌+◌, ◌++◌, ℕ, List, [], length, take, refl, sym, ap, subst, arith, slice_get, Segment, opened, contents, units_of, RoundsOutcome, all_unit_references, empty_slots, requested_from, rounds_from, read_rounds, segments_in_slots, AreAlike, MAX_REQUESTED}
 use Rattle.ps_reading.proofs.RequestQueue.{references_both, requested-append, few_kept}
 use Rattle.ps_reading.proofs.ReadingSlots.{all_of, in_rounds, requests_of}
 use Rattle.ps_reading.proofs.SharedRecords.{read_alike}
 use Rattle.ps_reading.proofs.reading.read_added.Goals as goal
-use Rattle.ps_resolve.proofs.Vocabulary.{MAX_REQUESTED}
 
 pub requested_by-queue-requires : goal.requested_by-queue-requires
 requested_by-queue-requires c =

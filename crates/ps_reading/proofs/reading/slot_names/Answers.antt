@@ -1,7 +1,6 @@
-use Rattle.ps_reading.proofs.Vocabulary.{◌≡◌, ◌<◌, ◌≤◌, ◌∙◌, length, take, map, ℕ, sym, subst, arith, take_all, range_with_len, map-range_with_len_more, common_steps}
+use Rattle.ps_reading.proofs.Vocabulary.{◌≡◌, ◌<◌, ◌≤◌, ◌∙◌, length, take, map, ℕ, sym, subst, arith, take_all, range_with_len, map-range_with_len_more, common_steps, SLOT_COUNT, SLOTS}
 use Rattle.ps_reading.specs.Added.{slot_name, slot_names}
 use Rattle.ps_reading.proofs.reading.slot_names.Goals as goal
-use Rattle.ps_resolve.proofs.Vocabulary.{SLOT_COUNT, SLOTS}
 
 pub loop-slot-preserved : goal.loop-slot-preserved
 loop-slot-preserved c =

@@ -1,6 +1,5 @@
-use Rattle.ps_reading.proofs.Vocabulary.{◌≡◌, length, take, map, range_with_len, slot_name}
+use Rattle.ps_reading.proofs.Vocabulary.{◌≡◌, length, take, map, range_with_len, slot_name, SLOT_COUNT}
 use Rattle.ps_reading.proofs.reading.slot_names.Given as goal
-use Rattle.ps_resolve.proofs.Vocabulary.{SLOT_COUNT}
 
 -- the names so far
 abbrev pub invariant-loop-slot : goal.invariant-loop-slot

@@ -1,9 +1,8 @@
-use Rattle.ps_reading.proofs.Vocabulary.{◌≡◌, ◌∙◌, ◌+◌, ◌++◌, ◌<◌, ◌∷◌, [], ℕ, List, length, length-append, take, drop, get_or, append-nil, Some, None, refl, sym, ap, subst, arith, get_or_default, drop_all, All-nil, err_from_is_err_and, Fault, Segment, opened, RoundsOutcome, requested_from, unit_references, all_unit_references, rounds_from, AscendFrom, IsRead, put_by_slot, segments_in_slots, UnitReference}
+use Rattle.ps_reading.proofs.Vocabulary.{◌≡◌, ◌∙◌, ◌+◌, ◌++◌, ◌<◌, ◌∷◌, [], ℕ, List, length, length-append, take, drop, get_or, append-nil, Some, None, refl, sym, ap, subst, arith, get_or_default, drop_all, All-nil, err_from_is_err_and, Fault, Segment, opened, RoundsOutcome, requested_from, unit_references, all_unit_references, rounds_from, AscendFrom, IsRead, put_by_slot, segments_in_slots, UnitReference, MAX_REQUESTED}
 use Rattle.ps_reading.proofs.RequestQueue.{at_round, kept, no_name_left, no_slot_left, round_refused, round_adds, joined, joined_more, references_more, few_kept}
 use Rattle.ps_reading.proofs.BySlot.{All-put, empty_ascend, new_in, own_table, put_table, room_in_table}
 use Rattle.ps_reading.proofs.NextItems.{drop_at}
 use Rattle.ps_reading.proofs.reading.added.add_units.Goals as goal
-use Rattle.ps_resolve.proofs.Vocabulary.{MAX_REQUESTED}
 
 pub loop-round-init : goal.loop-round-init
 loop-round-init c =

@@ -1,7 +1,6 @@
-use Rattle.ps_reading.proofs.Vocabulary.{◌≡◌, ◌<◌, ◌≤◌, ◌+◌, ℕ, List, length, take, drop, All, Segment, opened, all_unit_references, requested_from, rounds_from, AscendFrom, segments_in_slots, IsRead, UnitReference}
+use Rattle.ps_reading.proofs.Vocabulary.{◌≡◌, ◌<◌, ◌≤◌, ◌+◌, ℕ, List, length, take, drop, All, Segment, opened, all_unit_references, requested_from, rounds_from, AscendFrom, segments_in_slots, IsRead, UnitReference, MAX_REQUESTED}
 use Rattle.ps_reading.proofs.RequestQueue.{joined}
 use Rattle.ps_reading.proofs.reading.added.add_units.Given as goal
-use Rattle.ps_resolve.proofs.Vocabulary.{MAX_REQUESTED}
 
 -- segments were added, which are in the table, all in slots below those that are left; with a queue
 -- of which the first ten names are kept, they and the rounds that are left are all rounds, by the

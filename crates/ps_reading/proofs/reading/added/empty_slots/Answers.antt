@@ -1,8 +1,7 @@
-use Rattle.ps_reading.proofs.Vocabulary.{◌∙◌, ◌<◌, ℕ, refl, arith, Bool, All-nil, is_empty, is_role}
+use Rattle.ps_reading.proofs.Vocabulary.{◌∙◌, ◌<◌, ℕ, refl, arith, Bool, All-nil, is_empty, is_role, SLOTS}
 use Rattle.ps_reading.specs.Added.{empty_slots}
 use Rattle.ps_reading.proofs.RequestQueue.{filter_more, all_if, few_if}
 use Rattle.ps_reading.proofs.reading.added.empty_slots.Goals as goal
-use Rattle.ps_resolve.proofs.Vocabulary.{SLOTS}
 
 pub loop-slot-init : goal.loop-slot-init
 unfolding empty_slots

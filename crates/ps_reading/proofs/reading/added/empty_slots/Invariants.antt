@@ -1,6 +1,5 @@
-use Rattle.ps_reading.proofs.Vocabulary.{◌≡◌, ◌<◌, ◌≤◌, ◌+◌, ◌-◌, ◌++◌, length, All, filter, range_with_len, is_empty, empty_slots, is_role}
+use Rattle.ps_reading.proofs.Vocabulary.{◌≡◌, ◌<◌, ◌≤◌, ◌+◌, ◌-◌, ◌++◌, length, All, filter, range_with_len, is_empty, empty_slots, is_role, FIRST_ADDED, SLOTS}
 use Rattle.ps_reading.proofs.reading.added.empty_slots.Given as goal
-use Rattle.ps_resolve.proofs.Vocabulary.{FIRST_ADDED, SLOTS}
 
 -- the slots so far and the empty ones of those that are left are all
 abbrev pub invariant-loop-slot : goal.invariant-loop-slot

@@ -1,8 +1,7 @@
-use Rattle.ps_reading.proofs.Vocabulary.{arith, ℕ, refl, option_map, in_slot}
+use Rattle.ps_reading.proofs.Vocabulary.{arith, ℕ, refl, option_map, in_slot, SLOTS}
 use Rattle.ps_reading.specs.Faults.{slot_reason, slots_fault}
 use Rattle.ps_reading.proofs.FirstSlots.{first_here, first_later}
 use Rattle.ps_reading.proofs.reading.slots.slots_fault.Goals as goal
-use Rattle.ps_resolve.proofs.Vocabulary.{SLOTS}
 
 pub loop-slot-init : goal.loop-slot-init
 unfolding slots_fault

@@ -1,6 +1,5 @@
-use Rattle.ps_reading.proofs.Vocabulary.{◌≡◌, ℕ, ◌-◌, option_map, range_with_len, in_slot, first_of, slot_reason, slots_fault}
+use Rattle.ps_reading.proofs.Vocabulary.{◌≡◌, ℕ, ◌-◌, option_map, range_with_len, in_slot, first_of, slot_reason, slots_fault, SLOTS}
 use Rattle.ps_reading.proofs.reading.slots.slots_fault.Given as goal
-use Rattle.ps_resolve.proofs.Vocabulary.{SLOTS}
 
 -- the first fault is that of the slots from here on
 abbrev pub invariant-loop-slot : goal.invariant-loop-slot

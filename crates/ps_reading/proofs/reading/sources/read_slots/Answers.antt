@@ -1,10 +1,9 @@
-use Rattle.ps_reading.proofs.Vocabulary.{rules, ◌≡◌, ◌+◌, ◌<◌, ◌∙◌, ◌-◌, ℕ, List, append-nil, if◌then◌else◌, true, Option, Some, None, Result, Ok, Err, refl, sym, arith, is_none, IfOk, IfSome, option_and_then, range_with_len, option_or, result_err, result_ok, All-nil, Fault, Segment, opened, is_empty, first_of}
+use Rattle.ps_reading.proofs.Vocabulary.{rules, ◌≡◌, ◌+◌, ◌<◌, ◌∙◌, ◌-◌, ℕ, List, append-nil, if◌then◌else◌, true, Option, Some, None, Result, Ok, Err, refl, sym, arith, is_none, IfOk, IfSome, option_and_then, range_with_len, option_or, result_err, result_ok, All-nil, Fault, Segment, opened, is_empty, first_of, SLOTS}
 use Rattle.ps_reading.specs.Faults.{is_role, source_fault, sources_fault}
 use Rattle.ps_reading.specs.Readings.{read_segment, read_segments}
 use Rattle.ps_reading.proofs.BySlot.{fine_of_empty, none_of_empty}
 use Rattle.ps_reading.proofs.ReadingSources.{all_with, kept_on, few_more}
 use Rattle.ps_reading.proofs.reading.sources.read_slots.Goals as goal
-use Rattle.ps_resolve.proofs.Vocabulary.{SLOTS}
 
 pub loop-slot-init : goal.loop-slot-init
 unfolding read_segments sources_fault

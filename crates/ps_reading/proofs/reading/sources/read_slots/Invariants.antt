@@ -1,6 +1,5 @@
-use Rattle.ps_reading.proofs.Vocabulary.{◌≡◌, ◌≤◌, ◌-◌, ◌++◌, length, All, filter_map, range_with_len, option_or, first_of, opened, source_fault, sources_fault, read_segment, read_segments, IsRead}
+use Rattle.ps_reading.proofs.Vocabulary.{◌≡◌, ◌≤◌, ◌-◌, ◌++◌, length, All, filter_map, range_with_len, option_or, first_of, opened, source_fault, sources_fault, read_segment, read_segments, IsRead, SLOTS}
 use Rattle.ps_reading.proofs.reading.sources.read_slots.Given as goal
-use Rattle.ps_resolve.proofs.Vocabulary.{SLOTS}
 
 -- the segments so far and those of the slots that are left are all, and so is the first fault
 abbrev pub invariant-loop-slot : goal.invariant-loop-slot

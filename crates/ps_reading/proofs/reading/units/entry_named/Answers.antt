@@ -1,7 +1,6 @@
-use Rattle.ps_reading.proofs.Vocabulary.{◌∙◌, refl, sym, is_named}
+use Rattle.ps_reading.proofs.Vocabulary.{◌∙◌, refl, sym, is_named, SLOTS}
 use Rattle.ps_reading.proofs.FirstSlots.{found_here, found_later, found_none}
 use Rattle.ps_reading.proofs.reading.units.entry_named.Goals as goal
-use Rattle.ps_resolve.proofs.Vocabulary.{SLOTS}
 
 pub loop-index-init : goal.loop-index-init
 loop-index-init c = refl

@@ -1,6 +1,5 @@
-use Rattle.ps_reading.proofs.Vocabulary.{◌≡◌, ◌-◌, find, range_with_len, slots, is_named}
+use Rattle.ps_reading.proofs.Vocabulary.{◌≡◌, ◌-◌, find, range_with_len, slots, is_named, SLOTS}
 use Rattle.ps_reading.proofs.reading.units.entry_named.Given as goal
-use Rattle.ps_resolve.proofs.Vocabulary.{SLOTS}
 
 -- the first entry of the name is the first from here on
 abbrev pub invariant-loop-index : goal.invariant-loop-index

@@ -1,6 +1,5 @@
-use Rattle.ps_reading.proofs.Vocabulary.{◌≡◌, ◌<◌, ◌≤◌, ◌∙◌, ℕ, length, take, map, sym, subst, arith, range_with_len, take_more_set, take_all, map-range_with_len_more, common_steps, entry_at, role_of}
+use Rattle.ps_reading.proofs.Vocabulary.{◌≡◌, ◌<◌, ◌≤◌, ◌∙◌, ℕ, length, take, map, sym, subst, arith, range_with_len, take_more_set, take_all, map-range_with_len_more, common_steps, entry_at, role_of, SLOT_COUNT, SLOTS}
 use Rattle.ps_reading.proofs.reading.slots.HostSlots.of.Goals as goal
-use Rattle.ps_resolve.proofs.Vocabulary.{SLOT_COUNT, SLOTS}
 
 pub loop-slot-preserved : goal.loop-slot-preserved
 loop-slot-preserved c =

@@ -1,7 +1,6 @@
 -- The slots of a host, as they are read one by one.
-use Rattle.ps_reading.proofs.Vocabulary.{◌≡◌, length, take, map, range_with_len, entry_at, role_of}
+use Rattle.ps_reading.proofs.Vocabulary.{◌≡◌, length, take, map, range_with_len, entry_at, role_of, SLOT_COUNT}
 use Rattle.ps_reading.proofs.reading.slots.HostSlots.of.Given as goal
-use Rattle.ps_resolve.proofs.Vocabulary.{SLOT_COUNT}
 
 -- the roles so far
 abbrev pub invariant-loop-slot : goal.invariant-loop-slot

@@ -1,6 +1,5 @@
-use Rattle.ps_reading.proofs.Vocabulary.{◌∙◌, List, ℕ, Result, Ok, slice_index_or, ap, arith, get_or-map-range_with_len, Reason, OpenedFile, entry_at, role_of, Role, Empty}
+use Rattle.ps_reading.proofs.Vocabulary.{◌∙◌, List, ℕ, Result, Ok, slice_index_or, ap, arith, get_or-map-range_with_len, Reason, OpenedFile, entry_at, role_of, Role, Empty, SLOTS}
 use Rattle.ps_reading.proofs.reading.slots.HostSlots.role.Goals as goal
-use Rattle.ps_resolve.proofs.Vocabulary.{SLOTS}
 
 pub returns : goal.returns
 returns c =
