@@ -19,3 +19,5 @@ pub mod ShownNames
 pub mod FilledPlaces
 pub mod StoredPlaces
 pub mod Numbered
+pub mod FileOfSegments
+pub mod StoredCauses

@@ -1,10 +1,7 @@
 -- Links whose libraries stand elsewhere, or one of which is left out.
-use Rattle.std.proofs.Common.{◌≡◌, ℕ, ◌+◌, ◌<◌, ◌≤◌, List, [], ◌∷◌, ◌++◌, length, map, Option, Some, None, Result, Ok, Bool, true, false, refl, sym, ap, ◌∙◌, inl, inr, arith, is_some}
 use Rattle.ps_codefile.specs.declared.entry.Role.TheVariants as role
-use Rattle.ps_relied.proofs.Vocabulary.{IsReadAlike, ◌≢◌, Reason, in_file, All, find, first_of, list_any, enumerate_from, option_map, option_or, result_ok, nat_tests, list_any-append, Order, Segment, Role, order_of, has_entry, has, role_of, entry_at, name_at, chosen_library, unit_source, library_file, source_of, AreSameSegments, segments_of, rounds, added_at, added_segments, first_fault, reading_fault, library_reason, libraries_fault, In, of_all, or_none, some_mapped, same_Some, sources_fine, rounds_fine, has_own, in_segments, own_made, each_added, empty_slot, found_added}
-use Rattle.ps_relied.proofs.Lists.{Both, neither, both}
-use Rattle.ps_relied.proofs.Moved.{Change, IsFound, AreChosenAlike, AreMoved, Fits, same_renewed, linking_moved, rest_moved, segments_moved}
-use Rattle.ps_relied.specs.Numbered.{renumbered, without, exchanged, HaveNoNameInCommon}
+use Rattle.ps_relied.proofs.Vocabulary.{All, AreChosenAlike, AreMoved, AreSameSegments, Bool, Both, Change, Fits, HaveNoNameInCommon, In, IsFound, List, None, Ok, Option, Order, Reason, Result, Role, Segment, Some, [], added_at, added_segments, ap, arith, both, chosen_library, each_added, empty_slot, entry_at, enumerate_from, exchanged, false, find, first_fault, first_of, found_added, has, has_entry, has_own, in_file, in_segments, inl, inr, is_some, length, libraries_fault, library_file, library_reason, linking_moved, list_any, list_any-append, map, name_at, nat_tests, neither, of_all, option_map, option_or, or_none, order_of, own_made, reading_fault, refl, renumbered, rest_moved, result_ok, role_of, rounds, rounds_fine, same_Some, segments_moved, segments_of, some_mapped, source_of, sources_fine, sym, true, unit_source, without, ℕ, ◌++◌, ◌+◌, ◌<◌, ◌∙◌, ◌∷◌, ◌≡◌, ◌≢◌, ◌≤◌}
+use Rattle.ps_relied.proofs.SameFile.{same_renewed}
 
 -- 1. libraries by their numbers
 -- none is refused, where each passes by itself
@@ -113,19 +110,14 @@ module _ (host : List ℕ) (libs others : List (List ℕ)) (number place : ℕ �
       ≡ placed place (chosen_library (order_of host) name libs) → IsFound change name
   found name e = rw e (go (chosen_library (order_of host) name libs))
     where
-      go : (o : Option (ℕ × List ℕ)) → Both (AreChosenAlike change) o (placed place o)
+      go : (o : Option (ℕ × List ℕ)) → Both (AreChosenAlike change name) o (placed place o)
       go None = neither
-      go (Some a) = both a (place a.0, a.1)
-          (record { file = places a.0; like = alike; behind = λ i. refl })
-        where
-          alike : IsReadAlike (order_of host) a.1 a.1
-          alike = record {
-            opened = refl;
-            filled = λ i h. refl;
-            names = λ i h f. refl;
-            kinds = λ i h f. refl;
-            units = λ i h f k. (refl, refl);
-          }
+      go (Some a) = both a (place a.0, a.1) (record {
+        file = places a.0;
+        index = refl;
+        reasons = refl;
+        source = λ i at fine. record { code = refl; records = λ n. refl; behind = refl };
+      })
 
   kept : first_fault host libs ≡ None → ((slot : ℕ) → slot < 16
       → role_of (entry_at (order_of host) host slot) ≡ Ok role.Wanted
@@ -138,7 +130,7 @@ module _ (host : List ℕ) (libs others : List (List ℕ)) (number place : ℕ �
       let moved : AreMoved change = record {
         roles = λ slot h. refl;
         names = λ slot h. refl;
-        own = λ slot h r e o. record { code = refl; records = λ n. refl; behind = refl };
+        own = λ slot h r e f o. record { code = refl; records = λ n. refl; behind = refl };
         found = wanted;
         fits = fits;
       } in
