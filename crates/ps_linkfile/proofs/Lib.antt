@@ -13,3 +13,5 @@ pub mod Walks
 pub mod Shows
 pub mod FilledPlaces
 pub mod StoredPlaces
+pub mod FileOfSegments
+pub mod StoredCauses

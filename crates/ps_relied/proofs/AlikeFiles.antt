@@ -1,13 +1,9 @@
 -- Files that are read alike link to the same bytes, or have the same first fault.
-use Rattle.std.proofs.Common.{◌≡◌, ℕ, ◌+◌, List, [], ◌∷◌, map, Option, Some, None, Result, Ok, Bool, true, false, refl, sym, ◌∙◌, inl, arith}
 use Rattle.ps_codefile.specs.declared.entry.Role.TheVariants as role
 use Rattle.ps_words.specs.declared.fault.Reason.TheVariants as reason
-use Rattle.ps_relied.proofs.Vocabulary.{role_of, if◌then◌else◌, ◌&&◌, not, slots, find, first_of, fault_if, list_any, range_with_len, enumerate_from, option_map, option_map_or, option_or, result_ok, result_err, bytes_eq, in_file, in_slot, Fault, Role, Reason, Order, order_of, entry_at, name_at, is_host, is_unit, needs_linking, file_at, chosen_library, chosen_file, library_file, has_entry, information_block, segments, segments_of, first_fault, reading_fault, reading_rest, host_fault, slots_fault, no_host_fault, libraries_fault, library_fault, linking_fault, or_none, IsReadAlike}
-use Rattle.ps_relied.proofs.Entries.{same_entry}
-use Rattle.ps_relied.proofs.Lists.{Both, neither, both, clipped, same_clipped}
-use Rattle.ps_relied.proofs.Moved.{Change, IsFound, AreChosenAlike, AreMoved, refiled, renewed, linking_moved, rest_moved, segments_moved, same_renewed}
-use Rattle.ps_relied.specs.Alike.{AreReadAlike, AreFilesAlike}
-use Rattle.ps_relied.specs.SameSegments.{AreSameSegments, of_any_file}
+use Rattle.ps_relied.proofs.Vocabulary.{AreChosenAlike, AreFilesAlike, AreMoved, AreReadAlike, AreSameSegments, Bool, Both, Change, Fault, IsFound, IsReadAlike, List, None, Ok, Option, Order, Reason, Result, Role, Some, [], arith, both, bytes_eq, chosen_file, chosen_library, clipped, entry_at, enumerate_from, false, fault_if, file_at, find, first_fault, first_of, has_entry, host_fault, if◌then◌else◌, in_file, in_slot, information_block, inl, is_host, is_in_place, is_unit, libraries_fault, library_fault, library_file, linking_fault, linking_moved, list_any, map, name_at, needs_linking, neither, no_host_fault, not, of_any_file, option_map, option_map_or, option_or, or_none, order_of, range_with_len, reading_fault, reading_rest, refiled, refl, renewed, rest_moved, result_err, result_ok, role_of, same_clipped, segments, segments_moved, segments_of, slots, slots_fault, sym, true, ℕ, ◌&&◌, ◌+◌, ◌∙◌, ◌∷◌, ◌≡◌, ◌≢◌}
+use Rattle.ps_relied.proofs.Entries.{same_entry, same_index, same_reasons, same_unit}
+use Rattle.ps_relied.proofs.SameFile.{same_renewed}
 
 -- 1. libraries that are read alike, one by one
 libraries_alike : (order : Order) (n : ℕ) (libs others : List (List ℕ))
@@ -43,6 +39,12 @@ or_same : {A : Type 0} (a b x y : Option A) → b ≡ a → (a ≡ None → y �
     → option_or b y ≡ option_or a x
 or_same a b x y e h = grind arith
 
+-- a segment of the host's own
+in_place : (r : Role) → r ≢ role.Empty → r ≢ role.Wanted → is_in_place r ≡ true
+in_place role.Empty filled own = absurd (filled refl)
+in_place role.Wanted filled own = absurd (own refl)
+in_place r filled own = refl
+
 module _ (host other : List ℕ) (libs others : List (List ℕ))
     (alike : AreFilesAlike host other libs others) where
   abbrev order : Order
@@ -67,21 +69,26 @@ module _ (host other : List ℕ) (libs others : List (List ℕ))
       (choices_alike order name 0 libs others alike.libraries)
     where
       go : (o p : Option (ℕ × List ℕ)) → chosen_library order name others ≡ p
-          → Both (IsSame order) o p → Both (AreChosenAlike change) o p
+          → Both (IsSame order) o p → Both (AreChosenAlike change name) o p
       go o p e neither = neither
       go o p e (both a b t) = both a b (record {
         file = λ j. library_file (t.0 j);
-        like = t.1;
-        behind = λ i. rw (← t.0, chosen_file order name others b.0 b.1 other e) refl;
+        index = same_index order a.1 b.1 t.1 name;
+        reasons = same_reasons order a.1 b.1 t.1 name;
+        source = λ i at fine. let same = same_unit order a.1 b.1 t.1 name i at fine in record {
+          code = same.0;
+          records = λ n. same.1;
+          behind = rw (← t.0, chosen_file order name others b.0 b.1 other e) refl;
+        };
       })
 
   all : AreMoved change
   all = record {
     roles = alike.roles;
     names = alike.heads.names;
-    own = λ slot inside r e own. record {
-      code = alike.codes slot inside r e own;
-      records = alike.records slot inside r e own;
+    own = λ slot inside r e filled own. record {
+      code = alike.codes slot inside r e (in_place r filled own);
+      records = alike.records slot inside r e (in_place r filled own);
       behind = refl;
     };
     found = λ slot inside e. found (name_at host slot);

@@ -1,8 +1,6 @@
 -- What is looked up in the entries of two libraries that are read alike.
-use Rattle.std.proofs.Common.{◌≡◌, ℕ, List, Option, Some, None, Bool, true, false, refl, sym, ap, ◌∙◌, arith}
 use Rattle.ps_words.specs.declared.fault.Reason.TheVariants as reason
-use Rattle.ps_relied.proofs.Vocabulary.{◌&&◌, ◌==◌, not, if◌then◌else◌, slots, find, list_any, range_with_len, option_and_then, bytes_eq, Order, Reason, is_named, entry_at, has_entry, entries_reason, fault_if, find_in, find_passes, IsReadAlike}
-use Rattle.ps_relied.proofs.Lists.{in_slots, and_left, clipped, same_clipped}
+use Rattle.ps_relied.proofs.Vocabulary.{Bool, HasSameCode, HasSameRecords, IsReadAlike, List, None, Option, Order, Reason, Some, and_left, ap, arith, bytes_eq, clipped, entries_reason, entry_at, false, fault_if, find, find_in, find_passes, has_entry, if◌then◌else◌, in_slots, is_named, kind_is, list_any, not, option_and_then, range_with_len, refl, same_clipped, slots, sym, true, ℕ, ◌&&◌, ◌==◌, ◌∙◌, ◌≡◌}
 
 same_test : (b c : Bool) (x y name : List ℕ) → b ≡ c → (b ≡ true → x ≡ y)
     → (c && bytes_eq y name) ≡ (b && bytes_eq x name)
@@ -37,3 +35,10 @@ module _ (order : Order) (file other : List ℕ) (like : IsReadAlike order file 
           let filled = and_left _ _ (find_passes (is_named order name file) slots i e) in
           ap (λ kind. fault_if (not (kind == 3)) (reason.NotAUnit kind))
           (sym (like.kinds i inside filled))
+
+  pub same_unit : (i : ℕ) → find (is_named order name file) slots ≡ Some i
+      → entries_reason order name file ≡ None
+      → HasSameCode order file other i × HasSameRecords order file other i
+  same_unit i at fine = like.units i (in_slots i (find_in (is_named order name file) slots i at))
+      (and_left _ _ (find_passes (is_named order name file) slots i at))
+      (kind_is order name file i fine at)

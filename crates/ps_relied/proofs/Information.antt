@@ -1,6 +1,5 @@
 -- Link information is read up to its end mark.
-use Rattle.std.proofs.Common.{◌≡◌, ℕ, zero, suc, ◌+◌, ◌*◌, ◌/◌, ◌<◌, ◌≤◌, List, [], ◌∷◌, ◌++◌, length, map, drop, None, refl, sym, ap, ◌∙◌, arith}
-use Rattle.ps_relied.proofs.Vocabulary.{◌↔◌, range_with_len, take-append-le, drop-append-le, length-append, get_or_append_left, length-map-range_with_len, Order, reading, refs_of, Body, Record, word_at, Spells, AreSpelled, IsBody, refs_at, size_of}
+use Rattle.ps_relied.proofs.Vocabulary.{AreSpelled, Body, IsBody, List, None, Order, Record, Spells, [], ap, arith, drop, drop-append-le, get_or_append_left, length, length-append, length-map-range_with_len, map, range_with_len, reading, refl, refs_at, refs_of, size_of, suc, sym, take-append-le, word_at, zero, ℕ, ◌*◌, ◌++◌, ◌+◌, ◌/◌, ◌<◌, ◌↔◌, ◌∙◌, ◌∷◌, ◌≡◌, ◌≤◌}
 
 -- the law of link information
 abbrev pub OneSpelling : Type 0

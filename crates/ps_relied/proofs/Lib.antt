@@ -1,8 +1,6 @@
 pub mod Vocabulary
-pub mod Lists
 pub mod Entries
 pub mod SameFile
-pub mod Moved
 pub mod AlikeFiles
 pub mod Rearranged
 pub mod Information

@@ -1,7 +1,6 @@
 -- Links whose libraries stand elsewhere, or one of which is left out.
-use Rattle.std.proofs.Common.{◌≡◌, ℕ, ◌+◌, ◌<◌, ◌≤◌, List, [], ◌∷◌, ◌++◌, length, map, Option, Some, None, Result, Ok, Bool, true, false, refl, sym, ap, ◌∙◌, inl, inr, arith, is_some}
 use Rattle.ps_codefile.specs.declared.entry.Role.TheVariants as role
-use Rattle.ps_relied.proofs.Vocabulary.{IsReadAlike, ◌≢◌, Reason, in_file, All, find, first_of, list_any, enumerate_from, option_map, option_or, result_ok, nat_tests, list_any-append, Order, Segment, Role, order_of, has_entry, has, role_of, entry_at, name_at, chosen_library, unit_source, library_file, source_of, AreSameSegments, segments_of, rounds, added_at, added_segments, first_fault, reading_fault, library_reason, libraries_fault, In, of_all, or_none, some_mapped, same_Some, sources_fine, rounds_fine, has_own, in_segments, own_made, each_added, empty_slot, found_added, SLOTS}
+use Rattle.ps_relied.proofs.Vocabulary.{◌≢◌, Reason, in_file, All, find, first_of, list_any, enumerate_from, option_map, option_or, result_ok, nat_tests, list_any-append, Order, Segment, Role, order_of, has_entry, has, role_of, entry_at, name_at, chosen_library, unit_source, library_file, source_of, AreSameSegments, segments_of, rounds, added_at, added_segments, first_fault, reading_fault, library_reason, libraries_fault, In, of_all, or_none, some_mapped, same_Some, sources_fine, rounds_fine, has_own, in_segments, own_made, each_added, empty_slot, found_added, SLOTS, Bool, List, None, Ok, Option, Result, Some, [], ap, arith, false, inl, inr, is_some, length, map, refl, sym, true, ℕ, ◌++◌, ◌+◌, ◌<◌, ◌∙◌, ◌∷◌, ◌≡◌, ◌≤◌}
 use Rattle.ps_relied.proofs.Lists.{Both, neither, both}
 use Rattle.ps_relied.proofs.Moved.{Change, IsFound, AreChosenAlike, AreMoved, Fits, same_renewed, linking_moved, rest_moved, segments_moved}
 use Rattle.ps_relied.specs.Numbered.{renumbered, without, exchanged, HaveNoNameInCommon}
@@ -113,19 +112,14 @@ module _ (host : List ℕ) (libs others : List (List ℕ)) (number place : ℕ �
       ≡ placed place (chosen_library (order_of host) name libs) → IsFound change name
   found name e = rw e (go (chosen_library (order_of host) name libs))
     where
-      go : (o : Option (ℕ × List ℕ)) → Both (AreChosenAlike change) o (placed place o)
+      go : (o : Option (ℕ × List ℕ)) → Both (AreChosenAlike change name) o (placed place o)
       go None = neither
-      go (Some a) = both a (place a.0, a.1)
-          (record { file = places a.0; like = alike; behind = λ i. refl })
-        where
-          alike : IsReadAlike (order_of host) a.1 a.1
-          alike = record {
-            opened = refl;
-            filled = λ i h. refl;
-            names = λ i h f. refl;
-            kinds = λ i h f. refl;
-            units = λ i h f k. (refl, refl);
-          }
+      go (Some a) = both a (place a.0, a.1) (record {
+        file = places a.0;
+        index = refl;
+        reasons = refl;
+        source = λ i at fine. record { code = refl; records = λ n. refl; behind = refl };
+      })
 
   kept : first_fault host libs ≡ None → ((slot : ℕ) → slot < SLOTS
       → role_of (entry_at (order_of host) host slot) ≡ Ok role.Wanted
@@ -138,7 +132,7 @@ module _ (host : List ℕ) (libs others : List (List ℕ)) (number place : ℕ �
       let moved : AreMoved change = record {
         roles = λ slot h. refl;
         names = λ slot h. refl;
-        own = λ slot h r e o. record { code = refl; records = λ n. refl; behind = refl };
+        own = λ slot h r e f o. record { code = refl; records = λ n. refl; behind = refl };
         found = wanted;
         fits = fits;
       } in

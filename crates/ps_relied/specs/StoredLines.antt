@@ -1,22 +1,18 @@
 -- What the lines of the references of a link say of its codes.
 -- Source: this project's profile.
-use Rattle.std.specs.Prelude.{◌≡◌, ℕ, ◌+◌, ◌*◌, ◌<◌, ◌≤◌, List, length, map, take, drop, All, slice_get, slice_index, Some}
-use Rattle.std.specs.List.{filter}
-use Rattle.ps_words.specs.declared.edit.Edit.{Edit}
+use Rattle.std.specs.Prelude.{◌≡◌, ℕ, ◌+◌, ◌*◌, ◌<◌, ◌≤◌, List, length, take, drop, All, slice_get, slice_index, Some}
 use Rattle.ps_codefile.specs.Dictionary.{block_len}
-use Rattle.ps_codefile.specs.Roles.{needs_linking}
 use Rattle.ps_resolve.specs.LinkedBytes.{segments_of}
 use Rattle.ps_resolve.specs.Sources.{Segment, order_of}
 use Rattle.ps_resolve.specs.Standing.Phrases.{SomeItem}
 use Rattle.ps_linkfile.specs.LinkedFile.{block_of, linked_segments, origins}
-use Rattle.ps_linkfile.specs.ReferencesText.{StoredIn, stored_in, cause_width}
+use Rattle.ps_linkfile.specs.ReferencesText.{StoredIn, all_stored_in, cause_width}
 use Rattle.ps_linkfile.specs.declared.cause.Cause.{Cause}
 
 -- what is listed of the segments of a link whose references are resolved, by slot
 abbrev pub all_stored : List ℕ → List (List ℕ) → List StoredIn
-all_stored host libs = map (λ (e : Segment × List Edit). stored_in (order_of host)
-    (block_of (origins host libs) e.0.slot) e.0 e.1)
-    (filter (λ (e : Segment × List Edit). needs_linking e.0.role) (linked_segments host libs))
+all_stored host libs =
+    all_stored_in (order_of host) (origins host libs) (linked_segments host libs)
 
 -- a line of the segment in this slot says that these bytes are at this place of its code
 abbrev pub IsLine : List StoredIn → ℕ → ℕ → List ℕ → Type 0

@@ -1,14 +1,25 @@
 -- Links of two hosts and their libraries in which each search finds what is read the same, where
 -- the number of each file may be another, and the block in which link information begins.
-use Rattle.std.proofs.Common.{◌≡◌, ℕ, ◌+◌, ◌<◌, List, [], ◌∷◌, ◌++◌, length, map, Option, Some, None, Result, Ok, Err, Bool, true, false, refl, sym, subst, ap, ◌∙◌, inl, inr, arith, is_none}
+use Rattle.ps_laws.proofs.Vocabulary.{All, Bool, Err, Fault, Known, List, None, Ok, Option, Order, Reason, Record, Request, Result, Role, RoundsOutcome, Segment, Some, UnitReference, [], added_segments, after, all_unit_references, arith, bytes_eq, chosen_library, code_fault, code_of, entry_at, false, fault_if, file_at, filter, find, first_private_fault, grown_data_size, host_of, host_records, if◌then◌else◌, in_record, in_slot, information_block, information_of, inl, inr, is_empty, is_host, is_missing, is_named, is_nameless, is_none, is_role, known_of, length, library_file, map, nat_lt, needs_linking, next_of, none_at, none_mapped, option_and_then, option_map, option_map_or, option_or, own_segment, owner_of, private_words, range_with_len, reading, refl, request_by_slot, request_fault, request_of, request_parts, requested_from, result_ok, role_fault, role_of, slice_get, slice_get-map, slots, source_made, source_of, subst, sym, table_of, tables_fault, total_words, true, unit_references, unit_source, unit_there, units_of, ℕ, ◌++◌, ◌+◌, ◌<◌, ◌==◌, ◌||◌, ◌∙◌, ◌∷◌, ◌≡◌, ◌≢◌, ◌⊎◌, SLOTS}
+use Rattle.ps_laws.proofs.ChangedLists.{Both, all_mapped, any_mapped, both, find_mapped, first_mapped, in_slots, neither, or_moved, same_clipped}
+use Rattle.ps_laws.proofs.MovedSegments.{known_moved}
 use Rattle.ps_codefile.specs.declared.entry.Role.TheVariants as role
 use Rattle.ps_reading.specs.declared.locations.RecordAt.{RecordAt}
 use Rattle.ps_words.specs.declared.fault.Reason.TheVariants as reason
-use Rattle.ps_relied.specs.SameSegments.{AreSameSegments, of_any_file}
-use Rattle.ps_relied.proofs.Vocabulary.{is_missing, none_mapped, fault_if, nat_lt, bytes_eq, MAX_DATA_SIZE, grown_data_size, table_of, total_words, ◌⊎◌, ◌||◌, ◌==◌, All, if◌then◌else◌, slots, find, slice_get, range_with_len, filter, option_and_then, option_map, option_map_or, option_or, result_ok, map-map, map-append, slice_get-map, All-head, All-tail, Fault, Reason, Order, Role, Record, Segment, Request, Requester, Slot, UnitReference, RoundsOutcome, Known, none_at, find_in, find_passes, is_there, entry_at, role_of, name_at, is_nameless, needs_linking, is_empty, is_host, is_in_place, in_slot, in_record, tables_fault, code_fault, request_fault, role_fault, source_fault, sources_fault, entries_reason, definitions_fault, privates_fault, data_fault, references_fault, references_fault_from, linking_fault, first_private_fault, reading_rest, file_at, is_named, is_role, chosen_library, library_file, own_segment, own_segments, source_of, unit_source, segment_with, segment_from, information_block, units_of, host_of, host_records, known_of, next_of, owner_of, private_words, after, request_of, request_by_slot, missing_at, unit_references, all_unit_references, requested_from, added_segment, added_segments, added_at, as_added, placed_fault, unplaced_fault, rounds_from, rounds, empty_slots, segment_at, segments, added_made, request_parts, source_made, unit_there, kind_is, chosen_file, IsReadAlike, HasSameCode, HasSameRecords, FIRST_ADDED, MAX_ADDED, SLOTS}
-use Rattle.ps_relied.proofs.Lists.{and_left, any_mapped, Both, neither, both, in_slots, same_clipped, find_mapped, first_mapped, all_mapped, or_moved}
-use Rattle.ps_relied.proofs.Entries.{same_index, same_reasons}
-use Rattle.ps_relied.proofs.SameFile.{known_moved}
+use Rattle.ps_codefile.specs.Dictionary.{name_at}
+use Rattle.ps_laws.proofs.Looking.{is_there}
+use Rattle.ps_resolve.proofs.EachSegment.{added_made}
+use Rattle.ps_resolve.proofs.ReadingLibraries.{chosen_file}
+use Rattle.ps_resolve.specs.Added.{added_at, added_segment, as_added, empty_slots, placed_fault, rounds, rounds_from, segment_at, segments, unplaced_fault}
+use Rattle.ps_resolve.specs.AllFaults.{reading_rest}
+use Rattle.ps_resolve.specs.Faults.{data_fault, definitions_fault, entries_reason, linking_fault, privates_fault, references_fault, references_fault_from, source_fault, sources_fault}
+use Rattle.ps_resolve.specs.Requests.{missing_at}
+use Rattle.ps_resolve.specs.Sources.{own_segments, segment_from, segment_with}
+use Rattle.ps_resolve.specs.declared.edits.data_size.TheConstants.{MAX_DATA_SIZE}
+use Rattle.ps_reading.specs.declared.reading.request.Requester.{Requester}
+use Rattle.ps_reading.specs.declared.reading.request.Requester.TheVariants.{Slot}
+use Rattle.std.proofs.lemmas.List.{map-append}
+use Rattle.std.proofs.lemmas.List.Elements.{All-head, All-tail}
 
 -- two links, for each file of the first its number in the second, and the block in which the link
 -- information of a segment begins there
@@ -58,12 +69,6 @@ module _ (c : Change) where
 
   abbrev pub renewed : Segment → Segment
   renewed s = record s { file = c.number s.file; block = c.block s.role s.file s.index s.block }
-
-  -- such segments are the same, from whichever files they come
-  pub same_renewed : (segs news : List Segment) → news ≡ map renewed segs
-      → AreSameSegments segs news
-  same_renewed segs news e =
-      sym (ap (λ ss. map of_any_file ss) e ∙ map-map of_any_file renewed segs)
 
   -- 1. the faults that are looked for once all segments were read
   of_host : (f : Segment → Option Fault) → ((s : Segment) → f (renewed s) ≡ refiled (f s))
@@ -146,8 +151,10 @@ module _ (c : Change) where
 
   -- 3. the code and the records of an entry that a segment is made from
   pub record IsSource (mine theirs : List ℕ) (r : Role) (k i : ℕ) : Type 0 where
-    pub code : HasSameCode c.order mine theirs i
-    pub records : needs_linking r ≡ true → HasSameRecords c.order mine theirs i
+    pub code : code_of mine (entry_at c.order mine i) ≡ code_of theirs (entry_at c.order theirs i)
+    pub records : needs_linking r ≡ true
+        → reading c.order (information_of mine (entry_at c.order mine i))
+        ≡ reading c.order (information_of theirs (entry_at c.order theirs i))
     pub behind : information_block (entry_at c.order theirs i) (needs_linking r)
         ≡ c.block r k i (information_block (entry_at c.order mine i) (needs_linking r))
 
@@ -188,19 +195,21 @@ module _ (c : Change) where
   made slot name r k j i same is = made_by slot name r k j i _ _ _ _ _ _
       (λ code. tables_fault c.order code (is_host r)) same is.code is.records is.behind
 
-  -- 4. requests: the library that is chosen for a name, both times
-  pub record AreChosenAlike (a b : ℕ × List ℕ) : Type 0 where
+  -- 4. requests: the library that is chosen for a name, both times, and what is read there
+  pub record AreChosenAlike (name : List ℕ) (a b : ℕ × List ℕ) : Type 0 where
     pub file : library_file b.0 ≡ c.number (library_file a.0)
-    pub like : IsReadAlike c.order a.1 b.1
-    pub behind : (i : ℕ) → information_block (entry_at c.order b.1 i) true
-        ≡ c.block role.Wanted (library_file a.0) i
-        (information_block (entry_at c.order a.1 i) true)
+    pub index : find (is_named c.order name b.1) slots ≡ find (is_named c.order name a.1) slots
+    pub reasons : entries_reason c.order name b.1 ≡ entries_reason c.order name a.1
+    pub source : (i : ℕ) → find (is_named c.order name a.1) slots ≡ Some i
+        → entries_reason c.order name a.1 ≡ None
+        → IsSource a.1 b.1 role.Wanted (library_file a.0) i
 
   abbrev pub IsFound : List ℕ → Type 0
-  IsFound name = Both AreChosenAlike (chosen_library c.order name c.libs)
+  IsFound name = Both (AreChosenAlike name) (chosen_library c.order name c.libs)
       (chosen_library c.order name c.others)
 
-  same_missing : (name : List ℕ) (o p : Option (ℕ × List ℕ)) → Both AreChosenAlike o p
+  same_missing : (name : List ℕ) (o p : Option (ℕ × List ℕ))
+      → Both (AreChosenAlike name) o p
       → (is_nameless name || is_none p) ≡ (is_nameless name || is_none o)
   same_missing name o p neither = refl
   same_missing name o p (both a b t) = refl
@@ -232,38 +241,32 @@ module _ (c : Change) where
       (chosen_library c.order q.name c.others) refl refl t
     where
       go : (o p : Option (ℕ × List ℕ)) → chosen_library c.order q.name c.libs ≡ o
-          → chosen_library c.order q.name c.others ≡ p → Both AreChosenAlike o p
+          → chosen_library c.order q.name c.others ≡ p → Both (AreChosenAlike q.name) o p
           → IsMoved q by
       go o p e f neither = rw (e, f) (parts_moved (missing_at q.slot q.requester)
           (missing_at q.slot by) q.slot 0 0 (is_nameless q.name || true) None None
           (λ x. None) (λ x. None) (λ x. None) (λ x. None) missing (sym c.same_host)
           (λ i n. absurd (cc)))
       go o p e f (both a b t) =
-          let index = same_index c.order a.1 b.1 t.like q.name in
           let m = parts_moved (missing_at q.slot q.requester) (missing_at q.slot by) q.slot
           (library_file a.0) (library_file b.0) (is_nameless q.name || false)
           (entries_reason c.order q.name a.1) (find (is_named c.order q.name a.1) slots)
           (mine code_fault q.slot role.Wanted) (theirs code_fault q.slot role.Wanted)
           (mine segment_from q.slot q.name role.Wanted)
           (theirs segment_from q.slot q.name role.Wanted) missing t.file (λ i at fine.
-          let inside = in_slots i (find_in (is_named c.order q.name a.1) slots i at) in
-          let passes = find_passes (is_named c.order q.name a.1) slots i at in
-          let same = t.like.units i inside (and_left _ _ passes)
-          (kind_is c.order q.name a.1 i fine at) in
           made q.slot q.name role.Wanted (library_file a.0) (library_file b.0) i t.file
           (rw (
             chosen_file c.order q.name c.libs a.0 a.1 c.host e,
             chosen_file c.order q.name c.others b.0 b.1 c.other f,
-          )
-          (record { code = same.0; records = λ n. same.1; behind = t.behind i }))) in
+          ) (t.source i at fine))) in
           rw (e, f) (
             (λ j. if is_nameless q.name || false then Some (missing_at q.slot by)
                 else option_or (option_map (in_slot (library_file b.0) q.slot)
-                (same_reasons c.order a.1 b.1 t.like q.name j))
+                (t.reasons j))
                 (option_and_then (theirs code_fault q.slot role.Wanted)
-                (option_map (λ i. (library_file b.0, i)) (index j)))) ∙ m.0,
+                (option_map (λ i. (library_file b.0, i)) (t.index j)))) ∙ m.0,
             λ n. (λ j. option_and_then (theirs segment_from q.slot q.name role.Wanted)
-                (option_map (λ i. (library_file b.0, i)) (index j))) ∙ m.1 n,
+                (option_map (λ i. (library_file b.0, i)) (t.index j))) ∙ m.1 n,
           )
 
   -- 5. the rounds
@@ -379,7 +382,7 @@ module _ (c : Change) where
     pub names : (slot : ℕ) → slot < SLOTS → name_at c.host slot ≡ name_at c.other slot
     pub own : (slot : ℕ) → slot < SLOTS → (r : Role)
         → role_of (entry_at c.order c.host slot) ≡ Ok r
-        → is_in_place r ≡ true → IsSource c.host c.other r 0 slot
+        → r ≢ role.Empty → r ≢ role.Wanted → IsSource c.host c.other r 0 slot
     pub found : (slot : ℕ) → slot < SLOTS
         → role_of (entry_at c.order c.host slot) ≡ Ok role.Wanted
         → IsFound (name_at c.host slot)
@@ -404,7 +407,7 @@ module _ (c : Change) where
             (all.found slot inside e))
         by_role (Ok r) e = rw (← all.names slot inside)
             (made slot (name_at c.host slot) r 0 0 slot
-            (sym c.same_host) (all.own slot inside r e refl))
+            (sym c.same_host) (all.own slot inside r e (λ x. cc) (λ x. cc)))
 
     pub sources_moved : theirs sources_fault ≡ refiled (mine sources_fault)
     unfolding sources_fault
@@ -416,8 +419,7 @@ module _ (c : Change) where
     same_empty = λ j. filter (λ slot. option_map_or is_empty (result_ok (same_clipped
         (Ok role.Empty) (λ slot. role_of (entry_at c.order c.other slot))
         (λ slot. role_of (entry_at c.order c.host slot))
-        (λ slot inside. sym (all.roles slot inside)) j slot)) false)
-        (range_with_len FIRST_ADDED MAX_ADDED)
+        (λ slot inside. sym (all.roles slot inside)) j slot)) false) (range_with_len 7 9)
 
     module _ (none : mine sources_fault ≡ None) where
       own_at : (slot : ℕ) → slot < SLOTS

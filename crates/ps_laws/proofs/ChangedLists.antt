@@ -2,6 +2,7 @@
 use Rattle.std.proofs.Common.{◌≡◌, ℕ, suc, ◌<◌, List, [], ◌∷◌, map, Option, Some, None, Bool, true, false, refl, arith}
 use Rattle.std.proofs.lemmas.Bool.Decides.{nat_tests}
 use Rattle.ps_relied.proofs.Vocabulary.{◌&&◌, list_any, if◌then◌else◌, nat_lt, find, filter_map, option_map, option_or, first_of, slots, In, of_range, SLOTS}
+use Rattle.ps_codefile.specs.declared.dictionary_layout.TheConstants.{SLOTS}
 
 -- both are there, and so related, or neither is
 pub data Both {A : Type 0} (R : A → A → Type 0) : Option A → Option A → Type 0 where
