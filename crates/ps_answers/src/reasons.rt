@@ -1,7 +1,7 @@
 //! The reasons of faults by their numbers.
 ghost use Rattle.std.specs.Prelude.{◌≡◌};
 ghost use Rattle.ps_words.specs.FaultText.{kind_of as kind_of_spec};
-ghost use Rattle.ps_calls.specs.Answers.{reasons as reasons_spec, reason_of as reason_of_spec};
+ghost use Rattle.ps_answers.specs.Answers.{reasons as reasons_spec, reason_of as reason_of_spec};
 
 use ps_words::Reason;
 
@@ -9,7 +9,8 @@ use ps_words::Reason;
 const REASONS: usize = 35;
 
 /// The kind word of an entry that is no unit.
-pub(crate) fn kind_of(reason: Reason) -> Option<u16>
+/// Source: this project's profile.
+pub fn kind_of(reason: Reason) -> Option<u16>
     ensures { result ≡ kind_of_spec reason }
 {
     match reason {
@@ -19,7 +20,8 @@ pub(crate) fn kind_of(reason: Reason) -> Option<u16>
 }
 
 /// The reason of this number; that of an entry that is no unit has this kind word.
-pub(crate) fn reason_of(number: u8, kind: u16) -> Option<Reason>
+/// Source: this project's profile.
+pub fn reason_of(number: u8, kind: u16) -> Option<Reason>
     ensures { result ≡ reason_of_spec number kind }
 {
     reasons(kind)
