@@ -6,9 +6,9 @@ use Rattle.std.proofs.lemmas.List.{get_or-map, length-map, map-append, take_all,
 use Rattle.std.proofs.lemmas.List.Elements.{All-get_or, All-map}
 use Rattle.ps_resolve.specs.Sources.{contents}
 use Rattle.ps_calls.specs.Checks.{IsMisnamed, IsUnreadable}
-use Rattle.ps_calls.specs.Libraries.{split}
-use Rattle.ps_calls.specs.declared.outcome.NotDone.{NotDone}
-use Rattle.ps_calls.specs.declared.outcome.NotDone.TheVariants.{Refused, WrongLengths, NoMemory, TooSmall, WrongNames, NoSuchText}
+use Rattle.ps_answers.specs.Libraries.{split}
+use Rattle.ps_answers.specs.declared.outcome.NotDone.{NotDone}
+use Rattle.ps_answers.specs.declared.outcome.NotDone.TheVariants.{Refused, WrongLengths, NoMemory, TooSmall, WrongNames, NoSuchText}
 
 -- there is a part for each length
 length-split : (bytes ns : List ℕ) → length (split bytes ns) ≡ length ns

@@ -1,4 +1,3 @@
-pub mod Refusals
 pub mod CheckReports
 pub mod FileNames
 pub mod FilesListed

@@ -9,18 +9,18 @@ use Rattle.ps_resolve.specs.Standing.{IsFirst, NoneStands}
 use Rattle.ps_linkfile.specs.LinkedFile.{LinkedFile, summary_of}
 use Rattle.ps_linkfile.specs.MapText.{map_of}
 use Rattle.ps_linkfile.specs.ShowText.{show_of, show_fault}
-use Rattle.ps_calls.specs.Rooms.{RoomBeginsWith}
-use Rattle.ps_calls.specs.Answers.{linked_answer, text_answer, small_answer, refusal}
+use Rattle.ps_answers.specs.Rooms.{RoomBeginsWith}
+use Rattle.ps_answers.specs.Answers.{linked_answer, text_answer, small_answer, refusal}
 use Rattle.ps_calls.specs.CheckAnswers.{found_answer, small_check_answer}
 use Rattle.ps_calls.specs.Checks.{IsFound, IsLongReport}
-use Rattle.ps_calls.specs.Outcomes.{answer_of}
-use Rattle.ps_calls.specs.Printed.{IsPrinted, StopsText}
-use Rattle.ps_calls.specs.declared.answer.Answer.{Answer}
+use Rattle.ps_answers.specs.Outcomes.{answer_of}
+use Rattle.ps_calls.specs.Printed.{IsPrinted, IsNotPrinted}
+use Rattle.ps_answers.specs.declared.answer.Answer.{Answer}
 use Rattle.ps_calls.specs.declared.check_answer.CheckAnswer.{CheckAnswer}
 use Rattle.ps_calls.specs.declared.checking.Found.{Found}
 use Rattle.ps_calls.specs.declared.kinds.TextKind.{TextKind}
-use Rattle.ps_calls.specs.declared.outcome.Done.{Done}
-use Rattle.ps_calls.specs.declared.outcome.NotDone.{NotDone}
+use Rattle.ps_answers.specs.declared.outcome.Done.{Done}
+use Rattle.ps_answers.specs.declared.outcome.NotDone.{NotDone}
 
 -- the room begins with the linked file, and the answer has its summary and its length
 pub record Links (host : List ℕ) (libs : List (List ℕ)) (old new : List ℕ)
@@ -100,4 +100,4 @@ pub record IsAnswered (k : Option TextKind) (host libs lengths names name_length
   pub outcome : Result Done NotDone
   pub told : answer ≡ answer_of outcome
   pub printed : IfOk outcome (IsPrinted k host libs lengths names name_lengths old new)
-  pub stopped : IfErr outcome (StopsText k old host libs lengths names name_lengths)
+  pub not_done : IfErr outcome (IsNotPrinted k old host libs lengths names name_lengths)

@@ -3,13 +3,13 @@
 use Rattle.std.specs.Prelude.{◌≡◌, ℕ, ◌⊎◌, List, [], ◌∷◌, Option, Result, Ok, Err}
 use Rattle.ps_report.specs.declared.verdict.Verdict.{Verdict}
 use Rattle.ps_report.specs.declared.verdict.Verdict.TheVariants as verdict
-use Rattle.ps_calls.specs.Answers.{bare, linked_answer, refusal}
-use Rattle.ps_calls.specs.declared.answer.Answer.{Answer}
-use Rattle.ps_calls.specs.declared.answer.TheConstants.{DONE, WRONG_LENGTHS, NO_MEMORY, TOO_SMALL, WRONG_NAMES}
+use Rattle.ps_answers.specs.Answers.{bare, linked_answer, refusal}
+use Rattle.ps_answers.specs.declared.answer.Answer.{Answer}
+use Rattle.ps_answers.specs.declared.answer.TheConstants.{DONE, WRONG_LENGTHS, NO_MEMORY, TOO_SMALL, WRONG_NAMES}
 use Rattle.ps_calls.specs.declared.checking.Found.{Found}
 use Rattle.ps_calls.specs.declared.check_answer.CheckAnswer.{CheckAnswer}
-use Rattle.ps_calls.specs.declared.outcome.NotDone.{NotDone}
-use Rattle.ps_calls.specs.declared.outcome.NotDone.TheVariants.{Refused, WrongLengths, NoMemory, TooSmall, WrongNames, NoSuchText}
+use Rattle.ps_answers.specs.declared.outcome.NotDone.{NotDone}
+use Rattle.ps_answers.specs.declared.outcome.NotDone.TheVariants.{Refused, WrongLengths, NoMemory, TooSmall, WrongNames, NoSuchText}
 
 -- a status, and nothing else
 abbrev pub bare_check : ℕ → CheckAnswer
@@ -44,18 +44,18 @@ abbrev pub small_check_answer : ℕ → CheckAnswer
 small_check_answer size = record (bare_check TOO_SMALL) { needed = size }
 
 -- why none was written
-abbrev pub check_stop_answer : NotDone → CheckAnswer
-check_stop_answer (Refused r) = bare_check WRONG_LENGTHS
-check_stop_answer WrongLengths = bare_check WRONG_LENGTHS
-check_stop_answer WrongNames = bare_check WRONG_NAMES
-check_stop_answer NoSuchText = bare_check WRONG_LENGTHS
-check_stop_answer NoMemory = bare_check NO_MEMORY
-check_stop_answer (TooSmall size) = small_check_answer size
+abbrev pub check_not_done_answer : NotDone → CheckAnswer
+check_not_done_answer (Refused r) = bare_check WRONG_LENGTHS
+check_not_done_answer WrongLengths = bare_check WRONG_LENGTHS
+check_not_done_answer WrongNames = bare_check WRONG_NAMES
+check_not_done_answer NoSuchText = bare_check WRONG_LENGTHS
+check_not_done_answer NoMemory = bare_check NO_MEMORY
+check_not_done_answer (TooSmall size) = small_check_answer size
 
 -- the answer of a check
 abbrev pub check_answer_of : Result Found NotDone → CheckAnswer
 check_answer_of (Ok found) = found_answer found
-check_answer_of (Err stop) = check_stop_answer stop
+check_answer_of (Err why) = check_not_done_answer why
 
 -- the statuses of a check
 abbrev pub IsCheckStatus : ℕ → Type 0

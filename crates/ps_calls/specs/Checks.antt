@@ -4,11 +4,11 @@ use Rattle.std.specs.Prelude.{◌≡◌, ℕ, ◌+◌, ◌<◌, ⊤, All, Bool, 
 use Rattle.ps_report.specs.Reports.{IsReport}
 use Rattle.ps_report.specs.Verdicts.{check_status, verdict_name}
 use Rattle.ps_report.specs.declared.verdict.Verdict.{Verdict}
-use Rattle.ps_calls.specs.Libraries.{split}
-use Rattle.ps_calls.specs.Rooms.{RoomBeginsWith}
+use Rattle.ps_answers.specs.Libraries.{split}
+use Rattle.ps_answers.specs.Rooms.{RoomBeginsWith}
 use Rattle.ps_calls.specs.declared.checking.Found.{Found}
-use Rattle.ps_calls.specs.declared.outcome.NotDone.{NotDone}
-use Rattle.ps_calls.specs.declared.outcome.NotDone.TheVariants.{Refused, WrongLengths, NoMemory, TooSmall, WrongNames, NoSuchText}
+use Rattle.ps_answers.specs.declared.outcome.NotDone.{NotDone}
+use Rattle.ps_answers.specs.declared.outcome.NotDone.TheVariants.{Refused, WrongLengths, NoMemory, TooSmall, WrongNames, NoSuchText}
 
 -- names of these lengths add up to what is given, and each is UTF-8
 abbrev pub AreNames : List ℕ → List ℕ → Type 0
@@ -48,27 +48,27 @@ IsLongReport room names host libs size =
     × (size ≡ length text) × (length room < size)
 
 -- no report of these files is put into this room
-abbrev pub StopsReport : List ℕ → List (List ℕ) → List ℕ → List (List ℕ) → NotDone
+abbrev pub IsNotReported : List ℕ → List (List ℕ) → List ℕ → List (List ℕ) → NotDone
     → Type 0
-StopsReport room names host libs (Refused r) = ⊥
-StopsReport room names host libs WrongLengths = ⊥
-StopsReport room names host libs WrongNames = ⊥
-StopsReport room names host libs NoSuchText = ⊥
-StopsReport room names host libs NoMemory = ⊤
-StopsReport room names host libs (TooSmall size) = IsLongReport room names host libs size
+IsNotReported room names host libs (Refused r) = ⊥
+IsNotReported room names host libs WrongLengths = ⊥
+IsNotReported room names host libs WrongNames = ⊥
+IsNotReported room names host libs NoSuchText = ⊥
+IsNotReported room names host libs NoMemory = ⊤
+IsNotReported room names host libs (TooSmall size) = IsLongReport room names host libs size
 
 -- the same of a call whose names and libraries are one after another
-abbrev pub StopsCheck : List ℕ → List ℕ → List ℕ → List ℕ → List ℕ → List ℕ
+abbrev pub IsNotChecked : List ℕ → List ℕ → List ℕ → List ℕ → List ℕ → List ℕ
     → NotDone → Type 0
-StopsCheck room host libs lengths names name_lengths (Refused r) = ⊥
-StopsCheck room host libs lengths names name_lengths WrongLengths =
+IsNotChecked room host libs lengths names name_lengths (Refused r) = ⊥
+IsNotChecked room host libs lengths names name_lengths WrongLengths =
     (HasItsLengths libs lengths names name_lengths → ⊥)
-StopsCheck room host libs lengths names name_lengths WrongNames =
+IsNotChecked room host libs lengths names name_lengths WrongNames =
     HasItsLengths libs lengths names name_lengths
     × (All IsUtf8 (split names name_lengths) → ⊥)
-StopsCheck room host libs lengths names name_lengths NoSuchText = ⊥
-StopsCheck room host libs lengths names name_lengths NoMemory = ⊤
-StopsCheck room host libs lengths names name_lengths (TooSmall size) =
+IsNotChecked room host libs lengths names name_lengths NoSuchText = ⊥
+IsNotChecked room host libs lengths names name_lengths NoMemory = ⊤
+IsNotChecked room host libs lengths names name_lengths (TooSmall size) =
     IsCheckable libs lengths names name_lengths
     × IsLongReport room (split names name_lengths) host (split libs lengths) size
 

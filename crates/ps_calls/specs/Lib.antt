@@ -1,10 +1,5 @@
-pub mod Libraries
-pub mod Rooms
-pub mod Answers
 pub mod Names
-pub mod NotDone
-pub mod Dones
-pub mod Outcomes
+pub mod Texts
 pub mod Checks
 pub mod Kinds
 pub mod Printed

@@ -20,20 +20,21 @@ use Rattle.ps_report.specs.Reports.{ArePrintedLooks, IsPrintedText, IsReport}
 use Rattle.ps_report.specs.Verdicts.{verdict_name}
 use Rattle.ps_report.specs.declared.verdict.Verdict.{Verdict}
 use Rattle.ps_calls.specs.Kinds.{needs_names}
-use Rattle.ps_calls.specs.Libraries.{split}
-use Rattle.ps_calls.specs.Rooms.{RoomBeginsWith}
-use Rattle.ps_calls.specs.NotDone.{IsAbove, IsRefusedFor, IsUnshownFor}
+use Rattle.ps_answers.specs.Libraries.{split}
+use Rattle.ps_answers.specs.Rooms.{RoomBeginsWith}
+use Rattle.ps_answers.specs.NotDone.{IsAbove, IsRefusedFor}
+use Rattle.ps_calls.specs.Texts.{IsUnshownFor}
 use Rattle.ps_calls.specs.declared.kinds.ListForm.{ListForm}
 use Rattle.ps_calls.specs.declared.kinds.ListForm.TheVariants as list
 use Rattle.ps_calls.specs.declared.kinds.TextForm.{TextForm}
 use Rattle.ps_calls.specs.declared.kinds.TextForm.TheVariants as form
 use Rattle.ps_calls.specs.declared.kinds.TextKind.{TextKind}
 use Rattle.ps_calls.specs.declared.kinds.TextKind.TheVariants as kind
-use Rattle.ps_calls.specs.declared.outcome.Done.{Done}
-use Rattle.ps_calls.specs.declared.outcome.Done.TheVariants as done
-use Rattle.ps_calls.specs.declared.outcome.Refusal.{Refusal}
-use Rattle.ps_calls.specs.declared.outcome.NotDone.{NotDone}
-use Rattle.ps_calls.specs.declared.outcome.NotDone.TheVariants.{Refused, WrongLengths, NoMemory, TooSmall, WrongNames, NoSuchText}
+use Rattle.ps_answers.specs.declared.outcome.Done.{Done}
+use Rattle.ps_answers.specs.declared.outcome.Done.TheVariants as done
+use Rattle.ps_answers.specs.declared.outcome.Refusal.{Refusal}
+use Rattle.ps_answers.specs.declared.outcome.NotDone.{NotDone}
+use Rattle.ps_answers.specs.declared.outcome.NotDone.TheVariants.{Refused, WrongLengths, NoMemory, TooSmall, WrongNames, NoSuchText}
 
 -- what is listed of a file with this name and this phrase for what it is; of a document it is an
 -- item, the first or another
@@ -129,13 +130,13 @@ CanRefuse kind.Had host libs r =
     (why : Reason) × (opened_alone host ≡ Err why) × (r ≡ unopened why)
 
 -- why it is not made
-abbrev pub StopsMaking : TextKind → List ℕ → List (List ℕ) → NotDone → Type 0
-StopsMaking k host libs (Refused r) = CanRefuse k host libs r
-StopsMaking k host libs WrongLengths = ⊥
-StopsMaking k host libs WrongNames = ⊥
-StopsMaking k host libs NoSuchText = ⊥
-StopsMaking k host libs NoMemory = ⊤
-StopsMaking k host libs (TooSmall size) = ⊥
+abbrev pub IsNotMade : TextKind → List ℕ → List (List ℕ) → NotDone → Type 0
+IsNotMade k host libs (Refused r) = CanRefuse k host libs r
+IsNotMade k host libs WrongLengths = ⊥
+IsNotMade k host libs WrongNames = ⊥
+IsNotMade k host libs NoSuchText = ⊥
+IsNotMade k host libs NoMemory = ⊤
+IsNotMade k host libs (TooSmall size) = ⊥
 
 -- the room begins with it
 abbrev pub IsPut : TextKind → List (List ℕ) → List ℕ → List (List ℕ) → List ℕ → List ℕ
@@ -150,14 +151,14 @@ IsLong k names host libs room size = (text : List ℕ) × IsTextOf k names host 
     × IsAbove size text room
 
 -- why it is not put into this room
-abbrev pub StopsPutting : TextKind → List (List ℕ) → List ℕ → List (List ℕ) → List ℕ → NotDone
+abbrev pub IsNotPut : TextKind → List (List ℕ) → List ℕ → List (List ℕ) → List ℕ → NotDone
     → Type 0
-StopsPutting k names host libs room (Refused r) = CanRefuse k host libs r
-StopsPutting k names host libs room WrongLengths = ⊥
-StopsPutting k names host libs room WrongNames = ⊥
-StopsPutting k names host libs room NoSuchText = ⊥
-StopsPutting k names host libs room NoMemory = ⊤
-StopsPutting k names host libs room (TooSmall size) = IsLong k names host libs room size
+IsNotPut k names host libs room (Refused r) = CanRefuse k host libs r
+IsNotPut k names host libs room WrongLengths = ⊥
+IsNotPut k names host libs room WrongNames = ⊥
+IsNotPut k names host libs room NoSuchText = ⊥
+IsNotPut k names host libs room NoMemory = ⊤
+IsNotPut k names host libs room (TooSmall size) = IsLong k names host libs room size
 
 -- the lengths of the names are right, where it has names of files: one for the host and one for
 -- each of so many libraries
@@ -193,28 +194,28 @@ HasInputs named libs lengths names name_lengths =
     HasRightLengths named libs lengths names name_lengths × HasNames named names name_lengths
 
 -- why a call for it leaves the room as it was
-abbrev pub StopsKind : TextKind → List ℕ → List ℕ → List ℕ → List ℕ → List ℕ → List ℕ
+abbrev pub IsKindNotPrinted : TextKind → List ℕ → List ℕ → List ℕ → List ℕ → List ℕ → List ℕ
     → NotDone → Type 0
-StopsKind k room host libs lengths names name_lengths (Refused r) =
+IsKindNotPrinted k room host libs lengths names name_lengths (Refused r) =
     HasInputs (needs_names k) libs lengths names name_lengths
     × CanRefuse k host (split libs lengths) r
-StopsKind k room host libs lengths names name_lengths WrongLengths =
+IsKindNotPrinted k room host libs lengths names name_lengths WrongLengths =
     (HasRightLengths (needs_names k) libs lengths names name_lengths → ⊥)
-StopsKind k room host libs lengths names name_lengths WrongNames =
+IsKindNotPrinted k room host libs lengths names name_lengths WrongNames =
     HasRightLengths (needs_names k) libs lengths names name_lengths
     × (HasNames (needs_names k) names name_lengths → ⊥)
-StopsKind k room host libs lengths names name_lengths NoSuchText = ⊥
-StopsKind k room host libs lengths names name_lengths NoMemory = ⊤
-StopsKind k room host libs lengths names name_lengths (TooSmall size) =
+IsKindNotPrinted k room host libs lengths names name_lengths NoSuchText = ⊥
+IsKindNotPrinted k room host libs lengths names name_lengths NoMemory = ⊤
+IsKindNotPrinted k room host libs lengths names name_lengths (TooSmall size) =
     HasInputs (needs_names k) libs lengths names name_lengths
     × IsLong k (split names name_lengths) host (split libs lengths) room size
 
 -- a text, which there may not be, is not put into this room
-abbrev pub StopsText : Option TextKind → List ℕ → List ℕ → List ℕ → List ℕ → List ℕ
+abbrev pub IsNotPrinted : Option TextKind → List ℕ → List ℕ → List ℕ → List ℕ → List ℕ
     → List ℕ → NotDone → Type 0
-StopsText None room host libs lengths names name_lengths stop = stop ≡ NoSuchText
-StopsText (Some k) room host libs lengths names name_lengths stop =
-    StopsKind k room host libs lengths names name_lengths stop
+IsNotPrinted None room host libs lengths names name_lengths why = why ≡ NoSuchText
+IsNotPrinted (Some k) room host libs lengths names name_lengths why =
+    IsKindNotPrinted k room host libs lengths names name_lengths why
 
 -- a call for it was right, and the room begins with it
 abbrev pub IsPrinted : Option TextKind → List ℕ → List ℕ → List ℕ → List ℕ → List ℕ

@@ -2,9 +2,8 @@
 ghost use Rattle.std.specs.Prelude.{◌≡◌};
 ghost use Rattle.ps_calls.specs.CheckAnswers.{verdict_answer as verdict_answer_spec};
 
-use crate::answer::{Answer, DONE, NO_MEMORY, TOO_SMALL, WRONG_LENGTHS, WRONG_NAMES};
 use crate::checking::Found;
-use crate::outcome::NotDone;
+use ps_answers::{Answer, DONE, NO_MEMORY, NotDone, TOO_SMALL, WRONG_LENGTHS, WRONG_NAMES};
 use ps_report::Verdict;
 use ps_words::Name;
 

@@ -2,13 +2,12 @@
 ghost use Rattle.std.specs.Prelude.{◌≡◌, ◌<◌, ◌+◌, ◌↔◌, IfOk, IfErr, IsTrue, OnErr, length, string_bytes, vec_len};
 ghost use Rattle.ps_resolve.specs.Sources.{contents};
 ghost use Rattle.ps_report.specs.Verdicts.{check_status};
-ghost use Rattle.ps_calls.specs.Libraries.{split as split_spec};
-ghost use Rattle.ps_calls.specs.Checks.{IsFound, IsCheckable, StopsCheck, StopsReport};
+ghost use Rattle.ps_answers.specs.Libraries.{split as split_spec};
+ghost use Rattle.ps_calls.specs.Checks.{IsFound, IsCheckable, IsNotChecked, IsNotReported};
 
 use crate::file_names::file_names;
-use crate::libraries::listed;
-use crate::outcome::NotDone;
 use crate::texts::put;
+use ps_answers::{NotDone, host_first, split};
 use ps_report::{Report, Verdict};
 use ps_words::Name;
 use std::alloc::Global;
@@ -67,11 +66,12 @@ fn check_all(
     requires { 0 < length names.now }
     ensures found { IfOk result (IsFound (contents names.now) host.now (contents libs.now) strict
         room.old room.new) }
-    ensures stopped { IfErr result (StopsReport room.old (contents names.now) host.now
+    ensures not_done { IfErr result (IsNotReported room.old (contents names.now) host.now
         (contents libs.now)) }
     ensures untouched { OnErr result (room.new ≡ room.old) }
 {
-    let Ok(report) = ps_report::check(alloc, names[0], &names[1..], host, libs) else {
+    let (host_name, names) = host_first(names);
+    let Ok(report) = ps_report::check(alloc, host_name, names, host, libs) else {
         return Err(NotDone::NoMemory);
     };
     put(report.text.as_bytes(), room)?;
@@ -103,14 +103,14 @@ pub fn check(
     ensures right { IfOk result (λ _. IsCheckable libs.now lengths.now names.now name_lengths.now) }
     ensures found { IfOk result (IsFound (split_spec names.now name_lengths.now) host.now
         (split_spec libs.now lengths.now) strict room.old room.new) }
-    ensures stopped { IfErr result (StopsCheck room.old host.now libs.now lengths.now
+    ensures not_done { IfErr result (IsNotChecked room.old host.now libs.now lengths.now
         names.now name_lengths.now) }
     ensures untouched { OnErr result (room.new ≡ room.old) }
 {
     if !is_one_each(name_lengths.len(), lengths.len()) {
         return Err(NotDone::WrongLengths);
     }
-    let libs = listed(alloc, libs, lengths)?;
+    let libs = split::<0>(alloc, libs, lengths)?;
     let names = file_names(alloc, names, name_lengths)?;
     check_all(alloc, host, libs.as_slice(), names.as_slice(), strict, room)
 }

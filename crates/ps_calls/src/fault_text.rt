@@ -2,8 +2,8 @@
 ghost use Rattle.std.specs.Prelude.{◌≡◌, ◌≤◌, ◌<◌, ◌+◌, ◌++◌, length, codes, decimal, option_map};
 ghost use Rattle.arrayvec.specs.ArrayString.{array_string_len};
 ghost use Rattle.ps_words.specs.FaultText.{name_of, number_of, part_text, kind_of as kind_of_spec};
-ghost use Rattle.ps_calls.specs.Answers.{closed_text};
-ghost use Rattle.ps_calls.specs.Rooms.{RoomBeginsWith};
+ghost use Rattle.ps_answers.specs.Answers.{closed_text};
+ghost use Rattle.ps_answers.specs.Rooms.{RoomBeginsWith};
 
 use crate::texts::put;
 use arrayvec::ArrayString;

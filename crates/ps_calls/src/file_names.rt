@@ -3,10 +3,9 @@
 ghost use Rattle.std.specs.Prelude.{◌≡◌, All, IsUtf8, IfOk, IfErr, length, sum};
 ghost use Rattle.ps_resolve.specs.Sources.{contents};
 ghost use Rattle.ps_calls.specs.Checks.{IsMisnamed, IsUnreadable};
-ghost use Rattle.ps_calls.specs.Libraries.{split as split_spec};
+ghost use Rattle.ps_answers.specs.Libraries.{split as split_spec};
 
-use crate::libraries::listed;
-use crate::outcome::NotDone;
+use ps_answers::{NotDone, split};
 use std::alloc::Global;
 
 /// These names as text, one for one; refuses `WrongNames` where one of them is no UTF-8.
@@ -39,6 +38,6 @@ pub(crate) fn file_names<'a>(
     ensures utf8 { IfOk result (λ _. All IsUtf8 (split_spec names.now lengths.now)) }
     ensures err { IfErr result (IsMisnamed names.now lengths.now) }
 {
-    let parts = listed(alloc, names, lengths)?;
+    let parts = split::<0>(alloc, names, lengths)?;
     texts(alloc, parts.as_slice())
 }

@@ -4,14 +4,14 @@ ghost use Rattle.ps_linkfile.specs.MapText.{map_json_in};
 ghost use Rattle.ps_linkfile.specs.ReferencesJson.{referenced_json, references_text};
 ghost use Rattle.ps_report.specs.Reports.{IsPrintedText};
 ghost use Rattle.ps_resolve.specs.Sources.{contents};
-ghost use Rattle.ps_calls.specs.Printed.{IsPrintedReport, IsTextOf, StopsMaking, is_json, unopened as unopened_spec};
+ghost use Rattle.ps_calls.specs.Printed.{IsPrintedReport, IsTextOf, IsNotMade, is_json, unopened as unopened_spec};
 ghost use Rattle.ps_calls.specs.declared.kinds.TextKind.TheVariants.{Had, Map, References, Show, Wanted};
-ghost use Rattle.ps_calls.specs.declared.outcome.NotDone.TheVariants.{NoMemory};
+ghost use Rattle.ps_answers.specs.declared.outcome.NotDone.TheVariants.{NoMemory};
 
 use crate::kinds::{TextForm, TextKind};
 use crate::lists::list_files;
 use crate::looks::make_looks;
-use crate::outcome::{NotDone, Refusal, not_done_for};
+use ps_answers::{NotDone, Refusal, not_done_for};
 use ps_codefile::Dict;
 use ps_linkfile::{Linked, ReferenceMap, map_text, prepare, prepare_references, show_text, write_show_json};
 use ps_writing::Counts;
@@ -60,7 +60,7 @@ fn reference_document(alloc: Global, map: &ReferenceMap<'_>) -> Result<Vec<u8>, 
 /// A text that was made, or that memory was refused.
 fn if_memory(made: Result<Vec<u8>, AllocError>) -> Result<Vec<u8>, NotDone>
     ensures ok { IfOk result (λ text. made ≡ Ok text) }
-    ensures memory { IfErr result (λ stop. stop ≡ NoMemory) }
+    ensures memory { IfErr result (λ why. why ≡ NoMemory) }
 {
     match made {
         Ok(text) => Ok(text),
@@ -72,7 +72,7 @@ fn if_memory(made: Result<Vec<u8>, AllocError>) -> Result<Vec<u8>, NotDone>
 fn map_json(alloc: Global, host: &[u8], libs: &[&[u8]]) -> Result<Vec<u8>, NotDone>
     ensures made { IfOk result (λ text. IsTextOf (Map TextForm.Json) [] host.now
         (contents libs.now) text.items) }
-    ensures stopped { IfErr result (StopsMaking (Map TextForm.Json) host.now
+    ensures not_done { IfErr result (IsNotMade (Map TextForm.Json) host.now
         (contents libs.now)) }
 {
     match prepare(alloc, host, libs) {
@@ -85,7 +85,7 @@ fn map_json(alloc: Global, host: &[u8], libs: &[&[u8]]) -> Result<Vec<u8>, NotDo
 fn map_lines(alloc: Global, host: &[u8], libs: &[&[u8]]) -> Result<Vec<u8>, NotDone>
     ensures made { IfOk result (λ text. IsTextOf (Map TextForm.Lines) [] host.now
         (contents libs.now) text.items) }
-    ensures stopped { IfErr result (StopsMaking (Map TextForm.Lines) host.now
+    ensures not_done { IfErr result (IsNotMade (Map TextForm.Lines) host.now
         (contents libs.now)) }
 {
     match map_text(alloc, host, libs) {
@@ -99,7 +99,7 @@ fn map_lines(alloc: Global, host: &[u8], libs: &[&[u8]]) -> Result<Vec<u8>, NotD
 fn make_map(alloc: Global, form: TextForm, host: &[u8], libs: &[&[u8]]) -> Result<Vec<u8>, NotDone>
     ensures made { IfOk result (λ text. IsTextOf (Map form) [] host.now (contents libs.now)
         text.items) }
-    ensures stopped { IfErr result (StopsMaking (Map form) host.now (contents libs.now)) }
+    ensures not_done { IfErr result (IsNotMade (Map form) host.now (contents libs.now)) }
 {
     match form {
         TextForm::Lines => map_lines(alloc, host, libs),
@@ -134,7 +134,7 @@ fn make_references(
 ) -> Result<Vec<u8>, NotDone>
     ensures made { IfOk result (λ text. IsTextOf (References form) [] host.now
         (contents libs.now) text.items) }
-    ensures stopped { IfErr result (StopsMaking (References form) host.now
+    ensures not_done { IfErr result (IsNotMade (References form) host.now
         (contents libs.now)) }
 {
     match prepare_references(alloc, host, libs) {
@@ -147,7 +147,7 @@ fn make_references(
 #[inline(never)]
 fn show_json(alloc: Global, file: &[u8]) -> Result<Vec<u8>, NotDone>
     ensures made { IfOk result (λ text. IsTextOf (Show TextForm.Json) [] file.now [] text.items) }
-    ensures stopped { IfErr result (StopsMaking (Show TextForm.Json) file.now []) }
+    ensures not_done { IfErr result (IsNotMade (Show TextForm.Json) file.now []) }
 {
     let mut text = Vec::new(alloc);
     match write_show_json(file, &mut text, &mut Counts::new()) {
@@ -159,7 +159,7 @@ fn show_json(alloc: Global, file: &[u8]) -> Result<Vec<u8>, NotDone>
 /// What a file has, as lines.
 fn show_lines(alloc: Global, file: &[u8]) -> Result<Vec<u8>, NotDone>
     ensures made { IfOk result (λ text. IsTextOf (Show TextForm.Lines) [] file.now [] text.items) }
-    ensures stopped { IfErr result (StopsMaking (Show TextForm.Lines) file.now []) }
+    ensures not_done { IfErr result (IsNotMade (Show TextForm.Lines) file.now []) }
 {
     match show_text(alloc, file) {
         Ok(text) => Ok(text),
@@ -171,7 +171,7 @@ fn show_lines(alloc: Global, file: &[u8]) -> Result<Vec<u8>, NotDone>
 #[inline(never)]
 fn make_show(alloc: Global, form: TextForm, file: &[u8]) -> Result<Vec<u8>, NotDone>
     ensures made { IfOk result (λ text. IsTextOf (Show form) [] file.now [] text.items) }
-    ensures stopped { IfErr result (StopsMaking (Show form) file.now []) }
+    ensures not_done { IfErr result (IsNotMade (Show form) file.now []) }
 {
     match form {
         TextForm::Lines => show_lines(alloc, file),
@@ -243,7 +243,7 @@ fn unopened(reason: Reason) -> Refusal
 fn wanted_in(alloc: Global, reading: &Reading<'_>) -> Result<Vec<u8>, NotDone>
     ensures made { IfOk result (λ text. IsTextOf Wanted [] reading.now.host reading.now.libs
         text.items) }
-    ensures stopped { IfErr result (StopsMaking Wanted reading.now.host reading.now.libs) }
+    ensures not_done { IfErr result (IsNotMade Wanted reading.now.host reading.now.libs) }
 {
     match reading.host() {
         Err(reason) => Err(NotDone::Refused(unopened(reason))),
@@ -256,7 +256,7 @@ fn wanted_in(alloc: Global, reading: &Reading<'_>) -> Result<Vec<u8>, NotDone>
 fn make_wanted(alloc: Global, host: &[u8], libs: &[&[u8]]) -> Result<Vec<u8>, NotDone>
     ensures made { IfOk result (λ text. IsTextOf Wanted [] host.now (contents libs.now)
         text.items) }
-    ensures stopped { IfErr result (StopsMaking Wanted host.now (contents libs.now)) }
+    ensures not_done { IfErr result (IsNotMade Wanted host.now (contents libs.now)) }
 {
     let reading = read(host, libs);
     wanted_in(alloc, &reading)
@@ -265,7 +265,7 @@ fn make_wanted(alloc: Global, host: &[u8], libs: &[&[u8]]) -> Result<Vec<u8>, No
 /// The names of the units whose code a file has.
 fn make_had(alloc: Global, file: &[u8]) -> Result<Vec<u8>, NotDone>
     ensures made { IfOk result (λ text. IsTextOf Had [] file.now [] text.items) }
-    ensures stopped { IfErr result (StopsMaking Had file.now []) }
+    ensures not_done { IfErr result (IsNotMade Had file.now []) }
 {
     match Dict::read(file) {
         Err(reason) => Err(NotDone::Refused(unopened(reason))),
@@ -286,7 +286,7 @@ pub(crate) fn make(
 ) -> Result<Vec<u8>, NotDone>
     ensures made { IfOk result (λ text. IsTextOf kind (host_name.now ∷ contents names.now)
         host.now (contents libs.now) text.items) }
-    ensures stopped { IfErr result (StopsMaking kind host.now (contents libs.now)) }
+    ensures not_done { IfErr result (IsNotMade kind host.now (contents libs.now)) }
 {
     match kind {
         TextKind::Map(form) => make_map(alloc, form, host, libs),

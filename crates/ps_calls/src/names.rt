@@ -1,11 +1,11 @@
 //! The names of faults, what statuses say, and the release: texts that no file decides.
 ghost use Rattle.std.specs.Prelude.{◌≡◌, ◌≤◌, ◌<◌, length};
 ghost use Rattle.ps_calls.specs.Names.{closed, fault_name, release, status_text as status_text_spec};
-ghost use Rattle.ps_calls.specs.Rooms.{RoomBeginsWith};
+ghost use Rattle.ps_answers.specs.Rooms.{RoomBeginsWith};
 
-use crate::answer::{DONE, NO_MEMORY, REFUSED, TOO_SMALL, WRONG_LENGTHS, WRONG_NAMES, WRONG_TEXT};
 use crate::fault_text::{FAULT_TEXT_MAX, Text};
 use crate::texts::put;
+use ps_answers::{DONE, NO_MEMORY, REFUSED, TOO_SMALL, WRONG_LENGTHS, WRONG_NAMES, WRONG_TEXT};
 use ps_words::Reason;
 
 /// The release of pslink.

@@ -2,17 +2,16 @@
 ghost use Rattle.std.specs.Prelude.{◌≡◌, ◌∷◌, ◌<◌, IfErr, IfOk, OnErr, length, sum, true};
 ghost use Rattle.ps_resolve.specs.Sources.{contents};
 ghost use Rattle.ps_calls.specs.Kinds.{needs_names as needs_names_spec};
-ghost use Rattle.ps_calls.specs.Libraries.{split as split_spec};
-ghost use Rattle.ps_calls.specs.Printed.{HasNameLengths, HasNames, IsPrinted, IsPut, LacksNames, StopsKind, StopsPutting, StopsText};
+ghost use Rattle.ps_answers.specs.Libraries.{split as split_spec};
+ghost use Rattle.ps_calls.specs.Printed.{HasNameLengths, HasNames, IsPrinted, IsPut, LacksNames, IsKindNotPrinted, IsNotPut, IsNotPrinted};
 ghost use Rattle.ps_calls.specs.declared.kinds.TextKind.{TextKind as TheKind};
 
 use crate::checking::is_one_each;
 use crate::file_names::file_names;
 use crate::kinds::TextKind;
-use crate::libraries::listed;
 use crate::making::make;
-use crate::outcome::{Done, NotDone};
 use crate::texts::put;
+use ps_answers::{Done, NotDone, host_first, split};
 use std::alloc::Global;
 
 /// Makes this of a host and libraries, and puts it in the room.
@@ -27,13 +26,13 @@ fn put_made(
 ) -> Result<Done, NotDone>
     ensures put { IfOk result (IsPut kind (host_name.now ∷ contents names.now) host.now
         (contents libs.now) room.old room.new) }
-    ensures stopped { IfErr result (StopsPutting kind (host_name.now ∷ contents names.now)
+    ensures not_done { IfErr result (IsNotPut kind (host_name.now ∷ contents names.now)
         host.now (contents libs.now) room.old) }
     ensures untouched { OnErr result (room.new ≡ room.old) }
 {
     match make(alloc, kind, host_name, names, host, libs) {
         Ok(text) => put(text.as_slice(), room),
-        Err(stop) => Err(stop),
+        Err(not_done) => Err(not_done),
     }
 }
 
@@ -49,17 +48,18 @@ fn put_named(
     requires { 0 < length names.now }
     ensures put { IfOk result (IsPut kind (contents names.now) host.now
         (contents libs.now) room.old room.new) }
-    ensures stopped { IfErr result (StopsPutting kind (contents names.now)
+    ensures not_done { IfErr result (IsNotPut kind (contents names.now)
         host.now (contents libs.now) room.old) }
     ensures untouched { OnErr result (room.new ≡ room.old) }
 {
-    put_made(alloc, kind, names[0], &names[1..], host, libs, room)
+    let (host_name, names) = host_first(names);
+    put_made(alloc, kind, host_name, names, host, libs, room)
 }
 
 /// The one name of a text that has no names.
 fn no_names<'a>(alloc: Global) -> Result<Vec<&'a str>, NotDone>
     ensures some { IfOk result (λ names. 0 < length names.items) }
-    ensures err { IfErr result (λ stop. stop ≡ NotDone.NoMemory) }
+    ensures err { IfErr result (λ why. why ≡ NotDone.NoMemory) }
 {
     let mut names = Vec::new(alloc);
     match names.push("") {
@@ -123,12 +123,12 @@ fn put_kind(
 ) -> Result<Done, NotDone>
     ensures printed { IfOk result (IsPrinted (Some kind) host.now libs.now lengths.now names.now
         name_lengths.now room.old room.new) }
-    ensures stopped { IfErr result (StopsKind kind room.old host.now libs.now lengths.now
+    ensures not_done { IfErr result (IsKindNotPrinted kind room.old host.now libs.now lengths.now
         names.now name_lengths.now) }
     ensures untouched { OnErr result (room.new ≡ room.old) }
 {
     let count = lengths.len();
-    let libs = listed(alloc, libs, lengths)?;
+    let libs = split::<0>(alloc, libs, lengths)?;
     let names = names_for(alloc, kind.needs_names(), count, names, name_lengths)?;
     put_named(alloc, kind, names.as_slice(), host, libs.as_slice(), room)
 }
@@ -157,7 +157,7 @@ pub fn text(
 ) -> Result<Done, NotDone>
     ensures printed { IfOk result (IsPrinted kind host.now libs.now lengths.now names.now
         name_lengths.now room.old room.new) }
-    ensures stopped { IfErr result (StopsText kind room.old host.now libs.now lengths.now
+    ensures not_done { IfErr result (IsNotPrinted kind room.old host.now libs.now lengths.now
         names.now name_lengths.now) }
     ensures untouched { OnErr result (room.new ≡ room.old) }
 {

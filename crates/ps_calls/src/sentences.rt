@@ -1,7 +1,7 @@
 //! What a fault is and what to do about it, by its number: sentences that no file decides.
 ghost use Rattle.std.specs.Prelude.{◌≡◌, ◌≤◌, ◌<◌, length};
 ghost use Rattle.ps_calls.specs.Names.{closed, fault_meaning, fault_remedy};
-ghost use Rattle.ps_calls.specs.Rooms.{RoomBeginsWith};
+ghost use Rattle.ps_answers.specs.Rooms.{RoomBeginsWith};
 
 use crate::texts::put;
 use arrayvec::ArrayString;

@@ -4,19 +4,18 @@ ghost use Rattle.ps_resolve.specs.Sources.{contents};
 ghost use Rattle.ps_resolve.specs.Standing.{NoneStands};
 ghost use Rattle.ps_linkfile.specs.MapText.{map_of};
 ghost use Rattle.ps_linkfile.specs.ShowText.{show_of, show_fault};
-ghost use Rattle.ps_calls.specs.Libraries.{split as split_spec};
-ghost use Rattle.ps_calls.specs.Dones.{IsText};
-ghost use Rattle.ps_calls.specs.NotDone.{IsOnlyAbove, StopsCall, StopsMap, StopsShow};
+ghost use Rattle.ps_answers.specs.Libraries.{split as split_spec};
+ghost use Rattle.ps_answers.specs.NotDone.{IsCallNotDone};
+ghost use Rattle.ps_calls.specs.Texts.{IsNotMapped, IsNotShown, IsOnlyAbove, IsText};
 
-use crate::libraries::{FEW_LIBRARIES, LIBRARIES_IN_PLACE, split};
-use crate::outcome::{Done, NotDone, not_done_for};
+use ps_answers::{Done, FEW_LIBRARIES, LIBRARIES_IN_PLACE, NotDone, not_done_for, split};
 use ps_linkfile::{map_text, show_text};
 use std::alloc::Global;
 
 /// Puts the text in the room.
 pub(crate) fn put(text: &[u8], room: &mut [u8]) -> Result<Done, NotDone>
     ensures text { IfOk result (IsText text.now room.old room.new) }
-    ensures stopped { IfErr result (IsOnlyAbove text.now room.old) }
+    ensures not_done { IfErr result (IsOnlyAbove text.now room.old) }
     ensures untouched { OnErr result (room.new ≡ room.old) }
 {
     let size = text.len();
@@ -31,7 +30,7 @@ pub(crate) fn put(text: &[u8], room: &mut [u8]) -> Result<Done, NotDone>
 fn map_all(alloc: Global, host: &[u8], libs: &[&[u8]], room: &mut [u8]) -> Result<Done, NotDone>
     ensures accepted { IfOk result (λ _. NoneStands host.now (contents libs.now)) }
     ensures text { IfOk result (IsText (map_of host.now (contents libs.now)) room.old room.new) }
-    ensures stopped { IfErr result (StopsMap room.old host.now (contents libs.now)) }
+    ensures not_done { IfErr result (IsNotMapped room.old host.now (contents libs.now)) }
     ensures untouched { OnErr result (room.new ≡ room.old) }
 {
     match map_text(alloc, host, libs) {
@@ -55,7 +54,7 @@ fn map_one(
     ensures accepted { IfOk result (λ _. NoneStands host.now (split_spec libs.now lengths.now)) }
     ensures text { IfOk result (IsText (map_of host.now (split_spec libs.now lengths.now))
         room.old room.new) }
-    ensures stopped { IfErr result (StopsCall (StopsMap room.old host.now)
+    ensures not_done { IfErr result (IsCallNotDone (IsNotMapped room.old host.now)
         libs.now lengths.now) }
     ensures untouched { OnErr result (room.new ≡ room.old) }
 {
@@ -78,7 +77,7 @@ fn map_few(
     ensures accepted { IfOk result (λ _. NoneStands host.now (split_spec libs.now lengths.now)) }
     ensures text { IfOk result (IsText (map_of host.now (split_spec libs.now lengths.now))
         room.old room.new) }
-    ensures stopped { IfErr result (StopsCall (StopsMap room.old host.now)
+    ensures not_done { IfErr result (IsCallNotDone (IsNotMapped room.old host.now)
         libs.now lengths.now) }
     ensures untouched { OnErr result (room.new ≡ room.old) }
 {
@@ -100,7 +99,7 @@ fn map_many(
     ensures accepted { IfOk result (λ _. NoneStands host.now (split_spec libs.now lengths.now)) }
     ensures text { IfOk result (IsText (map_of host.now (split_spec libs.now lengths.now))
         room.old room.new) }
-    ensures stopped { IfErr result (StopsCall (StopsMap room.old host.now)
+    ensures not_done { IfErr result (IsCallNotDone (IsNotMapped room.old host.now)
         libs.now lengths.now) }
     ensures untouched { OnErr result (room.new ≡ room.old) }
 {
@@ -122,7 +121,7 @@ pub fn map(
     ensures accepted { IfOk result (λ _. NoneStands host.now (split_spec libs.now lengths.now)) }
     ensures text { IfOk result (IsText (map_of host.now (split_spec libs.now lengths.now))
         room.old room.new) }
-    ensures stopped { IfErr result (StopsCall (StopsMap room.old host.now)
+    ensures not_done { IfErr result (IsCallNotDone (IsNotMapped room.old host.now)
         libs.now lengths.now) }
     ensures untouched { OnErr result (room.new ≡ room.old) }
 {
@@ -144,7 +143,7 @@ pub fn map(
 pub fn show(alloc: Global, file: &[u8], room: &mut [u8]) -> Result<Done, NotDone>
     ensures sound { IfOk result (λ _. show_fault file.now ≡ None) }
     ensures text { IfOk result (IsText (show_of file.now) room.old room.new) }
-    ensures stopped { IfErr result (StopsShow room.old file.now) }
+    ensures not_done { IfErr result (IsNotShown room.old file.now) }
     ensures untouched { OnErr result (room.new ≡ room.old) }
 {
     match show_text(alloc, file) {

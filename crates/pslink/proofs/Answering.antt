@@ -1,18 +1,18 @@
 -- What the answer of a link says of its linked file.
 use Rattle.std.proofs.Common.{◌≡◌, ℕ, List, Result, Ok, Err, ◌∙◌, ap, arith}
 use Rattle.std.specs.Prelude.{IfOk, IfErr}
-use Rattle.ps_calls.specs.Answers.{small_answer}
+use Rattle.ps_answers.specs.Answers.{small_answer}
 use Rattle.ps_calls.specs.Calls.{Links, LinkNeeds}
-use Rattle.ps_calls.specs.Dones.{IsLinked}
-use Rattle.ps_calls.specs.Libraries.{split}
-use Rattle.ps_calls.specs.Outcomes.{answer_of, done_answer}
-use Rattle.ps_calls.specs.NotDone.{StopsCall, StopsLink}
-use Rattle.ps_calls.specs.declared.answer.Answer.{Answer}
-use Rattle.ps_calls.specs.declared.answer.TheConstants.{DONE, TOO_SMALL}
-use Rattle.ps_calls.specs.declared.outcome.Done.{Done}
-use Rattle.ps_calls.specs.declared.outcome.Done.TheVariants.{Linked, Text}
-use Rattle.ps_calls.specs.declared.outcome.NotDone.{NotDone}
-use Rattle.ps_calls.specs.declared.outcome.NotDone.TheVariants.{Refused, WrongLengths, NoMemory, TooSmall, WrongNames, NoSuchText}
+use Rattle.ps_answers.specs.Dones.{IsLinked}
+use Rattle.ps_answers.specs.Libraries.{split}
+use Rattle.ps_answers.specs.Outcomes.{answer_of, done_answer}
+use Rattle.ps_answers.specs.NotDone.{IsCallNotDone, IsNotLinked}
+use Rattle.ps_answers.specs.declared.answer.Answer.{Answer}
+use Rattle.ps_answers.specs.declared.answer.TheConstants.{DONE, TOO_SMALL}
+use Rattle.ps_answers.specs.declared.outcome.Done.{Done}
+use Rattle.ps_answers.specs.declared.outcome.Done.TheVariants.{Linked, Text}
+use Rattle.ps_answers.specs.declared.outcome.NotDone.{NotDone}
+use Rattle.ps_answers.specs.declared.outcome.NotDone.TheVariants.{Refused, WrongLengths, NoMemory, TooSmall, WrongNames, NoSuchText}
 
 -- it was done
 pub links : (host : List ℕ) (libs : List (List ℕ)) (old new : List ℕ) (a : Answer)
@@ -39,7 +39,7 @@ links host libs old new a (Err (TooSmall size)) e h is =
 
 -- there was too little room
 pub link_needs : (host libs lengths room : List ℕ) (a : Answer) (r : Result Done NotDone)
-    → a ≡ answer_of r → IfErr r (StopsCall (StopsLink room host) libs lengths)
+    → a ≡ answer_of r → IfErr r (IsCallNotDone (IsNotLinked room host) libs lengths)
     → a.status ≡ TOO_SMALL → LinkNeeds host (split libs lengths) room a
 link_needs host libs lengths room a (Ok (Linked summary size)) e h is =
     absurd (omega (arith, ap (λ (b : Answer). b.status) e, is))

@@ -3,20 +3,23 @@
 ghost use Rattle.std.specs.Prelude.{◌≡◌, ◌≢◌, ◌==◌, ◌≤◌, ◌<◌, ◌⊎◌, [], All, IsUtf8, length, not, sum, None, IfNone, IfSome};
 ghost use Rattle.ps_resolve.specs.Standing.{NoneStandsInReading};
 ghost use Rattle.ps_linkfile.specs.ShowText.{show_fault};
-ghost use Rattle.ps_calls.specs.Libraries.{split};
-ghost use Rattle.ps_calls.specs.Answers.{bare, closed_text, refusal_fault, IsStatus, IsTextStatus};
+ghost use Rattle.ps_answers.specs.Libraries.{split};
+ghost use Rattle.ps_answers.specs.Answers.{bare, closed_text, refusal_fault, IsStatus, IsTextStatus};
 ghost use Rattle.ps_calls.specs.Checks.{HasItsLengths, IsCheckable};
 ghost use Rattle.ps_calls.specs.CheckAnswers.{bare_check, IsCheckStatus};
 ghost use Rattle.ps_calls.specs.Names.{closed, fault_meaning, fault_name, fault_remedy, release, status_text};
-ghost use Rattle.ps_calls.specs.Rooms.{RoomBeginsWith};
+ghost use Rattle.ps_answers.specs.Rooms.{RoomBeginsWith};
 ghost use Rattle.ps_calls.specs.Kinds.{text_kind as text_kind_spec, units_kind as units_kind_spec};
 ghost use Rattle.ps_calls.specs.Calls.{IsAnswered, Links, LinkNeeds, Maps, MapNeeds, Refuses, RefusesToShow, Reports, ReportNeeds, Shows, ShowNeeds};
 
+use ps_answers::{
+    Answer, DONE, LIBRARIES_IN_PLACE, LINKED_MAX, NO_MEMORY, REFUSED, TOO_SMALL, WRONG_LENGTHS,
+    WRONG_NAMES, link,
+};
 use ps_calls::{
-    Answer, CheckAnswer, DONE, FAULT_TEXT_MAX, LIBRARIES_IN_PLACE, LINKED_MAX, NO_MEMORY, REFUSED,
-    RELEASE_NUMBER, SENTENCE_MAX, TOO_SMALL, WRONG_LENGTHS, WRONG_NAMES, check, link, map,
-    put_fault, put_fault_meaning, put_fault_name, put_fault_remedy, put_release, put_status_text,
-    show, text, text_kind, units_kind,
+    CheckAnswer, FAULT_TEXT_MAX, RELEASE_NUMBER, SENTENCE_MAX, check, map, put_fault,
+    put_fault_meaning, put_fault_name, put_fault_remedy, put_release, put_status_text, show, text,
+    text_kind, units_kind,
 };
 use std::alloc::Global;
 

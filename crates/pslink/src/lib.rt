@@ -2,8 +2,8 @@
 //! program prints of files, from memory to memory.
 //!
 //! Each export says by its contract what it leaves in the caller's memory, in the words of
-//! `ps_calls`, which does the call. `include/pslink.h` has them as C sees them: a slice is a pointer
-//! and a length.
+//! `ps_answers` and `ps_calls`, which do the calls. `include/pslink.h` has them as C sees them: a
+//! slice is a pointer and a length.
 #![tactic(auto)]
 
 mod exports;
@@ -14,9 +14,11 @@ pub use exports::{
     pslink_map_nonnull, pslink_release_nonnull, pslink_release_number, pslink_show_nonnull,
     pslink_status_text_nonnull, pslink_text_nonnull, pslink_units_nonnull, pslink_version,
 };
-pub use ps_calls::{
-    Answer, CheckAnswer, DONE, FAULT_TEXT_MAX, JSON, LIBRARIES_IN_PLACE, LINES, LINKED_MAX,
-    NO_MEMORY, REFUSED, RELEASE_NUMBER, SENTENCE_MAX, TEXT_CHECK, TEXT_LIST, TEXT_LOOKS, TEXT_MAP,
-    TEXT_REFERENCES, TEXT_SHOW, TEXT_UNITS, TOO_SMALL, UNITS_HAD, UNITS_WANTED, WRONG_LENGTHS,
+pub use ps_answers::{
+    Answer, DONE, LIBRARIES_IN_PLACE, LINKED_MAX, NO_MEMORY, REFUSED, TOO_SMALL, WRONG_LENGTHS,
     WRONG_NAMES, WRONG_TEXT, refusals_tell_their_faults,
+};
+pub use ps_calls::{
+    CheckAnswer, FAULT_TEXT_MAX, JSON, LINES, RELEASE_NUMBER, SENTENCE_MAX, TEXT_CHECK, TEXT_LIST,
+    TEXT_LOOKS, TEXT_MAP, TEXT_REFERENCES, TEXT_SHOW, TEXT_UNITS, UNITS_HAD, UNITS_WANTED,
 };

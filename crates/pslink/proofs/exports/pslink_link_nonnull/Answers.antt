@@ -6,4 +6,4 @@ returns-clause-linked c = links _ _ _ _ c.of.result c.link.result c.of.ensures c
 
 pub returns-clause-small : goal.returns-clause-small
 returns-clause-small c = link_needs _ c.args.libs.now c.args.lengths.now _ c.of.result c.link.result
-    c.of.ensures c.link.ensures.stopped
+    c.of.ensures c.link.ensures.not_done

@@ -1,9 +1,9 @@
 //! The linked file, into the caller's room.
 ghost use Rattle.std.specs.Prelude.{◌≡◌, ◌≤◌, length, sum, IfOk, IfErr, OnErr};
 ghost use Rattle.ps_resolve.specs.Sources.{contents};
-ghost use Rattle.ps_calls.specs.Libraries.{split as split_spec};
-ghost use Rattle.ps_calls.specs.Dones.{IsLinked};
-ghost use Rattle.ps_calls.specs.NotDone.{StopsCall, StopsLink};
+ghost use Rattle.ps_answers.specs.Libraries.{split as split_spec};
+ghost use Rattle.ps_answers.specs.Dones.{IsLinked};
+ghost use Rattle.ps_answers.specs.NotDone.{IsCallNotDone, IsNotLinked};
 
 use crate::libraries::{FEW_LIBRARIES, LIBRARIES_IN_PLACE, split};
 use crate::outcome::{Done, NotDone, not_done_for};
@@ -19,7 +19,7 @@ pub const LINKED_MAX: usize = BLOCK_SIZE * MAX_FILE_BLOCKS;
 /// Links a host and these libraries into the room.
 fn link_all(alloc: Global, host: &[u8], libs: &[&[u8]], room: &mut [u8]) -> Result<Done, NotDone>
     ensures linked { IfOk result (IsLinked host.now (contents libs.now) room.old room.new) }
-    ensures stopped { IfErr result (StopsLink room.old host.now (contents libs.now)) }
+    ensures not_done { IfErr result (IsNotLinked room.old host.now (contents libs.now)) }
     ensures untouched { OnErr result (room.new ≡ room.old) }
 {
     let linked = match prepare(alloc, host, libs) {
@@ -49,7 +49,7 @@ fn link_one(
     ensures right { IfOk result (λ _. sum lengths.now ≡ length libs.now) }
     ensures linked { IfOk result (IsLinked host.now (split_spec libs.now lengths.now)
         room.old room.new) }
-    ensures stopped { IfErr result (StopsCall (StopsLink room.old host.now)
+    ensures not_done { IfErr result (IsCallNotDone (IsNotLinked room.old host.now)
         libs.now lengths.now) }
     ensures untouched { OnErr result (room.new ≡ room.old) }
 {
@@ -71,7 +71,7 @@ fn link_few(
     ensures right { IfOk result (λ _. sum lengths.now ≡ length libs.now) }
     ensures linked { IfOk result (IsLinked host.now (split_spec libs.now lengths.now)
         room.old room.new) }
-    ensures stopped { IfErr result (StopsCall (StopsLink room.old host.now)
+    ensures not_done { IfErr result (IsCallNotDone (IsNotLinked room.old host.now)
         libs.now lengths.now) }
     ensures untouched { OnErr result (room.new ≡ room.old) }
 {
@@ -92,7 +92,7 @@ fn link_many(
     ensures right { IfOk result (λ _. sum lengths.now ≡ length libs.now) }
     ensures linked { IfOk result (IsLinked host.now (split_spec libs.now lengths.now)
         room.old room.new) }
-    ensures stopped { IfErr result (StopsCall (StopsLink room.old host.now)
+    ensures not_done { IfErr result (IsCallNotDone (IsNotLinked room.old host.now)
         libs.now lengths.now) }
     ensures untouched { OnErr result (room.new ≡ room.old) }
 {
@@ -120,7 +120,7 @@ pub fn link(
     ensures right { IfOk result (λ _. sum lengths.now ≡ length libs.now) }
     ensures linked { IfOk result (IsLinked host.now (split_spec libs.now lengths.now)
         room.old room.new) }
-    ensures stopped { IfErr result (StopsCall (StopsLink room.old host.now)
+    ensures not_done { IfErr result (IsCallNotDone (IsNotLinked room.old host.now)
         libs.now lengths.now) }
     ensures untouched { OnErr result (room.new ≡ room.old) }
 {

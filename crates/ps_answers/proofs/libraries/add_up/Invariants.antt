@@ -1,5 +1,5 @@
 use Rattle.std.proofs.Common.{◌≡◌, ◌+◌, sum, drop}
-use Rattle.ps_calls.proofs.libraries.add_up.Given as goal
+use Rattle.ps_answers.proofs.libraries.add_up.Given as goal
 
 -- what is left of the total, against what is left of the lengths
 abbrev pub invariant-loop-length : goal.invariant-loop-length

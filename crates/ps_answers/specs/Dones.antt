@@ -1,17 +1,13 @@
--- What a call that was done leaves in the caller's room.
+-- What a link that was done leaves in the caller's room.
 -- Source: this project's profile.
 use Rattle.std.specs.Prelude.{◌≡◌, ℕ, List, length}
 use Rattle.ps_linkfile.specs.LinkedFile.{LinkedFile, summary_of}
-use Rattle.ps_calls.specs.Rooms.{RoomBeginsWith}
-use Rattle.ps_calls.specs.declared.outcome.Done.{Done}
-use Rattle.ps_calls.specs.declared.outcome.Done.TheVariants.{Linked, Text}
+use Rattle.ps_answers.specs.Rooms.{RoomBeginsWith}
+use Rattle.ps_answers.specs.declared.outcome.Done.{Done}
+use Rattle.ps_answers.specs.declared.outcome.Done.TheVariants.{Linked}
 
 -- the room begins with the linked file
 abbrev pub IsLinked : List ℕ → List (List ℕ) → List ℕ → List ℕ → Done → Type 0
 IsLinked host libs old new done = (file : List ℕ)
     × (LinkedFile host libs file × (RoomBeginsWith file old new
     × (done ≡ Linked (summary_of host libs) (length file))))
-
--- the room begins with this text
-abbrev pub IsText : List ℕ → List ℕ → List ℕ → Done → Type 0
-IsText text old new done = RoomBeginsWith text old new × (done ≡ Text (length text))

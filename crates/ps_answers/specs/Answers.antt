@@ -5,8 +5,8 @@ use Rattle.ps_words.specs.FaultText.{number_of, kind_of, reason_of, fault_text}
 use Rattle.ps_words.specs.declared.fault.Reason.{Reason}
 use Rattle.ps_words.specs.declared.fault.Fault.{Fault}
 use Rattle.ps_linkfile.specs.declared.summary.Summary.{Summary}
-use Rattle.ps_calls.specs.declared.answer.Answer.{Answer}
-use Rattle.ps_calls.specs.declared.answer.TheConstants.{DONE, REFUSED, WRONG_LENGTHS, NO_MEMORY, TOO_SMALL, WRONG_NAMES, WRONG_TEXT}
+use Rattle.ps_answers.specs.declared.answer.Answer.{Answer}
+use Rattle.ps_answers.specs.declared.answer.TheConstants.{DONE, REFUSED, WRONG_LENGTHS, NO_MEMORY, TOO_SMALL, WRONG_NAMES, WRONG_TEXT}
 
 -- what stands for a name where there is none
 abbrev pub no_name : List ℕ

@@ -1,7 +1,7 @@
 //! What becomes of a call.
 ghost use Rattle.std.specs.Prelude.{◌≡◌};
 ghost use Rattle.ps_resolve.specs.Sources.{contents};
-ghost use Rattle.ps_calls.specs.NotDone.{refusal_of, not_done_of};
+ghost use Rattle.ps_answers.specs.NotDone.{refusal_of, not_done_of};
 
 use ps_linkfile::{LinkError, Summary};
 use ps_named::fault_name;
@@ -46,7 +46,7 @@ pub enum NotDone {
 }
 
 /// The refusal of these files for this fault.
-pub(crate) fn refusal_for(host: &[u8], libs: &[&[u8]], fault: Fault) -> Refusal
+fn refusal_for(host: &[u8], libs: &[&[u8]], fault: Fault) -> Refusal
     ensures { result ≡ refusal_of host.now (contents libs.now) fault }
 {
     Refusal {
@@ -55,10 +55,12 @@ pub(crate) fn refusal_for(host: &[u8], libs: &[&[u8]], fault: Fault) -> Refusal
     }
 }
 
-/// Why a step with these files, which writes nothing, was not done. A function by itself, so that
-/// only a call that is refused has what it needs of the stack.
+/// Why a step with these files, which writes nothing, was not done: the fault for which they are
+/// refused, with the name of what it is about, or `NoMemory`, also of an error of a write.
+/// Source: this project's profile.
+// A function by itself, so that only a call that is refused has what it needs of the stack.
 #[inline(never)]
-pub(crate) fn not_done_for(host: &[u8], libs: &[&[u8]], error: LinkError) -> NotDone
+pub fn not_done_for(host: &[u8], libs: &[&[u8]], error: LinkError) -> NotDone
     ensures { result ≡ not_done_of host.now (contents libs.now) error }
 {
     match error {

@@ -82,11 +82,12 @@ pub struct Answer {
 }
 
 impl Answer {
-    ghost use Rattle.ps_calls.specs.Answers.{bare as bare_spec, refusal as refusal_spec, refusal_fault as refusal_fault_spec};
-    ghost use Rattle.ps_calls.specs.Outcomes.{answer_of};
+    ghost use Rattle.ps_answers.specs.Answers.{bare as bare_spec, refusal as refusal_spec, refusal_fault as refusal_fault_spec};
+    ghost use Rattle.ps_answers.specs.Outcomes.{answer_of};
 
     /// This status, and 0 in every other field.
-    pub(crate) fn bare(status: u32) -> Answer
+    /// Source: this project's profile.
+    pub fn bare(status: u32) -> Answer
         ensures { result ≡ bare_spec status }
     {
         Answer {
@@ -143,8 +144,10 @@ impl Answer {
         }
     }
 
-    /// The files are refused for this fault, which is about what has this name.
-    pub(crate) fn refusal(fault: Fault, name: Option<Name>) -> Answer
+    /// The answer of files that are refused for this fault: `REFUSED`, the parts of the fault, and
+    /// the name of what it is about, where it has one.
+    /// Source: this project's profile.
+    pub fn refusal(fault: Fault, name: Option<Name>) -> Answer
         ensures { result ≡ refusal_spec fault name }
     {
         let kind = fault.reason.kind();

@@ -1,6 +1,6 @@
 ghost use Rattle.std.specs.Prelude.{◌≡◌, List, Option, Some, ℕ};
 ghost use Rattle.ps_words.specs.declared.fault.Fault.{Fault};
-ghost use Rattle.ps_calls.specs.Answers.{refusal, refusal_fault};
+ghost use Rattle.ps_answers.specs.Answers.{refusal, refusal_fault};
 
 /// The answer of a refusal reports its fault, whole.
 /// Source: this project's profile.

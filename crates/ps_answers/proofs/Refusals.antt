@@ -5,7 +5,7 @@ use Rattle.ps_words.specs.FaultText.{number_of, kind_of, reason_of}
 use Rattle.ps_words.specs.declared.fault.Reason.{Reason}
 use Rattle.ps_words.specs.declared.fault.Reason.TheVariants as reason
 use Rattle.ps_words.specs.declared.fault.Fault.{Fault}
-use Rattle.ps_calls.specs.Answers.{fault_with, flag, part, refusal, refusal_fault}
+use Rattle.ps_answers.specs.Answers.{fault_with, flag, part, refusal, refusal_fault}
 
 -- a reason is found by its number: one proof for each, which computes
 reason_back : (why : Reason) → reason_of (number_of why) (unwrap_or (kind_of why) 0) ≡ Some why

@@ -1,0 +1,2 @@
+pub mod FirstName
+pub mod Refusals

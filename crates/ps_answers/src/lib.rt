@@ -1,0 +1,22 @@
+//! The link of the library for C, from memory to memory, and what its calls share: the libraries
+//! and the names that they are given, what becomes of a call, and what it answers.
+//!
+//! `link` says by its contract what it leaves in the caller's room, in the words of `ps_linkfile`.
+#![tactic(auto)]
+
+mod answer;
+mod first_name;
+mod libraries;
+mod linking;
+mod outcome;
+mod refusal_law;
+mod room;
+
+pub use answer::{
+    Answer, DONE, NO_MEMORY, REFUSED, TOO_SMALL, WRONG_LENGTHS, WRONG_NAMES, WRONG_TEXT,
+};
+pub use first_name::host_first;
+pub use libraries::{FEW_LIBRARIES, LIBRARIES_IN_PLACE, Parts, split};
+pub use linking::{LINKED_MAX, link};
+pub use outcome::{Done, NotDone, Refusal, not_done_for};
+pub use refusal_law::refusals_tell_their_faults;
