@@ -7,7 +7,7 @@ ghost use Rattle.ps_writing.specs.Prefixes.{AppendsPrefix};
 use crate::counts::Counts;
 use crate::write_fault::WriteFault;
 use crate::text_writer::{Text, TextWriter};
-use crate::write_all::write_all_of;
+use crate::writing::write_all_of;
 use arrayvec::ArrayVec;
 use std::io::Write;
 

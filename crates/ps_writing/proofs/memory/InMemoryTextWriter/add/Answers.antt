@@ -1,6 +1,6 @@
 use Rattle.std.proofs.Common.{arith}
 use Rattle.ps_writing.proofs.Sending.{kept_more, kept_no_more}
-use Rattle.ps_writing.proofs.in_memory.InMemoryTextWriter.add.Goals as goal
+use Rattle.ps_writing.proofs.memory.InMemoryTextWriter.add.Goals as goal
 
 pub returns-then-is_some : goal.returns-then-is_some
 returns-then-is_some g c = grind (arith, kept_no_more)

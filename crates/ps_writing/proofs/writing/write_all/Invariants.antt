@@ -1,6 +1,6 @@
 use Rattle.ps_writing.proofs.Vocabulary.{length, ◌-◌, ◌≤◌, take, Appends}
 use Rattle.ps_writing.proofs.Rising.{Progress}
-use Rattle.ps_writing.proofs.write_all.write_all.Given as goal
+use Rattle.ps_writing.proofs.writing.write_all.Given as goal
 
 -- the bytes so far were appended
 abbrev pub invariant-loop-at : goal.invariant-loop-at

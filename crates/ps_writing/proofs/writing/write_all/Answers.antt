@@ -1,7 +1,7 @@
 use Rattle.std.proofs.Common.{arith, length, length-take, length-drop}
 use Rattle.ps_writing.proofs.Prefixes.{appends_more}
 use Rattle.ps_writing.proofs.Rising.{progress, room_here}
-use Rattle.ps_writing.proofs.write_all.write_all.Goals as goal
+use Rattle.ps_writing.proofs.writing.write_all.Goals as goal
 
 pub write-requires : goal.write-requires
 write-requires g c = room_here g.T.WriteCounter.needs_room _ _ (length c.args.bytes.now)
