@@ -1,4 +1,4 @@
-use Rattle.std.proofs.Common.{◌≡◌, ◌∙◌, ◌∷◌, [], List, ℕ, None, ap, map, string_bytes, subst}
+use Rattle.std.proofs.Common.{◌≡◌, ◌∙◌, ◌∷◌, List, ℕ, None, ap, map, string_bytes, subst}
 use Rattle.ps_warnings.specs.AllLooks.{link_looks_of}
 use Rattle.ps_warnings.specs.Found.{sorted}
 use Rattle.ps_warnings.specs.Seen.{Seen, seen}
