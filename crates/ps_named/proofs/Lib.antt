@@ -1,2 +1,2 @@
 pub mod SlotNames
-pub mod EntryNames
+pub mod NamesRead

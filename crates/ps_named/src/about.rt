@@ -122,7 +122,6 @@ fn entry_name(host: &[u8], slot: u8) -> Option<Name>
 }
 
 /// The name of a slot. The files are read only where its own entry has none.
-#[tactic(auto, using(crate::proofs::EntryNames::read_by_entry))]
 fn name_of_slot(host: &[u8], libs: &[&[u8]], slot: u8) -> Option<Name>
     requires { slot < 16 }
     ensures { result ≡ read_name_spec host.now (contents libs.now) slot None }
