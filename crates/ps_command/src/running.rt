@@ -479,7 +479,16 @@ fn check_bytes<A: Allocator + Copy, O: Write>(
     ensures unrefused { IfErr result (λ e. status_of e ≢ 1) }
 {
     let paths = inputs.libraries.as_slice();
-    match ps_report::write_check(alloc, inputs.host, paths, host, libraries, printing, out) {
+    match ps_report::write_check(
+        alloc,
+        inputs.host,
+        paths,
+        host,
+        libraries,
+        printing,
+        out,
+        &mut Counts::new(),
+    ) {
         Ok(status) => Ok(status),
         Err(error) => Err(unprinted(error)),
     }

@@ -1,1 +1,5 @@
 pub mod Tables
+pub mod OneLine
+pub mod SlotLines
+pub mod LineOfSegment
+pub mod LinesOfSegments

@@ -1,16 +1,21 @@
-//! A refusal in words for a person: what the files say of a fault, as values, what it is in them, and
-//! what to do about it. Nothing is linked here.
+//! What a check says in words for a person: the files, and the segments with where each comes from;
+//! and of a refusal what the files say of a fault, as values, what it is in them, and what to do about
+//! it. Nothing is linked here.
 #![tactic(auto)]
 
 mod cases;
 mod explain;
 mod orders;
+mod overview;
 mod privates;
 mod records;
 mod references;
 mod sentences;
+mod slot_lines;
 
 pub use cases::Case;
 pub use explain::Explanation;
 pub use orders::OrderOf;
+pub use overview::overview_of;
 pub use sentences::{SENTENCE_LEN, meaning_of, remedy_of};
+pub use slot_lines::indent;

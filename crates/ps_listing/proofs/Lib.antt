@@ -3,3 +3,4 @@ pub mod JsonItems
 pub mod NumberedUses
 pub mod LinkedEntries
 pub mod FoundUnits
+pub mod FilesListed

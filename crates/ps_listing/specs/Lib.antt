@@ -1,3 +1,4 @@
 pub mod ListJson
 pub mod ListText
 pub mod LoneText
+pub mod FileLists

@@ -1,1 +1,2 @@
 pub mod SlotNames
+pub mod NamesRead

@@ -1,11 +1,11 @@
 //! The name of what a fault is about.
-ghost use Rattle.std.specs.Prelude.{◌≡◌, ◌<◌, slice_get};
+ghost use Rattle.std.specs.Prelude.{◌≡◌, ◌<◌, IfSome, None};
 ghost use Rattle.std.specs.List.{find};
 ghost use Rattle.std.specs.Option.{option_map};
 ghost use Rattle.ps_codefile.specs.Dictionary.{opened_alone};
 ghost use Rattle.ps_resolve.specs.KnownSegments.{is_in_slot};
 ghost use Rattle.ps_resolve.specs.Sources.{contents};
-ghost use Rattle.ps_named.specs.FaultNames.{entry_name as entry_name_spec, fault_name as fault_name_spec, name_at as name_at_spec, name_in_host as name_in_host_spec, name_in_record as name_in_record_spec, name_in_slot as name_in_slot_spec, name_by_role as name_by_role_spec, name_of_record as name_of_record_spec, place_name as place_name_spec, read_name as read_name_spec, slot_name as slot_name_spec};
+ghost use Rattle.ps_named.specs.FaultNames.{entry_name as entry_name_spec, fault_name as fault_name_spec, host_slot as host_slot_spec, name_at as name_at_spec, name_by_role as name_by_role_spec, name_in_record as name_in_record_spec, name_in_slot as name_in_slot_spec, name_of_record as name_of_record_spec, read_name as read_name_spec, slot_name as slot_name_spec};
 
 use ps_codefile::dictionary_layout::SLOTS;
 use ps_codefile::{Dict, Role};
@@ -55,6 +55,27 @@ fn name_in_slot(host: &HostReading, slot: u8) -> Name
     }
 }
 
+/// The name that a slot of this role has by its own entry: of one that is not empty.
+fn name_by_role(name: Name, role: Result<Role, Reason>) -> Option<Name>
+    ensures { result ≡ name_by_role_spec name role }
+{
+    match role {
+        Ok(Role::Empty) => None,
+        Ok(Role::Wanted | Role::Plain | Role::Host | Role::Unit) | Err(_) => Some(name),
+    }
+}
+
+/// The name of a slot: by its own entry, or else of the unit that is requested.
+fn slot_name(host: &HostReading, slot: u8) -> Name
+    requires { slot < SLOTS }
+    ensures { result ≡ slot_name_spec host.now slot }
+{
+    match name_by_role(host.entry(slot).name, host.role(slot)) {
+        Some(name) => name,
+        None => name_in_slot(host, slot),
+    }
+}
+
 /// The name of a slot of the host or, where the index of a record is given, that in the record of
 /// its segment.
 fn name_at(host: &HostReading, slot: u8, rec: Option<usize>) -> Option<Name>
@@ -62,13 +83,13 @@ fn name_at(host: &HostReading, slot: u8, rec: Option<usize>) -> Option<Name>
     ensures { result ≡ name_at_spec host.now slot rec }
 {
     match rec {
-        None => Some(name_in_slot(host, slot)),
+        None => Some(slot_name(host, slot)),
         Some(rec) => name_in_record(host, slot, rec),
     }
 }
 
 /// That of files that were read.
-fn name_read(reading: &Reading, slot: u8, rec: Option<usize>) -> Option<Name>
+fn name_in_reading(reading: &Reading, slot: u8, rec: Option<usize>) -> Option<Name>
     requires { slot < SLOTS }
     ensures { result ≡ read_name_spec reading.now.host reading.now.libs slot rec }
 {
@@ -78,24 +99,15 @@ fn name_read(reading: &Reading, slot: u8, rec: Option<usize>) -> Option<Name>
     }
 }
 
-/// That of these files.
+/// That of these files, which are read. A function by itself, so that what was read takes room of
+/// the stack only where it is needed.
 #[inline(never)]
 fn read_name(host: &[u8], libs: &[&[u8]], slot: u8, rec: Option<usize>) -> Option<Name>
     requires { slot < SLOTS }
     ensures { result ≡ read_name_spec host.now (contents libs.now) slot rec }
 {
     let reading = read(host, libs);
-    name_read(&reading, slot, rec)
-}
-
-/// The name that a slot of this role has by its own entry: of one that is not empty.
-fn name_by_role(name: Name, role: Result<Role, Reason>) -> Option<Name>
-    ensures { result ≡ name_by_role_spec name role }
-{
-    match role {
-        Ok(Role::Empty) => None,
-        Ok(Role::Wanted | Role::Plain | Role::Host | Role::Unit) | Err(_) => Some(name),
-    }
+    name_in_reading(&reading, slot, rec)
 }
 
 /// The name that a slot of a file has by its own entry.
@@ -109,10 +121,10 @@ fn entry_name(host: &[u8], slot: u8) -> Option<Name>
     }
 }
 
-/// The name that goes with a slot and no record.
-fn slot_name(host: &[u8], libs: &[&[u8]], slot: u8) -> Option<Name>
+/// The name of a slot. The files are read only where its own entry has none.
+fn name_of_slot(host: &[u8], libs: &[&[u8]], slot: u8) -> Option<Name>
     requires { slot < SLOTS }
-    ensures { result ≡ slot_name_spec host.now (contents libs.now) slot }
+    ensures { result ≡ read_name_spec host.now (contents libs.now) slot None }
 {
     match entry_name(host, slot) {
         Some(name) => Some(name),
@@ -120,25 +132,30 @@ fn slot_name(host: &[u8], libs: &[&[u8]], slot: u8) -> Option<Name>
     }
 }
 
-/// The name that goes with a slot and perhaps a record.
-fn place_name(host: &[u8], libs: &[&[u8]], slot: u8, rec: Option<usize>) -> Option<Name>
+/// The name of a slot or, where the index of a record is given, that in the record.
+fn name_in_files(host: &[u8], libs: &[&[u8]], slot: u8, rec: Option<usize>) -> Option<Name>
     requires { slot < SLOTS }
-    ensures { result ≡ place_name_spec host.now (contents libs.now) slot rec }
+    ensures { result ≡ read_name_spec host.now (contents libs.now) slot rec }
 {
     match rec {
-        None => slot_name(host, libs, slot),
+        None => name_of_slot(host, libs, slot),
         Some(rec) => read_name(host, libs, slot, Some(rec)),
     }
 }
 
-/// The same; none where the host has no such slot.
-fn name_in_host(host: &[u8], libs: &[&[u8]], rec: Option<usize>, slot: u8) -> Option<Name>
-    ensures { result ≡ name_in_host_spec host.now (contents libs.now) rec slot }
+/// The slot of a fault, where a host has it.
+fn host_slot(fault: Fault) -> Option<u8>
+    ensures slot { result ≡ host_slot_spec fault }
+    ensures in_range { IfSome result (λ slot. slot < SLOTS) }
 {
-    if SLOTS <= slot {
-        None
-    } else {
-        place_name(host, libs, slot, rec)
+    match fault.slot {
+        None => None,
+        Some(slot) => {
+            if SLOTS <= slot {
+                return None;
+            }
+            Some(slot)
+        }
     }
 }
 
@@ -148,8 +165,8 @@ fn name_in_host(host: &[u8], libs: &[&[u8]], rec: Option<usize>, slot: u8) -> Op
 /// refused. Of a fault with a record that could be read it is the name in that record: of the unit
 /// that is requested, or of the symbol. Of any other fault with a slot it is the name that the slot
 /// has in the host's dictionary, of a unit that is wanted or of a segment; and where the slot is
-/// empty, that of the unit that is requested there. `None` of a fault of a file as a
-/// whole. It takes no memory.
+/// empty, that of the unit that is requested there. `None` of a fault of a file as a whole. It takes
+/// no memory.
 ///
 /// Source: UCSD Pascal II.0 manual, code file format; which name it is, this project's profile.
 #[tactic(auto, unfolding(crate::specs::FaultNames::fault_name))]
@@ -157,60 +174,22 @@ pub fn fault_name(host: &[u8], libs: &[&[u8]], fault: Fault) -> Option<Name>
     ensures { result ≡ fault_name_spec host.now (contents libs.now) fault }
 {
     let rec = fault.read_record();
-    match fault.slot {
+    match host_slot(fault) {
         None => None,
-        Some(slot) => name_in_host(host, libs, rec, slot),
+        Some(slot) => name_in_files(host, libs, slot, rec),
     }
 }
 
-/// The name that goes with a slot and no record, of files that were read.
-fn slot_name_in(host: &[u8], reading: &Reading, slot: u8) -> Option<Name>
-    requires in_range { slot < SLOTS }
-    requires same { reading.now.host ≡ host.now }
-    ensures { result ≡ slot_name_spec host.now reading.now.libs slot }
-{
-    match entry_name(host, slot) {
-        Some(name) => Some(name),
-        None => name_read(reading, slot, None),
-    }
-}
-
-/// The name that goes with a slot and perhaps a record, of files that were read.
-fn place_name_in(host: &[u8], reading: &Reading, slot: u8, rec: Option<usize>) -> Option<Name>
-    requires in_range { slot < SLOTS }
-    requires same { reading.now.host ≡ host.now }
-    ensures { result ≡ place_name_spec host.now reading.now.libs slot rec }
-{
-    match rec {
-        None => slot_name_in(host, reading, slot),
-        Some(rec) => name_read(reading, slot, Some(rec)),
-    }
-}
-
-/// The same; none where the host has no such slot.
-fn name_in_read_host(host: &[u8], reading: &Reading, rec: Option<usize>, slot: u8) -> Option<Name>
-    requires { reading.now.host ≡ host.now }
-    ensures { result ≡ name_in_host_spec host.now reading.now.libs rec slot }
-{
-    if SLOTS <= slot {
-        None
-    } else {
-        place_name_in(host, reading, slot, rec)
-    }
-}
-
-/// The name that `fault_name` gives, of files that were read: `host` is the file of the reading's
-/// host. It reads them no second time.
+/// The name that `fault_name` gives, of files that were read. It reads them no second time.
 ///
 /// Source: UCSD Pascal II.0 manual, code file format; which name it is, this project's profile.
 #[tactic(auto, unfolding(crate::specs::FaultNames::fault_name))]
-pub fn fault_name_in(host: &[u8], reading: &Reading, fault: Fault) -> Option<Name>
-    requires { reading.now.host ≡ host.now }
-    ensures { result ≡ fault_name_spec host.now reading.now.libs fault }
+pub fn fault_name_in(reading: &Reading, fault: Fault) -> Option<Name>
+    ensures { result ≡ fault_name_spec reading.now.host reading.now.libs fault }
 {
     let rec = fault.read_record();
-    match fault.slot {
+    match host_slot(fault) {
         None => None,
-        Some(slot) => name_in_read_host(host, reading, rec, slot),
+        Some(slot) => name_in_reading(reading, slot, rec),
     }
 }

@@ -1,11 +1,7 @@
-pub mod OneLine
-pub mod SlotLines
-pub mod LineOfSegment
-pub mod LinesOfSegments
 pub mod Verdicts
-pub mod FilesListed
 pub mod Texts
 pub mod SegmentTexts
 pub mod WarningLines
 pub mod ReportItems
 pub mod LookLines
+pub mod Prefixes

@@ -2,7 +2,7 @@
 use Rattle.std.proofs.Common.{◌≡◌, ◌∙◌, ◌<◌, ◌+◌, ◌++◌, ◌∷◌, [], ℕ, List, ap, arith, get_or, drop, length, refl, sym, subst, append-nil, true}
 use Rattle.std.proofs.lemmas.List.{append_assoc, drop_more}
 use Rattle.ps_warnings.specs.declared.warnings.Warning.{Warning}
-use Rattle.ps_report.specs.SlotLines.{one_line}
+use Rattle.ps_explained.specs.SlotLines.{one_line}
 use Rattle.ps_report.specs.WarningLines.{AreLinesBy, AreLookLines}
 
 -- the lines of those that are left are still to be added to a text that had this before

@@ -4,7 +4,7 @@ use Rattle.std.proofs.lemmas.List.{append_assoc, drop_more}
 use Rattle.ps_writing.specs.JsonText.{comma_unless}
 use Rattle.ps_warnings.specs.declared.warnings.Warning.{Warning}
 use Rattle.ps_warnings.specs.declared.weight.Weight.{Weight}
-use Rattle.ps_report.specs.JsonStrings.{json_text}
+use Rattle.ps_named.specs.JsonStrings.{json_text}
 use Rattle.ps_report.specs.ReportJson.{AreItems, AreLooks, BeginsWith, IsDocument, lists_json, looks_json, report_json, warning_json}
 use Rattle.ps_report.specs.declared.verdict.Verdict.{Verdict}
 

@@ -8,9 +8,9 @@ use Rattle.ps_words.specs.declared.fault.Reason.{Reason}
 use Rattle.ps_words.specs.declared.fault.Reason.TheVariants as reason
 use Rattle.ps_linkfile.specs.declared.summary.Summary.{Summary}
 use Rattle.ps_resolve.specs.Standing.{NoneStands}
-use Rattle.ps_report.specs.SlotLines.{AddsSlotLines, one_line}
-use Rattle.ps_report.proofs.OneLine.{one_append, one_digits}
-use Rattle.ps_report.proofs.SlotLines.{adds_no_line, adds_then_none}
+use Rattle.ps_explained.specs.SlotLines.{AddsSlotLines, one_line}
+use Rattle.ps_explained.proofs.OneLine.{one_append, one_digits}
+use Rattle.ps_explained.proofs.SlotLines.{adds_no_line, adds_then_none}
 use Rattle.ps_report.specs.Lists.{lacks_host}
 use Rattle.ps_report.specs.Verdicts.{IsVerdict, fault_of, verdict_line}
 use Rattle.ps_report.specs.WarningLines.{AddsWarnings, other_lines}

@@ -1,7 +1,8 @@
 -- Where the line of the verdict and the lists of files are in the text of a report.
 use Rattle.std.proofs.Common.{◌≡◌, ◌∙◌, ◌++◌, ℕ, List, codes, ap}
 use Rattle.std.proofs.lemmas.List.{append_assoc}
-use Rattle.ps_report.specs.Lists.{AreLists, HasLists}
+use Rattle.ps_listing.specs.FileLists.{AreLists}
+use Rattle.ps_report.specs.Lists.{HasLists}
 use Rattle.ps_report.specs.Verdicts.{Tells, verdict_line}
 use Rattle.ps_report.specs.WarningLines.{other_lines}
 use Rattle.ps_report.specs.declared.verdict.Verdict.{Verdict}

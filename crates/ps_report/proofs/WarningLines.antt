@@ -5,9 +5,9 @@ use Rattle.std.specs.List.{after_first, before_first, filter, flat_map, list_all
 use Rattle.std.proofs.lemmas.Bool.Decides.{nat_tests}
 use Rattle.std.proofs.lemmas.List.{append_assoc, length-take-le}
 use Rattle.std.proofs.lemmas.List.Sums.{passes_at_first, split_at_first}
-use Rattle.ps_report.specs.SlotLines.{AddsSlotLines, indent, is_slot_line, lines_of, one_line, slot_lines, with_first}
-use Rattle.ps_report.proofs.OneLine.{Splits, and_both, and_left, and_right, one_append}
-use Rattle.ps_report.proofs.SlotLines.{adds_line, adds_no_line, adds_then}
+use Rattle.ps_explained.specs.SlotLines.{AddsSlotLines, indent, is_slot_line, lines_of, one_line, slot_lines, with_first}
+use Rattle.ps_explained.proofs.OneLine.{Splits, and_both, and_left, and_right, one_append}
+use Rattle.ps_explained.proofs.SlotLines.{adds_line, adds_no_line, adds_then}
 use Rattle.ps_report.specs.WarningLines.{AddsWarnings, head, is_warning_line, mark, note_line, other_line, other_lines, warning_line, warning_lines, warnings_in}
 
 -- a line ends at the first byte 10

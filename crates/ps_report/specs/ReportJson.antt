@@ -1,42 +1,14 @@
 -- The report of a check as JSON.
 -- Source: RFC 8259; which members there are is this project's profile.
-use Rattle.std.specs.Prelude.{◌≡◌, ℕ, Bool, true, false, List, [], ◌∷◌, ◌++◌, Option, Some, None, codes, decimal}
+use Rattle.std.specs.Prelude.{◌≡◌, ℕ, Bool, true, false, List, [], ◌∷◌, ◌++◌, Option, codes, decimal}
 use Rattle.ps_writing.specs.JsonText.{comma_unless}
 use Rattle.ps_warnings.specs.Weights.{weight_word}
 use Rattle.ps_warnings.specs.declared.warnings.Warning.{Warning}
 use Rattle.ps_warnings.specs.declared.weight.Weight.{Weight}
-use Rattle.ps_words.specs.FaultText.{kind_of, name_of, number_of}
-use Rattle.ps_words.specs.declared.fault.Fault.{Fault}
-use Rattle.ps_words.specs.declared.fault.Reason.{Reason}
-use Rattle.ps_report.specs.JsonStrings.{json_text, name_members, name_or_null}
+use Rattle.ps_named.specs.FaultJson.{fault_json, number_or_null}
+use Rattle.ps_named.specs.JsonStrings.{json_text, name_or_null}
 use Rattle.ps_report.specs.declared.verdict.Verdict.{Verdict}
 use Rattle.ps_report.specs.declared.verdict.Verdict.TheVariants.{Links, Refused}
-
--- a number, or `null` where there is none
-abbrev pub number_or_null : Option ℕ → List ℕ
-number_or_null None = codes "null"
-number_or_null (Some n) = decimal n
-
--- `"number":13,"reason":"MissingUnit","kind":null`
-abbrev pub reason_members : Reason → List ℕ
-reason_members why =
-    codes "\"number\":" ++ (decimal (number_of why)
-    ++ (codes ",\"reason\":\"" ++ (name_of why
-    ++ (codes "\",\"kind\":" ++ number_or_null (kind_of why)))))
-
--- `"file":0,"slot":7,"record":null,"reference":null`
-abbrev pub place_members : Fault → List ℕ
-place_members f =
-    codes "\"file\":" ++ (decimal f.file
-    ++ (codes ",\"slot\":" ++ (number_or_null f.slot
-    ++ (codes ",\"record\":" ++ (number_or_null f.rec
-    ++ (codes ",\"reference\":" ++ number_or_null f.reference))))))
-
--- `{"number":13,"reason":"MissingUnit","kind":null,"file":0,"slot":7,"record":null,"reference":null,
--- "name":"UTIL    ","name_hex":"5554494C20202020"}`: a fault, with the name of what it is about
-abbrev pub fault_json : Option (List ℕ) → Fault → List ℕ
-fault_json name f = codes "{" ++ (reason_members f.reason
-    ++ (codes "," ++ (place_members f ++ (codes "," ++ (name_members name ++ codes "}")))))
 
 -- `{"links":true,"segments":2,"private_words":4,"blocks":3,"fault":null`, or of files that are
 -- refused `{"links":false,"fault":` and the fault, with the name of what it is about

@@ -2,8 +2,8 @@
 -- Source: this project's profile.
 use Rattle.std.specs.Prelude.{◌≡◌, ℕ, Bool, true, false, List, ◌∷◌, Option, length}
 use Rattle.ps_resolve.specs.Standing.{NoneStands}
-use Rattle.ps_report.specs.SegmentLines.{segment_lines}
-use Rattle.ps_report.specs.SlotLines.{slot_lines}
+use Rattle.ps_explained.specs.SegmentLines.{segment_lines}
+use Rattle.ps_explained.specs.SlotLines.{slot_lines}
 use Rattle.ps_warnings.specs.declared.warnings.Warning.{Warning}
 use Rattle.ps_report.specs.Lists.{HasLists, lacks_host}
 use Rattle.ps_report.specs.ReportJson.{AreLooksOf, IsReportJson}

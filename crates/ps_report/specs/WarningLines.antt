@@ -2,7 +2,7 @@
 -- Source: this project's profile.
 use Rattle.std.specs.Prelude.{◌≡◌, ℕ, ◌+◌, ◌==◌, ◌<◌, if◌then◌else◌, Bool, true, false, List, [], ◌∷◌, ◌++◌, codes, length}
 use Rattle.std.specs.List.{filter, flat_map, starts_with}
-use Rattle.ps_report.specs.SlotLines.{indent, lines_of, one_line}
+use Rattle.ps_explained.specs.SlotLines.{indent, lines_of, one_line}
 use Rattle.ps_warnings.specs.declared.warnings.Warning.{Warning}
 
 -- a line begins with `warning: `

@@ -5,14 +5,13 @@ ghost use Rattle.ps_resolve.specs.Sources.{contents};
 ghost use Rattle.ps_warnings.specs.AllLooks.{link_looks_of};
 ghost use Rattle.ps_warnings.specs.Found.{link_looks, sorted};
 ghost use Rattle.ps_warnings.specs.SeenSegments.{seen_segments};
-ghost use Rattle.ps_report.specs.SegmentLines.{segment_lines};
-ghost use Rattle.ps_report.specs.SlotLines.{AddsSlotLines};
+ghost use Rattle.ps_explained.specs.SegmentLines.{segment_lines};
+ghost use Rattle.ps_explained.specs.SlotLines.{slot_lines};
 ghost use Rattle.ps_report.specs.Verdicts.{fault_of, verdict_name as verdict_name_spec};
 
 use crate::names::verdict_name;
-use crate::overview::{add_files, add_segments};
 use crate::verdict::Verdict;
-use ps_explained::{Case, Explanation};
+use ps_explained::{Case, Explanation, overview_of};
 use ps_resolve::{Reading, read};
 use ps_warnings::{Inputs, Looks, ReadSegment, looks_of, segments_of};
 use ps_words::{Fault, Name};
@@ -47,8 +46,8 @@ pub(crate) fn findings_of<'a, A: Allocator + Copy>(
     verdict: Verdict,
 ) -> Result<Findings<'a, A>, AllocError>
     ensures segments { IfOk result (λ findings. reading_fault host.now (contents libs.now) ≡ None
-        → AddsSlotLines [] (segment_lines (host_path.now ∷ contents paths.now) host.now
-        (contents libs.now)) (string_bytes findings.overview)) }
+        → slot_lines (string_bytes findings.overview) ≡ segment_lines
+        (host_path.now ∷ contents paths.now) host.now (contents libs.now)) }
     ensures name { IfOk result (λ findings. findings.name
         ≡ verdict_name_spec host.now (contents libs.now) verdict) }
     ensures explanation { IfOk result (λ findings. fault_of verdict ≡ None
@@ -66,7 +65,7 @@ pub(crate) fn findings_of<'a, A: Allocator + Copy>(
     };
     let reading = read_files(host, libs);
     let fault = verdict.fault();
-    let name = verdict_name(host, &reading, verdict);
+    let name = verdict_name(&reading, verdict);
     let list = segments_of(alloc, &inputs, &reading)?;
     let overview = overview_of(alloc, &inputs, &reading, list.as_slice())?;
     let explanation = explanation_of(alloc, &inputs, &reading, list.as_slice(), fault)?;
@@ -86,24 +85,6 @@ fn read_files<'a>(host: &'a [u8], libs: &'a [&'a [u8]]) -> Reading<'a>
     ensures { result ≡ record { host = host.now; libs = contents libs.now } }
 {
     read(host, libs)
-}
-
-/// The files, and the segments with where each comes from, in lines.
-fn overview_of<A: Allocator + Copy>(
-    alloc: A,
-    inputs: &Inputs<'_>,
-    reading: &Reading<'_>,
-    list: &[ReadSegment<'_>],
-) -> Result<String<A>, AllocError>
-    ensures { IfOk result (λ text. reading_fault reading.now.host reading.now.libs ≡ None
-        → AddsSlotLines [] (segment_lines
-        (inputs.now.host_path.now ∷ contents inputs.now.paths.now)
-        reading.now.host reading.now.libs) (string_bytes text)) }
-{
-    let mut text = String::new(alloc);
-    add_files(alloc, &mut text, inputs)?;
-    add_segments(alloc, &mut text, inputs, reading, list)?;
-    Ok(text)
 }
 
 /// What the fault is in these files, and what to do about it, in lines; empty where there is none.

@@ -4,14 +4,11 @@
 
 mod findings;
 mod json;
-mod json_strings;
 mod lines;
 mod looks;
 mod names;
-mod overview;
 mod printing;
 mod report;
-mod slot_lines;
 mod verdict;
 mod without_host;
 

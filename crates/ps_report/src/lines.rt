@@ -1,9 +1,9 @@
 //! Lines of a report that are a warning's, and lines that are no warning's.
 ghost use Rattle.std.specs.Prelude.{◌≡◌, ◌++◌, [], List, ℕ, OnOk, false, length, string_bytes, true};
-ghost use Rattle.ps_report.specs.SlotLines.{AddsSlotLines, one_line};
+ghost use Rattle.ps_explained.specs.SlotLines.{AddsSlotLines, one_line};
 ghost use Rattle.ps_report.specs.WarningLines.{AddsWarnings, AreLinesBy, AreLookLines, head as head_spec, is_warning_line as is_warning_line_spec, mark as mark_spec, note_line, other_line, other_lines, warning_line};
 
-use crate::slot_lines::indent;
+use ps_explained::indent;
 use ps_warnings::Warning;
 use std::alloc::{AllocError, Allocator};
 use std::fmt::Write as _;

@@ -7,14 +7,12 @@ use ps_named::fault_name_in;
 use ps_resolve::Reading;
 use ps_words::Name;
 
-/// The name of what the fault of a verdict on files that were read is about; `host` is the first of
-/// them.
-pub(crate) fn verdict_name(host: &[u8], reading: &Reading<'_>, verdict: Verdict) -> Option<Name>
-    requires { reading.now.host ≡ host.now }
-    ensures { result ≡ verdict_name_spec host.now reading.now.libs verdict }
+/// The name of what the fault of a verdict on files that were read is about.
+pub(crate) fn verdict_name(reading: &Reading<'_>, verdict: Verdict) -> Option<Name>
+    ensures { result ≡ verdict_name_spec reading.now.host reading.now.libs verdict }
 {
     match verdict {
         Verdict::Links(_) => None,
-        Verdict::Refused(fault) => fault_name_in(host, reading, fault),
+        Verdict::Refused(fault) => fault_name_in(reading, fault),
     }
 }

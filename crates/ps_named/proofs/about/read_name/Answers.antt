@@ -4,6 +4,6 @@ use Rattle.ps_named.specs.FaultNames.{read_name}
 use Rattle.ps_named.proofs.about.read_name.Goals as goal
 
 pub returns : goal.returns
-returns c = c.name_read.ensures
+returns c = c.name_in_reading.ensures
     ∙ ap (λ (r : ReadFiles). read_name r.host r.libs c.args.slot c.args.rec)
     c.read-reading.ensures

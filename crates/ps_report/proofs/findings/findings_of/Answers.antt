@@ -1,4 +1,4 @@
-use Rattle.std.proofs.Common.{◌≡◌, ◌∙◌, ◌∷◌, [], List, ℕ, None, ap, map, string_bytes, subst}
+use Rattle.std.proofs.Common.{◌≡◌, ◌∙◌, ◌∷◌, List, ℕ, None, ap, map, string_bytes, subst}
 use Rattle.ps_warnings.specs.AllLooks.{link_looks_of}
 use Rattle.ps_warnings.specs.Found.{sorted}
 use Rattle.ps_warnings.specs.Seen.{Seen, seen}
@@ -6,8 +6,8 @@ use Rattle.ps_warnings.specs.SeenSegments.{seen_by}
 use Rattle.ps_resolve.specs.AllFaults.{reading_fault}
 use Rattle.ps_resolve.specs.Readings.{ReadFiles, opened_host}
 use Rattle.ps_resolve.specs.Sources.{contents}
-use Rattle.ps_report.specs.SegmentLines.{segment_lines}
-use Rattle.ps_report.specs.SlotLines.{AddsSlotLines}
+use Rattle.ps_explained.specs.SegmentLines.{segment_lines}
+use Rattle.ps_explained.specs.SlotLines.{slot_lines}
 use Rattle.ps_report.specs.Verdicts.{verdict_name}
 use Rattle.ps_report.proofs.findings.findings_of.Goals as goal
 
@@ -16,7 +16,7 @@ returns-clause-segments g c =
     let paths : List (List ℕ) = c.args.host_path.now ∷ contents c.args.paths.now in
     let overview = string_bytes c.in_ok-overview.overview in
     subst (λ (f : ReadFiles). reading_fault f.host f.libs ≡ None
-    → AddsSlotLines [] (segment_lines paths f.host f.libs) overview) c.read_files-reading.ensures
+    → slot_lines overview ≡ segment_lines paths f.host f.libs) c.read_files-reading.ensures
     c.in_ok-overview.ensures
 
 pub returns-clause-looks : goal.returns-clause-looks
@@ -31,12 +31,9 @@ returns-clause-looks g c =
     ∙ ap (λ (f : ReadFiles). seen_by host libs (opened_host f.host f.libs))
     c.read_files-reading.ensures))
 
-pub verdict_name-name-requires : goal.verdict_name-name-requires
-verdict_name-name-requires g c = ap (λ (f : ReadFiles). f.host) c.read_files-reading.ensures
-
 pub returns-clause-name : goal.returns-clause-name
 returns-clause-name g c = c.verdict_name-name.ensures
-    ∙ ap (λ (f : ReadFiles). verdict_name c.args.host.now f.libs c.args.verdict)
+    ∙ ap (λ (f : ReadFiles). verdict_name f.host f.libs c.args.verdict)
     c.read_files-reading.ensures
 
 pub returns-clause-explanation : goal.returns-clause-explanation

@@ -1,6 +1,6 @@
 use Rattle.std.proofs.Common.{[], ◌++◌, length, refl, string_bytes}
 use Rattle.std.proofs.lemmas.Result.{on_ok_weaker}
-use Rattle.ps_report.proofs.SlotLines.{adds_then_none}
+use Rattle.ps_explained.proofs.SlotLines.{adds_then_none}
 use Rattle.ps_report.proofs.LookLines.{three_added}
 use Rattle.ps_report.proofs.WarningLines.{added_none}
 use Rattle.ps_report.proofs.lines.add_looks.Goals as goal

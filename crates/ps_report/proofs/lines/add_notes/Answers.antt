@@ -2,7 +2,7 @@ use Rattle.std.proofs.Common.{[], arith, drop, string_bytes}
 use Rattle.std.proofs.lemmas.List.{drop_all}
 use Rattle.ps_report.specs.WarningLines.{note_line}
 use Rattle.ps_report.proofs.LookLines.{owed_all, owed_at, owed_none}
-use Rattle.ps_report.proofs.SlotLines.{adds_none, adds_then_none}
+use Rattle.ps_explained.proofs.SlotLines.{adds_none, adds_then_none}
 use Rattle.ps_report.proofs.WarningLines.{added_none, none_added}
 use Rattle.ps_report.proofs.lines.add_notes.Goals as goal
 

@@ -1,5 +1,5 @@
 use Rattle.std.proofs.Common.{[], drop, string_bytes}
-use Rattle.ps_report.specs.SlotLines.{AddsSlotLines}
+use Rattle.ps_explained.specs.SlotLines.{AddsSlotLines}
 use Rattle.ps_report.specs.WarningLines.{AddsWarnings, note_line}
 use Rattle.ps_report.proofs.LookLines.{Owed}
 use Rattle.ps_report.proofs.lines.add_notes.Given as goal

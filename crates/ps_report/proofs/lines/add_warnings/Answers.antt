@@ -1,6 +1,6 @@
 use Rattle.std.proofs.Common.{[], List, arith, drop, length, string_bytes, subst}
 use Rattle.std.proofs.lemmas.List.{drop_all, take_all}
-use Rattle.ps_report.proofs.SlotLines.{adds_none, adds_then_none}
+use Rattle.ps_explained.proofs.SlotLines.{adds_none, adds_then_none}
 use Rattle.ps_warnings.specs.declared.warnings.Warning.{Warning}
 use Rattle.ps_report.specs.WarningLines.{AddsWarnings, warning_line}
 use Rattle.ps_report.proofs.LookLines.{owed_all, owed_at, owed_none}

@@ -1,5 +1,5 @@
 use Rattle.std.proofs.Common.{[], drop, length, string_bytes, take}
-use Rattle.ps_report.specs.SlotLines.{AddsSlotLines}
+use Rattle.ps_explained.specs.SlotLines.{AddsSlotLines}
 use Rattle.ps_report.specs.WarningLines.{AddsWarnings, warning_line}
 use Rattle.ps_report.proofs.LookLines.{Owed}
 use Rattle.ps_report.proofs.lines.add_warnings.Given as goal

@@ -1,6 +1,6 @@
 use Rattle.std.proofs.Common.{◌∙◌, lit<, sym}
 use Rattle.std.proofs.lemmas.Str.Pattern.{split_once_first}
-use Rattle.ps_report.proofs.OneLine.{split_line, unsplit_line}
+use Rattle.ps_explained.proofs.OneLine.{split_line, unsplit_line}
 use Rattle.ps_report.proofs.lines.first_line.Goals as goal
 
 pub returns-in-Some : goal.returns-in-Some

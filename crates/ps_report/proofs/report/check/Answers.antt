@@ -1,10 +1,10 @@
 use Rattle.std.proofs.Common.{◌≡◌, ◌∙◌, ◌∷◌, ◌++◌, [], ℕ, List, Bor, length, map, string_bytes, subst, sym, vec_len, ap, arith}
 use Rattle.std.proofs.lemmas.Grind.{common_steps}
 use Rattle.ps_resolve.specs.Sources.{contents}
-use Rattle.ps_report.specs.SegmentLines.{segment_lines}
-use Rattle.ps_report.specs.SlotLines.{AddsSlotLines, slot_lines}
-use Rattle.ps_report.proofs.SlotLines.{adds_then_none, lines_in}
-use Rattle.ps_report.specs.Lists.{AreLists}
+use Rattle.ps_explained.specs.SegmentLines.{segment_lines}
+use Rattle.ps_explained.specs.SlotLines.{AddsSlotLines, slot_lines}
+use Rattle.ps_explained.proofs.SlotLines.{adds_then_none, lines_in}
+use Rattle.ps_listing.specs.FileLists.{AreLists}
 use Rattle.ps_report.specs.WarningLines.{AddsWarnings, other_lines}
 use Rattle.ps_report.proofs.SegmentTexts.{links_of, no_lists}
 use Rattle.ps_report.proofs.Texts.{lists_in, told_in}
@@ -63,7 +63,6 @@ returns-clause-segments g c = λ none.
     let libs = contents c.args.libs.now in
     let verdict = c.in_ok-verdict.verdict in
     let lines = segment_lines (c.args.host_path.now ∷ contents c.args.paths.now) host libs in
-    let overview = string_bytes c.in_ok-findings.findings.overview in
     let before = string_bytes c.in_ok-text.text in
     let text = string_bytes c.add_looks.new.text in
     let links = links_of host libs verdict c.in_ok-verdict.ensures.right none in
@@ -73,7 +72,7 @@ returns-clause-segments g c = λ none.
     let unlisted = c.as_str-3.ensures.value
     ∙ c.in_ok-lists.ensures.none (no_lists verdict libs links) in
     let shown = ap slot_lines c.as_str.ensures.value
-    ∙ lines_in overview lines (c.in_ok-findings.ensures.segments read) in
+    ∙ c.in_ok-findings.ensures.segments read in
     let told = subst (λ (ls : List (List ℕ)). AddsSlotLines [] ls before) shown
     (c.in_ok-text.ensures.lines silent unlisted) in
     lines_in text lines

@@ -1,6 +1,6 @@
 use Rattle.std.proofs.Common.{◌∙◌, ◌-◌, length, take, sym, string_bytes, lit<}
 use Rattle.std.proofs.lemmas.Str.Pattern.{ends_char}
-use Rattle.ps_report.proofs.SlotLines.{adds_end, adds_none}
+use Rattle.ps_explained.proofs.SlotLines.{adds_end, adds_none}
 use Rattle.ps_report.proofs.WarningLines.{adds_end_of_line, none_added}
 use Rattle.ps_report.proofs.report.end_line.Goals as goal
 

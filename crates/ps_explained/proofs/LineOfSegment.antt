@@ -1,0 +1,66 @@
+-- The line of a segment is one line, and begins with `slot `.
+use Rattle.std.proofs.Common.{◌≡◌, ◌++◌, ◌∷◌, ◌+◌, ◌/◌, ◌%◌, ◌==◌, [], ℕ, List, true, not, codes, refl, arith}
+use Rattle.std.specs.Prelude.{Option, Some, None, decimal}
+use Rattle.std.specs.Str.{IsUtf8}
+use Rattle.ps_filetype.specs.Shown.{shown_name, shown_path}
+use Rattle.ps_explained.specs.SlotLines.{is_slot_line, one_line}
+use Rattle.ps_warnings.specs.SegmentParts.{part_words}
+use Rattle.ps_explained.specs.SegmentLines.{from_words, head_words, slot_words, two_digits}
+use Rattle.ps_warnings.specs.declared.segments.SegmentPart.{SegmentPart}
+use Rattle.ps_warnings.specs.declared.segments.SegmentPart.TheVariants as part
+use Rattle.ps_explained.proofs.OneLine.{above, and_both, one_append, one_digits, one_name, one_path}
+
+one_two : (n : ℕ) → one_line (two_digits n) ≡ true
+one_two n = and_both (not ((48 + n / 10) == 10)) (one_line ((48 + n % 10) ∷ []))
+    (above 48 (n / 10) (omega arith)) (and_both (not ((48 + n % 10) == 10)) true
+    (above 48 (n % 10) (omega arith)) refl)
+
+one_part : (what : SegmentPart) → one_line (part_words what) ≡ true
+one_part part.Plain = refl
+one_part part.Host = refl
+one_part part.Unit = refl
+one_part part.Wanted = refl
+one_part (part.Added requester rec) =
+    one_append (codes "a unit that record ")
+    (decimal rec ++ (codes " of " ++ (shown_name requester ++ codes " requests"))) refl
+    (one_append (decimal rec) (codes " of " ++ (shown_name requester ++ codes " requests"))
+    (one_digits 10 rec)
+    (one_append (codes " of ") (shown_name requester ++ codes " requests") refl
+    (one_append (shown_name requester) (codes " requests") (one_name requester) refl)))
+
+one_slot : (slot : Option ℕ) → one_line (slot_words slot) ≡ true
+one_slot None = refl
+one_slot (Some n) = one_append (codes "slot ") (two_digits n) refl (one_two n)
+
+one_head : (slot : Option ℕ) (name : List ℕ) (what : SegmentPart)
+    → one_line (head_words slot name what) ≡ true
+one_head slot name what =
+    one_append (slot_words slot) (32 ∷ (shown_name name ++ (codes ": " ++ part_words what)))
+    (one_slot slot)
+    (one_append (shown_name name) (codes ": " ++ part_words what) (one_name name)
+    (one_append (codes ": ") (part_words what) refl (one_part what)))
+
+one_from : (path : List ℕ) (index size : ℕ) → IsUtf8 path
+    → one_line (from_words path index size) ≡ true
+one_from path index size text =
+    let bytes = decimal size ++ codes " bytes" in
+    let comma = codes ", " ++ bytes in
+    let entry = codes " entry " ++ (two_digits index ++ comma) in
+    one_append (codes ", from ") (shown_path path ++ entry) refl
+    (one_append (shown_path path) entry (one_path path text)
+    (one_append (codes " entry ") (two_digits index ++ comma) refl
+    (one_append (two_digits index) comma (one_two index)
+    (one_append (codes ", ") bytes refl
+    (one_append (decimal size) (codes " bytes") (one_digits 10 size) refl)))))
+
+pub one_segment : (slot : Option ℕ) (name : List ℕ) (what : SegmentPart) (path : List ℕ)
+    (index size : ℕ) → IsUtf8 path → one_line
+    (head_words slot name what ++ from_words path index size) ≡ true
+one_segment slot name what path index size text =
+    one_append (head_words slot name what) (from_words path index size) (one_head slot name what)
+    (one_from path index size text)
+
+pub begins : (slot : Option ℕ) (n : ℕ) (name : List ℕ) (what : SegmentPart) (more : List ℕ)
+    → slot ≡ Some n → is_slot_line (head_words slot name what ++ more) ≡ true
+begins None n name what more e = cc
+begins (Some m) n name what more e = refl

@@ -1,0 +1,16 @@
+use Rattle.std.proofs.Common.{◌∷◌, string_bytes}
+use Rattle.std.proofs.lemmas.Result.{on_ok_weaker}
+use Rattle.ps_resolve.specs.Sources.{contents}
+use Rattle.ps_explained.specs.SegmentLines.{segment_lines}
+use Rattle.ps_explained.proofs.SlotLines.{adds_then_none}
+use Rattle.ps_explained.proofs.overview.add_segments.Goals as goal
+
+pub returns : goal.returns
+returns g c = λ none.
+    let files = c.args.reading.now in
+    let lines = segment_lines (c.args.inputs.now.host_path.now
+    ∷ contents c.args.inputs.now.paths.now) files.host files.libs in
+    on_ok_weaker c.add_other_lines.result
+    (λ more. adds_then_none (string_bytes c.args.text.now) (string_bytes c.add_each.new.text)
+    (string_bytes c.add_other_lines.new.text) lines (c.in_ok-add_each.ensures none) more)
+    c.add_other_lines.ensures

@@ -1,0 +1,466 @@
+//! The files, and the segments with where each comes from.
+ghost use Rattle.std.specs.Prelude.{◌≡◌, ◌∷◌, ◌++◌, [], IfOk, None, OnOk, Some, ℕ, length, string_bytes};
+ghost use Rattle.ps_resolve.specs.AllFaults.{reading_fault};
+ghost use Rattle.ps_resolve.specs.Sources.{contents};
+ghost use Rattle.ps_warnings.specs.Paths.{path_of};
+ghost use Rattle.ps_explained.specs.SegmentLines.{requester_of as requester_of_spec, from_words, head_words, lines_of_segments, name_in as name_in_spec, part_added as part_added_spec, part_as, segment_lines, slot_words, two_digits};
+ghost use Rattle.ps_explained.specs.SlotLines.{AddsSlotLines, slot_lines};
+
+use crate::orders::OrderOf;
+use crate::slot_lines::add_other_lines;
+use ps_codefile::Role;
+use ps_codefile::dictionary_layout::SLOTS;
+use ps_filetype::{ShownName, ShownPath};
+use ps_resolve::{HostReading, Reading, Segment as LinkedSegment, UnitReference};
+use ps_warnings::{Inputs, ReadSegment, SegmentPart, in_slot};
+use ps_words::Name;
+use std::alloc::{AllocError, Allocator};
+use std::fmt::{self, Formatter, Write as _};
+
+/// The number of a slot or an entry, in two digits.
+#[derive(Clone, Copy)]
+struct TwoDigits(u8);
+
+impl fmt::Display for TwoDigits {
+    ghost output = { λ number. Some (two_digits number.0) };
+
+    fn fmt<W: fmt::Write>(&self, f: &mut Formatter<W>) -> fmt::Result {
+        let tens = char::from(b'0' + self.0 / 10);
+        let ones = char::from(b'0' + self.0 % 10);
+        write!(f, "{tens}{ones}")
+    }
+}
+
+/// A slot in two digits, or that there is none.
+#[derive(Clone, Copy)]
+struct SlotOf(Option<u8>);
+
+impl fmt::Display for SlotOf {
+    ghost output = { λ slot. Some (slot_words slot.0) };
+
+    fn fmt<W: fmt::Write>(&self, f: &mut Formatter<W>) -> fmt::Result {
+        match self.0 {
+            Some(slot) => {
+                let slot = TwoDigits(slot);
+                write!(f, "slot {slot}")
+            }
+            None => f.write_str("no slot"),
+        }
+    }
+}
+
+/// What a segment is: its slot, its name and its part.
+#[derive(Clone, Copy)]
+struct Head {
+    slot: Option<u8>,
+    name: Name,
+    part: SegmentPart,
+}
+
+impl fmt::Display for Head {
+    ghost output = { λ head. Some (head_words head.slot head.name head.part) };
+
+    fn fmt<W: fmt::Write>(&self, f: &mut Formatter<W>) -> fmt::Result {
+        let slot = SlotOf(self.slot);
+        let name = ShownName(self.name);
+        let part = self.part;
+        write!(f, "{slot} {name}: {part}")
+    }
+}
+
+/// Where the code of a segment comes from: the entry of a file, and how many bytes it has.
+#[derive(Clone, Copy)]
+struct Origin<'p> {
+    path: &'p str,
+    index: u8,
+    size: usize,
+}
+
+impl fmt::Display for Origin<'_> {
+    ghost output = { λ origin. Some (from_words origin.path.now origin.index origin.size) };
+
+    fn fmt<W: fmt::Write>(&self, f: &mut Formatter<W>) -> fmt::Result {
+        let path = ShownPath(self.path);
+        let index = TwoDigits(self.index);
+        let size = self.size;
+        write!(f, ", from {path} entry {index}, {size} bytes")
+    }
+}
+
+/// The line of each file.
+fn file_lines<A: Allocator>(alloc: A, inputs: &Inputs<'_>) -> Result<String<A>, AllocError> {
+    let mut text = String::new(alloc);
+    for file in 0..=inputs.libs.len() {
+        let bytes = inputs.bytes(file);
+        writeln!(
+            text,
+            "file {file} {}: {} bytes, {}",
+            inputs.shown(file),
+            bytes.len(),
+            OrderOf(bytes)
+        )?;
+    }
+    Ok(text)
+}
+
+/// The files, and the segments with where each comes from, in lines for a person: a line of each
+/// file, with its length and its byte order; of each segment one that begins with `slot ` and its
+/// slot, or with `no slot`, and, where later libraries have a unit of its name too, one that names
+/// the first of them; the slots without a segment; and the first library from which nothing is taken.
+///
+/// `reading` is what was read of the files of `inputs`, and `list` what `ps_warnings::segments_of`
+/// gives for them. Where they were read without a fault, the lines that begin with `slot ` are those
+/// of the segments of the link, by slot. Returns an error where memory was refused.
+/// Source: this project's profile.
+pub fn overview_of<A: Allocator + Copy>(
+    alloc: A,
+    inputs: &Inputs<'_>,
+    reading: &Reading<'_>,
+    list: &[ReadSegment<'_>],
+) -> Result<String<A>, AllocError>
+    ensures { IfOk result (λ text. reading_fault reading.now.host reading.now.libs ≡ None
+        → slot_lines (string_bytes text) ≡ segment_lines
+        (inputs.now.host_path.now ∷ contents inputs.now.paths.now)
+        reading.now.host reading.now.libs) }
+{
+    let mut text = String::new(alloc);
+    add_files(alloc, &mut text, inputs)?;
+    add_segments(alloc, &mut text, inputs, reading, list)?;
+    Ok(text)
+}
+
+/// Adds a line for each file.
+fn add_files<A: Allocator + Copy>(
+    alloc: A,
+    text: &mut String<A>,
+    inputs: &Inputs<'_>,
+) -> Result<(), AllocError>
+    ensures { OnOk result (AddsSlotLines (string_bytes text.old) [] (string_bytes text.new)) }
+{
+    let lines = file_lines(alloc, inputs)?;
+    add_other_lines(text, lines.as_str())
+}
+
+/// Adds what each slot of the host is for, and what libraries have that is not used. Where the files
+/// were read without a fault, each segment of the link has its line, and no other line begins as
+/// those do.
+fn add_segments<A: Allocator + Copy>(
+    alloc: A,
+    text: &mut String<A>,
+    inputs: &Inputs<'_>,
+    reading: &Reading<'_>,
+    list: &[ReadSegment<'_>],
+) -> Result<(), AllocError>
+    ensures { reading_fault reading.now.host reading.now.libs ≡ None
+        → OnOk result (AddsSlotLines (string_bytes text.old)
+        (segment_lines (inputs.now.host_path.now ∷ contents inputs.now.paths.now)
+        reading.now.host reading.now.libs) (string_bytes text.new)) }
+{
+    add_each(alloc, text, inputs, reading, list)?;
+    let lines = lines_after(alloc, inputs, reading, list)?;
+    add_other_lines(text, lines.as_str())
+}
+
+/// Adds the line of each segment.
+fn add_each<A: Allocator + Copy>(
+    alloc: A,
+    text: &mut String<A>,
+    inputs: &Inputs<'_>,
+    reading: &Reading<'_>,
+    list: &[ReadSegment<'_>],
+) -> Result<(), AllocError>
+    ensures { reading_fault reading.now.host reading.now.libs ≡ None
+        → OnOk result (AddsSlotLines (string_bytes text.old)
+        (segment_lines (inputs.now.host_path.now ∷ contents inputs.now.paths.now)
+        reading.now.host reading.now.libs) (string_bytes text.new)) }
+{
+    if reading.fault().is_some() {
+        return add_read(alloc, text, inputs, list);
+    }
+    match reading.host() {
+        Err(_) => add_read(alloc, text, inputs, list),
+        Ok(host) => add_linked(alloc, text, inputs, reading.segments(), host.requested()),
+    }
+}
+
+/// Adds the line of each segment of a link.
+fn add_linked<A: Allocator + Copy>(
+    alloc: A,
+    text: &mut String<A>,
+    inputs: &Inputs<'_>,
+    segments: &[LinkedSegment<'_>],
+    requests: &[UnitReference],
+) -> Result<(), AllocError>
+    ensures { OnOk result (AddsSlotLines (string_bytes text.old)
+        (lines_of_segments (inputs.now.host_path.now ∷ contents inputs.now.paths.now)
+        segments.now requests.now) (string_bytes text.new)) }
+{
+    for segment in segments {
+        let part = part_of(segments, requests, segment);
+        add_linked_segment(text, inputs, segment, part)?;
+        let later = later_line(alloc, inputs, segment.name(), segment.file())?;
+        add_other_lines(text, later.as_str())?;
+    }
+    Ok(())
+}
+
+/// Adds the line of a segment of a link that is this.
+fn add_linked_segment<A: Allocator>(
+    text: &mut String<A>,
+    inputs: &Inputs<'_>,
+    segment: &LinkedSegment<'_>,
+    part: SegmentPart,
+) -> Result<(), AllocError>
+    ensures { OnOk result (AddsSlotLines (string_bytes text.old)
+        ((head_words (Some segment.now.slot) segment.now.name part
+        ++ from_words (path_of (inputs.now.host_path.now ∷ contents inputs.now.paths.now)
+        segment.now.file) segment.now.index (length segment.now.code)) ∷ [])
+        (string_bytes text.new)) }
+{
+    let head = Head {
+        slot: Some(segment.slot()),
+        name: segment.name(),
+        part,
+    };
+    let path = inputs.path(segment.file());
+    add_line(text, head, path, segment.index(), segment.code().len())
+}
+
+/// Adds the line of a segment.
+fn add_line<A: Allocator>(
+    text: &mut String<A>,
+    head: Head,
+    path: &str,
+    index: u8,
+    size: usize,
+) -> Result<(), AllocError>
+    ensures { (slot : ℕ) → head.slot ≡ Some slot
+        → OnOk result (AddsSlotLines (string_bytes text.old)
+        ((head_words head.slot head.name head.part ++ from_words path.now index size) ∷ [])
+        (string_bytes text.new)) }
+{
+    push_line(text, head, Origin { path, index, size })
+}
+
+/// Adds what a segment is and where it comes from, in a line.
+fn push_line<A: Allocator>(
+    text: &mut String<A>,
+    head: Head,
+    origin: Origin<'_>,
+) -> Result<(), AllocError>
+    ensures { OnOk result (string_bytes text.new ≡ string_bytes text.old
+        ++ (head_words head.slot head.name head.part
+        ++ (from_words origin.entry.path.now origin.entry.index origin.entry.size
+        ++ 10 ∷ []))) }
+{
+    writeln!(text, "{head}{origin}")
+}
+
+/// The name of the segment of a slot.
+fn name_in(segments: &[LinkedSegment<'_>], slot: u8) -> Name
+    ensures { result ≡ name_in_spec segments.now slot }
+{
+    for segment in segments {
+        if segment.slot() == slot {
+            return segment.name();
+        }
+    }
+    *b"        "
+}
+
+/// The first record that requests a unit of this name.
+fn requester_of(requests: &[UnitReference], name: Name) -> Option<UnitReference>
+    ensures { result ≡ requester_of_spec requests.now name }
+{
+    for request in requests {
+        if request.name == name {
+            return Some(*request);
+        }
+    }
+    None
+}
+
+/// What a unit is that is added for this record.
+fn part_added(segments: &[LinkedSegment<'_>], requester: Option<UnitReference>) -> SegmentPart
+    ensures { result ≡ part_added_spec segments.now requester }
+{
+    match requester {
+        None => SegmentPart::Wanted,
+        Some(requester) => SegmentPart::Added {
+            requester: name_in(segments, requester.at.segment.slot),
+            rec: requester.at.rec,
+        },
+    }
+}
+
+/// What a segment of a link is.
+fn part_of(
+    segments: &[LinkedSegment<'_>],
+    requests: &[UnitReference],
+    segment: &LinkedSegment<'_>,
+) -> SegmentPart
+    ensures { result ≡ part_as segments.now requests.now segment.now segment.now.role }
+{
+    match segment.role() {
+        Role::Plain => SegmentPart::Plain,
+        Role::Host => SegmentPart::Host,
+        Role::Unit => SegmentPart::Unit,
+        Role::Wanted if segment.added() => {
+            part_added(segments, requester_of(requests, segment.name()))
+        }
+        Role::Empty | Role::Wanted => SegmentPart::Wanted,
+    }
+}
+
+/// Adds the line of each segment as it was read, also where it is refused.
+fn add_read<A: Allocator + Copy>(
+    alloc: A,
+    text: &mut String<A>,
+    inputs: &Inputs<'_>,
+    list: &[ReadSegment<'_>],
+) -> Result<(), AllocError> {
+    for segment in list {
+        add_segment(alloc, text, inputs, segment)?;
+    }
+    Ok(())
+}
+
+fn add_segment<A: Allocator + Copy>(
+    alloc: A,
+    text: &mut String<A>,
+    inputs: &Inputs<'_>,
+    segment: &ReadSegment<'_>,
+) -> Result<(), AllocError> {
+    let head = Head {
+        slot: segment.slot,
+        name: segment.name,
+        part: segment.part,
+    };
+    let Some(source) = &segment.source else {
+        let why = why_no_source(segment);
+        return writeln!(text, "{head}, {why}");
+    };
+    let size = usize::from(source.entry.length);
+    add_line(text, head, inputs.path(source.file), source.index, size)?;
+    let later = later_line(alloc, inputs, segment.name, source.file)?;
+    text.push_str(later.as_str())
+}
+
+/// Why a segment comes from no file.
+fn why_no_source(segment: &ReadSegment<'_>) -> &'static str {
+    if segment.is_missing {
+        "which no library has"
+    } else if segment.slot.is_none() {
+        "for which no slot is left"
+    } else {
+        "not looked for after the fault"
+    }
+}
+
+/// Which libraries after that of a segment have a unit of its name too, in a line, if some have.
+fn later_line<A: Allocator>(
+    alloc: A,
+    inputs: &Inputs<'_>,
+    name: Name,
+    used: usize,
+) -> Result<String<A>, AllocError> {
+    let mut text = String::new(alloc);
+    if let Some((file, entry, more)) = later_entries(inputs, &name, used) {
+        let path = inputs.shown(file);
+        writeln!(
+            text,
+            "  not used: {path} entry {entry:02} has the name too{more}"
+        )?;
+    }
+    Ok(text)
+}
+
+/// The first library after that of a segment that has an entry of its name, with the entry, and how
+/// many more have one.
+fn later_entries(inputs: &Inputs<'_>, name: &Name, used: usize) -> Option<(usize, u8, More)> {
+    if used == 0 {
+        return None;
+    }
+    let mut later = (used..=inputs.libs.len())
+        .skip(1)
+        .filter_map(|file| Some((file, entry_in(inputs, name, file)?)));
+    let (file, entry) = later.next()?;
+    Some((file, entry, More(later.count())))
+}
+
+/// The first entry of a library that is filled and has this name.
+fn entry_in(inputs: &Inputs<'_>, name: &Name, file: usize) -> Option<u8> {
+    let dict = inputs.dict(file)?;
+    for slot in 0..SLOTS {
+        if dict.filled(slot) && dict.entry(slot).name == *name {
+            return Some(slot);
+        }
+    }
+    None
+}
+
+/// So many libraries besides one that is named.
+#[derive(Clone, Copy)]
+struct More(usize);
+
+impl fmt::Display for More {
+    fn fmt<W: fmt::Write>(&self, f: &mut Formatter<W>) -> fmt::Result {
+        match self.0 {
+            0 => Ok(()),
+            1 => f.write_str(", and 1 more library"),
+            more => write!(f, ", and {more} more libraries"),
+        }
+    }
+}
+
+/// The lines after those of the segments: the slots that have none, and what libraries have that is
+/// not used.
+fn lines_after<A: Allocator>(
+    alloc: A,
+    inputs: &Inputs<'_>,
+    reading: &Reading<'_>,
+    list: &[ReadSegment<'_>],
+) -> Result<String<A>, AllocError> {
+    let mut text = String::new(alloc);
+    if let Ok(host) = reading.host() {
+        if !list.is_empty() {
+            add_empty(&mut text, host, list)?;
+            add_unused(&mut text, inputs, list)?;
+        }
+    }
+    Ok(text)
+}
+
+/// Adds the slots that have no segment: one whose kind is refused has one, though it is not read.
+fn add_empty<A: Allocator>(
+    text: &mut String<A>,
+    host: &HostReading<'_>,
+    list: &[ReadSegment<'_>],
+) -> Result<(), AllocError> {
+    text.push_str("slots without a segment:")?;
+    for slot in 0..SLOTS {
+        if host.role(slot).is_ok() && in_slot(list, slot).is_none() {
+            write!(text, " {slot:02}")?;
+        }
+    }
+    text.push('\n')
+}
+
+/// Adds the first library from which nothing is taken, and how many more there are.
+fn add_unused<A: Allocator>(
+    text: &mut String<A>,
+    inputs: &Inputs<'_>,
+    list: &[ReadSegment<'_>],
+) -> Result<(), AllocError> {
+    let mut unused = (1..=inputs.libs.len()).filter(|file| !is_used(list, *file));
+    let Some(file) = unused.next() else {
+        return Ok(());
+    };
+    let (path, more) = (inputs.shown(file), More(unused.count()));
+    writeln!(text, "nothing is taken from file {file} {path}{more}")
+}
+
+/// Some segment comes from the file.
+fn is_used(list: &[ReadSegment<'_>], file: usize) -> bool {
+    list.iter().any(|segment| segment.source.is_some_and(|source| source.file == file))
+}
