@@ -4,7 +4,7 @@ use Rattle.std.specs.Prelude.{ℕ, ◌==◌, if◌then◌else◌, List, [], ◌�
 use Rattle.ps_explained.specs.Sentences.{meaning_of, remedy_of}
 use Rattle.ps_words.specs.FaultText.{name_of, reason_of}
 use Rattle.ps_words.specs.declared.fault.Reason.{Reason}
-use Rattle.ps_calls.specs.declared.answer.TheConstants.{DONE, REFUSED, WRONG_LENGTHS, NO_MEMORY, TOO_SMALL, WRONG_NAMES, WRONG_TEXT}
+use Rattle.ps_answers.specs.declared.answer.TheConstants.{DONE, REFUSED, WRONG_LENGTHS, NO_MEMORY, TOO_SMALL, WRONG_NAMES, WRONG_TEXT}
 
 -- a text with a closing 0; nothing of one that is empty
 abbrev pub closed : List ℕ → List ℕ

@@ -1,8 +1,6 @@
 -- Lists whose items are changed one by one, and searches by functions that agree.
-use Rattle.std.proofs.Common.{◌≡◌, ℕ, suc, ◌<◌, List, [], ◌∷◌, map, Option, Some, None, Bool, true, false, refl, arith}
-use Rattle.std.proofs.lemmas.Bool.Decides.{nat_tests}
-use Rattle.ps_relied.proofs.Vocabulary.{◌&&◌, list_any, if◌then◌else◌, nat_lt, find, filter_map, option_map, option_or, first_of, slots, In, of_range, SLOTS}
-use Rattle.ps_codefile.specs.declared.dictionary_layout.TheConstants.{SLOTS}
+use Rattle.ps_laws.proofs.Vocabulary.{◌≡◌, ℕ, suc, ◌<◌, List, [], ◌∷◌, map, Option, Some, None, Bool, true, false, refl, arith, nat_tests, ◌&&◌, list_any, if◌then◌else◌, nat_lt, find, filter_map, option_map, option_or, first_of, slots, SLOTS}
+use Rattle.ps_laws.proofs.Items.{In, of_range}
 
 -- both are there, and so related, or neither is
 pub data Both {A : Type 0} (R : A → A → Type 0) : Option A → Option A → Type 0 where

@@ -5,7 +5,8 @@ use Rattle.ps_words.specs.declared.fault.Fault.{Fault}
 use Rattle.ps_words.specs.declared.fault.Reason.{Reason}
 use Rattle.ps_codefile.specs.Dictionary.{OpenedFile, opened_alone}
 use Rattle.ps_resolve.specs.Readings.{HostFiles, opened_host}
-use Rattle.ps_named.specs.FaultNames.{entry_name, fault_name, host_slot, name_as, name_in_slot, read_name, read_record}
+use Rattle.ps_named.specs.FaultNames.{entry_name, fault_name, host_slot, name_as, name_in_slot, read_name}
+use Rattle.ps_words.specs.FaultPlaces.{read_record}
 
 -- the name of a slot by its own entry is that of the files as they are read
 pub read_by_entry : (host : List ℕ) (libs : List (List ℕ)) (slot : ℕ) (name : List ℕ)

@@ -4,7 +4,7 @@ ghost use Rattle.std.specs.Fmt.{WritesOnOk, digit_glyph};
 ghost use Rattle.std.specs.List.{flat_map};
 ghost use Rattle.ps_writing.specs.JsonText.{json_byte};
 ghost use Rattle.ps_writing.specs.Lines.{hex_byte, hex_digit as capital_digit_spec};
-ghost use Rattle.ps_report.specs.JsonStrings.{control_escape, escape_letter as escape_letter_spec, json_char, json_text, name_members, name_or_null, named, other_char};
+ghost use Rattle.ps_named.specs.JsonStrings.{control_escape, escape_letter as escape_letter_spec, json_char, json_text, name_members, name_or_null, named, other_char};
 
 use ps_words::Name;
 use std::fmt::{self, Formatter, Write as _};

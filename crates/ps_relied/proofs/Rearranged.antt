@@ -1,9 +1,7 @@
 -- Links whose libraries stand elsewhere, or one of which is left out.
 use Rattle.ps_codefile.specs.declared.entry.Role.TheVariants as role
-use Rattle.ps_relied.proofs.Vocabulary.{◌≢◌, Reason, in_file, All, find, first_of, list_any, enumerate_from, option_map, option_or, result_ok, nat_tests, list_any-append, Order, Segment, Role, order_of, has_entry, has, role_of, entry_at, name_at, chosen_library, unit_source, library_file, source_of, AreSameSegments, segments_of, rounds, added_at, added_segments, first_fault, reading_fault, library_reason, libraries_fault, In, of_all, or_none, some_mapped, same_Some, sources_fine, rounds_fine, has_own, in_segments, own_made, each_added, empty_slot, found_added, SLOTS, Bool, List, None, Ok, Option, Result, Some, [], ap, arith, false, inl, inr, is_some, length, map, refl, sym, true, ℕ, ◌++◌, ◌+◌, ◌<◌, ◌∙◌, ◌∷◌, ◌≡◌, ◌≤◌}
-use Rattle.ps_relied.proofs.Lists.{Both, neither, both}
-use Rattle.ps_relied.proofs.Moved.{Change, IsFound, AreChosenAlike, AreMoved, Fits, same_renewed, linking_moved, rest_moved, segments_moved}
-use Rattle.ps_relied.specs.Numbered.{renumbered, without, exchanged, HaveNoNameInCommon}
+use Rattle.ps_relied.proofs.Vocabulary.{All, AreChosenAlike, AreMoved, AreSameSegments, Bool, Both, Change, Fits, HaveNoNameInCommon, In, IsFound, List, None, Ok, Option, Order, Reason, Result, Role, Segment, Some, [], added_at, added_segments, ap, arith, both, chosen_library, each_added, empty_slot, entry_at, enumerate_from, exchanged, false, find, first_fault, first_of, found_added, has, has_entry, has_own, in_file, in_segments, inl, inr, is_some, length, libraries_fault, library_file, library_reason, linking_moved, list_any, list_any-append, map, name_at, nat_tests, neither, of_all, option_map, option_or, or_none, order_of, own_made, reading_fault, refl, renumbered, rest_moved, result_ok, role_of, rounds, rounds_fine, same_Some, segments_moved, segments_of, some_mapped, source_of, sources_fine, sym, true, unit_source, without, ℕ, ◌++◌, ◌+◌, ◌<◌, ◌∙◌, ◌∷◌, ◌≡◌, ◌≢◌, ◌≤◌, SLOTS}
+use Rattle.ps_relied.proofs.SameFile.{same_renewed}
 
 -- 1. libraries by their numbers
 -- none is refused, where each passes by itself
