@@ -6,7 +6,7 @@ use ps_codefile::{Dict, Entry, ProcedureDictionary, ProcedureFault, Role};
 use ps_filetype::{CodeFile, FileType, ShownName};
 use ps_linkinfo::{LinkRecord, Operand};
 use ps_resolve::Reading;
-use ps_warnings::{Inputs, ReadEntry, ReadSegment, SegmentPart, in_slot};
+use ps_warnings::{Inputs, ReadSegment, SegmentPart, in_slot};
 use ps_words::{Fault, Name, Reason};
 
 /// A fault, and what of the files it is about.
@@ -90,17 +90,11 @@ impl<'c, 'a> Case<'c, 'a> {
         None
     }
 
-    /// Where its segment comes from.
-    /// Source: this project's profile.
-    pub fn source(&self) -> Option<ReadEntry<'a>> {
-        self.segment?.source
-    }
-
     /// The code of its segment, as far as it can be read.
     /// Source: UCSD Pascal II.0 manual, code file format.
     pub fn code(&self) -> &'a [u8] {
-        match self.source() {
-            Some(source) => source.code.unwrap_or(&[]),
+        match self.segment {
+            Some(segment) => segment.code.unwrap_or(&[]),
             None => &[],
         }
     }
@@ -126,13 +120,12 @@ impl<'c, 'a> Case<'c, 'a> {
     /// Source: UCSD Pascal II.0 manual, code file format.
     pub fn procedure_fault(&self) -> Option<ProcedureFault> {
         let segment = self.segment?;
-        let source = segment.source?;
-        let code = source.code.ok()?;
+        let code = segment.code.ok()?;
         if code.len() < NUMBERS {
             return None;
         }
         let is_host = matches!(segment.part, SegmentPart::Host);
-        ProcedureDictionary::read_or_fault(source.order, code, is_host).err()
+        ProcedureDictionary::read_or_fault(segment.order, code, is_host).err()
     }
 }
 

@@ -13,7 +13,7 @@ use ps_codefile::dictionary_layout::SLOTS;
 use ps_filetype::{ShownName, ShownPath};
 use ps_resolve::{HostReading, Reading, Segment as LinkedSegment, UnitReference};
 use ps_warnings::{Inputs, ReadSegment, SegmentPart, in_slot};
-use ps_words::Name;
+use ps_words::{Name, Reason};
 use std::alloc::{AllocError, Allocator};
 use std::fmt::{self, Formatter, Write as _};
 
@@ -336,19 +336,19 @@ fn add_segment<A: Allocator + Copy>(
         name: segment.name,
         part: segment.part,
     };
-    let Some(source) = &segment.source else {
+    let Some((at, entry)) = &segment.source else {
         let why = why_no_source(segment);
         return writeln!(text, "{head}, {why}");
     };
-    let size = usize::from(source.entry.length);
-    add_line(text, head, inputs.path(source.file), source.index, size)?;
-    let later = later_line(alloc, inputs, segment.name, source.file)?;
+    let size = usize::from(entry.length);
+    add_line(text, head, inputs.path(at.file), at.index, size)?;
+    let later = later_line(alloc, inputs, segment.name, at.file)?;
     text.push_str(later.as_str())
 }
 
 /// Why a segment comes from no file.
 fn why_no_source(segment: &ReadSegment<'_>) -> &'static str {
-    if segment.is_missing {
+    if matches!(segment.code, Err(Reason::MissingUnit)) {
         "which no library has"
     } else if segment.slot.is_none() {
         "for which no slot is left"
@@ -462,5 +462,5 @@ fn add_unused<A: Allocator>(
 
 /// Some segment comes from the file.
 fn is_used(list: &[ReadSegment<'_>], file: usize) -> bool {
-    list.iter().any(|segment| segment.source.is_some_and(|source| source.file == file))
+    list.iter().any(|segment| segment.source.is_some_and(|source| source.0.file == file))
 }

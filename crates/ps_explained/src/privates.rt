@@ -27,8 +27,8 @@ impl Case<'_, '_> {
     /// The data size of the outer block of the host program, in bytes.
     /// Source: UCSD Pascal II.0 manual, code file format.
     pub fn data_size(&self) -> Option<u16> {
-        let source = host_of(self.list)?.source?;
-        procedures_of(source.order, source.code.ok()?)?.data_size()
+        let host = host_of(self.list)?;
+        procedures_of(host.order, host.code.ok()?)?.data_size()
     }
 
     /// The base offset of the private variable of the record that the fault is reported with, in

@@ -9,9 +9,11 @@ impl<'a> Case<'_, 'a> {
     /// Source: the published II.0 Linker source.
     pub fn unread(&self) -> Option<(Order, &'a [u8])> {
         let segment = self.segment?;
-        let source = segment.source?;
+        if segment.source.is_none() {
+            return None;
+        }
         let used = length_of(&segment.records());
-        Some((source.order, source.after.get(used..).unwrap_or(&[])))
+        Some((segment.order, segment.after.get(used..).unwrap_or(&[])))
     }
 
     /// The earlier record of the name, with its index.

@@ -1,7 +1,22 @@
-//! What the attribute table of a procedure says of the code before it.
-use ps_codefile::ProcedureDictionary;
+//! What the procedure dictionary of a code says, and the attribute table of a procedure of the code
+//! before it.
 use ps_codefile::code_layout::NUMBERS;
-use ps_words::{Order, get};
+use ps_codefile::{ProcedureDictionary, ProcedureFault};
+use ps_words::{Order, Reason, WORD_LEN, get};
+
+/// The shortest code that has a procedure: an instruction, a table, its word of the procedure
+/// dictionary, and the two numbers.
+const SHORTEST: usize = 16;
+
+/// The code is that of a unit without procedures: too short for one, and so says its end.
+///
+/// Source: this project's profile.
+pub fn is_without_procedures(code: &[u8]) -> bool {
+    match code {
+        [.., 0] => code.len() < SHORTEST,
+        _ => false,
+    }
+}
 
 /// The procedures of a code; none where its procedure dictionary is not whole, or one of them is
 /// native code.
@@ -12,6 +27,39 @@ pub fn procedures_of(order: Order, code: &[u8]) -> Option<ProcedureDictionary<'_
         return None;
     }
     ProcedureDictionary::read(order, code, false).ok()
+}
+
+/// The procedure dictionary of a code that has procedures is not whole, or has none.
+///
+/// Source: this project's profile.
+pub fn has_lost_tables(order: Order, code: &[u8]) -> bool {
+    if code.len() < NUMBERS || is_without_procedures(code) {
+        return false;
+    }
+    match ProcedureDictionary::read(order, code, false) {
+        Err(reason) => reason == Reason::BadProcDict,
+        Ok(procedures) => procedures.count() == 0,
+    }
+}
+
+/// The place of the table of the first native procedure of a code, as the procedure dictionary has
+/// it; none where no procedure is native.
+///
+/// Source: UCSD Pascal II.0 manual, code file format.
+pub fn native_table(order: Order, code: &[u8]) -> Option<usize> {
+    if code.len() < NUMBERS {
+        return None;
+    }
+    let procedure = match ProcedureDictionary::read_or_fault(order, code, false) {
+        Err(ProcedureFault::Native { procedure }) => procedure,
+        _ => return None,
+    };
+    let before = WORD_LEN.saturating_mul(procedure).saturating_add(NUMBERS);
+    let place = code.len().checked_sub(before)?;
+    match code.get(place..) {
+        Some(word) if WORD_LEN <= word.len() => place.checked_sub(usize::from(get(order, word, 0))),
+        _ => None,
+    }
 }
 
 /// Where a procedure is entered, and where it is left: places in the code of its segment.

@@ -10,85 +10,67 @@ use Rattle.ps_codefile.specs.Dictionary.{OpenedFile, code_of, entry_at, informat
 use Rattle.ps_linkinfo.specs.Records.{reading}
 use Rattle.ps_linkinfo.specs.declared.record.LinkRecord.{LinkRecord as Record}
 use Rattle.ps_resolve.specs.Readings.{HostFiles}
-use Rattle.ps_warnings.specs.Seen.{Seen, code_as, code_in, part_needs_linking, records_in, seen}
-use Rattle.ps_warnings.specs.SeenSegments.{origin_as, origin_at, records_from, seen_with, taken_of, takes_slot}
+use Rattle.ps_warnings.specs.Seen.{Seen, part_needs_linking, records_in, seen}
+use Rattle.ps_warnings.specs.SeenSegments.{records_at, seen_with, taken_of, takes_slot}
 use Rattle.ps_warnings.specs.declared.segments.SegmentPart.{SegmentPart}
 use Rattle.ps_warnings.specs.declared.segments.ReadSegment.{ReadSegment}
-use Rattle.ps_warnings.specs.declared.segments.ReadEntry.{ReadEntry}
-
-same_ok : (r : Result (Bor (List ℕ)) Reason) → is_ok r ≡ is_ok (code_as r)
-same_ok (Ok code) = refl
-same_ok (Err why) = refl
-
--- the origin of a source that is the entry of a file
-pub origin_is : (s : ReadEntry) (file index : ℕ) (f : OpenedFile) → s.file ≡ file
-    → s.order ≡ f.order → code_in s ≡ code_of f.file (entry_at f.order f.file index)
-    → s.after.now ≡ information_of f.file (entry_at f.order f.file index)
-    → origin_as s ≡ origin_at file index f
-unfolding origin_at
-origin_is s file index f at order code after =
-    ap (λ (k : ℕ). record {
-      file = k;
-      records = if is_ok s.code
-          then (reading s.order s.after.now).0 else [];
-    }) at
-    ∙ (ap (λ (b : Bool). record {
-      file = file;
-      records = if b
-          then (reading s.order s.after.now).0 else [];
-    }) (same_ok s.code ∙ ap is_ok code)
-    ∙ (ap (λ (o : Order). record {
-      file = file;
-      records =
-          if is_ok (code_of f.file (entry_at f.order f.file index))
-          then (reading o s.after.now).0 else [];
-    }) order
-    ∙ ap (λ (x : List ℕ). record {
-      file = file;
-      records =
-          if is_ok (code_of f.file (entry_at f.order f.file index))
-          then (reading f.order x).0 else [];
-    }) after))
 
 both : (b c : Bool) (rs : List Record)
-    → (if b then (if c then rs else []) else []) ≡ (if b && c then rs else [])
+    → (if b && c then rs else []) ≡ (if b then (if c then rs else []) else [])
 both true c rs = refl
 both false c rs = refl
 
-none_of : (b : Bool) → ◌≡◌ {A = List Record} [] (if b then [] else [])
-none_of true = refl
-none_of false = refl
+none_of : (b : Bool) (rs : List Record)
+    → (if b && false then rs else []) ≡ (if b then [] else [])
+none_of true rs = refl
+none_of false rs = refl
 
-same_records : (what : SegmentPart) (o : Option ReadEntry) → records_in what o
-    ≡ (if part_needs_linking what then records_from (option_map origin_as o) else [])
-same_records what None = none_of (part_needs_linking what)
-same_records what (Some s) = sym (both (part_needs_linking what) (is_ok s.code)
-    (reading s.order s.after.now).0)
-
-same_file : (o : Option ReadEntry)
-    → option_map (λ s. s.file) o ≡ option_map (λ x. x.file) (option_map origin_as o)
-same_file None = refl
-same_file (Some s) = refl
-
--- what is seen of a segment, by where it comes from
-pub seen_is : (s : ReadSegment)
-    → seen s ≡ seen_with s.slot s.name s.part (option_map origin_as s.source)
+-- what is seen of a segment that comes from no entry
+pub seen_none : (slot : Option ℕ) (name : List ℕ) (part : SegmentPart) (rs : List Record)
+    → ◌≡◌ {A = Seen} (record {
+      slot = slot;
+      name = name;
+      part = part;
+      file = None;
+      records = if part_needs_linking part && false then rs else [];
+    }) (seen_with slot name part None)
 unfolding seen_with
-seen_is s = ap (λ (k : Option ℕ). record {
-  slot = s.slot;
-  name = s.name;
-  part = s.part;
-  file = k;
-  records = records_in s.part s.source;
-}) (same_file s.source)
-    ∙ ap (λ (rs : List Record). record {
+seen_none slot name part rs = ap (λ (l : List Record). record {
+  slot = slot;
+  name = name;
+  part = part;
+  file = None;
+  records = l;
+}) (none_of (part_needs_linking part) rs)
+
+-- what is seen of one that comes from an entry of a file
+pub seen_entry : (s : ReadSegment) (file index : ℕ) (f : OpenedFile)
+    → option_map (λ o. o.0.file) s.source ≡ Some file → s.order ≡ f.order
+    → is_ok s.code ≡ is_ok (code_of f.file (entry_at f.order f.file index))
+    → s.after.now ≡ information_of f.file (entry_at f.order f.file index)
+    → seen s ≡ seen_with s.slot s.name s.part (Some (file, records_at index f))
+unfolding seen_with
+seen_entry s file index f at order code after =
+    let b = part_needs_linking s.part in
+    let e = entry_at f.order f.file index in
+    let k = is_ok (code_of f.file e) in
+    ap (λ (o : Option ℕ). record {
       slot = s.slot;
       name = s.name;
       part = s.part;
-      file = option_map (λ x. x.file) (option_map origin_as s.source);
-      records = rs;
-    })
-    (same_records s.part s.source)
+      file = o;
+      records = records_in s;
+    }) at
+    ∙ ap (λ (l : List Record). record {
+      slot = s.slot;
+      name = s.name;
+      part = s.part;
+      file = Some file;
+      records = l;
+    }) (ap (λ (c : Bool). if b && c then (reading s.order s.after.now).0 else []) code
+    ∙ (ap (λ (o : Order). if b && k then (reading o s.after.now).0 else []) order
+    ∙ (ap (λ (x : List ℕ). if b && k then (reading f.order x).0 else []) after
+    ∙ both b k (reading f.order (information_of f.file e)).0)))
 
 -- no more slots are taken than there are
 pub taken_few : (h : HostFiles) (ss : List ℕ) → taken_of h ss ≤ length ss

@@ -1,11 +1,12 @@
 -- Segments as they were read, in lists.
-use Rattle.std.proofs.Common.{◌≡◌, ◌∙◌, ◌∷◌, ◌+◌, ◌≤◌, ℕ, Bor, List, length, drop, map, ap, sym, arith}
+use Rattle.std.proofs.Common.{◌≡◌, ◌∙◌, ◌∷◌, ◌+◌, ◌≤◌, ℕ, Bor, List, length, drop, map, ap, sym, refl, arith}
 use Rattle.std.proofs.lemmas.List.{drop-map, length-map}
 use Rattle.std.specs.Prelude.{Result, Ok, Err}
+use Rattle.std.specs.Result.{is_ok}
 use Rattle.ps_words.specs.declared.fault.Reason.{Reason}
 use Rattle.ps_codefile.specs.Dictionary.{IsViewOf}
 use Rattle.ps_resolve.specs.Sources.{contents}
-use Rattle.ps_warnings.specs.Seen.{Seen, code_as, seen}
+use Rattle.ps_warnings.specs.Seen.{Seen, seen}
 use Rattle.ps_warnings.specs.declared.segments.ReadSegment.{ReadSegment}
 
 -- those that are left
@@ -30,8 +31,20 @@ pub contents_over : (fs : List (Bor (List ℕ))) (i : ℕ) → length fs ≤ i
     → length (contents fs) ≤ i
 contents_over fs i h = omega (arith, length-map fs (λ (b : Bor (List ℕ)). b.now))
 
--- a code that is seen, or why it is not read
+-- the code of an entry, or why it cannot be read
+abbrev pub code_as : Result (Bor (List ℕ)) Reason → Result (List ℕ) Reason
+code_as (Ok code) = Ok code.now
+code_as (Err why) = Err why
+
 pub code_is : (r : Result (Bor (List ℕ)) Reason) (answer : Result (List ℕ) Reason)
-    → IsViewOf (λ code. code.now) r answer → code_as r ≡ answer
-code_is (Ok code) answer is = sym is
-code_is (Err why) answer is = sym is
+    → IsViewOf (λ code. code.now) r answer → answer ≡ code_as r
+code_is (Ok code) answer is = is
+code_is (Err why) answer is = is
+
+same_ok : (r : Result (Bor (List ℕ)) Reason) → is_ok r ≡ is_ok (code_as r)
+same_ok (Ok code) = refl
+same_ok (Err why) = refl
+
+pub ok_is : (r : Result (Bor (List ℕ)) Reason) (answer : Result (List ℕ) Reason)
+    → IsViewOf (λ code. code.now) r answer → is_ok r ≡ is_ok answer
+ok_is r answer is = same_ok r ∙ sym (ap is_ok (code_is r answer is))

@@ -2,7 +2,7 @@
 use Rattle.std.proofs.Common.{◌≡◌, ◌∙◌, ◌++◌, ◌==◌, [], ℕ, List, true, false, ap, refl}
 use Rattle.std.specs.Prelude.{Bool, Option, Some, None, Result, Ok, Err, if◌then◌else◌, nat_lt}
 use Rattle.std.specs.List.{list_any}
-use Rattle.std.specs.Option.{option_map, option_map_or}
+use Rattle.std.specs.Option.{option_map_or}
 use Rattle.std.specs.Result.{result_ok}
 use Rattle.ps_words.specs.declared.fault.Reason.{Reason}
 use Rattle.ps_words.specs.declared.order.Order.{Order}
@@ -15,77 +15,42 @@ use Rattle.ps_linkinfo.specs.Records.{reading}
 use Rattle.ps_linkinfo.specs.declared.record.LinkRecord.{LinkRecord as Record}
 use Rattle.ps_warnings.specs.AllLooks.{looks_of_file, looks_of_link, looks_of_units}
 use Rattle.ps_warnings.specs.EntryLooks.{empty_look, overlap}
-use Rattle.ps_warnings.specs.FileLooks.{definition_looks, looks_of_code_file, looks_of_entries, looks_of_records, looks_of_segment, looks_of_slot, looks_of_source, overlap_look}
-use Rattle.ps_warnings.specs.Found.{found_at, found_in_record}
+use Rattle.ps_warnings.specs.FileLooks.{definition_looks, looks_of_code_file, looks_of_entries, looks_of_records, looks_of_entry, looks_of_segment, looks_of_slot, overlap_look}
+use Rattle.ps_warnings.specs.Found.{LookAt, found_at, found_in_record}
 use Rattle.ps_warnings.specs.Paths.{path_of}
 use Rattle.ps_warnings.specs.RecordLooks.{first_definition, first_high, low_mark}
-use Rattle.ps_warnings.specs.Seen.{Seen, code_in, has_slot}
+use Rattle.ps_warnings.specs.Seen.{Seen, has_slot}
 use Rattle.ps_warnings.specs.declared.looks.extents.Extent.{Extent}
-use Rattle.ps_warnings.specs.declared.segments.ReadEntry.{ReadEntry}
-use Rattle.ps_warnings.specs.declared.warnings.Look.TheVariants as look
 use Rattle.ps_codefile.specs.declared.dictionary_layout.TheConstants.{SLOTS}
 
 module _ (path : List ℕ) (host : Option (List Record)) (list : List Seen) (order : Order)
     (bytes : List ℕ) (file slot : ℕ) where
+  -- by whether the slot is filled, and whether the file is the host
+  by_slot : Bool → Bool → List LookAt
+  by_slot filled first = let e = entry_at order bytes slot in
+      if filled then looks_of_entry path host order bytes e
+      else (if first then found_at path None None
+      (empty_look slot (list_any (has_slot slot) list) e (role_of e)) else [])
+
   pub slot_filled : is_filled (entry_at order bytes slot) ≡ true
       → looks_of_slot path host list order bytes file slot
-      ≡ looks_of_segment path host order (entry_at order bytes slot)
-      (code_of bytes (entry_at order bytes slot))
-      (information_of bytes (entry_at order bytes slot))
+      ≡ looks_of_entry path host order bytes (entry_at order bytes slot)
   unfolding looks_of_slot
-  slot_filled h = ap (λ (b : Bool). if b then looks_of_segment path host order
-      (entry_at order bytes slot) (code_of bytes (entry_at order bytes slot))
-      (information_of bytes (entry_at order bytes slot))
-      else (if file == 0 then found_at path None None (option_map look.Entry (empty_look slot
-      (list_any (has_slot slot) list) (entry_at order bytes slot)
-      (role_of (entry_at order bytes slot)))) else [])) h
+  slot_filled h = ap (λ (b : Bool). by_slot b (file == 0)) h
 
   pub slot_empty : is_filled (entry_at order bytes slot) ≡ false → (file == 0) ≡ true
       → looks_of_slot path host list order bytes file slot
-      ≡ found_at path None None (option_map look.Entry (empty_look slot
-      (list_any (has_slot slot) list) (entry_at order bytes slot)
-      (role_of (entry_at order bytes slot))))
+      ≡ found_at path None None (empty_look slot (list_any (has_slot slot) list)
+      (entry_at order bytes slot) (role_of (entry_at order bytes slot)))
   unfolding looks_of_slot
-  slot_empty h k = ap (λ (b : Bool). if b then looks_of_segment path host order
-      (entry_at order bytes slot) (code_of bytes (entry_at order bytes slot))
-      (information_of bytes (entry_at order bytes slot))
-      else (if file == 0 then found_at path None None (option_map look.Entry (empty_look slot
-      (list_any (has_slot slot) list) (entry_at order bytes slot)
-      (role_of (entry_at order bytes slot)))) else [])) h
-      ∙ ap (λ (b : Bool). if b then found_at path None None (option_map look.Entry
-      (empty_look slot (list_any (has_slot slot) list) (entry_at order bytes slot)
-      (role_of (entry_at order bytes slot)))) else []) k
+  slot_empty h k = ap (λ (b : Bool). by_slot b (file == 0)) h
+      ∙ ap (λ (b : Bool). by_slot false b) k
 
   pub slot_beside : is_filled (entry_at order bytes slot) ≡ false → (file == 0) ≡ false
       → looks_of_slot path host list order bytes file slot ≡ []
   unfolding looks_of_slot
-  slot_beside h k = ap (λ (b : Bool). if b then looks_of_segment path host order
-      (entry_at order bytes slot) (code_of bytes (entry_at order bytes slot))
-      (information_of bytes (entry_at order bytes slot))
-      else (if file == 0 then found_at path None None (option_map look.Entry (empty_look slot
-      (list_any (has_slot slot) list) (entry_at order bytes slot)
-      (role_of (entry_at order bytes slot)))) else [])) h
-      ∙ ap (λ (b : Bool). if b then found_at path None None (option_map look.Entry
-      (empty_look slot (list_any (has_slot slot) list) (entry_at order bytes slot)
-      (role_of (entry_at order bytes slot)))) else []) k
-
--- a segment that is looked at by its source
-pub source_is : (paths : List (List ℕ)) (host : Option (List Record)) (s : ReadEntry) (order : Order)
-    (bytes : List ℕ) (file : ℕ) (e : Entry) → s.file ≡ file → s.entry ≡ e → s.order ≡ order
-    → code_in s ≡ code_of bytes e → s.after.now ≡ information_of bytes e
-    → looks_of_source (path_of paths s.file) host s
-    ≡ looks_of_segment (path_of paths file) host order e (code_of bytes e) (information_of bytes e)
-source_is paths host s order bytes file e at entry by code after =
-    ap (λ (k : ℕ). looks_of_segment (path_of paths k) host s.order s.entry
-    (code_in s) s.after.now) at
-    ∙ (ap (λ (o : Order). looks_of_segment (path_of paths file) host o s.entry (code_in s)
-    s.after.now) by
-    ∙ (ap (λ (x : Entry). looks_of_segment (path_of paths file) host order x (code_in s)
-    s.after.now) entry
-    ∙ (ap (λ (r : Result (List ℕ) Reason). looks_of_segment (path_of paths file) host order e r
-    s.after.now) code
-    ∙ ap (λ (x : List ℕ). looks_of_segment (path_of paths file) host order e (code_of bytes e) x)
-    after)))
+  slot_beside h k = ap (λ (b : Bool). by_slot b (file == 0)) h
+      ∙ ap (λ (b : Bool). by_slot false b) k
 
 module _ (path : List ℕ) (host : Option (List Record)) (order : Order) (e : Entry)
     (after : List ℕ) where
@@ -110,11 +75,11 @@ module _ (path : List ℕ) (host : Option (List Record)) (order : Order) (e : En
 module _ (path : List ℕ) (segment : Option (List ℕ)) (host : Option (List Record)) (kind : ℕ)
     (size : Option ℕ) (rs : List Record) where
   pub of_host : (kind == 1) ≡ true → definition_looks path segment host kind size rs
-      ≡ found_at path segment None (option_map look.Record (low_mark rs size))
+      ≡ found_at path segment None (low_mark rs size)
       ++ found_in_record path segment (first_high (next_of rs) (numbered_records 0 rs))
   unfolding definition_looks
   of_host h = ap (λ (b : Bool). if b
-      then found_at path segment None (option_map look.Record (low_mark rs size))
+      then found_at path segment None (low_mark rs size)
       ++ found_in_record path segment (first_high (next_of rs) (numbered_records 0 rs))
       else found_in_record path segment (first_definition rs host (numbered_records 0 rs))) h
 
@@ -122,24 +87,23 @@ module _ (path : List ℕ) (segment : Option (List ℕ)) (host : Option (List Re
       ≡ found_in_record path segment (first_definition rs host (numbered_records 0 rs))
   unfolding definition_looks
   of_unit h = ap (λ (b : Bool). if b
-      then found_at path segment None (option_map look.Record (low_mark rs size))
+      then found_at path segment None (low_mark rs size)
       ++ found_in_record path segment (first_high (next_of rs) (numbered_records 0 rs))
       else found_in_record path segment (first_definition rs host (numbered_records 0 rs))) h
 
 module _ (path : List ℕ) (order : Order) (bytes : List ℕ) (extents : List Extent) (x : Extent)
   where
     pub in_slot : nat_lt x.slot SLOTS ≡ true → overlap_look path order bytes extents x
-        ≡ found_at path (Some (entry_at order bytes x.slot).name) None
-        (option_map look.Entry (overlap extents x))
+        ≡ found_at path (Some (entry_at order bytes x.slot).name) None (overlap extents x)
     unfolding overlap_look
     in_slot h = ap (λ (b : Bool). if b then found_at path
-        (Some (entry_at order bytes x.slot).name) None (option_map look.Entry (overlap extents x))
+        (Some (entry_at order bytes x.slot).name) None (overlap extents x)
         else []) h
 
     pub no_slot : nat_lt x.slot SLOTS ≡ false → overlap_look path order bytes extents x ≡ []
     unfolding overlap_look
     no_slot h = ap (λ (b : Bool). if b then found_at path
-        (Some (entry_at order bytes x.slot).name) None (option_map look.Entry (overlap extents x))
+        (Some (entry_at order bytes x.slot).name) None (overlap extents x)
         else []) h
 
 module _ (path : List ℕ) (host : Option (List Record)) (list : List Seen) (order : Order)

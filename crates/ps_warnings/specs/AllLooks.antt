@@ -3,7 +3,7 @@
 -- Source: this project's profile.
 use Rattle.std.specs.Prelude.{ℕ, if◌then◌else◌, List, [], ◌∷◌, ◌++◌, take, Option, Some, None, unwrap_or}
 use Rattle.std.specs.List.{enumerate_from, flat_map}
-use Rattle.std.specs.Option.{option_map, option_map_or}
+use Rattle.std.specs.Option.{option_map_or}
 use Rattle.std.specs.Result.{result_ok}
 use Rattle.ps_words.specs.declared.order.Order.{Order}
 use Rattle.ps_codefile.specs.Dictionary.{opened_alone}
@@ -14,7 +14,6 @@ use Rattle.ps_warnings.specs.Found.{LookAt, found_at}
 use Rattle.ps_warnings.specs.LinkLooks.{other_spelling, taken_by}
 use Rattle.ps_warnings.specs.Paths.{host_order, path_of}
 use Rattle.ps_warnings.specs.Seen.{Seen, host_records}
-use Rattle.ps_warnings.specs.declared.warnings.Look.TheVariants as look
 
 -- what looks wrong in a file of this number, if it is a code file
 unfoldable pub looks_of_file : List (List ℕ) → Option (List Record) → List Seen → Order
@@ -34,10 +33,8 @@ unfoldable pub looks_of_unit : List (List ℕ) → Order → List ℕ → List S
     → List LookAt
 looks_of_unit paths order host list s =
     let path = path_of paths (unwrap_or s.1.file 0) in
-    found_at path (Some s.1.name) None (option_map look.Link
-    (taken_by order host s.1.slot s.1.part))
-    ++ found_at path (Some s.1.name) None
-    (option_map look.Link (other_spelling (take s.0 list) s.1))
+    found_at path (Some s.1.name) None (taken_by order host s.1.slot s.1.part)
+    ++ found_at path (Some s.1.name) None (other_spelling (take s.0 list) s.1)
 
 -- what looks wrong with the units of a link, in each segment, in their order
 unfoldable pub looks_of_units : List (List ℕ) → Order → List ℕ → List Seen → List LookAt

@@ -3,7 +3,7 @@
 -- Source: this project's profile.
 use Rattle.std.specs.Prelude.{ℕ, ◌+◌, ◌*◌, ◌==◌, ◌&&◌, if◌then◌else◌, List, [], ◌++◌, length, map, nat_lt, false, Option, Some, None, Result, Ok, Err, option_and_then}
 use Rattle.std.specs.List.{flat_map, list_any}
-use Rattle.std.specs.Option.{option_map, option_map_or}
+use Rattle.std.specs.Option.{option_map_or}
 use Rattle.std.specs.Result.{is_ok, result_ok}
 use Rattle.ps_words.specs.Words.{blocks}
 use Rattle.ps_words.specs.declared.fault.Reason.{Reason}
@@ -18,10 +18,8 @@ use Rattle.ps_linkinfo.specs.declared.record.LinkRecord.{LinkRecord as Record}
 use Rattle.ps_warnings.specs.EntryLooks.{empty_look, overlap}
 use Rattle.ps_warnings.specs.Found.{LookAt, found_at, found_in_record}
 use Rattle.ps_warnings.specs.RecordLooks.{first_definition, first_high, first_past, low_mark}
-use Rattle.ps_warnings.specs.Seen.{Seen, code_in, has_slot}
+use Rattle.ps_warnings.specs.Seen.{Seen, has_slot}
 use Rattle.ps_warnings.specs.declared.looks.extents.Extent.{Extent}
-use Rattle.ps_warnings.specs.declared.segments.ReadEntry.{ReadEntry}
-use Rattle.ps_warnings.specs.declared.warnings.Look.TheVariants as look
 use Rattle.ps_codefile.specs.declared.dictionary_layout.TheConstants.{SLOTS}
 
 -- the data size of the outer block of a code, in bytes, where its procedure tables can be read
@@ -35,7 +33,7 @@ data_size order code = if nat_lt (length code) 2 then None
 unfoldable pub definition_looks : List ℕ → Option (List ℕ) → Option (List Record) → ℕ
     → Option ℕ → List Record → List LookAt
 definition_looks path segment host kind size rs = if kind == 1
-    then found_at path segment None (option_map look.Record (low_mark rs size))
+    then found_at path segment None (low_mark rs size)
     ++ found_in_record path segment (first_high (next_of rs) (numbered_records 0 rs))
     else found_in_record path segment (first_definition rs host (numbered_records 0 rs))
 
@@ -54,9 +52,10 @@ looks_of_segment path host order e (Err why) after = []
 looks_of_segment path host order e (Ok code) after = if kind_needs_linking e.kind
     then looks_of_records path host order e code (reading order after).0 else []
 
--- what looks wrong in a segment that is looked at by its source
-abbrev pub looks_of_source : List ℕ → Option (List Record) → ReadEntry → List LookAt
-looks_of_source path host s = looks_of_segment path host s.order s.entry (code_in s) s.after.now
+-- what looks wrong in the segment of an entry of a file
+abbrev pub looks_of_entry : List ℕ → Option (List Record) → Order → List ℕ → Entry → List LookAt
+looks_of_entry path host order bytes e = looks_of_segment path host order e (code_of bytes e)
+    (information_of bytes e)
 
 -- what looks wrong in a slot of a file: in its segment, or, in the host, in an entry that is not
 -- filled, which a unit of the link takes or not
@@ -64,10 +63,9 @@ unfoldable pub looks_of_slot : List ℕ → Option (List Record) → List Seen �
     → List LookAt
 looks_of_slot path host list order bytes file slot =
     let e = entry_at order bytes slot in
-    if is_filled e then looks_of_segment path host order e (code_of bytes e)
-    (information_of bytes e)
-    else (if file == 0 then found_at path None None (option_map look.Entry
-    (empty_look slot (list_any (has_slot slot) list) e (role_of e))) else [])
+    if is_filled e then looks_of_entry path host order bytes e
+    else (if file == 0 then found_at path None None
+    (empty_look slot (list_any (has_slot slot) list) e (role_of e)) else [])
 
 -- the bytes of a file from one on and before another, which an entry has; nothing
 abbrev pub extent : ℕ → ℕ → ℕ → Extent
@@ -94,8 +92,7 @@ extent_at order bytes slot = let e = entry_at order bytes slot in
 -- the first earlier entry that has bytes of this one
 unfoldable pub overlap_look : List ℕ → Order → List ℕ → List Extent → Extent → List LookAt
 overlap_look path order bytes extents e = if nat_lt e.slot SLOTS
-    then found_at path (Some (entry_at order bytes e.slot).name) None
-    (option_map look.Entry (overlap extents e)) else []
+    then found_at path (Some (entry_at order bytes e.slot).name) None (overlap extents e) else []
 
 -- what looks wrong in a code file that can be read: in its slots, and where entries overlap
 unfoldable pub looks_of_entries : List ℕ → Option (List Record) → List Seen → Order → List ℕ → ℕ

@@ -80,7 +80,6 @@ found_at path segment rec None = []
 found_at path segment rec (Some l) = look_at path segment rec l
 
 -- a look at a record of a segment, which was found or not, if it is about the link
-abbrev pub found_in_record : List ℕ → Option (List ℕ) → Option (ℕ × RecordLook) → List LookAt
+abbrev pub found_in_record : List ℕ → Option (List ℕ) → Option (ℕ × Look) → List LookAt
 found_in_record path segment None = []
-found_in_record path segment (Some found) = look_at path segment (Some found.0)
-    (which.Record found.1)
+found_in_record path segment (Some found) = look_at path segment (Some found.0) found.1

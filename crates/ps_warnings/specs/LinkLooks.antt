@@ -12,8 +12,9 @@ use Rattle.ps_warnings.specs.SegmentParts.{is_added, is_unit}
 use Rattle.ps_warnings.specs.declared.segments.SegmentPart.{SegmentPart}
 use Rattle.ps_warnings.specs.EntryLooks.{has_name_or_kind}
 use Rattle.ps_warnings.specs.Seen.{Seen}
-use Rattle.ps_warnings.specs.declared.warnings.LinkLook.{LinkLook}
 use Rattle.ps_warnings.specs.declared.warnings.LinkLook.TheVariants as look
+use Rattle.ps_warnings.specs.declared.warnings.Look.{Look}
+use Rattle.ps_warnings.specs.declared.warnings.Look.TheVariants as which
 use Rattle.ps_codefile.specs.declared.dictionary_layout.TheConstants.{SLOTS}
 
 -- a byte of a name as it ought to be written: without bit 7, a capital letter, and a blank for a 0
@@ -29,12 +30,12 @@ abbrev pub is_near : List ℕ → List ℕ → Bool
 is_near a b = not (bytes_eq a b) && bytes_eq (plain a) (plain b)
 
 -- a unit that a record requests takes a slot whose entry in the host has a name or a kind
-abbrev pub taken_slot : ℕ → SegmentPart → Entry → Option LinkLook
+abbrev pub taken_slot : ℕ → SegmentPart → Entry → Option Look
 taken_slot slot what e = if is_added what && has_name_or_kind e
-    then Some (look.TakenSlot slot e.name) else None
+    then Some (which.Link (look.TakenSlot slot e.name)) else None
 
 -- so does the one that has this slot of the host, if it has one
-abbrev pub taken_by : Order → List ℕ → Option ℕ → SegmentPart → Option LinkLook
+abbrev pub taken_by : Order → List ℕ → Option ℕ → SegmentPart → Option Look
 taken_by order host None what = None
 taken_by order host (Some slot) what = if nat_lt slot SLOTS
     then taken_slot slot what (entry_at order host slot) else None
@@ -44,6 +45,7 @@ abbrev pub is_near_unit : List ℕ → Seen → Bool
 is_near_unit name s = is_unit s.part && is_near s.name name
 
 -- the first of the segments before a unit that is a unit of nearly its name
-abbrev pub other_spelling : List Seen → Seen → Option LinkLook
+abbrev pub other_spelling : List Seen → Seen → Option Look
 other_spelling earlier s = if is_unit s.part
-    then option_map (λ o. look.OtherSpelling o.name) (find (is_near_unit s.name) earlier) else None
+    then option_map (λ o. which.Link (look.OtherSpelling o.name)) (find (is_near_unit s.name) earlier)
+    else None

@@ -11,25 +11,26 @@ use Rattle.ps_linkinfo.specs.declared.record.Body.TheVariants.{UnitRef, PublRef,
 use Rattle.ps_linkinfo.specs.declared.record.LinkRecord.{LinkRecord as Record}
 use Rattle.ps_linkinfo.specs.declared.sort.Sort.TheVariants as sort
 use Rattle.ps_resolve.specs.Searches.{first_of}
-use Rattle.ps_warnings.specs.declared.warnings.RecordLook.{RecordLook}
+use Rattle.ps_warnings.specs.declared.warnings.Look.{Look}
+use Rattle.ps_warnings.specs.declared.warnings.Look.TheVariants as which
 use Rattle.ps_warnings.specs.declared.warnings.RecordLook.TheVariants as look
 
 -- the end mark of a host program is below half the size of its own data, in bytes
-abbrev pub low_below : ℕ → ℕ → Option RecordLook
-low_below next size = if nat_lt next (size / 2) then Some (look.LowMark next size) else None
+abbrev pub low_below : ℕ → ℕ → Option Look
+low_below next size = if nat_lt next (size / 2) then Some (which.Record (look.LowMark next size)) else None
 
 -- so it is of a host program with these records, if it has any and its data have a size
-abbrev pub low_mark : List Record → Option ℕ → Option RecordLook
+abbrev pub low_mark : List Record → Option ℕ → Option Look
 low_mark rs None = None
 low_mark rs (Some size) = if length rs == 0 then None else low_below (next_of rs) size
 
 -- a variable that the host program defines is at the next free base offset or above it
-abbrev pub high_value : ℕ → List ℕ → ℕ → Option RecordLook
+abbrev pub high_value : ℕ → List ℕ → ℕ → Option Look
 high_value next name value = if nat_lt value next then None
-    else Some (look.HighDefinition name value next)
+    else Some (which.Record (look.HighDefinition name value next))
 
 -- the variable that a record with this body defines is that high
-abbrev pub high_as : ℕ → List ℕ → Body → Option RecordLook
+abbrev pub high_as : ℕ → List ℕ → Body → Option Look
 high_as next name (PublDef value) = high_value next name value
 high_as next name (UnitRef refs) = None
 high_as next name (PublRef refs) = None
@@ -38,26 +39,26 @@ high_as next name (ConstDef value) = None
 high_as next name (Eof at) = None
 
 -- a look at a record, with the record's index
-abbrev pub at_index : ℕ → Option RecordLook → Option (ℕ × RecordLook)
+abbrev pub at_index : ℕ → Option Look → Option (ℕ × Look)
 at_index i found = option_map (λ l. (i, l)) found
 
-abbrev pub high_in : ℕ → ℕ × Record → Option (ℕ × RecordLook)
+abbrev pub high_in : ℕ → ℕ × Record → Option (ℕ × Look)
 high_in next r = at_index r.0 (high_as next r.1.name r.1.body)
 
 -- the first record of a host program whose definition is too high
-abbrev pub first_high : ℕ → List (ℕ × Record) → Option (ℕ × RecordLook)
+abbrev pub first_high : ℕ → List (ℕ × Record) → Option (ℕ × Look)
 first_high next rs = first_of (high_in next) rs
 
 -- the operand at a place of a code is past the words of its variable, where the code has both of
 -- its bytes
-abbrev pub past_words : List ℕ → ℕ → ℕ → Option RecordLook
+abbrev pub past_words : List ℕ → ℕ → ℕ → Option Look
 past_words code words place = if nat_lt (place + 1) (length code)
     then (if nat_lt (displacement_at code place) words then None
-    else Some (look.PastPrivate place (displacement_at code place) words))
+    else Some (which.Record (look.PastPrivate place (displacement_at code place) words)))
     else None
 
 -- the first operand of a record with this body that is past the words of its private
-abbrev pub past_as : List ℕ → Body → Option RecordLook
+abbrev pub past_as : List ℕ → Body → Option Look
 past_as code (PrivRef words refs) = first_of (past_words code words) refs
 past_as code (UnitRef refs) = None
 past_as code (PublRef refs) = None
@@ -65,11 +66,11 @@ past_as code (PublDef value) = None
 past_as code (ConstDef value) = None
 past_as code (Eof at) = None
 
-abbrev pub past_in : List ℕ → ℕ × Record → Option (ℕ × RecordLook)
+abbrev pub past_in : List ℕ → ℕ × Record → Option (ℕ × Look)
 past_in code r = at_index r.0 (past_as code r.1.body)
 
 -- the first record of a segment with such an operand
-abbrev pub first_past : List ℕ → List (ℕ × Record) → Option (ℕ × RecordLook)
+abbrev pub first_past : List ℕ → List (ℕ × Record) → Option (ℕ × Look)
 first_past code rs = first_of (past_in code) rs
 
 -- the host program of a link, if it has one, defines the name
@@ -83,11 +84,11 @@ is_requested rs name = is_some (first_named name sort.Request (numbered_records 
 
 -- a unit's definition of a name: the unit refers to the name and no host program defines it, or the
 -- definition has no effect
-abbrev pub definition_of : List Record → Option (List Record) → List ℕ → RecordLook
+abbrev pub definition_of : List Record → Option (List Record) → List ℕ → Look
 definition_of rs host name = if is_requested rs name && not (is_defined host name)
-    then look.OwnDefinition name else look.UnitDefinition name
+    then which.Record (look.OwnDefinition name) else which.Record (look.UnitDefinition name)
 
-abbrev pub definition_as : List Record → Option (List Record) → List ℕ → Body → Option RecordLook
+abbrev pub definition_as : List Record → Option (List Record) → List ℕ → Body → Option Look
 definition_as rs host name (PublDef value) = Some (definition_of rs host name)
 definition_as rs host name (UnitRef refs) = None
 definition_as rs host name (PublRef refs) = None
@@ -96,10 +97,10 @@ definition_as rs host name (ConstDef value) = None
 definition_as rs host name (Eof at) = None
 
 abbrev pub definition_in : List Record → Option (List Record) → ℕ × Record
-    → Option (ℕ × RecordLook)
+    → Option (ℕ × Look)
 definition_in rs host r = at_index r.0 (definition_as rs host r.1.name r.1.body)
 
 -- the first definition of a unit
 abbrev pub first_definition : List Record → Option (List Record) → List (ℕ × Record)
-    → Option (ℕ × RecordLook)
+    → Option (ℕ × Look)
 first_definition rs host numbered = first_of (definition_in rs host) numbered

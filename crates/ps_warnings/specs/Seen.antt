@@ -1,17 +1,14 @@
 -- The segments of a link as they were read, as far as looks about the link depend on them.
 -- Source: this project's profile.
-use Rattle.std.specs.Prelude.{ℕ, ◌==◌, ◌&&◌, if◌then◌else◌, List, [], Bool, true, false, Option, Some, None, Result, Ok, Err}
-use Rattle.std.specs.Borrow.{Bor}
+use Rattle.std.specs.Prelude.{ℕ, ◌==◌, ◌&&◌, if◌then◌else◌, List, [], Bool, true, false, Option}
 use Rattle.std.specs.List.{find}
 use Rattle.std.specs.Option.{option_map, option_map_or}
 use Rattle.std.specs.Result.{is_ok}
-use Rattle.ps_words.specs.declared.fault.Reason.{Reason}
 use Rattle.ps_linkinfo.specs.Records.{reading}
 use Rattle.ps_linkinfo.specs.declared.record.LinkRecord.{LinkRecord as Record}
 use Rattle.ps_warnings.specs.declared.segments.SegmentPart.{SegmentPart}
 use Rattle.ps_warnings.specs.declared.segments.SegmentPart.TheVariants as part
 use Rattle.ps_warnings.specs.declared.segments.ReadSegment.{ReadSegment}
-use Rattle.ps_warnings.specs.declared.segments.ReadEntry.{ReadEntry}
 
 -- what is seen of a segment: its slot in the host, its name, what it is, the file that it comes
 -- from, and its records, up to the first that cannot be read
@@ -30,18 +27,9 @@ part_needs_linking part.Unit = true
 part_needs_linking part.Wanted = true
 part_needs_linking (part.Added requester rec) = true
 
--- the code of a segment, or why it cannot be read
-abbrev pub code_as : Result (Bor (List ℕ)) Reason → Result (List ℕ) Reason
-code_as (Ok code) = Ok code.now
-code_as (Err why) = Err why
-
-abbrev pub code_in : ReadEntry → Result (List ℕ) Reason
-code_in s = code_as s.code
-
 -- the records of a segment: none where they are not to be read, or where it has no code
-abbrev pub records_in : SegmentPart → Option ReadEntry → List Record
-records_in what None = []
-records_in what (Some s) = if part_needs_linking what && is_ok s.code
+abbrev pub records_in : ReadSegment → List Record
+records_in s = if part_needs_linking s.part && is_ok s.code
     then (reading s.order s.after.now).0 else []
 
 abbrev pub seen : ReadSegment → Seen
@@ -49,8 +37,8 @@ seen s = record {
   slot = s.slot;
   name = s.name;
   part = s.part;
-  file = option_map (λ o. o.file) s.source;
-  records = records_in s.part s.source;
+  file = option_map (λ o. o.0.file) s.source;
+  records = records_in s;
 }
 
 -- the segment has this slot of the host

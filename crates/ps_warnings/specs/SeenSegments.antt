@@ -23,47 +23,34 @@ use Rattle.ps_warnings.specs.Paths.{host_order}
 use Rattle.ps_warnings.specs.Seen.{Seen, part_needs_linking}
 use Rattle.ps_warnings.specs.declared.segments.SegmentPart.{SegmentPart}
 use Rattle.ps_warnings.specs.declared.segments.SegmentPart.TheVariants as part
-use Rattle.ps_warnings.specs.declared.segments.ReadEntry.{ReadEntry}
 use Rattle.ps_codefile.specs.declared.dictionary_layout.TheConstants.{SLOTS}
 
--- where a segment comes from: its file, and the records that can be read there, if it has a code
-pub record Origin : Type 0 where
-  pub file : ℕ
-  pub records : List Record
+-- the records that can be read at an entry of a file that was opened, if it has a code
+abbrev pub records_at : ℕ → OpenedFile → List Record
+records_at index f = let e = entry_at f.order f.file index in
+    if is_ok (code_of f.file e) then (reading f.order (information_of f.file e)).0 else []
 
--- that of a source, and that of an entry of a file that was opened
-abbrev pub origin_as : ReadEntry → Origin
-origin_as s = record {
-  file = s.file;
-  records = if is_ok s.code then (reading s.order s.after.now).0 else [];
-}
-
-unfoldable pub origin_at : ℕ → ℕ → OpenedFile → Origin
-origin_at file index f = let e = entry_at f.order f.file index in record {
-  file = file;
-  records = if is_ok (code_of f.file e) then (reading f.order (information_of f.file e)).0 else [];
-}
-
--- so of an entry of a host or a library, which is read in the host's order
-abbrev pub origin_in : ℕ → ℕ → Result OpenedFile Reason → Option Origin
-origin_in file index (Ok f) = Some (origin_at file index f)
+-- where a segment comes from: its file, and the records there; none where the file is not opened
+abbrev pub origin_in : ℕ → ℕ → Result OpenedFile Reason → Option (ℕ × List Record)
+origin_in file index (Ok f) = Some (file, records_at index f)
 origin_in file index (Err why) = None
 
-unfoldable pub origin_of : List ℕ → List (List ℕ) → ℕ × ℕ → Option Origin
+-- so of an entry of a host or a library, which is read in the host's order
+unfoldable pub origin_of : List ℕ → List (List ℕ) → ℕ × ℕ → Option (ℕ × List Record)
 origin_of host libs at = if nat_lt at.1 SLOTS
     then origin_in at.0 at.1 (opened_beside (host_order host) (file_at host libs at.0)) else None
 
 -- what is seen of a segment that comes from there
-abbrev pub records_from : Option Origin → List Record
+abbrev pub records_from : Option (ℕ × List Record) → List Record
 records_from None = []
-records_from (Some origin) = origin.records
+records_from (Some origin) = origin.1
 
-unfoldable pub seen_with : Option ℕ → List ℕ → SegmentPart → Option Origin → Seen
+unfoldable pub seen_with : Option ℕ → List ℕ → SegmentPart → Option (ℕ × List Record) → Seen
 seen_with slot name what origin = record {
   slot = slot;
   name = name;
   part = what;
-  file = option_map (λ o. o.file) origin;
+  file = option_map (λ o. o.0) origin;
   records = if part_needs_linking what then records_from origin else [];
 }
 
@@ -143,10 +130,13 @@ abbrev pub taken_of : HostFiles → List ℕ → ℕ
 taken_of h [] = 0
 taken_of h (slot ∷ ss) = (if takes_slot h slot then 1 else 0) + taken_of h ss
 
--- where the segment of a slot comes from, if it was read
-unfoldable pub slot_origin : List ℕ → List (List ℕ) → HostFiles → ℕ → Option Origin
-slot_origin host libs h slot = if is_some (reading_in h slot)
-    then option_and_then (origin_of host libs) (entry_in h slot) else None
+-- where the segment of a slot comes from, if it was read: its file and its entry there, and what
+-- they have
+unfoldable pub read_entry : HostFiles → ℕ → Option (ℕ × ℕ)
+read_entry h slot = if is_some (reading_in h slot) then entry_in h slot else None
+
+abbrev pub slot_origin : List ℕ → List (List ℕ) → HostFiles → ℕ → Option (ℕ × List Record)
+slot_origin host libs h slot = option_and_then (origin_of host libs) (read_entry h slot)
 
 -- what is seen of the segment of a slot
 unfoldable pub seen_in : List ℕ → List (List ℕ) → HostFiles → ℕ → Option Seen

@@ -12,9 +12,7 @@ pub use inputs::Inputs;
 pub use looks::codes::dead_look;
 pub use looks::names::{is_near, plain};
 pub use looks::{Looks, looks_of};
-pub use segments::{
-    ReadEntry, ReadSegment, SegmentPart, host_of, in_slot, length_of, segments_of, source_of,
-};
+pub use segments::{ReadSegment, SegmentPart, host_of, in_slot, length_of, segments_of};
 pub use warnings::{
     CodeLook, DictionaryLook, EntryLook, FileLook, Guess, LinkLook, Look, Oddity, OtherLook,
     ProcedureLook, RecordLook, SegmentLook, Warning, WarningAt,

@@ -20,12 +20,11 @@ mod numbers;
 mod records;
 
 use crate::inputs::Inputs;
-use crate::segments::{ReadEntry, ReadSegment, host_of, in_slot};
-use crate::warnings::{
-    EntryLook, Guess, LinkLook, Look, OtherLook, RecordLook, Warning, WarningAt,
-};
+use crate::segments::{ReadSegment, host_of, in_slot};
+use crate::warnings::{Look, OtherLook, Warning, WarningAt};
 use crate::weight::Weight;
 use ps_linkinfo::LinkInformation;
+use ps_resolve::EntryAt;
 use ps_words::{Fault, Reason};
 use std::alloc::{AllocError, Allocator};
 
@@ -36,18 +35,17 @@ struct Context<'c, 'a> {
     list: &'c [ReadSegment<'a>],
     /// The fault that the report explains.
     fault: Option<Fault>,
-    /// The file and the slot there of the segment that the fault is in.
-    refused: Option<(usize, u8)>,
+    /// Where the segment comes from that the fault is in.
+    refused: Option<EntryAt>,
     /// No name of an entry has a capital letter.
     are_small: bool,
     /// The records of the host program of the link, if it has one.
     host: Option<&'c LinkInformation<'a>>,
 }
 
-/// Where the segment comes from that a fault is in: its file, and its slot there.
-fn refused_entry(list: &[ReadSegment<'_>], fault: Option<Fault>) -> Option<(usize, u8)> {
-    let source = in_slot(list, fault?.slot?)?.source?;
-    Some((source.file, source.index))
+/// Where the segment comes from that a fault is in.
+fn refused_entry(list: &[ReadSegment<'_>], fault: Option<Fault>) -> Option<EntryAt> {
+    Some(in_slot(list, fault?.slot?)?.source?.0)
 }
 
 impl Context<'_, '_> {
@@ -68,8 +66,8 @@ impl Context<'_, '_> {
     }
 
     /// The fault is in the segment that comes from this entry.
-    fn is_refused(&self, source: &ReadEntry<'_>) -> bool {
-        self.refused == Some((source.file, source.index))
+    fn is_refused(&self, file: usize, index: u8) -> bool {
+        self.refused == Some(EntryAt { file, index })
     }
 }
 
@@ -113,43 +111,15 @@ impl<'a, A: Allocator> Looks<'a, A> {
         }
     }
 
-    /// Adds what looks wrong in an entry, if anything does.
-    fn add_entry(
-        &mut self,
-        place: WarningAt<'a>,
-        found: Option<EntryLook>,
-    ) -> Result<(), AllocError>
+    /// Adds what looks wrong at a place, if anything does.
+    fn add(&mut self, place: WarningAt<'a>, found: Option<Look>) -> Result<(), AllocError>
         ensures { OnOk result (Adds (link_looks self.old.warnings.items self.old.harmless.items)
-            (found_at place.entry.path.now place.entry.segment place.entry.rec
-            (option_map Look.Entry found))
+            (found_at place.entry.path.now place.entry.segment place.entry.rec found)
             (link_looks self.new.warnings.items self.new.harmless.items)) }
     {
         match found {
             None => Ok(()),
-            Some(found) => self.push(Warning {
-                place,
-                look: Look::Entry(found),
-            }),
-        }
-    }
-
-    /// Adds what looks wrong in the records of a segment as a whole, if anything does.
-    fn add_of_records(
-        &mut self,
-        place: WarningAt<'a>,
-        found: Option<RecordLook>,
-    ) -> Result<(), AllocError>
-        ensures { OnOk result (Adds (link_looks self.old.warnings.items self.old.harmless.items)
-            (found_at place.entry.path.now place.entry.segment place.entry.rec
-            (option_map Look.Record found))
-            (link_looks self.new.warnings.items self.new.harmless.items)) }
-    {
-        match found {
-            None => Ok(()),
-            Some(found) => self.push(Warning {
-                place,
-                look: Look::Record(found),
-            }),
+            Some(look) => self.push(Warning { place, look }),
         }
     }
 
@@ -157,7 +127,7 @@ impl<'a, A: Allocator> Looks<'a, A> {
     fn add_of_record(
         &mut self,
         place: WarningAt<'a>,
-        found: Option<(usize, RecordLook)>,
+        found: Option<(usize, Look)>,
     ) -> Result<(), AllocError>
         ensures { OnOk result (Adds (link_looks self.old.warnings.items self.old.harmless.items)
             (found_in_record place.entry.path.now place.entry.segment found)
@@ -165,33 +135,13 @@ impl<'a, A: Allocator> Looks<'a, A> {
     {
         match found {
             None => Ok(()),
-            Some((rec, found)) => {
+            Some((rec, look)) => {
                 let rec = Some(rec);
                 self.push(Warning {
                     place: WarningAt { rec, ..place },
-                    look: Look::Record(found),
+                    look,
                 })
             }
-        }
-    }
-
-    /// Adds what looks wrong in the link as a whole, if anything does.
-    fn add_of_link(
-        &mut self,
-        place: WarningAt<'a>,
-        found: Option<LinkLook>,
-    ) -> Result<(), AllocError>
-        ensures { OnOk result (Adds (link_looks self.old.warnings.items self.old.harmless.items)
-            (found_at place.entry.path.now place.entry.segment place.entry.rec
-            (option_map Look.Link found))
-            (link_looks self.new.warnings.items self.new.harmless.items)) }
-    {
-        match found {
-            None => Ok(()),
-            Some(found) => self.push(Warning {
-                place,
-                look: Look::Link(found),
-            }),
         }
     }
 
@@ -213,6 +163,24 @@ impl<'a, A: Allocator> Looks<'a, A> {
         }
     }
 
+    /// The same in a record of a segment.
+    fn add_other_of_record(
+        &mut self,
+        place: WarningAt<'a>,
+        found: Option<(usize, OtherLook)>,
+    ) -> Result<(), AllocError>
+        ensures { OnOk result (Adds (link_looks self.old.warnings.items self.old.harmless.items)
+            [] (link_looks self.new.warnings.items self.new.harmless.items)) }
+    {
+        match found {
+            None => Ok(()),
+            Some((rec, look)) => {
+                let rec = Some(rec);
+                self.add_other(WarningAt { rec, ..place }, Some(look))
+            }
+        }
+    }
+
     /// Adds each of these that looks wrong, in their order.
     fn add_others(
         &mut self,
@@ -226,32 +194,6 @@ impl<'a, A: Allocator> Looks<'a, A> {
             self.add_other(place, *look)?;
         }
         Ok(())
-    }
-
-    /// Notes a guess, if there is one.
-    fn note(&mut self, place: WarningAt<'a>, guess: Option<Guess>) -> Result<(), AllocError>
-        ensures { OnOk result (Adds (link_looks self.old.warnings.items self.old.harmless.items)
-            [] (link_looks self.new.warnings.items self.new.harmless.items)) }
-    {
-        self.add_other(place, guess.map(OtherLook::Guess))
-    }
-
-    /// Notes a guess about a record of a segment, if there is one.
-    fn note_of_record(
-        &mut self,
-        place: WarningAt<'a>,
-        found: Option<(usize, Guess)>,
-    ) -> Result<(), AllocError>
-        ensures { OnOk result (Adds (link_looks self.old.warnings.items self.old.harmless.items)
-            [] (link_looks self.new.warnings.items self.new.harmless.items)) }
-    {
-        match found {
-            None => Ok(()),
-            Some((rec, guess)) => {
-                let rec = Some(rec);
-                self.note(WarningAt { rec, ..place }, Some(guess))
-            }
-        }
     }
 }
 

@@ -2,18 +2,17 @@
 ghost use Rattle.std.specs.Prelude.{◌≡◌, ◌<◌, ◌≤◌, ◌==◌, ◌^◌, ◌++◌, ◌∷◌, [], IfOk, OnOk, Some, filter_map, is_some, map, nat_lt, option_and_then, slice_get};
 ghost use Rattle.std.specs.List.{cons_option, find, list_any, range_with_len};
 ghost use Rattle.std.specs.Option.{option_map};
-ghost use Rattle.ps_codefile.specs.Dictionary.{code_of, entry_at, information_of, kind_needs_linking, opened_beside, slots};
+ghost use Rattle.ps_codefile.specs.Dictionary.{opened_beside, slots};
 ghost use Rattle.ps_linkinfo.specs.Records.{used_by};
 ghost use Rattle.ps_resolve.specs.Readings.{opened_host, read_requests};
 ghost use Rattle.ps_resolve.specs.Sources.{contents, file_at, opened_files};
 ghost use Rattle.ps_warnings.specs.Paths.{host_order};
 ghost use Rattle.ps_warnings.specs.SegmentParts.{is_added as is_added_spec, is_unit as is_unit_spec, part_words};
-ghost use Rattle.ps_warnings.specs.Seen.{code_in, is_host_part, part_needs_linking, seen};
-ghost use Rattle.ps_warnings.specs.SeenSegments.{entry_in, is_by_record as is_by_record_spec, is_for_unit as is_for_unit_spec, is_of_host as is_of_host_spec, is_unit_of as is_unit_of_spec, name_by as name_by_spec, name_in as name_in_spec, origin_as, origin_in, origin_of, part_by, part_in as part_in_spec, part_of_role, reading_in, request_in, role_in, seen_by, seen_in, seen_of, seen_unit, slot_origin, taken_of, takes_slot as takes_slot_spec};
+ghost use Rattle.ps_warnings.specs.Seen.{is_host_part, part_needs_linking, seen};
+ghost use Rattle.ps_warnings.specs.SeenSegments.{is_by_record as is_by_record_spec, is_for_unit as is_for_unit_spec, is_of_host as is_of_host_spec, is_unit_of as is_unit_of_spec, name_by as name_by_spec, name_in as name_in_spec, origin_in, origin_of, part_by, part_in as part_in_spec, part_of_role, read_entry, reading_in, records_at, request_in, role_in, seen_by, seen_in, seen_of, seen_unit, seen_with, slot_origin, taken_of, takes_slot as takes_slot_spec};
 
 use crate::inputs::Inputs;
 use ps_codefile::dictionary_layout::SLOTS;
-use ps_codefile::kinds::{HOSTSEG, UNITSEG};
 use ps_codefile::{Dict, Entry, Role};
 use ps_filetype::ShownName;
 use ps_linkinfo::LinkInformation;
@@ -107,42 +106,6 @@ impl fmt::Display for SegmentPart {
     }
 }
 
-/// Where a segment comes from.
-///
-/// Source: UCSD Pascal II.0 manual, code file format.
-#[derive(Clone, Copy)]
-pub struct ReadEntry<'a> {
-    /// The file, 0 for the host.
-    pub file: usize,
-    /// The slot of its entry there.
-    pub index: u8,
-    /// What the dictionary says there.
-    pub entry: Entry,
-    /// The order of the file's words.
-    pub order: Order,
-    /// Its code, or why it can't be read.
-    pub code: Result<&'a [u8], Reason>,
-    /// The file from its link information on.
-    pub after: &'a [u8],
-}
-
-impl ReadEntry<'_> {
-    /// A link resolves its references, if it takes it.
-    /// Source: the published II.0 Linker source.
-    pub fn needs_linking(&self) -> bool
-        ensures { result ≡ kind_needs_linking self.now.entry.kind }
-    {
-        self.entry.kind == HOSTSEG || self.entry.kind == UNITSEG
-    }
-
-    /// Its kind is that of a host program.
-    pub(crate) fn is_host(&self) -> bool
-        ensures { result ≡ (self.now.entry.kind == 1) }
-    {
-        self.entry.kind == HOSTSEG
-    }
-}
-
 /// A segment of a link, as it was read.
 ///
 /// Source: this project's profile.
@@ -152,10 +115,15 @@ pub struct ReadSegment<'a> {
     pub slot: Option<u8>,
     pub name: Name,
     pub part: SegmentPart,
-    /// Where it comes from; none where no library has it, or where it was not read.
-    pub source: Option<ReadEntry<'a>>,
-    /// No library has it.
-    pub is_missing: bool,
+    /// Where it comes from, and what the dictionary says there; none where no library has it, or
+    /// where it was not read.
+    pub source: Option<(EntryAt, Entry)>,
+    /// The order of its file's words.
+    pub order: Order,
+    /// Its code, or why it has none: `MissingUnit` where no library has it.
+    pub code: Result<&'a [u8], Reason>,
+    /// Its file from its link information on.
+    pub after: &'a [u8],
 }
 
 impl<'a> ReadSegment<'a> {
@@ -164,11 +132,10 @@ impl<'a> ReadSegment<'a> {
     pub fn records(&self) -> LinkInformation<'a>
         ensures { result ≡ (seen self.now).records }
     {
-        match self.source {
-            Some(source) if self.part.needs_linking() && source.code.is_ok() => {
-                LinkInformation::up_to_fault(source.order, source.after)
-            }
-            _ => LinkInformation::none(),
+        if self.part.needs_linking() && self.code.is_ok() {
+            LinkInformation::up_to_fault(self.order, self.after)
+        } else {
+            LinkInformation::none()
         }
     }
 }
@@ -186,72 +153,84 @@ pub fn length_of(records: &LinkInformation<'_>) -> usize
     length
 }
 
-/// The segment of this entry of a file; `index` is its slot there, 0 to 15.
-///
-/// Source: UCSD Pascal II.0 manual, code file format.
-pub fn source_of<'a>(dict: &Dict<'a>, file: usize, index: u8) -> ReadEntry<'a>
-    requires { index < SLOTS }
-    ensures file { result.file ≡ file }
-    ensures entry { result.entry ≡ entry_at dict.now.order dict.now.file index }
-    ensures order { result.order ≡ dict.now.order }
-    ensures code { code_in result
-        ≡ code_of dict.now.file (entry_at dict.now.order dict.now.file index) }
-    ensures after { result.after.now
-        ≡ information_of dict.now.file (entry_at dict.now.order dict.now.file index) }
+/// A segment that comes from no entry, and why it has no code.
+fn without_entry<'a>(
+    slot: Option<u8>,
+    name: Name,
+    part: SegmentPart,
+    why: Reason,
+) -> ReadSegment<'a>
+    ensures { seen result ≡ seen_with slot name part None }
 {
-    ReadEntry {
-        file,
-        index,
-        entry: dict.entry(index),
+    ReadSegment {
+        slot,
+        name,
+        part,
+        source: None,
+        order: Order::Little,
+        code: Err(why),
+        after: &[],
+    }
+}
+
+/// A segment that comes from an entry of a file.
+fn of_entry<'a>(
+    slot: u8,
+    name: Name,
+    part: SegmentPart,
+    dict: &Dict<'a>,
+    at: EntryAt,
+) -> ReadSegment<'a>
+    requires { at.index < SLOTS }
+    ensures { seen result ≡ seen_with (Some slot) name part
+        (Some (at.file, records_at at.index dict.now)) }
+{
+    ReadSegment {
+        slot: Some(slot),
+        name,
+        part,
+        source: Some((at, dict.entry(at.index))),
         order: dict.order(),
-        code: dict.code(index),
-        after: dict.after(index),
+        code: dict.code(at.index),
+        after: dict.after(at.index),
     }
 }
 
-/// An entry of a file; none where the file cannot be read, or has no such entry.
-#[tactic(auto, unfolding(crate::specs::SeenSegments::origin_of))]
-fn source_at<'a>(inputs: &Inputs<'a>, file: usize, index: u8) -> Option<ReadEntry<'a>>
-    ensures { option_map origin_as result
-        ≡ origin_of inputs.now.host.now (contents inputs.now.libs.now) (file, index) }
-{
-    if index < SLOTS {
-        source_from(inputs, file, index)
-    } else {
-        None
-    }
-}
-
-/// An entry of a file; none where the file cannot be read.
-fn source_from<'a>(inputs: &Inputs<'a>, file: usize, index: u8) -> Option<ReadEntry<'a>>
-    requires { index < SLOTS }
-    ensures { option_map origin_as result ≡ origin_in file index
+/// A segment that comes from an entry of a file, which can be read or not.
+fn read_at<'a>(
+    inputs: &Inputs<'a>,
+    slot: u8,
+    name: Name,
+    part: SegmentPart,
+    at: EntryAt,
+) -> ReadSegment<'a>
+    requires { at.index < SLOTS }
+    ensures { seen result ≡ seen_with (Some slot) name part (origin_in at.file at.index
         (opened_beside (host_order inputs.now.host.now)
-        (file_at inputs.now.host.now (contents inputs.now.libs.now) file)) }
+        (file_at inputs.now.host.now (contents inputs.now.libs.now) at.file))) }
 {
-    match Dict::read_beside(inputs.bytes(file), inputs.order()) {
-        Ok(dict) => Some(source_of(&dict, file, index)),
-        Err(_) => None,
+    match Dict::read_beside(inputs.bytes(at.file), inputs.order()) {
+        Ok(dict) => of_entry(slot, name, part, &dict, at),
+        Err(why) => without_entry(Some(slot), name, part, why),
     }
 }
 
-/// There is such a slot.
-pub(crate) fn is_slot(slot: u8) -> bool
-    ensures { result ≡ nat_lt slot SLOTS }
+/// A segment that comes from an entry of a file, if there is such an entry.
+#[tactic(auto, unfolding(crate::specs::SeenSegments::origin_of))]
+fn read_from<'a>(
+    inputs: &Inputs<'a>,
+    slot: u8,
+    name: Name,
+    part: SegmentPart,
+    at: EntryAt,
+) -> ReadSegment<'a>
+    ensures { seen result ≡ seen_with (Some slot) name part (origin_of inputs.now.host.now
+        (contents inputs.now.libs.now) (at.file, at.index)) }
 {
-    slot < SLOTS
-}
-
-/// Where the segment of a slot comes from, also where it is refused; none where no library has the
-/// unit.
-fn source_in<'a>(inputs: &Inputs<'a>, host: &HostReading<'a>, slot: u8) -> Option<ReadEntry<'a>>
-    requires { slot < SLOTS }
-    ensures { option_map origin_as result ≡ option_and_then (origin_of inputs.now.host.now
-        (contents inputs.now.libs.now)) (entry_in host.now slot) }
-{
-    match host.source(slot) {
-        None => None,
-        Some(EntryAt { file, index }) => source_at(inputs, file, index),
+    if at.index < SLOTS {
+        read_at(inputs, slot, name, part, at)
+    } else {
+        without_entry(Some(slot), name, part, Reason::MissingUnit)
     }
 }
 
@@ -379,35 +358,57 @@ fn is_by_record(requester: Requester) -> bool
     }
 }
 
-/// A slot has a segment that was read, also where it is refused, and no library has it.
-fn state_of(host: &HostReading<'_>, slot: u8) -> (bool, bool)
+/// A slot has a segment that was read, also where it is refused.
+fn is_read(host: &HostReading<'_>, slot: u8) -> bool
     requires { slot < SLOTS }
-    ensures { result.0 ≡ is_some (reading_in host.now slot) }
+    ensures { result ≡ is_some (reading_in host.now slot) }
 {
     match host.segment(slot) {
-        None => (false, false),
-        Some(Ok(_)) => (true, false),
-        Some(Err(fault)) => (true, fault.reason == Reason::MissingUnit),
+        None => false,
+        Some(Ok(_)) => true,
+        Some(Err(_)) => true,
     }
 }
 
-/// Where the segment of a slot comes from, if it was read.
-#[tactic(auto, unfolding(crate::specs::SeenSegments::slot_origin))]
-fn slot_source<'a>(
+/// Where the segment of a slot comes from, also where it is refused, if it was read; none where no
+/// library has the unit.
+#[tactic(auto, unfolding(crate::specs::SeenSegments::read_entry))]
+fn source_in(host: &HostReading<'_>, slot: u8) -> Option<EntryAt>
+    requires { slot < SLOTS }
+    ensures { option_map (λ p. (p.file, p.index)) result ≡ read_entry host.now slot }
+{
+    if is_read(host, slot) {
+        host.source(slot)
+    } else {
+        None
+    }
+}
+
+/// Why a slot has no segment.
+fn reason_in(host: &HostReading<'_>, slot: u8) -> Reason
+    requires { slot < SLOTS }
+{
+    match host.segment(slot) {
+        Some(Err(fault)) => fault.reason,
+        Some(Ok(_)) | None => Reason::NoSlot,
+    }
+}
+
+/// The segment of a slot that is such a one.
+fn segment_as<'a>(
     inputs: &Inputs<'a>,
     host: &HostReading<'a>,
     slot: u8,
-    is_read: bool,
-) -> Option<ReadEntry<'a>>
+    part: SegmentPart,
+) -> ReadSegment<'a>
     requires { slot < SLOTS }
-    ensures { is_read ≡ is_some (reading_in host.now slot)
-        → option_map origin_as result ≡ slot_origin inputs.now.host.now
-        (contents inputs.now.libs.now) host.now slot }
+    ensures { seen result ≡ seen_with (Some slot) (name_in_spec host.now slot) part
+        (slot_origin inputs.now.host.now (contents inputs.now.libs.now) host.now slot) }
 {
-    if is_read {
-        source_in(inputs, host, slot)
-    } else {
-        None
+    let name = name_in(host, slot);
+    match source_in(host, slot) {
+        None => without_entry(Some(slot), name, part, reason_in(host, slot)),
+        Some(at) => read_from(inputs, slot, name, part, at),
     }
 }
 
@@ -419,18 +420,7 @@ fn segment_in<'a>(inputs: &Inputs<'a>, host: &HostReading<'a>, slot: u8) -> Opti
 {
     match part_in(host, slot) {
         None => None,
-        Some(part) => {
-            let (is_read, is_missing) = state_of(host, slot);
-            let name = name_in(host, slot);
-            let source = slot_source(inputs, host, slot, is_read);
-            Some(ReadSegment {
-                slot: Some(slot),
-                name,
-                part,
-                source,
-                is_missing,
-            })
-        }
+        Some(part) => Some(segment_as(inputs, host, slot, part)),
     }
 }
 
@@ -442,16 +432,9 @@ fn segment_of<'a>(host: &HostReading<'a>, unit: &UnitReference) -> Option<ReadSe
         return None;
     }
     let requester = name_in(host, unit.at.segment.slot);
-    Some(ReadSegment {
-        slot: None,
-        name: unit.name,
-        part: SegmentPart::Added {
-            requester,
-            rec: unit.at.rec,
-        },
-        source: None,
-        is_missing: false,
-    })
+    let rec = unit.at.rec;
+    let part = SegmentPart::Added { requester, rec };
+    Some(without_entry(None, unit.name, part, Reason::NoSlot))
 }
 
 /// The unit that is requested and for which no slot is left, after so many that take one.

@@ -2,7 +2,7 @@
 //! `man/make_fault_table.py` makes the tables of warnings and of notes in USING.md from the enums
 //! here: what each means and what to do about it is above it, and its weight is in `weight`.
 ghost use Rattle.std.specs.Prelude.{◌≡◌};
-ghost use Rattle.ps_warnings.specs.Weights.{IsWeight, entry_weight, link_weight, record_weight};
+ghost use Rattle.ps_warnings.specs.Weights.{IsWeight, record_weight};
 
 use crate::weight::Weight;
 use ps_filetype::{FileType, LineEnds, ShownName, ShownPath};
@@ -46,16 +46,6 @@ pub enum FileLook {
     Converted { line_ends: LineEnds },
 }
 
-impl FileLook {
-    fn weight(self) -> Weight {
-        match self {
-            FileLook::Padded { .. } => Weight::Harmless,
-            FileLook::NoCodeFile { .. } => Weight::Look,
-            FileLook::Doubled { .. } | FileLook::Converted { .. } => Weight::Damaged,
-        }
-    }
-}
-
 impl fmt::Display for FileLook {
     fn fmt<W: fmt::Write>(&self, f: &mut Formatter<W>) -> fmt::Result {
         match *self {
@@ -94,18 +84,6 @@ pub enum DictionaryLook {
     MachineType { slot: u8, machine: u8, version: u8 },
     /// Apple Pascal's intrinsic units are not linked. The link passes them over.
     IntrinsicKind { slot: u8, kind: u16 },
-}
-
-impl DictionaryLook {
-    fn weight(self) -> Weight {
-        match self {
-            DictionaryLook::IntrinsicKind { .. } => Weight::Harmless,
-            DictionaryLook::FullTail { .. }
-            | DictionaryLook::NoName { .. }
-            | DictionaryLook::MachineType { .. } => Weight::Look,
-            DictionaryLook::DeadTail { .. } => Weight::Damaged,
-        }
-    }
 }
 
 impl fmt::Display for DictionaryLook {
@@ -160,17 +138,6 @@ pub enum EntryLook {
     Overlap { other: u8 },
 }
 
-impl EntryLook {
-    fn weight(self) -> Weight
-        ensures { result ≡ entry_weight self }
-    {
-        match self {
-            EntryLook::EmptySlot { .. } | EntryLook::HalfEntry { .. } | EntryLook::Overlap { .. } =>
-                Weight::Look,
-        }
-    }
-}
-
 impl fmt::Display for EntryLook {
     fn fmt<W: fmt::Write>(&self, f: &mut Formatter<W>) -> fmt::Result {
         match *self {
@@ -207,14 +174,6 @@ pub enum SegmentLook {
     OddName { name: Name, oddity: Oddity },
     /// A link that takes the segment is refused. The fault is in the table of LINKING.md.
     Refused { reason: Reason, rec: Option<usize> },
-}
-
-impl SegmentLook {
-    fn weight(self) -> Weight {
-        match self {
-            SegmentLook::OddName { .. } | SegmentLook::Refused { .. } => Weight::Look,
-        }
-    }
 }
 
 impl fmt::Display for SegmentLook {
@@ -270,20 +229,6 @@ pub enum CodeLook {
     OtherInfo { found: u8, number: u8 },
 }
 
-impl CodeLook {
-    fn weight(self) -> Weight {
-        match self {
-            CodeLook::OneByte { .. }
-            | CodeLook::DeadRun { .. }
-            | CodeLook::NoHighBit
-            | CodeLook::ZeroEnd
-            | CodeLook::OtherNumber { .. }
-            | CodeLook::ExchangedNumber { .. }
-            | CodeLook::OtherInfo { .. } => Weight::Damaged,
-        }
-    }
-}
-
 impl fmt::Display for CodeLook {
     fn fmt<W: fmt::Write>(&self, f: &mut Formatter<W>) -> fmt::Result {
         match *self {
@@ -333,17 +278,6 @@ pub enum ProcedureLook {
     /// Its kind may have been another one, so its references are not linked. Copy the file again, or
     /// compile it again.
     LinkedWithRecords,
-}
-
-impl ProcedureLook {
-    fn weight(self) -> Weight {
-        match self {
-            ProcedureLook::LinkedWithRecords => Weight::Look,
-            ProcedureLook::OtherProcedure { .. }
-            | ProcedureLook::OutsideCode { .. }
-            | ProcedureLook::LostTables => Weight::Damaged,
-        }
-    }
 }
 
 impl fmt::Display for ProcedureLook {
@@ -473,16 +407,6 @@ pub enum LinkLook {
     OtherSpelling { name: Name },
 }
 
-impl LinkLook {
-    fn weight(self) -> Weight
-        ensures { result ≡ link_weight self }
-    {
-        match self {
-            LinkLook::TakenSlot { .. } | LinkLook::OtherSpelling { .. } => Weight::Look,
-        }
-    }
-}
-
 impl fmt::Display for LinkLook {
     fn fmt<W: fmt::Write>(&self, f: &mut Formatter<W>) -> fmt::Result {
         match *self {
@@ -517,17 +441,6 @@ pub enum Guess {
     LostReferences { operands: usize, references: usize },
     /// A link sets the bit, and reads the operand without it. Compare two copies of the file.
     ClearMark { place: usize },
-}
-
-impl Guess {
-    fn weight(self) -> Weight {
-        match self {
-            Guess::Misfit { .. }
-            | Guess::NoOperand { .. }
-            | Guess::LostReferences { .. }
-            | Guess::ClearMark { .. } => Weight::Note,
-        }
-    }
 }
 
 impl fmt::Display for Guess {
@@ -581,25 +494,25 @@ pub enum OtherLook {
 impl OtherLook {
     fn weight(self) -> Weight {
         match self {
-            OtherLook::File(look) => look.weight(),
-            OtherLook::Dictionary(look) => look.weight(),
-            OtherLook::Segment(look) => look.weight(),
-            OtherLook::Code(look) => look.weight(),
-            OtherLook::Procedure(look) => look.weight(),
-            OtherLook::Guess(guess) => guess.weight(),
-        }
-    }
-}
-
-impl fmt::Display for OtherLook {
-    fn fmt<W: fmt::Write>(&self, f: &mut Formatter<W>) -> fmt::Result {
-        match *self {
-            OtherLook::File(look) => write!(f, "{look}"),
-            OtherLook::Dictionary(look) => write!(f, "{look}"),
-            OtherLook::Segment(look) => write!(f, "{look}"),
-            OtherLook::Code(look) => write!(f, "{look}"),
-            OtherLook::Procedure(look) => write!(f, "{look}"),
-            OtherLook::Guess(guess) => write!(f, "{guess}"),
+            OtherLook::Guess(_) => Weight::Note,
+            OtherLook::File(FileLook::Padded { .. })
+            | OtherLook::Dictionary(DictionaryLook::IntrinsicKind { .. }) => Weight::Harmless,
+            OtherLook::File(FileLook::NoCodeFile { .. })
+            | OtherLook::Dictionary(
+                DictionaryLook::FullTail { .. }
+                | DictionaryLook::NoName { .. }
+                | DictionaryLook::MachineType { .. },
+            )
+            | OtherLook::Segment(_)
+            | OtherLook::Procedure(ProcedureLook::LinkedWithRecords) => Weight::Look,
+            OtherLook::File(FileLook::Doubled { .. } | FileLook::Converted { .. })
+            | OtherLook::Dictionary(DictionaryLook::DeadTail { .. })
+            | OtherLook::Code(_)
+            | OtherLook::Procedure(
+                ProcedureLook::OtherProcedure { .. }
+                | ProcedureLook::OutsideCode { .. }
+                | ProcedureLook::LostTables,
+            ) => Weight::Damaged,
         }
     }
 }
@@ -624,9 +537,9 @@ impl Look {
         ensures { IsWeight self.now result }
     {
         match *self {
-            Look::Entry(look) => look.weight(),
+            Look::Entry(_) => Weight::Look,
             Look::Record(look) => look.weight(),
-            Look::Link(look) => look.weight(),
+            Look::Link(_) => Weight::Look,
             Look::Other(look) => look.weight(),
         }
     }
@@ -638,7 +551,12 @@ impl fmt::Display for Look {
             Look::Entry(look) => write!(f, "{look}"),
             Look::Record(look) => write!(f, "{look}"),
             Look::Link(look) => write!(f, "{look}"),
-            Look::Other(look) => write!(f, "{look}"),
+            Look::Other(OtherLook::File(look)) => write!(f, "{look}"),
+            Look::Other(OtherLook::Dictionary(look)) => write!(f, "{look}"),
+            Look::Other(OtherLook::Segment(look)) => write!(f, "{look}"),
+            Look::Other(OtherLook::Code(look)) => write!(f, "{look}"),
+            Look::Other(OtherLook::Procedure(look)) => write!(f, "{look}"),
+            Look::Other(OtherLook::Guess(guess)) => write!(f, "{guess}"),
         }
     }
 }

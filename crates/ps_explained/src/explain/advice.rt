@@ -44,8 +44,8 @@ fn is_dead(case: &Case<'_, '_>) -> bool {
 
 /// The bytes of the code of the fault's segment are exchanged in pairs.
 fn is_exchanged(case: &Case<'_, '_>) -> bool {
-    match case.source() {
-        Some(source) => is_swapped(source.order, case.code()),
+    match case.segment {
+        Some(segment) => is_swapped(segment.order, case.code()),
         None => false,
     }
 }

@@ -1,19 +1,32 @@
 //! What faults of a code say.
 use crate::cases::Case;
+use ps_codefile::Entry;
 use ps_warnings::dead_look;
 use ps_words::BLOCK_SIZE;
 use std::fmt::{self, Formatter, Write};
 
 /// Where the code would lie.
 pub(super) fn write_extent<W: Write>(f: &mut Formatter<W>, case: &Case<'_, '_>) -> fmt::Result {
-    let Some(source) = case.source() else {
+    let Some(segment) = case.segment else {
         return Ok(());
     };
-    let start = BLOCK_SIZE * usize::from(source.entry.address);
-    let length = usize::from(source.entry.length);
-    let end = start + length;
-    let entry = source.index;
-    let bytes = case.inputs.bytes(source.file).len();
+    let Some(
+        (
+            at,
+            Entry {
+                address,
+                length,
+                ..
+            },
+        ),
+    ) = segment.source
+    else {
+        return Ok(());
+    };
+    let start = BLOCK_SIZE * usize::from(address);
+    let end = start + usize::from(length);
+    let entry = at.index;
+    let bytes = case.inputs.bytes(at.file).len();
     writeln!(
         f,
         "  entry {entry:02} has {length} bytes of code, from byte {start} to {end}; the file has {bytes}"

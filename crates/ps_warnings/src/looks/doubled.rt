@@ -2,7 +2,7 @@
 ghost use Rattle.std.specs.Prelude.{◌≤◌};
 
 use super::extents::Extent;
-use crate::warnings::FileLook;
+use crate::warnings::{FileLook, OtherLook};
 use ps_filetype::only_byte;
 use ps_words::BLOCK_SIZE;
 
@@ -11,7 +11,7 @@ const REPEATED: usize = 16;
 
 /// The first block, or sector of 256 or 128 bytes, that may have been read twice: that is equal to
 /// the next one, which ought to be another one.
-pub(super) fn doubled_block(bytes: &[u8], extents: &[Extent]) -> Option<FileLook> {
+pub(super) fn doubled_block(bytes: &[u8], extents: &[Extent]) -> Option<OtherLook> {
     for size in [BLOCK_SIZE, BLOCK_SIZE / 2, BLOCK_SIZE / 4] {
         if let Some(look) = doubled_sector(bytes, size, extents) {
             return Some(look);
@@ -20,17 +20,20 @@ pub(super) fn doubled_block(bytes: &[u8], extents: &[Extent]) -> Option<FileLook
     None
 }
 
-fn doubled_sector(bytes: &[u8], size: usize, extents: &[Extent]) -> Option<FileLook>
+fn doubled_sector(bytes: &[u8], size: usize, extents: &[Extent]) -> Option<OtherLook>
     requires { 1 ≤ size }
 {
     let (mut last, mut second): (&[u8], usize) = (&[], 0);
     for here in bytes.chunks(size) {
         let start = second.saturating_sub(size);
-        if here == last && !is_periodic(here) {
-            let pair = Pair { start, size };
+        // (where its halves are equal, its bytes repeat by right, or are one byte)
+        let half = here.len() / 2;
+        if here == last && here.get(..half) != here.get(half..) {
+            let end = second.saturating_add(size);
+            let pair = Pair { start, second, end };
             if pair.is_by_mistake(bytes, extents) {
                 let end = second.saturating_sub(1);
-                return Some(FileLook::Doubled { start, end });
+                return Some(OtherLook::File(FileLook::Doubled { start, end }));
             }
         }
         second = second.saturating_add(size);
@@ -39,38 +42,25 @@ fn doubled_sector(bytes: &[u8], size: usize, extents: &[Extent]) -> Option<FileL
     None
 }
 
-/// The second half of a sector is its first: its bytes repeat by right, or are one byte.
-fn is_periodic(sector: &[u8]) -> bool {
-    let half = sector.len() / 2;
-    sector.get(..half) == sector.get(half..)
-}
-
 /// Two equal sectors, one after the other.
 #[derive(Clone, Copy)]
 struct Pair {
     start: usize,
-    size: usize,
+    second: usize,
+    end: usize,
 }
 
 impl Pair {
-    fn second(self) -> usize {
-        self.start.saturating_add(self.size)
-    }
-
     /// What the entries have of the file says that the second sector ought to be another one. Two
     /// entries may have the same code, and what no entry has may be anything, but for a last sector
     /// without which the file ends where its last entry does.
     fn is_by_mistake(self, bytes: &[u8], extents: &[Extent]) -> bool {
-        let (first, second) = (
-            part_at(extents, self.start),
-            part_at(extents, self.second()),
-        );
-        match (first, second) {
+        match (part_at(extents, self.start), part_at(extents, self.second)) {
             (Some(part), Some(other)) if part == other => !self.goes_on(bytes, part),
             (Some(part), Some(other)) => {
-                part == 0 || self.start.abs_diff(part) != self.second().abs_diff(other)
+                part == 0 || self.start.abs_diff(part) != self.second.abs_diff(other)
             }
-            (Some(_), None) => bytes.len() <= self.second().saturating_add(self.size),
+            (Some(_), None) => bytes.len() <= self.end,
             (None, _) => false,
         }
     }
@@ -78,11 +68,9 @@ impl Pair {
     /// The bytes before the two sectors, in the part that begins here, or those after them repeat
     /// too.
     fn goes_on(self, bytes: &[u8], part: usize) -> bool {
-        let (start, second) = (self.start, self.second());
-        let before = start.saturating_sub(REPEATED);
-        let after = second.saturating_add(self.size);
-        part <= before && are_equal(bytes, before, second.saturating_sub(REPEATED))
-            || are_equal(bytes, second, after)
+        let before = self.start.saturating_sub(REPEATED);
+        part <= before && are_equal(bytes, before, self.second.saturating_sub(REPEATED))
+            || are_equal(bytes, self.second, self.end)
     }
 }
 

@@ -2,27 +2,27 @@
 ghost use Rattle.std.specs.Prelude.{◌≡◌, ◌∷◌, ◌<◌, [], Ok, OnOk, false, map, true};
 ghost use Rattle.std.specs.List.{flat_map, list_any};
 ghost use Rattle.std.specs.Option.{option_map};
-ghost use Rattle.ps_codefile.specs.Dictionary.{entry_at, kind_needs_linking, role_of, slots};
+ghost use Rattle.ps_codefile.specs.Dictionary.{entry_at, information_of, kind_needs_linking, role_of, slots};
 ghost use Rattle.ps_resolve.specs.Sources.{contents};
 ghost use Rattle.ps_warnings.specs.EntryLooks.{empty_look as empty_look_spec, empty_slot as empty_slot_spec, half_entry as half_entry_spec, has_name_or_kind as has_name_or_kind_spec};
-ghost use Rattle.ps_warnings.specs.FileLooks.{looks_of_segment, looks_of_slot, looks_of_source};
+ghost use Rattle.ps_warnings.specs.FileLooks.{looks_of_entry, looks_of_segment, looks_of_slot};
 ghost use Rattle.ps_warnings.specs.Found.{Adds, link_looks};
 ghost use Rattle.ps_warnings.specs.Paths.{path_of};
 ghost use Rattle.ps_warnings.specs.Seen.{has_slot as has_slot_spec, seen};
 
-use super::codes::{REPEATED, SECTOR};
 use super::names::oddity_of;
-use super::numbers::{info_of, p_code_of};
+use super::numbers::info_of;
 use super::{Context, Looks, codes, in_file, notes, records};
-use crate::segments::{ReadEntry, ReadSegment, source_of};
-use crate::warnings::{DictionaryLook, EntryLook, OtherLook, SegmentLook, WarningAt};
+use crate::segments::ReadSegment;
+use crate::warnings::{DictionaryLook, EntryLook, Look, OtherLook, SegmentLook, WarningAt};
 use ps_codefile::code_layout::NUMBERS;
 use ps_codefile::dictionary_layout::{SLOTS, TAIL};
 use ps_codefile::kinds::{FIRST_INTRINSIC, HOSTSEG, LAST_INTRINSIC, LINKED, UNITSEG};
 use ps_codefile::{Dict, Entry, ProcedureDictionary, Role, is_nameless};
 use ps_filetype::only_byte;
 use ps_linkinfo::LinkInformation;
-use ps_pcode::FileCode;
+use ps_pcode::{FileCode, REPEATED, SECTOR};
+use ps_words::{Order, Reason};
 use std::alloc::{AllocError, Allocator};
 
 /// From this byte of the second half of the dictionary on no release is known to have anything: what
@@ -55,24 +55,12 @@ pub(super) fn look_at<'a, A: Allocator>(
         (link_looks looks.new.warnings.items looks.new.harmless.items)) }
 {
     let place = in_file(context.inputs.path(file));
-    look_at_tail(looks, place, dict)?;
+    looks.add_other(place, dead_tail(dict).or(full_tail(dict)))?;
     for slot in 0..SLOTS {
         looks.add_other(place, name_look(context, dict, slot))?;
         look_at_slot(looks, context, file, dict, shown, slot)?;
     }
     Ok(())
-}
-
-/// Looks at the second half of a dictionary.
-fn look_at_tail<'a, A: Allocator>(
-    looks: &mut Looks<'a, A>,
-    place: WarningAt<'a>,
-    dict: &Dict<'_>,
-) -> Result<(), AllocError>
-    ensures { OnOk result (Adds (link_looks looks.old.warnings.items looks.old.harmless.items)
-        [] (link_looks looks.new.warnings.items looks.new.harmless.items)) }
-{
-    looks.add_other(place, dead_tail(dict).or(full_tail(dict)))
 }
 
 /// Looks at a slot: at its segment, or, in the host, at an entry that is not filled.
@@ -93,7 +81,7 @@ fn look_at_slot<'a, A: Allocator>(
         (link_looks looks.new.warnings.items looks.new.harmless.items)) }
 {
     if dict.filled(slot) {
-        return look_at_entry(looks, context, dict, shown, &source_of(dict, file, slot));
+        return look_at_entry(looks, context, file, dict, shown, slot);
     }
     if file != 0 {
         return Ok(());
@@ -106,33 +94,37 @@ fn look_at_slot<'a, A: Allocator>(
     };
     let taken = is_taken(context.list, slot);
     let found = empty_look(dict, slot, taken);
-    looks.add_entry(place, found)
+    looks.add(place, found)
 }
 
 /// Looks at an entry that is filled, and at its segment.
 fn look_at_entry<'a, A: Allocator>(
     looks: &mut Looks<'a, A>,
     context: &Context<'_, 'a>,
+    file: usize,
     dict: &Dict<'a>,
     shown: &FileCode,
-    source: &ReadEntry<'a>,
+    slot: u8,
 ) -> Result<(), AllocError>
+    requires { slot < SLOTS }
     ensures { OnOk result (Adds (link_looks looks.old.warnings.items looks.old.harmless.items)
-        (looks_of_source (path_of (context.now.inputs.now.host_path.now
-        ∷ contents context.now.inputs.now.paths.now) source.now.file)
-        (option_map (λ h. h.now) context.now.host) source.now)
+        (looks_of_entry (path_of (context.now.inputs.now.host_path.now
+        ∷ contents context.now.inputs.now.paths.now) file)
+        (option_map (λ h. h.now) context.now.host) dict.now.order dict.now.file
+        (entry_at dict.now.order dict.now.file slot))
         (link_looks looks.new.warnings.items looks.new.harmless.items)) }
 {
+    let entry = dict.entry(slot);
     let found = [
-        nameless_look(source),
-        intrinsic_look(context, source),
-        machine_look(dict, source),
+        nameless_look(&entry, slot),
+        intrinsic_look(context, file, &entry, slot),
+        machine_look(dict, slot),
     ];
-    looks.add_others(in_file(context.inputs.path(source.file)), &found)?;
-    if is_intrinsic(source) {
+    looks.add_others(in_file(context.inputs.path(file)), &found)?;
+    if is_intrinsic(&entry) {
         return Ok(());
     }
-    look_at_segment(looks, context, dict, shown, source)
+    look_at_segment(looks, context, file, dict, shown, slot)
 }
 
 /// An odd name of an entry that is filled, or of a unit that may be wanted.
@@ -151,25 +143,28 @@ fn name_look(context: &Context<'_, '_>, dict: &Dict<'_>, slot: u8) -> Option<Oth
 fn look_at_segment<'a, A: Allocator>(
     looks: &mut Looks<'a, A>,
     context: &Context<'_, 'a>,
+    file: usize,
     dict: &Dict<'a>,
     shown: &FileCode,
-    source: &ReadEntry<'a>,
+    slot: u8,
 ) -> Result<(), AllocError>
+    requires { slot < SLOTS }
     ensures { OnOk result (Adds (link_looks looks.old.warnings.items looks.old.harmless.items)
-        (looks_of_source (path_of (context.now.inputs.now.host_path.now
-        ∷ contents context.now.inputs.now.paths.now) source.now.file)
-        (option_map (λ h. h.now) context.now.host) source.now)
+        (looks_of_entry (path_of (context.now.inputs.now.host_path.now
+        ∷ contents context.now.inputs.now.paths.now) file)
+        (option_map (λ h. h.now) context.now.host) dict.now.order dict.now.file
+        (entry_at dict.now.order dict.now.file slot))
         (link_looks looks.new.warnings.items looks.new.harmless.items)) }
 {
-    let path = context.inputs.path(source.file);
+    let path = context.inputs.path(file);
     let place = WarningAt {
         path,
-        segment: Some(source.entry.name),
+        segment: Some(dict.entry(slot).name),
         rec: None,
     };
-    looks.add_other(place, refused_look(context, source))?;
-    match source.code {
-        Ok(code) => look_at_code(looks, context, path, dict, shown, source, code),
+    looks.add_other(place, refused_look(context, file, dict, slot))?;
+    match dict.code(slot) {
+        Ok(code) => look_at_code(looks, context, file, path, dict, shown, slot, code),
         Err(_) => Ok(()),
     }
 }
@@ -178,112 +173,120 @@ fn look_at_segment<'a, A: Allocator>(
 fn look_at_code<'a, A: Allocator>(
     looks: &mut Looks<'a, A>,
     context: &Context<'_, 'a>,
+    file: usize,
     path: &'a str,
     dict: &Dict<'a>,
     shown: &FileCode,
-    source: &ReadEntry<'a>,
+    slot: u8,
     code: &'a [u8],
 ) -> Result<(), AllocError>
+    requires { slot < SLOTS }
     ensures { OnOk result (Adds (link_looks looks.old.warnings.items looks.old.harmless.items)
-        (looks_of_segment path.now (option_map (λ h. h.now) context.now.host) source.now.order
-        source.now.entry (Ok code.now) source.now.after.now)
+        (looks_of_segment path.now (option_map (λ h. h.now) context.now.host) dict.now.order
+        (entry_at dict.now.order dict.now.file slot) (Ok code.now)
+        (information_of dict.now.file (entry_at dict.now.order dict.now.file slot)))
         (link_looks looks.new.warnings.items looks.new.harmless.items)) }
 {
+    let entry = dict.entry(slot);
     let place = WarningAt {
         path,
-        segment: Some(source.entry.name),
+        segment: Some(entry.name),
         rec: None,
     };
-    codes::look_at(looks, context, place, dict, source, code)?;
-    notes::of_code(looks, place, shown, source.index)?;
-    if source.needs_linking() {
-        return records::look_at(looks, context, path, shown, source, code);
+    codes::look_at(looks, context, place, file, dict, slot, code)?;
+    looks.add_other(place, notes::misfit(shown, slot))?;
+    if needs_linking(&entry) {
+        return records::look_at(looks, context, path, shown, dict, slot, code);
     }
     Ok(())
 }
 
-/// Why a link that takes the segment is refused, where no fault tells of it.
-fn refused_look(context: &Context<'_, '_>, source: &ReadEntry<'_>) -> Option<OtherLook> {
-    if context.is_refused(source) {
-        None
-    } else {
-        refusal_of(source).map(OtherLook::Segment)
-    }
+/// A link resolves the references of the entry's segment, if it takes it.
+pub(super) fn needs_linking(entry: &Entry) -> bool
+    ensures { result ≡ kind_needs_linking entry.now.kind }
+{
+    entry.kind == HOSTSEG || entry.kind == UNITSEG
 }
 
-/// Why a link that takes the segment is refused, by the segment alone.
-fn refusal_of(source: &ReadEntry<'_>) -> Option<SegmentLook> {
-    let code = match source.code {
-        Ok(code) => code,
-        Err(reason) => return Some(SegmentLook::Refused { reason, rec: None }),
-    };
-    if !source.needs_linking() || code.len() < NUMBERS {
+/// Why a link that takes the segment is refused by the segment alone, where no fault tells of it.
+fn refused_look(
+    context: &Context<'_, '_>,
+    file: usize,
+    dict: &Dict<'_>,
+    slot: u8,
+) -> Option<OtherLook>
+    requires { slot < SLOTS }
+{
+    if context.is_refused(file, slot) {
         return None;
     }
-    let is_host = source.entry.kind == HOSTSEG;
-    if let Err(reason) = ProcedureDictionary::read(source.order, code, is_host) {
-        return Some(SegmentLook::Refused { reason, rec: None });
+    let (reason, rec) = refusal_of(dict, slot)?;
+    Some(OtherLook::Segment(SegmentLook::Refused { reason, rec }))
+}
+
+/// Why a link that takes the segment is refused, and at which record.
+fn refusal_of(dict: &Dict<'_>, slot: u8) -> Option<(Reason, Option<usize>)>
+    requires { slot < SLOTS }
+{
+    let code = match dict.code(slot) {
+        Ok(code) => code,
+        Err(reason) => return Some((reason, None)),
+    };
+    let entry = dict.entry(slot);
+    if !needs_linking(&entry) || code.len() < NUMBERS {
+        return None;
     }
-    match LinkInformation::read(source.order, source.after) {
+    if let Err(reason) = ProcedureDictionary::read(dict.order(), code, entry.kind == HOSTSEG) {
+        return Some((reason, None));
+    }
+    match LinkInformation::read(dict.order(), dict.after(slot)) {
         Ok(_) => None,
-        Err(fault) => Some(SegmentLook::Refused {
-            reason: fault.reason,
-            rec: Some(fault.rec),
-        }),
+        Err(fault) => Some((fault.reason, Some(fault.rec))),
     }
 }
 
 /// A filled slot without a name. Others have one: a file in which no slot has a name is no code
 /// file, and its entries are not looked at.
-fn nameless_look(source: &ReadEntry<'_>) -> Option<OtherLook> {
-    let slot = source.index;
-    if is_nameless(&source.entry.name) {
-        Some(OtherLook::Dictionary(DictionaryLook::NoName { slot }))
-    } else {
-        None
-    }
+fn nameless_look(entry: &Entry, slot: u8) -> Option<OtherLook> {
+    let look = OtherLook::Dictionary(DictionaryLook::NoName { slot });
+    is_nameless(&entry.name).then_some(look)
 }
 
 /// An entry of a library that Apple Pascal has, where no fault tells of it.
-fn intrinsic_look(context: &Context<'_, '_>, source: &ReadEntry<'_>) -> Option<OtherLook> {
-    let (slot, kind) = (source.index, source.entry.kind);
-    if context.is_refused(source) {
-        None
-    } else if source.file != 0 && is_intrinsic(source) {
-        Some(OtherLook::Dictionary(DictionaryLook::IntrinsicKind { slot, kind }))
-    } else {
-        None
-    }
+fn intrinsic_look(
+    context: &Context<'_, '_>,
+    file: usize,
+    entry: &Entry,
+    slot: u8,
+) -> Option<OtherLook> {
+    let is_told = file == 0 || context.is_refused(file, slot);
+    let kind = entry.kind;
+    let look = OtherLook::Dictionary(DictionaryLook::IntrinsicKind { slot, kind });
+    (!is_told && is_intrinsic(entry)).then_some(look)
 }
 
 /// The entry is of Apple Pascal: an intrinsic unit, or its data. No link reads its records.
-fn is_intrinsic(source: &ReadEntry<'_>) -> bool
-    ensures { result ≡ true → kind_needs_linking source.now.entry.kind ≡ false }
+fn is_intrinsic(entry: &Entry) -> bool
+    ensures { result ≡ true → kind_needs_linking entry.now.kind ≡ false }
 {
-    matches!(source.entry.kind, FIRST_INTRINSIC..=LAST_INTRINSIC)
-}
-
-/// The byte that a sector is throughout, as if it was not read, but for zeros.
-fn unread_byte(sector: &[u8]) -> Option<u8> {
-    match sector {
-        [0, ..] => None,
-        _ => match only_byte(sector) {
-            Some(byte) if !REPEATED.contains(&byte) => Some(byte),
-            _ => None,
-        },
-    }
+    matches!(entry.kind, FIRST_INTRINSIC..=LAST_INTRINSIC)
 }
 
 /// Sectors of the second half of the dictionary that were not read. Most files have zeros there.
 fn dead_tail(dict: &Dict<'_>) -> Option<OtherLook> {
     let mut start = TAIL;
     for sector in dict.tail().chunks(SECTOR) {
-        let next = start.saturating_add(SECTOR);
-        if let Some(byte) = unread_byte(sector) {
-            let end = next.saturating_sub(1);
-            return Some(OtherLook::Dictionary(DictionaryLook::DeadTail { start, end, byte }));
+        let end = start.saturating_add(SECTOR - 1);
+        let byte = match sector {
+            [0, ..] => None,
+            _ => only_byte(sector),
+        };
+        match byte {
+            Some(byte) if !REPEATED.contains(&byte) => {
+                return Some(OtherLook::Dictionary(DictionaryLook::DeadTail { start, end, byte }));
+            }
+            _ => start = end.saturating_add(1),
         }
-        start = next;
     }
     None
 }
@@ -292,38 +295,34 @@ fn dead_tail(dict: &Dict<'_>) -> Option<OtherLook> {
 /// known to have any.
 fn full_tail(dict: &Dict<'_>) -> Option<OtherLook> {
     let (mut bytes, mut others) = (0usize, 0usize);
-    let free = dict.tail().get(FIRST_FREE..COMMENT).unwrap_or(&[]);
-    for byte in free {
+    for byte in dict.tail().get(FIRST_FREE..COMMENT).unwrap_or(&[]) {
+        let is_of_no_text = matches!(*byte, 1..=8 | 0x0B..=0x1F | 0x7F);
         bytes = bytes.saturating_add(usize::from(*byte != 0));
-        others = others.saturating_add(usize::from(is_control(*byte)));
+        others = others.saturating_add(usize::from(is_of_no_text));
     }
-    if FULL <= bytes || MANY_OTHERS <= others {
-        Some(OtherLook::Dictionary(DictionaryLook::FullTail { bytes }))
-    } else {
-        None
-    }
-}
-
-/// The byte is in no text.
-fn is_control(byte: u8) -> bool {
-    matches!(byte, 1..=8 | 0x0B..=0x1F | 0x7F)
+    let is_full = FULL <= bytes || MANY_OTHERS <= others;
+    is_full.then_some(OtherLook::Dictionary(DictionaryLook::FullTail { bytes }))
 }
 
 /// A machine type that is not P-code's, of the host program or of a unit.
-fn machine_look(dict: &Dict<'_>, source: &ReadEntry<'_>) -> Option<OtherLook> {
-    if !source.needs_linking() {
+fn machine_look(dict: &Dict<'_>, slot: u8) -> Option<OtherLook>
+    requires { slot < SLOTS }
+{
+    if !needs_linking(&dict.entry(slot)) {
         return None;
     }
-    let (slot, info) = (source.index, info_of(dict, source.index)?);
+    let info = info_of(dict, slot)?;
     let (machine, version) = (info.machine, info.version);
-    if machine == 0 || machine == p_code_of(dict.order()) {
-        return None;
-    }
-    Some(OtherLook::Dictionary(DictionaryLook::MachineType {
+    let p_code = match dict.order() {
+        Order::Little => 2,
+        Order::Big => 1,
+    };
+    let look = OtherLook::Dictionary(DictionaryLook::MachineType {
         slot,
         machine,
         version,
-    }))
+    });
+    (machine != 0 && machine != p_code).then_some(look)
 }
 
 /// The entry has a name or a kind, whether it has code or not.
@@ -334,31 +333,28 @@ pub(super) fn has_name_or_kind(entry: &Entry) -> bool
 }
 
 /// A slot that wants a unit and has an address or a length.
-fn half_entry(slot: u8, entry: &Entry) -> Option<EntryLook>
+fn half_entry(slot: u8, entry: &Entry) -> Option<Look>
     ensures { result ≡ half_entry_spec slot entry.now }
 {
     let (address, length) = (entry.address, entry.length);
     if address == 0 && length == 0 {
         None
     } else {
-        Some(EntryLook::HalfEntry {
+        Some(Look::Entry(EntryLook::HalfEntry {
             slot,
             address,
             length,
-        })
+        }))
     }
 }
 
 /// An empty slot, which no unit takes, that has a name or a kind.
-fn empty_slot(slot: u8, is_taken: bool, entry: &Entry) -> Option<EntryLook>
+fn empty_slot(slot: u8, is_taken: bool, entry: &Entry) -> Option<Look>
     ensures { result ≡ empty_slot_spec slot is_taken entry.now }
 {
     if !is_taken && has_name_or_kind(entry) {
-        Some(EntryLook::EmptySlot {
-            slot,
-            name: entry.name,
-            kind: entry.kind,
-        })
+        let (name, kind) = (entry.name, entry.kind);
+        Some(Look::Entry(EntryLook::EmptySlot { slot, name, kind }))
     } else {
         None
     }
@@ -387,7 +383,7 @@ fn is_taken(list: &[ReadSegment<'_>], slot: u8) -> bool
 }
 
 /// What looks wrong in a slot of the host that is not filled, which a unit takes or not.
-fn empty_look(dict: &Dict<'_>, slot: u8, is_taken: bool) -> Option<EntryLook>
+fn empty_look(dict: &Dict<'_>, slot: u8, is_taken: bool) -> Option<Look>
     requires { slot < SLOTS }
     ensures { result ≡ empty_look_spec slot is_taken (entry_at dict.now.order dict.now.file slot)
         (role_of (entry_at dict.now.order dict.now.file slot)) }

@@ -1,5 +1,5 @@
 //! Entries that overlap in their file.
-ghost use Rattle.std.specs.Prelude.{◌≡◌, ◌<◌, ◌^◌, OnOk, map};
+ghost use Rattle.std.specs.Prelude.{◌≡◌, ◌<◌, ◌^◌, OnOk, map, nat_lt};
 ghost use Rattle.std.specs.List.{flat_map};
 ghost use Rattle.std.specs.Result.{is_ok};
 ghost use Rattle.ps_codefile.specs.Dictionary.{code_of, entry_at, slots};
@@ -9,8 +9,8 @@ ghost use Rattle.ps_warnings.specs.FileLooks.{extent_at as extent_at_spec, exten
 ghost use Rattle.ps_warnings.specs.Found.{Adds, link_looks};
 
 use super::Looks;
-use crate::segments::{is_slot, length_of};
-use crate::warnings::{EntryLook, WarningAt};
+use crate::segments::length_of;
+use crate::warnings::{EntryLook, Look, WarningAt};
 use ps_codefile::Dict;
 use ps_codefile::dictionary_layout::{SLOT_COUNT, SLOTS};
 use ps_codefile::kinds::{HOSTSEG, LINKED, UNITSEG};
@@ -161,9 +161,16 @@ fn look_at_extent<'a, A: Allocator>(
             rec: None,
         };
         let found = first_shared_extent(extents, extent);
-        return looks.add_entry(place, found);
+        return looks.add(place, found);
     }
     Ok(())
+}
+
+/// There is such a slot.
+fn is_slot(slot: u8) -> bool
+    ensures { result ≡ nat_lt slot SLOTS }
+{
+    slot < SLOTS
 }
 
 /// The bytes of an earlier slot are also some of this slot's.
@@ -174,12 +181,12 @@ fn shares(extent: Extent, other: Extent) -> bool
 }
 
 /// The first of these extents, of those of earlier slots, that has bytes in common with another one.
-fn first_shared_extent(extents: &[Extent], extent: Extent) -> Option<EntryLook>
+fn first_shared_extent(extents: &[Extent], extent: Extent) -> Option<Look>
     ensures { result ≡ overlap extents.now extent }
 {
     for other in extents {
         if shares(extent, *other) {
-            return Some(EntryLook::Overlap { other: other.slot });
+            return Some(Look::Entry(EntryLook::Overlap { other: other.slot }));
         }
     }
     None

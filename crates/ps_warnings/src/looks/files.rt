@@ -70,10 +70,10 @@ fn look_at_code_file<'a, A: Allocator>(
         (link_looks looks.new.warnings.items looks.new.harmless.items)) }
 {
     let place = in_file(context.inputs.path(file));
-    looks.add_other(place, padding_of(bytes).map(OtherLook::File))?;
+    looks.add_other(place, padding_of(bytes))?;
     match Dict::read_beside(bytes, context.inputs.order()) {
         Ok(dict) => look_at_dictionary(looks, context, file, bytes, &dict),
-        Err(_) => looks.add_other(place, converted(bytes).map(OtherLook::File)),
+        Err(_) => looks.add_other(place, converted(bytes)),
     }
 }
 
@@ -96,16 +96,15 @@ fn look_at_dictionary<'a, A: Allocator>(
     let path = context.inputs.path(file);
     let place = in_file(path);
     let extents = extents_of(dict);
-    let converted = converted_in(bytes, dict, &extents);
-    looks.add_other(place, converted.map(OtherLook::File))?;
-    looks.add_other(place, doubled_block(bytes, &extents).map(OtherLook::File))?;
+    looks.add_other(place, converted_in(bytes, dict, &extents))?;
+    looks.add_other(place, doubled_block(bytes, &extents))?;
     let shown = FileCode::of(dict.order(), bytes);
     entries::look_at(looks, context, file, dict, &shown)?;
     extents::look_at(looks, path, dict, &extents)
 }
 
 /// How the line ends of many lines were converted, if bytes look so.
-fn converted(bytes: &[u8]) -> Option<FileLook> {
+fn converted(bytes: &[u8]) -> Option<OtherLook> {
     let line_ends = LineEnds::of(bytes)?;
     let end = match line_ends {
         LineEnds::Pairs | LineEnds::Feeds => b'\n',
@@ -115,11 +114,7 @@ fn converted(bytes: &[u8]) -> Option<FileLook> {
     for byte in bytes {
         lines = lines.saturating_add(usize::from(*byte == end));
     }
-    if lines < MANY_LINES {
-        None
-    } else {
-        Some(FileLook::Converted { line_ends })
-    }
+    (MANY_LINES <= lines).then_some(OtherLook::File(FileLook::Converted { line_ends }))
 }
 
 /// A unit has the text of its interface in the file.
@@ -134,7 +129,7 @@ fn has_text(dict: &Dict<'_>) -> bool {
 
 /// How the line ends of a file were converted, if its bytes look so. The lines of such a text end
 /// with 0D alone: beside one, the code and the link information of each entry are looked at.
-fn converted_in(bytes: &[u8], dict: &Dict<'_>, extents: &[Extent]) -> Option<FileLook> {
+fn converted_in(bytes: &[u8], dict: &Dict<'_>, extents: &[Extent]) -> Option<OtherLook> {
     if !has_text(dict) {
         return converted(bytes);
     }
@@ -146,24 +141,14 @@ fn converted_in(bytes: &[u8], dict: &Dict<'_>, extents: &[Extent]) -> Option<Fil
     None
 }
 
-/// How many bytes 1A a file ends with.
-fn padding_in(bytes: &[u8]) -> usize {
+/// The bytes 1A that a file ends with, if there is more than one.
+fn padding_of(bytes: &[u8]) -> Option<OtherLook> {
     let mut padding = 0usize;
     for byte in bytes.iter().rev() {
         if *byte != PAD {
-            return padding;
+            break;
         }
         padding = padding.saturating_add(1);
     }
-    padding
-}
-
-/// The bytes 1A that a file ends with, if there is more than one.
-fn padding_of(bytes: &[u8]) -> Option<FileLook> {
-    let padding = padding_in(bytes);
-    if 2 <= padding {
-        Some(FileLook::Padded { bytes: padding })
-    } else {
-        None
-    }
+    (2 <= padding).then_some(OtherLook::File(FileLook::Padded { bytes: padding }))
 }

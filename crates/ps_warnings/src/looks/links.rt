@@ -11,7 +11,7 @@ use super::entries::has_name_or_kind;
 use super::names::is_near;
 use super::{Context, Looks};
 use crate::segments::{ReadSegment, SegmentPart};
-use crate::warnings::{LinkLook, WarningAt};
+use crate::warnings::{LinkLook, Look, WarningAt};
 use ps_codefile::Dict;
 use ps_codefile::dictionary_layout::SLOTS;
 use ps_words::Name;
@@ -75,10 +75,10 @@ fn look_at_unit<'a, A: Allocator>(
         rec: None,
     };
     let taken = taken_by(host, segment.slot, segment.part);
-    looks.add_of_link(place, taken)?;
+    looks.add(place, taken)?;
     let earlier = before(context.list, index);
     let other = other_spelling(earlier, segment);
-    looks.add_of_link(place, other)
+    looks.add(place, other)
 }
 
 /// The segments before the one of this index.
@@ -94,27 +94,27 @@ fn file_of(segment: &ReadSegment<'_>) -> usize
     ensures { result ≡ unwrap_or (seen segment.now).file 0 }
 {
     match segment.source {
-        Some(source) => source.file,
+        Some(source) => source.0.file,
         None => 0,
     }
 }
 
 /// The slot of an added unit that has a name or a kind in the host.
-fn taken_slot(host: &Dict<'_>, slot: u8, part: SegmentPart) -> Option<LinkLook>
+fn taken_slot(host: &Dict<'_>, slot: u8, part: SegmentPart) -> Option<Look>
     requires { slot < SLOTS }
     ensures { result ≡ taken_slot_spec slot part (entry_at host.now.order host.now.file slot) }
 {
     let entry = host.entry(slot);
     if part.is_added() && has_name_or_kind(&entry) {
         let name = entry.name;
-        Some(LinkLook::TakenSlot { slot, name })
+        Some(Look::Link(LinkLook::TakenSlot { slot, name }))
     } else {
         None
     }
 }
 
 /// The same of a unit that has this slot, if it has one.
-fn taken_by(host: &Dict<'_>, slot: Option<u8>, part: SegmentPart) -> Option<LinkLook>
+fn taken_by(host: &Dict<'_>, slot: Option<u8>, part: SegmentPart) -> Option<Look>
     ensures { result ≡ taken_by_spec host.now.order host.now.file slot part }
 {
     match slot {
@@ -131,7 +131,7 @@ fn is_near_unit(segment: &ReadSegment<'_>, name: &Name) -> bool
 }
 
 /// An earlier unit whose name differs in small letters, high bits or padding alone.
-fn other_spelling(earlier: &[ReadSegment<'_>], segment: &ReadSegment<'_>) -> Option<LinkLook>
+fn other_spelling(earlier: &[ReadSegment<'_>], segment: &ReadSegment<'_>) -> Option<Look>
     ensures { result ≡ other_spelling_spec (map seen earlier.now) (seen segment.now) }
 {
     if !segment.part.is_unit() {
@@ -140,7 +140,7 @@ fn other_spelling(earlier: &[ReadSegment<'_>], segment: &ReadSegment<'_>) -> Opt
     for other in earlier {
         if is_near_unit(other, &segment.name) {
             let name = other.name;
-            return Some(LinkLook::OtherSpelling { name });
+            return Some(Look::Link(LinkLook::OtherSpelling { name }));
         }
     }
     None

@@ -9,7 +9,7 @@ use Rattle.ps_codefile.specs.declared.dictionary_layout.TheConstants.{SLOTS}
 use Rattle.ps_warnings.proofs.looks.entries.look_at.Goals as goal
 
 pub loop-slot-init : goal.loop-slot-init
-loop-slot-init g c = owes_after c.in_ok-look_at_tail.ensures (owes_all refl)
+loop-slot-init g c = owes_after c.in_ok-add_other.ensures (owes_all refl)
 
 pub loop-slot-preserved : goal.loop-slot-preserved
 loop-slot-preserved g c =
@@ -18,7 +18,7 @@ loop-slot-preserved g c =
     (option_map (λ h. h.now) c.args.context.now.host) (map seen c.args.context.now.list.now)
     c.args.dict.now.order c.args.dict.now.file c.args.file) c.loop-slot.slot SLOTS
     c.loop-slot-test.true)
-    c.loop-slot.invariant (none_then c.in_ok-add_other.ensures c.in_ok-look_at_slot.ensures)
+    c.loop-slot.invariant (none_then c.in_ok-add_other-2.ensures c.in_ok-look_at_slot.ensures)
 
 pub returns : goal.returns
 returns g c =

@@ -4,18 +4,20 @@ use Rattle.std.specs.Option.{option_map}
 use Rattle.ps_linkinfo.specs.declared.record.LinkRecord.{LinkRecord as Record}
 use Rattle.ps_resolve.specs.Sources.{contents}
 use Rattle.ps_warnings.specs.Paths.{path_of}
-use Rattle.ps_warnings.specs.Seen.{code_in}
+use Rattle.ps_codefile.specs.Dictionary.{code_of, entry_at, information_of}
 use Rattle.ps_warnings.proofs.Found.{adds_is, none_then}
 use Rattle.ps_warnings.proofs.Slots.{not_linked}
 use Rattle.ps_warnings.proofs.looks.entries.look_at_entry.Goals as goal
 
 pub returns-then-is_intrinsic : goal.returns-then-is_intrinsic
 returns-then-is_intrinsic g c =
-    let s = c.args.source.now in
+    let d = c.args.dict.now in
+    let e = entry_at d.order d.file c.args.slot in
+    let linked = rw c.entry-entry.ensures at (c.is_intrinsic.ensures c.if-is_intrinsic.true) in
     let none = not_linked (path_of (c.args.context.now.inputs.now.host_path.now
-    ∷ contents c.args.context.now.inputs.now.paths.now) s.file) (option_map (λ (h : Bor
+    ∷ contents c.args.context.now.inputs.now.paths.now) c.args.file) (option_map (λ (h : Bor
     (List Record)). h.now) c.args.context.now.host)
-    s.order s.entry s.after.now (code_in s) (c.is_intrinsic.ensures c.if-is_intrinsic.true) in
+    d.order e (information_of d.file e) (code_of d.file e) linked in
     adds_is (sym none) c.in_ok-add_others.ensures
 
 pub returns : goal.returns

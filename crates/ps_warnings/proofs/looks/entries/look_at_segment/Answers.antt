@@ -5,32 +5,35 @@ use Rattle.ps_linkinfo.specs.declared.record.LinkRecord.{LinkRecord as Record}
 use Rattle.ps_resolve.specs.Sources.{contents}
 use Rattle.std.specs.Prelude.{Result}
 use Rattle.ps_words.specs.declared.fault.Reason.{Reason}
+use Rattle.ps_codefile.specs.Dictionary.{entry_at, information_of}
 use Rattle.ps_warnings.specs.FileLooks.{looks_of_segment}
 use Rattle.ps_warnings.specs.Paths.{path_of}
-use Rattle.ps_warnings.specs.Seen.{code_as}
 use Rattle.ps_warnings.proofs.Found.{adds_is, none_then}
+use Rattle.ps_warnings.proofs.SeenLists.{code_as, code_is}
 use Rattle.ps_warnings.proofs.Slots.{no_code}
 use Rattle.ps_warnings.proofs.looks.entries.look_at_segment.Goals as goal
 
 pub returns-in-Ok : goal.returns-in-Ok
 returns-in-Ok g c =
-    let s = c.args.source.now in
+    let d = c.args.dict.now in
+    let e = entry_at d.order d.file c.args.slot in
     let path = path_of (c.args.context.now.inputs.now.host_path.now
-    ∷ contents c.args.context.now.inputs.now.paths.now) s.file in
+    ∷ contents c.args.context.now.inputs.now.paths.now) c.args.file in
     let host = option_map (λ (h : Bor (List Record)). h.now) c.args.context.now.host in
-    let code = ap (λ (r : Result (Bor (List ℕ)) Reason). looks_of_segment path host s.order s.entry
-    (code_as r) s.after.now) c.in-Ok.is in
+    let code = ap (λ (r : Result (List ℕ) Reason). looks_of_segment path host d.order e r
+    (information_of d.file e)) (code_is c.code.result _ c.code.ensures ∙ ap code_as c.in-Ok.is) in
     let looked = rw c.path-path.ensures at c.look_at_code.ensures in
     on_ok_weaker c.look_at_code.result
     (λ more. adds_is (sym code) (none_then c.in_ok-add_other.ensures more)) looked
 
 pub returns-in-Err : goal.returns-in-Err
 returns-in-Err g c =
-    let s = c.args.source.now in
+    let d = c.args.dict.now in
+    let e = entry_at d.order d.file c.args.slot in
     let path = path_of (c.args.context.now.inputs.now.host_path.now
-    ∷ contents c.args.context.now.inputs.now.paths.now) s.file in
+    ∷ contents c.args.context.now.inputs.now.paths.now) c.args.file in
     let host = option_map (λ (h : Bor (List Record)). h.now) c.args.context.now.host in
-    let code = ap (λ (r : Result (Bor (List ℕ)) Reason). looks_of_segment path host s.order s.entry
-    (code_as r) s.after.now) c.in-Err.is in
-    adds_is (sym (code ∙ no_code path host s.order s.entry s.after.now _))
+    let code = ap (λ (r : Result (List ℕ) Reason). looks_of_segment path host d.order e r
+    (information_of d.file e)) (code_is c.code.result _ c.code.ensures ∙ ap code_as c.in-Err.is) in
+    adds_is (sym (code ∙ no_code path host d.order e (information_of d.file e) _))
     c.in_ok-add_other.ensures

@@ -9,7 +9,7 @@ use Rattle.ps_codefile.specs.Dictionary.{entry_at}
 use Rattle.ps_warnings.specs.Found.{link_looks}
 use Rattle.ps_warnings.specs.Paths.{path_of}
 use Rattle.ps_warnings.proofs.Found.{adds_is, adds_none}
-use Rattle.ps_warnings.proofs.Slots.{slot_beside, slot_empty, slot_filled, source_is}
+use Rattle.ps_warnings.proofs.Slots.{slot_beside, slot_empty, slot_filled}
 use Rattle.ps_warnings.proofs.looks.entries.look_at_slot.Goals as goal
 
 pub returns-then-filled : goal.returns-then-filled
@@ -21,10 +21,7 @@ returns-then-filled g c =
     let whole = slot_filled (path_of paths c.args.file) host
     (map seen c.args.context.now.list.now) d.order d.file
     c.args.file c.args.slot (sym c.filled.ensures ∙ c.if-filled.true) in
-    let source = source_is paths host c.source_of.result d.order d.file c.args.file
-    (entry_at d.order d.file c.args.slot) c.source_of.ensures.file c.source_of.ensures.entry
-    c.source_of.ensures.order c.source_of.ensures.code c.source_of.ensures.after in
-    on_ok_weaker c.look_at_entry.result (λ more. adds_is (source ∙ sym whole) more)
+    on_ok_weaker c.look_at_entry.result (λ more. adds_is (sym whole) more)
     c.look_at_entry.ensures
 
 pub returns-then-file-ne0 : goal.returns-then-file-ne0
@@ -51,5 +48,5 @@ returns g c =
     (map seen c.args.context.now.list.now) d.order d.file c.args.file c.args.slot
     (sym c.filled.ensures ∙ c.if-filled.false) host in
     let found = rw (c.path-path.ensures, c.empty_look-found.ensures, c.is_taken-taken.ensures)
-    at c.add_entry.ensures in
-    on_ok_weaker c.add_entry.result (λ more. adds_is (sym empty) more) found
+    at c.add.ensures in
+    on_ok_weaker c.add.result (λ more. adds_is (sym empty) more) found

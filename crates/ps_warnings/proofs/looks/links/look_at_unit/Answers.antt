@@ -17,7 +17,7 @@ returns g c =
     ∙ (ap (λ (l : List ReadSegment). other_spelling (map seen l) s) c.before-earlier.ensures
     ∙ ap (λ (l : List Seen). other_spelling l s) (sym (take-map seen c.args.index ss))) in
     let taken = rw (c.path-path.ensures, c.file_of-file.ensures, c.taken_by-taken.ensures)
-    at c.in_ok-add_of_link.ensures in
+    at c.in_ok-add.ensures in
     let other = rw (c.path-path.ensures, c.file_of-file.ensures, spelled)
-    at c.add_of_link-2.ensures in
-    on_ok_weaker c.add_of_link-2.result (λ more. adds_both taken more) other
+    at c.add-2.ensures in
+    on_ok_weaker c.add-2.result (λ more. adds_both taken more) other

@@ -6,10 +6,22 @@ use Rattle.ps_warnings.proofs.looks.records.look_at.Goals as goal
 pub returns : goal.returns
 unfolding looks_of_records
 returns g c =
-    let past = rw (c.first_past_private.ensures, c.up_to_fault-records.ensures)
+    let past = rw (
+      c.first_past_private.ensures,
+      c.up_to_fault-records.ensures,
+      c.entry-entry.ensures,
+      c.order-order.ensures,
+      c.after-after.ensures,
+    )
     at c.in_ok-add_of_record.ensures in
-    let defined = rw (c.data_size-size.ensures, c.up_to_fault-records.ensures)
+    let defined = rw (
+      c.data_size-size.ensures,
+      c.up_to_fault-records.ensures,
+      c.entry-entry.ensures,
+      c.order-order.ensures,
+      c.after-after.ensures,
+    )
     at c.look_at_definitions.ensures in
-    let before = none_then c.in_ok-add_odd_name.ensures
+    let before = none_then c.in_ok-add_other_of_record.ensures
     (then_none past c.in_ok-of_records.ensures) in
     on_ok_weaker c.look_at_definitions.result (λ more. adds_both before more) defined

@@ -1,7 +1,0 @@
-use Rattle.ps_warnings.specs.Found.{link_looks}
-use Rattle.ps_warnings.proofs.Found.{adds_none}
-use Rattle.ps_warnings.proofs.looks.records.add_odd_name.Goals as goal
-
-pub returns-in-None : goal.returns-in-None
-returns-in-None g c = adds_none (link_looks c.args.looks.now.warnings.items
-    c.args.looks.now.harmless.items)

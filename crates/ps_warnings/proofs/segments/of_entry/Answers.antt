@@ -1,0 +1,20 @@
+use Rattle.std.proofs.Common.{Some, refl}
+use Rattle.ps_warnings.specs.declared.segments.ReadSegment.{ReadSegment}
+use Rattle.ps_warnings.proofs.Origins.{seen_entry}
+use Rattle.ps_warnings.proofs.SeenLists.{ok_is}
+use Rattle.ps_warnings.proofs.segments.of_entry.Goals as goal
+
+pub returns : goal.returns
+returns c =
+    let at = c.args.at in
+    let s : ReadSegment = record {
+      slot = Some c.args.slot;
+      name = c.args.name;
+      part = c.args.part;
+      source = Some (at, c.entry.result);
+      order = c.order.result;
+      code = c.code.result;
+      after = c.after.result;
+    } in
+    seen_entry s at.file at.index c.args.dict.now refl c.order.ensures
+    (ok_is c.code.result _ c.code.ensures) c.after.ensures
