@@ -14,7 +14,7 @@ use Rattle.ps_relied.specs.Numbered.{HaveNoNameInCommon}
 same_at : {A : Type 0} (f g : ℕ → A) → map f (range_with_len 0 SLOTS)
     ≡ map g (range_with_len 0 SLOTS) → (i : ℕ) → i < SLOTS → f i ≡ g i
 same_at f g e i h =
-    let x = sym (made_at f 16 i h) ∙ (ap (λ xs. slice_get xs i) e ∙ made_at g 16 i h) in
+    let x = sym (made_at f SLOTS i h) ∙ (ap (λ xs. slice_get xs i) e ∙ made_at g SLOTS i h) in
     cc
 
 lone : (a b : Bool) → (a && not b) ≡ false → a ≡ true → b ≡ true
