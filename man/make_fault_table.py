@@ -9,7 +9,7 @@ import sys
 ROOT = pathlib.Path(__file__).resolve().parent.parent
 LINKING, USING = ROOT / "docs/LINKING.md", ROOT / "docs/USING.md"
 SENTENCES = next((ROOT / "crates").glob("*/src/sentences.rt"))
-WARNINGS = next((ROOT / "crates").glob("*/src/warnings.rt"))
+WARNINGS = [ROOT / f"crates/{file}" for file in ("ps_warnings/src/warnings.rt", "ps_pcode/src/looks.rt")]
 LOOKS = ["FileLook", "DictionaryLook", "SegmentLook", "EntryLook", "CodeLook", "ProcedureLook", "RecordLook", "LinkLook"]
 # A reader of LINKING and of pslink(1) has the section at hand.
 OF_THE_PAGE = " in pslink(1)"
@@ -46,9 +46,13 @@ def shown(text):
     return re.sub(r"\{(\w+)(:[^}]*)?\}", lambda part: part[1].upper(), text.replace('\\"', '"'))
 
 
+def source_of_warnings():
+    return "".join(file.read_text() for file in WARNINGS)
+
+
 def said_of(enum):
     """For each variant of an enum of looks what is printed, its name, and the comment on it."""
-    source = WARNINGS.read_text()
+    source = source_of_warnings()
     variants = source.split(f"pub enum {enum} {{", 1)[1].split("\n}\n", 1)[0]
     meanings = re.findall(r"((?:^    ///.*\n)+)^    (\w+)", variants, re.M)
     display = source.split(f"impl fmt::Display for {enum} {{", 1)[1].split("\n}\n", 1)[0]
@@ -58,18 +62,22 @@ def said_of(enum):
         yield name, texts[name], meaning
 
 
-def weights(enum):
-    """The weight of each variant of an enum of looks."""
-    weight = WARNINGS.read_text().split(f"impl {enum} {{", 1)[1].split("\n}\n", 1)[0]
-    arms = re.findall(rf"((?:\|?\s*{enum}::\w+(?: \{{ \.\. \}})?\s*)+)=>\s*\{{?\s*Weight::(\w+)", weight)
-    return {name: weight.lower() for names, weight in arms for name in re.findall(r"::(\w+)", names)}
+def weight(enum, name):
+    """The weight of a variant of an enum of looks: that of an arm that names it, or of one for all of the enum."""
+    found = []
+    for arms in re.findall(r"fn weight\(.*?\n    \}\n", source_of_warnings(), re.S):
+        for arm, weight in re.findall(r"((?:(?!=>).)*)=>\s*Weight::(\w+)", arms, re.S):
+            if re.search(rf"\b{enum}::{name}\b|\b{enum.removesuffix('Look')}\(_\)", arm):
+                found.append(weight.lower())
+    (only,) = found
+    return only
 
 
 def warnings():
     """For each look what is printed, its weight, and the comment on its variant."""
     for enum in LOOKS:
         for name, text, meaning in said_of(enum):
-            yield f"| {shown(text)} | {weights(enum)[name]} | {meaning} |\n"
+            yield f"| {shown(text)} | {weight(enum, name)} | {meaning} |\n"
 
 
 def notes():

@@ -7,19 +7,16 @@ pub const REPEATED: [u8; 2] = [0x20, 0xD7];
 pub const SECTOR: usize = 128;
 
 /// Bytes that are all the same, from the first to the last.
-///
-/// Source: this project's profile.
 #[derive(Clone, Copy)]
-pub struct DeadRun {
-    pub start: usize,
-    pub end: usize,
-    pub byte: u8,
+pub(crate) struct DeadRun {
+    pub(crate) start: usize,
+    pub(crate) end: usize,
+    pub(crate) byte: u8,
 }
 
 impl DeadRun {
     /// The first bytes that are as many as a sector of a disk and as if nothing was read.
-    /// Source: this project's profile.
-    pub fn first_in(bytes: &[u8]) -> Option<DeadRun> {
+    pub(crate) fn first_in(bytes: &[u8]) -> Option<DeadRun> {
         let (mut start, mut last) = (0usize, 0u8);
         for (place, byte) in bytes.iter().enumerate() {
             if *byte != last {

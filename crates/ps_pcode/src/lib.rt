@@ -1,13 +1,15 @@
 //! What the P-code of UCSD Pascal shows: the table of its instructions, with their operands and what
 //! they do to the evaluation stack; the procedures, with where they are entered and left; and the
-//! rules that the procedures of a file keep to. What breaks a rule is no fault. And which parts of a code
-//! were not read, or have no whole procedure dictionary.
+//! rules that the procedures of a file keep to. And what looks wrong in a code and is no fault.
 #![tactic(auto)]
 
 mod bodies;
+mod codes;
 mod dead;
 mod files;
 mod instructions;
+mod looks;
+mod numbers;
 mod places;
 mod rules;
 mod stacks;
@@ -15,8 +17,11 @@ mod table;
 mod tables;
 mod walks;
 
-pub use dead::{DeadRun, REPEATED, SECTOR};
+pub use codes::{dead_look, procedures_look, stripped_look, table_look, unread_look};
+pub use dead::{REPEATED, SECTOR};
 pub use files::{FileCode, Misfit};
 pub use instructions::{Filled, may_be_operand};
+pub use looks::{CodeLook, Guess, ProcedureLook};
+pub use numbers::{Info, number_look};
 pub use rules::Rule;
-pub use tables::{Ends, has_lost_tables, is_without_procedures, native_table, procedures_of};
+pub use tables::{Ends, is_without_procedures, procedures_of};

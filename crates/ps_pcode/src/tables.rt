@@ -30,9 +30,7 @@ pub fn procedures_of(order: Order, code: &[u8]) -> Option<ProcedureDictionary<'_
 }
 
 /// The procedure dictionary of a code that has procedures is not whole, or has none.
-///
-/// Source: this project's profile.
-pub fn has_lost_tables(order: Order, code: &[u8]) -> bool {
+pub(crate) fn has_lost_tables(order: Order, code: &[u8]) -> bool {
     if code.len() < NUMBERS || is_without_procedures(code) {
         return false;
     }
@@ -44,9 +42,7 @@ pub fn has_lost_tables(order: Order, code: &[u8]) -> bool {
 
 /// The place of the table of the first native procedure of a code, as the procedure dictionary has
 /// it; none where no procedure is native.
-///
-/// Source: UCSD Pascal II.0 manual, code file format.
-pub fn native_table(order: Order, code: &[u8]) -> Option<usize> {
+pub(crate) fn native_table(order: Order, code: &[u8]) -> Option<usize> {
     if code.len() < NUMBERS {
         return None;
     }

@@ -9,12 +9,11 @@ mod warnings;
 mod weight;
 
 pub use inputs::Inputs;
-pub use looks::codes::dead_look;
 pub use looks::names::{is_near, plain};
 pub use looks::{Looks, looks_of};
 pub use segments::{ReadSegment, SegmentPart, host_of, in_slot, length_of, segments_of};
 pub use warnings::{
-    CodeLook, DictionaryLook, EntryLook, FileLook, Guess, LinkLook, Look, Oddity, OtherLook,
-    ProcedureLook, RecordLook, SegmentLook, Warning, WarningAt,
+    DictionaryLook, EntryLook, FileLook, LinkLook, Look, Oddity, OtherLook, RecordLook,
+    SegmentLook, Warning, WarningAt,
 };
 pub use weight::Weight;

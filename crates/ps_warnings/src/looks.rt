@@ -8,7 +8,7 @@ ghost use Rattle.ps_warnings.specs.Found.{Adds, found_at, found_in_record, link_
 ghost use Rattle.ps_warnings.specs.Paths.{host_order};
 ghost use Rattle.ps_warnings.specs.Seen.{host_records, seen};
 
-pub(crate) mod codes;
+mod codes;
 mod doubled;
 mod entries;
 mod extents;
@@ -16,7 +16,6 @@ mod files;
 mod links;
 pub(crate) mod names;
 mod notes;
-mod numbers;
 mod records;
 
 use crate::inputs::Inputs;

@@ -6,6 +6,7 @@ ghost use Rattle.ps_warnings.specs.Weights.{IsWeight, record_weight};
 
 use crate::weight::Weight;
 use ps_filetype::{FileType, LineEnds, ShownName, ShownPath};
+use ps_pcode::{CodeLook, Guess, ProcedureLook};
 use ps_words::{Name, Reason};
 use std::fmt::{self, Formatter};
 
@@ -208,103 +209,6 @@ impl fmt::Display for Refusal {
     }
 }
 
-/// What looks wrong in a code, or in the numbers at its end.
-///
-/// Source: this project's profile.
-#[derive(Clone, Copy)]
-pub enum CodeLook {
-    /// The code was never written, or was lost. Copy the file again.
-    OneByte { byte: u8 },
-    /// A part of the medium was not read, or never written. Copy the file again.
-    DeadRun { start: usize, end: usize, byte: u8 },
-    /// A transfer may have cleared bit 7 of each byte. Copy the file again, as binary.
-    NoHighBit,
-    /// The end of the code was lost. Copy the file again.
-    ZeroEnd,
-    /// The code may be that of another slot. Compile the host again.
-    OtherNumber { found: u8, slot: u8 },
-    /// The addresses of two entries may have been exchanged. Copy the file again.
-    ExchangedNumber { found: u8, slot: u8 },
-    /// The code may be that of another slot. Copy the file again.
-    OtherInfo { found: u8, number: u8 },
-}
-
-impl fmt::Display for CodeLook {
-    fn fmt<W: fmt::Write>(&self, f: &mut Formatter<W>) -> fmt::Result {
-        match *self {
-            CodeLook::OneByte { byte } => write!(f, "each byte of its code is {byte:02X}"),
-            CodeLook::DeadRun { start, end, byte } => {
-                write!(f, "bytes {start} to {end} of its code are all {byte:02X}")
-            }
-            CodeLook::NoHighBit => {
-                f.write_str("no byte of its code is above 127: bit 7 may have been stripped")
-            }
-            CodeLook::ZeroEnd => f.write_str(
-                "its code ends with zeros, so it has no procedure and no segment number",
-            ),
-            CodeLook::OtherNumber { found, slot } => {
-                write!(
-                    f,
-                    "its code has segment number {found}, and its slot is {slot}"
-                )
-            }
-            CodeLook::ExchangedNumber { found, slot } => {
-                write!(
-                    f,
-                    "its code has segment number {found}, and that of slot {found} has {slot}: the two may be exchanged"
-                )
-            }
-            CodeLook::OtherInfo { found, number } => {
-                write!(
-                    f,
-                    "its code has segment number {found}, and its entry has {number} at bytes 256 to 287"
-                )
-            }
-        }
-    }
-}
-
-/// What looks wrong in the procedures of a code, or after them.
-///
-/// Source: this project's profile.
-#[derive(Clone, Copy)]
-pub enum ProcedureLook {
-    /// The code is damaged, or another file's. Copy the file again, or compile it again.
-    OtherProcedure { procedure: usize, found: u8 },
-    /// The table of the procedure is damaged. Copy the file again, or compile it again.
-    OutsideCode { procedure: usize },
-    /// The end of the code is damaged. Copy the file again.
-    LostTables,
-    /// Its kind may have been another one, so its references are not linked. Copy the file again, or
-    /// compile it again.
-    LinkedWithRecords,
-}
-
-impl fmt::Display for ProcedureLook {
-    fn fmt<W: fmt::Write>(&self, f: &mut Formatter<W>) -> fmt::Result {
-        match *self {
-            ProcedureLook::OtherProcedure { procedure, found } => {
-                write!(
-                    f,
-                    "the attribute table of procedure {procedure} says that it is procedure {found}"
-                )
-            }
-            ProcedureLook::OutsideCode { procedure } => {
-                write!(
-                    f,
-                    "procedure {procedure} is entered or left at a place before the code"
-                )
-            }
-            ProcedureLook::LostTables => {
-                f.write_str("it ends with no whole procedure dictionary")
-            }
-            ProcedureLook::LinkedWithRecords => f.write_str(
-                "its kind says that it is linked, and link information follows its code",
-            ),
-        }
-    }
-}
-
 /// What looks wrong in link information, by what a link does with it.
 ///
 /// Source: this project's profile.
@@ -422,55 +326,6 @@ impl fmt::Display for LinkLook {
                 write!(
                     f,
                     "another unit of the link is {name}, nearly the same name"
-                )
-            }
-        }
-    }
-}
-
-/// What P-code makes one guess, by what its instructions mean. Its text is half a sentence.
-///
-/// Source: P-code of II.0, *(open)* in FORMAT.md, and this project's profile.
-#[derive(Clone, Copy)]
-pub enum Guess {
-    /// A part of the code may stand in another place, or be another's. Compare two copies of the file.
-    Misfit { procedure: usize },
-    /// The code or the link information may be damaged. Compare two copies of the file.
-    NoOperand { place: usize },
-    /// A part of the link information may have been lost. Compare two copies of the file.
-    LostReferences { operands: usize, references: usize },
-    /// A link sets the bit, and reads the operand without it. Compare two copies of the file.
-    ClearMark { place: usize },
-}
-
-impl fmt::Display for Guess {
-    fn fmt<W: fmt::Write>(&self, f: &mut Formatter<W>) -> fmt::Result {
-        match *self {
-            Guess::Misfit { procedure } => {
-                write!(
-                    f,
-                    "procedure {procedure} may be damaged: its instructions do not fit together, as those of the others do"
-                )
-            }
-            Guess::NoOperand { place } => {
-                write!(
-                    f,
-                    "byte {place} may be no operand: the instruction there has no such reference"
-                )
-            }
-            Guess::LostReferences {
-                operands,
-                references,
-            } => {
-                write!(
-                    f,
-                    "references may be lost: a compiler has left {operands} operands to a link, and the link information has references to {references}"
-                )
-            }
-            Guess::ClearMark { place } => {
-                write!(
-                    f,
-                    "the operand at byte {place} may be damaged: its bit 7 is clear, and a compiler sets it"
                 )
             }
         }

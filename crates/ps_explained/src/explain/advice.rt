@@ -4,7 +4,8 @@ use crate::cases::Case;
 use crate::sentences::{meaning_of, remedy_of};
 use ps_codefile::kinds::{FIRST_INTRINSIC, LAST_INTRINSIC, LINKED};
 use ps_filetype::{FileType, Remedy, ShownPath, is_swapped};
-use ps_warnings::{Inputs, dead_look};
+use ps_pcode::dead_look;
+use ps_warnings::Inputs;
 use ps_words::Reason;
 use std::fmt::{self, Formatter};
 

@@ -1,7 +1,7 @@
 //! What faults of a code say.
 use crate::cases::Case;
 use ps_codefile::Entry;
-use ps_warnings::dead_look;
+use ps_pcode::dead_look;
 use ps_words::BLOCK_SIZE;
 use std::fmt::{self, Formatter, Write};
 

@@ -11,7 +11,6 @@ ghost use Rattle.ps_warnings.specs.Paths.{path_of};
 ghost use Rattle.ps_warnings.specs.Seen.{has_slot as has_slot_spec, seen};
 
 use super::names::oddity_of;
-use super::numbers::info_of;
 use super::{Context, Looks, codes, in_file, notes, records};
 use crate::segments::ReadSegment;
 use crate::warnings::{DictionaryLook, EntryLook, Look, OtherLook, SegmentLook, WarningAt};
@@ -21,7 +20,7 @@ use ps_codefile::kinds::{FIRST_INTRINSIC, HOSTSEG, LAST_INTRINSIC, LINKED, UNITS
 use ps_codefile::{Dict, Entry, ProcedureDictionary, Role, is_nameless};
 use ps_filetype::only_byte;
 use ps_linkinfo::LinkInformation;
-use ps_pcode::{FileCode, REPEATED, SECTOR};
+use ps_pcode::{FileCode, Info, REPEATED, SECTOR};
 use ps_words::{Order, Reason};
 use std::alloc::{AllocError, Allocator};
 
@@ -202,7 +201,7 @@ fn look_at_code<'a, A: Allocator>(
 }
 
 /// A link resolves the references of the entry's segment, if it takes it.
-pub(super) fn needs_linking(entry: &Entry) -> bool
+fn needs_linking(entry: &Entry) -> bool
     ensures { result ≡ kind_needs_linking entry.now.kind }
 {
     entry.kind == HOSTSEG || entry.kind == UNITSEG
@@ -311,7 +310,7 @@ fn machine_look(dict: &Dict<'_>, slot: u8) -> Option<OtherLook>
     if !needs_linking(&dict.entry(slot)) {
         return None;
     }
-    let info = info_of(dict, slot)?;
+    let info = Info::of(dict, slot)?;
     let (machine, version) = (info.machine, info.version);
     let p_code = match dict.order() {
         Order::Little => 2,

@@ -3,12 +3,12 @@ ghost use Rattle.std.specs.Prelude.{◌<◌, [], OnOk};
 ghost use Rattle.ps_warnings.specs.Found.{Adds, link_looks};
 
 use super::Looks;
-use crate::warnings::{Guess, OtherLook, WarningAt};
+use crate::warnings::{OtherLook, WarningAt};
 use ps_codefile::Dict;
 use ps_codefile::dictionary_layout::SLOTS;
 use ps_codefile::kinds::UNITSEG;
 use ps_linkinfo::{Body, LinkInformation, Refs};
-use ps_pcode::{FileCode, Filled, may_be_operand};
+use ps_pcode::{FileCode, Filled, Guess, may_be_operand};
 use std::alloc::{AllocError, Allocator};
 
 /// The procedure of the segment in a slot that does not keep to what the others of its file do.

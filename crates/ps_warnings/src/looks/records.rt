@@ -103,22 +103,6 @@ fn data_size(order: Order, code: &[u8]) -> Option<u16>
     }
 }
 
-/// The bytes begin with a record that is no end mark and has a name that ASCII prints, which does not
-/// begin with a blank.
-pub(super) fn begins_with_record(order: Order, bytes: &[u8]) -> bool {
-    let first = LinkInformation::up_to_fault(order, bytes).records().next();
-    let name = match &first {
-        Some((_, record)) if !record.is_eof() => record.name,
-        _ => return false,
-    };
-    for byte in &name {
-        if *byte != b' ' && !byte.is_ascii_graphic() {
-            return false;
-        }
-    }
-    name[0] != b' '
-}
-
 /// The first record with an odd name.
 fn first_odd_name(records: &LinkInformation<'_>, are_small: bool) -> Option<(usize, OtherLook)> {
     for (rec, record) in records.records() {

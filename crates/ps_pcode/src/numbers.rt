@@ -1,11 +1,11 @@
 //! The segment numbers at the ends of codes, beside those that the dictionary has.
 ghost use Rattle.std.specs.Prelude.{◌<◌};
 
-use crate::warnings::{CodeLook, OtherLook};
+use crate::looks::CodeLook;
+use crate::tables::is_without_procedures;
 use ps_codefile::Dict;
 use ps_codefile::dictionary_layout::SLOTS;
 use ps_codefile::kinds::{HOSTSEG, UNITSEG};
-use ps_pcode::is_without_procedures;
 use ps_words::{WORD_LEN, get};
 
 /// No segment of II.1 has a number above it, and no character of a text is below it.
@@ -15,13 +15,15 @@ const LAST_NUMBER: u8 = 31;
 const UNUSED: u8 = 0x10;
 
 /// What a dictionary of II.1 has of a slot, in a word of its second half.
+///
+/// Source: this project's profile.
 #[derive(Clone, Copy)]
-pub(super) struct Info {
+pub struct Info {
     /// The segment number.
     number: u8,
     /// Of what machine the code is.
-    pub(super) machine: u8,
-    pub(super) version: u8,
+    pub machine: u8,
+    pub version: u8,
 }
 
 /// The word of a slot in a dictionary of II.1, big end first.
@@ -33,24 +35,27 @@ fn word_of(dict: &Dict<'_>, slot: u8) -> [u8; 2] {
     }
 }
 
-/// What a dictionary has of a slot, where it may be one of II.1 and has something there: no text and
-/// no code has sixteen words of II.1.
-pub(super) fn info_of(dict: &Dict<'_>, slot: u8) -> Option<Info> {
-    for other in 0..SLOTS {
-        let [high, number] = word_of(dict, other);
-        if LAST_NUMBER < number || high & UNUSED != 0 {
+impl Info {
+    /// That of a slot, where the dictionary may be one of II.1 and has something there: no text and
+    /// no code has sixteen words of II.1.
+    /// Source: this project's profile.
+    pub fn of(dict: &Dict<'_>, slot: u8) -> Option<Info> {
+        for other in 0..SLOTS {
+            let [high, number] = word_of(dict, other);
+            if LAST_NUMBER < number || high & UNUSED != 0 {
+                return None;
+            }
+        }
+        let [high, number] = word_of(dict, slot);
+        if number == 0 && high == 0 {
             return None;
         }
+        Some(Info {
+            number,
+            machine: high & 15,
+            version: high >> 5,
+        })
     }
-    let [high, number] = word_of(dict, slot);
-    if number == 0 && high == 0 {
-        return None;
-    }
-    Some(Info {
-        number,
-        machine: high & 15,
-        version: high >> 5,
-    })
 }
 
 /// The number at the end of the code of a slot that is filled.
@@ -64,8 +69,10 @@ fn number_in(dict: &Dict<'_>, slot: u8) -> Option<u8> {
     }
 }
 
-/// What looks wrong in the numbers at the end of the code of a slot.
-pub(super) fn number_look(dict: &Dict<'_>, slot: u8, code: &[u8]) -> Option<OtherLook>
+/// What looks wrong in the numbers at the end of the code of a slot, 0 to 15.
+///
+/// Source: this project's profile.
+pub fn number_look(dict: &Dict<'_>, slot: u8, code: &[u8]) -> Option<CodeLook>
     requires { slot < SLOTS }
 {
     let (found, procedures) = match code {
@@ -76,18 +83,15 @@ pub(super) fn number_look(dict: &Dict<'_>, slot: u8, code: &[u8]) -> Option<Othe
         return None;
     }
     let kind = dict.entry(slot).kind;
-    let is_linkable = matches!(kind, HOSTSEG | UNITSEG);
-    Some(OtherLook::Code(if found == 0 && procedures == 0 && slot != 0 && is_linkable {
-        CodeLook::ZeroEnd
-    } else if kind == HOSTSEG && found != slot {
-        CodeLook::OtherNumber { found, slot }
-    } else if found != slot && number_in(dict, found) == Some(slot) {
-        CodeLook::ExchangedNumber { found, slot }
-    } else {
-        let number = info_of(dict, slot)?.number;
-        if number == 0 || number == found {
-            return None;
-        }
-        CodeLook::OtherInfo { found, number }
-    }))
+    if found == 0 && procedures == 0 && slot != 0 && matches!(kind, HOSTSEG | UNITSEG) {
+        return Some(CodeLook::ZeroEnd);
+    }
+    if kind == HOSTSEG && found != slot {
+        return Some(CodeLook::OtherNumber { found, slot });
+    }
+    if found != slot && number_in(dict, found) == Some(slot) {
+        return Some(CodeLook::ExchangedNumber { found, slot });
+    }
+    let number = Info::of(dict, slot)?.number;
+    (number != 0 && number != found).then_some(CodeLook::OtherInfo { found, number })
 }
