@@ -8,8 +8,8 @@ ghost use Rattle.ps_resolve.specs.Sources.{contents};
 ghost use Rattle.ps_calls.specs.Printed.{AreListed, IsList, listed};
 
 use crate::kinds::ListForm;
-use ps_writing::{Counts, separator};
 use ps_listing::{LoneUnit, lone_units, write_list, write_list_json, write_lone_units};
+use ps_writing::{Counts, separator};
 use std::alloc::{AllocError, Global};
 
 /// Adds the lines of a file. A function by itself, so that the room of its writer is taken once.

@@ -7,8 +7,8 @@ ghost use Rattle.ps_command.specs.FilesRead.{IsReadError, Reads};
 use crate::files::{self, CodeFiles};
 use crate::output;
 use ps_errors::CommandError;
-use ps_writing::{Counts, separator};
 use ps_listing::LoneUnit;
+use ps_writing::{Counts, separator};
 use std::alloc::{AllocError, Allocator};
 use std::io::Write;
 

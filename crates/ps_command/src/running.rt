@@ -20,8 +20,8 @@ use crate::output;
 use crate::request::{self, Inputs, Request, Task};
 use ps_errors::CommandError;
 use ps_linkfile::{Linked, ReferenceMap, Summary};
-use ps_writing::{Counting, Counts};
 use ps_report::{PrintError, Printing};
+use ps_writing::{Counting, Counts};
 use std::alloc::{AllocError, Allocator, Global};
 use std::io::Write;
 

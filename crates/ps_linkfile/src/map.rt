@@ -15,7 +15,9 @@ use crate::linked::{Linked, prepare};
 use ps_laws::first_of_all;
 use ps_resolve::{Def, DefKind, Definitions, Plan, Private, Source};
 use ps_words::Name;
-use ps_writing::{Form, RowPart, Text, TextWriter, add_by_form, add_part, begin_row, end_row, in_memory};
+use ps_writing::{
+    Form, RowPart, Text, TextWriter, add_by_form, add_part, begin_row, end_row, in_memory,
+};
 use std::alloc::Allocator;
 
 /// Adds the row of a segment of this name, whose code begins in this block.

@@ -22,7 +22,10 @@ use ps_laws::{bytes_are_linked, first_of_all};
 use ps_linkinfo::Kind;
 use ps_resolve::{resolve_with_segments, slot_names_are_whole};
 use ps_words::{BLOCK_SIZE, Name};
-use ps_writing::{Counts, Form, RowPart, Text, TextWriter, WriteFault, add_by_form, add_part, by_form, separator, write_text};
+use ps_writing::{
+    Counts, Form, RowPart, Text, TextWriter, WriteFault, add_by_form, add_part, by_form, separator,
+    write_text,
+};
 use std::alloc::{Allocator, Global};
 use std::io::Write;
 use std::marker::Model;

@@ -22,7 +22,10 @@ use ps_codefile::dictionary_layout::{SLOT_COUNT, SLOTS};
 use ps_codefile::{Dict, Entry, Role};
 use ps_linkinfo::{Body, LinkRecord, Records, walk_from_start};
 use ps_words::{Fault, Name, Order, Reason};
-use ps_writing::{Counts, Form, RowPart, Text, TextWriter, add_by_form, add_part, add_reason, begin_row, end_row, in_memory, two_digits, write_text};
+use ps_writing::{
+    Counts, Form, RowPart, Text, TextWriter, add_by_form, add_part, add_reason, begin_row, end_row,
+    in_memory, two_digits, write_text,
+};
 use std::alloc::Allocator;
 use std::io::Write;
 

@@ -10,8 +10,8 @@ use crate::json::{add_fault, add_text};
 use crate::slots_json::{add_length, add_slots};
 use ps_codefile::{Dict, open};
 use ps_filetype::CodeFile;
-use ps_writing::{Counts, Text, TextWriter, WriteFault, write_text};
 use ps_words::{Order, Reason};
+use ps_writing::{Counts, Text, TextWriter, WriteFault, write_text};
 use std::io::Write;
 
 /// A file, its path and the phrase for what it is.

@@ -4,8 +4,8 @@ ghost use Rattle.std.specs.Prelude.{flat_map};
 ghost use Rattle.ps_writing.specs.Adding.{Adds};
 ghost use Rattle.ps_listing.specs.ListJson.{fault_json, number_or_null, text_byte};
 
-use ps_writing::{TextWriter, add_hex, add_number};
 use ps_words::Reason;
+use ps_writing::{TextWriter, add_hex, add_number};
 
 /// Adds a byte of a text inside a string.
 fn add_text_byte<S: TextWriter>(text: &mut S, byte: u8)

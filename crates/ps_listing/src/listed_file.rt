@@ -10,8 +10,8 @@ use crate::slots::{add_slots, has_refused};
 use crate::words::{add_order, add_path, add_phrase, add_purpose, add_refusal, add_size};
 use ps_codefile::{Dict, open};
 use ps_filetype::CodeFile;
-use ps_writing::{Counts, Text, TextWriter, WriteFault, add_number, write_text};
 use ps_words::Reason;
+use ps_writing::{Counts, Text, TextWriter, WriteFault, add_number, write_text};
 use std::io::Write;
 
 /// A file, its path and the phrase for what it is.

@@ -12,9 +12,9 @@ ghost use Rattle.ps_listing.specs.LoneText.{has_no_sound as has_no_sound_spec, i
 use crate::words::{add_path, add_reference, add_refusal};
 use ps_codefile::Role;
 use ps_codefile::dictionary_layout::SLOTS;
-use ps_writing::{Counts, Text, TextWriter, WriteFault, add_slot_name, write_text};
 use ps_resolve::{HostReading, lone_fault, read};
 use ps_words::{Fault, Name};
+use ps_writing::{Counts, Text, TextWriter, WriteFault, add_slot_name, write_text};
 use std::alloc::{AllocError, Allocator};
 use std::io::Write;
 

@@ -9,8 +9,8 @@ use crate::listed_file::write_list;
 use crate::phrases::phrase;
 use ps_codefile::{Dict, open};
 use ps_filetype::CodeFile;
-use ps_writing::Counts;
 use ps_words::Reason;
+use ps_writing::Counts;
 use std::alloc::{AllocError, Allocator};
 
 /// A file that is for this has a host program.

@@ -9,8 +9,8 @@ use crate::by_itself::read_by_itself;
 use crate::words::{add_path, add_refusal, add_size, add_uses};
 use ps_codefile::dictionary_layout::SLOTS;
 use ps_codefile::{Dict, Role};
-use ps_writing::{TextWriter, add_number, add_slot_name};
 use ps_words::{Fault, Name, Reason};
+use ps_writing::{TextWriter, add_number, add_slot_name};
 
 /// The name of the segment in a slot.
 pub(crate) fn name_of(dict: &Dict, slot: u8) -> Name

@@ -9,9 +9,9 @@ use crate::json::add_fault;
 use crate::slots::{kind_of, name_of, size_of};
 use ps_codefile::dictionary_layout::SLOTS;
 use ps_codefile::{Dict, Role};
-use ps_writing::{TextWriter, add_json_name, add_number, comma, separator};
 use ps_linkinfo::{LinkInformation, LinkRecord};
 use ps_words::Reason;
+use ps_writing::{TextWriter, add_json_name, add_number, comma, separator};
 
 /// Adds the item of what a record uses, where it is one that uses a unit. Returns whether the first
 /// item is still to come.

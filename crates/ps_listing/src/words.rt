@@ -5,9 +5,9 @@ ghost use Rattle.ps_listing.specs.ListText.{order_words, phrase_words, purpose_w
 ghost use Rattle.ps_words.specs.FaultText.{part_text};
 
 use ps_filetype::{CodeFile, is_hidden};
-use ps_writing::{TextWriter, add_number, shown_codes};
 use ps_linkinfo::{LinkInformation, LinkRecord};
 use ps_words::{Order, Reason};
+use ps_writing::{TextWriter, add_number, shown_codes};
 
 /// Adds a character of a path: a question mark for a hidden one, as one that could end the line.
 fn add_char<S: TextWriter>(text: &mut S, c: char)

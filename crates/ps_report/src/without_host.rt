@@ -5,9 +5,9 @@ ghost use Rattle.ps_listing.specs.FileLists.{AreLists};
 ghost use Rattle.ps_report.specs.Lists.{is_no_host as is_no_host_spec, is_no_host_reason as is_no_host_reason_spec, lacks_host as lacks_host_spec};
 
 use crate::verdict::Verdict;
-use ps_writing::Counts;
 use ps_listing::{has_host_among, lists_of};
 use ps_words::Reason;
+use ps_writing::Counts;
 use std::alloc::{AllocError, Allocator};
 
 /// This is why the first file is no host.

@@ -4,8 +4,8 @@ ghost use Rattle.std.specs.List.{enumerate_from, flat_map};
 ghost use Rattle.ps_writing.specs.Adding.{Adds};
 ghost use Rattle.ps_writing.specs.JsonText.{comma_unless, json_bool as json_bool_spec, json_byte, json_name, json_reason, line_end, reference_item, references_member};
 
-use crate::lines::{add_number, shown_code};
 use crate::hex::add_hex;
+use crate::lines::{add_number, shown_code};
 use crate::text_writer::TextWriter;
 use ps_linkinfo::Refs;
 use ps_words::{Name, Reason};

@@ -4,27 +4,27 @@
 
 mod counts;
 mod hex;
-mod memory;
 mod json;
 mod lines;
+mod memory;
 mod pieces;
 mod rows;
 mod stream;
 mod text_writer;
 mod told;
-mod writing;
 mod write_counter;
 mod write_fault;
+mod writing;
 
 pub use counts::Counts;
 pub use hex::add_hex;
-pub use memory::in_memory;
 pub use json::{add_json_name, comma, separator};
 pub use lines::{add_number, add_slot_name, shown_codes, two_digits};
+pub use memory::in_memory;
 pub use rows::{Form, RowPart, add_by_form, add_part, add_reason, begin_row, by_form, end_row};
 pub use stream::write_text;
 pub use text_writer::{Text, TextWriter};
 pub use told::{Counting, ToldWriter};
-pub use writing::{write_all, write_all_of};
 pub use write_counter::{ByWriter, WriteCounter};
 pub use write_fault::WriteFault;
+pub use writing::{write_all, write_all_of};

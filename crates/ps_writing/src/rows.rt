@@ -6,10 +6,10 @@ ghost use Rattle.ps_writing.specs.JsonText.{json_bool as json_bool_spec, json_na
 ghost use Rattle.ps_writing.specs.Lines.{hex_byte};
 ghost use Rattle.ps_writing.specs.Rows.{by_form as by_form_spec, in_item, in_line, reason_in, value_in, value_of};
 
+use crate::hex::add_hex;
 use crate::json::{self, add_json_name, add_json_reason, json_bool, separator};
 use crate::lines::{add_fault, add_number, add_slot_name, shown_codes, two_digits};
 use crate::pieces;
-use crate::hex::add_hex;
 use crate::text_writer::TextWriter;
 use itoa::Buffer;
 use ps_linkinfo::Refs;

@@ -5,8 +5,8 @@ ghost use Rattle.ps_writing.specs.Counts.{NoneFailed, OneFailed};
 ghost use Rattle.ps_writing.specs.Prefixes.{AppendsPrefix};
 
 use crate::counts::Counts;
-use crate::write_fault::WriteFault;
 use crate::text_writer::{Text, TextWriter};
+use crate::write_fault::WriteFault;
 use crate::writing::write_all_of;
 use arrayvec::ArrayVec;
 use std::io::Write;

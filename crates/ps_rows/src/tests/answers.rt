@@ -3,8 +3,8 @@ use super::link_allocations::Link;
 use crate::line::Line;
 use crate::notation::holds;
 use ps_linkfile::{LinkError, Summary, link};
-use ps_writing::WriteFault;
 use ps_words::{Fault, Order};
+use ps_writing::WriteFault;
 use std::alloc::{AllocError, Global};
 use std::process::Abort;
 

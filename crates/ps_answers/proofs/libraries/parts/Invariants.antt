@@ -5,7 +5,7 @@ use Rattle.ps_answers.proofs.libraries.parts.Given as goal
 
 -- the parts so far and those that are left, which have all of what is left, and room for all
 abbrev pub invariant-loop-length : goal.invariant-loop-length
-invariant-loop-length l =
+invariant-loop-length g l =
     (contents l.parts.items ++ split l.rest (drop l.length-index l.lengths)
     ≡ split l.bytes l.lengths)
     × (sum (drop l.length-index l.lengths) ≡ length l.rest)
