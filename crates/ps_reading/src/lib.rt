@@ -7,7 +7,7 @@ mod reading;
 mod slot_name_law;
 
 pub use locations::{EntryAt, RecordAt, ReferenceAt, SegmentAt};
-pub use reading::added::UnitReference;
+pub use reading::added::{MAX_ADDED, MAX_REQUESTED, UnitReference};
 pub use reading::request::{Request, Requester};
 pub use reading::segment::{Resolvable, Segment};
 pub use reading::slots::{HOST_FILE, HostSlots};

@@ -2,7 +2,7 @@
 pub use Rattle.ps_codefile.specs.Dictionary.{FileOrder, OpenedFile, file_order, opened_alone, opened_as}
 pub use Rattle.ps_codefile.specs.Procedures.{ProcedureTables, is_reserved, procedures, table_of}
 pub use Rattle.ps_codefile.specs.Roles.{is_host, needs_linking}
-pub use Rattle.ps_codefile.specs.declared.dictionary_layout.TheConstants.{FIRST_ADDED, SLOT_COUNT, SLOTS}
+pub use Rattle.ps_codefile.specs.declared.dictionary_layout.TheConstants.{SLOT_COUNT}
 pub use Rattle.ps_linkinfo.specs.RecordCounts.{definitions_in, digest_of, is_definition, is_private_reference, is_public_reference, is_unit_reference, next_of, privates_in, publics_in, references_in, units_in, units_in as units_requested}
 pub use Rattle.ps_linkinfo.specs.Records.{reading, refs_of}
 pub use Rattle.ps_linkinfo.specs.declared.record.Body.{Body}
@@ -33,7 +33,6 @@ pub use Rattle.ps_resolve.specs.declared.allotment.Private.{Private}
 pub use Rattle.ps_resolve.specs.declared.allotment.TheConstants.{MAX_NEXT_FREE}
 pub use Rattle.ps_resolve.specs.declared.edit_table.PlaceState.{PlaceState}
 pub use Rattle.ps_resolve.specs.declared.linkage.Stop.{Stop}
-pub use Rattle.ps_reading.specs.declared.reading.added.TheConstants.{MAX_ADDED, MAX_REQUESTED}
 pub use Rattle.ps_resolve.specs.declared.references.Target.{Target}
 pub use Rattle.ps_words.specs.Edits.{AreApart, AreEdits, IsInside, covers, patched_byte, place_of, width}
 pub use Rattle.ps_words.specs.FaultPlaces.{in_record, in_reference}
