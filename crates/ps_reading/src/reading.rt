@@ -388,7 +388,7 @@ impl<'a> HostReading<'a> {
     }
 
     /// The names that are requested and that no unit of the host has, each with the UNITREF record
-    /// that first gave it, in that order, at most `MAX_REQUESTED`.
+    /// that first gave it, in that order; of more than ten the first ten.
     /// Source: this project's profile.
     pub fn requested(&self) -> &[UnitReference]
         ensures { result.now

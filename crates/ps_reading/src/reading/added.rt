@@ -19,11 +19,11 @@ use ps_codefile::dictionary_layout::{FIRST_ADDED, SLOT_COUNT, SLOTS};
 use ps_linkinfo::{LinkInformation, LinkRecord};
 use ps_words::{Fault, Name, Reason};
 
-/// How many units may be added: one in each slot from `FIRST_ADDED` on.
+/// How many units may be added: one in each slot from the first on.
 /// Source: this project's profile.
 pub const MAX_ADDED: usize = (SLOTS - FIRST_ADDED) as usize;
 
-/// How many requested names are kept: those that may have a slot, and the first that has none.
+/// How many names are kept: those that may have a slot, and the first that has none.
 /// Source: this project's profile.
 pub const MAX_REQUESTED: usize = MAX_ADDED + 1;
 
