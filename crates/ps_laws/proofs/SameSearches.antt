@@ -1,6 +1,6 @@
 -- Links of two hosts and their libraries in which each search finds what is read the same, where
 -- the number of each file may be another, and the block in which link information begins.
-use Rattle.ps_laws.proofs.Vocabulary.{All, Bool, Err, Fault, Known, List, None, Ok, Option, Order, Reason, Record, Request, Result, Role, RoundsOutcome, Segment, Some, UnitReference, [], added_segments, after, all_unit_references, arith, bytes_eq, chosen_library, code_fault, code_of, entry_at, false, fault_if, file_at, filter, find, first_private_fault, grown_data_size, host_of, host_records, if◌then◌else◌, in_record, in_slot, information_block, information_of, inl, inr, is_empty, is_host, is_missing, is_named, is_nameless, is_none, is_role, known_of, length, library_file, map, nat_lt, needs_linking, next_of, none_at, none_mapped, option_and_then, option_map, option_map_or, option_or, own_segment, owner_of, private_words, range_with_len, reading, refl, request_by_slot, request_fault, request_of, request_parts, requested_from, result_ok, role_fault, role_of, slice_get, slice_get-map, slots, source_made, source_of, subst, sym, table_of, tables_fault, total_words, true, unit_references, unit_source, unit_there, units_of, ℕ, ◌++◌, ◌+◌, ◌<◌, ◌==◌, ◌||◌, ◌∙◌, ◌∷◌, ◌≡◌, ◌≢◌, ◌⊎◌, SLOTS}
+use Rattle.ps_laws.proofs.Vocabulary.{All, Bool, Err, Fault, Known, List, None, Ok, Option, Order, Reason, Record, Request, Result, Role, RoundsOutcome, Segment, Some, UnitReference, [], added_segments, after, all_unit_references, arith, bytes_eq, chosen_library, code_fault, code_of, entry_at, false, fault_if, file_at, filter, find, first_private_fault, grown_data_size, host_of, host_records, if◌then◌else◌, in_record, in_slot, information_block, information_of, inl, inr, is_empty, is_host, is_missing, is_named, is_nameless, is_none, is_role, known_of, length, library_file, map, nat_lt, needs_linking, next_of, none_at, none_mapped, option_and_then, option_map, option_map_or, option_or, own_segment, owner_of, private_words, range_with_len, reading, refl, request_by_slot, request_fault, request_of, request_parts, requested_from, result_ok, role_fault, role_of, slice_get, slice_get-map, slots, source_made, source_of, subst, sym, table_of, tables_fault, total_words, true, unit_references, unit_source, unit_there, units_of, ℕ, ◌++◌, ◌+◌, ◌<◌, ◌==◌, ◌||◌, ◌∙◌, ◌∷◌, ◌≡◌, ◌≢◌, ◌⊎◌, SLOTS, FIRST_ADDED, MAX_ADDED}
 use Rattle.ps_laws.proofs.ChangedLists.{Both, all_mapped, any_mapped, both, find_mapped, first_mapped, in_slots, neither, or_moved, same_clipped}
 use Rattle.ps_laws.proofs.MovedSegments.{known_moved}
 use Rattle.ps_codefile.specs.declared.entry.Role.TheVariants as role
@@ -419,7 +419,8 @@ module _ (c : Change) where
     same_empty = λ j. filter (λ slot. option_map_or is_empty (result_ok (same_clipped
         (Ok role.Empty) (λ slot. role_of (entry_at c.order c.other slot))
         (λ slot. role_of (entry_at c.order c.host slot))
-        (λ slot inside. sym (all.roles slot inside)) j slot)) false) (range_with_len 7 9)
+        (λ slot inside. sym (all.roles slot inside)) j slot)) false)
+        (range_with_len FIRST_ADDED MAX_ADDED)
 
     module _ (none : mine sources_fault ≡ None) where
       own_at : (slot : ℕ) → slot < SLOTS
