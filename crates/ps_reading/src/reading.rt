@@ -20,7 +20,9 @@ pub(crate) mod unit_slots;
 pub(crate) mod units;
 
 use crate::locations::EntryAt;
-use crate::reading::added::{MAX_ADDED, MAX_REQUESTED, UnitReference, add_units, empty_slots, requested_by, slot_at};
+use crate::reading::added::{
+    MAX_ADDED, MAX_REQUESTED, UnitReference, add_units, empty_slots, requested_by, slot_at,
+};
 use crate::reading::libraries::libraries_fault;
 use crate::reading::request::{Request, unit_named};
 use crate::reading::segment::Segment;

@@ -15,8 +15,8 @@ use crate::plan::{Plan, Source};
 use crate::references::names::{LinkNames, Linking, Names};
 use crate::segments::Segments;
 use arrayvec::ArrayVec;
-use ps_reading::{HOST_FILE, Segment, SegmentAt, UnitSlots};
 use ps_codefile::dictionary_layout::SLOT_COUNT;
+use ps_reading::{HOST_FILE, Segment, SegmentAt, UnitSlots};
 use ps_words::Edit;
 use std::alloc::Allocator;
 

@@ -15,8 +15,8 @@ use crate::plan::Plan;
 use crate::segments::Segments;
 use arrayvec::ArrayVec;
 use ps_codefile::Dict;
-use ps_reading::{HOST_FILE, HostSlots, Segment, read_added, read_own, slot_names};
 use ps_codefile::dictionary_layout::SLOT_COUNT;
+use ps_reading::{HOST_FILE, HostSlots, Segment, read_added, read_own, slot_names};
 use ps_words::{Fault, Reason};
 use std::alloc::Allocator;
 
