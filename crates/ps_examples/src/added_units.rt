@@ -10,7 +10,7 @@ ghost use Rattle.ps_words.specs.declared.fault.Reason.TheVariants as reason;
 ghost use Rattle.ps_words.specs.declared.order.Order.TheVariants.{Little};
 
 /// Which names are looked up in the libraries, and which slots their units take.
-#[tactic(auto, unfolding(ps_resolve::specs::AllFaults::first_fault, ps_resolve::specs::AllFaults::reading_fault, ps_resolve::specs::Faults::slots_fault, ps_resolve::specs::Faults::no_host_fault, ps_resolve::specs::Faults::libraries_fault, ps_resolve::specs::Faults::sources_fault, ps_resolve::specs::Faults::linking_fault, ps_resolve::specs::Faults::definitions_fault, ps_resolve::specs::Faults::privates_fault, ps_resolve::specs::Faults::data_fault, ps_resolve::specs::Faults::references_fault, ps_resolve::specs::Sources::own_segments, ps_resolve::specs::Added::empty_slots, ps_resolve::specs::Added::rounds, ps_resolve::specs::Added::segments))]
+#[tactic(auto, unfolding(ps_resolve::specs::AllFaults::first_fault, ps_resolve::specs::AllFaults::reading_fault, ps_resolve::specs::Faults::slots_fault, ps_resolve::specs::Faults::no_host_fault, ps_resolve::specs::Faults::libraries_fault, ps_resolve::specs::Faults::sources_fault, ps_resolve::specs::Faults::linking_fault, ps_resolve::specs::Faults::definitions_fault, ps_resolve::specs::Faults::privates_fault, ps_resolve::specs::Faults::data_fault, ps_resolve::specs::Faults::references_fault, ps_reading::specs::Sources::own_segments, ps_reading::specs::Added::empty_slots, ps_reading::specs::Added::rounds, ps_reading::specs::Added::segments))]
 pub fn units_that_are_added()
     ensures a_unit_that_only_a_unit_names { first_fault host
         (library_of_used (util_information Little) ∷ []) ≡ None }
@@ -49,7 +49,7 @@ pub fn units_that_are_added()
 {}
 
 /// Which fault is reported if several apply that have to do with an added unit.
-#[tactic(auto, unfolding(ps_resolve::specs::AllFaults::first_fault, ps_resolve::specs::AllFaults::reading_fault, ps_resolve::specs::Faults::slots_fault, ps_resolve::specs::Faults::no_host_fault, ps_resolve::specs::Faults::libraries_fault, ps_resolve::specs::Faults::sources_fault, ps_resolve::specs::Faults::linking_fault, ps_resolve::specs::Faults::definitions_fault, ps_resolve::specs::Faults::privates_fault, ps_resolve::specs::Faults::data_fault, ps_resolve::specs::Faults::references_fault, ps_resolve::specs::Sources::own_segments, ps_resolve::specs::Added::empty_slots, ps_resolve::specs::Added::rounds, ps_resolve::specs::Added::segments))]
+#[tactic(auto, unfolding(ps_resolve::specs::AllFaults::first_fault, ps_resolve::specs::AllFaults::reading_fault, ps_resolve::specs::Faults::slots_fault, ps_resolve::specs::Faults::no_host_fault, ps_resolve::specs::Faults::libraries_fault, ps_resolve::specs::Faults::sources_fault, ps_resolve::specs::Faults::linking_fault, ps_resolve::specs::Faults::definitions_fault, ps_resolve::specs::Faults::privates_fault, ps_resolve::specs::Faults::data_fault, ps_resolve::specs::Faults::references_fault, ps_reading::specs::Sources::own_segments, ps_reading::specs::Added::empty_slots, ps_reading::specs::Added::rounds, ps_reading::specs::Added::segments))]
 pub fn order_of_added_units()
     ensures the_name_of_a_lesser_slot_comes_first { first_fault
         (host_with Little (publ_def Little count 3 ++ unit_ref Little nobody []

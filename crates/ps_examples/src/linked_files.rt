@@ -6,7 +6,7 @@ ghost use Rattle.ps_resolve.specs.AllFaults.{first_fault};
 ghost use Rattle.ps_words.specs.declared.order.Order.TheVariants.{Little, Big};
 
 /// What is written of a host and its library, and of a host with its unit in place.
-#[tactic(auto, unfolding(ps_resolve::specs::Sources::own_segments, ps_resolve::specs::Added::empty_slots, ps_resolve::specs::Added::rounds, ps_resolve::specs::Added::segments, ps_resolve::specs::Added::slot_names, ps_linkfile::specs::LinkedFile::dictionary, ps_linkfile::specs::LinkedFile::all_pairs, ps_resolve::specs::AllFaults::first_fault, ps_resolve::specs::AllFaults::reading_fault, ps_resolve::specs::Faults::slots_fault, ps_resolve::specs::Faults::no_host_fault, ps_resolve::specs::Faults::libraries_fault, ps_resolve::specs::Faults::sources_fault, ps_resolve::specs::Faults::linking_fault, ps_resolve::specs::Faults::definitions_fault, ps_resolve::specs::Faults::privates_fault, ps_resolve::specs::Faults::data_fault, ps_resolve::specs::Faults::references_fault))]
+#[tactic(auto, unfolding(ps_reading::specs::Sources::own_segments, ps_reading::specs::Added::empty_slots, ps_reading::specs::Added::rounds, ps_reading::specs::Added::segments, ps_reading::specs::Added::slot_names, ps_linkfile::specs::LinkedFile::dictionary, ps_linkfile::specs::LinkedFile::all_pairs, ps_resolve::specs::AllFaults::first_fault, ps_resolve::specs::AllFaults::reading_fault, ps_resolve::specs::Faults::slots_fault, ps_resolve::specs::Faults::no_host_fault, ps_resolve::specs::Faults::libraries_fault, ps_resolve::specs::Faults::sources_fault, ps_resolve::specs::Faults::linking_fault, ps_resolve::specs::Faults::definitions_fault, ps_resolve::specs::Faults::privates_fault, ps_resolve::specs::Faults::data_fault, ps_resolve::specs::Faults::references_fault))]
 pub fn linked_bytes()
     ensures a_host_and_its_library { linked_file host (library ∷ []) ≡ linked_pair Little }
     ensures the_same_big_endian { linked_file (host_in Big) (library_in Big ∷ [])
@@ -23,7 +23,7 @@ pub fn linked_bytes()
 {}
 
 /// What is written of more than one unit or library, and of references and segments of other kinds.
-#[tactic(auto, unfolding(ps_resolve::specs::Sources::own_segments, ps_resolve::specs::Added::empty_slots, ps_resolve::specs::Added::rounds, ps_resolve::specs::Added::segments, ps_resolve::specs::Added::slot_names, ps_linkfile::specs::LinkedFile::dictionary, ps_linkfile::specs::LinkedFile::all_pairs))]
+#[tactic(auto, unfolding(ps_reading::specs::Sources::own_segments, ps_reading::specs::Added::empty_slots, ps_reading::specs::Added::rounds, ps_reading::specs::Added::segments, ps_reading::specs::Added::slot_names, ps_linkfile::specs::LinkedFile::dictionary, ps_linkfile::specs::LinkedFile::all_pairs))]
 pub fn more_linked_bytes()
     ensures two_units { linked_file (wanting_aux host) (library_of_two ∷ []) ≡ linked_two }
     ensures two_privates_of_a_unit { linked_file host

@@ -7,7 +7,7 @@ ghost use Rattle.ps_words.specs.declared.order.Order.TheVariants.{Little};
 
 /// If several faults apply in one step, or in two that follow each other, the first in the one
 /// order is reported.
-#[tactic(auto, unfolding(ps_resolve::specs::AllFaults::first_fault, ps_resolve::specs::AllFaults::reading_fault, ps_resolve::specs::Faults::slots_fault, ps_resolve::specs::Faults::no_host_fault, ps_resolve::specs::Faults::libraries_fault, ps_resolve::specs::Faults::sources_fault, ps_resolve::specs::Faults::linking_fault, ps_resolve::specs::Faults::definitions_fault, ps_resolve::specs::Faults::privates_fault, ps_resolve::specs::Faults::data_fault, ps_resolve::specs::Faults::references_fault, ps_resolve::specs::Sources::own_segments, ps_resolve::specs::Added::empty_slots, ps_resolve::specs::Added::rounds, ps_resolve::specs::Added::segments))]
+#[tactic(auto, unfolding(ps_resolve::specs::AllFaults::first_fault, ps_resolve::specs::AllFaults::reading_fault, ps_resolve::specs::Faults::slots_fault, ps_resolve::specs::Faults::no_host_fault, ps_resolve::specs::Faults::libraries_fault, ps_resolve::specs::Faults::sources_fault, ps_resolve::specs::Faults::linking_fault, ps_resolve::specs::Faults::definitions_fault, ps_resolve::specs::Faults::privates_fault, ps_resolve::specs::Faults::data_fault, ps_resolve::specs::Faults::references_fault, ps_reading::specs::Sources::own_segments, ps_reading::specs::Added::empty_slots, ps_reading::specs::Added::rounds, ps_reading::specs::Added::segments))]
 pub fn order_within_a_step()
     ensures no_host_segment_before_a_short_library { first_fault (put_at 6 (0 ∷ []) host)
         (take 511 library ∷ []) ≡ Some (in_file 0 reason.NoHost) }

@@ -9,7 +9,7 @@ ghost use Rattle.ps_words.specs.declared.fault.Reason.TheVariants as reason;
 ghost use Rattle.ps_words.specs.declared.order.Order.TheVariants.{Little};
 
 /// What is read of the slots before and after one that is refused.
-#[tactic(auto, unfolding(ps_resolve::specs::Readings::all_read, ps_resolve::specs::Readings::host_reading_fault, ps_resolve::specs::Readings::read_requests, ps_resolve::specs::Readings::read_rounds, ps_resolve::specs::Readings::read_segments, ps_resolve::specs::KnownSegments::segments_in_slots, ps_resolve::specs::Added::empty_slots, ps_resolve::specs::Faults::slots_fault, ps_resolve::specs::Faults::no_host_fault, ps_resolve::specs::Faults::libraries_fault, ps_resolve::specs::Faults::sources_fault))]
+#[tactic(auto, unfolding(ps_reading::specs::Readings::all_read, ps_reading::specs::Readings::host_reading_fault, ps_reading::specs::Readings::read_requests, ps_reading::specs::Readings::read_rounds, ps_reading::specs::Readings::read_segments, ps_reading::specs::KnownSegments::segments_in_slots, ps_reading::specs::Added::empty_slots, ps_resolve::specs::Faults::slots_fault, ps_resolve::specs::Faults::no_host_fault, ps_resolve::specs::Faults::libraries_fault, ps_resolve::specs::Faults::sources_fault))]
 pub fn slots_after_a_fault()
     ensures the_first_fault { host_reading_fault Little (wanting_aux host)
         (with_odd_util library_of_two ∷ []) ≡ Some (in_slot 1 7 reason.BadLength) }
@@ -52,7 +52,7 @@ pub fn slots_after_a_fault()
 {}
 
 /// What is read of units that only other units name, where one is refused.
-#[tactic(auto, unfolding(ps_resolve::specs::Readings::all_read, ps_resolve::specs::Readings::read_requests, ps_resolve::specs::Readings::read_rounds, ps_resolve::specs::Readings::read_segments, ps_resolve::specs::KnownSegments::segments_in_slots, ps_resolve::specs::Added::empty_slots))]
+#[tactic(auto, unfolding(ps_reading::specs::Readings::all_read, ps_reading::specs::Readings::read_requests, ps_reading::specs::Readings::read_rounds, ps_reading::specs::Readings::read_segments, ps_reading::specs::KnownSegments::segments_in_slots, ps_reading::specs::Added::empty_slots))]
 pub fn added_units_after_a_fault()
     ensures a_refused_unit_names_none { read_requests Little host
         (with_odd_util (library_of_used (util_information Little)) ∷ []) ≡ [] }

@@ -6,7 +6,7 @@ ghost use Rattle.ps_words.specs.declared.fault.Reason.TheVariants as reason;
 ghost use Rattle.ps_words.specs.declared.order.Order.TheVariants.{Little};
 
 /// What is wrong with the definitions, the private variables and the host's data size.
-#[tactic(auto, unfolding(ps_resolve::specs::AllFaults::first_fault, ps_resolve::specs::AllFaults::reading_fault, ps_resolve::specs::Faults::slots_fault, ps_resolve::specs::Faults::no_host_fault, ps_resolve::specs::Faults::libraries_fault, ps_resolve::specs::Faults::sources_fault, ps_resolve::specs::Faults::linking_fault, ps_resolve::specs::Faults::definitions_fault, ps_resolve::specs::Faults::privates_fault, ps_resolve::specs::Faults::data_fault, ps_resolve::specs::Faults::references_fault, ps_resolve::specs::Sources::own_segments, ps_resolve::specs::Added::empty_slots, ps_resolve::specs::Added::rounds, ps_resolve::specs::Added::segments))]
+#[tactic(auto, unfolding(ps_resolve::specs::AllFaults::first_fault, ps_resolve::specs::AllFaults::reading_fault, ps_resolve::specs::Faults::slots_fault, ps_resolve::specs::Faults::no_host_fault, ps_resolve::specs::Faults::libraries_fault, ps_resolve::specs::Faults::sources_fault, ps_resolve::specs::Faults::linking_fault, ps_resolve::specs::Faults::definitions_fault, ps_resolve::specs::Faults::privates_fault, ps_resolve::specs::Faults::data_fault, ps_resolve::specs::Faults::references_fault, ps_reading::specs::Sources::own_segments, ps_reading::specs::Added::empty_slots, ps_reading::specs::Added::rounds, ps_reading::specs::Added::segments))]
 pub fn faults_of_symbols()
     ensures a_definition_is_duplicate { first_fault
         (host_with Little (publ_def Little count 3 ++ publ_def Little count 4
