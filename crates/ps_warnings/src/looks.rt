@@ -23,6 +23,7 @@ use crate::segments::{ReadSegment, host_of, in_slot};
 use crate::warnings::{Look, OtherLook, Warning, WarningAt};
 use crate::weight::Weight;
 use ps_linkinfo::LinkInformation;
+use ps_pcode::Guess;
 use ps_resolve::EntryAt;
 use ps_words::{Fault, Reason};
 use std::alloc::{AllocError, Allocator};
@@ -176,6 +177,24 @@ impl<'a, A: Allocator> Looks<'a, A> {
             Some((rec, look)) => {
                 let rec = Some(rec);
                 self.add_other(WarningAt { rec, ..place }, Some(look))
+            }
+        }
+    }
+
+    /// Notes a guess about a record of a segment, if there is one.
+    fn note_of_record(
+        &mut self,
+        place: WarningAt<'a>,
+        found: Option<(usize, Guess)>,
+    ) -> Result<(), AllocError>
+        ensures { OnOk result (Adds (link_looks self.old.warnings.items self.old.harmless.items)
+            [] (link_looks self.new.warnings.items self.new.harmless.items)) }
+    {
+        match found {
+            None => Ok(()),
+            Some((rec, guess)) => {
+                let rec = Some(rec);
+                self.add_other(WarningAt { rec, ..place }, Some(OtherLook::Guess(guess)))
             }
         }
     }
