@@ -1,10 +1,7 @@
 //! What the P-code of a segment makes one guess of the references that its records have.
-ghost use Rattle.std.specs.Prelude.{◌<◌};
-
 use crate::files::FileCode;
 use crate::instructions::{Filled, may_be_operand};
 use crate::looks::Guess;
-use ps_codefile::Dict;
 use ps_codefile::kinds::UNITSEG;
 use ps_linkinfo::{Body, LinkInformation, Refs};
 
@@ -24,18 +21,16 @@ pub struct OperandGuesses {
 }
 
 impl OperandGuesses {
-    /// Those of the records of the segment in a slot, 0 to 15, which has this code, by what the file
-    /// shows of its P-code.
+    /// Those of the records of the segment of this kind in a slot, 0 to 15, which has this code, by
+    /// what the file shows of its P-code.
     /// Source: this project's profile.
     pub fn of(
         shown: &FileCode,
-        dict: &Dict<'_>,
         slot: u8,
+        kind: u16,
         records: &LinkInformation<'_>,
         code: &[u8],
-    ) -> OperandGuesses
-        requires { slot < 16 }
-    {
+    ) -> OperandGuesses {
         let mut guesses = OperandGuesses {
             clear: None,
             odd: None,
@@ -58,7 +53,7 @@ impl OperandGuesses {
                 Body::UnitRef(_) | Body::PublDef(_) | Body::ConstDef(_) | Body::Eof(_) => {}
             }
         }
-        if dict.entry(slot).kind == UNITSEG {
+        if kind == UNITSEG {
             guesses.lost = shown.lost_references(slot, variables);
         }
         guesses

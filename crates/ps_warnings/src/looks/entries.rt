@@ -7,7 +7,7 @@ ghost use Rattle.ps_resolve.specs.Sources.{contents};
 ghost use Rattle.ps_warnings.specs.EntryLooks.{empty_look as empty_look_spec, empty_slot as empty_slot_spec, half_entry as half_entry_spec, has_name_or_kind as has_name_or_kind_spec};
 ghost use Rattle.ps_warnings.specs.FileLooks.{looks_of_entry, looks_of_segment, looks_of_slot};
 ghost use Rattle.ps_warnings.specs.Found.{Adds, link_looks};
-ghost use Rattle.ps_warnings.specs.Paths.{path_of};
+ghost use Rattle.ps_warnings.specs.Paths.{path_of, paths_in};
 ghost use Rattle.ps_warnings.specs.Seen.{has_slot as has_slot_spec, seen};
 
 use super::names::oddity_of;
@@ -47,8 +47,7 @@ pub(super) fn look_at<'a, A: Allocator>(
     shown: &FileCode,
 ) -> Result<(), AllocError>
     ensures { OnOk result (Adds (link_looks looks.old.warnings.items looks.old.harmless.items)
-        (flat_map (looks_of_slot (path_of (context.now.inputs.now.host_path.now
-        ∷ contents context.now.inputs.now.paths.now) file)
+        (flat_map (looks_of_slot (path_of (paths_in context.now.inputs.now) file)
         (option_map (λ h. h.now) context.now.host)
         (map seen context.now.list.now) dict.now.order dict.now.file file) slots)
         (link_looks looks.new.warnings.items looks.new.harmless.items)) }
@@ -73,8 +72,7 @@ fn look_at_slot<'a, A: Allocator>(
 ) -> Result<(), AllocError>
     requires { slot < 16 }
     ensures { OnOk result (Adds (link_looks looks.old.warnings.items looks.old.harmless.items)
-        (looks_of_slot (path_of (context.now.inputs.now.host_path.now
-        ∷ contents context.now.inputs.now.paths.now) file)
+        (looks_of_slot (path_of (paths_in context.now.inputs.now) file)
         (option_map (λ h. h.now) context.now.host)
         (map seen context.now.list.now) dict.now.order dict.now.file file slot)
         (link_looks looks.new.warnings.items looks.new.harmless.items)) }
@@ -107,8 +105,7 @@ fn look_at_entry<'a, A: Allocator>(
 ) -> Result<(), AllocError>
     requires { slot < 16 }
     ensures { OnOk result (Adds (link_looks looks.old.warnings.items looks.old.harmless.items)
-        (looks_of_entry (path_of (context.now.inputs.now.host_path.now
-        ∷ contents context.now.inputs.now.paths.now) file)
+        (looks_of_entry (path_of (paths_in context.now.inputs.now) file)
         (option_map (λ h. h.now) context.now.host) dict.now.order dict.now.file
         (entry_at dict.now.order dict.now.file slot))
         (link_looks looks.new.warnings.items looks.new.harmless.items)) }
@@ -145,8 +142,7 @@ fn look_at_segment<'a, A: Allocator>(
 ) -> Result<(), AllocError>
     requires { slot < 16 }
     ensures { OnOk result (Adds (link_looks looks.old.warnings.items looks.old.harmless.items)
-        (looks_of_entry (path_of (context.now.inputs.now.host_path.now
-        ∷ contents context.now.inputs.now.paths.now) file)
+        (looks_of_entry (path_of (paths_in context.now.inputs.now) file)
         (option_map (λ h. h.now) context.now.host) dict.now.order dict.now.file
         (entry_at dict.now.order dict.now.file slot))
         (link_looks looks.new.warnings.items looks.new.harmless.items)) }
@@ -157,8 +153,9 @@ fn look_at_segment<'a, A: Allocator>(
         segment: Some(dict.entry(slot).name),
         rec: None,
     };
-    looks.add_other(place, refused_look(context, file, dict, slot))?;
-    match dict.code(slot) {
+    let code = dict.code(slot);
+    looks.add_other(place, refused_look(context, file, dict, slot, code))?;
+    match code {
         Ok(code) => look_at_code(looks, context, file, path, dict, shown, slot, code),
         Err(_) => Ok(()),
     }
@@ -188,7 +185,8 @@ fn look_at_code<'a, A: Allocator>(
         segment: Some(entry.name),
         rec: None,
     };
-    codes::look_at(looks, context, place, file, dict, slot, code)?;
+    let is_told = context.is_refused(file, slot);
+    codes::look_at(looks, place, dict, &entry, slot, code, is_told)?;
     looks.add_other(place, shown.misfit(slot).map(OtherLook::Guess))?;
     if needs_linking(&entry) {
         return records::look_at(looks, context, path, shown, dict, slot, code);
@@ -209,24 +207,24 @@ fn refused_look(
     file: usize,
     dict: &Dict<'_>,
     slot: u8,
+    code: Result<&[u8], Reason>,
 ) -> Option<OtherLook>
     requires { slot < 16 }
 {
     if context.is_refused(file, slot) {
         return None;
     }
-    let (reason, rec) = refusal_of(dict, slot)?;
+    let (reason, rec) = match code {
+        Ok(code) => refusal_of(dict, slot, code)?,
+        Err(reason) => (reason, None),
+    };
     Some(OtherLook::Segment(SegmentLook::Refused { reason, rec }))
 }
 
-/// Why a link that takes the segment is refused, and at which record.
-fn refusal_of(dict: &Dict<'_>, slot: u8) -> Option<(Reason, Option<usize>)>
+/// Why a link that takes the segment of this code is refused, and at which record.
+fn refusal_of(dict: &Dict<'_>, slot: u8, code: &[u8]) -> Option<(Reason, Option<usize>)>
     requires { slot < 16 }
 {
-    let code = match dict.code(slot) {
-        Ok(code) => code,
-        Err(reason) => return Some((reason, None)),
-    };
     let entry = dict.entry(slot);
     if !needs_linking(&entry) || code.len() < NUMBERS {
         return None;

@@ -1,10 +1,9 @@
 //! What the P-code of a segment makes one guess.
-ghost use Rattle.std.specs.Prelude.{◌<◌, [], OnOk};
+ghost use Rattle.std.specs.Prelude.{[], OnOk};
 ghost use Rattle.ps_warnings.specs.Found.{Adds, link_looks};
 
 use super::Looks;
 use crate::warnings::{OtherLook, WarningAt};
-use ps_codefile::Dict;
 use ps_linkinfo::LinkInformation;
 use ps_pcode::{FileCode, OperandGuesses};
 use std::alloc::{AllocError, Allocator};
@@ -15,16 +14,15 @@ pub(super) fn of_records<'a, A: Allocator>(
     looks: &mut Looks<'a, A>,
     place: WarningAt<'a>,
     shown: &FileCode,
-    dict: &Dict<'_>,
     slot: u8,
+    kind: u16,
     records: &LinkInformation<'_>,
     code: &[u8],
 ) -> Result<(), AllocError>
-    requires { slot < 16 }
     ensures { OnOk result (Adds (link_looks looks.old.warnings.items looks.old.harmless.items)
         [] (link_looks looks.new.warnings.items looks.new.harmless.items)) }
 {
-    let guesses = OperandGuesses::of(shown, dict, slot, records, code);
+    let guesses = OperandGuesses::of(shown, slot, kind, records, code);
     looks.note_of_record(place, guesses.clear)?;
     looks.note_of_record(place, guesses.odd)?;
     looks.add_other(place, guesses.lost.map(OtherLook::Guess))

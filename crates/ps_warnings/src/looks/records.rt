@@ -50,7 +50,7 @@ pub(super) fn look_at<'a, A: Allocator>(
     };
     looks.add_other_of_record(place, first_odd_name(&records, context.are_small))?;
     looks.add_of_record(place, first_past_private(&records, code))?;
-    notes::of_records(looks, place, shown, dict, slot, &records, code)?;
+    notes::of_records(looks, place, shown, slot, entry.kind, &records, code)?;
     let size = data_size(order, code);
     look_at_definitions(looks, context, path, &entry, size, &records)
 }
