@@ -15,7 +15,6 @@ mod extents;
 mod files;
 mod links;
 pub(crate) mod names;
-mod notes;
 mod records;
 
 use crate::inputs::Inputs;
