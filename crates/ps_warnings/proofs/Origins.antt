@@ -7,13 +7,11 @@ use Rattle.std.specs.Result.{is_ok}
 use Rattle.ps_words.specs.declared.fault.Reason.{Reason}
 use Rattle.ps_words.specs.declared.order.Order.{Order}
 use Rattle.ps_codefile.specs.Dictionary.{OpenedFile, code_of, entry_at, information_of}
-use Rattle.ps_codefile.specs.declared.entry.Entry.{Entry}
 use Rattle.ps_linkinfo.specs.Records.{reading}
 use Rattle.ps_linkinfo.specs.declared.record.LinkRecord.{LinkRecord as Record}
 use Rattle.ps_resolve.specs.Readings.{HostFiles}
 use Rattle.ps_warnings.specs.Seen.{Seen, part_needs_linking, records_in, seen}
 use Rattle.ps_warnings.specs.SeenSegments.{records_at, seen_with, taken_of, takes_slot}
-use Rattle.ps_resolve.specs.declared.locations.EntryAt.{EntryAt}
 use Rattle.ps_warnings.specs.declared.segments.SegmentPart.{SegmentPart}
 use Rattle.ps_warnings.specs.declared.segments.ReadSegment.{ReadSegment}
 
@@ -47,7 +45,7 @@ seen_none slot name part rs = ap (λ (l : List Record). record {
 
 -- what is seen of one that comes from an entry of a file
 pub seen_entry : (s : ReadSegment) (file index : ℕ) (f : OpenedFile)
-    → option_map (λ (o : EntryAt × Entry). o.0.file) s.source ≡ Some file → s.order ≡ f.order
+    → option_map (λ o. o.0.file) s.source ≡ Some file → s.order ≡ f.order
     → is_ok s.code ≡ is_ok (code_of f.file (entry_at f.order f.file index))
     → s.after.now ≡ information_of f.file (entry_at f.order f.file index)
     → seen s ≡ seen_with s.slot s.name s.part (Some (file, records_at index f))

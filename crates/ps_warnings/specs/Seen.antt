@@ -4,10 +4,8 @@ use Rattle.std.specs.Prelude.{ℕ, ◌==◌, ◌&&◌, if◌then◌else◌, List
 use Rattle.std.specs.List.{find}
 use Rattle.std.specs.Option.{option_map, option_map_or}
 use Rattle.std.specs.Result.{is_ok}
-use Rattle.ps_codefile.specs.declared.entry.Entry.{Entry}
 use Rattle.ps_linkinfo.specs.Records.{reading}
 use Rattle.ps_linkinfo.specs.declared.record.LinkRecord.{LinkRecord as Record}
-use Rattle.ps_resolve.specs.declared.locations.EntryAt.{EntryAt}
 use Rattle.ps_warnings.specs.declared.segments.SegmentPart.{SegmentPart}
 use Rattle.ps_warnings.specs.declared.segments.SegmentPart.TheVariants as part
 use Rattle.ps_warnings.specs.declared.segments.ReadSegment.{ReadSegment}
@@ -39,7 +37,7 @@ seen s = record {
   slot = s.slot;
   name = s.name;
   part = s.part;
-  file = option_map (λ (o : EntryAt × Entry). o.0.file) s.source;
+  file = option_map (λ o. o.0.file) s.source;
   records = records_in s;
 }
 

@@ -49,7 +49,7 @@ seen_with slot name what origin = record {
   slot = slot;
   name = name;
   part = what;
-  file = option_map (λ (o : ℕ × List Record). o.0) origin;
+  file = option_map (λ o. o.0) origin;
   records = if part_needs_linking what then records_from origin else [];
 }
 
