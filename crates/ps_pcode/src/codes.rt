@@ -1,11 +1,7 @@
 //! What looks wrong in a code by its bytes and by its procedures.
-ghost use Rattle.std.specs.Prelude.{◌<◌};
-
 use crate::dead::DeadRun;
 use crate::looks::{CodeLook, ProcedureLook};
 use crate::tables::{Ends, has_lost_tables, is_without_procedures, native_table, procedures_of};
-use ps_codefile::Dict;
-use ps_codefile::dictionary_layout::SLOTS;
 use ps_codefile::kinds::{HOSTSEG, LINKED, SEPRTSEG, UNITSEG};
 use ps_words::Order;
 
@@ -21,19 +17,17 @@ pub fn dead_look(code: &[u8]) -> Option<CodeLook> {
     Some(CodeLook::DeadRun { start, end, byte })
 }
 
-/// The same of the segment in a slot, 0 to 15. Zeros of native code are data: those of a segment that
-/// has a native procedure whose table is not among them.
+/// The same of a segment of this kind, whose words are in this order. Zeros of native code are data:
+/// those of a segment that has a native procedure whose table is not among them.
 ///
 /// Source: this project's profile.
-pub fn unread_look(dict: &Dict<'_>, slot: u8, code: &[u8]) -> Option<CodeLook>
-    requires { slot < SLOTS }
-{
+pub fn unread_look(order: Order, kind: u16, code: &[u8]) -> Option<CodeLook> {
     let DeadRun { start, end, byte } = DeadRun::first_in(code)?;
-    let is_outside = match native_table(dict.order(), code) {
+    let is_outside = match native_table(order, code) {
         Some(table) => table < start || end < table,
         None => false,
     };
-    let is_data = byte == 0 && (is_outside || dict.entry(slot).kind == SEPRTSEG);
+    let is_data = byte == 0 && (is_outside || kind == SEPRTSEG);
     (!is_data).then_some(CodeLook::DeadRun { start, end, byte })
 }
 
@@ -45,19 +39,17 @@ pub fn stripped_look(code: &[u8]) -> Option<CodeLook> {
     is_stripped.then_some(CodeLook::NoHighBit)
 }
 
-/// A procedure dictionary that has no procedure, or that is not whole, of the code in a slot, 0 to
-/// 15. Of a segment that a link reads, the number of procedures is 0 and no other look tells of it,
-/// in a code that is longer than that of a unit without procedures.
+/// A procedure dictionary that has no procedure, or that is not whole, of the code of a segment of this
+/// kind in a slot, 0 to 15. Of a segment that a link reads, the number of procedures is 0 and no other
+/// look tells of it, in a code that is longer than that of a unit without procedures.
 ///
 /// Source: this project's profile.
-pub fn procedures_look(dict: &Dict<'_>, slot: u8, code: &[u8]) -> Option<ProcedureLook>
-    requires { slot < SLOTS }
-{
-    let is_lost = match (dict.entry(slot).kind, code) {
+pub fn procedures_look(order: Order, kind: u16, slot: u8, code: &[u8]) -> Option<ProcedureLook> {
+    let is_lost = match (kind, code) {
         (HOSTSEG | UNITSEG, [.., number, 0]) if *number != 0 || slot == 0 => !is_without_procedures(
             code,
         ),
-        (LINKED, _) => has_lost_tables(dict.order(), code),
+        (LINKED, _) => has_lost_tables(order, code),
         _ => false,
     };
     is_lost.then_some(ProcedureLook::LostTables)

@@ -1,7 +1,8 @@
 //! What the procedures of a file show of its P-code, and the one that breaks a rule which the others
 //! keep: damage hits one procedure, and a compiler's habit many.
 use crate::bodies::Body;
-use crate::rules::{Rule, Shown, ShownRules};
+use crate::looks::Guess;
+use crate::rules::{Shown, ShownRules};
 use crate::tables::procedures_of;
 use crate::walks::Walk;
 use ps_codefile::Dict;
@@ -16,14 +17,6 @@ const LONG: usize = 32;
 
 /// Of so many procedures that are read, one may be damaged.
 const FEW: usize = 4;
-
-/// A procedure, the only one of its file, that breaks a rule which the others keep.
-#[derive(Clone, Copy)]
-pub struct Misfit {
-    /// Its number, from 1.
-    pub procedure: usize,
-    pub rule: Rule,
-}
 
 /// How many procedures of a file keep to a rule, and how many do not.
 #[derive(Clone, Copy)]
@@ -154,11 +147,10 @@ impl FileCode {
     /// the first rule.
     ///
     /// Source: this project's profile.
-    pub fn misfit(&self, slot: u8) -> Option<Misfit> {
-        for (rule, tally) in Rule::ALL.iter().zip(&self.tallies) {
+    pub fn misfit(&self, slot: u8) -> Option<Guess> {
+        for tally in &self.tallies {
             if let Some(procedure) = tally.misfit(slot) {
-                let rule = *rule;
-                return Some(Misfit { procedure, rule });
+                return Some(Guess::Misfit { procedure });
             }
         }
         None
@@ -166,23 +158,22 @@ impl FileCode {
 
     /// The codes are P-code, as far as the instructions of most procedures say, of which at least
     /// eight are long.
-    ///
-    /// Source: this project's profile.
-    pub fn is_shown(&self) -> bool {
+    pub(crate) fn is_shown(&self) -> bool {
         let Tally { kept, broken, .. } = self.tallies[0];
         MANY <= kept && broken <= kept / FEW
     }
 
-    /// How many operands of the code of this slot a compiler has left to a link, as far as its
-    /// instructions are read; none where the file shows no P-code, or other operands are longer than
-    /// need be too.
-    ///
-    /// Source: this project's profile.
-    pub fn operands_left_to_link(&self, slot: u8) -> Option<usize> {
-        if self.is_shown() && !self.is_lengthened {
-            self.left_to_link.get(usize::from(slot)).copied()
-        } else {
-            None
+    /// That so many references to variables are fewer than the operands of the code of this slot that
+    /// a compiler has left to a link, as far as its instructions are read; none where the file shows
+    /// no P-code, or other operands are longer than need be too.
+    pub(crate) fn lost_references(&self, slot: u8, references: usize) -> Option<Guess> {
+        if !self.is_shown() || self.is_lengthened {
+            return None;
         }
+        let operands = self.left_to_link.get(usize::from(slot)).copied()?;
+        (references < operands).then_some(Guess::LostReferences {
+            operands,
+            references,
+        })
     }
 }

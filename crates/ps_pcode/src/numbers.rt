@@ -1,6 +1,4 @@
 //! The segment numbers at the ends of codes, beside those that the dictionary has.
-ghost use Rattle.std.specs.Prelude.{◌<◌};
-
 use crate::looks::CodeLook;
 use crate::tables::is_without_procedures;
 use ps_codefile::Dict;
@@ -69,12 +67,10 @@ fn number_in(dict: &Dict<'_>, slot: u8) -> Option<u8> {
     }
 }
 
-/// What looks wrong in the numbers at the end of the code of a slot, 0 to 15.
+/// What looks wrong in the numbers at the end of the code of a segment of this kind in a slot, 0 to 15.
 ///
 /// Source: this project's profile.
-pub fn number_look(dict: &Dict<'_>, slot: u8, code: &[u8]) -> Option<CodeLook>
-    requires { slot < SLOTS }
-{
+pub fn number_look(dict: &Dict<'_>, slot: u8, kind: u16, code: &[u8]) -> Option<CodeLook> {
     let (found, procedures) = match code {
         [.., found, procedures] => (*found, *procedures),
         _ => return None,
@@ -82,7 +78,6 @@ pub fn number_look(dict: &Dict<'_>, slot: u8, code: &[u8]) -> Option<CodeLook>
     if is_without_procedures(code) {
         return None;
     }
-    let kind = dict.entry(slot).kind;
     if found == 0 && procedures == 0 && slot != 0 && matches!(kind, HOSTSEG | UNITSEG) {
         return Some(CodeLook::ZeroEnd);
     }

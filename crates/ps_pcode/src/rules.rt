@@ -4,7 +4,7 @@
 ///
 /// Source: P-code of II.0, *(open)* in FORMAT.md, and this project's profile.
 #[derive(Clone, Copy)]
-pub enum Rule {
+pub(crate) enum Rule {
     /// Up to its first case an instruction begins where the one before ends, where the procedure is
     /// left, and where a short jump leads to.
     Instructions,

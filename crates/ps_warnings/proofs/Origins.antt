@@ -50,7 +50,7 @@ pub seen_entry : (s : ReadSegment) (file index : ℕ) (f : OpenedFile)
     → s.after.now ≡ information_of f.file (entry_at f.order f.file index)
     → seen s ≡ seen_with s.slot s.name s.part (Some (file, records_at index f))
 unfolding seen_with
-seen_entry s file index f at order code after =
+seen_entry s file index f place order code after =
     let b = part_needs_linking s.part in
     let e = entry_at f.order f.file index in
     let k = is_ok (code_of f.file e) in
@@ -60,7 +60,7 @@ seen_entry s file index f at order code after =
       part = s.part;
       file = o;
       records = records_in s;
-    }) at
+    }) place
     ∙ ap (λ (l : List Record). record {
       slot = s.slot;
       name = s.name;

@@ -1,7 +1,19 @@
 -- The paths of files, by their numbers.
-use Rattle.std.proofs.Common.{◌≡◌, ◌∷◌, ◌-◌, ◌<◌, ◌≤◌, [], zero, suc, ℕ, List, Bor, length, refl, ap, arith}
+use Rattle.std.proofs.Common.{◌≡◌, ◌∙◌, ◌∷◌, ◌-◌, ◌<◌, ◌≤◌, [], zero, suc, ℕ, List, Bor, Some, length, refl, sym, ap, arith}
+use Rattle.std.specs.Prelude.{Option, unwrap_or}
+use Rattle.std.specs.List.{slice_get}
+use Rattle.std.specs.Option.{option_map}
+use Rattle.std.proofs.lemmas.Option.{slice_get-map}
 use Rattle.ps_resolve.specs.Sources.{contents}
 use Rattle.ps_warnings.specs.Paths.{path_of}
+
+pub path_read : (paths : List (Bor (List ℕ))) (k : ℕ) (path : Bor (List ℕ))
+    → slice_get paths k ≡ Some path → path.now ≡ path_of (contents paths) k
+path_read paths k path found =
+    let read : slice_get (contents paths) k ≡ Some path.now =
+    slice_get-map (λ (b : Bor (List ℕ)). b.now) paths k
+    ∙ ap (option_map (λ (b : Bor (List ℕ)). b.now)) found in
+    sym (ap (λ (o : Option (List ℕ)). unwrap_or o []) read)
 
 pub path_past : (paths : List (Bor (List ℕ))) (k : ℕ) → length paths ≤ k
     → path_of (contents paths) k ≡ []

@@ -26,7 +26,7 @@ use Rattle.ps_codefile.specs.declared.dictionary_layout.TheConstants.{SLOTS}
 module _ (path : List ℕ) (host : Option (List Record)) (list : List Seen) (order : Order)
     (bytes : List ℕ) (file slot : ℕ) where
   -- by whether the slot is filled, and whether the file is the host
-  by_slot : Bool → Bool → List LookAt
+  abbrev by_slot : Bool → Bool → List LookAt
   by_slot filled first = let e = entry_at order bytes slot in
       if filled then looks_of_entry path host order bytes e
       else (if first then found_at path None None

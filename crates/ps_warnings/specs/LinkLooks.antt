@@ -47,5 +47,5 @@ is_near_unit name s = is_unit s.part && is_near s.name name
 -- the first of the segments before a unit that is a unit of nearly its name
 abbrev pub other_spelling : List Seen → Seen → Option Look
 other_spelling earlier s = if is_unit s.part
-    then option_map (λ o. which.Link (look.OtherSpelling o.name)) (find (is_near_unit s.name) earlier)
-    else None
+    then option_map (λ o. which.Link (look.OtherSpelling o.name))
+    (find (is_near_unit s.name) earlier) else None

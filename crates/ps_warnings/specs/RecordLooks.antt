@@ -17,7 +17,8 @@ use Rattle.ps_warnings.specs.declared.warnings.RecordLook.TheVariants as look
 
 -- the end mark of a host program is below half the size of its own data, in bytes
 abbrev pub low_below : ℕ → ℕ → Option Look
-low_below next size = if nat_lt next (size / 2) then Some (which.Record (look.LowMark next size)) else None
+low_below next size = if nat_lt next (size / 2) then Some (which.Record (look.LowMark next size))
+    else None
 
 -- so it is of a host program with these records, if it has any and its data have a size
 abbrev pub low_mark : List Record → Option ℕ → Option Look

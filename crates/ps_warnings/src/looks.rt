@@ -5,7 +5,7 @@ ghost use Rattle.std.specs.Option.{option_map};
 ghost use Rattle.ps_resolve.specs.Sources.{contents};
 ghost use Rattle.ps_warnings.specs.AllLooks.{all_looks, link_looks_of, looks_of_file, looks_of_files};
 ghost use Rattle.ps_warnings.specs.Found.{Adds, found_at, found_in_record, link_looks, look_at, sorted};
-ghost use Rattle.ps_warnings.specs.Paths.{host_order};
+ghost use Rattle.ps_warnings.specs.Paths.{host_order, paths_in};
 ghost use Rattle.ps_warnings.specs.Seen.{host_records, seen};
 
 mod codes;
@@ -15,7 +15,6 @@ mod extents;
 mod files;
 mod links;
 pub(crate) mod names;
-mod notes;
 mod records;
 
 use crate::inputs::Inputs;
@@ -23,6 +22,7 @@ use crate::segments::{ReadSegment, host_of, in_slot};
 use crate::warnings::{Look, OtherLook, Warning, WarningAt};
 use crate::weight::Weight;
 use ps_linkinfo::LinkInformation;
+use ps_pcode::Guess;
 use ps_resolve::EntryAt;
 use ps_words::{Fault, Reason};
 use std::alloc::{AllocError, Allocator};
@@ -180,6 +180,24 @@ impl<'a, A: Allocator> Looks<'a, A> {
         }
     }
 
+    /// Notes a guess about a record of a segment, if there is one.
+    fn note_of_record(
+        &mut self,
+        place: WarningAt<'a>,
+        found: Option<(usize, Guess)>,
+    ) -> Result<(), AllocError>
+        ensures { OnOk result (Adds (link_looks self.old.warnings.items self.old.harmless.items)
+            [] (link_looks self.new.warnings.items self.new.harmless.items)) }
+    {
+        match found {
+            None => Ok(()),
+            Some((rec, guess)) => {
+                let rec = Some(rec);
+                self.add_other(WarningAt { rec, ..place }, Some(OtherLook::Guess(guess)))
+            }
+        }
+    }
+
     /// Adds each of these that looks wrong, in their order.
     fn add_others(
         &mut self,
@@ -220,7 +238,7 @@ pub fn looks_of<'a, A: Allocator + Copy>(
     fault: Option<Fault>,
 ) -> Result<Looks<'a, A>, AllocError>
     ensures { IfOk result (λ looks. link_looks looks.warnings.items looks.harmless.items
-        ≡ sorted (link_looks_of (inputs.now.host_path.now ∷ contents inputs.now.paths.now)
+        ≡ sorted (link_looks_of (paths_in inputs.now)
         inputs.now.host.now (contents inputs.now.libs.now) (map seen list.now))) }
 {
     let mut looks = Looks {
@@ -252,7 +270,7 @@ fn add_looks<'a, A: Allocator>(
     fault: Option<Fault>,
 ) -> Result<(), AllocError>
     ensures { OnOk result (Adds (link_looks looks.old.warnings.items looks.old.harmless.items)
-        (all_looks (inputs.now.host_path.now ∷ contents inputs.now.paths.now)
+        (all_looks (paths_in inputs.now)
         (option_map (λ h. h.now) host.entry) inputs.now.host.now (contents inputs.now.libs.now)
         (map seen list.now))
         (link_looks looks.new.warnings.items looks.new.harmless.items)) }
@@ -275,8 +293,7 @@ fn add_of_files<'a, A: Allocator>(
     context: &Context<'_, 'a>,
 ) -> Result<(), AllocError>
     ensures { OnOk result (Adds (link_looks looks.old.warnings.items looks.old.harmless.items)
-        (looks_of_files (context.now.inputs.now.host_path.now
-        ∷ contents context.now.inputs.now.paths.now)
+        (looks_of_files (paths_in context.now.inputs.now)
         (option_map (λ h. h.now) context.now.host) (map seen context.now.list.now)
         (host_order context.now.inputs.now.host.now)
         (context.now.inputs.now.host.now ∷ contents context.now.inputs.now.libs.now))
@@ -292,8 +309,7 @@ fn add_of_libraries<'a, A: Allocator>(
     context: &Context<'_, 'a>,
 ) -> Result<(), AllocError>
     ensures { OnOk result (Adds (link_looks looks.old.warnings.items looks.old.harmless.items)
-        (flat_map (looks_of_file (context.now.inputs.now.host_path.now
-        ∷ contents context.now.inputs.now.paths.now)
+        (flat_map (looks_of_file (paths_in context.now.inputs.now)
         (option_map (λ h. h.now) context.now.host) (map seen context.now.list.now)
         (host_order context.now.inputs.now.host.now))
         (enumerate_from 1 (contents context.now.inputs.now.libs.now)))

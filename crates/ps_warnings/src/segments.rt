@@ -43,26 +43,17 @@ impl SegmentPart {
     fn needs_linking(self) -> bool
         ensures { result ≡ part_needs_linking self }
     {
-        match self {
-            SegmentPart::Plain => false,
-            SegmentPart::Host
-            | SegmentPart::Unit
-            | SegmentPart::Wanted
-            | SegmentPart::Added { .. } => true,
-        }
+        matches!(
+            self,
+            SegmentPart::Host | SegmentPart::Unit | SegmentPart::Wanted | SegmentPart::Added { .. }
+        )
     }
 
     /// It is the host program.
     fn is_host(self) -> bool
         ensures { result ≡ is_host_part self }
     {
-        match self {
-            SegmentPart::Host => true,
-            SegmentPart::Plain
-            | SegmentPart::Unit
-            | SegmentPart::Wanted
-            | SegmentPart::Added { .. } => false,
-        }
+        matches!(self, SegmentPart::Host)
     }
 
     /// It is a unit.
@@ -70,10 +61,10 @@ impl SegmentPart {
     pub fn is_unit(self) -> bool
         ensures { result ≡ is_unit_spec self }
     {
-        match self {
-            SegmentPart::Unit | SegmentPart::Wanted | SegmentPart::Added { .. } => true,
-            SegmentPart::Plain | SegmentPart::Host => false,
-        }
+        matches!(
+            self,
+            SegmentPart::Unit | SegmentPart::Wanted | SegmentPart::Added { .. }
+        )
     }
 
     /// It is a unit that a record requests.
@@ -81,11 +72,7 @@ impl SegmentPart {
     pub fn is_added(self) -> bool
         ensures { result ≡ is_added_spec self }
     {
-        match self {
-            SegmentPart::Added { .. } => true,
-            SegmentPart::Plain | SegmentPart::Host | SegmentPart::Unit | SegmentPart::Wanted =>
-                false,
-        }
+        matches!(self, SegmentPart::Added { .. })
     }
 }
 
@@ -262,10 +249,7 @@ fn is_for_unit(host: &HostReading<'_>, slot: u8) -> bool
     requires { slot < SLOTS }
     ensures { result ≡ is_for_unit_spec (role_in host.now slot) }
 {
-    match host.role(slot) {
-        Ok(Role::Unit | Role::Wanted) => true,
-        Ok(Role::Empty | Role::Plain | Role::Host) | Err(_) => false,
-    }
+    matches!(host.role(slot), Ok(Role::Unit | Role::Wanted))
 }
 
 /// It is a unit of this name.
@@ -352,10 +336,7 @@ fn takes_slot(host: &HostReading<'_>, slot: u8) -> bool
 fn is_by_record(requester: Requester) -> bool
     ensures { result ≡ is_by_record_spec requester }
 {
-    match requester {
-        Requester::Slot => false,
-        Requester::Record(_) => true,
-    }
+    matches!(requester, Requester::Record(_))
 }
 
 /// A slot has a segment that was read, also where it is refused.

@@ -1,6 +1,7 @@
-//! What looks wrong in files and is no fault: the one home of these sentences.
-//! `man/make_fault_table.py` makes the tables of warnings and of notes in USING.md from the enums
-//! here: what each means and what to do about it is above it, and its weight is in `weight`.
+//! What looks wrong in files and is no fault: the one home of these sentences, but for those of codes,
+//! which `ps_pcode` has. `man/make_fault_table.py` makes the tables of warnings and of notes in
+//! USING.md from the enums of both: what each means and what to do about it is above it, and its weight
+//! is in `weight` here.
 ghost use Rattle.std.specs.Prelude.{◌≡◌};
 ghost use Rattle.ps_warnings.specs.Weights.{IsWeight, record_weight};
 

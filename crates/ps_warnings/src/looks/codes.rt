@@ -2,28 +2,29 @@
 ghost use Rattle.std.specs.Prelude.{◌<◌, [], OnOk};
 ghost use Rattle.ps_warnings.specs.Found.{Adds, link_looks};
 
-use super::{Context, Looks};
+use super::Looks;
 use crate::warnings::{OtherLook, WarningAt};
-use ps_codefile::Dict;
 use ps_codefile::dictionary_layout::SLOTS;
 use ps_codefile::kinds::LINKED;
+use ps_codefile::{Dict, Entry};
 use ps_filetype::only_byte;
 use ps_linkinfo::LinkInformation;
 use ps_pcode::{
     CodeLook, ProcedureLook, is_without_procedures, number_look, procedures_look, stripped_look,
     table_look, unread_look,
 };
+use ps_words::Order;
 use std::alloc::{AllocError, Allocator};
 
-/// Looks at the code of a segment in a slot of a file.
+/// Looks at the code of the segment of an entry of a file; a fault tells of what was not read, or not.
 pub(super) fn look_at<'a, A: Allocator>(
     looks: &mut Looks<'a, A>,
-    context: &Context<'_, '_>,
     place: WarningAt<'a>,
-    file: usize,
     dict: &Dict<'_>,
+    entry: &Entry,
     slot: u8,
     code: &[u8],
+    is_told: bool,
 ) -> Result<(), AllocError>
     requires { slot < SLOTS }
     ensures { OnOk result (Adds (link_looks looks.old.warnings.items looks.old.harmless.items)
@@ -33,29 +34,33 @@ pub(super) fn look_at<'a, A: Allocator>(
         let look = OtherLook::Code(CodeLook::OneByte { byte });
         return looks.add_other(place, (!is_without_procedures(code)).then_some(look));
     }
-    let is_told = context.is_refused(file, slot);
-    let unread = if is_told {
-        None
-    } else {
-        unread_look(dict, slot, code)
-    };
+    let (order, kind) = (dict.order(), entry.kind);
     let found = [
-        unread.map(OtherLook::Code),
+        untold_look(order, kind, code, is_told),
         stripped_look(code).map(OtherLook::Code),
-        number_look(dict, slot, code).map(OtherLook::Code),
-        procedures_look(dict, slot, code).map(OtherLook::Procedure),
-        records_look(dict, slot),
-        table_look(dict.order(), code).map(OtherLook::Procedure),
+        number_look(dict, slot, kind, code).map(OtherLook::Code),
+        procedures_look(order, kind, slot, code).map(OtherLook::Procedure),
+        records_look(dict, slot, kind),
+        table_look(order, code).map(OtherLook::Procedure),
     ];
     looks.add_others(place, &found)
 }
 
+/// A part of the code that was not read, where no fault tells of it.
+fn untold_look(order: Order, kind: u16, code: &[u8], is_told: bool) -> Option<OtherLook> {
+    if is_told {
+        None
+    } else {
+        unread_look(order, kind, code).map(OtherLook::Code)
+    }
+}
+
 /// A record after the code of a segment that is linked: one that is no end mark and has a name that
 /// ASCII prints, which does not begin with a blank.
-fn records_look(dict: &Dict<'_>, slot: u8) -> Option<OtherLook>
+fn records_look(dict: &Dict<'_>, slot: u8, kind: u16) -> Option<OtherLook>
     requires { slot < SLOTS }
 {
-    if dict.entry(slot).kind != LINKED {
+    if kind != LINKED {
         return None;
     }
     let first = LinkInformation::up_to_fault(dict.order(), dict.after(slot))

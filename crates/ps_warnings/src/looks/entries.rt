@@ -7,11 +7,11 @@ ghost use Rattle.ps_resolve.specs.Sources.{contents};
 ghost use Rattle.ps_warnings.specs.EntryLooks.{empty_look as empty_look_spec, empty_slot as empty_slot_spec, half_entry as half_entry_spec, has_name_or_kind as has_name_or_kind_spec};
 ghost use Rattle.ps_warnings.specs.FileLooks.{looks_of_entry, looks_of_segment, looks_of_slot};
 ghost use Rattle.ps_warnings.specs.Found.{Adds, link_looks};
-ghost use Rattle.ps_warnings.specs.Paths.{path_of};
+ghost use Rattle.ps_warnings.specs.Paths.{path_of, paths_in};
 ghost use Rattle.ps_warnings.specs.Seen.{has_slot as has_slot_spec, seen};
 
 use super::names::oddity_of;
-use super::{Context, Looks, codes, in_file, notes, records};
+use super::{Context, Looks, codes, in_file, records};
 use crate::segments::ReadSegment;
 use crate::warnings::{DictionaryLook, EntryLook, Look, OtherLook, SegmentLook, WarningAt};
 use ps_codefile::code_layout::NUMBERS;
@@ -47,8 +47,7 @@ pub(super) fn look_at<'a, A: Allocator>(
     shown: &FileCode,
 ) -> Result<(), AllocError>
     ensures { OnOk result (Adds (link_looks looks.old.warnings.items looks.old.harmless.items)
-        (flat_map (looks_of_slot (path_of (context.now.inputs.now.host_path.now
-        ∷ contents context.now.inputs.now.paths.now) file)
+        (flat_map (looks_of_slot (path_of (paths_in context.now.inputs.now) file)
         (option_map (λ h. h.now) context.now.host)
         (map seen context.now.list.now) dict.now.order dict.now.file file) slots)
         (link_looks looks.new.warnings.items looks.new.harmless.items)) }
@@ -73,8 +72,7 @@ fn look_at_slot<'a, A: Allocator>(
 ) -> Result<(), AllocError>
     requires { slot < SLOTS }
     ensures { OnOk result (Adds (link_looks looks.old.warnings.items looks.old.harmless.items)
-        (looks_of_slot (path_of (context.now.inputs.now.host_path.now
-        ∷ contents context.now.inputs.now.paths.now) file)
+        (looks_of_slot (path_of (paths_in context.now.inputs.now) file)
         (option_map (λ h. h.now) context.now.host)
         (map seen context.now.list.now) dict.now.order dict.now.file file slot)
         (link_looks looks.new.warnings.items looks.new.harmless.items)) }
@@ -107,18 +105,13 @@ fn look_at_entry<'a, A: Allocator>(
 ) -> Result<(), AllocError>
     requires { slot < SLOTS }
     ensures { OnOk result (Adds (link_looks looks.old.warnings.items looks.old.harmless.items)
-        (looks_of_entry (path_of (context.now.inputs.now.host_path.now
-        ∷ contents context.now.inputs.now.paths.now) file)
+        (looks_of_entry (path_of (paths_in context.now.inputs.now) file)
         (option_map (λ h. h.now) context.now.host) dict.now.order dict.now.file
         (entry_at dict.now.order dict.now.file slot))
         (link_looks looks.new.warnings.items looks.new.harmless.items)) }
 {
     let entry = dict.entry(slot);
-    let found = [
-        nameless_look(&entry, slot),
-        intrinsic_look(context, file, &entry, slot),
-        machine_look(dict, slot),
-    ];
+    let found = dictionary_looks(context, file, dict, &entry, slot);
     looks.add_others(in_file(context.inputs.path(file)), &found)?;
     if is_intrinsic(&entry) {
         return Ok(());
@@ -149,8 +142,7 @@ fn look_at_segment<'a, A: Allocator>(
 ) -> Result<(), AllocError>
     requires { slot < SLOTS }
     ensures { OnOk result (Adds (link_looks looks.old.warnings.items looks.old.harmless.items)
-        (looks_of_entry (path_of (context.now.inputs.now.host_path.now
-        ∷ contents context.now.inputs.now.paths.now) file)
+        (looks_of_entry (path_of (paths_in context.now.inputs.now) file)
         (option_map (λ h. h.now) context.now.host) dict.now.order dict.now.file
         (entry_at dict.now.order dict.now.file slot))
         (link_looks looks.new.warnings.items looks.new.harmless.items)) }
@@ -161,8 +153,9 @@ fn look_at_segment<'a, A: Allocator>(
         segment: Some(dict.entry(slot).name),
         rec: None,
     };
-    looks.add_other(place, refused_look(context, file, dict, slot))?;
-    match dict.code(slot) {
+    let code = dict.code(slot);
+    looks.add_other(place, refused_look(context, file, dict, slot, code))?;
+    match code {
         Ok(code) => look_at_code(looks, context, file, path, dict, shown, slot, code),
         Err(_) => Ok(()),
     }
@@ -192,8 +185,9 @@ fn look_at_code<'a, A: Allocator>(
         segment: Some(entry.name),
         rec: None,
     };
-    codes::look_at(looks, context, place, file, dict, slot, code)?;
-    looks.add_other(place, notes::misfit(shown, slot))?;
+    let is_told = context.is_refused(file, slot);
+    codes::look_at(looks, place, dict, &entry, slot, code, is_told)?;
+    looks.add_other(place, shown.misfit(slot).map(OtherLook::Guess))?;
     if needs_linking(&entry) {
         return records::look_at(looks, context, path, shown, dict, slot, code);
     }
@@ -213,24 +207,24 @@ fn refused_look(
     file: usize,
     dict: &Dict<'_>,
     slot: u8,
+    code: Result<&[u8], Reason>,
 ) -> Option<OtherLook>
     requires { slot < SLOTS }
 {
     if context.is_refused(file, slot) {
         return None;
     }
-    let (reason, rec) = refusal_of(dict, slot)?;
+    let (reason, rec) = match code {
+        Ok(code) => refusal_of(dict, slot, code)?,
+        Err(reason) => (reason, None),
+    };
     Some(OtherLook::Segment(SegmentLook::Refused { reason, rec }))
 }
 
-/// Why a link that takes the segment is refused, and at which record.
-fn refusal_of(dict: &Dict<'_>, slot: u8) -> Option<(Reason, Option<usize>)>
+/// Why a link that takes the segment of this code is refused, and at which record.
+fn refusal_of(dict: &Dict<'_>, slot: u8, code: &[u8]) -> Option<(Reason, Option<usize>)>
     requires { slot < SLOTS }
 {
-    let code = match dict.code(slot) {
-        Ok(code) => code,
-        Err(reason) => return Some((reason, None)),
-    };
     let entry = dict.entry(slot);
     if !needs_linking(&entry) || code.len() < NUMBERS {
         return None;
@@ -244,24 +238,47 @@ fn refusal_of(dict: &Dict<'_>, slot: u8) -> Option<(Reason, Option<usize>)>
     }
 }
 
-/// A filled slot without a name. Others have one: a file in which no slot has a name is no code
-/// file, and its entries are not looked at.
-fn nameless_look(entry: &Entry, slot: u8) -> Option<OtherLook> {
-    let look = OtherLook::Dictionary(DictionaryLook::NoName { slot });
-    is_nameless(&entry.name).then_some(look)
-}
-
-/// An entry of a library that Apple Pascal has, where no fault tells of it.
-fn intrinsic_look(
+/// What looks wrong in the dictionary's words of an entry that is filled: that it has no name, where
+/// others have one; that Apple Pascal has it in a library, where no fault tells of it; and its machine
+/// type. A file in which no slot has a name is no code file, and its entries are not looked at.
+fn dictionary_looks(
     context: &Context<'_, '_>,
     file: usize,
+    dict: &Dict<'_>,
     entry: &Entry,
     slot: u8,
-) -> Option<OtherLook> {
-    let is_told = file == 0 || context.is_refused(file, slot);
+) -> [Option<OtherLook>; 3] {
     let kind = entry.kind;
-    let look = OtherLook::Dictionary(DictionaryLook::IntrinsicKind { slot, kind });
-    (!is_told && is_intrinsic(entry)).then_some(look)
+    let is_told = file == 0 || context.is_refused(file, slot);
+    let nameless = OtherLook::Dictionary(DictionaryLook::NoName { slot });
+    let intrinsic = OtherLook::Dictionary(DictionaryLook::IntrinsicKind { slot, kind });
+    [
+        is_nameless(&entry.name).then_some(nameless),
+        (!is_told && is_intrinsic(entry)).then_some(intrinsic),
+        machine_look(dict, entry, slot),
+    ]
+}
+
+/// A machine type that is not P-code's, of the host program or of a unit.
+fn machine_look(dict: &Dict<'_>, entry: &Entry, slot: u8) -> Option<OtherLook> {
+    if !needs_linking(entry) {
+        return None;
+    }
+    let Info {
+        machine,
+        version,
+        ..
+    } = Info::of(dict, slot)?;
+    let p_code = match dict.order() {
+        Order::Little => 2,
+        Order::Big => 1,
+    };
+    let look = DictionaryLook::MachineType {
+        slot,
+        machine,
+        version,
+    };
+    (machine != 0 && machine != p_code).then_some(OtherLook::Dictionary(look))
 }
 
 /// The entry is of Apple Pascal: an intrinsic unit, or its data. No link reads its records.
@@ -301,27 +318,6 @@ fn full_tail(dict: &Dict<'_>) -> Option<OtherLook> {
     }
     let is_full = FULL <= bytes || MANY_OTHERS <= others;
     is_full.then_some(OtherLook::Dictionary(DictionaryLook::FullTail { bytes }))
-}
-
-/// A machine type that is not P-code's, of the host program or of a unit.
-fn machine_look(dict: &Dict<'_>, slot: u8) -> Option<OtherLook>
-    requires { slot < SLOTS }
-{
-    if !needs_linking(&dict.entry(slot)) {
-        return None;
-    }
-    let info = Info::of(dict, slot)?;
-    let (machine, version) = (info.machine, info.version);
-    let p_code = match dict.order() {
-        Order::Little => 2,
-        Order::Big => 1,
-    };
-    let look = OtherLook::Dictionary(DictionaryLook::MachineType {
-        slot,
-        machine,
-        version,
-    });
-    (machine != 0 && machine != p_code).then_some(look)
 }
 
 /// The entry has a name or a kind, whether it has code or not.

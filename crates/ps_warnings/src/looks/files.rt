@@ -5,7 +5,7 @@ ghost use Rattle.ps_resolve.specs.Sources.{contents};
 ghost use Rattle.ps_warnings.specs.AllLooks.{looks_of_file};
 ghost use Rattle.ps_warnings.specs.FileLooks.{looks_of_code_file, looks_of_entries};
 ghost use Rattle.ps_warnings.specs.Found.{Adds, link_looks};
-ghost use Rattle.ps_warnings.specs.Paths.{host_order, path_of};
+ghost use Rattle.ps_warnings.specs.Paths.{host_order, path_of, paths_in};
 ghost use Rattle.ps_warnings.specs.Seen.{seen};
 
 use super::doubled::doubled_block;
@@ -32,8 +32,7 @@ pub(super) fn look_at<'a, A: Allocator>(
     bytes: &'a [u8],
 ) -> Result<(), AllocError>
     ensures { OnOk result (Adds (link_looks looks.old.warnings.items looks.old.harmless.items)
-        (looks_of_file (context.now.inputs.now.host_path.now
-        ∷ contents context.now.inputs.now.paths.now) (option_map (λ h. h.now) context.now.host)
+        (looks_of_file (paths_in context.now.inputs.now) (option_map (λ h. h.now) context.now.host)
         (map seen context.now.list.now) (host_order context.now.inputs.now.host.now)
         (file, bytes.now))
         (link_looks looks.new.warnings.items looks.new.harmless.items)) }
@@ -62,8 +61,7 @@ fn look_at_code_file<'a, A: Allocator>(
     bytes: &'a [u8],
 ) -> Result<(), AllocError>
     ensures { OnOk result (Adds (link_looks looks.old.warnings.items looks.old.harmless.items)
-        (looks_of_code_file (path_of (context.now.inputs.now.host_path.now
-        ∷ contents context.now.inputs.now.paths.now) file)
+        (looks_of_code_file (path_of (paths_in context.now.inputs.now) file)
         (option_map (λ h. h.now) context.now.host)
         (map seen context.now.list.now)
         (host_order context.now.inputs.now.host.now) bytes.now file)
@@ -86,8 +84,7 @@ fn look_at_dictionary<'a, A: Allocator>(
     dict: &Dict<'a>,
 ) -> Result<(), AllocError>
     ensures { OnOk result (Adds (link_looks looks.old.warnings.items looks.old.harmless.items)
-        (looks_of_entries (path_of (context.now.inputs.now.host_path.now
-        ∷ contents context.now.inputs.now.paths.now) file)
+        (looks_of_entries (path_of (paths_in context.now.inputs.now) file)
         (option_map (λ h. h.now) context.now.host)
         (map seen context.now.list.now)
         dict.now.order dict.now.file file)

@@ -4,6 +4,7 @@ ghost use Rattle.ps_codefile.specs.Dictionary.{entry_at};
 ghost use Rattle.ps_resolve.specs.Sources.{contents};
 ghost use Rattle.ps_warnings.specs.AllLooks.{looks_of_unit, looks_of_units, looks_of_link};
 ghost use Rattle.ps_warnings.specs.Found.{Adds, link_looks};
+ghost use Rattle.ps_warnings.specs.Paths.{paths_in};
 ghost use Rattle.ps_warnings.specs.LinkLooks.{is_near_unit as is_near_unit_spec, other_spelling as other_spelling_spec, taken_by as taken_by_spec, taken_slot as taken_slot_spec};
 ghost use Rattle.ps_warnings.specs.Seen.{seen};
 
@@ -23,8 +24,7 @@ pub(super) fn look_at<'a, A: Allocator>(
     context: &Context<'_, 'a>,
 ) -> Result<(), AllocError>
     ensures { OnOk result (Adds (link_looks looks.old.warnings.items looks.old.harmless.items)
-        (looks_of_link (context.now.inputs.now.host_path.now
-        ∷ contents context.now.inputs.now.paths.now)
+        (looks_of_link (paths_in context.now.inputs.now)
         context.now.inputs.now.host.now (map seen context.now.list.now))
         (link_looks looks.new.warnings.items looks.new.harmless.items)) }
 {
@@ -41,8 +41,7 @@ fn look_at_units<'a, A: Allocator>(
     host: &Dict<'a>,
 ) -> Result<(), AllocError>
     ensures { OnOk result (Adds (link_looks looks.old.warnings.items looks.old.harmless.items)
-        (looks_of_units (context.now.inputs.now.host_path.now
-        ∷ contents context.now.inputs.now.paths.now)
+        (looks_of_units (paths_in context.now.inputs.now)
         host.now.order host.now.file (map seen context.now.list.now))
         (link_looks looks.new.warnings.items looks.new.harmless.items)) }
 {
@@ -62,8 +61,7 @@ fn look_at_unit<'a, A: Allocator>(
 ) -> Result<(), AllocError>
     requires { index ≤ length context.now.list.now }
     ensures { OnOk result (Adds (link_looks looks.old.warnings.items looks.old.harmless.items)
-        (looks_of_unit (context.now.inputs.now.host_path.now
-        ∷ contents context.now.inputs.now.paths.now)
+        (looks_of_unit (paths_in context.now.inputs.now)
         host.now.order host.now.file (map seen context.now.list.now) (index, seen segment.now))
         (link_looks looks.new.warnings.items looks.new.harmless.items)) }
 {

@@ -11,14 +11,14 @@ ghost use Rattle.ps_warnings.specs.Found.{Adds, link_looks};
 ghost use Rattle.ps_warnings.specs.RecordLooks.{definition_as as definition_as_spec, definition_of as definition_of_spec, first_definition as first_definition_spec, first_high, first_past, high_as as high_as_spec, high_value as high_value_spec, is_defined as is_defined_spec, is_requested as is_requested_spec, low_below as low_below_spec, low_mark as low_mark_spec, past_as as past_as_spec, past_words as past_words_spec};
 
 use super::names::oddity_of;
-use super::{Context, Looks, notes};
+use super::{Context, Looks};
 use crate::warnings::{Look, OtherLook, RecordLook, SegmentLook, WarningAt};
 use ps_codefile::code_layout::NUMBERS;
 use ps_codefile::dictionary_layout::SLOTS;
 use ps_codefile::kinds::HOSTSEG;
 use ps_codefile::{Dict, Entry, ProcedureDictionary};
 use ps_linkinfo::{Body, LinkInformation, LinkRecord, Refs, Sort};
-use ps_pcode::FileCode;
+use ps_pcode::{FileCode, OperandGuesses};
 use ps_words::{Name, Order, get_big};
 use std::alloc::{AllocError, Allocator};
 
@@ -51,7 +51,10 @@ pub(super) fn look_at<'a, A: Allocator>(
     };
     looks.add_other_of_record(place, first_odd_name(&records, context.are_small))?;
     looks.add_of_record(place, first_past_private(&records, code))?;
-    notes::of_records(looks, place, shown, dict, slot, &records, code)?;
+    let guesses = OperandGuesses::of(shown, slot, entry.kind, &records, code);
+    looks.note_of_record(place, guesses.clear)?;
+    looks.note_of_record(place, guesses.odd)?;
+    looks.add_other(place, guesses.lost.map(OtherLook::Guess))?;
     let size = data_size(order, code);
     look_at_definitions(looks, context, path, &entry, size, &records)
 }

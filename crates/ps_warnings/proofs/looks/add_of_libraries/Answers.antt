@@ -4,7 +4,7 @@ use Rattle.std.specs.Option.{option_map}
 use Rattle.ps_linkinfo.specs.declared.record.LinkRecord.{LinkRecord as Record}
 use Rattle.ps_resolve.specs.Sources.{contents}
 use Rattle.ps_warnings.specs.AllLooks.{looks_of_file}
-use Rattle.ps_warnings.specs.Paths.{host_order}
+use Rattle.ps_warnings.specs.Paths.{host_order, paths_in}
 use Rattle.ps_warnings.specs.Seen.{seen}
 use Rattle.ps_warnings.proofs.Found.{numbered_left, numbered_over, owes_all, owes_less, owes_none}
 use Rattle.ps_warnings.proofs.SeenLists.{contents_left, contents_over}
@@ -17,8 +17,7 @@ pub loop-library-preserved : goal.loop-library-preserved
 loop-library-preserved g c =
     let libs = c.args.context.now.inputs.now.libs.now in
     let i = c.loop-library.library in
-    owes_less (numbered_left (looks_of_file (c.args.context.now.inputs.now.host_path.now
-    ∷ contents c.args.context.now.inputs.now.paths.now)
+    owes_less (numbered_left (looks_of_file (paths_in c.args.context.now.inputs.now)
     (option_map (λ (h : Bor (List Record)). h.now) c.args.context.now.host)
     (map seen c.args.context.now.list.now)
     (host_order c.args.context.now.inputs.now.host.now)) (i + 1) (contents libs) i _
@@ -29,8 +28,7 @@ pub returns : goal.returns
 returns g c =
     let libs = c.args.context.now.inputs.now.libs.now in
     let i = c.loop-library.library in
-    owes_none (numbered_over (looks_of_file (c.args.context.now.inputs.now.host_path.now
-    ∷ contents c.args.context.now.inputs.now.paths.now)
+    owes_none (numbered_over (looks_of_file (paths_in c.args.context.now.inputs.now)
     (option_map (λ (h : Bor (List Record)). h.now) c.args.context.now.host)
     (map seen c.args.context.now.list.now)
     (host_order c.args.context.now.inputs.now.host.now)) (i + 1) (contents libs) i

@@ -4,7 +4,7 @@ use Rattle.std.specs.Option.{option_map}
 use Rattle.ps_resolve.specs.Sources.{contents}
 use Rattle.ps_warnings.specs.AllLooks.{looks_of_file}
 use Rattle.ps_warnings.specs.Found.{link_looks}
-use Rattle.ps_warnings.specs.Paths.{host_order}
+use Rattle.ps_warnings.specs.Paths.{host_order, paths_in}
 use Rattle.ps_warnings.specs.Seen.{seen}
 use Rattle.ps_warnings.proofs.Found.{Owes}
 use Rattle.ps_warnings.proofs.looks.add_of_libraries.Given as goal
@@ -12,8 +12,8 @@ use Rattle.ps_warnings.proofs.looks.add_of_libraries.Given as goal
 -- what looks wrong in the libraries that are left is still to be added
 abbrev pub invariant-loop-library : goal.invariant-loop-library
 invariant-loop-library g l =
-    let of_file = looks_of_file (l.context.inputs.now.host_path.now
-    ∷ contents l.context.inputs.now.paths.now) (option_map (λ h. h.now) l.context.host)
+    let of_file = looks_of_file (paths_in l.context.inputs.now) (option_map
+    (λ h. h.now) l.context.host)
     (map seen l.context.list.now) (host_order l.context.inputs.now.host.now) in
     let libs = contents l.context.inputs.now.libs.now in
     Owes (link_looks l.fn.looks.warnings.items l.fn.looks.harmless.items)

@@ -6,15 +6,15 @@ use Rattle.ps_warnings.proofs.segments.of_entry.Goals as goal
 
 pub returns : goal.returns
 returns c =
-    let at = c.args.at in
+    let place = c.args.at in
     let s : ReadSegment = record {
       slot = Some c.args.slot;
       name = c.args.name;
       part = c.args.part;
-      source = Some (at, c.entry.result);
+      source = Some (place, c.entry.result);
       order = c.order.result;
       code = c.code.result;
       after = c.after.result;
     } in
-    seen_entry s at.file at.index c.args.dict.now refl c.order.ensures
+    seen_entry s place.file place.index c.args.dict.now refl c.order.ensures
     (ok_is c.code.result _ c.code.ensures) c.after.ensures

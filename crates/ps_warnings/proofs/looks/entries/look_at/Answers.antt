@@ -2,7 +2,7 @@ use Rattle.std.proofs.Common.{◌∷◌, map, refl}
 use Rattle.std.specs.Option.{option_map}
 use Rattle.ps_resolve.specs.Sources.{contents}
 use Rattle.ps_warnings.specs.FileLooks.{looks_of_slot}
-use Rattle.ps_warnings.specs.Paths.{path_of}
+use Rattle.ps_warnings.specs.Paths.{path_of, paths_in}
 use Rattle.ps_warnings.specs.Seen.{seen}
 use Rattle.ps_warnings.proofs.Found.{none_then, owes_after, owes_all, owes_less, owes_none, slots_left, slots_over}
 use Rattle.ps_codefile.specs.declared.dictionary_layout.TheConstants.{SLOTS}
@@ -13,8 +13,8 @@ loop-slot-init g c = owes_after c.in_ok-add_other.ensures (owes_all refl)
 
 pub loop-slot-preserved : goal.loop-slot-preserved
 loop-slot-preserved g c =
-    owes_less (slots_left (looks_of_slot (path_of (c.args.context.now.inputs.now.host_path.now
-    ∷ contents c.args.context.now.inputs.now.paths.now) c.args.file)
+    owes_less (slots_left (looks_of_slot (path_of
+    (paths_in c.args.context.now.inputs.now) c.args.file)
     (option_map (λ h. h.now) c.args.context.now.host) (map seen c.args.context.now.list.now)
     c.args.dict.now.order c.args.dict.now.file c.args.file) c.loop-slot.slot SLOTS
     c.loop-slot-test.true)
@@ -22,8 +22,8 @@ loop-slot-preserved g c =
 
 pub returns : goal.returns
 returns g c =
-    owes_none (slots_over (looks_of_slot (path_of (c.args.context.now.inputs.now.host_path.now
-    ∷ contents c.args.context.now.inputs.now.paths.now) c.args.file)
+    owes_none (slots_over (looks_of_slot (path_of
+    (paths_in c.args.context.now.inputs.now) c.args.file)
     (option_map (λ h. h.now) c.args.context.now.host) (map seen c.args.context.now.list.now)
     c.args.dict.now.order c.args.dict.now.file c.args.file) c.loop-slot.slot SLOTS
     c.loop-slot-test.false)

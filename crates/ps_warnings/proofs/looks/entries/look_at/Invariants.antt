@@ -5,7 +5,7 @@ use Rattle.ps_codefile.specs.Dictionary.{slots}
 use Rattle.ps_resolve.specs.Sources.{contents}
 use Rattle.ps_warnings.specs.FileLooks.{looks_of_slot}
 use Rattle.ps_warnings.specs.Found.{link_looks}
-use Rattle.ps_warnings.specs.Paths.{path_of}
+use Rattle.ps_warnings.specs.Paths.{path_of, paths_in}
 use Rattle.ps_warnings.specs.Seen.{seen}
 use Rattle.ps_warnings.proofs.Found.{Owes}
 use Rattle.ps_codefile.specs.declared.dictionary_layout.TheConstants.{SLOTS}
@@ -14,9 +14,8 @@ use Rattle.ps_warnings.proofs.looks.entries.look_at.Given as goal
 -- what looks wrong in the slots that are left is still to be added
 abbrev pub invariant-loop-slot : goal.invariant-loop-slot
 invariant-loop-slot g l =
-    let of_slot = looks_of_slot (path_of (l.context.inputs.now.host_path.now
-    ∷ contents l.context.inputs.now.paths.now) l.file) (option_map (λ h. h.now) l.context.host)
-    (map seen l.context.list.now) l.dict.order l.dict.file l.file in
+    let of_slot = looks_of_slot (path_of (paths_in l.context.inputs.now) l.file) (option_map
+    (λ h. h.now) l.context.host) (map seen l.context.list.now) l.dict.order l.dict.file l.file in
     Owes (link_looks l.fn.looks.warnings.items l.fn.looks.harmless.items) (flat_map of_slot slots)
     (flat_map of_slot (range_with_len l.slot (SLOTS - l.slot)))
     (link_looks l.looks.warnings.items l.looks.harmless.items)

@@ -3,7 +3,7 @@ use Rattle.std.proofs.lemmas.Result.{on_ok_weaker}
 use Rattle.std.specs.Option.{option_map}
 use Rattle.ps_linkinfo.specs.declared.record.LinkRecord.{LinkRecord as Record}
 use Rattle.ps_resolve.specs.Sources.{contents}
-use Rattle.ps_warnings.specs.Paths.{path_of}
+use Rattle.ps_warnings.specs.Paths.{path_of, paths_in}
 use Rattle.ps_codefile.specs.Dictionary.{code_of, entry_at, information_of}
 use Rattle.ps_warnings.proofs.Found.{adds_is, none_then}
 use Rattle.ps_warnings.proofs.Slots.{not_linked}
@@ -14,9 +14,8 @@ returns-then-is_intrinsic g c =
     let d = c.args.dict.now in
     let e = entry_at d.order d.file c.args.slot in
     let linked = rw c.entry-entry.ensures at (c.is_intrinsic.ensures c.if-is_intrinsic.true) in
-    let none = not_linked (path_of (c.args.context.now.inputs.now.host_path.now
-    ∷ contents c.args.context.now.inputs.now.paths.now) c.args.file) (option_map (λ (h : Bor
-    (List Record)). h.now) c.args.context.now.host)
+    let none = not_linked (path_of (paths_in c.args.context.now.inputs.now) c.args.file)
+    (option_map (λ (h : Bor (List Record)). h.now) c.args.context.now.host)
     d.order e (information_of d.file e) (code_of d.file e) linked in
     adds_is (sym none) c.in_ok-add_others.ensures
 

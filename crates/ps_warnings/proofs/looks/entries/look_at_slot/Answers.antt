@@ -7,7 +7,7 @@ use Rattle.ps_warnings.specs.Seen.{seen}
 use Rattle.std.proofs.lemmas.Bool.Decides.{nat_tests}
 use Rattle.ps_codefile.specs.Dictionary.{entry_at}
 use Rattle.ps_warnings.specs.Found.{link_looks}
-use Rattle.ps_warnings.specs.Paths.{path_of}
+use Rattle.ps_warnings.specs.Paths.{path_of, paths_in}
 use Rattle.ps_warnings.proofs.Found.{adds_is, adds_none}
 use Rattle.ps_warnings.proofs.Slots.{slot_beside, slot_empty, slot_filled}
 use Rattle.ps_warnings.proofs.looks.entries.look_at_slot.Goals as goal
@@ -15,8 +15,7 @@ use Rattle.ps_warnings.proofs.looks.entries.look_at_slot.Goals as goal
 pub returns-then-filled : goal.returns-then-filled
 returns-then-filled g c =
     let d = c.args.dict.now in
-    let paths = c.args.context.now.inputs.now.host_path.now
-    ∷ contents c.args.context.now.inputs.now.paths.now in
+    let paths = paths_in c.args.context.now.inputs.now in
     let host = option_map (λ (h : Bor (List Record)). h.now) c.args.context.now.host in
     let whole = slot_filled (path_of paths c.args.file) host
     (map seen c.args.context.now.list.now) d.order d.file
@@ -27,8 +26,7 @@ returns-then-filled g c =
 pub returns-then-file-ne0 : goal.returns-then-file-ne0
 returns-then-file-ne0 g c =
     let d = c.args.dict.now in
-    let paths = c.args.context.now.inputs.now.host_path.now
-    ∷ contents c.args.context.now.inputs.now.paths.now in
+    let paths = paths_in c.args.context.now.inputs.now in
     let other : (c.args.file == 0) ≡ false = grind (arith, nat_tests) in
     let none = slot_beside (path_of paths c.args.file) (option_map (λ (h : Bor
     (List Record)). h.now) c.args.context.now.host)
@@ -40,8 +38,7 @@ returns-then-file-ne0 g c =
 pub returns : goal.returns
 returns g c =
     let d = c.args.dict.now in
-    let paths = c.args.context.now.inputs.now.host_path.now
-    ∷ contents c.args.context.now.inputs.now.paths.now in
+    let paths = paths_in c.args.context.now.inputs.now in
     let host : (c.args.file == 0) ≡ true = grind (arith, nat_tests) in
     let empty = slot_empty (path_of paths c.args.file) (option_map (λ (h : Bor
     (List Record)). h.now) c.args.context.now.host)

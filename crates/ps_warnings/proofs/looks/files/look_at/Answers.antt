@@ -4,15 +4,14 @@ use Rattle.std.specs.Option.{option_map}
 use Rattle.ps_linkinfo.specs.declared.record.LinkRecord.{LinkRecord as Record}
 use Rattle.ps_resolve.specs.Sources.{contents}
 use Rattle.ps_warnings.specs.Seen.{seen}
-use Rattle.ps_warnings.specs.Paths.{host_order}
+use Rattle.ps_warnings.specs.Paths.{host_order, paths_in}
 use Rattle.ps_warnings.proofs.Found.{adds_is}
 use Rattle.ps_warnings.proofs.Slots.{is_code, no_code_file}
 use Rattle.ps_warnings.proofs.looks.files.look_at.Goals as goal
 
 pub returns-then-is_code_type : goal.returns-then-is_code_type
 returns-then-is_code_type g c =
-    let all = is_code (c.args.context.now.inputs.now.host_path.now
-    ∷ contents c.args.context.now.inputs.now.paths.now) (option_map (λ (h : Bor
+    let all = is_code (paths_in c.args.context.now.inputs.now) (option_map (λ (h : Bor
     (List Record)). h.now) c.args.context.now.host)
     (map seen c.args.context.now.list.now) (host_order c.args.context.now.inputs.now.host.now)
     c.args.file c.args.bytes.now (sym c.is_code_type.ensures ∙ c.if-is_code_type.true) in
@@ -21,8 +20,7 @@ returns-then-is_code_type g c =
 
 pub returns : goal.returns
 returns g c =
-    let none = no_code_file (c.args.context.now.inputs.now.host_path.now
-    ∷ contents c.args.context.now.inputs.now.paths.now) (option_map (λ (h : Bor
+    let none = no_code_file (paths_in c.args.context.now.inputs.now) (option_map (λ (h : Bor
     (List Record)). h.now) c.args.context.now.host)
     (map seen c.args.context.now.list.now) (host_order c.args.context.now.inputs.now.host.now)
     c.args.file c.args.bytes.now (sym c.is_code_type.ensures ∙ c.if-is_code_type.false) in

@@ -6,7 +6,7 @@ use Rattle.ps_resolve.specs.Sources.{contents}
 use Rattle.ps_warnings.specs.Seen.{seen}
 use Rattle.ps_words.specs.declared.order.Order.{Order}
 use Rattle.ps_codefile.specs.Dictionary.{opened_beside}
-use Rattle.ps_warnings.specs.Paths.{host_order, path_of}
+use Rattle.ps_warnings.specs.Paths.{host_order, path_of, paths_in}
 use Rattle.ps_warnings.proofs.Found.{adds_is, none_then}
 use Rattle.ps_warnings.proofs.Slots.{can_read, cannot_read}
 use Rattle.ps_warnings.proofs.looks.files.look_at_code_file.Goals as goal
@@ -17,9 +17,8 @@ returns-in-Ok g c =
     let order = host_order c.args.context.now.inputs.now.host.now in
     let is = ap (λ (o : Order). opened_beside o bytes) (sym c.order.ensures)
     ∙ (sym c.read_beside.ensures ∙ c.in-Ok.is) in
-    let all = can_read (path_of (c.args.context.now.inputs.now.host_path.now
-    ∷ contents c.args.context.now.inputs.now.paths.now) c.args.file) (option_map (λ (h : Bor
-    (List Record)). h.now) c.args.context.now.host)
+    let all = can_read (path_of (paths_in c.args.context.now.inputs.now) c.args.file) (option_map
+    (λ (h : Bor (List Record)). h.now) c.args.context.now.host)
     (map seen c.args.context.now.list.now) order bytes c.args.file c.in-Ok.dict is in
     on_ok_weaker c.look_at_dictionary.result
     (λ more. adds_is (sym all) (none_then c.in_ok-add_other.ensures more))
@@ -31,9 +30,8 @@ returns-in-Err g c =
     let order = host_order c.args.context.now.inputs.now.host.now in
     let is = ap (λ (o : Order). opened_beside o bytes) (sym c.order.ensures)
     ∙ (sym c.read_beside.ensures ∙ c.in-Err.is) in
-    let none = cannot_read (path_of (c.args.context.now.inputs.now.host_path.now
-    ∷ contents c.args.context.now.inputs.now.paths.now) c.args.file) (option_map (λ (h : Bor
-    (List Record)). h.now) c.args.context.now.host)
+    let none = cannot_read (path_of (paths_in c.args.context.now.inputs.now) c.args.file)
+    (option_map (λ (h : Bor (List Record)). h.now) c.args.context.now.host)
     (map seen c.args.context.now.list.now) order bytes c.args.file _ is in
     on_ok_weaker c.add_other-in-Err.result
     (λ more. adds_is (sym none) (none_then c.in_ok-add_other.ensures more))

@@ -1,6 +1,7 @@
 use Rattle.std.proofs.Common.{◌∷◌, map, refl}
 use Rattle.std.proofs.lemmas.List.{drop_more}
 use Rattle.ps_resolve.specs.Sources.{contents}
+use Rattle.ps_warnings.specs.Paths.{paths_in}
 use Rattle.ps_warnings.specs.AllLooks.{looks_of_unit, looks_of_units}
 use Rattle.ps_warnings.specs.Seen.{seen}
 use Rattle.ps_warnings.proofs.Found.{numbered_left, numbered_over, owes_all, owes_less, owes_none}
@@ -15,8 +16,8 @@ pub loop-index-preserved : goal.loop-index-preserved
 loop-index-preserved g c =
     let ss = c.args.context.now.list.now in
     let i = c.loop-index.index in
-    owes_less (numbered_left (looks_of_unit (c.args.context.now.inputs.now.host_path.now
-    ∷ contents c.args.context.now.inputs.now.paths.now) c.args.host.now.order
+    owes_less (numbered_left (looks_of_unit
+    (paths_in c.args.context.now.inputs.now) c.args.host.now.order
     c.args.host.now.file (map seen ss)) i (map seen ss) i _
     (seen_left ss i _ (drop_more ss i _ c.loop-index-test.true)))
     c.loop-index.invariant c.in_ok-look_at_unit.ensures
@@ -25,7 +26,7 @@ pub returns : goal.returns
 returns g c =
     let ss = c.args.context.now.list.now in
     let i = c.loop-index.index in
-    owes_none (numbered_over (looks_of_unit (c.args.context.now.inputs.now.host_path.now
-    ∷ contents c.args.context.now.inputs.now.paths.now) c.args.host.now.order
+    owes_none (numbered_over (looks_of_unit
+    (paths_in c.args.context.now.inputs.now) c.args.host.now.order
     c.args.host.now.file (map seen ss)) i (map seen ss) i
     (seen_over ss i c.loop-index-test.false)) c.loop-index.invariant

@@ -1,6 +1,7 @@
 use Rattle.std.proofs.Common.{◌∷◌, drop, map}
 use Rattle.std.specs.List.{enumerate_from, flat_map}
 use Rattle.ps_resolve.specs.Sources.{contents}
+use Rattle.ps_warnings.specs.Paths.{paths_in}
 use Rattle.ps_warnings.specs.AllLooks.{looks_of_unit, looks_of_units}
 use Rattle.ps_warnings.specs.Found.{link_looks}
 use Rattle.ps_warnings.specs.Seen.{seen}
@@ -10,7 +11,7 @@ use Rattle.ps_warnings.proofs.looks.links.look_at_units.Given as goal
 -- what looks wrong in the segments that are left is still to be added
 abbrev pub invariant-loop-index : goal.invariant-loop-index
 invariant-loop-index g l =
-    let paths = l.context.inputs.now.host_path.now ∷ contents l.context.inputs.now.paths.now in
+    let paths = paths_in l.context.inputs.now in
     let list = map seen l.context.list.now in
     Owes (link_looks l.fn.looks.warnings.items l.fn.looks.harmless.items)
     (looks_of_units paths l.host.order l.host.file list)

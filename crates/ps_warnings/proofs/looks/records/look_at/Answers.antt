@@ -22,6 +22,7 @@ returns g c =
       c.after-after.ensures,
     )
     at c.look_at_definitions.ensures in
-    let before = none_then c.in_ok-add_other_of_record.ensures
-    (then_none past c.in_ok-of_records.ensures) in
+    let notes = none_then c.in_ok-note_of_record.ensures
+    (none_then c.in_ok-note_of_record-2.ensures c.in_ok-add_other.ensures) in
+    let before = none_then c.in_ok-add_other_of_record.ensures (then_none past notes) in
     on_ok_weaker c.look_at_definitions.result (λ more. adds_both before more) defined
