@@ -5,15 +5,15 @@ use Rattle.ps_calls.proofs.file_names.file_names.Goals as goal
 
 pub returns-clause-cut : goal.returns-clause-cut
 returns-clause-cut c =
-    rw (ap contents c.as_slice.ensures.value ∙ c.in_ok-parts.ensures.ok) at c.texts.ensures.same
+    rw (ap contents c.as_slice.ensures ∙ c.in_ok-parts.ensures.ok) at c.texts.ensures.same
 
 pub returns-clause-utf8 : goal.returns-clause-utf8
 returns-clause-utf8 c =
-    rw (ap contents c.as_slice.ensures.value ∙ c.in_ok-parts.ensures.ok) at c.texts.ensures.utf8
+    rw (ap contents c.as_slice.ensures ∙ c.in_ok-parts.ensures.ok) at c.texts.ensures.utf8
 
 pub returns-clause-err : goal.returns-clause-err
 returns-clause-err c =
     misnamed c.args.names.now c.args.lengths.now c.as_slice.result.now c.texts.result
     c.in_ok-parts.ensures.right
-    (ap (λ (parts : List (Bor (List ℕ))). contents parts) c.as_slice.ensures.value
+    (ap (λ (parts : List (Bor (List ℕ))). contents parts) c.as_slice.ensures
     ∙ c.in_ok-parts.ensures.ok) c.texts.ensures.err
