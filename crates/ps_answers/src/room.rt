@@ -1,5 +1,5 @@
 //! The caller's room, as a writer.
-ghost use Rattle.std.specs.Prelude.{◌≡◌, ◌*◌, ◌≤◌, ◌<◌, length};
+ghost use Rattle.std.specs.Prelude.{◌≡◌, ◌≤◌, ◌<◌, length};
 ghost use Rattle.ps_linkfile.specs.Writing.{file_in};
 
 use ps_linkfile::Linked;

@@ -1,5 +1,5 @@
 -- What is put of a text, or why nothing is, by what is known of its parts.
-use Rattle.std.proofs.Common.{◌≡◌, ◌∙◌, ℕ, List, [], Option, true, false, Result, Ok, Err, ap, length, subst, sym}
+use Rattle.std.proofs.Common.{◌≡◌, ◌∙◌, ℕ, List, Option, true, false, Result, Ok, Err, ap, length, subst, sym}
 use Rattle.std.specs.Prelude.{IfOk, Vec}
 use Rattle.std.specs.declared.alloc.Global.{Global}
 use Rattle.ps_warnings.specs.declared.warnings.Warning.{Warning}

@@ -1,6 +1,6 @@
 -- What is made of files, as text, and why it is not.
 -- Source: this project's profile.
-use Rattle.std.specs.Prelude.{◌≡◌, ℕ, ◌+◌, ◌<◌, ⊤, All, Bool, true, false, IsUtf8, List, [], ◌∷◌, ◌++◌, codes, length, sum, Option, Some, None, Ok, Err}
+use Rattle.std.specs.Prelude.{◌≡◌, ℕ, ◌+◌, ⊤, All, Bool, true, false, IsUtf8, List, [], ◌∷◌, ◌++◌, codes, length, sum, Option, Some, None, Ok, Err}
 use Rattle.ps_words.specs.FaultPlaces.{in_file}
 use Rattle.ps_words.specs.declared.fault.Reason.{Reason}
 use Rattle.ps_codefile.specs.Dictionary.{OpenedFile, opened_alone}

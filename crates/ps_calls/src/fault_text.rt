@@ -1,5 +1,5 @@
 //! The text of the fault that an answer reports.
-ghost use Rattle.std.specs.Prelude.{◌≡◌, ◌≤◌, ◌<◌, ◌+◌, ◌++◌, length, codes, decimal, option_map};
+ghost use Rattle.std.specs.Prelude.{◌≡◌, ◌≤◌, ◌<◌, ◌+◌, ◌++◌, length, codes, decimal};
 ghost use Rattle.arrayvec.specs.ArrayString.{array_string_len};
 ghost use Rattle.ps_words.specs.FaultText.{name_of, number_of, part_text, kind_of as kind_of_spec};
 ghost use Rattle.ps_answers.specs.Answers.{closed_text};

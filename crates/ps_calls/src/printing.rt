@@ -1,10 +1,8 @@
 //! What the program prints of files, into the caller's room.
-ghost use Rattle.std.specs.Prelude.{◌≡◌, ◌∷◌, ◌<◌, IfErr, IfOk, OnErr, length, sum, true};
+ghost use Rattle.std.specs.Prelude.{◌≡◌, ◌∷◌, ◌<◌, IfErr, IfOk, OnErr, length, true};
 ghost use Rattle.ps_resolve.specs.Sources.{contents};
-ghost use Rattle.ps_calls.specs.Kinds.{needs_names as needs_names_spec};
 ghost use Rattle.ps_answers.specs.Libraries.{split as split_spec};
 ghost use Rattle.ps_calls.specs.Printed.{HasNameLengths, HasNames, IsPrinted, IsPut, LacksNames, IsKindNotPrinted, IsNotPut, IsNotPrinted};
-ghost use Rattle.ps_calls.specs.declared.kinds.TextKind.{TextKind as TheKind};
 
 use crate::checking::is_one_each;
 use crate::file_names::file_names;

@@ -6,7 +6,7 @@ use Rattle.std.specs.Option.{option_map_or}
 use Rattle.std.specs.Result.{result_ok}
 use Rattle.ps_words.specs.declared.fault.Reason.{Reason}
 use Rattle.ps_words.specs.declared.order.Order.{Order}
-use Rattle.ps_codefile.specs.Dictionary.{OpenedFile, code_of, entry_at, information_of, is_filled, kind_needs_linking, opened_alone, opened_beside, role_of}
+use Rattle.ps_codefile.specs.Dictionary.{OpenedFile, entry_at, is_filled, kind_needs_linking, opened_alone, opened_beside, role_of}
 use Rattle.ps_codefile.specs.declared.entry.Entry.{Entry}
 use Rattle.ps_filetype.specs.CodeTypes.{is_code_type}
 use Rattle.ps_linkinfo.specs.Numbered.{numbered_records}

@@ -1,9 +1,8 @@
 //! Entries of dictionaries that look wrong.
-ghost use Rattle.std.specs.Prelude.{◌≡◌, ◌∷◌, ◌<◌, [], Ok, OnOk, false, map, true};
+ghost use Rattle.std.specs.Prelude.{◌≡◌, ◌<◌, [], Ok, OnOk, false, map, true};
 ghost use Rattle.std.specs.List.{flat_map, list_any};
 ghost use Rattle.std.specs.Option.{option_map};
 ghost use Rattle.ps_codefile.specs.Dictionary.{entry_at, information_of, kind_needs_linking, role_of, slots};
-ghost use Rattle.ps_resolve.specs.Sources.{contents};
 ghost use Rattle.ps_warnings.specs.EntryLooks.{empty_look as empty_look_spec, empty_slot as empty_slot_spec, half_entry as half_entry_spec, has_name_or_kind as has_name_or_kind_spec};
 ghost use Rattle.ps_warnings.specs.FileLooks.{looks_of_entry, looks_of_segment, looks_of_slot};
 ghost use Rattle.ps_warnings.specs.Found.{Adds, link_looks};

@@ -1,7 +1,6 @@
 //! Files that look wrong.
-ghost use Rattle.std.specs.Prelude.{◌≡◌, ◌∷◌, OnOk, map};
+ghost use Rattle.std.specs.Prelude.{OnOk, map};
 ghost use Rattle.std.specs.Option.{option_map};
-ghost use Rattle.ps_resolve.specs.Sources.{contents};
 ghost use Rattle.ps_warnings.specs.AllLooks.{looks_of_file};
 ghost use Rattle.ps_warnings.specs.FileLooks.{looks_of_code_file, looks_of_entries};
 ghost use Rattle.ps_warnings.specs.Found.{Adds, link_looks};

@@ -1,7 +1,6 @@
 //! What looks wrong in the link as a whole.
-ghost use Rattle.std.specs.Prelude.{◌≡◌, ◌∷◌, ◌<◌, ◌≤◌, OnOk, length, map, take, unwrap_or};
+ghost use Rattle.std.specs.Prelude.{◌≡◌, ◌<◌, ◌≤◌, OnOk, length, map, take, unwrap_or};
 ghost use Rattle.ps_codefile.specs.Dictionary.{entry_at};
-ghost use Rattle.ps_resolve.specs.Sources.{contents};
 ghost use Rattle.ps_warnings.specs.AllLooks.{looks_of_unit, looks_of_units, looks_of_link};
 ghost use Rattle.ps_warnings.specs.Found.{Adds, link_looks};
 ghost use Rattle.ps_warnings.specs.Paths.{paths_in};

@@ -1,4 +1,4 @@
-use Rattle.std.proofs.Common.{◌≡◌, ◌+◌, arith, length, rules}
+use Rattle.std.proofs.Common.{◌≡◌, ◌+◌, length, rules}
 use Rattle.ps_calls.proofs.FileNames.{many_texts}
 use Rattle.ps_calls.proofs.printing.given_names.Goals as goal
 

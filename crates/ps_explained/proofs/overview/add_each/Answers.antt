@@ -1,4 +1,4 @@
-use Rattle.std.proofs.Common.{◌∙◌, ◌∷◌, List, ℕ, map, string_bytes, subst, sym}
+use Rattle.std.proofs.Common.{◌∙◌, ◌∷◌, List, ℕ, string_bytes, subst, sym}
 use Rattle.std.specs.Result.{OnOk}
 use Rattle.ps_resolve.specs.Sources.{contents}
 use Rattle.ps_resolve.proofs.ReadingSlots.{fault_of_none}

@@ -1,4 +1,4 @@
-use Rattle.std.proofs.Common.{◌≡◌, drop, map}
+use Rattle.std.proofs.Common.{◌≡◌, drop}
 use Rattle.ps_explained.specs.SegmentLines.{name_in}
 use Rattle.ps_explained.proofs.overview.name_in.Given as goal
 

@@ -1,6 +1,5 @@
-use Rattle.std.proofs.Common.{◌∷◌, map, refl}
+use Rattle.std.proofs.Common.{map, refl}
 use Rattle.std.specs.Option.{option_map}
-use Rattle.ps_resolve.specs.Sources.{contents}
 use Rattle.ps_warnings.specs.FileLooks.{looks_of_slot}
 use Rattle.ps_warnings.specs.Paths.{path_of, paths_in}
 use Rattle.ps_warnings.specs.Seen.{seen}

@@ -1,8 +1,7 @@
-use Rattle.std.proofs.Common.{◌-◌, ◌∷◌, map}
+use Rattle.std.proofs.Common.{◌-◌, map}
 use Rattle.std.specs.List.{flat_map, range_with_len}
 use Rattle.std.specs.Option.{option_map}
 use Rattle.ps_codefile.specs.Dictionary.{slots}
-use Rattle.ps_resolve.specs.Sources.{contents}
 use Rattle.ps_warnings.specs.FileLooks.{looks_of_slot}
 use Rattle.ps_warnings.specs.Found.{link_looks}
 use Rattle.ps_warnings.specs.Paths.{path_of, paths_in}

@@ -1,11 +1,9 @@
-use Rattle.std.proofs.Common.{◌≡◌, ◌∙◌, ◌∷◌, ◌==◌, Bor, List, true, false, map, sym, arith}
+use Rattle.std.proofs.Common.{◌≡◌, ◌∙◌, ◌==◌, Bor, List, true, false, map, sym, arith}
 use Rattle.std.proofs.lemmas.Result.{on_ok_weaker}
 use Rattle.std.specs.Option.{option_map}
 use Rattle.ps_linkinfo.specs.declared.record.LinkRecord.{LinkRecord as Record}
-use Rattle.ps_resolve.specs.Sources.{contents}
 use Rattle.ps_warnings.specs.Seen.{seen}
 use Rattle.std.proofs.lemmas.Bool.Decides.{nat_tests}
-use Rattle.ps_codefile.specs.Dictionary.{entry_at}
 use Rattle.ps_warnings.specs.Found.{link_looks}
 use Rattle.ps_warnings.specs.Paths.{path_of, paths_in}
 use Rattle.ps_warnings.proofs.Found.{adds_is, adds_none}

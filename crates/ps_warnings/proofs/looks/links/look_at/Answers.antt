@@ -1,6 +1,5 @@
-use Rattle.std.proofs.Common.{◌∙◌, ◌∷◌, map, sym}
+use Rattle.std.proofs.Common.{◌∙◌, map, sym}
 use Rattle.std.proofs.lemmas.Result.{on_ok_weaker}
-use Rattle.ps_resolve.specs.Sources.{contents}
 use Rattle.ps_warnings.specs.Paths.{paths_in}
 use Rattle.ps_warnings.specs.Seen.{seen}
 use Rattle.ps_warnings.specs.Found.{link_looks}

@@ -1,6 +1,5 @@
-use Rattle.std.proofs.Common.{◌∷◌, map, refl}
+use Rattle.std.proofs.Common.{map, refl}
 use Rattle.std.proofs.lemmas.List.{drop_more}
-use Rattle.ps_resolve.specs.Sources.{contents}
 use Rattle.ps_warnings.specs.Paths.{paths_in}
 use Rattle.ps_warnings.specs.AllLooks.{looks_of_unit, looks_of_units}
 use Rattle.ps_warnings.specs.Seen.{seen}

@@ -1,6 +1,5 @@
-use Rattle.std.proofs.Common.{◌∷◌, drop, map}
+use Rattle.std.proofs.Common.{drop, map}
 use Rattle.std.specs.List.{enumerate_from, flat_map}
-use Rattle.ps_resolve.specs.Sources.{contents}
 use Rattle.ps_warnings.specs.Paths.{paths_in}
 use Rattle.ps_warnings.specs.AllLooks.{looks_of_unit, looks_of_units}
 use Rattle.ps_warnings.specs.Found.{link_looks}
