@@ -1,6 +1,5 @@
 //! What faults of a code say.
 use crate::cases::Case;
-use ps_codefile::Entry;
 use ps_pcode::dead_look;
 use ps_words::BLOCK_SIZE;
 use std::fmt::{self, Formatter, Write};
@@ -10,21 +9,12 @@ pub(super) fn write_extent<W: Write>(f: &mut Formatter<W>, case: &Case<'_, '_>) 
     let Some(segment) = case.segment else {
         return Ok(());
     };
-    let Some(
-        (
-            at,
-            Entry {
-                address,
-                length,
-                ..
-            },
-        ),
-    ) = segment.source
-    else {
+    let Some((at, found)) = segment.source else {
         return Ok(());
     };
-    let start = BLOCK_SIZE * usize::from(address);
-    let end = start + usize::from(length);
+    let start = BLOCK_SIZE.saturating_mul(usize::from(found.address));
+    let length = usize::from(found.length);
+    let end = start.saturating_add(length);
     let entry = at.index;
     let bytes = case.inputs.bytes(at.file).len();
     writeln!(
