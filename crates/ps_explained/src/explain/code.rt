@@ -9,12 +9,12 @@ pub(super) fn write_extent<W: Write>(f: &mut Formatter<W>, case: &Case<'_, '_>) 
     let Some(segment) = case.segment else {
         return Ok(());
     };
-    let Some((at, source)) = segment.source else {
+    let Some((at, found)) = segment.source else {
         return Ok(());
     };
-    let start = BLOCK_SIZE * usize::from(source.address);
-    let length = usize::from(source.length);
-    let end = start + length;
+    let start = BLOCK_SIZE.saturating_mul(usize::from(found.address));
+    let length = usize::from(found.length);
+    let end = start.saturating_add(length);
     let entry = at.index;
     let bytes = case.inputs.bytes(at.file).len();
     writeln!(
