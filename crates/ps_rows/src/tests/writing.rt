@@ -36,7 +36,7 @@ impl<'a> Writing for Linked<'a> {
 
 impl<'a> Writing for Show<'a> {
     fn write<W: Write>(&self, _alloc: Global, out: &mut W) -> Result<Option<Summary>, LinkError> {
-        write_show(self.file, out, &mut ps_linkfile::Counts::new())?;
+        write_show(self.file, out, &mut ps_writing::Counts::new())?;
         Ok(None)
     }
 }
@@ -51,7 +51,7 @@ impl<'a> Writing for Map<'a> {
 }
 
 fn writes_map<W: Write>(linked: &Linked<'_>, out: &mut W) -> Result<Option<Summary>, LinkError> {
-    linked.write_map(out, &mut ps_linkfile::Counts::new())?;
+    linked.write_map(out, &mut ps_writing::Counts::new())?;
     Ok(None)
 }
 
@@ -355,7 +355,7 @@ fn has_counted(
     rt: &impl Abort,
     is_written: bool,
     out: &Room,
-    told: ps_linkfile::Counts,
+    told: ps_writing::Counts,
     wanted: (u64, u64),
 ) {
     let [_, errors, stalls, _] = out.counts();
@@ -372,7 +372,7 @@ fn counts_of_a_map(
     wanted: (u64, u64),
 ) {
     let mut out = Room::new(rt.alloc(), writer).expect(rt, "no memory");
-    let mut counts = ps_linkfile::Counts::new();
+    let mut counts = ps_writing::Counts::new();
     let is_written = linked.write_map(&mut out, &mut counts).is_ok();
     has_counted(rt, is_written, &out, counts, wanted)
 }
@@ -385,7 +385,7 @@ fn counts_of_a_show(
     wanted: (u64, u64),
 ) {
     let mut out = Room::new(rt.alloc(), writer).expect(rt, "no memory");
-    let mut counts = ps_linkfile::Counts::new();
+    let mut counts = ps_writing::Counts::new();
     let is_written = write_show(file, &mut out, &mut counts).is_ok();
     has_counted(rt, is_written, &out, counts, wanted)
 }
