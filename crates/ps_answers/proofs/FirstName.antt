@@ -1,5 +1,5 @@
 -- Of the names of all files, of which the first is the host's.
-use Rattle.std.proofs.Common.{◌≡◌, ◌<◌, ◌-◌, ◌∙◌, ℕ, List, [], ◌∷◌, Bor, ap, arith, drop, get_or, length, refl, take}
+use Rattle.std.proofs.Common.{◌≡◌, ◌<◌, ◌-◌, ℕ, List, [], ◌∷◌, Bor, arith, drop, get_or, length, refl, take}
 use Rattle.std.proofs.lemmas.List.{take_rest}
 use Rattle.ps_resolve.specs.Sources.{contents}
 
