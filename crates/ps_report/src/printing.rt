@@ -113,7 +113,7 @@ fn print_report<A: Allocator + Copy, O: Write>(
 }
 
 /// Writes all of `text`. No write is repeated after an error.
-#[tactic(auto, using(ps_linkfile::proofs::Prefixes::on_err_always))]
+#[tactic(auto, using(ps_writing::proofs::Prefixes::on_err_always))]
 fn print<O: Write>(out: &mut O, counts: &mut Counts, text: &[u8]) -> Result<(), PrintError>
     ensures all { OnOk result (Appends (O.contents out.old) (O.contents out.new) text.now) }
     ensures prefix { OnErr result (AppendsPrefix (O.contents out.old) (O.contents out.new)
