@@ -41,10 +41,20 @@ pub(super) fn are_small(inputs: &Inputs<'_>) -> bool {
     true
 }
 
+/// Each byte of the name is one that ASCII prints, and no small letter.
+fn is_common(name: &Name) -> bool {
+    for byte in name {
+        if !matches!(*byte, b' '..=b'`') {
+            return false;
+        }
+    }
+    true
+}
+
 /// How a name is odd; none where it is as a compiler writes it, or no name. Small letters are odd
 /// only where other names have capitals.
 pub(super) fn oddity_of(name: &Name, are_small: bool) -> Option<Oddity> {
-    if is_nameless(name) {
+    if is_common(name) || is_nameless(name) {
         None
     } else if has(name, 0x80..=0xFF) {
         Some(Oddity::HighBytes)
