@@ -13,7 +13,9 @@ use crate::lists::list_files;
 use crate::looks::make_looks;
 use ps_answers::{NotDone, Refusal, not_done_for};
 use ps_codefile::Dict;
-use ps_linkfile::{Linked, ReferenceMap, map_text, prepare, prepare_references, show_text, write_show_json};
+use ps_linkfile::{
+    Linked, ReferenceMap, map_text, prepare, prepare_references, show_text, write_show_json,
+};
 use ps_named::{units_had, units_wanted};
 use ps_report::Report;
 use ps_resolve::{Reading, read};
