@@ -1,5 +1,5 @@
 ghost use Rattle.std.specs.Prelude.{◌≡◌, ℕ, IfErr, IfOk, IfSome, None, Ok, Err, false, ◌<◌, ◌≤◌, ◌-◌, ◌+◌, ◌*◌, ◌==◌, ◌&&◌, ◌||◌, if◌then◌else◌, length, slice_index, slice_index_or};
-ghost use Rattle.std.specs.List.{list_all, list_any};
+ghost use Rattle.std.specs.List.{list_any};
 ghost use Rattle.std.specs.Option.{ForSome};
 ghost use Rattle.ps_codefile.specs.Procedures.{procedures, dictionary_len, dictionary_start, content_of, outer_data_size, table_of as table_of_spec, is_placed as is_placed_spec, numbers, is_in_table as is_in_table_spec, is_reserved as is_reserved_spec, read_tables as read_tables_spec};
 ghost use Rattle.ps_codefile.specs.Places.{is_between, passes, HasTables, IsWhole};
@@ -215,15 +215,14 @@ impl<'a> ProcedureDictionary<'a> {
         Ok(dictionary)
     }
 
-    /// A copy, which borrows the same code.
-    /// Source: this project's profile.
-    pub fn copy(&self) -> ProcedureDictionary<'a>
-        ensures { result ≡ self.now }
+    /// The procedure dictionary of a code that was read before: it is within the code, and each
+    /// attribute table lies in the code before it. Nothing is looked at again.
+    /// Source: UCSD Pascal II.0 manual, code file format.
+    pub fn known(order: Order, code: &'a [u8]) -> ProcedureDictionary<'a>
+        requires { HasTables order code.now }
+        ensures { result ≡ record { order = order; code = code.now } }
     {
-        ProcedureDictionary {
-            order: self.order,
-            code: self.code,
-        }
+        ProcedureDictionary { order, code }
     }
 
     /// The code that it is in.

@@ -1,9 +1,9 @@
 -- Where a fault occurs: in a file as a whole, in a slot of the host, in a record of that slot's
 -- link information, or in a reference of that record.
 -- Source: this project's profile.
-use Rattle.std.specs.Prelude.{ℕ, ◌==◌, ◌&&◌, ◌||◌, not, nat_le, if◌then◌else◌, Bool, Option, Some, None}
-use Rattle.ps_words.specs.FaultText.{number_of}
+use Rattle.std.specs.Prelude.{ℕ, ◌==◌, ◌&&◌, ◌||◌, not, nat_le, if◌then◌else◌, Bool, true, false, Option, Some, None}
 use Rattle.ps_words.specs.declared.fault.Reason.{Reason}
+use Rattle.ps_words.specs.declared.fault.Reason.TheVariants as reason
 use Rattle.ps_words.specs.declared.fault.Fault.{Fault}
 
 -- a fault of a file as a whole
@@ -50,13 +50,18 @@ has_slot number = nat_le 5 number
 abbrev pub has_record : ℕ → Bool
 has_record number = nat_le 19 number && not (number == 27)
 
--- the number of a fault of a record that cannot be read
-abbrev pub is_unread : ℕ → Bool
-is_unread number = nat_le 19 number && nat_le number 23
+-- the reason of a record that cannot be read
+abbrev pub is_unread : Reason → Bool
+is_unread reason.RecordsTruncated = true
+is_unread reason.UnknownRecord = true
+is_unread reason.NativeRecord = true
+is_unread reason.SeparateRecord = true
+is_unread reason.BadFormat = true
+is_unread why = false
 
 -- the record of a fault, where it could be read
 abbrev pub read_record : Fault → Option ℕ
-read_record f = if is_unread (number_of f.reason) then None else f.rec
+read_record f = if is_unread f.reason then None else f.rec
 
 -- the number of a fault that is reported with a reference
 abbrev pub has_reference : ℕ → Bool

@@ -327,14 +327,17 @@ impl Fault {
 
     /// The index, from 0, of the fault's record, where that record could be read.
     ///
-    /// `None` of a fault that has no record, and of those that say why a record cannot be read, 19
-    /// to 23.
+    /// `None` of a fault that has no record, and of those that say why a record cannot be read.
     /// Source: this project's profile.
     pub fn read_record(self) -> Option<usize>
         ensures { result ≡ read_record_spec self }
     {
-        match self.reason.number() {
-            19..=23 => None,
+        match self.reason {
+            Reason::RecordsTruncated
+            | Reason::UnknownRecord
+            | Reason::NativeRecord
+            | Reason::SeparateRecord
+            | Reason::BadFormat => None,
             _ => self.rec,
         }
     }

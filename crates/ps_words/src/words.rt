@@ -1,4 +1,4 @@
-ghost use Rattle.std.specs.Prelude.{◌≡◌, ◌≢◌, ◌<◌, ◌≤◌, ◌+◌, ℕ, length, slice_index};
+ghost use Rattle.std.specs.Prelude.{◌≡◌, ◌≢◌, ◌≤◌, ◌+◌, ℕ, length, slice_index};
 ghost use Rattle.ps_words.specs.Words.{blocks, displacement_at, operand_bytes, word_at, word_bytes};
 
 use crate::order::Order;
