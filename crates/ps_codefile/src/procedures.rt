@@ -175,7 +175,8 @@ impl<'a> ProcedureDictionary<'a> {
     /// Source: UCSD Pascal II.0 manual, code file format.
     pub fn read(order: Order, code: &'a [u8], host: bool) -> Result<ProcedureDictionary<'a>, Reason>
         requires { 2 ≤ length code.now }
-        ensures { result ≡ read_tables_spec order code.now host }
+        ensures read { result ≡ read_tables_spec order code.now host }
+        ensures known { IfOk result (λ _. HasTables order code.now) }
     {
         match ProcedureDictionary::read_or_fault(order, code, host) {
             Ok(dictionary) => Ok(dictionary),
@@ -194,6 +195,7 @@ impl<'a> ProcedureDictionary<'a> {
     ) -> Result<ProcedureDictionary<'a>, ProcedureFault>
         requires { 2 ≤ length code.now }
         ensures read { IfOk result (λ d. read_tables_spec order code.now host ≡ Ok d) }
+        ensures known { IfOk result (λ _. HasTables order code.now) }
         ensures reason { IfErr result (λ f. read_tables_spec order code.now host
             ≡ Err (reason_of f)) }
         ensures fault { IfErr result (IsProcedureFault order code.now host) }

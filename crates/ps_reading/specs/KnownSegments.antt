@@ -1,12 +1,13 @@
 -- What is known of the segments that were read, and which of them is in which slot.
 -- Source: this project's profile.
-use Rattle.std.specs.Prelude.{◌≡◌, ◌≤◌, ◌*◌, ◌==◌, nat_lt, if◌then◌else◌, ℕ, All, List, [], ◌∷◌, length, drop, Bool, true, Option, Some, None, ◌&&◌, ◌+◌, map, Result, ⊤, ◌<◌}
+use Rattle.std.specs.Prelude.{◌≡◌, ◌≤◌, ◌*◌, ◌==◌, nat_lt, if◌then◌else◌, ℕ, All, List, [], ◌∷◌, length, drop, Bool, true, false, Option, Some, None, ◌&&◌, ◌+◌, map, Result, ⊤, ◌<◌}
 use Rattle.std.specs.List.{find, filter_map, list_any, Contains}
 use Rattle.std.specs.Option.{option_or}
 use Rattle.ps_words.specs.declared.order.Order.{Order}
 use Rattle.ps_codefile.specs.Dictionary.{slots, block_len, OpenedFile, entry_at, role_of}
 use Rattle.ps_linkinfo.specs.Records.{reading}
 use Rattle.ps_linkinfo.specs.declared.record.LinkRecord.{LinkRecord}
+use Rattle.ps_codefile.specs.Places.{HasTables}
 use Rattle.ps_codefile.specs.Procedures.{tables_fault}
 use Rattle.ps_codefile.specs.Roles.{needs_linking, is_host, is_empty}
 use Rattle.ps_reading.specs.Sources.{Segment, file_at, host_of}
@@ -14,6 +15,14 @@ use Rattle.ps_reading.specs.Faults.{is_role}
 use Rattle.ps_words.specs.declared.fault.Reason.{Reason}
 use Rattle.ps_codefile.specs.declared.entry.Role.{Role}
 use Rattle.ps_codefile.specs.declared.dictionary_layout.TheConstants.{SLOTS}
+
+-- what is kept of a segment: its references are resolved as its role says; the procedure tables of
+-- one that is linked lie in its code, and one that is not has no records
+pub record IsKept (linked : Bool) (role : Role) (order : Order) (code : List ℕ)
+    (records : List LinkRecord) : Type 0 where
+  pub by_role : linked ≡ needs_linking role
+  pub tables : linked ≡ true → HasTables order code
+  pub none : linked ≡ false → records ≡ []
 
 -- the records of each segment that is from this file, which has this number, are all that are in
 -- its block there and after it, where its references are resolved

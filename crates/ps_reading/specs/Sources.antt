@@ -85,10 +85,14 @@ file_at host libs k = unwrap_or (slice_get (host ∷ libs) k) []
 abbrev pub tables_of : Order → List ℕ → Bool → Option ProcedureTables
 tables_of order code linked = if linked then Some (record { order = order; code = code }) else None
 
--- the block, from 0, in which an entry's link information begins, which is behind its code; 0 where
--- a segment is not linked
+-- the block, from 0, in which link information begins, which is behind the code that begins in this
+-- block and has so many bytes; 0 where a segment is not linked
+abbrev pub block_behind : ℕ → ℕ → Bool → ℕ
+block_behind address len linked = if linked then address + blocks len else 0
+
+-- that of an entry's link information
 abbrev pub information_block : Entry → Bool → ℕ
-information_block e linked = if linked then e.address + blocks e.length else 0
+information_block e linked = block_behind e.address e.length linked
 
 -- the records of an entry's link information; those of a segment that is not linked are not read
 abbrev pub records_of : Order → List ℕ → Entry → Bool → List Record

@@ -172,8 +172,8 @@ fn enqueue_segment(
     ensures { queue.new.items ≡ take MAX_REQUESTED (requested_from units.now queue.old.items
         (unit_references segment.now.file segment.now.slot 0 segment.now.records)) }
 {
-    if let Some(resolvable) = segment.resolvable() {
-        enqueue_records(units, queue, segment.place(), &resolvable.records);
+    if let Some(records) = segment.records() {
+        enqueue_records(units, queue, segment.place(), records);
     }
 }
 

@@ -1,33 +1,37 @@
-ghost use Rattle.std.specs.Prelude.{◌≡◌, ◌<◌, ◌≤◌, ◌+◌, [], List, ℕ, length, true, Some, None, IfOk, if◌then◌else◌, is_some};
-ghost use Rattle.std.specs.Option.{option_map, option_map_or, option_or};
+ghost use Rattle.std.specs.Prelude.{◌≡◌, ◌<◌, ◌≤◌, ◌+◌, [], List, ℕ, length, true, Some, None, IfOk, if◌then◌else◌};
+ghost use Rattle.std.specs.Option.{option_map, option_or};
 ghost use Rattle.std.specs.Result.{result_err};
 ghost use Rattle.ps_words.specs.FaultPlaces.{in_record, in_slot as in_slot_spec};
 ghost use Rattle.ps_codefile.specs.Dictionary.{entry_at, kind_needs_linking, information_of};
+ghost use Rattle.ps_codefile.specs.Places.{HasTables};
 ghost use Rattle.ps_codefile.specs.Procedures.{tables_fault as tables_fault_spec};
 ghost use Rattle.ps_linkinfo.specs.Records.{reading};
 ghost use Rattle.ps_codefile.specs.Roles.{needs_linking as needs_linking_spec, is_host as is_host_spec};
-ghost use Rattle.ps_reading.specs.Sources.{file_at, information_block, records_of, segment_from, tables_of};
+ghost use Rattle.ps_reading.specs.Sources.{file_at, information_block, records_of, segment_from};
 ghost use Rattle.ps_reading.specs.Faults.{code_fault, information_fault};
 ghost use Rattle.ps_reading.specs.KnownSegments.{ArePlacedIn, IsRead};
 
 use crate::locations::SegmentAt;
-use crate::reading::segment::{Resolvable, Segment, records_at};
+use crate::reading::segment::{Segment, records_at};
 use ps_codefile::dictionary_layout::SLOTS;
 use ps_codefile::{Dict, ProcedureDictionary, Role};
 use ps_linkinfo::LinkInformation;
-use ps_words::{Fault, Name, blocks_of};
+use ps_words::{Fault, Name, Order, blocks_of};
 
 impl<'a> Default for Segment<'a> {
     fn default() -> Self {
         Segment {
             slot: 0,
-            name: [0; 8],
-            role: Role::Plain,
-            added: false,
-            file: 0,
             index: 0,
+            linked: false,
+            added: false,
+            role: Role::Plain,
+            order: Order::Little,
+            name: [0; 8],
+            address: 0,
+            file: 0,
             code: &[],
-            resolvable: None,
+            records: LinkInformation::none(),
         }
     }
 }
@@ -65,17 +69,16 @@ fn read_information<'a>(
     }
 }
 
-/// What only a segment has whose references are resolved: its procedure tables, which are read
-/// first, and its link information; or the first fault of either. Neither is looked at where the
-/// segment is linked already.
-fn read_resolvable<'a>(
+/// The link information of an entry with this code, whose procedure tables are read first, or the
+/// first fault of either. Neither is looked at where the segment is linked already.
+fn read_linked<'a>(
     from: &Dict<'a>,
     index: u8,
     code: &'a [u8],
     role: Role,
     place: SegmentAt,
     earlier: &[Segment<'a>],
-) -> Result<Option<Resolvable<'a>>, Fault>
+) -> Result<LinkInformation<'a>, Fault>
     requires in_range { index < SLOTS }
     requires large { needs_linking_spec role ≡ true → 2 ≤ length code.now }
     requires placed { ArePlacedIn from.now.order from.now.file place.file earlier.now }
@@ -85,29 +88,17 @@ fn read_resolvable<'a>(
         (information_fault from.now.order from.now.file
         (entry_at from.now.order from.now.file index) place.file place.slot)
         else None) }
-    ensures records { IfOk result (λ resolvable. option_map_or (λ c. c.records) resolvable []
-        ≡ records_of from.now.order from.now.file
+    ensures records { IfOk result (λ records. records ≡ records_of from.now.order from.now.file
         (entry_at from.now.order from.now.file index) (needs_linking_spec role)) }
-    ensures linked { IfOk result (λ resolvable. is_some resolvable ≡ needs_linking_spec role) }
-    ensures tables { IfOk result (λ resolvable. option_map (λ c. c.procedures) resolvable
-        ≡ tables_of from.now.order code.now (needs_linking_spec role)) }
-    ensures block { IfOk result (λ resolvable. option_map_or (λ c. c.block) resolvable 0
-        ≡ information_block (entry_at from.now.order from.now.file index)
-        (needs_linking_spec role)) }
+    ensures tables { IfOk result (λ _. needs_linking_spec role ≡ true
+        → HasTables from.now.order code.now) }
 {
     if !role.needs_linking() {
-        return Ok(None);
+        return Ok(LinkInformation::none());
     }
     match ProcedureDictionary::read(from.order(), code, role.is_host()) {
         Err(reason) => Err(Fault::in_slot(place.file, place.slot, reason)),
-        Ok(procedures) => {
-            let records = read_information(from, index, place, earlier)?;
-            Ok(Some(Resolvable {
-                procedures,
-                block: block_behind(from, index),
-                records,
-            }))
-        }
+        Ok(_) => read_information(from, index, place, earlier),
     }
 }
 
@@ -141,16 +132,19 @@ pub(crate) fn read_segment<'a>(
     match from.code(index) {
         Err(reason) => Err(Fault::in_slot(place.file, place.slot, reason)),
         Ok(code) => {
-            let resolvable = read_resolvable(from, index, code, role, place, earlier)?;
+            let records = read_linked(from, index, code, role, place, earlier)?;
             Ok(Segment {
                 slot: place.slot,
-                name,
-                role,
-                added: false,
-                file: place.file,
                 index,
+                linked: role.needs_linking(),
+                added: false,
+                role,
+                order: from.order(),
+                name,
+                address: from.entry(index).address,
+                file: place.file,
                 code,
-                resolvable,
+                records,
             })
         }
     }

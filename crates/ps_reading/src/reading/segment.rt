@@ -1,4 +1,4 @@
-ghost use Rattle.std.specs.Prelude.{◌≡◌, [], List, true, IfSome, ◌&&◌, None, false, is_some};
+ghost use Rattle.std.specs.Prelude.{◌≡◌, [], List, true, IfSome, ◌&&◌, None, false, is_some, ◌==◌};
 ghost use Rattle.std.specs.Option.{option_map, option_map_or};
 ghost use Rattle.ps_linkinfo.specs.declared.record.LinkRecord.{LinkRecord as Record};
 ghost use Rattle.ps_codefile.specs.Roles.{needs_linking as needs_linking_spec};
@@ -7,56 +7,62 @@ ghost use Rattle.ps_reading.specs.KnownSegments.{has_records_at, HasRecordsAt};
 use crate::locations::SegmentAt;
 use ps_codefile::{ProcedureDictionary, Role};
 use ps_linkinfo::LinkInformation;
-use ps_words::Name;
+use ps_words::{Name, Order, blocks_of};
 use std::marker::Model;
 
 /// What only a segment has whose references are resolved.
 /// Source: UCSD Pascal II.0 manual, code file format, and the published II.0 Linker source.
 #[derive(Drop)]
-pub struct Resolvable<'a> {
+pub struct Resolvable<'s, 'a> {
     /// The procedure dictionary of its code, which has no fault.
     pub procedures: ProcedureDictionary<'a>,
-    /// The block of its file, from 0, in which its link information begins.
-    pub block: usize,
     /// Its link information, read whole.
-    pub records: LinkInformation<'a>,
+    pub records: &'s LinkInformation<'a>,
 }
 
-/// A segment of the linked file, as the files have it: views of them, and no copy.
+/// A segment of the linked file, as the files have it: a view of them, and no copy.
 ///
-/// A link has a table of sixteen, so its small fields are together.
+/// A link has a table of sixteen, so its small fields are together, and what follows from others is
+/// not kept.
 /// Source: UCSD Pascal II.0 manual, code file format, and the published II.0 Linker source.
 #[derive(Drop)]
 pub struct Segment<'a> {
-    /// Its slot in the host, 0 to 15.
-    pub(crate) slot: u8,
+    /// Its slot in the host and in the linked file, 0 to 15.
+    pub slot: u8,
+    /// The slot of its entry in its file, 0 to 15.
+    pub index: u8,
+    /// Its references are resolved; the code of a segment that is linked already is copied as it
+    /// is.
+    pub linked: bool,
+    /// It was added in an empty slot of the host, for a unit that only a UNITREF record names; its
+    /// role is that of a wanted unit.
+    pub added: bool,
     /// What the slot is for; never `Empty`.
     pub(crate) role: Role,
-    /// It was added in an empty slot, for a UNITREF; its role is that of a wanted unit.
-    pub(crate) added: bool,
-    /// The slot of its entry in its file, 0 to 15.
-    pub(crate) index: u8,
+    /// The byte order of its file.
+    pub(crate) order: Order,
     /// The host's name of its slot, or that of the unit that was added there.
     pub(crate) name: Name,
-    /// The file that its code comes from: 0 for the host, k for the k-th library.
-    pub(crate) file: usize,
-    pub(crate) code: &'a [u8],
-    /// What only a segment has whose references are resolved; `None` for one that is linked
-    /// already, as its role says.
-    pub(crate) resolvable: Option<Resolvable<'a>>,
+    /// The block of its file, from 0, in which its code begins.
+    pub(crate) address: u16,
+    /// The file that has the code: 0 for the host, k for the k-th library.
+    pub file: usize,
+    /// The code, as the file has it.
+    pub code: &'a [u8],
+    /// Its link information; none of a segment that is linked already.
+    pub(crate) records: LinkInformation<'a>,
 }
 
 impl<'a> Model for Segment<'a> {
-    ghost use Rattle.std.specs.Prelude.{◌≡◌, [], is_some};
-    ghost use Rattle.std.specs.Option.{option_map, option_map_or};
-    ghost use Rattle.ps_codefile.specs.Roles.{needs_linking};
-    ghost use Rattle.ps_reading.specs.Sources.{Segment as SegmentOfLink};
+    ghost use Rattle.std.specs.Prelude.{◌≡◌, length};
+    ghost use Rattle.ps_reading.specs.Sources.{Segment as SegmentOfLink, block_behind, tables_of};
+    ghost use Rattle.ps_reading.specs.KnownSegments.{IsKept};
 
     ghost Value = { SegmentOfLink };
 
-    ghost view = { λ s. record { slot = s.slot; name = s.name; role = s.role; added = s.added; file = s.file; index = s.index; code = s.code.now; tables = option_map (λ c. c.procedures) s.resolvable; block = option_map_or (λ c. c.block) s.resolvable 0; records = option_map_or (λ c. c.records) s.resolvable [] } };
+    ghost view = { λ s. record { slot = s.slot; name = s.name; role = s.role; added = s.added; file = s.file; index = s.index; code = s.code.now; tables = tables_of s.order s.code.now s.linked; block = block_behind s.address (length s.code.now) s.linked; records = s.records } };
 
-    ghost invariant = { λ s. is_some s.resolvable ≡ needs_linking s.role };
+    ghost invariant = { λ s. IsKept s.linked s.role s.order s.code.now s.records };
 }
 
 impl<'a> Segment<'a> {
@@ -116,15 +122,15 @@ impl<'a> Segment<'a> {
         self.code
     }
 
-    /// Its procedure tables, which have no fault; `None` for a segment that is linked already.
-    /// Source: UCSD Pascal II.0 manual, code file format.
-    pub fn tables(&self) -> Option<&ProcedureDictionary<'a>>
-        ensures { option_map (λ t. t.now) result ≡ self.now.tables }
+    /// The block of its file, from 0, in which its link information begins; 0 for a segment that
+    /// is linked already.
+    fn block(&self) -> usize
+        ensures { result ≡ self.now.block }
     {
-        match &self.resolvable {
-            None => None,
-            Some(resolvable) => Some(&resolvable.procedures),
+        if !self.linked {
+            return 0;
         }
+        self.address as usize + blocks_of(self.code.len())
     }
 
     /// Its link information; `None` for a segment that is linked already, which has none.
@@ -133,10 +139,27 @@ impl<'a> Segment<'a> {
         ensures linked { is_some result ≡ needs_linking_spec self.now.role }
         ensures records { option_map_or (λ r. r.now) result [] ≡ self.now.records }
     {
-        match &self.resolvable {
-            None => None,
-            Some(resolvable) => Some(&resolvable.records),
+        if !self.linked {
+            return None;
         }
+        Some(&self.records)
+    }
+
+    /// What only a segment has whose references are resolved; `None` for one that is linked
+    /// already, and so has no records.
+    /// Source: this project's profile.
+    pub fn resolvable(&self) -> Option<Resolvable<'_, 'a>>
+        ensures linked { is_some result ≡ needs_linking_spec self.now.role }
+        ensures records { option_map_or (λ c. c.records.now) result [] ≡ self.now.records }
+        ensures tables { option_map (λ c. c.procedures) result ≡ self.now.tables }
+    {
+        if !self.linked {
+            return None;
+        }
+        Some(Resolvable {
+            procedures: ProcedureDictionary::known(self.order, self.code),
+            records: &self.records,
+        })
     }
 
     /// The same segment, as one that was added.
@@ -149,18 +172,6 @@ impl<'a> Segment<'a> {
         }
     }
 
-    /// What only a segment has whose references are resolved; `None` for one that is linked
-    /// already, and so has no records.
-    /// Source: this project's profile.
-    pub fn resolvable(&self) -> Option<&Resolvable<'a>>
-        ensures linked { is_some result ≡ needs_linking_spec self.now.role }
-        ensures records { option_map_or (λ c. c.now.records) result [] ≡ self.now.records }
-        ensures tables { option_map (λ c. c.now.procedures) result ≡ self.now.tables }
-        ensures block { IfSome result (λ c. c.now.block ≡ self.now.block) }
-    {
-        self.resolvable.as_ref()
-    }
-
     /// Where it is: its file, and its slot in the host.
     /// Source: this project's profile.
     pub fn place(&self) -> SegmentAt
@@ -170,6 +181,14 @@ impl<'a> Segment<'a> {
             file: self.file,
             slot: self.slot,
         }
+    }
+
+    /// Its link information begins in this block of this file.
+    fn has_records_at(&self, file: usize, block: usize) -> bool
+        ensures { result ≡ (needs_linking_spec self.now.role && self.now.file == file
+            && self.now.block == block) }
+    {
+        self.linked && self.file == file && self.block() == block
     }
 
     /// Whether one of these segments has references to resolve, as this one has, and its link
@@ -184,10 +203,7 @@ impl<'a> Segment<'a> {
         ensures own { result ≡ false → (needs_linking_spec self.now.role
             && has_records_at self.now.file self.now.block segments.now) ≡ false }
     {
-        match self.resolvable() {
-            None => false,
-            Some(resolvable) => records_at(segments, self.file, resolvable.block).is_some(),
-        }
+        self.role.needs_linking() && records_at(segments, self.file, self.block()).is_some()
     }
 }
 
@@ -202,10 +218,8 @@ pub(crate) fn records_at<'a>(
     ensures none { result ≡ None → has_records_at file block segments.now ≡ false }
 {
     for segment in segments {
-        if let Some(resolvable) = segment.resolvable() {
-            if segment.file == file && resolvable.block == block {
-                return Some(resolvable.records.copy());
-            }
+        if segment.has_records_at(file, block) {
+            return Some(segment.records.copy());
         }
     }
     None

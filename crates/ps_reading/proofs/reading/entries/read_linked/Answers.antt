@@ -1,5 +1,5 @@
 use Rattle.ps_reading.proofs.Vocabulary.{arith, ◌≡◌, Option, Some, None, Result, Err, Reason, ProcedureTables, tables_fault, unless, is_host}
-use Rattle.ps_reading.proofs.reading.entries.read_resolvable.Goals as goal
+use Rattle.ps_reading.proofs.reading.entries.read_linked.Goals as goal
 
 why_of : (fault : Option Reason) (tables : ProcedureTables) (why : Reason)
     → ◌≡◌ {A = Result ProcedureTables Reason} (Err why) (unless fault tables)
@@ -14,5 +14,5 @@ returns-in-Err-clause-fault c =
     let why : tables_fault order code (is_host c.args.role) ≡ Some c.in-Err.reason =
     why_of (tables_fault order code (is_host c.args.role))
     (record { order = order; code = code }) c.in-Err.reason
-    (rw (c.order.ensures, c.is_host.ensures) at c.in-Err.ensures) in
+    (rw (c.order.ensures, c.is_host.ensures) at c.in-Err.ensures.read) in
     grind arith
