@@ -1,6 +1,5 @@
--- As many lists of edits as segments, and as many sources.
-use Rattle.ps_resolve.proofs.Vocabulary.{◌≡◌, ◌∙◌, ℕ, ◌+◌, List, [], ◌∷◌, length, map, refl, sym, ap, arith, length-map, Order, Edit, Segment, private_words, Known, edited_from, LinkSegments, origin_of, origin_of_source}
-use Rattle.ps_resolve.specs.declared.plan.Source.{Source}
+-- As many lists of edits as segments.
+use Rattle.ps_resolve.proofs.Vocabulary.{◌≡◌, ◌∙◌, ℕ, ◌+◌, List, [], ◌∷◌, length, refl, arith, Order, Edit, Segment, next_of, host_records, private_words, total_words, Known, known_of, edited_from, edited_segments, LinkSegments}
 
 -- lists of edits that link segments are as many as these
 linked_len : (order : Order) (es : List (Segment × List Edit)) (ds : List (List Edit))
@@ -16,12 +15,8 @@ edited_len order known words free [] = refl
 edited_len order known words free (s ∷ ss) =
     grind (arith, edited_len order known words (free + private_words s.records) ss)
 
--- the lists of edits that link segments are as many as the sources of these
-pub lengths : (order : Order) (known : Known) (words free : ℕ) (segs : List Segment)
-    (ds : List (List Edit)) (sources : List Source)
-    → LinkSegments order (edited_from order known words free segs) ds
-    → map origin_of_source sources ≡ map origin_of segs → length ds ≡ length sources
-lengths order known words free segs ds sources h o =
-    linked_len order (edited_from order known words free segs) ds h
-    ∙ edited_len order known words free segs ∙ sym (length-map segs origin_of)
-    ∙ ap length (sym o) ∙ length-map sources origin_of_source
+-- the lists of edits that link segments are as many
+pub lengths : (order : Order) (segs : List Segment) (ds : List (List Edit))
+    → LinkSegments order (edited_segments order segs) ds → length ds ≡ length segs
+lengths order segs ds h = linked_len order (edited_segments order segs) ds h
+    ∙ edited_len order (known_of segs) (total_words segs) (next_of (host_records segs)) segs

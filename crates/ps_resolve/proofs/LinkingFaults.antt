@@ -1,9 +1,7 @@
 -- The first fault of a link's segments, stage by stage.
-use Rattle.ps_resolve.proofs.Vocabulary.{arith, ◌≡◌, ℕ, ◌<◌, List, [], ◌∷◌, length, map, true, Option, Some, None, refl, sym, ◌∙◌, ap, All, option_or, option_map_or, Edit, Order, Fault, is_host, next_of, Segment, host_of, host_records, units_of, definitions, first_duplicate, IsStop, duplicate_fault, Allotted, owner_of, all_allotted, allotment_of, first_private_fault, total_words, IsOfSize, AreOfReferences, HasOneHost, Known, known_by, known_of, data_edits, edited_segments, edited_from, AreStopped, LinkSegments, origin_of, origin_of_source, Stop}
+use Rattle.ps_resolve.proofs.Vocabulary.{arith, ◌≡◌, ℕ, ◌<◌, List, [], ◌∷◌, length, map, true, Option, Some, None, refl, sym, ◌∙◌, ap, All, option_or, option_map_or, Edit, Order, Fault, is_host, next_of, Segment, host_of, host_records, units_of, definitions, first_duplicate, IsStop, duplicate_fault, Allotted, owner_of, all_allotted, allotment_of, first_private_fault, total_words, IsOfSize, AreOfReferences, HasOneHost, Known, known_by, known_of, data_edits, edited_segments, edited_from, AreStopped, LinkSegments, Stop}
 use Rattle.ps_resolve.specs.Faults.{definitions_fault, privates_fault, data_fault, size_fault, references_fault, references_fault_from, linking_fault}
 use Rattle.ps_resolve.specs.declared.definitions.Def.{Def}
-use Rattle.ps_resolve.specs.declared.plan.Source.{Source}
-use Rattle.ps_resolve.proofs.Lengths.{lengths}
 
 pub skip : {X : Type 0} (a b : Option X) → a ≡ None → option_or a b ≡ b
 skip a b h = grind arith
@@ -110,8 +108,3 @@ module _ (order : Order) (segs : List Segment) {own : Segment}
 
           pub all_linked : LinkSegments order (edited_segments order segs) edits
           all_linked = grind (arith, linked)
-
-          pub as_many : (sources : List Source)
-              → map origin_of_source sources ≡ map origin_of segs
-              → length edits ≡ length sources
-          as_many sources o = grind (arith, lengths, linked)

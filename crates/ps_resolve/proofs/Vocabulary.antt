@@ -22,7 +22,7 @@ pub use Rattle.ps_resolve.specs.Linkable.{AreSegments, IsHost}
 pub use Rattle.ps_resolve.specs.Linking.{data_edits, edited_from, edited_segments, known_of, segment_edits}
 pub use Rattle.ps_resolve.specs.Offsets.{FollowOn, RiseFrom, is_from, is_of, offset_listed}
 pub use Rattle.ps_resolve.specs.Operands.{edit_of, is_in, operands, reference_reason, refs_fault, value_of, width_of}
-pub use Rattle.ps_resolve.specs.Plans.{AreStopped, IsPlanOf, IsStopped, LinkSegments, LinksSegment, origin_of, origin_of_source}
+pub use Rattle.ps_resolve.specs.Plans.{AreLinks, AreStopped, IsPlanOf, IsStopped, LinkSegments, LinksSegment}
 pub use Rattle.ps_resolve.specs.Privates.{Allotted, Owner, all_allotted, all_words, allotment_of, allotted_privates, first_private_fault, owner_of, owner_of_linkage, private_fault, private_words, total_words, unallotted_fault, words_in}
 pub use Rattle.ps_resolve.specs.References.{HasTarget, HaveTargets, Known, known_by, record_edits, records_edits, records_fault, target_in, target_of, words_taken, words_taken_by}
 pub use Rattle.ps_resolve.specs.Standing.Definitions.{HasEarlierNamesake}

@@ -8,7 +8,6 @@ use Rattle.ps_codefile.specs.Places.{IsWhole}
 use Rattle.ps_codefile.specs.Procedures.{procedures, table_of}
 use Rattle.ps_codefile.specs.Roles.{is_host}
 use Rattle.ps_reading.specs.Sources.{Segment, host_of}
-use Rattle.ps_reading.specs.Added.{slot_names}
 use Rattle.ps_resolve.specs.Edits.{IsOfTable}
 use Rattle.ps_resolve.specs.Privates.{owner_of, private_words, all_words}
 use Rattle.ps_resolve.specs.References.{Known, HaveTargets}
@@ -26,25 +25,20 @@ pub record IsHost (order : Order) (h : HostSegment) : Type 0 where
   pub whole : IsWhole h.segment.now.code h.outer_block
 
 -- The segments of a link, by slot: each sound, one of them the host's, those that share link
--- information alike; and the names of the slots of the linked file.
-pub record AreSegments (order : Order) (host : List ℕ) (names : List (List ℕ))
-    (host_segment : HostSegment) (ss : List Segment) : Type 0 where
-  pub sound : All (IsSound order) ss
-  pub found : host_of ss ≡ Some host_segment.segment.now
-  pub own : IsHost order host_segment
-  pub one_host : HasOneHost ss
-  pub ascending : AscendFrom 0 (map (λ s. s.slot) ss)
-  pub whole : 512 ≤ length host
-  pub alike : AreAlike ss
-  pub most : length ss ≤ SLOT_COUNT
-  pub named : names ≡ slot_names host ss
+-- information alike.
+pub record AreSegments (order : Order) (host_segment : HostSegment) (ss : List Segment) : Type 0
+  where
+    pub sound : All (IsSound order) ss
+    pub found : host_of ss ≡ Some host_segment.segment.now
+    pub own : IsHost order host_segment
+    pub one_host : HasOneHost ss
+    pub ascending : AscendFrom 0 (map (λ s. s.slot) ss)
+    pub alike : AreAlike ss
+    pub most : length ss ≤ SLOT_COUNT
 
--- the byte order of the files, the host file, the names of the slots of the linked file, the host's
--- own segment, and all segments by slot
+-- the byte order of the files, the host's own segment, and all segments by slot
 pub record ReadSegments : Type 0 where
   pub order : Order
-  pub host : List ℕ
-  pub names : List (List ℕ)
   pub own : HostSegment
   pub items : List Segment
 

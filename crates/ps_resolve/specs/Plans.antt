@@ -1,10 +1,9 @@
--- A plan of a link: where the code of each segment comes from, and the edits that link it.
+-- A plan of a link: its segments, and the edits that link them.
 -- Source: this project's profile.
-use Rattle.std.specs.Prelude.{◌≡◌, ℕ, ◌+◌, ◌<◌, List, [], ◌∷◌, length, map, Bool, IsPermutation, ⊤, Some, None}
+use Rattle.std.specs.Prelude.{◌≡◌, ℕ, ◌+◌, ◌<◌, List, [], ◌∷◌, length, map, IsPermutation, ⊤, Some, None}
 use Rattle.ps_words.specs.Edits.{AreEdits, patched_byte}
 use Rattle.ps_words.specs.declared.order.Order.{Order}
 use Rattle.ps_words.specs.declared.edit.Edit.{Edit}
-use Rattle.ps_codefile.specs.Roles.{needs_linking}
 use Rattle.ps_reading.specs.Sources.{Segment, order_of, host_records}
 use Rattle.ps_reading.specs.Added.{segments, slot_names}
 use Rattle.ps_linkinfo.specs.RecordCounts.{next_of}
@@ -17,48 +16,25 @@ use Rattle.ps_reading.specs.Readings.{reading_fault}
 use Rattle.ps_resolve.specs.Stops.{IsStop}
 use Rattle.ps_resolve.specs.declared.definitions.Def.{Def}
 use Rattle.ps_resolve.specs.declared.allotment.Private.{Private}
-use Rattle.ps_resolve.specs.declared.plan.Source.{Source}
 use Rattle.ps_resolve.specs.declared.linkage.Stop.{Stop}
 use Rattle.ps_resolve.specs.declared.linkage.Stop.TheVariants.{Refused, Memory}
 
--- where a segment's code comes from
-pub record Origin : Type 0 where
-  pub slot : ℕ
-  pub file : ℕ
-  pub index : ℕ
-  pub linked : Bool
-  pub added : Bool
-  pub code : List ℕ
+-- what links segments; the edits are in their order
+pub record Links : Type 0 where
+  pub edits : List (List Edit)
+  pub definitions : List (List ℕ × Def)
+  pub privates : List Private
+  pub next_free : ℕ
+  pub private_words : ℕ
+  pub data_size : ℕ
 
--- the origin of a plan's source
-abbrev pub origin_of_source : Source → Origin
-origin_of_source s = record {
-  slot = s.slot;
-  file = s.file;
-  index = s.index;
-  linked = s.linked;
-  added = s.added;
-  code = s.code.now;
-}
-
--- the origin of a segment of a link
-abbrev pub origin_of : Segment → Origin
-origin_of s = record {
-  slot = s.slot;
-  file = s.file;
-  index = s.index;
-  linked = needs_linking s.role;
-  added = s.added;
-  code = s.code;
-}
-
--- what a plan holds; the names are those of all slots, by slot, and the edits are in the order of
--- the sources
+-- what a plan holds; the names are those of all slots, by slot, the sources are the segments of the
+-- link, and the edits are in their order
 pub record Planned : Type 0 where
   pub order : Order
   pub host : List ℕ
   pub names : List (List ℕ)
-  pub origins : List Origin
+  pub sources : List Segment
   pub edits : List (List Edit)
   pub definitions : List (List ℕ × Def)
   pub privates : List Private
@@ -82,13 +58,22 @@ LinkSegments order ((s, own) ∷ es) (d ∷ ds) =
 LinkSegments order [] (d ∷ ds) = ⊥
 LinkSegments order (e ∷ es) [] = ⊥
 
+-- what links these segments, where the host has this byte order
+pub record AreLinks (order : Order) (segs : List Segment) (links : Links) : Type 0 where
+  pub edits : LinkSegments order (edited_segments order segs) links.edits
+  pub definitions : links.definitions ≡ definitions (host_records segs)
+  pub privates : links.privates ≡ all_allotted (next_of (host_records segs)) (map owner_of segs)
+  pub next_free : links.next_free ≡ next_of (host_records segs) + total_words segs
+  pub private_words : links.private_words ≡ total_words segs
+  pub data_size : links.data_size ≡ data_size order segs
+
 -- the plan is that of a link of these segments, of which the host file has this content
 pub record IsPlanOf (host_order : Order) (host : List ℕ) (segs : List Segment)
     (plan : Planned) : Type 0 where
   pub order : plan.order ≡ host_order
   pub of_host : plan.host ≡ host
   pub names : plan.names ≡ slot_names host segs
-  pub origins : plan.origins ≡ map origin_of segs
+  pub sources : plan.sources ≡ segs
   pub edits : LinkSegments host_order (edited_segments host_order segs) plan.edits
   pub definitions : plan.definitions ≡ definitions (host_records segs)
   pub privates : plan.privates ≡ all_allotted (next_of (host_records segs)) (map owner_of segs)

@@ -88,7 +88,7 @@ pub(crate) fn segment_edits<'a, A: Allocator + Copy>(
             edits_patch_alike_in_any_order();
             let host = segment.role().is_host();
             let procedures = resolvable.procedures.procs();
-            let records = &resolvable.records;
+            let records = resolvable.records;
             let own = own_edits(alloc, &procedures, segment.slot(), host, link.size)?;
             let (table, end) = add_records(link, earlier, segment, records, procedures, free, own)?;
             let references = records.references();

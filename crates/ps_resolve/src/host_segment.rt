@@ -32,7 +32,7 @@ fn as_host<'r, 'a>(order: Order, segment: &'r Segment<'a>) -> Option<HostSegment
     let outer_block = resolvable.procedures.table(OUTER_BLOCK)?;
     Some(HostSegment {
         segment,
-        records: &resolvable.records,
+        records: resolvable.records,
         outer_block,
     })
 }

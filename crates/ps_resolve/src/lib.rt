@@ -10,6 +10,7 @@ mod edits;
 mod host_segment;
 mod linkage;
 mod linking;
+mod links;
 mod lone;
 mod name_hasher;
 mod namesakes;
@@ -24,9 +25,9 @@ pub use definitions::{Def, DefKind, Definitions};
 pub use edits::data_size::MAX_DATA_SIZE;
 pub use linkage::{Linkage, Stop};
 pub use lone::lone_fault;
-pub use plan::{Plan, Source};
+pub use plan::Plan;
 pub use ps_reading::{
-    EntryAt, HostReading, Reading, RecordAt, ReferenceAt, Request, Requester, Segment, SegmentAt,
+    EntryAt, HostReading, Reading, RecordAt, ReferenceAt, Request, Requester, Segment, Segment as Source, SegmentAt,
     UnitReference, read, slot_names_are_whole,
 };
-pub use resolving::{resolve, resolve_with_segments};
+pub use resolving::resolve;

@@ -1,9 +1,9 @@
-ghost use Rattle.std.specs.Prelude.{◌≡◌, ℕ, ◌≤◌, ◌∷◌, [], length, map, All, true, None, IfOk, IfErr};
+ghost use Rattle.std.specs.Prelude.{◌≡◌, ℕ, ◌∷◌, [], map, All, true, None, IfOk, IfErr};
 ghost use Rattle.ps_resolve.specs.Edits.{AreOfReferences};
 ghost use Rattle.ps_resolve.specs.Faults.{references_fault_from, linking_fault};
 ghost use Rattle.ps_resolve.specs.Linkable.{AreLinkable};
 ghost use Rattle.ps_resolve.specs.Linking.{data_edits, edited_from};
-ghost use Rattle.ps_resolve.specs.Plans.{AreStopped, IsPlanOf, LinkSegments, origin_of, origin_of_source};
+ghost use Rattle.ps_resolve.specs.Plans.{AreLinks, AreStopped, LinkSegments};
 ghost use Rattle.ps_codefile.specs.Roles.{is_host as is_host_spec};
 
 use crate::allotment::Allotment;
@@ -11,11 +11,9 @@ use crate::definitions::Definitions;
 use crate::edits::data_size::grown_data_size;
 use crate::edits::segment_edits;
 use crate::linkage::Stop;
-use crate::plan::{Plan, Source};
+use crate::links::Links;
 use crate::references::names::{LinkNames, Linking, Names};
 use crate::segments::Segments;
-use arrayvec::ArrayVec;
-use ps_codefile::dictionary_layout::SLOT_COUNT;
 use ps_reading::{HOST_FILE, Segment, SegmentAt, UnitSlots};
 use ps_words::Edit;
 use std::alloc::Allocator;
@@ -50,41 +48,20 @@ fn all_edits<A: Allocator + Copy>(
     Ok(edits)
 }
 
-/// Where the code of each segment comes from. It stands in the body of its caller, so that the
-/// table is handed up once less.
-#[inline(always)]
-fn sources_of<'a>(segments: &[Segment<'a>]) -> ArrayVec<Source<'a>, SLOT_COUNT>
-    requires { length segments.now ≤ SLOT_COUNT }
-    ensures { map origin_of_source result.items ≡ map origin_of segments.now }
-{
-    let mut sources = ArrayVec::new();
-    for segment in segments {
-        sources.push(Source {
-            slot: segment.slot(),
-            file: segment.file(),
-            index: segment.index(),
-            linked: segment.role().needs_linking(),
-            added: segment.added(),
-            code: segment.code(),
-        });
-    }
-    sources
-}
-
-/// Plans the link of segments that were read without a fault, or names the first fault of their
-/// definitions, their privates, the host's data size and their references. A function by itself,
-/// so that its tables take room of the stack only once the files are read.
+/// What links segments that were read without a fault, or the first fault of their definitions,
+/// their privates, the host's data size and their references. A function by itself, so that its
+/// tables take room of the stack only once the files are read.
 #[inline(never)]
-pub(crate) fn link_segments<'a, A: Allocator + Copy>(
+pub(crate) fn link_segments<A: Allocator + Copy>(
     alloc: A,
-    segments: &Segments<'_, 'a>,
-) -> Result<Plan<'a, A>, Stop>
-    ensures plan { IfOk result (IsPlanOf segments.now.order segments.now.host segments.now.items) }
+    segments: &Segments,
+) -> Result<Links<A>, Stop>
+    ensures links { IfOk result (AreLinks segments.now.order segments.now.items) }
     ensures sound { IfOk result (λ _. linking_fault segments.now.order segments.now.items ≡ None) }
     ensures stop { IfErr result (AreStopped segments.now.order segments.now.items) }
 {
     let order = segments.order;
-    let all = segments.items.as_slice();
+    let all = segments.items;
     let own = &segments.own;
     let place = SegmentAt {
         file: HOST_FILE,
@@ -107,12 +84,7 @@ pub(crate) fn link_segments<'a, A: Allocator + Copy>(
         size: size.edit(),
     };
     let edits = all_edits(alloc, &link, all, base)?;
-    let sources = sources_of(all);
-    Ok(Plan {
-        order,
-        host: segments.host,
-        names: segments.names,
-        sources,
+    Ok(Links {
         edits,
         definitions,
         allotment,

@@ -1,50 +1,18 @@
-ghost use Rattle.std.specs.Prelude.{◌≡◌, ◌<◌, length, map, slice_get, Some};
+ghost use Rattle.std.specs.Prelude.{◌≡◌, ◌<◌, length, slice_get, Some};
 ghost use Rattle.ps_codefile.specs.Dictionary.{tail_of};
-ghost use Rattle.ps_resolve.specs.Plans.{origin_of_source};
 
 use crate::allotment::Allotment;
 use crate::definitions::Definitions;
+use crate::links::Links;
 use arrayvec::ArrayVec;
 use ps_codefile::dictionary_layout::{SLOT_COUNT, TAIL};
+use ps_reading::Segment;
+use ps_reading::Segment as Source;
 use ps_words::{BLOCK_SIZE, Edit, Name, Order};
 use std::alloc::{Allocator, Global};
 use std::marker::Model;
 
-/// Where the code of a segment comes from.
-///
-/// A plan has a table of sixteen, so its small fields are together.
-/// Source: this project's profile.
-#[derive(Clone, Copy)]
-pub struct Source<'a> {
-    /// Its slot in the host and in the linked file, 0 to 15.
-    pub slot: u8,
-    /// The slot of its entry in that file, 0 to 15.
-    pub index: u8,
-    /// Its references are resolved; the code of a segment that is linked already is copied as it
-    /// is.
-    pub linked: bool,
-    /// It was added in an empty slot of the host, for a unit that only a UNITREF record names.
-    pub added: bool,
-    /// The file that has the code: 0 for the host, k for the k-th library.
-    pub file: usize,
-    /// The code, as the input has it.
-    pub code: &'a [u8],
-}
-
-impl<'a> Default for Source<'a> {
-    fn default() -> Self {
-        Source {
-            slot: 0,
-            index: 0,
-            linked: false,
-            added: false,
-            file: 0,
-            code: &[],
-        }
-    }
-}
-
-/// A plan of a link: where the code of each segment comes from, and what is stored in it.
+/// A plan of a link: its segments, and what is stored in the code of each.
 ///
 /// It holds views of the inputs, and no copy of them.
 /// Source: this project's profile.
@@ -53,22 +21,19 @@ pub struct Plan<'a, A: Allocator + Copy = Global> {
     pub(crate) order: Order,
     pub(crate) host: &'a [u8],
     pub(crate) names: [Name; SLOT_COUNT],
-    pub(crate) sources: ArrayVec<Source<'a>, SLOT_COUNT>,
-    pub(crate) edits: Vec<Vec<Edit, A>, A>,
-    pub(crate) definitions: Definitions<A>,
-    pub(crate) allotment: Allotment<A>,
-    pub(crate) data_size: u16,
+    pub(crate) sources: ArrayVec<Segment<'a>, SLOT_COUNT>,
+    pub(crate) links: Links<A>,
 }
 
 impl<'a, A: Allocator + Copy> Model for Plan<'a, A> {
-    ghost use Rattle.std.specs.Prelude.{◌≡◌, ◌≤◌, map, length};
-    ghost use Rattle.ps_resolve.specs.Plans.{Planned, origin_of_source};
+    ghost use Rattle.std.specs.Prelude.{◌≡◌, ◌≤◌, length};
+    ghost use Rattle.ps_resolve.specs.Plans.{Planned};
 
     ghost Value = { Planned };
 
-    ghost view = { λ p. record { order = p.order; host = p.host.now; names = p.names; origins = map origin_of_source p.sources.items; edits = map (λ e. e.items) p.edits.items; definitions = p.definitions; privates = p.allotment.privates; next_free = p.allotment.next_free; private_words = p.allotment.words; data_size = p.data_size } };
+    ghost view = { λ p. record { order = p.order; host = p.host.now; names = p.names; sources = p.sources.items; edits = p.links.edits; definitions = p.links.definitions; privates = p.links.privates; next_free = p.links.next_free; private_words = p.links.private_words; data_size = p.links.data_size } };
 
-    ghost invariant = { λ p. (length p.edits.items ≡ length p.sources.items) × (512 ≤ length p.host.now) };
+    ghost invariant = { λ p. (length p.links.edits ≡ length p.sources.items) × (512 ≤ length p.host.now) };
 }
 
 impl<'a, A: Allocator + Copy> Plan<'a, A> {
@@ -97,10 +62,10 @@ impl<'a, A: Allocator + Copy> Plan<'a, A> {
         &self.host[TAIL..BLOCK_SIZE]
     }
 
-    /// Where the code of each segment comes from, by slot ascending.
+    /// The segments of the linked file, by slot ascending, as the files have them.
     /// Source: this project's profile.
     pub fn sources(&self) -> &[Source<'a>]
-        ensures origins { map origin_of_source result.now ≡ self.now.origins }
+        ensures sources { result.now ≡ self.now.sources }
         ensures count { length result.now ≡ length self.now.edits }
     {
         self.sources.as_slice()
@@ -117,7 +82,7 @@ impl<'a, A: Allocator + Copy> Plan<'a, A> {
         requires { k < length self.now.edits }
         ensures { slice_get self.now.edits k ≡ Some result.now }
     {
-        self.edits[k].as_slice()
+        self.links.edits[k].as_slice()
     }
 
     /// The definitions of the host's segment.
@@ -125,7 +90,7 @@ impl<'a, A: Allocator + Copy> Plan<'a, A> {
     pub fn definitions(&self) -> &Definitions<A>
         ensures { result.now ≡ self.now.definitions }
     {
-        &self.definitions
+        &self.links.definitions
     }
 
     /// The private variables of all segments.
@@ -135,7 +100,7 @@ impl<'a, A: Allocator + Copy> Plan<'a, A> {
         ensures words { result.now.words ≡ self.now.private_words }
         ensures next_free { result.now.next_free ≡ self.now.next_free }
     {
-        &self.allotment
+        &self.links.allotment
     }
 
     /// How many words all private variables take, 0 to `MAX_NEXT_FREE`.
@@ -143,7 +108,7 @@ impl<'a, A: Allocator + Copy> Plan<'a, A> {
     pub fn private_words(&self) -> u16
         ensures { result ≡ self.now.private_words }
     {
-        self.allotment.words()
+        self.links.allotment.words()
     }
 
     /// The base offset in words, 0 to `MAX_WORD`, after the last private variable: the one that the
@@ -152,7 +117,7 @@ impl<'a, A: Allocator + Copy> Plan<'a, A> {
     pub fn next_free(&self) -> u16
         ensures { result ≡ self.now.next_free }
     {
-        self.allotment.next_free()
+        self.links.allotment.next_free()
     }
 
     /// The data size of the host's outer block in the linked file, in bytes, 0 to `MAX_DATA_SIZE`.
@@ -160,6 +125,6 @@ impl<'a, A: Allocator + Copy> Plan<'a, A> {
     pub fn data_size(&self) -> u16
         ensures { result ≡ self.now.data_size }
     {
-        self.data_size
+        self.links.data_size
     }
 }

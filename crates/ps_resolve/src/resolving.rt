@@ -1,9 +1,9 @@
 ghost use Rattle.std.specs.Prelude.{◌≡◌, [], IfOk, IfErr, None, Ok, All};
 ghost use Rattle.ps_codefile.specs.Dictionary.{opened_alone};
-ghost use Rattle.ps_reading.specs.Sources.{contents, opened};
+ghost use Rattle.ps_reading.specs.Sources.{contents, opened, order_of};
 ghost use Rattle.ps_resolve.specs.LinkedBytes.{segments_of};
 ghost use Rattle.ps_reading.specs.OfLink.{AreOfLink};
-ghost use Rattle.ps_resolve.specs.Plans.{IsPlan, IsStopped};
+ghost use Rattle.ps_resolve.specs.Plans.{AreLinks, IsPlan, IsStopped};
 ghost use Rattle.ps_resolve.specs.AllFaults.{first_fault};
 ghost use Rattle.ps_reading.specs.Readings.{own_reading_fault, read_segments};
 ghost use Rattle.ps_reading.specs.KnownSegments.{IsRead};
@@ -11,6 +11,7 @@ ghost use Rattle.ps_reading.specs.KnownSegments.{IsRead};
 use crate::host_segment::host_of;
 use crate::linkage::Stop;
 use crate::linking::link_segments;
+use crate::links::Links;
 use crate::plan::Plan;
 use crate::segments::Segments;
 use arrayvec::ArrayVec;
@@ -42,40 +43,14 @@ pub fn resolve<'a, A: Allocator + Copy>(
 {
     match Dict::read(host) {
         Err(reason) => Err(Stop::Refused(Fault::in_file(HOST_FILE, reason))),
-        Ok(dict) => link_alone(alloc, host, dict, libs),
+        Ok(dict) => resolve_opened(alloc, host, dict, libs),
     }
 }
 
-/// Plans a link as `resolve` does, and gives its segments beside the plan, by slot ascending: those
-/// of which the plan has the sources, with their records, as the files have them.
-///
-/// Refuses what `resolve` refuses. Source: this project's profile.
-pub fn resolve_with_segments<'a, A: Allocator + Copy>(
-    alloc: A,
-    host: &'a [u8],
-    libs: &'a [&'a [u8]],
-) -> Result<(Plan<'a, A>, ArrayVec<Segment<'a>, SLOT_COUNT>), Stop>
-    ensures plan { IfOk result (λ found. IsPlan host.now (contents libs.now) found.0) }
-    ensures segments { IfOk result (λ found. found.1.items
-        ≡ segments_of host.now (contents libs.now)) }
-    ensures sound { IfOk result (λ _. first_fault host.now (contents libs.now) ≡ None) }
-    ensures known { IfOk result (λ found. AreOfLink host.now (contents libs.now) found.1.items) }
-    ensures stop { IfErr result (IsStopped host.now (contents libs.now)) }
-{
-    let mut segments = ArrayVec::new();
-    match Dict::read(host) {
-        Err(reason) => Err(Stop::Refused(Fault::in_file(HOST_FILE, reason))),
-        Ok(dict) => match link_opened(alloc, host, dict, libs, &mut segments) {
-            Err(stop) => Err(stop),
-            Ok(plan) => Ok((plan, segments)),
-        },
-    }
-}
-
-/// Plans the link of a host that was opened, whose segments nobody else looks at: their table is
-/// here. A function by itself, so that a host that cannot be opened needs no room for it.
+/// Plans the link of a host that was opened. A function by itself, so that a host that cannot be
+/// opened needs no room for it. The plan is made last, of the table that was filled.
 #[inline(never)]
-fn link_alone<'a, A: Allocator + Copy>(
+fn resolve_opened<'a, A: Allocator + Copy>(
     alloc: A,
     host: &'a [u8],
     dict: Dict<'a>,
@@ -88,24 +63,32 @@ fn link_alone<'a, A: Allocator + Copy>(
         (segments_of host.now (contents libs.now))) }
     ensures stop { IfErr result (IsStopped host.now (contents libs.now)) }
 {
-    let mut segments = ArrayVec::new();
-    link_opened(alloc, host, dict, libs, &mut segments)
+    let slots = HostSlots::of(dict);
+    let mut sources = ArrayVec::new();
+    let links = link_slots(alloc, host, libs, &slots, &mut sources)?;
+    let names = slot_names(&slots, sources.as_slice());
+    Ok(Plan {
+        order: slots.order(),
+        host,
+        names,
+        sources,
+        links,
+    })
 }
 
-/// Plans the link of a host that was opened, and fills the table with its segments. Its own slots
-/// are read first, and units are added only where these have no fault. It stands in the body of its
-/// caller, so that the plan is handed up once less.
-#[inline(always)]
-fn link_opened<'a, A: Allocator + Copy>(
+/// Links the slots of a host that was opened, and fills the table with the segments. Its own slots
+/// are read first, and units are added only where these have no fault.
+fn link_slots<'a, A: Allocator + Copy>(
     alloc: A,
     host: &'a [u8],
-    dict: Dict<'a>,
     libs: &'a [&'a [u8]],
+    slots: &HostSlots<'a>,
     segments: &mut ArrayVec<Segment<'a>, SLOT_COUNT>,
-) -> Result<Plan<'a, A>, Stop>
-    requires opened { Ok dict ≡ opened_alone host.now }
+) -> Result<Links<A>, Stop>
+    requires opened { Ok slots.now ≡ opened_alone host.now }
     requires empty { segments.old.items ≡ [] }
-    ensures plan { IfOk result (IsPlan host.now (contents libs.now)) }
+    ensures links { IfOk result (AreLinks (order_of host.now)
+        (segments_of host.now (contents libs.now))) }
     ensures segments { IfOk result (λ _. segments.new.items
         ≡ segments_of host.now (contents libs.now)) }
     ensures sound { IfOk result (λ _. first_fault host.now (contents libs.now) ≡ None) }
@@ -113,15 +96,14 @@ fn link_opened<'a, A: Allocator + Copy>(
         (segments_of host.now (contents libs.now))) }
     ensures stop { IfErr result (IsStopped host.now (contents libs.now)) }
 {
-    let slots = HostSlots::of(dict);
-    match read_own(&slots, libs, segments) {
+    match read_own(slots, libs, segments) {
         Some(fault) => Err(Stop::Refused(fault)),
-        None => link_units(alloc, host, libs, &slots, segments),
+        None => link_units(alloc, host, libs, slots, segments),
     }
 }
 
-/// Plans the link of files whose own slots were read, once units are added to their segments. A
-/// function by itself, so that only a host that gets so far needs room for what a link has.
+/// Links the files whose own slots were read, once units are added to their segments. A function by
+/// itself, so that only a host that gets so far needs room for what a link has.
 #[inline(never)]
 fn link_units<'a, A: Allocator + Copy>(
     alloc: A,
@@ -129,7 +111,7 @@ fn link_units<'a, A: Allocator + Copy>(
     libs: &'a [&'a [u8]],
     slots: &HostSlots<'a>,
     segments: &mut ArrayVec<Segment<'a>, SLOT_COUNT>,
-) -> Result<Plan<'a, A>, Stop>
+) -> Result<Links<A>, Stop>
     requires opened { Ok slots.now ≡ opened_alone host.now }
     requires own { segments.old.items
         ≡ read_segments slots.now.order slots.now.file (opened slots.now.order libs.now) }
@@ -137,7 +119,8 @@ fn link_units<'a, A: Allocator + Copy>(
         (opened slots.now.order libs.now)) segments.old.items }
     requires faultless { own_reading_fault slots.now.order slots.now.file (contents libs.now)
         ≡ None }
-    ensures plan { IfOk result (IsPlan host.now (contents libs.now)) }
+    ensures links { IfOk result (AreLinks (order_of host.now)
+        (segments_of host.now (contents libs.now))) }
     ensures segments { IfOk result (λ _. segments.new.items
         ≡ segments_of host.now (contents libs.now)) }
     ensures sound { IfOk result (λ _. first_fault host.now (contents libs.now) ≡ None) }
@@ -149,19 +132,9 @@ fn link_units<'a, A: Allocator + Copy>(
         return Err(Stop::Refused(fault));
     }
     let order = slots.order();
-    let all = segments.as_slice();
-    let names = slot_names(slots, all);
-    match host_of(order, all) {
+    let items = segments.as_slice();
+    match host_of(order, items) {
         None => Err(Stop::Refused(Fault::in_file(HOST_FILE, Reason::NoHost))),
-        Some(own) => {
-            let linkable = Segments {
-                order,
-                host,
-                names,
-                own,
-                items: segments,
-            };
-            link_segments(alloc, &linkable)
-        }
+        Some(own) => link_segments(alloc, &Segments { order, own, items }),
     }
 }

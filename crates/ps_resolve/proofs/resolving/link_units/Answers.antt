@@ -1,11 +1,11 @@
-use Rattle.ps_resolve.proofs.Vocabulary.{◌≡◌, ◌≤◌, ℕ, List, length, map, Bool, true, false, if◌then◌else◌, Option, None, Ok, Err, is_some, refl, sym, ◌∙◌, ap, subst, arith, ltb, IfOk, nat_tests, IfErr-weaker, IfOk-weaker, Fault, Order, OpenedFile, FileOrder, file_order, opened_alone, opened_as, Segment, contents, host_of, opened_files, order_of, segments, slot_names, linking_fault, AscendFrom, HasOneHost, first_fault, reading_fault, AreOfLink, AreStopped, IsPlanOf, IsStopped, all_read, host_reading_fault, own_reading_fault, read_rounds, SLOT_COUNT}
-use Rattle.ps_words.specs.declared.fault.Reason.TheVariants as reason
+use Rattle.ps_resolve.proofs.Vocabulary.{◌≡◌, ℕ, List, length, map, Bool, true, false, Option, None, Ok, is_some, refl, sym, ◌∙◌, ap, subst, All, IfOk, IfErr-weaker, IfOk-weaker, Fault, Order, OpenedFile, opened_alone, Segment, contents, host_of, opened_files, order_of, segments, linking_fault, AscendFrom, HasOneHost, first_fault, reading_fault, AreOfLink, AreStopped, AreLinks, IsStopped, all_read, host_reading_fault, own_reading_fault, read_rounds}
 use Rattle.ps_resolve.proofs.FirstFaults.{first_read, first_linked, stopped}
 use Rattle.ps_reading.proofs.OfLink.{has_host, of_link, slots_fine}
 use Rattle.ps_reading.proofs.ReadingHosts.{host_is, host_read}
 use Rattle.ps_reading.proofs.ReadingKnown.{ascend, one_host}
 use Rattle.ps_reading.proofs.ReadingSlots.{reading_is, segments_are, units_last}
 use Rattle.ps_reading.proofs.SharedRecords.{all_sound, read_alike}
+use Rattle.ps_reading.specs.KnownSegments.{IsRead}
 use Rattle.ps_resolve.proofs.resolving.link_units.Goals as goal
 
 -- the first fault of reading a host that was opened
@@ -44,20 +44,10 @@ faultless : (o : OpenedFile) (libs : List (List ℕ)) (last : Option Fault)
 faultless o libs last own ends none = sym (units_last o.order o.file libs None last (sym own) ends)
     ∙ none
 
--- a host that was opened has a whole dictionary
-not_short : (short : Bool) (of : FileOrder) (file : List ℕ) (o : OpenedFile)
-    → (if short then Err reason.ShortFile else opened_as file of) ≡ Ok o → short ≡ false
-not_short true of file o h = cc
-not_short false of file o h = refl
-
-whole_of : (host : List ℕ) (o : OpenedFile) → Ok o ≡ opened_alone host → 512 ≤ length host
-whole_of host o h = let e : ltb (length host) 512 ≡ false =
-    not_short (ltb (length host) 512) (file_order host) host o (sym h) in grind (arith, nat_tests)
-
 pub host_of-requires : goal.host_of-requires
 host_of-requires g c =
     let o : OpenedFile = c.args.slots.now in
-    rw (c.as_slice-all.ensures.value, c.order-order.ensures)
+    rw (c.as_slice-items.ensures.value, c.order-order.ensures)
     (all_sound o.order o.file (opened_files o.order (contents c.args.libs.now))
     c.read_added.new.segments.items c.read_added.ensures.read)
 
@@ -71,40 +61,36 @@ returns-in-None-clause-stop g c =
     let t = all_of host libs o c.read_added.new.segments.items c.requires.opened
     c.read_added.ensures.all none in
     let has = has_host host libs t.0 in
-    let lacks = c.in-None.ensures.found ∙ ap host_of c.as_slice-all.ensures.value
+    let lacks = c.in-None.ensures.found ∙ ap host_of c.as_slice-items.ensures.value
     ∙ ap host_of t.1 in
     let no : is_some (host_of (segments (order_of host) host libs)) ≡ false =
     ap is_some (sym lacks) in
     let wrong : true ≡ false = sym has ∙ no in
     cc
 
-pub invariant_of-linkable : goal.invariant_of-linkable
-invariant_of-linkable g c =
+pub invariant_of-link_segments : goal.invariant_of-link_segments
+invariant_of-link_segments g c =
     let o : OpenedFile = c.args.slots.now in
     let libs = contents c.args.libs.now in
     let files = opened_files o.order libs in
-    let items : List Segment = c.read_added.new.segments.items in
+    let given : List Segment = c.as_slice-items.result.now in
     let none = faultless o libs c.read_added.result.fault c.requires.faultless c.read_added.ensures.ends
     c.in_default.is in
     let host : List ℕ = c.args.host.now in
-    let t = all_of host libs o items c.requires.opened c.read_added.ensures.all none in
-    let file : o.file ≡ c.args.host.now =
-    ap (λ (x : OpenedFile). x.file) (host_is c.args.host.now o (sym c.requires.opened)) in
+    let value = c.as_slice-items.ensures.value in
+    let t = all_of host libs o given c.requires.opened (value ∙ c.read_added.ensures.all) none in
+    let read : All (IsRead o.order o.file files) given =
+    subst (All (IsRead o.order o.file files)) (sym value) c.read_added.ensures.read in
     record {
-      sound = rw c.order-order.ensures (all_sound o.order o.file files items c.read_added.ensures.read);
-      found = sym (c.in-Some-host_of.ensures.found ∙ ap host_of c.as_slice-all.ensures.value);
+      sound = rw c.order-order.ensures (all_sound o.order o.file files given read);
+      found = sym c.in-Some-host_of.ensures.found;
       own = c.in-Some-host_of.ensures.is;
       one_host = subst HasOneHost (sym t.1)
           (one_host (order_of host) host libs (slots_fine host libs t.0));
       ascending = subst (λ (ss : List Segment). AscendFrom 0 (map (λ s. s.slot) ss)) (sym t.1)
           (ascend (order_of host) host libs);
-      whole = whole_of c.args.host.now o c.requires.opened;
-      alike = read_alike o.order o.file files items c.read_added.ensures.read;
-      most = subst (λ (ss : List Segment). length ss ≤ SLOT_COUNT) c.as_slice-all.ensures.value
-          c.as_slice-all.ensures.fits;
-      named = c.slot_names-names.ensures
-          ∙ (ap (λ (xs : List ℕ). slot_names xs c.as_slice-all.result.now) file
-          ∙ ap (slot_names c.args.host.now) c.as_slice-all.ensures.value);
+      alike = read_alike o.order o.file files given read;
+      most = c.as_slice-items.ensures.fits;
     }
 
 pub returns-in-Some-host_of : goal.returns-in-Some-host_of
@@ -114,24 +100,26 @@ returns-in-Some-host_of g c =
     let libs = contents c.args.libs.now in
     let is = host_is host o (sym c.requires.opened) in
     let order : Order = c.order-order.result in
-    let given : List Segment = c.read_added.new.segments.items in
+    let given : List Segment = c.as_slice-items.result.now in
     let all : List Segment = segments (order_of host) host libs in
     let read = faultless o libs c.read_added.result.fault c.requires.faultless c.read_added.ensures.ends
     c.in_default.is in
     let order_is : order ≡ order_of host =
     c.order-order.ensures ∙ ap (λ (x : OpenedFile). x.order) is in
-    let t = all_of host libs o given c.requires.opened c.read_added.ensures.all read in
+    let value = c.as_slice-items.ensures.value in
+    let t = all_of host libs o given c.requires.opened (value ∙ c.read_added.ensures.all) read in
     let same : linking_fault order given ≡ linking_fault (order_of host) all =
     ap (linking_fault order) t.1 ∙ ap (λ (o : Order). linking_fault o all) order_is in
     record {
-      plan = subst (λ (o : Order). IfOk c.link_segments.result (IsPlanOf o host all)) order_is
-          (subst (λ (segs : List Segment). IfOk c.link_segments.result (IsPlanOf order host segs))
-          t.1 c.link_segments.ensures.plan);
+      links = subst (λ (o : Order). IfOk c.link_segments.result (AreLinks o all)) order_is
+          (subst (λ (segs : List Segment). IfOk c.link_segments.result (AreLinks order segs)) t.1
+          c.link_segments.ensures.links);
       sound = IfOk-weaker c.link_segments.result (λ _. linking_fault order given ≡ None)
           (λ _. first_fault host libs ≡ None)
           (λ _ h. first_linked host libs t.0 ∙ sym same ∙ h) c.link_segments.ensures.sound;
       segments = IfOk-weaker c.link_segments.result (λ _. linking_fault order given ≡ None)
-          (λ _. given ≡ all) (λ _ h. t.1) c.link_segments.ensures.sound;
+          (λ _. c.read_added.new.segments.items ≡ all) (λ _ h. sym value ∙ t.1)
+          c.link_segments.ensures.sound;
       known = IfOk-weaker c.link_segments.result (λ _. linking_fault order given ≡ None)
           (λ _. AreOfLink host libs all)
           (λ _ h. of_link host libs t.0) c.link_segments.ensures.sound;

@@ -1,7 +1,7 @@
 use Rattle.ps_resolve.proofs.Vocabulary.{◌≡◌, ℕ, List, Ok, Some, refl, sym, ◌∙◌, ap, OpenedFile, opened_alone, contents, HostFiles, opened_host, own_reading_fault}
 use Rattle.ps_resolve.proofs.FirstFaults.{first_read}
 use Rattle.ps_reading.proofs.ReadingSlots.{fault_of_host, first_own}
-use Rattle.ps_resolve.proofs.resolving.link_opened.Goals as goal
+use Rattle.ps_resolve.proofs.resolving.link_slots.Goals as goal
 
 -- a host that was opened, with its libraries
 abbrev files_of : OpenedFile → List (List ℕ) → HostFiles
@@ -15,19 +15,17 @@ pub returns-in-Some-clause-stop : goal.returns-in-Some-clause-stop
 returns-in-Some-clause-stop g c =
     let host = c.args.host.now in
     let libs = contents c.args.libs.now in
-    let slots : OpenedFile = c.of-slots.result in
+    let slots : OpenedFile = c.args.slots.now in
     let v = files_of slots libs in
     let fault = c.in-Some.fault in
     let found : own_reading_fault v.order v.file v.libs ≡ Some fault =
     sym c.read_own.ensures.first ∙ c.in-Some.is in
-    let opened : opened_alone host ≡ Ok slots =
-    sym (ap (λ (o : OpenedFile). Ok o) c.of-slots.ensures ∙ c.requires.opened) in
-    first_read host libs fault (sym (fault_of_host host libs v (opened_is host libs slots opened))
+    first_read host libs fault (sym (fault_of_host host libs v (opened_is host libs slots (sym c.requires.opened)))
     ∙ first_own v.order v.file v.libs fault found)
 
 pub link_units-requires : goal.link_units-requires
 link_units-requires g c = record {
-  opened = ap (λ (o : OpenedFile). Ok o) c.of-slots.ensures ∙ c.requires.opened;
+  opened = c.requires.opened;
   own = c.read_own.ensures.segments;
   read = c.read_own.ensures.read;
   faultless = sym c.read_own.ensures.first ∙ c.in-None.is;
