@@ -1,5 +1,5 @@
 -- The sixteen pairs of a segment dictionary, byte by byte.
-use Rattle.ps_linkfile.proofs.Vocabulary.{flat_map, range_with_len, cases_lt, word_bytes, blocks, Order, Origin, slots, Ascend, get_or-replicate, length-replicate, get_or_append_left, ext_get_or, drop_all, ◌≡◌, ◌≢◌, ℕ, zero, suc, ◌+◌, ◌*◌, ◌/◌, ◌%◌, ◌≤◌, ◌<◌, List, [], ◌∷◌, ◌++◌, length, get_or, drop, replicate, sym, ◌∙◌, ap, subst, inl, inr, arith, length-append, get_or-append_right, SLOTS}
+use Rattle.ps_linkfile.proofs.Vocabulary.{flat_map, range_with_len, cases_lt, word_bytes, blocks, Order, slots, Ascend, get_or-replicate, length-replicate, get_or_append_left, ext_get_or, drop_all, ◌≡◌, ◌≢◌, ℕ, zero, suc, ◌+◌, ◌*◌, ◌/◌, ◌%◌, ◌≤◌, ◌<◌, List, [], ◌∷◌, ◌++◌, length, get_or, drop, replicate, sym, ◌∙◌, ap, subst, inl, inr, arith, length-append, get_or-append_right, SLOTS, Segment}
 use Rattle.ps_linkfile.specs.LinkedFile.{block_of, pair_of, all_pairs}
 use Rattle.ps_linkfile.proofs.Blocks.{Left, left_start, left_more, first_block, first_pair, no_pair}
 
@@ -19,7 +19,7 @@ module _ (f : ℕ → List ℕ) where
       let rest = four_each h n (a + 1) in
       length-append (f a) (flat_map f (range_with_len (a + 1) n)) ∙ omega (arith, h a, rest)
 
-module _ (order : Order) (all : List Origin) where
+module _ (order : Order) (all : List Segment) where
   -- the pair of a slot has four bytes
   pub pair_four : (slot : ℕ) → length (pair_of order all slot) ≡ 4
   pair_four slot = grind arith
@@ -66,7 +66,7 @@ zeros_at : (j : ℕ) → get_or four_zeros j 0 ≡ 0
 zeros_at j = grind arith
 
 -- the pairs of the first so many codes are stored, and the rest are zeros
-pub record PairsSoFar (order : Order) (all : List Origin) (count : ℕ) (pairs : List ℕ)
+pub record PairsSoFar (order : Order) (all : List Segment) (count : ℕ) (pairs : List ℕ)
     (block from : ℕ) : Type 0 where
   pub size : length pairs ≡ 64
   pub left : Left all from block (drop count all)
@@ -75,7 +75,7 @@ pub record PairsSoFar (order : Order) (all : List Origin) (count : ℕ) (pairs :
   pub empty : (slot j : ℕ) → from ≤ slot → slot < SLOTS → j < 4
       → get_or pairs (4 * slot + j) 0 ≡ 0
 
-module _ (order : Order) (all : List Origin) where
+module _ (order : Order) (all : List Segment) where
   -- none is stored
   pub pairs_none : Ascend 0 all → PairsSoFar order all 0 (replicate 64 0) 1 0
   pairs_none h = record {
@@ -86,7 +86,7 @@ module _ (order : Order) (all : List Origin) where
   }
 
   -- the pair of one code more
-  pub pairs_more : (count : ℕ) (old mid new : List ℕ) (block from start : ℕ) (o : Origin)
+  pub pairs_more : (count : ℕ) (old mid new : List ℕ) (block from start : ℕ) (o : Segment)
       → drop count all ≡ o ∷ drop (count + 1) all → start ≡ block_of all o.slot
       → PairsSoFar order all count old block from → IsPut order old mid (4 * o.slot) start
       → IsPut order mid new (4 * o.slot + 2) (length o.code)

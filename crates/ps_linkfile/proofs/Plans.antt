@@ -1,5 +1,5 @@
 -- A plan of a link can be written, and its file is the linked file.
-use Rattle.ps_linkfile.proofs.Vocabulary.{length-map, flat_map, patched_byte, Order, Edit, private_words, Segment, order_of, Known, Planned, origin_of, LinkSegments, IsPlan, linked_segments, padded_code, padded_segment, linked_file, padded_codes, file_in, HaveEdits, known_of, total_words, next_of, host_records, arith, ◌≡◌, ℕ, ◌+◌, ◌≤◌, ◌<◌, List, [], ◌∷◌, length, map, refl, ap, block_len, segments_of, edited_from, summary_of, summary_in, IsReady}
+use Rattle.ps_linkfile.proofs.Vocabulary.{length-map, flat_map, patched_byte, Order, Edit, private_words, Segment, order_of, Known, Planned, LinkSegments, IsPlan, linked_segments, padded_code, padded_segment, linked_file, padded_codes, file_in, HaveEdits, known_of, total_words, next_of, host_records, arith, ◌≡◌, ℕ, ◌+◌, ◌≤◌, ◌<◌, List, [], ◌∷◌, length, map, refl, ap, block_len, segments_of, edited_from, summary_of, summary_in, IsReady}
 use Rattle.ps_resolve.specs.Added.{slot_names}
 use Rattle.ps_linkfile.proofs.Slots.{segments_ascend, segments_small}
 
@@ -22,7 +22,7 @@ linked_are host libs = let ss = segments_of host libs in of_edited (order_of hos
 -- each source has its own edits
 have_edits : (order : Order) (known : Known) (words free : ℕ) (ss : List Segment)
     (ds : List (List Edit)) → LinkSegments order (edited_from order known words free ss) ds
-    → HaveEdits (map origin_of ss) ds
+    → HaveEdits ss ds
 have_edits order known words free [] [] h = tt
 have_edits order known words free (s ∷ ss) (d ∷ ds) h =
     (h.0.ready, have_edits order known words (free + private_words s.records) ss ds h.1)
@@ -40,11 +40,11 @@ padded_alike : (order : Order) (code : List ℕ) (d e : List Edit)
     ≡ patched_byte order code e p) → padded_code order code d ≡ padded_code order code e
 padded_alike order code d e h = grind arith
 
--- with edits that link the segments, the padded codes of the segments' origins are those of the
+-- with edits that link the segments, the padded codes of the segments are those of the
 -- linked segments
 codes_are : (order : Order) (known : Known) (words free : ℕ) (ss : List Segment)
     (ds : List (List Edit)) → LinkSegments order (edited_from order known words free ss) ds
-    → padded_codes order (map origin_of ss) ds
+    → padded_codes order ss ds
     ≡ flat_map (padded_segment order) (edited_from order known words free ss)
 codes_are order known words free [] [] h = refl
 codes_are order known words free (s ∷ ss) (d ∷ ds) h = grind
@@ -53,7 +53,7 @@ codes_are order known words free ss ds h = absurd h
 
 module _ (host : List ℕ) (libs : List (List ℕ)) (plan : Planned) where
   -- the padded codes of a plan of a link are those of the link's segments with their edits
-  plan_codes : IsPlan host libs plan → padded_codes plan.order plan.origins plan.edits
+  plan_codes : IsPlan host libs plan → padded_codes plan.order plan.sources plan.edits
       ≡ flat_map (padded_segment (order_of host)) (linked_segments host libs)
   plan_codes h = grind (arith, codes_are)
 

@@ -1,5 +1,5 @@
 -- The segments of a link are by slot, and no code is longer than MAX_CODE_LEN bytes.
-use Rattle.ps_linkfile.proofs.Vocabulary.{All, Order, entry_at, MAX_CODE_LEN, Origin, Ascend, origin_of, ℕ, ◌+◌, ◌<◌, ◌≤◌, List, [], ◌∷◌, length, map, sym, subst, inl, inr, arith, All-map, All-tail, Segment, file_at, SLOTS}
+use Rattle.ps_linkfile.proofs.Vocabulary.{All, Order, entry_at, MAX_CODE_LEN, Ascend, ℕ, ◌+◌, ◌<◌, ◌≤◌, List, [], ◌∷◌, length, map, sym, subst, inl, inr, arith, All-tail, Segment, file_at, SLOTS}
 use Rattle.ps_codefile.specs.declared.entry.Role.{Role}
 use Rattle.ps_codefile.specs.declared.entry.Role.TheVariants.{Wanted}
 use Rattle.ps_resolve.specs.Added.{segments, segment_at, added_segments}
@@ -41,21 +41,19 @@ module _ (order : Order) (host : List ℕ) (libs : List (List ℕ)) where
   all_within = each_slot (λ (s : Segment). s.slot < SLOTS) (segment_at order host libs)
       (λ x s lt h. let at = (slot_parts order host libs x s h).0 in omega arith)
 
-origins_ascend : (from : ℕ) (ss : List Segment) → AscendFrom from (map
-    (λ (s : Segment). s.slot) ss) → All (λ s. s.slot < SLOTS) ss → Ascend from (map origin_of ss)
-origins_ascend from [] rises within = tt
-origins_ascend from (s ∷ ss) rises within = (
+segments_rise : (from : ℕ) (ss : List Segment) → AscendFrom from (map
+    (λ (s : Segment). s.slot) ss) → All (λ s. s.slot < SLOTS) ss → Ascend from ss
+segments_rise from [] rises within = tt
+segments_rise from (s ∷ ss) rises within = (
   rises.0,
   within 0 s (omega arith),
-  origins_ascend (s.slot + 1) ss rises.1 (All-tail (λ (q : Segment). q.slot < SLOTS) s ss within),
+  segments_rise (s.slot + 1) ss rises.1 (All-tail (λ (q : Segment). q.slot < SLOTS) s ss within),
 )
 
 module _ (order : Order) (host : List ℕ) (libs : List (List ℕ)) where
-  pub segments_ascend : Ascend 0 (map origin_of (segments order host libs))
-  segments_ascend = origins_ascend 0 (segments order host libs)
+  pub segments_ascend : Ascend 0 (segments order host libs)
+  segments_ascend = segments_rise 0 (segments order host libs)
       (ascend order host libs) (all_within order host libs)
 
-  pub segments_small : All
-      (λ o. length o.code ≤ MAX_CODE_LEN) (map origin_of (segments order host libs))
-  segments_small = All-map (λ (o : Origin). length o.code ≤ MAX_CODE_LEN) origin_of
-      (segments order host libs) (all_small order host libs)
+  pub segments_small : All (λ s. length s.code ≤ MAX_CODE_LEN) (segments order host libs)
+  segments_small = all_small order host libs

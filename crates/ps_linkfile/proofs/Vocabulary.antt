@@ -3,7 +3,7 @@ pub use Rattle.ps_codefile.specs.Dictionary.{FileOrder, OpenedFile, Ordered, Zer
 pub use Rattle.ps_codefile.specs.declared.code_layout.TheConstants.{MAX_CODE_BLOCKS, MAX_CODE_LEN}
 pub use Rattle.ps_codefile.specs.declared.dictionary_layout.TheConstants.{SLOT_COUNT, SLOTS}
 pub use Rattle.ps_writing.specs.Counts.{AreAtMost, HasRoom, NoneFailed, Rises}
-pub use Rattle.ps_linkfile.specs.LinkedFile.{LinkedFile, all_blocks, block_of, dictionary, linked_file, linked_segments, origins, padded_code, padded_segment, pair_of, summary_of}
+pub use Rattle.ps_linkfile.specs.LinkedFile.{LinkedFile, all_blocks, block_of, dictionary, linked_file, linked_segments, padded_code, padded_segment, pair_of, summary_of}
 pub use Rattle.ps_writing.specs.Prefixes.{AppendsPrefix}
 pub use Rattle.ps_linkfile.specs.Outcomes.{NamesFirst, error_of}
 pub use Rattle.ps_linkfile.specs.ReferencesText.{StoredIn, cause_at, stored_in, stored_rows, all_stored_in, all_stored_of, place_in, references_in, size_at}
@@ -19,11 +19,10 @@ pub use Rattle.ps_linkinfo.specs.declared.record.LinkRecord.{LinkRecord as Recor
 pub use Rattle.ps_patch.specs.Patched.{patched_or_zero}
 pub use Rattle.ps_resolve.specs.LinkedBytes.{HaveLinkedBytes, HaveOneLinkedByte, IsLinkedByte, segments_of}
 pub use Rattle.ps_resolve.specs.Linking.{edited_from, edited_segments, known_of, linked_byte}
-pub use Rattle.ps_resolve.specs.Plans.{IsPlan, IsPlanOf, IsStopped, LinkSegments, LinksSegment, Origin, Planned, origin_of, origin_of_source}
+pub use Rattle.ps_resolve.specs.Plans.{IsPlan, IsPlanOf, IsStopped, LinkSegments, LinksSegment, Planned}
 pub use Rattle.ps_resolve.specs.Privates.{private_words, total_words}
 pub use Rattle.ps_resolve.specs.References.{Known}
 pub use Rattle.ps_resolve.specs.Sources.{Segment, contents, file_at, host_records, known_order, order_of}
-pub use Rattle.ps_resolve.specs.declared.plan.Source.{Source}
 pub use Rattle.ps_words.specs.Edits.{patched_byte}
 pub use Rattle.ps_words.specs.FaultPlaces.{in_file}
 pub use Rattle.ps_words.specs.Words.{blocks, word_bytes}

@@ -1,5 +1,5 @@
 -- The linked file is one list: where its facts hold, each byte is that of the list.
-use Rattle.ps_linkfile.proofs.Vocabulary.{flat_map, length-map-range_with_len, get_or-map-range_with_len, nat_tests, file_order, ext_get_or, all_blocks, LinkedFile, All-nil, in_file, Segment, drop_all, block_of, All-cons, opened_as, order_of, drop-drop, blocks, get_or_append_left, get_or-replicate, Order, Fault, Origin, pair_of, origins, Reason, origin_of, Edit, padded_segment, linked_file, OpenedFile, patched_or_zero, linked_segments, ◌≡◌, ℕ, suc, List, ◌+◌, ◌-◌, ◌*◌, ◌/◌, ◌≤◌, ◌<◌, [], ◌∷◌, ◌++◌, length, map, get_or, take, drop, replicate, Option, Some, None, Result, Err, Bool, true, false, cond, refl, sym, ◌∙◌, ap, subst, inl, inr, arith, append_assoc, length-append, length-take, length-drop, All, nat_lt, slice_range, option_map, append-nil, get_or-take, get_or-drop, get_or-append-add, take_at, drop_at, cases_lt, ltb-false, le-ltb, IsLinkedByte, segments_of, HaveLinkedBytes, HaveOneLinkedByte, IsStopped, linked_byte, NamesFirst, error_of, All-map, SLOTS}
+use Rattle.ps_linkfile.proofs.Vocabulary.{flat_map, length-map-range_with_len, get_or-map-range_with_len, nat_tests, file_order, ext_get_or, all_blocks, LinkedFile, All-nil, in_file, Segment, drop_all, block_of, All-cons, opened_as, order_of, drop-drop, blocks, get_or_append_left, get_or-replicate, Order, Fault, pair_of, Reason, Edit, padded_segment, linked_file, OpenedFile, patched_or_zero, linked_segments, ◌≡◌, ℕ, suc, List, ◌+◌, ◌-◌, ◌*◌, ◌/◌, ◌≤◌, ◌<◌, [], ◌∷◌, ◌++◌, length, map, get_or, take, drop, replicate, Option, Some, None, Result, Err, Bool, true, false, cond, refl, sym, ◌∙◌, ap, subst, inl, inr, arith, append_assoc, length-append, length-take, length-drop, All, nat_lt, slice_range, option_map, append-nil, get_or-take, get_or-drop, get_or-append-add, take_at, drop_at, cases_lt, ltb-false, le-ltb, IsLinkedByte, segments_of, HaveLinkedBytes, HaveOneLinkedByte, IsStopped, linked_byte, NamesFirst, error_of, All-map, SLOTS}
 use Rattle.std.specs.Result.{result_err}
 use Rattle.std.proofs.lemmas.List.Folds.{drop_split}
 use Rattle.std.proofs.Math.Seq.{take-append_seam, drop-append-add}
@@ -45,7 +45,7 @@ behind : (xs ys : List ℕ) (n j : ℕ) → length xs ≡ n
 behind xs ys n j len = rw (← len) (get_or-append-add xs ys j 0)
 
 -- a code with its edits is at the block of its slot, with zeros up to the end of its last block
-abbrev IsLaid : Order → List ℕ → List Origin → Segment × List Edit → Type 0
+abbrev IsLaid : Order → List ℕ → List Segment → Segment × List Edit → Type 0
 IsLaid order file all e = (p : ℕ) → p < 512 * blocks (length e.0.code)
     → get_or file (512 * block_of all e.0.slot + p) 0 ≡ patched_or_zero order e.0.code e.1 p
 
@@ -72,7 +72,7 @@ module _ (order : Order) where
 
   -- all codes, each in whole blocks, take 512 bytes for each of their blocks
   codes_len : (es : List (Segment × List Edit)) → length (flat_map (padded_segment order) es)
-      ≡ 512 * all_blocks (map origin_of (segments_in es))
+      ≡ 512 * all_blocks (segments_in es)
   codes_len [] = omega arith
   codes_len (e ∷ es) =
       length-append (padded_segment order e) (flat_map (padded_segment order) es)
@@ -80,50 +80,50 @@ module _ (order : Order) where
         arith,
         padded_len e,
         codes_len es,
-        all_blocks-cons (origin_of e.0) (map origin_of (segments_in es)),
+        all_blocks-cons e.0 (segments_in es),
       )
 
   -- codes that are put one after another are at the blocks of their slots
-  laid : (all : List Origin) (prefix : List ℕ) (from block : ℕ)
-      (es : List (Segment × List Edit)) → Left all from block (map origin_of (segments_in es))
+  laid : (all : List Segment) (prefix : List ℕ) (from block : ℕ)
+      (es : List (Segment × List Edit)) → Left all from block (segments_in es)
       → length prefix ≡ 512 * block
       → All (IsLaid order (prefix ++ flat_map (padded_segment order) es) all) es
   laid all prefix from block [] left len = All-nil (IsLaid order (prefix ++ []) all)
   laid all prefix from block (e ∷ es) left len =
       let code = padded_segment order e in
       let rest = flat_map (padded_segment order) es in
-      let os = map origin_of (segments_in es) in
+      let os = segments_in es in
       let at : block_of all e.0.slot ≡ block =
-      first_block all from block (origin_of e.0) os left in
+      first_block all from block e.0 os left in
       All-cons (IsLaid order (prefix ++ (code ++ rest)) all) e es
       (λ p lt. rw (at, behind prefix (code ++ rest) (512 * block) p len)
       (get_or_append_left code rest 0 p (omega (arith, padded_len e)) ∙ padded_at e p lt))
       (rw (append_assoc prefix code rest) at (laid all (prefix ++ code) (e.0.slot + 1)
       (block + blocks (length e.0.code)) es
-      (left_more all from block (origin_of e.0) os left)
+      (left_more all from block e.0 os left)
       (length-append prefix code ∙ omega (arith, len, padded_len e))))
 
 -- lists that have the same bytes in the blocks of each segment have the same bytes in all of them
-same_codes : (f g : List ℕ) (all : List Origin) (from block p : ℕ) (ss : List Segment)
-    → Left all from block (map origin_of ss)
+same_codes : (f g : List ℕ) (all : List Segment) (from block p : ℕ) (ss : List Segment)
+    → Left all from block ss
     → All (λ s. (j : ℕ) → j < 512 * blocks (length s.code)
     → get_or f (512 * block_of all s.slot + j) 0
     ≡ get_or g (512 * block_of all s.slot + j) 0) ss → 512 * block ≤ p
-    → p < 512 * (block + all_blocks (map origin_of ss)) → get_or f p 0 ≡ get_or g p 0
+    → p < 512 * (block + all_blocks ss) → get_or f p 0 ≡ get_or g p 0
 same_codes f g all from block p [] left same le lt = absurd (omega arith)
 same_codes f g all from block p (s ∷ ss) left same le lt =
     let n = blocks (length s.code) in
-    let os = map origin_of ss in
-    let at : block_of all s.slot ≡ block = first_block all from block (origin_of s) os left in
+    let os = ss in
+    let at : block_of all s.slot ≡ block = first_block all from block s os left in
     elim (cases_lt p (512 * (block + n))) [
       | inl here ↦
           let is : 512 * block_of all s.slot + (p - 512 * block) ≡ p = omega (arith, at) in
           rw is at (same 0 s (omega arith) (p - 512 * block) (omega arith))
       | inr there ↦
           same_codes f g all (s.slot + 1) (block + n) p ss
-          (left_more all from block (origin_of s) os left)
+          (left_more all from block s os left)
           (λ k d within. same (suc k) d (omega arith)) (omega arith)
-          (omega (arith, lt, all_blocks-cons (origin_of s) os))
+          (omega (arith, lt, all_blocks-cons s os))
     ]
 
 whole_test : (short : Bool) (of : Result OpenedFile Reason) → option_map
@@ -199,20 +199,20 @@ stored_parts z d1 d2 d3 pairs names mid tail lz hm lp ln lt h1 h2 h3 =
     h3 ∙ (stored_behind (pairs ++ (names ++ mid)) (drop 256 z) tail d2 256 third prefix
     ∙ rw none (simp (append_assoc, append-nil)))
 
-pub all_pairs_len : (order : Order) (all : List Origin) → length (all_pairs order all) ≡ 64
+pub all_pairs_len : (order : Order) (all : List Segment) → length (all_pairs order all) ≡ 64
 unfolding all_pairs
 all_pairs_len order all = pairs_len order all
 
 -- so they are the dictionary
 pub dictionary_is : (order : Order) (all_names : List (List ℕ)) (host : List ℕ) (all : List
-    Origin) (d pairs names tail : List ℕ) → d ≡ pairs ++ (names ++ (replicate 64 0 ++ tail))
+    Segment) (d pairs names tail : List ℕ) → d ≡ pairs ++ (names ++ (replicate 64 0 ++ tail))
     → pairs ≡ all_pairs order all → names ≡ flat_map (λ name. name) all_names
     → tail ≡ slice_range host 256 512 → d ≡ dictionary order all_names host all
 unfolding dictionary
 dictionary_is order all_names host all d pairs names tail h p n t = grind arith
 
 -- where a file begins with sixteen pairs, it has the pair of each slot
-pair_part : (order : Order) (all : List Origin) (file : List ℕ) → 512 ≤ length file
+pair_part : (order : Order) (all : List Segment) (file : List ℕ) → 512 ≤ length file
     → slice_range file 0 64 ≡ all_pairs order all → (slot : ℕ) → slot < SLOTS
     → slice_range file (4 * slot) (4 * slot + 4) ≡ pair_of order all slot
 unfolding all_pairs
@@ -263,11 +263,11 @@ module _ (host : List ℕ) (libs : List (List ℕ)) where
   abbrev IsLinked : List ℕ → Segment → Type 0
   IsLinked file s = (p : ℕ) → p < length s.code
       → IsLinkedByte (order_of host) (segments_of host libs) s p
-      (get_or file (512 * block_of (origins host libs) s.slot + p) 0)
+      (get_or file (512 * block_of (segments_of host libs) s.slot + p) 0)
 
   abbrev IsPadded : List ℕ → Segment → Type 0
   IsPadded file s = (p : ℕ) → length s.code ≤ p → p < 512 * blocks (length s.code)
-      → get_or file (512 * block_of (origins host libs) s.slot + p) 0 ≡ 0
+      → get_or file (512 * block_of (segments_of host libs) s.slot + p) 0 ≡ 0
 
   -- what holds of each segment with its edits holds of each segment
   of_all : (P : Segment → Type 0) → All (λ (e : Segment × List Edit). P e.0)
@@ -281,7 +281,7 @@ module _ (host : List ℕ) (libs : List (List ℕ)) where
   unfolding dictionary
   there law found made none =
       let order = order_of host in
-      let all = origins host libs in
+      let all = segments_of host libs in
       let es = linked_segments host libs in
       let file = linked_file host libs in
       let long = long_host host libs none in
@@ -304,9 +304,9 @@ module _ (host : List ℕ) (libs : List (List ℕ)) where
         arith,
         prefix,
         codes_len order es,
-        ap (λ ss. all_blocks (map origin_of ss)) (linked_are host libs),
+        ap (λ ss. all_blocks ss) (linked_are host libs),
       ) in
-      let left : Left all 0 1 (map origin_of (segments_in es)) =
+      let left : Left all 0 1 (segments_in es) =
       rw (linked_are host libs) (left_start all (segments_ascend order host libs)) in
       let put = laid order all (pairs ++ (names ++ (zeros ++ tail))) 0 1 es left prefix in
       record {
@@ -341,7 +341,7 @@ module _ (host : List ℕ) (libs : List (List ℕ)) where
                 ∙ sym (k.kinds_and_texts p behind_names zero)
             | inr behind_zeros ↦ elim (cases_lt p 512) [
               | inl in_tail ↦ part_same f g _ 256 512 p h.tail k.tail behind_zeros in_tail
-              | inr in_codes ↦ same_codes f g (origins host libs) 0 1 p (segments_of host libs)
+              | inr in_codes ↦ same_codes f g (segments_of host libs) 0 1 p (segments_of host libs)
                   (left_start _ (segments_ascend (order_of host) host libs)) same in_codes
                   (omega (arith, lt, h.size))
             ]
@@ -350,8 +350,8 @@ module _ (host : List ℕ) (libs : List (List ℕ)) where
       ])
     where
       same : All (λ s. (j : ℕ) → j < 512 * blocks (length s.code)
-          → get_or f (512 * block_of (origins host libs) s.slot + j) 0
-          ≡ get_or g (512 * block_of (origins host libs) s.slot + j) 0) (segments_of host libs)
+          → get_or f (512 * block_of (segments_of host libs) s.slot + j) 0
+          ≡ get_or g (512 * block_of (segments_of host libs) s.slot + j) 0) (segments_of host libs)
       same = λ i s lt j within.
           elim (cases_lt j (length (get_or (segments_of host libs) i s).code)) [
             | inl of_code ↦ single host libs h.accepted i s lt j _ _

@@ -12,7 +12,6 @@ use Rattle.ps_resolve.specs.Added.{segments, slot_names}
 use Rattle.ps_resolve.specs.Privates.{total_words}
 use Rattle.ps_resolve.specs.LinkedBytes.{IsLinkedByte, segments_of}
 use Rattle.ps_resolve.specs.Standing.{NoneStands}
-use Rattle.ps_resolve.specs.Plans.{Origin, origin_of}
 use Rattle.ps_resolve.specs.Sources.{Segment, order_of}
 use Rattle.ps_resolve.specs.Linking.{edited_segments}
 use Rattle.ps_patch.specs.Patched.{patched_or_zero}
@@ -20,33 +19,29 @@ use Rattle.ps_linkfile.specs.declared.summary.Summary.{Summary}
 use Rattle.ps_codefile.specs.declared.dictionary_layout.TheConstants.{SLOTS}
 
 -- how many blocks the codes take
-abbrev pub all_blocks : List Origin → ℕ
-all_blocks origins = sum_by (λ o. blocks (length o.code)) origins
+abbrev pub all_blocks : List Segment → ℕ
+all_blocks segs = sum_by (λ s. blocks (length s.code)) segs
 
 -- the first block of a slot's code: after the dictionary and the codes of all slots before it
-abbrev pub block_of : List Origin → ℕ → ℕ
-block_of origins slot = 1 + all_blocks (filter (λ o. nat_lt o.slot slot) origins)
+abbrev pub block_of : List Segment → ℕ → ℕ
+block_of segs slot = 1 + all_blocks (filter (λ s. nat_lt s.slot slot) segs)
 
 -- what the dictionary says of a slot: the first block and the size of its code, and two zero words
 -- where it has none
-abbrev pub pair_of : Order → List Origin → ℕ → List ℕ
-pair_of order origins slot =
+abbrev pub pair_of : Order → List Segment → ℕ → List ℕ
+pair_of order segs slot =
     option_map_or
-    (λ o. word_bytes order (block_of origins slot) ++ word_bytes order (length o.code))
-    (find (λ o. o.slot == slot) origins) (0 ∷ 0 ∷ 0 ∷ 0 ∷ [])
-
--- where the codes of all segments of a link come from, by slot
-abbrev pub origins : List ℕ → List (List ℕ) → List Origin
-origins host libs = map origin_of (segments_of host libs)
+    (λ s. word_bytes order (block_of segs slot) ++ word_bytes order (length s.code))
+    (find (λ s. s.slot == slot) segs) (0 ∷ 0 ∷ 0 ∷ 0 ∷ [])
 
 -- The file is the linked file of the host and the libraries, in which no fault applies: each byte
 -- of each code is the linked byte there.
 pub record LinkedFile (host : List ℕ) (libs : List (List ℕ)) (file : List ℕ) : Type 0 where
   pub accepted : NoneStands host libs
-  pub size : length file ≡ block_len * (1 + all_blocks (origins host libs))
+  pub size : length file ≡ block_len * (1 + all_blocks (segments_of host libs))
   pub pairs : (slot : ℕ) → slot < SLOTS
       → slice_range file (4 * slot) (4 * slot + 4)
-      ≡ pair_of (order_of host) (origins host libs) slot
+      ≡ pair_of (order_of host) (segments_of host libs) slot
   pub names : slice_range file names_start kinds_start
       ≡ flat_map (λ name. name) (slot_names host (segments (order_of host) host libs))
   pub kinds_and_texts : (p : ℕ) → kinds_start ≤ p → p < tail_start
@@ -54,11 +49,11 @@ pub record LinkedFile (host : List ℕ) (libs : List (List ℕ)) (file : List �
   pub tail : slice_range file tail_start block_len ≡ slice_range host tail_start block_len
   pub codes : All (λ s. (p : ℕ) → p < length s.code
       → IsLinkedByte (order_of host) (segments_of host libs) s p
-      (slice_index file (block_len * block_of (origins host libs) s.slot + p)))
+      (slice_index file (block_len * block_of (segments_of host libs) s.slot + p)))
       (segments_of host libs)
   pub padding : All (λ s. (p : ℕ) → length s.code ≤ p
       → p < block_len * blocks (length s.code)
-      → slice_index file (block_len * block_of (origins host libs) s.slot + p) ≡ 0)
+      → slice_index file (block_len * block_of (segments_of host libs) s.slot + p) ≡ 0)
       (segments_of host libs)
 
 -- the segments of a link, by slot, each with its edits
@@ -66,13 +61,13 @@ abbrev pub linked_segments : List ℕ → List (List ℕ) → List (Segment × L
 linked_segments host libs = edited_segments (order_of host) (segments (order_of host) host libs)
 
 -- the pairs of all slots
-unfoldable pub all_pairs : Order → List Origin → List ℕ
-all_pairs order origins = flat_map (pair_of order origins) slots
+unfoldable pub all_pairs : Order → List Segment → List ℕ
+all_pairs order segs = flat_map (pair_of order segs) slots
 
 -- the segment dictionary, with these names of the slots and the tail of the host's
-unfoldable pub dictionary : Order → List (List ℕ) → List ℕ → List Origin → List ℕ
-dictionary order names host origins =
-    all_pairs order origins ++ (flat_map (λ name. name) names
+unfoldable pub dictionary : Order → List (List ℕ) → List ℕ → List Segment → List ℕ
+dictionary order names host segs =
+    all_pairs order segs ++ (flat_map (λ name. name) names
     ++ (replicate 64 0 ++ slice_range host tail_start block_len))
 
 -- a code with its edits, and zeros to its last block's end
@@ -87,13 +82,13 @@ padded_segment order (s, edits) = padded_code order s.code edits
 -- the one list that is the linked file where no fault applies
 abbrev pub linked_file : List ℕ → List (List ℕ) → List ℕ
 linked_file host libs = dictionary (order_of host)
-    (slot_names host (segments (order_of host) host libs)) host (origins host libs)
+    (slot_names host (segments (order_of host) host libs)) host (segments_of host libs)
     ++ flat_map (padded_segment (order_of host)) (linked_segments host libs)
 
 -- its segments, the words of all privates, and its blocks, the dictionary's counted
 abbrev pub summary_of : List ℕ → List (List ℕ) → Summary
 summary_of host libs = record {
-  segments = length (origins host libs);
+  segments = length (segments_of host libs);
   private_words = total_words (segments (order_of host) host libs);
-  blocks = 1 + all_blocks (origins host libs);
+  blocks = 1 + all_blocks (segments_of host libs);
 }

@@ -1,19 +1,19 @@
 -- The map of a link: its segments by slot, the definitions in record order, the privates by slot
 -- and then by record, and what is free after them.
 -- Source: this project's profile.
-use Rattle.std.specs.Prelude.{ℕ, ◌+◌, List, [], ◌∷◌, ◌++◌, Bool, length, map, codes, slice_get, unwrap_or}
+use Rattle.std.specs.Prelude.{ℕ, ◌+◌, List, [], ◌∷◌, ◌++◌, length, map, codes}
 use Rattle.ps_resolve.specs.Sources.{Segment, order_of, host_records}
 use Rattle.ps_resolve.specs.Added.{segments}
 use Rattle.ps_linkinfo.specs.RecordCounts.{next_of}
 use Rattle.ps_resolve.specs.Privates.{all_allotted, owner_of, total_words}
 use Rattle.ps_resolve.specs.Symbols.{definitions}
 use Rattle.ps_resolve.specs.Linking.{data_size}
-use Rattle.ps_resolve.specs.Plans.{Planned, Origin}
+use Rattle.ps_resolve.specs.Plans.{Planned}
 use Rattle.ps_resolve.specs.declared.definitions.Def.{Def}
 use Rattle.ps_resolve.specs.declared.definitions.DefKind.{DefKind}
 use Rattle.ps_resolve.specs.declared.definitions.DefKind.TheVariants.{Public, Constant}
 use Rattle.ps_resolve.specs.declared.allotment.Private.{Private}
-use Rattle.ps_linkfile.specs.LinkedFile.{origins, block_of, all_blocks}
+use Rattle.ps_linkfile.specs.LinkedFile.{block_of, all_blocks}
 use Rattle.ps_writing.specs.Rows.{Value, InSlot, OfKind, Named, Total, Number, Short, Flag, by_form, rows_in, values_in}
 use Rattle.ps_writing.specs.declared.rows.Form.{Form}
 use Rattle.ps_writing.specs.declared.rows.Form.TheVariants.{Lines, Json}
@@ -21,16 +21,15 @@ use Rattle.ps_writing.specs.declared.rows.Form.TheVariants.{Lines, Json}
 -- `segment 08 AUX      file 1 entry 03 block 3 length 24 added`: the slot and the name of a
 -- segment, the file and the entry that its code comes from, the code's first block and its size in
 -- bytes, and whether it was added
-abbrev pub code_row : ℕ → List ℕ → ℕ → ℕ → ℕ → ℕ → Bool → List Value
-code_row slot name file entry block size added =
-    InSlot (codes "segment ") slot name ∷ Number (codes "file") file ∷ Short (codes "entry") entry
-    ∷ Number (codes "block") block ∷ Number (codes "length") size
-    ∷ Flag (codes "added") added ∷ []
+abbrev pub segment_row : ℕ → Segment → List Value
+segment_row block s =
+    InSlot (codes "segment ") s.slot s.name ∷ Number (codes "file") s.file
+    ∷ Short (codes "entry") s.index ∷ Number (codes "block") block
+    ∷ Number (codes "length") (length s.code) ∷ Flag (codes "added") s.added ∷ []
 
--- that of a segment, whose code begins in the block that its slot has among these origins
-abbrev pub segment_row : List Origin → Segment → List Value
-segment_row origins s = code_row s.slot s.name s.file s.index (block_of origins s.slot)
-    (length s.code) s.added
+-- that of one of these segments, whose codes are laid out by slot
+abbrev pub row_among : List Segment → Segment → List Value
+row_among segs s = segment_row (block_of segs s.slot) s
 
 -- the first word of a definition's row
 abbrev pub kind_word : DefKind → List ℕ
@@ -52,13 +51,13 @@ last_row next size blocks = Total (codes "next") next ∷ Number (codes "data") 
     ∷ Number (codes "blocks") blocks ∷ []
 
 -- the rows of a map: of its segments, its definitions and its privates, and the last one
-abbrev pub map_rows : {S : Type 0} → Form → (S → List Value) → List S → List (List ℕ × Def)
-    → List Private → List Value → List ℕ
-map_rows form segment_of segs defs privates last =
-    by_form form [] (codes "{\"segments\":[") ++ rows_in form segment_of segs
+abbrev pub map_rows : Form → List Segment → List (List ℕ × Def) → List Private → ℕ → ℕ → List ℕ
+map_rows form segs defs privates next size =
+    by_form form [] (codes "{\"segments\":[") ++ rows_in form (row_among segs) segs
     ++ by_form form [] (codes "\n],\"definitions\":[") ++ rows_in form definition_row defs
     ++ by_form form [] (codes "\n],\"privates\":[") ++ rows_in form private_row privates
-    ++ by_form form [] (codes "\n]") ++ values_in form last ++ by_form form (codes "\n") []
+    ++ by_form form [] (codes "\n]") ++ values_in form (last_row next size (1 + all_blocks segs))
+    ++ by_form form (codes "\n") []
 
 -- the map of a host and its libraries, but for the end of a document
 abbrev pub rows_of : Form → List ℕ → List (List ℕ) → List ℕ
@@ -66,25 +65,14 @@ rows_of form host libs =
     let order = order_of host in
     let segs = segments order host libs in
     let records = host_records segs in
-    map_rows form (segment_row (origins host libs)) segs (definitions records)
+    map_rows form segs (definitions records)
     (all_allotted (next_of records) (map owner_of segs))
-    (last_row (next_of records + total_words segs) (data_size order segs)
-    (1 + all_blocks (origins host libs)))
-
--- the name of a slot, among those of all slots
-abbrev pub name_in : List (List ℕ) → ℕ → List ℕ
-name_in names slot = unwrap_or (slice_get names slot) []
-
--- the row of a plan's source, by the names of all slots
-abbrev pub source_row : List (List ℕ) → List Origin → Origin → List Value
-source_row names origins o = code_row o.slot (name_in names o.slot) o.file o.index
-    (block_of origins o.slot) (length o.code) o.added
+    (next_of records + total_words segs) (data_size order segs)
 
 -- that of the map that a plan stands for
 abbrev pub plan_rows : Form → Planned → List ℕ
 plan_rows form plan =
-    map_rows form (source_row plan.names plan.origins) plan.origins plan.definitions plan.privates
-    (last_row plan.next_free plan.data_size (1 + all_blocks plan.origins))
+    map_rows form plan.sources plan.definitions plan.privates plan.next_free plan.data_size
 
 -- the map as text, of a host and its libraries and of a plan
 unfoldable pub map_of : List ℕ → List (List ℕ) → List ℕ

@@ -15,8 +15,8 @@ use Rattle.ps_linkinfo.specs.Numbered.{numbered_records}
 use Rattle.ps_linkinfo.specs.Records.{refs_of}
 use Rattle.ps_linkinfo.specs.declared.record.LinkRecord.{LinkRecord as Record}
 use Rattle.ps_resolve.specs.Sources.{Segment, order_of}
-use Rattle.ps_resolve.specs.Plans.{Origin}
-use Rattle.ps_linkfile.specs.LinkedFile.{origins, block_of, linked_segments}
+use Rattle.ps_resolve.specs.LinkedBytes.{segments_of}
+use Rattle.ps_linkfile.specs.LinkedFile.{block_of, linked_segments}
 use Rattle.ps_writing.specs.JsonText.{separator}
 pub use Rattle.ps_writing.specs.Lines.{hex_byte}
 use Rattle.ps_writing.specs.Rows.{Value, Stored, Named, Number, Bytes, by_form, values_in}
@@ -138,16 +138,16 @@ references_in form all_stored = by_form form [] (codes ",\"references\":[")
     ++ by_form form [] (codes "\n]}\n")
 
 -- what a link stores in each of these segments with their edits, by slot, where the codes are of
--- these origins; nothing is stored in one that is linked already
-abbrev pub all_stored_in : Order → List Origin → List (Segment × List Edit) → List StoredIn
-all_stored_in order origins es =
-    map (λ e. stored_in order (block_of origins e.0.slot) e.0 e.1)
+-- all of them; nothing is stored in one that is linked already
+abbrev pub all_stored_in : Order → List Segment → List (Segment × List Edit) → List StoredIn
+all_stored_in order segs es =
+    map (λ e. stored_in order (block_of segs e.0.slot) e.0 e.1)
     (filter (λ e. needs_linking e.0.role) es)
 
 -- what a link of a host and its libraries stores, by slot
 unfoldable pub all_stored_of : List ℕ → List (List ℕ) → List StoredIn
 all_stored_of host libs =
-    all_stored_in (order_of host) (origins host libs) (linked_segments host libs)
+    all_stored_in (order_of host) (segments_of host libs) (linked_segments host libs)
 
 -- the lines of that
 unfoldable pub references_of : List ℕ → List (List ℕ) → List ℕ

@@ -1,6 +1,5 @@
 //! Where the code of each segment is in the linked file.
-ghost use Rattle.std.specs.Prelude.{◌≡◌, ◌≤◌, ◌+◌, length, map, All};
-ghost use Rattle.ps_resolve.specs.Plans.{origin_of_source};
+ghost use Rattle.std.specs.Prelude.{◌≡◌, ◌≤◌, ◌+◌, length, All};
 ghost use Rattle.ps_linkfile.specs.LinkedFile.{all_blocks};
 ghost use Rattle.ps_linkfile.specs.Writing.{starts_of, Ascend, IsReady};
 
@@ -30,16 +29,16 @@ pub(crate) struct Layout {
 
 /// Lays the codes of these sources out, by slot, one after another from block 1 on.
 fn layout_of(sources: &[Source]) -> Layout
-    requires slots { Ascend 0 (map origin_of_source sources.now) }
-    requires sizes { All (λ o. length o.code ≤ MAX_CODE_LEN) (map origin_of_source sources.now) }
-    ensures starts { result.starts.items ≡ starts_of (map origin_of_source sources.now) }
-    ensures blocks { result.blocks ≡ 1 + all_blocks (map origin_of_source sources.now) }
+    requires slots { Ascend 0 sources.now }
+    requires sizes { All (λ o. length o.code ≤ MAX_CODE_LEN) sources.now }
+    ensures starts { result.starts.items ≡ starts_of sources.now }
+    ensures blocks { result.blocks ≡ 1 + all_blocks sources.now }
 {
     let mut starts: ArrayVec<u16, MAX_SEGMENTS> = ArrayVec::new();
     let mut blocks = 1;
     for source in sources {
         starts.push(blocks as u16);
-        blocks += blocks_of(source.code.len());
+        blocks += blocks_of(source.code().len());
     }
     Layout { starts, blocks }
 }
@@ -47,8 +46,8 @@ fn layout_of(sources: &[Source]) -> Layout
 /// Lays the codes of a plan that can be written out, by slot, one after another from block 1 on.
 pub(crate) fn lay_out<A: Allocator + Copy>(plan: &Plan<'_, A>) -> Layout
     requires { IsReady plan.now }
-    ensures starts { result.starts.items ≡ starts_of plan.now.origins }
-    ensures blocks { result.blocks ≡ 1 + all_blocks plan.now.origins }
+    ensures starts { result.starts.items ≡ starts_of plan.now.sources }
+    ensures blocks { result.blocks ≡ 1 + all_blocks plan.now.sources }
 {
     layout_of(plan.sources())
 }

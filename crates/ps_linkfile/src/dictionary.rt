@@ -1,5 +1,4 @@
-ghost use Rattle.std.specs.Prelude.{◌≡◌, ◌≤◌, ◌+◌, ◌++◌, map, length, take, drop, All};
-ghost use Rattle.ps_resolve.specs.Plans.{origin_of_source};
+ghost use Rattle.std.specs.Prelude.{◌≡◌, ◌≤◌, ◌+◌, ◌++◌, length, take, drop, All};
 ghost use Rattle.ps_linkfile.specs.LinkedFile.{all_pairs, dictionary};
 ghost use Rattle.ps_linkfile.specs.Writing.{starts_of, Ascend, IsReady};
 
@@ -14,16 +13,16 @@ use std::alloc::Allocator;
 /// in and the code's length, and zeros for any other.
 #[tactic(auto, using(crate::proofs::Views::slot_at))]
 fn pairs_of(order: Order, sources: &[Source], starts: &[u16]) -> [u8; NAMES]
-    requires slots { Ascend 0 (map origin_of_source sources.now) }
-    requires sizes { All (λ o. length o.code ≤ MAX_CODE_LEN) (map origin_of_source sources.now) }
-    requires starts { starts.now ≡ starts_of (map origin_of_source sources.now) }
-    ensures { result ≡ all_pairs order (map origin_of_source sources.now) }
+    requires slots { Ascend 0 sources.now }
+    requires sizes { All (λ o. length o.code ≤ MAX_CODE_LEN) sources.now }
+    requires starts { starts.now ≡ starts_of sources.now }
+    ensures { result ≡ all_pairs order sources.now }
 {
     let mut pairs = [0; NAMES];
     for (k, source) in sources.iter().enumerate() {
-        let pair = PAIR * source.slot as usize;
+        let pair = PAIR * source.slot() as usize;
         put(order, &mut pairs, pair, starts[k]);
-        put(order, &mut pairs, pair + WORD_LEN, source.code.len() as u16);
+        put(order, &mut pairs, pair + WORD_LEN, source.code().len() as u16);
     }
     pairs
 }
@@ -41,7 +40,7 @@ fn store(dictionary: &mut [u8], place: usize, part: &[u8])
 /// The segment dictionary of the linked file, which is its block 0.
 pub(crate) fn dictionary_of<A: Allocator + Copy>(plan: &Plan<'_, A>) -> [u8; BLOCK_SIZE]
     requires ready { IsReady plan.now }
-    ensures { result ≡ dictionary plan.now.order plan.now.names plan.now.host plan.now.origins }
+    ensures { result ≡ dictionary plan.now.order plan.now.names plan.now.host plan.now.sources }
 {
     let layout = lay_out(plan);
     let pairs = pairs_of(plan.order(), plan.sources(), layout.starts.as_slice());

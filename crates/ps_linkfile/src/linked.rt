@@ -107,14 +107,6 @@ impl<'a, A: Allocator + Copy> Linked<'a, A> {
         Ok(self.summary())
     }
 
-    /// The link of this plan.
-    pub(crate) fn of(plan: Plan<'a, A>) -> Linked<'a, A>
-        requires { IsReady plan }
-        ensures { result ≡ plan.entry }
-    {
-        Linked { plan }
-    }
-
     /// The plan of the link.
     pub(crate) fn plan(&self) -> &Plan<'a, A>
         ensures plan { result.now ≡ self.now }

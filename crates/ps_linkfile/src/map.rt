@@ -1,45 +1,47 @@
 //! The map of a link, as text and as JSON.
-ghost use Rattle.std.specs.Prelude.{◌≡◌, None, IfOk, IfErr, length};
+ghost use Rattle.std.specs.Prelude.{◌≡◌, None, IfOk, IfErr};
 ghost use Rattle.ps_writing.specs.Adding.{Adds};
 ghost use Rattle.ps_resolve.specs.AllFaults.{first_fault};
 ghost use Rattle.ps_resolve.specs.Sources.{contents};
 ghost use Rattle.ps_resolve.specs.Standing.{NoneStands};
 ghost use Rattle.ps_linkfile.specs.Writing.{starts_of, IsReady};
 ghost use Rattle.ps_linkfile.specs.Outcomes.{HasUsedNumber, IsUnprepared, NamesFirst};
-ghost use Rattle.ps_linkfile.specs.MapText.{code_row, source_row, kind_word as kind_word_spec, definition_row, private_row, last_row, plan_rows, map_of};
+ghost use Rattle.ps_linkfile.specs.MapText.{row_among, segment_row, kind_word as kind_word_spec, definition_row, private_row, last_row, plan_rows, map_of};
 ghost use Rattle.ps_writing.specs.Rows.{row_in, rows_in, values_in};
 
 use crate::block_layout::lay_out;
 use crate::error::LinkError;
 use crate::linked::{Linked, prepare};
 use ps_laws::first_of_all;
-use ps_resolve::{Def, DefKind, Definitions, Plan, Private, Source};
+use ps_resolve::{Def, DefKind, Definitions, Plan, Private, Segment};
 use ps_words::Name;
 use ps_writing::{
     Form, RowPart, Text, TextWriter, add_by_form, add_part, begin_row, end_row, in_memory,
 };
 use std::alloc::Allocator;
 
-/// Adds the row of a segment of this name, whose code begins in this block.
+/// Adds the row of a segment, whose code begins in this block.
 fn add_segment<S: TextWriter>(
     text: &mut S,
     form: Form,
     index: usize,
-    source: &Source,
-    name: Name,
+    segment: &Segment,
     block: u16,
 )
     ensures { Adds S.added text.old
-        (row_in form index (code_row source.now.slot name source.now.file source.now.index block
-        (length source.now.code.now) source.now.added)) text.new }
+        (row_in form index (segment_row block segment.now)) text.new }
 {
     begin_row(text, form, index);
-    add_part(text, form, RowPart::InSlot(b"segment ", source.slot, name));
-    add_part(text, form, RowPart::Number(b"file", source.file));
-    add_part(text, form, RowPart::Short(b"entry", source.index));
+    add_part(
+        text,
+        form,
+        RowPart::InSlot(b"segment ", segment.slot(), segment.name()),
+    );
+    add_part(text, form, RowPart::Number(b"file", segment.file()));
+    add_part(text, form, RowPart::Short(b"entry", segment.index()));
     add_part(text, form, RowPart::Number(b"block", block as usize));
-    add_part(text, form, RowPart::Number(b"length", source.code.len()));
-    add_part(text, form, RowPart::Flag(b"added", source.added));
+    add_part(text, form, RowPart::Number(b"length", segment.code().len()));
+    add_part(text, form, RowPart::Flag(b"added", segment.added()));
     end_row(text, form);
 }
 
@@ -50,21 +52,12 @@ fn add_segments<A: Allocator + Copy, S: TextWriter>(
     plan: &Plan<'_, A>,
     starts: &[u16],
 )
-    requires ready { IsReady plan.now }
-    requires starts { starts.now ≡ starts_of plan.now.origins }
+    requires { starts.now ≡ starts_of plan.now.sources }
     ensures { Adds S.added text.old
-        (rows_in form (source_row plan.now.names plan.now.origins) plan.now.origins) text.new }
+        (rows_in form (row_among plan.now.sources) plan.now.sources) text.new }
 {
-    let names = plan.names();
-    for (k, source) in plan.sources().iter().enumerate() {
-        add_segment(
-            text,
-            form,
-            k,
-            source,
-            names[source.slot as usize],
-            starts[k],
-        );
+    for (k, segment) in plan.sources().iter().enumerate() {
+        add_segment(text, form, k, segment, starts[k]);
     }
 }
 

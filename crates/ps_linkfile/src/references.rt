@@ -16,11 +16,10 @@ ghost use Rattle.ps_linkfile.specs.ReferencesText.{bytes_at as bytes_at_spec, it
 
 use crate::cause::Cause;
 use crate::error::LinkError;
-use crate::linked::Linked;
+use crate::linked::{Linked, prepare};
 use crate::stored_places::{StoredPlaces, stored_in_segments};
-use ps_laws::{bytes_are_linked, first_of_all};
+use ps_laws::first_of_all;
 use ps_linkinfo::Kind;
-use ps_resolve::{resolve_with_segments, slot_names_are_whole};
 use ps_words::{BLOCK_SIZE, Name};
 use ps_writing::{
     Counts, Form, RowPart, Text, TextWriter, WriteFault, add_by_form, add_part, by_form, separator,
@@ -278,14 +277,7 @@ pub fn prepare_references<'a, A: Allocator + Copy>(
     ensures used { IfErr result HasUsedNumber }
 {
     first_of_all();
-    match resolve_with_segments(alloc, host, libs) {
-        Err(stop) => Err(LinkError::from(stop)),
-        Ok((plan, segments)) => {
-            bytes_are_linked();
-            slot_names_are_whole();
-            let linked = Linked::of(plan);
-            let all_stored = stored_in_segments(alloc, linked.plan(), segments.as_slice())?;
-            Ok(ReferenceMap { linked, all_stored })
-        }
-    }
+    let linked = prepare(alloc, host, libs)?;
+    let all_stored = stored_in_segments(alloc, linked.plan())?;
+    Ok(ReferenceMap { linked, all_stored })
 }

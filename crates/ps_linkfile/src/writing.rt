@@ -53,22 +53,22 @@ fn write_codes<A: Allocator + Copy, W: Write, T: WriteCounter<W>>(
     out: &mut W,
     counter: &mut T,
 ) -> Result<(), WriteFault>
-    requires edits { HaveEdits plan.now.origins plan.now.edits }
+    requires edits { HaveEdits plan.now.sources plan.now.edits }
     requires room { HasRoom T.needs_room (T.counts counter.old out.old)
-        (block_len * all_blocks plan.now.origins) }
+        (block_len * all_blocks plan.now.sources) }
     ensures all { OnOk result (Appends (W.contents out.old) (W.contents out.new)
-        (padded_codes plan.now.order plan.now.origins plan.now.edits)) }
+        (padded_codes plan.now.order plan.now.sources plan.now.edits)) }
     ensures prefix { OnErr result (AppendsPrefix (W.contents out.old) (W.contents out.new)
-        (padded_codes plan.now.order plan.now.origins plan.now.edits)) }
+        (padded_codes plan.now.order plan.now.sources plan.now.edits)) }
     ensures writes { Rises (T.counts counter.old out.old) (T.counts counter.new out.new)
-        (block_len * all_blocks plan.now.origins) (all_blocks plan.now.origins) }
+        (block_len * all_blocks plan.now.sources) (all_blocks plan.now.sources) }
     ensures ok { OnOk result (NoneFailed (T.counts counter.old out.old)
         (T.counts counter.new out.new)) }
     ensures failed { IfErr result (λ fault. OneFailed fault (T.counts counter.old out.old)
         (T.counts counter.new out.new)) }
 {
     for (k, source) in plan.sources().iter().enumerate() {
-        write_code(plan.order(), source.code, plan.edits(k), out, counter)?;
+        write_code(plan.order(), source.code(), plan.edits(k), out, counter)?;
     }
     Ok(())
 }

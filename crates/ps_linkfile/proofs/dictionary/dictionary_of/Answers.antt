@@ -30,8 +30,8 @@ returns g c =
     let names_are = rw c.names.ensures at c.as_flattened.ensures.value in
     let tail_256 : length c.tail.result.now ≡ 256 =
     rw c.tail.ensures (part_len plan.host 256 512 (omega (arith, c.requires.ready.host))) in
-    dictionary_is plan.order plan.names plan.host plan.origins _ _ _ _ (stored_parts (replicate
+    dictionary_is plan.order plan.names plan.host plan.sources _ _ _ _ (stored_parts (replicate
     512 0) _ _ _ _ _ (replicate 64 0) _ (length-replicate {A = ℕ} 512 0) refl pairs_64 names_128
     tail_256 c.store.ensures.stored c.store-2.ensures.stored c.store-3.ensures.stored)
-    (rw (c.order.ensures, c.sources.ensures.origins) at c.pairs_of-pairs.ensures)
+    (rw (c.order.ensures, c.sources.ensures.sources) at c.pairs_of-pairs.ensures)
     names_are c.tail.ensures

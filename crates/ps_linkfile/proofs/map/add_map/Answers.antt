@@ -11,7 +11,7 @@ returns g c =
     let form = c.args.form in
     let defined : c.definitions.result.now ≡ plan.definitions = search rules in
     let allotted : c.privates.result.now ≡ plan.privates = search rules in
-    let laid : c.lay_out-layout.result.blocks ≡ 1 + all_blocks plan.origins = search rules in
+    let laid : c.lay_out-layout.result.blocks ≡ 1 + all_blocks plan.sources = search rules in
     c.add_by_form.ensures ⨾ c.add_segments.ensures ⨾ c.add_by_form-2.ensures
     ⨾ adds_is (ap (λ ds. rows_in form definition_row ds) defined) c.add_definitions.ensures
     ⨾ c.add_by_form-3.ensures

@@ -1,5 +1,5 @@
 use Rattle.std.proofs.Common.{drop}
-use Rattle.ps_linkfile.specs.MapText.{source_row}
+use Rattle.ps_linkfile.specs.MapText.{row_among}
 use Rattle.ps_writing.specs.Rows.{rows_from, rows_in}
 use Rattle.ps_writing.proofs.Written.{Written}
 use Rattle.ps_linkfile.proofs.map.add_segments.Given as goal
@@ -8,6 +8,6 @@ use Rattle.ps_linkfile.proofs.map.add_segments.Given as goal
 abbrev pub invariant-loop-k : goal.invariant-loop-k
 invariant-loop-k g l =
     Written g.S.TextWriter.added l.fn.text
-    (rows_in l.form (source_row l.plan.names l.plan.origins) l.plan.origins)
-    (rows_from l.form (source_row l.plan.names l.plan.origins) l.k (drop l.k l.plan.origins))
+    (rows_in l.form (row_among l.plan.sources) l.plan.sources)
+    (rows_from l.form (row_among l.plan.sources) l.k (drop l.k l.plan.sources))
     l.text

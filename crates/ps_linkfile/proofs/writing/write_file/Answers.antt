@@ -13,9 +13,9 @@ write_all-requires g c = room_then g.T.WriteCounter.needs_room _ _ (512 * MAX_FI
 pub write_codes-requires-clause-room : goal.write_codes-requires-clause-room
 write_codes-requires-clause-room g c =
     let plan = c.args.plan.now in
-    let few = few_of_all plan.origins c.requires.ready.slots c.requires.ready.sizes in
+    let few = few_of_all plan.sources c.requires.ready.slots c.requires.ready.sizes in
     room_then g.T.WriteCounter.needs_room _ _ (512 * MAX_FILE_BLOCKS)
-    (length c.dictionary_of.result) _ (512 * all_blocks plan.origins) c.requires.room
+    (length c.dictionary_of.result) _ (512 * all_blocks plan.sources) c.requires.room
     c.write_all.ensures.writes c.in_ok-write_all.ensures.ok (omega (arith, few))
 
 pub returns-in_err-write_all-clause-prefix : goal.returns-in_err-write_all-clause-prefix
@@ -31,7 +31,7 @@ pub returns-clause-prefix : goal.returns-clause-prefix
 returns-clause-prefix g c =
     let plan = c.args.plan.now in
     on_err_weaker c.write_codes.result (prefix_last _ _ _ (dictionary plan.order
-    plan.names plan.host plan.origins) (padded_codes plan.order plan.origins plan.edits)
+    plan.names plan.host plan.sources) (padded_codes plan.order plan.sources plan.edits)
     (rw c.dictionary_of.ensures at c.in_ok-write_all.ensures.all)) c.write_codes.ensures.prefix
 
 pub returns-clause-writes : goal.returns-clause-writes
