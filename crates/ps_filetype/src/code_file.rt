@@ -1,7 +1,6 @@
 //! Which code file a file is.
 ghost use Rattle.std.specs.Prelude.{◌≡◌, ◌+◌, ◌-◌, ◌*◌, ◌<◌, ◌≤◌, length};
 ghost use Rattle.std.specs.List.{list_all, list_any, range_with_len};
-ghost use Rattle.std.specs.Result.{is_ok};
 ghost use Rattle.ps_codefile.specs.Dictionary.{code_of, entry_at, role_of};
 ghost use Rattle.ps_codefile.specs.Opened.{opened};
 ghost use Rattle.ps_filetype.specs.CodeFiles.{code_file, code_file_word, has_kind as has_kind_spec, has_kinds as has_kinds_spec, has_other as has_other_spec, has_other_kind as has_other_kind_spec, has_shown_code as has_shown_code_spec, is_code_file as is_code_file_spec, is_kind as is_kind_spec, is_letter as is_letter_spec, is_other as is_other_spec, is_readable as is_readable_spec, purpose_of as purpose_of_spec, shows_code as shows_code_spec, tells as tells_spec, wants_unit as wants_unit_spec};
