@@ -1,5 +1,5 @@
 //! The lists of files.
-ghost use Rattle.std.specs.Prelude.{◌≡◌, ◌∷◌, ◌++◌, ℕ, IfOk, List, OnOk, codes, false, true};
+ghost use Rattle.std.specs.Prelude.{◌≡◌, ◌∷◌, ◌++◌, ℕ, IfOk, List, OnOk, codes, true};
 ghost use Rattle.ps_listing.specs.ListJson.{list_json_of};
 ghost use Rattle.ps_listing.specs.ListText.{list_of};
 ghost use Rattle.ps_listing.specs.LoneText.{lone_text, lone_units as lone_units_spec};

@@ -1,5 +1,5 @@
 -- Files that are read like the samples, and libraries that have no name in common.
-use Rattle.ps_examples.proofs.Vocabulary.{◌≡◌, ℕ, ◌+◌, ◌<◌, List, [], ◌∷◌, map, Bool, true, false, refl, sym, ap, subst, ◌∙◌, arith, ◌==◌, ◌&&◌, not, slice_get, All, ◌≢◌, entry_at, is_filled, host, library, put_at, aux, demo_segment, util_segment, Segment, library_file, HasEntry, Little, SLOTS}
+use Rattle.ps_examples.proofs.Vocabulary.{◌≡◌, ℕ, ◌<◌, List, [], ◌∷◌, map, Bool, true, false, refl, sym, ap, subst, ◌∙◌, arith, ◌==◌, ◌&&◌, not, slice_get, All, ◌≢◌, entry_at, is_filled, host, library, put_at, aux, demo_segment, util_segment, Segment, library_file, HasEntry, Little, SLOTS}
 use Rattle.std.specs.List.{range_with_len}
 use Rattle.std.proofs.lemmas.Bool.Decides.{Decides-eqb}
 use Rattle.std.proofs.lemmas.List.Elements.{All-cons, All-nil}

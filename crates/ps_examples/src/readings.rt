@@ -1,4 +1,4 @@
-ghost use Rattle.std.specs.Prelude.{◌≡◌, [], ◌∷◌, ◌++◌, take, false, Some, None, Ok, Err};
+ghost use Rattle.std.specs.Prelude.{◌≡◌, [], ◌∷◌, take, false, Some, None, Ok, Err};
 ghost use Rattle.ps_examples.specs.Files.{host, library, library_of_two, library_of_used, library_naming_two, wanting_aux, with_odd_util, with_odd_aux, with_slot, put_at, blank_name, util, aux, nobody, util_information};
 ghost use Rattle.ps_examples.specs.Segments.{demo_segment, util_segment, using_segment, aux_segment};
 ghost use Rattle.ps_resolve.specs.Readings.{all_read, host_reading_fault, read_requests, slot_entry, slot_reading, slot_request};

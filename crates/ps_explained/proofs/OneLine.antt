@@ -67,19 +67,12 @@ unfolding digits
 one_digits base n = onto base 64 n [] refl
 
 -- names
-one_hex : (n : ℕ) → not (hex_digit n == 10) ≡ true
-one_hex n = by (nat_lt n 10)
-  where
-    by : (t : Bool) → not ((if t then 48 + n else 87 + n) == 10) ≡ true
-    by true = above 48 n (omega arith)
-    by false = above 87 n (omega arith)
-
 pub one_byte : (b : ℕ) → one_line (shown_byte b) ≡ true
 one_byte b = by (is_printed b) refl
   where
     escape : one_line (92 ∷ 120 ∷ hex_digit (b / 16) ∷ hex_digit (b % 16) ∷ []) ≡ true
     escape = and_both (not (hex_digit (b / 16) == 10)) (one_line (hex_digit (b % 16) ∷ []))
-        (one_hex (b / 16)) (and_both (not (hex_digit (b % 16) == 10)) true (one_hex (b % 16)) refl)
+        (glyph (b / 16)) (and_both (not (hex_digit (b % 16) == 10)) true (glyph (b % 16)) refl)
 
     is_ten : (t : Bool) → (b == 10) ≡ t → is_printed b ≡ true → not t ≡ true
     is_ten false e printed = refl

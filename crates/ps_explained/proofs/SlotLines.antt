@@ -14,7 +14,7 @@ more_ends : (b : ℕ) (line rest : List ℕ) (t : Bool) → (b == 10) ≡ t
 more_ends b line rest true e other h = let no = ap not (sym e) ∙ other in cc
 more_ends b line rest false e other h = ap (with_first b) h
 
-line_ends : (line rest : List ℕ) → one_line line ≡ true
+pub line_ends : (line rest : List ℕ) → one_line line ≡ true
     → lines_of (line ++ 10 ∷ rest) ≡ line ∷ lines_of rest
 line_ends [] rest one = refl
 line_ends (b ∷ line) rest one =

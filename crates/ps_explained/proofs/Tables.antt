@@ -1,24 +1,21 @@
 -- What holds of each row of a table of sentences, and which row an index has.
-use Rattle.std.proofs.Common.{◌≡◌, ◌≤◌, ◌<◌, ◌&&◌, ℕ, Bool, Bor, List, [], ◌∷◌, Option, Some, None, ap, arith, false, get_or, length, map, refl, subst, suc, sym, true, zero}
+use Rattle.std.proofs.Common.{◌≡◌, ◌≤◌, ◌<◌, ℕ, Bool, Bor, List, [], ◌∷◌, Option, Some, None, ap, arith, get_or, length, map, refl, subst, suc, sym, true, zero}
 use Rattle.std.specs.Prelude.{nat_le}
 use Rattle.std.specs.List.{list_all}
 use Rattle.std.specs.Slice.{IsItemAt}
 use Rattle.std.proofs.lemmas.Bool.Decides.{nat_tests}
 use Rattle.std.proofs.lemmas.Option.{MatchOption-at_none, MatchOption-at_some}
 use Rattle.ps_explained.specs.Sentences.{is_printed, meaning_of, remedy_of}
+use Rattle.ps_explained.proofs.OneLine.{and_left, and_right}
 use Rattle.ps_explained.specs.declared.sentences.TheConstants.{MEANINGS, REMEDIES, SENTENCE_LEN}
-
-both : (a b : Bool) → (a && b) ≡ true → (a ≡ true) × (b ≡ true)
-both true b e = (refl, e)
-both false b e = cc
 
 -- a test that each row of a table passes, and nothing too, is passed by the row of a number
 row_passes : (test : List ℕ → Bool) (rows : List (List ℕ)) (n : ℕ) → test [] ≡ true
     → list_all test rows ≡ true → test (get_or rows n []) ≡ true
 row_passes test [] n none all = none
-row_passes test (row ∷ rows) zero none all = (both (test row) (list_all test rows) all).0
+row_passes test (row ∷ rows) zero none all = and_left (test row) (list_all test rows) all
 row_passes test (row ∷ rows) (suc n) none all =
-    row_passes test rows n none (both (test row) (list_all test rows) all).1
+    row_passes test rows n none (and_right (test row) (list_all test rows) all)
 
 abbrev is_short : List ℕ → Bool
 is_short text = nat_le (length text) SENTENCE_LEN

@@ -17,13 +17,6 @@ pub(crate) fn words_of(segments: &[Segment<'_>], fault: Fault) -> u64 {
 }
 
 impl Case<'_, '_> {
-    /// The words of the private variables before the record that the fault is reported with, or of
-    /// all where it is reported with none.
-    /// Source: the published II.0 Linker source.
-    pub fn words_before(&self) -> u64 {
-        self.words
-    }
-
     /// The data size of the outer block of the host program, in bytes.
     /// Source: UCSD Pascal II.0 manual, code file format.
     pub fn data_size(&self) -> Option<u16> {
@@ -39,7 +32,7 @@ impl Case<'_, '_> {
             Some(host) => u64::from(host.records().next()),
             None => 0,
         };
-        next.saturating_add(self.words_before())
+        next.saturating_add(self.words)
     }
 
     /// The words of the private variable of the record that the fault is reported with.

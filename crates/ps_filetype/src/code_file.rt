@@ -1,14 +1,13 @@
 //! Which code file a file is.
-ghost use Rattle.std.specs.Prelude.{◌≡◌, ◌+◌, ◌-◌, ◌*◌, ◌<◌, ◌≤◌, length};
+ghost use Rattle.std.specs.Prelude.{◌≡◌, ◌+◌, ◌-◌, ◌*◌, ◌<◌, ◌≤◌, is_some, length};
 ghost use Rattle.std.specs.List.{list_all, list_any, range_with_len};
-ghost use Rattle.std.specs.Result.{is_ok};
-ghost use Rattle.ps_codefile.specs.Dictionary.{code_of, entry_at, role_of};
+ghost use Rattle.ps_codefile.specs.Dictionary.{code_of, entry_at, role_of, slots};
 ghost use Rattle.ps_codefile.specs.Opened.{opened};
 ghost use Rattle.ps_filetype.specs.CodeFiles.{code_file, code_file_word, has_kind as has_kind_spec, has_kinds as has_kinds_spec, has_other as has_other_spec, has_other_kind as has_other_kind_spec, has_shown_code as has_shown_code_spec, is_code_file as is_code_file_spec, is_kind as is_kind_spec, is_letter as is_letter_spec, is_other as is_other_spec, is_readable as is_readable_spec, purpose_of as purpose_of_spec, shows_code as shows_code_spec, tells as tells_spec, wants_unit as wants_unit_spec};
-ghost use Rattle.ps_filetype.specs.CodeTypes.{distance as distance_spec, has_number as has_number_spec, has_numbers as has_numbers_spec, has_table as has_table_spec, has_word as has_word_spec, is_code_type as is_code_type_spec, is_for_something as is_for_something_spec, is_linkable as is_linkable_spec, is_number_at as is_number_at_spec, is_swapped as is_swapped_spec, is_swapped_code as is_swapped_code_spec, is_swapped_file as is_swapped_file_spec, is_swapped_in as is_swapped_in_spec, is_swapped_slot as is_swapped_slot_spec, word_place};
+ghost use Rattle.ps_filetype.specs.CodeTypes.{distance as distance_spec, has_number as has_number_spec, has_numbers as has_numbers_spec, has_table as has_table_spec, has_word as has_word_spec, is_code_type as is_code_type_spec, is_for_something, is_linkable as is_linkable_spec, is_number_at as is_number_at_spec, is_swapped as is_swapped_spec, is_swapped_code as is_swapped_code_spec, is_swapped_file as is_swapped_file_spec, is_swapped_in as is_swapped_in_spec, is_swapped_slot as is_swapped_slot_spec, word_place};
 
 use crate::bytes::is_one_byte;
-use crate::release::is_later;
+use crate::release::later_release;
 use ps_codefile::code_layout::NUMBERS;
 use ps_codefile::dictionary_layout::SLOTS;
 use ps_codefile::kinds::{HOSTSEG, LAST_INTRINSIC, LINKED, UNITSEG};
@@ -64,20 +63,12 @@ fn is_kind(dict: &Dict<'_>, kind: u16, slot: u8) -> bool
     tells(dict, slot) && dict.entry(slot).kind == kind
 }
 
-/// One of the entries below `end` says what its file is for, and is of this kind.
-fn has_kind_below(dict: &Dict<'_>, kind: u16, end: u8) -> bool
-    requires { end ≤ SLOTS }
-    ensures { result ≡ list_any (is_kind_spec kind dict.now.order dict.now.file)
-        (range_with_len 0 end) }
-{
-    (0..end).any(|slot| is_kind(dict, kind, slot))
-}
-
 /// Some entry says what its file is for, and is of this kind.
+#[tactic(auto, unfolding(crate::specs::CodeFiles::has_kind))]
 fn has_kind(dict: &Dict<'_>, kind: u16) -> bool
     ensures { result ≡ has_kind_spec kind dict.now.order dict.now.file }
 {
-    has_kind_below(dict, kind, SLOTS)
+    (0..SLOTS).any(|slot| is_kind(dict, kind, slot))
 }
 
 /// The entry says what its file is for, and is neither of a host program nor of a linked segment.
@@ -88,20 +79,12 @@ fn is_other(dict: &Dict<'_>, slot: u8) -> bool
     tells(dict, slot) && !is_kind(dict, HOSTSEG, slot) && !is_kind(dict, LINKED, slot)
 }
 
-/// One of the entries below `end` says what its file is for, and is of another kind than these.
-fn has_other_below(dict: &Dict<'_>, end: u8) -> bool
-    requires { end ≤ SLOTS }
-    ensures { result ≡ list_any (is_other_spec dict.now.order dict.now.file)
-        (range_with_len 0 end) }
-{
-    (0..end).any(|slot| is_other(dict, slot))
-}
-
 /// Some entry says what its file is for, and is of another kind than these.
+#[tactic(auto, unfolding(crate::specs::CodeFiles::has_other))]
 fn has_other(dict: &Dict<'_>) -> bool
     ensures { result ≡ has_other_spec dict.now.order dict.now.file }
 {
-    has_other_below(dict, SLOTS)
+    (0..SLOTS).any(|slot| is_other(dict, slot))
 }
 
 /// What the entries that say it say a file is for.
@@ -184,20 +167,12 @@ fn shows_code(dict: &Dict<'_>, slot: u8) -> bool
     dict.filled(slot) && entry.kind <= LAST_INTRINSIC && is_readable(&entry.name)
 }
 
-/// One of the entries below `end` is that of a code.
-fn has_shown_code_below(dict: &Dict<'_>, end: u8) -> bool
-    requires { end ≤ SLOTS }
-    ensures { result ≡ list_any (shows_code_spec dict.now.order dict.now.file)
-        (range_with_len 0 end) }
-{
-    (0..end).any(|slot| shows_code(dict, slot))
-}
-
 /// Some entry is that of a code.
+#[tactic(auto, unfolding(crate::specs::CodeFiles::has_shown_code))]
 fn has_shown_code(dict: &Dict<'_>) -> bool
     ensures { result ≡ has_shown_code_spec dict.now.order dict.now.file }
 {
-    has_shown_code_below(dict, SLOTS)
+    (0..SLOTS).any(|slot| shows_code(dict, slot))
 }
 
 /// The kind of a slot is not 0.
@@ -208,20 +183,12 @@ fn has_other_kind(dict: &Dict<'_>, slot: u8) -> bool
     dict.entry(slot).kind != LINKED
 }
 
-/// One of the kinds below `end` is not 0.
-fn has_kinds_below(dict: &Dict<'_>, end: u8) -> bool
-    requires { end ≤ SLOTS }
-    ensures { result ≡ list_any (has_other_kind_spec dict.now.order dict.now.file)
-        (range_with_len 0 end) }
-{
-    (0..end).any(|slot| has_other_kind(dict, slot))
-}
-
 /// Some kind is not 0.
+#[tactic(auto, unfolding(crate::specs::CodeFiles::has_kinds))]
 fn has_kinds(dict: &Dict<'_>) -> bool
     ensures { result ≡ has_kinds_spec dict.now.order dict.now.file }
 {
-    has_kinds_below(dict, SLOTS)
+    (0..SLOTS).any(|slot| has_other_kind(dict, slot))
 }
 
 /// The file is a code file.
@@ -236,17 +203,12 @@ fn is_code_file(dict: &Dict<'_>) -> bool
 }
 
 /// What a code file is for; none where the file is no code file.
-pub(crate) fn code_file_of(bytes: &[u8]) -> Option<CodeFile> {
-    CodeFile::of(&open(bytes).ok()?)
-}
-
-/// The file is a code file as far as its entries say.
-fn is_for_something(bytes: &[u8]) -> bool
-    ensures { result ≡ is_for_something_spec (opened bytes.now) }
+pub(crate) fn code_file_of(bytes: &[u8]) -> Option<CodeFile>
+    ensures { is_some result ≡ is_for_something (opened bytes.now) }
 {
     match open(bytes) {
-        Ok(dict) => CodeFile::of(&dict).is_some(),
-        Err(_) => false,
+        Ok(dict) => CodeFile::of(&dict),
+        Err(_) => None,
     }
 }
 
@@ -260,7 +222,10 @@ fn is_for_something(bytes: &[u8]) -> bool
 pub fn is_code_type(bytes: &[u8]) -> bool
     ensures { result ≡ is_code_type_spec bytes.now }
 {
-    !is_one_byte(bytes) && !is_later(bytes) && is_for_something(bytes) && !is_swapped_file(bytes)
+    !is_one_byte(bytes)
+        && later_release(bytes).is_none()
+        && code_file_of(bytes).is_some()
+        && !is_swapped_file(bytes)
 }
 
 /// The file is a code file, and an entry with a name that can be read has its code whole in it.
@@ -403,22 +368,18 @@ fn is_swapped_slot(dict: &Dict<'_>, slot: u8) -> bool
     !is_linkable(dict, slot) || is_swapped_code(dict, slot)
 }
 
-/// So are those of each of the slots below `end`.
-fn are_swapped(dict: &Dict<'_>, end: u8) -> bool
-    requires { end ≤ SLOTS }
-    ensures { result ≡ list_all (is_swapped_slot_spec dict.now.order dict.now.file)
-        (range_with_len 0 end) }
+/// So are those of each slot.
+fn are_swapped(dict: &Dict<'_>) -> bool
+    ensures { result ≡ list_all (is_swapped_slot_spec dict.now.order dict.now.file) slots }
 {
-    (0..end).all(|slot| is_swapped_slot(dict, slot))
+    (0..SLOTS).all(|slot| is_swapped_slot(dict, slot))
 }
 
-/// One of the slots below `end` is to be linked.
-fn has_linkable(dict: &Dict<'_>, end: u8) -> bool
-    requires { end ≤ SLOTS }
-    ensures { result ≡ list_any (is_linkable_spec dict.now.order dict.now.file)
-        (range_with_len 0 end) }
+/// One of the slots is to be linked.
+fn has_linkable(dict: &Dict<'_>) -> bool
+    ensures { result ≡ list_any (is_linkable_spec dict.now.order dict.now.file) slots }
 {
-    (0..end).any(|slot| is_linkable(dict, slot))
+    (0..SLOTS).any(|slot| is_linkable(dict, slot))
 }
 
 /// The bytes of each code that is to be linked are exchanged in pairs, and there is one.
@@ -426,7 +387,7 @@ fn has_linkable(dict: &Dict<'_>, end: u8) -> bool
 fn is_swapped_in(dict: &Dict<'_>) -> bool
     ensures { result ≡ is_swapped_in_spec dict.now.order dict.now.file }
 {
-    are_swapped(dict, SLOTS) && has_linkable(dict, SLOTS)
+    are_swapped(dict) && has_linkable(dict)
 }
 
 /// The bytes of a code file are exchanged in pairs: so are those of each code that is to be linked,

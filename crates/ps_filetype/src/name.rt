@@ -1,7 +1,7 @@
 //! Names as they are shown.
-ghost use Rattle.std.specs.Prelude.{◌≡◌, ◌<◌, Some};
+ghost use Rattle.std.specs.Prelude.{◌≡◌, Some};
 ghost use Rattle.std.specs.List.{flat_map, list_all};
-ghost use Rattle.ps_filetype.specs.Shown.{hex_digit, is_printed as is_printed_spec, is_quoted as is_quoted_spec, quotes as quotes_spec, shown_byte, shown_name, trimmed as trimmed_spec};
+ghost use Rattle.ps_filetype.specs.Shown.{is_printed as is_printed_spec, is_quoted as is_quoted_spec, quotes as quotes_spec, shown_byte, shown_name, trimmed as trimmed_spec};
 
 use ps_words::Name;
 use std::fmt::{self, Formatter};
@@ -20,18 +20,6 @@ fn is_printed(byte: u8) -> bool
     byte == b' ' || byte.is_ascii_graphic()
 }
 
-/// A hexadecimal digit.
-fn digit(number: u8) -> char
-    requires { number < 16 }
-    ensures { result ≡ hex_digit number }
-{
-    if number < 10 {
-        char::from(b'0' + number)
-    } else {
-        char::from(b'W' + number)
-    }
-}
-
 /// A byte of a name: as it is, or as `\x` and two digits.
 #[derive(Clone, Copy)]
 struct ShownByte(u8);
@@ -39,14 +27,13 @@ struct ShownByte(u8);
 impl fmt::Display for ShownByte {
     ghost output = { λ byte. Some (shown_byte byte.0) };
 
+    #[tactic(auto, using(std::proofs::lemmas::Fmt::hex_byte))]
     fn fmt<W: fmt::Write>(&self, f: &mut Formatter<W>) -> fmt::Result {
         let byte = self.0;
         if is_printed(byte) {
             f.write_char(char::from(byte))
         } else {
-            let high = digit(byte / 16);
-            let low = digit(byte % 16);
-            write!(f, "\\x{high}{low}")
+            write!(f, "\\x{byte:02x}")
         }
     }
 }

@@ -1,9 +1,9 @@
 //! Code files of later releases of the p-System.
-ghost use Rattle.std.specs.Prelude.{◌≡◌, ◌<◌, ◌≤◌, ◌==◌, length};
-ghost use Rattle.std.specs.List.{list_all, list_any, range_with_len};
+ghost use Rattle.std.specs.Prelude.{◌≡◌, ◌<◌, ◌≤◌, is_some, length};
+ghost use Rattle.std.specs.List.{list_all, list_any};
 ghost use Rattle.ps_codefile.specs.Dictionary.{name_at, slots};
 ghost use Rattle.ps_filetype.specs.CodeFiles.{is_letter};
-ghost use Rattle.ps_filetype.specs.CodeTypes.{has_version as has_version_spec, has_versions as has_versions_spec, information as information_spec, is_four as is_four_spec, is_later as is_later_spec, is_later_in as is_later_in_spec, is_of_version as is_of_version_spec, is_used as is_used_spec};
+ghost use Rattle.ps_filetype.specs.CodeTypes.{has_version as has_version_spec, has_versions as has_versions_spec, information as information_spec, is_four as is_four_spec, is_later, is_later_in, is_of_version as is_of_version_spec, is_used as is_used_spec};
 
 use crate::code_file::are_letters;
 use ps_codefile::dictionary_layout::{PAIR, SLOTS};
@@ -53,7 +53,10 @@ impl fmt::Display for Release {
 }
 
 /// The later release whose dictionary a file begins with.
-pub(crate) fn later_release(bytes: &[u8]) -> Option<Release> {
+#[tactic(auto, unfolding(crate::specs::CodeTypes::is_later))]
+pub(crate) fn later_release(bytes: &[u8]) -> Option<Release>
+    ensures { is_some result ≡ is_later bytes.now }
+{
     if bytes.len() < BLOCK_SIZE {
         return None;
     }
@@ -64,6 +67,7 @@ pub(crate) fn later_release(bytes: &[u8]) -> Option<Release> {
 /// The later release whose dictionary the block is, with words in this order.
 fn release_in(order: Order, block: &[u8]) -> Option<Release>
     requires { 512 ≤ length block.now }
+    ensures { is_some result ≡ is_later_in order block.now }
 {
     if is_four(order, block) {
         Some(Release::Four)
@@ -72,26 +76,6 @@ fn release_in(order: Order, block: &[u8]) -> Option<Release>
     } else {
         None
     }
-}
-
-/// A file begins with the dictionary of a later release.
-#[tactic(auto, unfolding(crate::specs::CodeTypes::is_later))]
-pub(crate) fn is_later(bytes: &[u8]) -> bool
-    ensures { result ≡ is_later_spec bytes.now }
-{
-    if bytes.len() < BLOCK_SIZE {
-        return false;
-    }
-    let block = &bytes[..BLOCK_SIZE];
-    is_later_in(Order::Little, block) || is_later_in(Order::Big, block)
-}
-
-/// The block is the dictionary of a later release, with words in this order.
-fn is_later_in(order: Order, block: &[u8]) -> bool
-    requires { 512 ≤ length block.now }
-    ensures { result ≡ is_later_in_spec order block.now }
-{
-    is_four(order, block) || has_versions(order, block, VERSION_III, VERSION_III)
 }
 
 /// The block is the dictionary of release IV.0, or of one after it.
@@ -157,39 +141,20 @@ fn is_of_version(order: Order, block: &[u8], first: u16, last: u16, slot: u8) ->
     }
 }
 
-/// So is each of the slots below `end`.
-fn are_of_version(order: Order, block: &[u8], first: u16, last: u16, end: u8) -> bool
-    requires in_range { end ≤ SLOTS }
-    requires whole { 512 ≤ length block.now }
-    ensures { result ≡ list_all (is_of_version_spec order block.now first last)
-        (range_with_len 0 end) }
-{
-    (0..end).all(|slot| is_of_version(order, block, first, last, slot))
-}
-
 /// So is each slot.
-fn are_all_of_version(order: Order, block: &[u8], first: u16, last: u16) -> bool
+fn are_of_version(order: Order, block: &[u8], first: u16, last: u16) -> bool
     requires { 512 ≤ length block.now }
     ensures { result ≡ list_all (is_of_version_spec order block.now first last) slots }
 {
-    are_of_version(order, block, first, last, SLOTS)
-}
-
-/// One of the slots below `end` has a segment.
-fn has_segment(order: Order, block: &[u8], end: u8) -> bool
-    requires in_range { end ≤ SLOTS }
-    requires whole { 512 ≤ length block.now }
-    ensures { result ≡ list_any (is_used_spec order block.now) (range_with_len 0 end) }
-{
-    (0..end).any(|slot| is_used(order, block, slot))
+    (0..SLOTS).all(|slot| is_of_version(order, block, first, last, slot))
 }
 
 /// Some slot has a segment.
-fn has_segments(order: Order, block: &[u8]) -> bool
+fn has_segment(order: Order, block: &[u8]) -> bool
     requires { 512 ≤ length block.now }
     ensures { result ≡ list_any (is_used_spec order block.now) slots }
 {
-    has_segment(order, block, SLOTS)
+    (0..SLOTS).any(|slot| is_used(order, block, slot))
 }
 
 /// Each segment has a name, a number and a version from `first` to `last`, each other slot has
@@ -199,5 +164,5 @@ fn has_versions(order: Order, block: &[u8], first: u16, last: u16) -> bool
     requires { 512 ≤ length block.now }
     ensures { result ≡ has_versions_spec order block.now first last }
 {
-    are_all_of_version(order, block, first, last) && has_segments(order, block)
+    are_of_version(order, block, first, last) && has_segment(order, block)
 }

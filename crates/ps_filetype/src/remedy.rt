@@ -31,11 +31,7 @@ impl Remedy<'_> {
                 "Exchange the bytes again: dd conv=swab if=",
                 " of=FILE. Then give FILE.",
             ),
-            FileType::MacBinary => (
-                "Remove the header: tail -c +129 ",
-                " > FILE. Then give FILE.",
-            ),
-            FileType::Header { bytes: 128 } => (
+            FileType::MacBinary | FileType::Header { bytes: 128 } => (
                 "Remove the header: tail -c +129 ",
                 " > FILE. Then give FILE.",
             ),

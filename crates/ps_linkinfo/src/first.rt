@@ -1,5 +1,5 @@
 //! What the bytes of a record mean: the one reader of records.
-ghost use Rattle.std.specs.Prelude.{◌≡◌, ◌≤◌, ◌*◌, ◌+◌, length, take, IfOk, IfErr, Some};
+ghost use Rattle.std.specs.Prelude.{◌≡◌, ◌≤◌, ◌+◌, length, take, IfOk, IfErr, Some};
 ghost use Rattle.ps_words.specs.Words.{word_at};
 ghost use Rattle.ps_linkinfo.specs.Records.{BeginsWith, IsBody, bad, bad_format, refs_at as refs_at_spec, refs_of, size_of, list_len as list_len_spec};
 

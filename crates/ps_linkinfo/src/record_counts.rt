@@ -1,4 +1,4 @@
-ghost use Rattle.std.specs.Prelude.{◌≡◌, ◌<◌, ◌+◌, ◌^◌, [], ◌∷◌, ◌++◌, List, false, length};
+ghost use Rattle.std.specs.Prelude.{◌≡◌, ◌<◌, ◌^◌, [], ◌∷◌, ◌++◌, List, false, length};
 ghost use Rattle.std.specs.List.{AllByRecursion};
 ghost use Rattle.ps_linkinfo.specs.RecordCounts.{record_counts_of};
 ghost use Rattle.ps_linkinfo.specs.Records.{is_eof, reading};

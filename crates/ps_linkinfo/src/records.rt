@@ -1,4 +1,4 @@
-ghost use Rattle.std.specs.Prelude.{◌≡◌, false};
+ghost use Rattle.std.specs.Prelude.{◌≡◌};
 ghost use Rattle.std.specs.Iterator.{YieldsFirst};
 ghost use Rattle.ps_linkinfo.specs.Walk.{Advances, whole_walk};
 ghost use Rattle.ps_linkinfo.specs.Left.{items_left};

@@ -1,5 +1,5 @@
 //! What a file has, as JSON.
-ghost use Rattle.std.specs.Prelude.{◌≡◌, IfErr, OnOk, OnErr};
+ghost use Rattle.std.specs.Prelude.{IfErr, OnOk, OnErr};
 ghost use Rattle.std.specs.Io.KnownBytes.{Appends};
 ghost use Rattle.ps_writing.specs.Adding.{Adds};
 ghost use Rattle.ps_writing.specs.Counts.{NoneFailed, OneFailed};

@@ -1,5 +1,5 @@
 //! The words of the lines.
-ghost use Rattle.std.specs.Prelude.{◌≡◌, chars, codes, flat_map};
+ghost use Rattle.std.specs.Prelude.{◌≡◌, codes, flat_map};
 ghost use Rattle.ps_writing.specs.Adding.{Adds};
 ghost use Rattle.ps_listing.specs.ListText.{order_words, phrase_words, purpose_words, refused_words, shown_char, shown_path, size_words, trimmed as trimmed_spec, used_words};
 ghost use Rattle.ps_words.specs.FaultText.{part_text};

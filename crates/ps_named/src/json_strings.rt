@@ -1,26 +1,13 @@
 //! What is inside the strings of a JSON document: texts, and names.
-ghost use Rattle.std.specs.Prelude.{◌≡◌, ◌<◌, Some, chars, false};
-ghost use Rattle.std.specs.Fmt.{WritesOnOk, digit_glyph};
+ghost use Rattle.std.specs.Prelude.{◌≡◌, Some, chars};
+ghost use Rattle.std.specs.Fmt.{WritesOnOk};
 ghost use Rattle.std.specs.List.{flat_map};
 ghost use Rattle.ps_writing.specs.JsonText.{json_byte};
-ghost use Rattle.ps_writing.specs.Lines.{hex_byte, hex_digit as capital_digit_spec};
+ghost use Rattle.ps_writing.specs.Lines.{hex_byte};
 ghost use Rattle.ps_named.specs.JsonStrings.{control_escape, escape_letter as escape_letter_spec, json_char, json_text, name_members, name_or_null, named, other_char};
 
 use ps_words::Name;
 use std::fmt::{self, Formatter, Write as _};
-
-/// A hexadecimal digit.
-fn hex_digit(number: u32) -> char
-    requires { number < 16 }
-    ensures { result ≡ digit_glyph false number }
-{
-    let number = number as u8;
-    if number < 10 {
-        char::from(b'0' + number)
-    } else {
-        char::from(b'W' + number)
-    }
-}
 
 /// A control character by its number, which has two hexadecimal digits.
 #[derive(Clone, Copy)]
@@ -29,11 +16,10 @@ struct Escape(char);
 impl fmt::Display for Escape {
     ghost output = { λ c. Some (control_escape c.0) };
 
+    #[tactic(auto, using(std::proofs::lemmas::Fmt::hex_byte))]
     fn fmt<W: fmt::Write>(&self, f: &mut Formatter<W>) -> fmt::Result {
-        let code = self.0 as u32;
-        let high = hex_digit(code / 16 % 16);
-        let low = hex_digit(code % 16);
-        write!(f, "\\u00{high}{low}")
+        let code = self.0 as u32 % 256;
+        write!(f, "\\u00{code:02x}")
     }
 }
 
@@ -160,18 +146,6 @@ pub struct NameOrNull(
     pub Option<Name>,
 );
 
-/// A hexadecimal digit with a capital letter.
-fn capital_digit(number: u8) -> char
-    requires { number < 16 }
-    ensures { result ≡ capital_digit_spec number }
-{
-    if number < 10 {
-        char::from(b'0' + number)
-    } else {
-        char::from(b'7' + number)
-    }
-}
-
 /// A byte in two hexadecimal digits.
 #[derive(Clone, Copy)]
 struct HexByte(u8);
@@ -179,10 +153,10 @@ struct HexByte(u8);
 impl fmt::Display for HexByte {
     ghost output = { λ byte. Some (hex_byte byte.0) };
 
+    #[tactic(auto, using(std::proofs::lemmas::Fmt::hex_byte))]
     fn fmt<W: fmt::Write>(&self, f: &mut Formatter<W>) -> fmt::Result {
-        let high = capital_digit(self.0 / 16);
-        let low = capital_digit(self.0 % 16);
-        write!(f, "{high}{low}")
+        let byte = self.0;
+        write!(f, "{byte:02X}")
     }
 }
 

@@ -2,9 +2,9 @@
 use crate::places::MOST;
 use crate::rules::{Rule, ShownRules};
 use crate::table::Release;
-use crate::tables::Ends;
+use crate::tables::{Ends, pointed_at};
 use crate::walks::Walk;
-use ps_words::{Order, get};
+use ps_words::Order;
 
 /// From this operand on a jump goes by the jump table.
 const BY_TABLE: u8 = 128;
@@ -77,13 +77,7 @@ impl<'c> Body<'c> {
 
     fn table_target(self, operand: u8) -> Option<usize> {
         let length = self.code.len().checked_add(usize::from(operand))?;
-        let place = length.checked_sub(256)?;
-        match self.code.get(place..) {
-            Some(word) if 2 <= word.len() => {
-                let target = place.checked_sub(usize::from(get(self.order, word, 0)))?;
-                target.checked_sub(self.ends.enter)
-            }
-            _ => None,
-        }
+        let target = pointed_at(self.order, self.code, length.checked_sub(256)?)?;
+        target.checked_sub(self.ends.enter)
     }
 }

@@ -51,7 +51,12 @@ pub(crate) fn native_table(order: Order, code: &[u8]) -> Option<usize> {
         _ => return None,
     };
     let before = WORD_LEN.saturating_mul(procedure).saturating_add(NUMBERS);
-    let place = code.len().checked_sub(before)?;
+    pointed_at(order, code, code.len().checked_sub(before)?)
+}
+
+/// The place that the word at a place of a code points to, by how far it is before the word; none
+/// where the word is not whole, or points before the code.
+pub(crate) fn pointed_at(order: Order, code: &[u8], place: usize) -> Option<usize> {
     match code.get(place..) {
         Some(word) if WORD_LEN <= word.len() => place.checked_sub(usize::from(get(order, word, 0))),
         _ => None,
@@ -71,15 +76,9 @@ impl Ends {
     /// Those of the table at this place; none where one of them is before the code.
     /// Source: UCSD Pascal II.0 manual, code file format.
     pub fn at(order: Order, code: &[u8], table: usize) -> Option<Ends> {
-        if table < 4 {
-            return None;
-        }
-        match code.get(table - 4..) {
-            Some(words) if 4 <= words.len() => Some(Ends {
-                enter: (table - 2).checked_sub(usize::from(get(order, words, 2)))?,
-                leave: (table - 4).checked_sub(usize::from(get(order, words, 0)))?,
-            }),
-            _ => None,
-        }
+        Some(Ends {
+            enter: pointed_at(order, code, table.checked_sub(2)?)?,
+            leave: pointed_at(order, code, table.checked_sub(4)?)?,
+        })
     }
 }

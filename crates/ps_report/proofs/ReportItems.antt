@@ -5,7 +5,7 @@ use Rattle.ps_writing.specs.JsonText.{comma_unless}
 use Rattle.ps_warnings.specs.declared.warnings.Warning.{Warning}
 use Rattle.ps_warnings.specs.declared.weight.Weight.{Weight}
 use Rattle.ps_named.specs.JsonStrings.{json_text}
-use Rattle.ps_report.specs.ReportJson.{AreItems, AreLooks, BeginsWith, IsDocument, lists_json, looks_json, report_json, warning_json}
+use Rattle.ps_report.specs.ReportJson.{AreItems, BeginsWith, lists_json, report_json, warning_json}
 use Rattle.ps_report.specs.declared.verdict.Verdict.{Verdict}
 
 -- the items of these warnings are still to be added
@@ -44,27 +44,6 @@ pub items_all : (all : List Warning) (first : Bool) (left : List Warning) (now :
 items_all all first left now none so_far =
     subst (λ (text : List ℕ). AreItems true all text) (append-nil now)
     (so_far.rest [] (subst (λ (ws : List Warning). AreItems first ws []) (sym none) refl))
-
--- a document of these items, by the texts that they stand in
-pub whole_document : (verdict : Verdict) (name : Option (List ℕ))
-    (warnings harmless notes : List Warning)
-    (items calm guesses report items' calm' guesses' report' text : List ℕ)
-    → AreItems true warnings items → AreItems true harmless calm → AreItems true notes guesses
-    → items' ≡ items → calm' ≡ calm → guesses' ≡ guesses → report' ≡ report
-    → text ≡ report_json verdict name items' calm' guesses' report'
-    → IsDocument verdict name warnings harmless notes report text
-whole_document verdict name warnings harmless notes items calm guesses report items' calm' guesses'
-    report' text ws hs ns a b c d is =
-    (items, calm, guesses, ws, hs, ns, rw (a, b, c, d) at is)
-
--- a document of the items alone
-pub whole_looks : (warnings harmless notes : List Warning)
-    (items calm guesses items' calm' guesses' text : List ℕ)
-    → AreItems true warnings items → AreItems true harmless calm → AreItems true notes guesses
-    → items' ≡ items → calm' ≡ calm → guesses' ≡ guesses
-    → text ≡ looks_json items' calm' guesses' → AreLooks warnings harmless notes text
-whole_looks warnings harmless notes items calm guesses items' calm' guesses' text ws hs ns a b c
-    is = (items, calm, guesses, ws, hs, ns, rw (a, b, c) at is)
 
 -- a document begins with its verdict
 pub begins : (verdict : Verdict) (name : Option (List ℕ)) (items calm guesses report text : List ℕ)

@@ -7,23 +7,8 @@ use Rattle.std.proofs.lemmas.List.{append_assoc, length-take-le}
 use Rattle.std.proofs.lemmas.List.Sums.{passes_at_first, split_at_first}
 use Rattle.ps_explained.specs.SlotLines.{AddsSlotLines, indent, is_slot_line, lines_of, one_line, slot_lines, with_first}
 use Rattle.ps_explained.proofs.OneLine.{Splits, and_both, and_left, and_right, one_append}
-use Rattle.ps_explained.proofs.SlotLines.{adds_line, adds_no_line, adds_then}
+use Rattle.ps_explained.proofs.SlotLines.{adds_line, adds_no_line, adds_then, line_ends}
 use Rattle.ps_report.specs.WarningLines.{AddsWarnings, head, is_warning_line, mark, note_line, other_line, other_lines, warning_line, warning_lines, warnings_in}
-
--- a line ends at the first byte 10
-more_ends : (b : ℕ) (line rest : List ℕ) (t : Bool) → (b == 10) ≡ t
-    → not (b == 10) ≡ true → lines_of (line ++ 10 ∷ rest) ≡ line ∷ lines_of rest
-    → (if t then [] ∷ lines_of (line ++ 10 ∷ rest)
-    else with_first b (lines_of (line ++ 10 ∷ rest))) ≡ (b ∷ line) ∷ lines_of rest
-more_ends b line rest true e other h = let no = ap not (sym e) ∙ other in cc
-more_ends b line rest false e other h = ap (with_first b) h
-
-pub line_ends : (line rest : List ℕ) → one_line line ≡ true
-    → lines_of (line ++ 10 ∷ rest) ≡ line ∷ lines_of rest
-line_ends [] rest one = refl
-line_ends (b ∷ line) rest one =
-    more_ends b line rest (b == 10) refl (and_left (not (b == 10)) (one_line line) one)
-    (line_ends line rest (and_right (not (b == 10)) (one_line line) one))
 
 -- a last line that has no end
 more_alone : (b : ℕ) (line : List ℕ) (t : Bool) → (b == 10) ≡ t → not (b == 10) ≡ true

@@ -105,19 +105,31 @@ fn warning_items<A: Allocator + Copy>(
     Ok(text)
 }
 
-/// The items of what looks wrong, by its weight.
+/// The items of what looks wrong, by its weight. Their text is the lists of a document.
 #[derive(Drop)]
-struct ItemTexts<A: Allocator> {
+struct Items<A: Allocator> {
     warnings: String<A>,
     harmless: String<A>,
     notes: String<A>,
 }
 
+impl<A: Allocator> fmt::Display for Items<A> {
+    ghost output = { λ items. Some (lists_json (string_bytes items.warnings)
+        (string_bytes items.harmless) (string_bytes items.notes)) };
+
+    fn fmt<W: fmt::Write>(&self, f: &mut Formatter<W>) -> fmt::Result {
+        let warnings = self.warnings.as_str();
+        let harmless = self.harmless.as_str();
+        let notes = self.notes.as_str();
+        write!(
+            f,
+            "\"warnings\":[{warnings}\n],\"harmless\":[{harmless}\n],\"notes\":[{notes}\n]"
+        )
+    }
+}
+
 /// The items of what looks wrong in a report.
-fn items_of<A: Allocator + Copy>(
-    alloc: A,
-    report: &Report<'_, A>,
-) -> Result<ItemTexts<A>, AllocError>
+fn items_of<A: Allocator + Copy>(alloc: A, report: &Report<'_, A>) -> Result<Items<A>, AllocError>
     ensures warnings { IfOk result (λ items. AreItems true report.now.warnings.items
         (string_bytes items.warnings)) }
     ensures harmless { IfOk result (λ items. AreItems true report.now.harmless.items
@@ -128,7 +140,7 @@ fn items_of<A: Allocator + Copy>(
     let warnings = warning_items(alloc, report.warnings.as_slice())?;
     let harmless = warning_items(alloc, report.harmless.as_slice())?;
     let notes = warning_items(alloc, report.notes.as_slice())?;
-    Ok(ItemTexts {
+    Ok(Items {
         warnings,
         harmless,
         notes,
@@ -150,14 +162,9 @@ impl<A: Allocator + Copy> Report<'_, A> {
             self.now.warnings.items self.now.harmless.items self.now.notes.items
             (string_bytes self.now.text) (string_bytes text)) }
     {
-        let texts = items_of(alloc, self)?;
-        let items = Items {
-            warnings: texts.warnings.as_str(),
-            harmless: texts.harmless.as_str(),
-            notes: texts.notes.as_str(),
-        };
+        let items = items_of(alloc, self)?;
         let verdict = JsonVerdict(self.verdict, self.name);
-        document(alloc, verdict, items, self.text.as_str())
+        document(alloc, verdict, &items, self.text.as_str())
     }
 
     /// What looks wrong, one by one, as one JSON document: the lists of warnings, of what is harmless
@@ -167,38 +174,8 @@ impl<A: Allocator + Copy> Report<'_, A> {
         ensures { IfOk result (λ text. AreLooks self.now.warnings.items self.now.harmless.items
             self.now.notes.items (string_bytes text)) }
     {
-        let texts = items_of(alloc, self)?;
-        let items = Items {
-            warnings: texts.warnings.as_str(),
-            harmless: texts.harmless.as_str(),
-            notes: texts.notes.as_str(),
-        };
-        looks_document(alloc, items)
-    }
-}
-
-/// The items of the lists of a document.
-#[derive(Clone, Copy)]
-struct Items<'t> {
-    warnings: &'t str,
-    harmless: &'t str,
-    notes: &'t str,
-}
-
-impl fmt::Display for Items<'_> {
-    ghost output = { λ items. Some (lists_json items.warnings.now items.harmless.now
-        items.notes.now) };
-
-    fn fmt<W: fmt::Write>(&self, f: &mut Formatter<W>) -> fmt::Result {
-        let Items {
-            warnings,
-            harmless,
-            notes,
-        } = *self;
-        write!(
-            f,
-            "\"warnings\":[{warnings}\n],\"harmless\":[{harmless}\n],\"notes\":[{notes}\n]"
-        )
+        let items = items_of(alloc, self)?;
+        looks_document(alloc, &items)
     }
 }
 
@@ -207,12 +184,12 @@ impl fmt::Display for Items<'_> {
 fn document<A: Allocator>(
     alloc: A,
     verdict: JsonVerdict,
-    items: Items<'_>,
+    items: &Items<A>,
     report: &str,
 ) -> Result<String<A>, AllocError>
     ensures { IfOk result (λ text. string_bytes text ≡ report_json verdict.0 verdict.1
-        items.entry.warnings.now items.entry.harmless.now items.entry.notes.now
-        report.now) }
+        (string_bytes items.now.warnings) (string_bytes items.now.harmless)
+        (string_bytes items.now.notes) report.now) }
 {
     let report = JsonText(report);
     format!(in alloc; "{verdict},{items},\"report\":\"{report}\"}}\n")
@@ -220,9 +197,10 @@ fn document<A: Allocator>(
 
 /// A document of these items alone.
 #[tactic(auto, unfolding(crate::specs::ReportJson::looks_json))]
-fn looks_document<A: Allocator>(alloc: A, items: Items<'_>) -> Result<String<A>, AllocError>
-    ensures { IfOk result (λ text. string_bytes text ≡ looks_json items.entry.warnings.now
-        items.entry.harmless.now items.entry.notes.now) }
+fn looks_document<A: Allocator>(alloc: A, items: &Items<A>) -> Result<String<A>, AllocError>
+    ensures { IfOk result (λ text. string_bytes text ≡ looks_json
+        (string_bytes items.now.warnings) (string_bytes items.now.harmless)
+        (string_bytes items.now.notes)) }
 {
     format!(in alloc; "{{{items}}}\n")
 }

@@ -1,5 +1,5 @@
 //! Lines of a report that are a warning's, and lines that are no warning's.
-ghost use Rattle.std.specs.Prelude.{◌≡◌, ◌++◌, [], List, ℕ, OnOk, false, length, string_bytes, true};
+ghost use Rattle.std.specs.Prelude.{◌≡◌, ◌++◌, [], List, ℕ, OnOk, length, string_bytes, true};
 ghost use Rattle.ps_explained.specs.SlotLines.{AddsSlotLines, one_line};
 ghost use Rattle.ps_report.specs.WarningLines.{AddsWarnings, AreLinesBy, AreLookLines, head as head_spec, is_warning_line as is_warning_line_spec, mark as mark_spec, note_line, other_line, other_lines, warning_line};
 

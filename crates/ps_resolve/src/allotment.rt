@@ -1,7 +1,6 @@
 ghost use Rattle.std.specs.Prelude.{◌≡◌, ◌<◌, ◌≤◌, ◌+◌, ◌++◌, [], IfOk, IfErr, None, length, map, unwrap_or};
 ghost use Rattle.ps_reading.specs.KnownSegments.{AscendFrom};
 ghost use Rattle.ps_resolve.specs.Offsets.{FollowOn, offset_listed};
-ghost use Rattle.ps_resolve.specs.declared.linkage.Stop.TheVariants.{Memory};
 ghost use Rattle.ps_resolve.specs.Privates.{words_in, allotted_privates, private_words, private_fault, all_allotted, all_words, first_private_fault, owner_of, owner_of_linkage, allotment_of, unallotted_fault, Owner};
 ghost use Rattle.ps_resolve.specs.Stops.{IsStop};
 ghost use Rattle.ps_resolve.specs.Builders.{HaveDistinctPrivates, HaveRoom, StopsPrivates, requested_of, all_requested, AreByRecord, words_of_all};

@@ -1,6 +1,6 @@
 -- Where segments come from, and what is seen of them.
 use Rattle.std.proofs.Common.{◌≡◌, ◌∙◌, ◌+◌, ◌-◌, ◌<◌, ◌≤◌, ◌++◌, ◌∷◌, [], ℕ, suc, List, true, false, length, refl, ap, arith}
-use Rattle.std.specs.Prelude.{◌&&◌, Bool, Option, Some, None, Result, filter_map, if◌then◌else◌}
+use Rattle.std.specs.Prelude.{◌&&◌, Bool, Option, Some, None, filter_map, if◌then◌else◌}
 use Rattle.std.specs.List.{cons_option, range_with_len}
 use Rattle.std.specs.Option.{option_map}
 use Rattle.std.specs.Result.{is_ok}

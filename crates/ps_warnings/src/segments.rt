@@ -1,6 +1,6 @@
 //! The segments of a link as the files have them, also where they are refused.
-ghost use Rattle.std.specs.Prelude.{◌≡◌, ◌<◌, ◌≤◌, ◌==◌, ◌^◌, ◌++◌, ◌∷◌, [], IfOk, OnOk, Some, filter_map, is_some, map, option_and_then, slice_get};
-ghost use Rattle.std.specs.List.{cons_option, find, list_any, range_with_len};
+ghost use Rattle.std.specs.Prelude.{◌≡◌, ◌<◌, ◌^◌, ◌++◌, ◌∷◌, [], IfOk, OnOk, Some, filter_map, is_some, map, option_and_then, slice_get};
+ghost use Rattle.std.specs.List.{cons_option, find};
 ghost use Rattle.std.specs.Option.{option_map};
 ghost use Rattle.ps_codefile.specs.Dictionary.{opened_beside, slots};
 ghost use Rattle.ps_linkinfo.specs.Records.{used_by};
@@ -260,21 +260,13 @@ fn is_unit_of(host: &HostReading<'_>, name: &Name, slot: u8) -> bool
     is_for_unit(host, slot) && host.entry(slot).name == *name
 }
 
-/// One of the slots below `end` has or wants a unit of the name.
-fn is_of_slots(host: &HostReading<'_>, name: &Name, end: u8) -> bool
-    requires { end ≤ SLOTS }
-    ensures { result ≡ list_any (is_unit_of_spec host.now name.now) (range_with_len 0 end) }
-{
-    (0..end).any(|slot| is_unit_of(host, name, slot))
-}
-
 /// A slot of the host has or wants a unit of the name. Where that unit is refused, the reading takes
 /// a record's request for it as one for another unit.
 #[tactic(auto, unfolding(crate::specs::SeenSegments::is_of_host))]
 fn is_of_host(host: &HostReading<'_>, name: &Name) -> bool
     ensures { result ≡ is_of_host_spec host.now name.now }
 {
-    is_of_slots(host, name, SLOTS)
+    (0..SLOTS).any(|slot| is_unit_of(host, name, slot))
 }
 
 /// What the unit is that is requested; none where it is one of the host's that is refused.

@@ -1,8 +1,18 @@
 //! What faults of a code say.
+ghost use Rattle.std.specs.Prelude.{◌≡◌, ◌+◌, ◌*◌};
+
 use crate::cases::Case;
 use ps_pcode::dead_look;
 use ps_words::BLOCK_SIZE;
 use std::fmt::{self, Formatter, Write};
+
+/// The first byte of a code, whose address counts blocks, and the byte after its last.
+fn extent_of(address: u16, length: u16) -> (usize, usize)
+    ensures { result ≡ (512 * address, 512 * address + length) }
+{
+    let start = BLOCK_SIZE * usize::from(address);
+    (start, start + usize::from(length))
+}
 
 /// Where the code would lie.
 pub(super) fn write_extent<W: Write>(f: &mut Formatter<W>, case: &Case<'_, '_>) -> fmt::Result {
@@ -12,10 +22,8 @@ pub(super) fn write_extent<W: Write>(f: &mut Formatter<W>, case: &Case<'_, '_>) 
     let Some((at, found)) = segment.source else {
         return Ok(());
     };
-    let start = BLOCK_SIZE.saturating_mul(usize::from(found.address));
-    let length = usize::from(found.length);
-    let end = start.saturating_add(length);
-    let entry = at.index;
+    let (start, end) = extent_of(found.address, found.length);
+    let (entry, length) = (at.index, found.length);
     let bytes = case.inputs.bytes(at.file).len();
     writeln!(
         f,

@@ -14,7 +14,7 @@ pub(super) fn write_words<W: Write>(f: &mut Formatter<W>, case: &Case<'_, '_>) -
         return writeln!(f, "  it takes {own} words from base offset {first} on");
     }
     let size = case.data_size().unwrap_or(0);
-    let bytes = case.words_before().saturating_mul(2);
+    let bytes = case.words.saturating_mul(2);
     writeln!(
         f,
         "  the program's own data have {size} bytes, and the private variables {bytes}"

@@ -1,7 +1,7 @@
-ghost use Rattle.std.specs.Prelude.{◌≡◌, ◌<◌, ◌≤◌, ◌+◌, [], List, ℕ, length, true, Some, None, IfOk, if◌then◌else◌};
+ghost use Rattle.std.specs.Prelude.{◌≡◌, ◌<◌, ◌≤◌, [], List, ℕ, length, true, Some, None, IfOk, if◌then◌else◌};
 ghost use Rattle.std.specs.Option.{option_map, option_or};
 ghost use Rattle.std.specs.Result.{result_err};
-ghost use Rattle.ps_words.specs.FaultPlaces.{in_record, in_slot as in_slot_spec};
+ghost use Rattle.ps_words.specs.FaultPlaces.{in_slot as in_slot_spec};
 ghost use Rattle.ps_codefile.specs.Dictionary.{entry_at, kind_needs_linking, information_of};
 ghost use Rattle.ps_codefile.specs.Places.{HasTables};
 ghost use Rattle.ps_codefile.specs.Procedures.{tables_fault as tables_fault_spec};

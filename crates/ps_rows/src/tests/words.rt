@@ -50,7 +50,7 @@ const WHOLE: Fault = Fault {
 };
 
 /// Faults, their numbers and names, and their texts.
-static FAULTS: [(Fault, u8, &str, &str); 6] = [
+static FAULTS: [(Fault, u8, &str, &str); 7] = [
     (
         WHOLE,
         14,
@@ -80,6 +80,18 @@ static FAULTS: [(Fault, u8, &str, &str); 6] = [
         28,
         "MissingDefinition",
         "refused 28 MissingDefinition file 2 slot 8 record 3",
+    ),
+    (
+        Fault {
+            reason: Reason::NoSlot,
+            file: 2,
+            slot: Some(8),
+            rec: Some(3),
+            reference: None,
+        },
+        35,
+        "NoSlot",
+        "refused 35 NoSlot file 2 slot 8 record 3",
     ),
     (
         Fault {
