@@ -1,5 +1,5 @@
 -- The lines of the references of a link name each byte that it stores, and no other.
-use Rattle.ps_relied.proofs.Vocabulary.{AreMadeByLines, Bool, Edit, HaveApartPlaces, HaveLinkedBytes, HaveOneLinkedByte, HaveSummedOffsets, In, IsLine, IsLinkedByte, IsMadeByLines, IsOnePlace, LinkedFile, List, None, Option, Order, Segment, Some, StoredIn, [], all_items, all_stored, ap, arith, block_len, block_of, by_slot, cause_width, drop, edited_segments, filter, filter_map, if◌then◌else◌, in_filter_map, is_host, length, linked_byte, map, map_at, needs_linking, not_apart, of_all, of_filter_map, of_link, of_segments, order_of, origins, patched_byte, piece_at, reading_fault, refl, segments_of, slice_index, stored_in, summed_edits, summed_segment, sym, tables_fault, take, true, uncovered, ℕ, ◌*◌, ◌+◌, ◌<◌, ◌∙◌, ◌∷◌, ◌≡◌, ◌≤◌}
+use Rattle.ps_relied.proofs.Vocabulary.{AreMadeByLines, Bool, Edit, HaveApartPlaces, HaveLinkedBytes, HaveOneLinkedByte, HaveSummedOffsets, In, IsLine, IsLinkedByte, IsMadeByLines, IsOnePlace, LinkedFile, List, None, Option, Order, Segment, Some, StoredIn, [], all_items, all_stored, ap, arith, block_len, block_of, by_slot, cause_width, drop, edited_segments, filter, filter_map, if◌then◌else◌, in_filter_map, is_host, length, linked_byte, map, map_at, needs_linking, not_apart, of_all, of_filter_map, of_link, of_segments, order_of, patched_byte, piece_at, reading_fault, refl, segments_of, slice_index, stored_in, summed_edits, summed_segment, sym, tables_fault, take, true, uncovered, ℕ, ◌*◌, ◌+◌, ◌<◌, ◌∙◌, ◌∷◌, ◌≡◌, ◌≤◌}
 
 -- what some items give, in one step
 as_one : {A C D : Type 0} (g : C → D) (test : C → Bool) (f : A → C) (xs : List A)
@@ -21,7 +21,7 @@ module _ (host : List ℕ) (libs : List (List ℕ)) (file : List ℕ)
   segs = segments_of host libs
 
   abbrev start : Segment → ℕ
-  start s = block_of (origins host libs) s.slot
+  start s = block_of (segments_of host libs) s.slot
 
   abbrev edits : Segment → List Edit
   edits s = summed_edits order segs s

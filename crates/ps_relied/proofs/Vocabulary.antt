@@ -13,7 +13,7 @@ pub use Rattle.ps_laws.proofs.Sources.{has}
 pub use Rattle.ps_laws.proofs.Vocabulary.{All, Body, Bool, Edit, Fault, HaveApartPlaces, HaveLinkedBytes, HaveOneLinkedByte, HaveSummedOffsets, IsLinkedByte, IsOnePlace, List, None, Ok, Option, Order, Reason, Record, Result, Role, Segment, Some, Spells, [], added_segments, ap, arith, bytes_eq, chosen_library, entry_at, enumerate_from, false, fault_if, file_at, filter, filter_map, find, first_of, has_entry, if◌then◌else◌, in_file, in_slot, information_block, inl, inr, is_host, is_named, is_some, is_unit, length, length-append, library_file, linked_byte, list_any, map, nat_tests, needs_linking, not, option_and_then, option_map, option_map_or, option_or, order_of, own_made, range_with_len, reading, refl, refs_of, result_err, result_ok, role_of, rounds_fine, same_Some, segments, segments_of, slots, some_mapped, source_of, sources_fine, suc, summed_edits, summed_segment, sym, tables_fault, take, true, unit_source, zero, ℕ, ◌&&◌, ◌*◌, ◌++◌, ◌+◌, ◌<◌, ◌==◌, ◌↔◌, ◌∙◌, ◌∷◌, ◌≡◌, ◌≢◌, ◌≤◌}
 pub use Rattle.ps_linkfile.proofs.FileOfSegments.{file_moved, file_of, same_head}
 pub use Rattle.ps_linkfile.proofs.StoredCauses.{piece_at, uncovered}
-pub use Rattle.ps_linkfile.proofs.Vocabulary.{LinkedFile, StoredIn, block_len, block_of, drop, edited_segments, get_or_append_left, length-map-range_with_len, linked_file, origins, patched_byte, stored_in, ◌/◌}
+pub use Rattle.ps_linkfile.proofs.Vocabulary.{LinkedFile, StoredIn, block_len, block_of, drop, edited_segments, get_or_append_left, length-map-range_with_len, linked_file, patched_byte, stored_in, ◌/◌}
 pub use Rattle.ps_linkfile.specs.ReferencesText.{cause_width}
 pub use Rattle.ps_linkinfo.specs.Records.{AreSpelled, IsBody, refs_at, size_of}
 pub use Rattle.ps_relied.specs.Alike.{AreFilesAlike, AreReadAlike, HasSameCode, HasSameRecords, IsReadAlike, is_in_place}

@@ -5,14 +5,14 @@ use Rattle.ps_codefile.specs.Dictionary.{block_len}
 use Rattle.ps_resolve.specs.LinkedBytes.{segments_of}
 use Rattle.ps_resolve.specs.Sources.{Segment, order_of}
 use Rattle.ps_resolve.specs.Standing.Phrases.{SomeItem}
-use Rattle.ps_linkfile.specs.LinkedFile.{block_of, linked_segments, origins}
+use Rattle.ps_linkfile.specs.LinkedFile.{block_of, linked_segments}
 use Rattle.ps_linkfile.specs.ReferencesText.{StoredIn, all_stored_in, cause_width}
 use Rattle.ps_linkfile.specs.declared.cause.Cause.{Cause}
 
 -- what is listed of the segments of a link whose references are resolved, by slot
 abbrev pub all_stored : List ℕ → List (List ℕ) → List StoredIn
 all_stored host libs =
-    all_stored_in (order_of host) (origins host libs) (linked_segments host libs)
+    all_stored_in (order_of host) (segments_of host libs) (linked_segments host libs)
 
 -- a line of the segment in this slot says that these bytes are at this place of its code
 abbrev pub IsLine : List StoredIn → ℕ → ℕ → List ℕ → Type 0
@@ -38,4 +38,4 @@ pub record IsMadeByLines (lists : List StoredIn) (s : Segment) (file : List ℕ)
 -- all segments of a link are made by their lines
 abbrev pub AreMadeByLines : List ℕ → List (List ℕ) → List ℕ → Type 0
 AreMadeByLines host libs file = All (λ s. IsMadeByLines (all_stored host libs) s file
-    (block_of (origins host libs) s.slot)) (segments_of host libs)
+    (block_of (segments_of host libs) s.slot)) (segments_of host libs)
