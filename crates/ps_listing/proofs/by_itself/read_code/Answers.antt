@@ -17,5 +17,5 @@ returns-in-Err-clause-fault c =
     let why : tables_fault order code (is_host c.args.role) ≡ Some c.in-Err.reason =
     why_of (tables_fault order code (is_host c.args.role))
     (record { order = order; code = code }) c.in-Err.reason
-    (rw (c.order.ensures, c.is_host.ensures) at c.in-Err.ensures) in
+    (rw (c.order.ensures, c.is_host.ensures) at c.in-Err.ensures.read) in
     rw (linked, why) (ap (λ (f : Fault). Some f) c.in_slot.ensures)
