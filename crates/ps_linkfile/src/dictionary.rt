@@ -22,7 +22,12 @@ fn pairs_of(order: Order, sources: &[Source], starts: &[u16]) -> [u8; NAMES]
     for (k, source) in sources.iter().enumerate() {
         let pair = PAIR * source.slot() as usize;
         put(order, &mut pairs, pair, starts[k]);
-        put(order, &mut pairs, pair + WORD_LEN, source.code().len() as u16);
+        put(
+            order,
+            &mut pairs,
+            pair + WORD_LEN,
+            source.code().len() as u16,
+        );
     }
     pairs
 }

@@ -21,13 +21,7 @@ use ps_writing::{
 use std::alloc::Allocator;
 
 /// Adds the row of a segment, whose code begins in this block.
-fn add_segment<S: TextWriter>(
-    text: &mut S,
-    form: Form,
-    index: usize,
-    segment: &Segment,
-    block: u16,
-)
+fn add_segment<S: TextWriter>(text: &mut S, form: Form, index: usize, segment: &Segment, block: u16)
     ensures { Adds S.added text.old
         (row_in form index (segment_row block segment.now)) text.new }
 {

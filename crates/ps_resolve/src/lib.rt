@@ -27,7 +27,7 @@ pub use linkage::{Linkage, Stop};
 pub use lone::lone_fault;
 pub use plan::Plan;
 pub use ps_reading::{
-    EntryAt, HostReading, Reading, RecordAt, ReferenceAt, Request, Requester, Segment, Segment as Source, SegmentAt,
-    UnitReference, read, slot_names_are_whole,
+    EntryAt, HostReading, Reading, RecordAt, ReferenceAt, Request, Requester, Segment,
+    Segment as Source, SegmentAt, UnitReference, read, slot_names_are_whole,
 };
 pub use resolving::resolve;

@@ -6,7 +6,6 @@ use crate::definitions::Definitions;
 use crate::links::Links;
 use arrayvec::ArrayVec;
 use ps_codefile::dictionary_layout::{SLOT_COUNT, TAIL};
-use ps_reading::Segment;
 use ps_reading::Segment as Source;
 use ps_words::{BLOCK_SIZE, Edit, Name, Order};
 use std::alloc::{Allocator, Global};
@@ -21,7 +20,7 @@ pub struct Plan<'a, A: Allocator + Copy = Global> {
     pub(crate) order: Order,
     pub(crate) host: &'a [u8],
     pub(crate) names: [Name; SLOT_COUNT],
-    pub(crate) sources: ArrayVec<Segment<'a>, SLOT_COUNT>,
+    pub(crate) sources: ArrayVec<Source<'a>, SLOT_COUNT>,
     pub(crate) links: Links<A>,
 }
 
