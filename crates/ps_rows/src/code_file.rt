@@ -17,9 +17,9 @@
 //! Each statement changes a byte or the length; of a list of records one does. Where none does, where a
 //! byte would lie past the file's end, and where a record is behind no `records`, the test stops.
 use crate::base::{BASE_LENGTH, demo_code, util_code};
-use crate::file_texts::text_named;
+use crate::file_texts::TEXTS;
 use crate::information::{Information, bytes_of, put};
-use crate::notation::{byte, ends, holds, name, name_of, number, word};
+use crate::notation::{behind_name, byte, ends, holds, name, name_of, number, word};
 use ps_words::{BLOCK_SIZE, Order};
 use std::process::Abort;
 use std::str::SplitWhitespace;
@@ -62,7 +62,7 @@ impl CodeFile {
         };
         file.put(rt, NAMES, &[b' '; KINDS - NAMES]);
         for name in names.split_whitespace() {
-            file.change(rt, text_named(rt, name));
+            file.change(rt, behind_name(rt, TEXTS, ": ", name));
         }
         file
     }
@@ -88,18 +88,12 @@ impl CodeFile {
     /// Makes these changes.
     pub fn change(&mut self, rt: &(impl Abort + AllocGlobal), changes: Changes<'_>) {
         self.has_changed = true;
-        let mut rest = changes;
-        for _ in 0..changes.len() {
-            let (statement, others) = rest.split_once(';').unwrap_or((rest, ""));
+        for statement in changes.split(';') {
             let mut words = statement.split_whitespace();
             if let Some(kind) = words.next() {
                 self.state(rt, kind, &mut words);
                 ends(rt, &mut words, statement);
             }
-            if others.is_empty() {
-                break;
-            }
-            rest = others;
         }
         self.settle(rt, "the end")
     }
@@ -136,8 +130,13 @@ impl CodeFile {
             "slot" => self.slot(rt, words),
             "size" => self.size(rt, number(rt, words)),
             "records" => self.records(word(rt, words)),
-            "at" | "fill" | "names" => self.at_place(rt, kind, words),
-            "code" | "word" | "demo-code" | "util-code" => self.in_code(rt, kind, words),
+            "at" => self.hex(rt, number(rt, words), words),
+            "fill" => self.fill(rt, number(rt, words), words),
+            "names" => self.names(rt, number(rt, words), words),
+            "code" => self.hex(rt, place_in_code(rt, words), words),
+            "word" => self.word(rt, place_in_code(rt, words), word(rt, words)),
+            "demo-code" => self.demo(rt, word(rt, words)),
+            "util-code" => self.util(rt, word(rt, words), words),
             _ => holds(rt, false, kind),
         }
     }
@@ -185,27 +184,6 @@ impl CodeFile {
         self.put(rt, place, &name)
     }
 
-    /// A change from a place of the file on.
-    fn at_place(&mut self, rt: &impl Abort, kind: &str, words: &mut SplitWhitespace<'_>) {
-        let place = number(rt, words);
-        match kind {
-            "at" => self.hex(rt, place, words),
-            "fill" => self.fill(rt, place, words),
-            _ => self.names(rt, place, words),
-        }
-    }
-
-    /// A change of the code that begins with a block.
-    fn in_code(&mut self, rt: &impl Abort, kind: &str, words: &mut SplitWhitespace<'_>) {
-        let block = word(rt, words);
-        match kind {
-            "demo-code" => self.demo(rt, block),
-            "util-code" => self.util(rt, block, words),
-            "word" => self.word_at(rt, block, words),
-            _ => self.hex(rt, code_place(block, number(rt, words)), words),
-        }
-    }
-
     fn demo(&mut self, rt: &impl Abort, block: u16) {
         let code = demo_code(self.order);
         self.put(rt, code_place(block, 0), &code)
@@ -215,11 +193,6 @@ impl CodeFile {
         let number = u8::try_from(word(rt, words)).expect(rt, "no segment number");
         let code = util_code(self.order, number);
         self.put(rt, code_place(block, 0), &code)
-    }
-
-    fn word_at(&mut self, rt: &impl Abort, block: u16, words: &mut SplitWhitespace<'_>) {
-        let place = code_place(block, number(rt, words));
-        self.word(rt, place, word(rt, words))
     }
 
     /// Bytes in two hexadecimal digits each.
@@ -263,11 +236,7 @@ impl CodeFile {
     ) {
         let mut information = Information::empty(rt, self.order);
         information.record(rt, kind, words);
-        self.add(rt, information.as_slice())
-    }
-
-    /// Writes the bytes of a record behind those of the one before it.
-    fn add(&mut self, rt: &impl Abort, bytes: &[u8]) {
+        let bytes = information.as_slice();
         let place = self.record.expect(rt, "a record that is behind no records");
         self.put(rt, place, bytes);
         self.record = Some(place.saturating_add(bytes.len()))
@@ -276,6 +245,12 @@ impl CodeFile {
     fn word(&mut self, rt: &impl Abort, place: usize, word: u16) {
         self.put(rt, place, &bytes_of(self.order, word))
     }
+}
+
+/// The next two words, a block and a place of the code that begins with it, as a place of the file.
+fn place_in_code(rt: &impl Abort, words: &mut SplitWhitespace<'_>) -> usize {
+    let block = word(rt, words);
+    code_place(block, number(rt, words))
 }
 
 /// Where a place of the code is in the file that begins with a block.

@@ -1,10 +1,6 @@
 //! The texts that code files of tests are made of, each a line with its name.
-use crate::code_file::Changes;
-use crate::notation::holds;
-use std::process::Abort;
-
 /// Changes of a file by their names. A line that begins with a number sign says what the next is for.
-static TEXTS: &str = "# the base host
+pub static TEXTS: &str = "# the base host
 HOST: slot 1 name DEMO kind 1 address 1 length 18; slot 7 name UTIL kind 3; at 300 2A; \
 demo-code 1; records 2; PUBLDEF COUNT value 3; EOFMARK next 8
 # the base library
@@ -96,16 +92,3 @@ slot 12 name AUX kind 0 address 7 length 24; util-code 7 12; \
 slot 13 name AUX kind 0 address 8 length 24; util-code 8 13; \
 slot 14 name AUX kind 0 address 9 length 24; util-code 9 14; \
 slot 15 name AUX kind 0 address 10 length 24; util-code 10 15; names 120 A B C D E F G H I";
-
-/// The text of this name.
-pub fn text_named(rt: &impl Abort, name: &str) -> Changes<'static> {
-    for line in TEXTS.lines() {
-        if let Some((found, text)) = line.split_once(": ") {
-            if found == name {
-                return text;
-            }
-        }
-    }
-    holds(rt, false, name);
-    ""
-}

@@ -30,7 +30,7 @@ const BIG_FORMAT: u16 = 2;
 const NO_NAME: Name = [b' '; 8];
 
 /// How many references a piece of a record's list holds.
-const REFERENCES_PER_PIECE: usize = 8;
+const REFERENCES_PER_PIECE: u16 = 8;
 
 /// The bytes of a record before its list, and where the number of its references is in them.
 const HEAD_SIZE: usize = 16;
@@ -56,18 +56,12 @@ impl Information {
     /// The records of a text, one after the other, each with its list.
     pub fn new(rt: &(impl Abort + AllocGlobal), order: Order, text: &str) -> Information {
         let mut information = Information::empty(rt, order);
-        let mut rest = text;
-        for _ in 0..text.len() {
-            let (record, others) = rest.split_once(';').unwrap_or((rest, ""));
+        for record in text.split(';') {
             let mut words = record.split_whitespace();
             if let Some(kind) = words.next() {
                 information.record(rt, kind, &mut words);
                 ends(rt, &mut words, record);
             }
-            if others.is_empty() {
-                break;
-            }
-            rest = others;
         }
         information
     }
@@ -138,7 +132,9 @@ impl Information {
         let place = self.bytes.len().saturating_sub(HEAD_SIZE - COUNT_PLACE);
         holds(rt, words.next() == Some("at"), "at");
         let count = self.all_references(rt, words);
-        self.fill_up(rt, count);
+        for _ in 0..zeros_behind(count) {
+            self.word(rt, 0);
+        }
         let count = bytes_of(self.order, count);
         put(rt, self.bytes.as_mut_slice(), place, &count);
     }
@@ -156,20 +152,15 @@ impl Information {
         count
     }
 
-    /// Fills up the last piece of a list of so many references with zeros.
-    fn fill_up(&mut self, rt: &impl Abort, count: u16) {
-        let last = usize::from(count) % REFERENCES_PER_PIECE;
-        if last > 0 {
-            for _ in last..REFERENCES_PER_PIECE {
-                self.word(rt, 0);
-            }
-        }
-    }
-
     fn word(&mut self, rt: &impl Abort, word: u16) {
         let bytes = bytes_of(self.order, word);
         self.bytes.extend_from_slice(&bytes).expect(rt, "no memory")
     }
+}
+
+/// How many zeros fill up the last piece of a list of so many references.
+fn zeros_behind(count: u16) -> u16 {
+    (REFERENCES_PER_PIECE - count % REFERENCES_PER_PIECE) % REFERENCES_PER_PIECE
 }
 
 /// A word as it is in a file.

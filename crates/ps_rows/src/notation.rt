@@ -56,6 +56,19 @@ pub fn name_of(rt: &impl Abort, word: &str) -> Name {
     name
 }
 
+/// What stands behind a name and this mark in the line of a text that begins with them.
+pub fn behind_name<'a>(rt: &impl Abort, text: &'a str, mark: &str, name: &str) -> &'a str {
+    for line in text.lines() {
+        if let Some((found, rest)) = line.split_once(mark) {
+            if found == name {
+                return rest;
+            }
+        }
+    }
+    holds(rt, false, name);
+    ""
+}
+
 /// Checks that no word of a text is left.
 pub fn ends(rt: &impl Abort, words: &mut SplitWhitespace<'_>, text: &str) {
     holds(rt, words.next().is_none(), text);

@@ -272,7 +272,7 @@ static ROWS: [(&str, u8, Text, Text); 28] = [
 
 #[test]
 fn args_are_taken_or_are_wrong_usage(rt: HostRuntime) {
-    for (args, status, out, err) in ROWS.iter() {
+    for (args, status, out, err) in &ROWS {
         done(&rt, *args).is(&rt, *args, *status, out.text(), err.text());
     }
 }

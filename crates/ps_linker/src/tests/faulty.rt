@@ -8,6 +8,13 @@ use std::io::{Read, Write};
 use std::rt::Files;
 use std::{fs, io};
 
+/// Which file fails, as the one that is opened as the `nth`, from 1, after how many reads and writes,
+/// and how many bytes a write takes at most.
+pub type Faults = (u64, u64, usize);
+
+/// No file fails.
+pub const NO_FAULTS: Faults = (0, 0, usize::MAX);
+
 /// The files of `inner`, of which the one that is opened as the `nth`, from 1, fails after so many
 /// reads and writes. A read gives 500 bytes at most, and a write takes so many.
 pub struct Faulty<R: Files> {
@@ -21,7 +28,7 @@ pub struct Faulty<R: Files> {
 
 impl<R: Files> Faulty<R> {
     /// A write takes so many bytes at most.
-    pub fn taking(inner: R, nth: u64, calls: u64, per_write: usize) -> Faulty<R> {
+    pub fn taking(inner: R, (nth, calls, per_write): Faults) -> Faulty<R> {
         Faulty {
             inner,
             nth,
@@ -45,11 +52,6 @@ impl<R: Files> Faulty<R> {
             calls,
             per_write: self.per_write,
         }
-    }
-
-    /// The files of `inner`, none of which fails.
-    pub fn counting(inner: R) -> Faulty<R> {
-        Faulty::taking(inner, 0, 0, usize::MAX)
     }
 
     /// How many files a program tried to open to be written.

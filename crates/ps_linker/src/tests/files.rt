@@ -1,10 +1,10 @@
 //! Files that cannot be opened, read or written.
-use super::faulty::Faulty;
+use super::faulty::NO_FAULTS;
 use super::inputs::{
     HOST, HOST_IN_PLACE, Image, LIBRARY, LINKED_HOST_IN_PLACE, LINKED_PAIR, SUMMARY_IN_PLACE,
     SUMMARY_OF_PAIR, save_all,
 };
-use super::outcome::{clean, done, holds};
+use super::outcome::{clean, clean_all, done_faulty, holds, says};
 use super::wanted::Text;
 use std::fs;
 use std::process::Abort;
@@ -13,9 +13,9 @@ use std::rt::Files;
 /// Runs these args: what is said is that a file cannot be opened, and so many are opened to be
 /// written.
 fn complains<R: Files + AllocGlobal + Abort>(rt: &R, args: &str, complaint: &str, created: u64) {
-    let files = Faulty::counting(rt);
-    done(&files, args).is(rt, args, 3, "", complaint);
-    assert!(rt; files.created() == created, "{args:?}");
+    let (run, tried) = done_faulty(rt, rt.alloc(), NO_FAULTS, args);
+    run.is(rt, args, 3, "", complaint);
+    says(rt, tried == created, &args)
 }
 
 static OPENED: [(&str, &Image); 1] = [("opened-host", &HOST_IN_PLACE)];
@@ -61,14 +61,13 @@ fn fails_to_read<R: Files + AllocGlobal + Abort>(
     complaint: &str,
     wanted: &str,
 ) -> bool {
-    let files = Faulty::taking(rt, nth, reads, 3);
-    let run = done(&files, args);
+    let (run, created) = done_faulty(rt, rt.alloc(), (nth, reads, 3), args);
     if run.status == 0 {
         run.is(rt, (nth, reads), 0, wanted, "");
         return false;
     }
     run.is(rt, (nth, reads), 3, "", complaint);
-    assert!(rt; files.created() == 0, "at {nth} {reads}");
+    says(rt, created == 0, &(nth, reads));
     true
 }
 
@@ -113,9 +112,9 @@ static READ: [(&str, &Image); 2] = [("reads-host", &HOST), ("reads-library", &LI
 #[test]
 fn each_read_fails(rt: HostRuntime) {
     save_all(&rt, READ.as_slice());
-    for (args, nth, complained, wanted) in READS.iter() {
+    for (args, nth, complained, wanted) in &READS {
         let failed = failing_reads(&rt, *args, *nth, *complained, wanted.text());
-        assert!(rt; failed == 5, "{args:?} {nth}");
+        says(&rt, failed == 5, args);
     }
     clean(&rt, "reads-host reads-out reads-library");
 }
@@ -145,7 +144,7 @@ fn is_started<R: Files + AllocGlobal + Abort>(
         }
         Err(_) => false,
     };
-    assert!(rt; is_right, "{row:?}");
+    says(rt, is_right, &row)
 }
 
 /// Has a write of OUT fail after so many, where more are needed. OUT is the `nth` file that is
@@ -159,9 +158,8 @@ fn fails_to_write<R: Files + AllocGlobal + Abort>(
     linked: &[u8],
 ) {
     let row = (writes, needed);
-    let files = Faulty::taking(rt, nth, writes, most);
-    let run = done(&files, args);
-    assert!(rt; files.created() == 1, "{row:?}");
+    let (run, created) = done_faulty(rt, rt.alloc(), (nth, writes, most), args);
+    says(rt, created == 1, &row);
     if writes == needed {
         run.is(rt, row, 0, printed, "");
         holds(rt, "writes-out", linked, args);
@@ -217,8 +215,7 @@ static STALLED: &str = "pslink link stalls-host stalls-out";
 #[test]
 fn a_file_that_takes_no_bytes(rt: HostRuntime) {
     save_all(&rt, STALLS.as_slice());
-    let files = Faulty::taking(&rt, 0, 0, 0);
-    let run = done(&files, STALLED);
+    let (run, _) = done_faulty(&rt, rt.alloc(), (0, 0, 0), STALLED);
     run.is(&rt, "stalls", 3, "", "pslink: cannot write stalls-out\n");
     holds(&rt, "stalls-out", &[], STALLED);
     clean(&rt, "stalls-host stalls-out");
@@ -230,8 +227,6 @@ fn each_write_of_a_link_fails(rt: HostRuntime) {
     for (args, faults, printed, image) in &WRITES {
         failing_writes(&rt, *args, *faults, *printed, image.bytes(&rt).as_slice());
     }
-    for (path, _) in &WRITTEN {
-        clean(&rt, *path);
-    }
+    clean_all(&rt, WRITTEN.as_slice());
     clean(&rt, "writes-out");
 }

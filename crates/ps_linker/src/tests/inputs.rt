@@ -1,4 +1,5 @@
 //! The code files that the tests run on, and the texts that are wanted of them.
+use super::outcome::says;
 use std::fs;
 use std::process::Abort;
 use std::rt::Files;
@@ -226,9 +227,7 @@ impl Image {
     pub fn bytes<R: AllocGlobal + Abort>(&self, rt: &R) -> Vec<u8> {
         let Image(length, parts, more) = *self;
         let mut file = Vec::from_elem(rt.alloc(), 0, length).expect(rt, "no memory");
-        for blank in file.iter_mut().skip(64).take(128) {
-            *blank = b' ';
-        }
+        put(file.as_mut_slice(), 64, &[b' '; 128]);
         put_all(file.as_mut_slice(), parts.all());
         put_all(file.as_mut_slice(), more.all());
         file
@@ -257,7 +256,7 @@ pub fn save_all<R: Files + AllocGlobal + Abort>(rt: &R, files: &[(&str, &Image)]
 
 /// Writes a file.
 pub fn save<R: Files + Abort>(rt: &R, path: &str, bytes: &[u8]) {
-    assert!(rt; fs::write(rt, path, bytes).is_ok(), "{path}");
+    says(rt, fs::write(rt, path, bytes).is_ok(), &path)
 }
 
 /// Writes a file that is no code file.

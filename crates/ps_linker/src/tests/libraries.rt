@@ -3,7 +3,7 @@ use super::inputs::{
     HOST, Image, LIBRARY, LIBRARY_WITHOUT_UNIT, LINKED_PAIR, LINKED_WITH_OTHER, OTHER_LIBRARY,
     SUMMARY_OF_PAIR, save_all, save_text,
 };
-use super::outcome::{clean, done, holds_image};
+use super::outcome::{clean, clean_all, done, holds_image};
 use std::process::Abort;
 use std::rt::Files;
 
@@ -71,7 +71,7 @@ fn links_each_row<R: Files + AllocGlobal + Abort>(
     rt: &R,
     libraries: &mut [&'static str; LIBRARIES],
 ) {
-    for (place, library, status, printed, complained, wanted) in ROWS.iter() {
+    for (place, library, status, printed, complained, wanted) in &ROWS {
         libraries[*place] = *library;
         let args = args_with(rt, libraries);
         done(rt, args.as_str()).is(rt, *library, *status, *printed, *complained);
@@ -88,8 +88,6 @@ fn forty_libraries(rt: HostRuntime) {
     let args = args_with(&rt, &libraries);
     done(&rt, args.as_str()).is(&rt, "none", 1, "", REFUSED);
     links_each_row(&rt, &mut libraries);
-    for (path, _) in FILES.iter() {
-        clean(&rt, *path);
-    }
+    clean_all(&rt, FILES.as_slice());
     clean(&rt, "forty-out forty-short");
 }

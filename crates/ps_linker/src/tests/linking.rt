@@ -1,10 +1,10 @@
 //! `link`: what is written and printed, and what becomes of OUT.
-use super::faulty::Faulty;
+use super::faulty::NO_FAULTS;
 use super::inputs::{
     CUT_LIBRARY, ENDING_HOST, ENDING_LIBRARY, HOST, HOST_IN_PLACE, Image, LIBRARY,
     LINKED_HOST_IN_PLACE, LINKED_PAIR, SUMMARY_IN_PLACE, SUMMARY_OF_PAIR, save_all, save_text,
 };
-use super::outcome::{clean, done, holds, holds_image};
+use super::outcome::{clean, clean_all, done, done_faulty, holds, holds_image, says};
 use std::fs;
 use std::os::unix::fs::symlink;
 use std::process::Abort;
@@ -67,17 +67,15 @@ fn links_and_leaves_out_where_it_refuses(rt: HostRuntime) {
     save_text(&rt, "link-short", "a host under 512 bytes");
     save_text(&rt, "link-out", "as before");
     clean(&rt, "link-new");
-    for (args, complained) in REFUSED.iter() {
+    for (args, complained) in &REFUSED {
         done(&rt, *args).is(&rt, *args, 1, "", *complained);
         holds(&rt, "link-out", b"as before", *args);
     }
-    for (args, summary, out, image) in LINKED.iter() {
+    for (args, summary, out, image) in &LINKED {
         done(&rt, *args).is(&rt, *args, 0, *summary, "");
         holds_image(&rt, *out, *image, *args);
     }
-    for (path, _) in FILES.iter() {
-        clean(&rt, *path);
-    }
+    clean_all(&rt, FILES.as_slice());
     clean(&rt, "link-new link-ended link-short link-out");
 }
 
@@ -102,9 +100,9 @@ For more information, try '--help'.
 
 /// The link is wrong usage, and no file is opened to be written.
 fn overwrites_no_library<R: Files + AllocGlobal + Abort>(rt: &R, row: &str) {
-    let files = Faulty::counting(rt);
-    done(&files, LED).is(rt, row, 2, "", LEADS_TO_LIBRARY);
-    assert!(rt; files.created() == 0, "{row}");
+    let (run, created) = done_faulty(rt, rt.alloc(), NO_FAULTS, LED);
+    run.is(rt, row, 2, "", LEADS_TO_LIBRARY);
+    says(rt, created == 0, &row);
     holds_image(rt, "led-library", &LIBRARY, row);
     clean(rt, "led-out");
 }

@@ -1,10 +1,10 @@
 //! Memory that is refused.
 use super::args::HELP;
-use super::faulty::Faulty;
+use super::faulty::NO_FAULTS;
 use super::inputs::{
     HOST, HOST_IN_PLACE, Image, LIBRARY, LINKED_HOST_IN_PLACE, LINKED_PAIR, save_all, save_text,
 };
-use super::outcome::{clean, done_with, holds, holds_image};
+use super::outcome::{clean, done_faulty, done_with, holds, holds_image, says};
 use super::wanted::Text;
 use refusing::Refusing;
 use std::process::Abort;
@@ -53,16 +53,15 @@ fn is_refused<R: Files + AllocGlobal + Abort>(
 ) -> bool {
     put_out(rt, was_there);
     let heap = Refusing::once(rt.alloc(), number);
-    let files = Faulty::counting(rt);
-    let run = done_with(&files, &heap, args);
+    let (run, created) = done_faulty(rt, &heap, NO_FAULTS, args);
     if heap.has_refused() {
         run.is(rt, (args, number), 4, "", NO_MEMORY);
-        assert!(rt; files.created() == 0, "{args:?} {number}");
+        says(rt, created == 0, &(args, number));
         is_as_before(rt, was_there, args);
         return true;
     }
     run.is(rt, (args, number), 0, printed, "");
-    has_linked(rt, linked, files.created(), args);
+    has_linked(rt, linked, created, args);
     false
 }
 
@@ -80,7 +79,7 @@ fn has_linked<R: Files + AllocGlobal + Abort>(
 ) {
     match linked {
         Some(image) => holds_image(rt, OUT, image, args),
-        None => assert!(rt; created == 0, "{args:?}"),
+        None => says(rt, created == 0, &args),
     }
 }
 
@@ -172,9 +171,9 @@ static ROWS: [(&str, bool, Text, Option<&Image>, u64); 8] = [
 #[test]
 fn each_allocation_is_refused(rt: HostRuntime) {
     save_all(&rt, FILES.as_slice());
-    for (args, was_there, printed, linked, least) in ROWS.iter() {
+    for (args, was_there, printed, linked, least) in &ROWS {
         let refused = refused_allocations(&rt, *args, *was_there, printed.text(), *linked);
-        assert!(rt; (*least..1000).contains(&refused), "{args:?} {refused}");
+        says(&rt, (*least..1000).contains(&refused), &(*args, refused));
     }
     clean(&rt, "memory-in-place memory-host memory-library memory-out");
 }
@@ -184,5 +183,5 @@ fn help_without_memory(rt: HostRuntime) {
     let heap = Refusing::from(rt.alloc(), 1);
     let help = done_with(&rt, &heap, "pslink --help");
     help.is(&rt, "help", 0, HELP, "");
-    assert!(rt; heap.allocations() == 0);
+    says(&rt, heap.allocations() == 0, &heap.allocations())
 }

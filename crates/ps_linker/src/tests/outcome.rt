@@ -1,4 +1,5 @@
 //! What a run returns and writes.
+use super::faulty::{Faults, Faulty};
 use super::inputs::Image;
 use crate::run;
 use ps_command::CodeFiles;
@@ -18,8 +19,21 @@ pub struct Outcome {
 }
 
 /// Runs the arguments with ample memory.
-pub fn done<R: CodeFiles + AllocGlobal>(rt: &R, args: &str) -> Outcome {
+pub fn done<R: Files + AllocGlobal>(rt: &R, args: &str) -> Outcome {
     done_with(rt, rt.alloc(), args)
+}
+
+/// Runs the arguments with memory from `alloc`, on files of which one fails so. Returns how many files
+/// the program tried to open to be written, too.
+pub fn done_faulty<R: Files + AllocGlobal, A: Allocator + Copy>(
+    rt: &R,
+    alloc: A,
+    faults: Faults,
+    args: &str,
+) -> (Outcome, u64) {
+    let files = Faulty::taking(rt, faults);
+    let run = done_with(&files, alloc, args);
+    (run, files.created())
 }
 
 /// Runs the arguments with memory from `alloc`.
@@ -57,15 +71,20 @@ impl Outcome {
         let is_right = self.status == 0
             && self.err.is_empty()
             && printed.strip_prefix(first) == Some(second);
-        assert!(rt; is_right, "{row:?}: {printed}");
+        says(rt, is_right, &(row, printed));
     }
 
     /// The run of this row returned this status and wrote these texts.
     pub fn is<D: Debug + Copy>(&self, rt: &impl Abort, row: D, status: u8, out: &str, err: &str) {
         let (printed, complained) = (text(self.out.as_slice()), text(self.err.as_slice()));
         let is_right = self.status == status && printed == out && complained == err;
-        assert!(rt; is_right, "{row:?}: {printed}{complained}");
+        says(rt, is_right, &(row, printed, complained));
     }
+}
+
+/// Checks what has to be right of this row, which is printed where it is not.
+pub fn says<D: Debug>(rt: &impl Abort, is_right: bool, row: &D) {
+    assert!(rt; is_right, "{row:?}");
 }
 
 pub fn text(bytes: &[u8]) -> &str {
@@ -78,12 +97,19 @@ pub fn holds<R: Files + AllocGlobal + Abort>(rt: &R, path: &str, bytes: &[u8], r
         Ok(file) => file.as_slice() == bytes,
         Err(_) => false,
     };
-    assert!(rt; is_held, "{path}: {row:?}");
+    says(rt, is_held, &(path, row))
 }
 
 /// Checks that a file is there with the bytes of this image.
 pub fn holds_image<R: Files + AllocGlobal + Abort>(rt: &R, path: &str, image: &Image, row: &str) {
     holds(rt, path, image.bytes(rt).as_slice(), row)
+}
+
+/// Removes the files of a table.
+pub fn clean_all<R: Files>(rt: &R, files: &[(&str, &Image)]) {
+    for (path, _) in files {
+        clean(rt, *path);
+    }
 }
 
 /// Removes files of a test, whose paths are words.

@@ -1,6 +1,6 @@
 //! Standard output and standard error that fail, or take little at a time.
 use super::inputs::{HOST, HOST_IN_PLACE, Image, LIBRARY, LINKED_HOST_IN_PLACE, save_all};
-use super::outcome::{clean, holds_image, status_of, text};
+use super::outcome::{clean, clean_all, holds_image, says, status_of, text};
 use super::wanted::Text;
 use super::writers::{Limited, Stuck};
 use std::fs;
@@ -40,22 +40,20 @@ fn cannot_print<R: Files + AllocGlobal + Abort>(rt: &R, args: &str, stuck: Stuck
     let mut err = Vec::new(rt.alloc());
     let status = status_of(rt, rt.alloc(), args, &mut out, &mut err);
     let is_right = status == 3 && text(err.as_slice()) == NO_OUTPUT;
-    assert!(rt; is_right, "{args:?} {stuck:?}");
+    says(rt, is_right, &(args, stuck))
 }
 
 #[test]
 fn standard_output_that_fails(rt: HostRuntime) {
     save_all(&rt, STUCK.as_slice());
-    for args in STUCK_COMMANDS.iter() {
+    for args in &STUCK_COMMANDS {
         for stuck in [Stuck::Broken, Stuck::TakesNothing, Stuck::Interrupted] {
             cannot_print(&rt, *args, stuck);
         }
     }
     // The linked file was written before the line that tells of it.
     holds_image(&rt, "stuck-out", &LINKED_HOST_IN_PLACE, STUCK_LINK);
-    for (path, _) in STUCK.iter() {
-        clean(&rt, *path);
-    }
+    clean_all(&rt, STUCK.as_slice());
     clean(&rt, "stuck-out");
 }
 
@@ -77,7 +75,7 @@ fn fails_to_print<R: Files + AllocGlobal + Abort>(
     } else {
         status == 3 && is_prefix(taken, wanted) && complained == NO_OUTPUT
     };
-    assert!(rt; is_right, "{args:?} by {most} at {writes}");
+    says(rt, is_right, &(args, most, writes));
     status != 0
 }
 
@@ -123,17 +121,15 @@ static TEXTS: [(&str, Text); 6] = [
 #[test]
 fn each_write_of_a_text_fails(rt: HostRuntime) {
     save_all(&rt, PRINTED.as_slice());
-    for (args, text) in TEXTS.iter() {
+    for (args, text) in &TEXTS {
         let wanted = text.text();
         for most in [1, 7, 4096] {
             let failed = failing_prints(&rt, *args, most, wanted);
             let writes = wanted.len().div_ceil(most) as u64;
-            assert!(rt; failed == writes, "{args:?} by {most}");
+            says(&rt, failed == writes, &(*args, most));
         }
     }
-    for (path, _) in PRINTED.iter() {
-        clean(&rt, *path);
-    }
+    clean_all(&rt, PRINTED.as_slice());
     clean(&rt, "prints-out");
 }
 
@@ -150,7 +146,7 @@ fn cannot_complain<R: Files + AllocGlobal + Abort>(rt: &R, args: &str, stuck: St
     let mut out = Vec::new(rt.alloc());
     let mut err = stuck;
     let status = status_of(rt, rt.alloc(), args, &mut out, &mut err);
-    assert!(rt; status == wanted && out.is_empty(), "{args:?} {stuck:?}");
+    says(rt, status == wanted && out.is_empty(), &(args, stuck))
 }
 
 #[test]

@@ -4,7 +4,7 @@ use super::inputs::{
     LIBRARY_CUT_IN_CODE, LIBRARY_OF_BOTH, LINKED_PAIR, MIXED_FILE, NAMING_LIBRARY, SHORT_FILE,
     USING_LIBRARY, save, save_all,
 };
-use super::outcome::{Outcome, clean, done, done_with, holds_image};
+use super::outcome::{Outcome, clean, clean_all, done, done_with, holds_image, says};
 use super::wanted::Text;
 use refusing::Refusing;
 use std::fs;
@@ -61,9 +61,7 @@ fn maps_a_host_with_its_libraries(rt: HostRuntime) {
         done(&rt, *args).is(&rt, *args, *status, printed.text(), *complained);
     }
     holds_image(&rt, "map-host", &HOST, "map");
-    for (path, _) in &MAP_FILES {
-        clean(&rt, *path);
-    }
+    clean_all(&rt, MAP_FILES.as_slice());
 }
 
 /// Shows a file of these bytes.
@@ -160,7 +158,7 @@ fn links_of_cut_host(length: usize) -> &'static str {
 /// Shows the host truncated to this length.
 fn shows_cut<R: Files + AllocGlobal + Abort>(rt: &R, host: &[u8], length: usize) {
     let cut = host.get(..length).unwrap_or(&[]);
-    assert!(rt; cut.len() == length);
+    says(rt, cut.len() == length, &length);
     save(rt, "show-host", cut);
     let shown = done(rt, "pslink show show-host");
     if length < 512 {
@@ -200,7 +198,8 @@ fn shows_long<R: Files + AllocGlobal + Abort>(
     let heap = Refusing::once(rt.alloc(), 0);
     let run = done_with(rt, &heap, "pslink show long-file");
     run.is(rt, length, status, shown, complained);
-    assert!(rt; (heap.allocations(), heap.bytes()) == (1, 67_108_864));
+    says(rt, heap.allocations() == 1, &length);
+    says(rt, heap.bytes() == 67_108_864, &length)
 }
 
 #[test]

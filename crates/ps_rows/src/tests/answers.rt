@@ -1,6 +1,5 @@
 //! Answers as text.
 use super::link_allocations::Link;
-use crate::line::Line;
 use crate::notation::holds;
 use ps_linkfile::{LinkError, Summary, link};
 use ps_words::{Fault, Order};
@@ -26,23 +25,15 @@ pub(crate) fn text_of(
     answer: Result<Summary, LinkError>,
 ) -> Result<String, AllocError> {
     match answer {
-        Ok(summary) => text_of_summary(alloc, summary),
+        Ok(
+            Summary {
+                segments,
+                private_words,
+                blocks,
+            },
+        ) => format!(in alloc; "segments {segments} private words {private_words} blocks {blocks}"),
         Err(error) => text_of_error(alloc, error),
     }
-}
-
-/// The program's line for a Summary.
-fn text_of_summary(alloc: Global, summary: Summary) -> Result<String, AllocError> {
-    let Summary {
-        segments,
-        private_words,
-        blocks,
-    } = summary;
-    let mut line = Line::new(alloc);
-    line.number("segments ", segments.into());
-    line.number(" private words ", private_words.into());
-    line.number(" blocks ", blocks.into());
-    line.text()
 }
 
 /// A fault, if there is one.

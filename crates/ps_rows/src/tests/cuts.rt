@@ -56,15 +56,13 @@ fn answers(
     answer: &str,
 ) {
     let library = link.libraries.first().copied().unwrap_or(&[]);
-    let (host, library) = if is_host {
-        (link.host.get(..length).unwrap_or(&[]), library)
-    } else {
-        (link.host, library.get(..length).unwrap_or(&[]))
-    };
+    let linked = if answer == WHOLE { link.linked } else { &[] };
+    let whole = if is_host { link.host } else { library };
+    let cut = whole.get(..length).unwrap_or(&[]);
     let files = Link {
-        host,
-        libraries: &[library],
-        linked: if answer == WHOLE { link.linked } else { &[] },
+        host: if is_host { cut } else { link.host },
+        libraries: &[if is_host { library } else { cut }],
+        linked,
     };
     links(rt, "a cut file", &files, answer)
 }

@@ -7,6 +7,7 @@ use crate::base::{HOST_RECORDS, UTIL, UTIL_ENTRY, demo_code, util_code};
 use crate::code_file::CodeFile;
 use crate::information::Information;
 use crate::line::Line;
+use crate::notation::{holds, holds_of};
 use ps_codefile::dictionary_layout::SLOTS;
 use ps_codefile::{Dict, Entry, Role};
 use ps_words::{Order, Reason};
@@ -16,7 +17,7 @@ use std::process::Abort;
 /// The byte orders, each with the other one.
 const ORDERS: [(Order, Order); 2] = [(Order::Little, Order::Big), (Order::Big, Order::Little)];
 
-/// Adds a slot to the text unless it is empty.
+/// Adds a slot to the text unless it is empty, how long its code is, and what follows it.
 fn add_slot(line: &mut Line, dictionary: &Dict<'_>, slot: u8)
     requires { slot < SLOTS }
 {
@@ -31,13 +32,6 @@ fn add_slot(line: &mut Line, dictionary: &Dict<'_>, slot: u8)
         line.number(" address ", entry.address.into());
         line.number(" length ", entry.length.into())
     }
-    add_code(line, dictionary, slot)
-}
-
-/// Adds how long a slot's code is, and what follows it.
-fn add_code(line: &mut Line, dictionary: &Dict<'_>, slot: u8)
-    requires { slot < SLOTS }
-{
     if dictionary.filled(slot) {
         line.value(" code ", &dictionary.code(slot).map(|code| code.len()));
         line.number(" after ", dictionary.after(slot).len());
@@ -122,14 +116,26 @@ const EMPTY: Entry = Entry {
     text: 0,
 };
 
-/// Checks what the base host's dictionary gives of its slots and of the tail, the host segment's
-/// code and its link information.
+/// Checks what the base host's dictionary gives of its slots and of the tail, and the host segment's
+/// link information.
 fn gives_the_host_s_parts(rt: &impl Abort, dictionary: &Dict<'_>, information: &[u8]) {
-    assert!(rt; (dictionary.names()[7], dictionary.entry(15)) == (UTIL, EMPTY));
+    holds(rt, dictionary.names()[7] == UTIL, "the unit's name");
+    holds(rt, dictionary.entry(15) == EMPTY, "an empty slot");
     let tail = dictionary.tail();
-    assert!(rt; (tail.len(), tail.get(44).copied()) == (256, Some(0x2A)));
-    assert!(rt; dictionary.code(1) == Ok(demo_code(dictionary.order()).as_slice()));
-    assert!(rt; dictionary.after(1).starts_with(information));
+    holds(rt, tail.len() == 256, "the tail's length");
+    holds(rt, tail.get(44) == Some(&0x2A), "the tail");
+    holds(
+        rt,
+        dictionary.after(1).starts_with(information),
+        "the link information",
+    )
+}
+
+/// Checks the code of a slot.
+fn has_code(rt: &impl Abort, dictionary: &Dict<'_>, slot: u8, code: &[u8])
+    requires { slot < SLOTS }
+{
+    holds_of(rt, dictionary.code(slot) == Ok(code), &slot)
 }
 
 #[test]
@@ -137,13 +143,11 @@ fn parts_of_the_base_files(rt: HostRuntime) {
     for (order, _) in ORDERS {
         let host = CodeFile::new(&rt, order, HOST_TEXTS);
         let information = Information::new(&rt, order, HOST_RECORDS);
-        match Dict::read(host.as_slice()) {
-            Ok(host) => gives_the_host_s_parts(&rt, &host, information.as_slice()),
-            Err(_) => assert!(rt; false, "no dictionary"),
-        }
+        let host = Dict::read(host.as_slice()).expect(&rt, "no host");
+        gives_the_host_s_parts(&rt, &host, information.as_slice());
+        has_code(&rt, &host, 1, &demo_code(order));
         let library = CodeFile::new(&rt, order, LIBRARY_TEXTS);
-        let library = Dict::read_beside(library.as_slice(), order);
-        let code = library.and_then(|library| library.code(2));
-        assert!(rt; code == Ok(util_code(order, UTIL_ENTRY).as_slice()));
+        let library = Dict::read_beside(library.as_slice(), order).expect(&rt, "no library");
+        has_code(&rt, &library, 2, &util_code(order, UTIL_ENTRY));
     }
 }

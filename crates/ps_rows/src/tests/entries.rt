@@ -2,7 +2,7 @@
 //! follows it.
 use crate::base::UTIL;
 use crate::information::Name;
-use crate::notation::holds_of;
+use crate::notation::{holds, holds_of};
 use ps_codefile::dictionary_layout::{KINDS, NAMES, PAIR, TEXTS};
 use ps_codefile::{Dict, Entry, Role};
 use ps_words::{NAME_LEN, Order, Reason, WORD_LEN, put};
@@ -55,17 +55,11 @@ fn has_role(
         length,
         ..entry
     };
-    match Dict::read_beside(&file_of(&entry), Order::Big) {
-        Ok(dictionary) => {
-            let found = (
-                dictionary.entry(8),
-                dictionary.role(8),
-                dictionary.filled(8),
-            );
-            holds_of(rt, found == (entry, role, is_filled), &entry)
-        }
-        Err(reason) => holds_of(rt, false, &reason),
-    }
+    let file = file_of(&entry);
+    let dictionary = Dict::read_beside(&file, Order::Big).expect(rt, "no dictionary");
+    holds_of(rt, dictionary.entry(8) == entry, &entry);
+    holds_of(rt, dictionary.role(8) == role, &entry);
+    holds_of(rt, dictionary.filled(8) == is_filled, &entry)
 }
 
 /// Kinds, the role of a slot with address and length, and that of one without.
@@ -90,25 +84,40 @@ static WANTING: [(Name, bool); 4] = [
     (*b"\0       ", true),
 ];
 
+/// Checks the roles of an entry with address and length, and without one of them or both.
+fn has_roles(rt: &impl Abort, entry: Entry, filled: Result<Role, Reason>, wanted: Role) {
+    let is_unit = entry.kind == 3;
+    let without_address = if is_unit { Ok(wanted) } else { filled };
+    has_role(rt, entry, (1, 18), filled, true);
+    has_role(rt, entry, (0, 18), without_address, !is_unit);
+    has_role(rt, entry, (1, 0), Ok(wanted), false);
+    has_role(rt, entry, (0, 0), Ok(wanted), false)
+}
+
 #[test]
 fn roles_of_each_kind(rt: HostRuntime) {
     for (kind, filled, without_length) in &KINDS_AND_ROLES {
         for (name, wants) in &WANTING {
-            let wanted = if *wants { *without_length } else { Role::Empty };
-            let without_address = if *kind == 3 { Ok(wanted) } else { *filled };
             let entry = Entry {
                 name: *name,
                 ..entry(*kind, 1, 18)
             };
-            has_role(&rt, entry, (1, 18), *filled, true);
-            has_role(&rt, entry, (0, 18), without_address, *kind != 3);
-            has_role(&rt, entry, (1, 0), Ok(wanted), false);
-            has_role(&rt, entry, (0, 0), Ok(wanted), false);
+            let wanted = if *wants { *without_length } else { Role::Empty };
+            has_roles(&rt, entry, *filled, wanted);
         }
     }
     let file = file_of(&entry(65535, 1, 18));
-    assert!(rt; Dict::read(&file).err() == Some(Reason::NoOrder));
-    assert!(rt; Dict::read_beside(&file, Order::Big).err() == Some(Reason::NoOrder));
+    has_no_order(&rt, Dict::read(&file));
+    has_no_order(&rt, Dict::read_beside(&file, Order::Big))
+}
+
+/// Checks that a file is refused for its byte order.
+fn has_no_order(rt: &impl Abort, read: Result<Dict<'_>, Reason>) {
+    holds(
+        rt,
+        read.err() == Some(Reason::NoOrder),
+        "an order was found",
+    )
 }
 
 /// How many bytes there are, and the first of them.
@@ -128,16 +137,10 @@ fn has_code(
 ) {
     let file = file_of(entry);
     let cut = file.get(..file_len).unwrap_or(&[]);
-    match Dict::read_beside(cut, Order::Big) {
-        Ok(dictionary) => {
-            let found = (
-                dictionary.code(8).map(measured),
-                measured(dictionary.after(8)),
-            );
-            holds_of(rt, found == (code, after), &(*entry, file_len))
-        }
-        Err(reason) => holds_of(rt, false, &reason),
-    }
+    let dictionary = Dict::read_beside(cut, Order::Big).expect(rt, "no dictionary");
+    let row = (*entry, file_len);
+    holds_of(rt, dictionary.code(8).map(measured) == code, &row);
+    holds_of(rt, measured(dictionary.after(8)) == after, &row)
 }
 
 /// Checks an entry's code in a file as long as can be, where its length is right.

@@ -5,6 +5,7 @@ use super::plan::linkage;
 use super::tables::{HOST_TEXTS, LIBRARY_TEXTS};
 use crate::code_file::CodeFile;
 use crate::information::{Information, Name};
+use crate::notation::{holds, holds_of};
 use ps_linkfile::map_text;
 use ps_linkinfo::{Body, LinkRecord, read_records};
 use ps_resolve::{Allotment, Def, DefKind, Definitions};
@@ -35,9 +36,9 @@ fn is_defined(rt: &impl Abort, number: usize, (name, value): (Name, u16), found:
         kind: DefKind::Public,
         value: (number % 1000) as u16,
     };
-    assert!(rt; value == wanted.value && number < found.len());
-    assert!(rt; found.look(&name) == Some(wanted));
-    assert!(rt; found.at(number) == (name, wanted))
+    let is_right = value == wanted.value && found.look(&name) == Some(wanted);
+    assert!(rt; is_right && number < found.len());
+    holds_of(rt, found.at(number) == (name, wanted), &number)
 }
 
 /// Checks what was read and built of a record; its private variable has this offset, if it has one.
@@ -51,10 +52,10 @@ fn is_numbered(
     match record.body {
         Body::PublDef(value) => is_defined(rt, rec / 2, (record.name, value), definitions),
         Body::PrivRef { words, .. } => {
-            assert!(rt; allotment.offset(7, rec) == Some(offset));
+            holds_of(rt, allotment.offset(7, rec) == Some(offset), &rec);
             return offset.saturating_add(words);
         }
-        _ => assert!(rt; rec == 2 * NUMBERED),
+        _ => holds_of(rt, rec == 2 * NUMBERED, &rec),
     }
     offset
 }
@@ -71,26 +72,28 @@ fn are_numbered(
         offset = is_numbered(rt, record, (definitions, allotment), offset);
     }
     let counted = (records.len(), definitions.len(), allotment.words(), offset);
-    assert!(rt; counted == (200_001, NUMBERED, 25_000, 25_008));
+    holds_of(rt, counted == (200_001, NUMBERED, 25_000, 25_008), &counted)
 }
 
 #[test]
 fn records_of_a_hundred_thousand_names(rt: HostRuntime) {
-    let alloc = rt.alloc();
-    let text = numbered(alloc).expect(&rt, "no memory");
+    let text = numbered(rt.alloc()).expect(&rt, "no memory");
     let information = Information::new(&rt, LITTLE, text.as_str());
-    let segment = linkage(1, 7, LITTLE, information.as_slice());
-    let read = (
-        read_records(alloc, LITTLE, information.as_slice()),
-        Definitions::build(alloc, &segment),
-        Allotment::build(alloc, 8, &[segment]),
-    );
-    match &read {
-        (Ok(records), Ok(definitions), Ok(allotment)) => {
-            are_numbered(&rt, records.as_slice(), definitions, allotment)
-        }
-        _ => assert!(rt; false, "nothing was built"),
-    }
+    reads_numbered(&rt, information.as_slice())
+}
+
+/// Checks what is read and built of the link information of that text.
+fn reads_numbered(rt: &(impl Abort + AllocGlobal), bytes: &[u8]) {
+    let alloc = rt.alloc();
+    let segment = linkage(1, 7, LITTLE, bytes);
+    let records = read_records(alloc, LITTLE, bytes).expect(rt, "no records");
+    let definitions = Definitions::build(alloc, &segment)
+        .ok()
+        .expect(rt, "no definitions");
+    let allotment = Allotment::build(alloc, 8, &[segment])
+        .ok()
+        .expect(rt, "no variables");
+    are_numbered(rt, records.as_slice(), &definitions, &allotment)
 }
 
 /// The map of the base pair where the library is the last of 65,537.
@@ -101,14 +104,6 @@ private 07 STATE    offset 8 words 4
 next 12 data 18 blocks 3
 ";
 
-/// Checks a map.
-fn maps(rt: &(impl Abort + AllocGlobal), host: &[u8], libraries: &[&[u8]], wanted: &str) {
-    match map_text(rt.alloc(), host, libraries) {
-        Ok(map) => assert!(rt; map.as_slice() == wanted.as_bytes()),
-        Err(_) => assert!(rt; false, "no map"),
-    }
-}
-
 #[test]
 fn libraries_past_the_number_of_a_word(rt: HostRuntime) {
     let host = CodeFile::new(&rt, LITTLE, HOST_TEXTS);
@@ -117,7 +112,8 @@ fn libraries_past_the_number_of_a_word(rt: HostRuntime) {
     let libraries = Vec::from_elem(rt.alloc(), zeros.as_slice(), 65_536);
     let mut libraries = libraries.expect(&rt, "no memory");
     libraries.push(library.as_slice()).expect(&rt, "no memory");
-    maps(&rt, host.as_slice(), libraries.as_slice(), MAP_OF_MANY);
+    let map = map_text(rt.alloc(), host.as_slice(), libraries.as_slice()).expect(&rt, "no map");
+    holds(&rt, map.as_slice() == MAP_OF_MANY.as_bytes(), "another map");
     libraries.push(&[]).expect(&rt, "no memory");
     let link = Link {
         host: host.as_slice(),

@@ -1,5 +1,6 @@
 //! Edits on codes, at once and block by block.
 use crate::information::put;
+use crate::notation::holds_of;
 use ps_patch::{Patcher, apply};
 use ps_words::{Edit, Order};
 use std::process::Abort;
@@ -12,16 +13,16 @@ fn edits_at_once(rt: HostRuntime) {
         value: 10,
     }];
     apply(Order::Little, &mut code, &edits);
-    assert!(rt; code == [0xD7, 0x80, 0x0A, 0xAB]);
+    holds_of(&rt, code == [0xD7, 0x80, 0x0A, 0xAB], &code);
     apply(Order::Big, &mut code, &[]);
-    assert!(rt; code == [0xD7, 0x80, 0x0A, 0xAB]);
+    holds_of(&rt, code == [0xD7, 0x80, 0x0A, 0xAB], &code);
     let mut code = [0x00, 0x0A, 0xFF];
     let edits = [Edit::Word {
         place: 0,
         value: 18,
     }];
     apply(Order::Big, &mut code, &edits);
-    assert!(rt; code == [0x00, 0x12, 0xFF]);
+    holds_of(&rt, code == [0x00, 0x12, 0xFF], &code);
     let mut code = [0x00, 0x00, 0x05];
     let edits = [
         Edit::Big {
@@ -31,7 +32,7 @@ fn edits_at_once(rt: HostRuntime) {
         Edit::Byte { place: 2, value: 7 },
     ];
     apply(Order::Little, &mut code, &edits);
-    assert!(rt; code == [0x81, 0x02, 0x07]);
+    holds_of(&rt, code == [0x81, 0x02, 0x07], &code);
     let mut code = [0x11, 0x22, 0x33];
     let edits = [
         Edit::Byte { place: 0, value: 9 },
@@ -41,14 +42,14 @@ fn edits_at_once(rt: HostRuntime) {
         },
     ];
     apply(Order::Little, &mut code, &edits);
-    assert!(rt; code == [9, 2, 1]);
+    holds_of(&rt, code == [9, 2, 1], &code)
 }
 
 /// Checks that a block has these bytes, and zeros behind them.
 fn has(rt: &impl Abort, block: &[u8; 512], bytes: &[u8]) {
     let mut wanted = [0; 512];
     put(rt, &mut wanted, 0, bytes);
-    assert!(rt; *block == wanted);
+    holds_of(rt, *block == wanted, &bytes)
 }
 
 /// Checks that a patcher gives these bytes, with so many of them in each block and zeros behind them.
@@ -57,7 +58,7 @@ fn fills(rt: &impl Abort, patcher: Patcher<'_>, wanted: &[u8], counts: &[usize])
     let mut left = wanted;
     for count in counts {
         let mut block = [0xEE; 512];
-        assert!(rt; patcher.fill(&mut block) == *count);
+        holds_of(rt, patcher.fill(&mut block) == *count, count);
         let (bytes, rest) = left.split_at_checked(*count).unwrap_or((&[], &[]));
         has(rt, &block, bytes);
         left = rest;
@@ -85,7 +86,7 @@ fn an_operand_across_two_blocks(rt: HostRuntime) {
         0xA5, 0x80, 0xFF, 0xD7, 0xAD, 0, 0, 0, 0, 0, 6, 0, 0x0A, 2, 1, 0, 2, 0, 2, 1,
     ];
     let mut code = [0xD7; 530];
-    code[510..].copy_from_slice(&end);
+    put(&rt, &mut code, 510, &end);
     let edits = [
         Edit::Big {
             place: 511,
@@ -112,7 +113,7 @@ fn operands_at_the_end_and_at_the_start_of_a_block(rt: HostRuntime) {
         value: 3,
     }];
     let mut wanted = code;
-    wanted[510..512].copy_from_slice(&[0x80, 0x03]);
+    put(&rt, &mut wanted, 510, &[0x80, 0x03]);
     let patcher = Patcher::new(Order::Little, &code, &end);
     fills(&rt, patcher, &wanted, &[512, 512]);
     let start = [Edit::Big {
@@ -120,7 +121,7 @@ fn operands_at_the_end_and_at_the_start_of_a_block(rt: HostRuntime) {
         value: 3,
     }];
     let mut wanted = code;
-    wanted[512..514].copy_from_slice(&[0x80, 0x03]);
+    put(&rt, &mut wanted, 512, &[0x80, 0x03]);
     let patcher = Patcher::new(Order::Big, &code, &start);
     fills(&rt, patcher, &wanted, &[512, 512])
 }

@@ -7,6 +7,7 @@ use crate::base::{COUNT, DEMO_SLOT, HOST_RECORDS, LIBRARY_RECORDS, STATE, UTIL_S
 use crate::code_file::Changes;
 use crate::information::{Information, Name};
 use crate::line::Line;
+use crate::notation::{holds, holds_of};
 use ps_resolve::{Allotment, Def, Definitions, Linkage, Plan, Private, Source, Stop, resolve};
 use ps_words::{Edit, Order};
 use std::alloc::{AllocError, Allocator, Global};
@@ -175,14 +176,6 @@ fn definitions_and_private_variables(rt: HostRuntime) {
 }
 
 /// Adds an edit: its kind, its place and its value.
-fn describe_edit(line: &mut Line, edit: Edit) {
-    match edit {
-        Edit::Big { place, value } => add_edit(line, " big at ", place, value),
-        Edit::Byte { place, value } => add_edit(line, " byte at ", place, value.into()),
-        Edit::Word { place, value } => add_edit(line, " word at ", place, value),
-    }
-}
-
 fn add_edit(line: &mut Line, kind: &str, place: usize, value: u16) {
     line.number(kind, place);
     line.number(": ", value.into())
@@ -215,7 +208,11 @@ fn add_edits(line: &mut Line, edits: &[Edit]) {
         line.word(" edits")
     } else {
         for edit in edits {
-            describe_edit(line, *edit);
+            match *edit {
+                Edit::Big { place, value } => add_edit(line, " big at ", place, value),
+                Edit::Byte { place, value } => add_edit(line, " byte at ", place, value.into()),
+                Edit::Word { place, value } => add_edit(line, " word at ", place, value),
+            }
         }
     }
 }
@@ -284,9 +281,15 @@ fn is_plan(
     linked: &[u8],
 ) {
     is(rt, "a plan", describe(rt.alloc(), plan), text);
-    assert!(rt; plan.order() == order);
-    assert!(rt; Some(plan.names().as_flattened()) == linked.get(64..192));
-    assert!(rt; Some(plan.tail()) == linked.get(256..512));
+    holds(rt, plan.order() == order, text);
+    has_at(rt, linked, 64, plan.names().as_flattened());
+    has_at(rt, linked, 256, plan.tail())
+}
+
+/// Checks what a file has at a place.
+fn has_at(rt: &impl Abort, file: &[u8], place: usize, bytes: &[u8]) {
+    let found = file.get(place..place.saturating_add(bytes.len()));
+    holds_of(rt, found == Some(bytes), &place)
 }
 
 /// A plan: its byte order, and itself as text.
@@ -298,10 +301,10 @@ struct PlanCheck<'a> {
 
 impl<'a> Check for PlanCheck<'a> {
     fn check<R: Abort + AllocGlobal>(&self, rt: &R, link: &Link<'_>) {
-        match resolve(rt.alloc(), link.host, link.libraries) {
-            Ok(plan) => is_plan(rt, &plan, self.order, self.text, link.linked),
-            Err(_) => assert!(rt; false, "no plan"),
-        }
+        let plan = resolve(rt.alloc(), link.host, link.libraries)
+            .ok()
+            .expect(rt, "no plan");
+        is_plan(rt, &plan, self.order, self.text, link.linked)
     }
 }
 

@@ -2,6 +2,7 @@
 use super::answers::{LITTLE, is};
 use crate::base::{UTIL_ENTRY, demo_code, util_code};
 use crate::line::Line;
+use crate::notation::holds_of;
 use ps_codefile::Procs;
 use ps_words::Order;
 use std::alloc::{AllocError, Global};
@@ -70,15 +71,12 @@ fn procedures_of_the_base_codes(rt: HostRuntime) {
 
 /// Checks which places of a host's little-endian code are marked as reserved, each by a star.
 fn marks(rt: &impl Abort, code: &[u8], wanted: &[u8]) {
-    assert!(rt; code.len() >= 2);
+    assert!(rt; code.len() >= 2 && code.len() <= 20);
     let mut marks = [b'-'; 20];
-    match (Procs::read(LITTLE, code, true), marks.get_mut(..code.len())) {
-        (Ok(procedures), Some(marks)) => {
-            procedures.mark_reserved(marks, b'*');
-            assert!(rt; &*marks == wanted);
-        }
-        _ => assert!(rt; false),
-    }
+    let marks = &mut marks[..code.len()];
+    let procedures = Procs::read(LITTLE, code, true).expect(rt, "no procedures");
+    procedures.mark_reserved(marks, b'*');
+    holds_of(rt, &*marks == wanted, &code)
 }
 
 #[test]

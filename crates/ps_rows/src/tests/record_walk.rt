@@ -15,23 +15,18 @@ fn walk(alloc: Global, order: Order, bytes: &[u8]) -> Result<String, AllocError>
     let mut line = Line::new(alloc);
     line.number("", records.used());
     for _ in 0..5 {
-        step(&mut line, &mut records);
+        line.word("; ");
+        match records.next() {
+            Some(Ok(record)) => {
+                describe(&mut line, &record);
+                line.number(" of ", record.size())
+            }
+            Some(Err(reason)) => line.value("", &reason),
+            None => line.word("none"),
+        }
+        line.number(", ", records.used());
     }
     line.text()
-}
-
-/// Adds the next item.
-fn step(line: &mut Line, records: &mut Records<'_>) {
-    line.word("; ");
-    match records.next() {
-        Some(Ok(record)) => {
-            describe(line, &record);
-            line.number(" of ", record.size())
-        }
-        Some(Err(reason)) => line.value("", &reason),
-        None => line.word("none"),
-    }
-    line.number(", ", records.used())
 }
 
 /// Records, how many of their bytes are walked, and the walk.

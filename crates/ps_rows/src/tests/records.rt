@@ -4,6 +4,7 @@ use super::answers::{LITTLE, OUT_OF_MEMORY, is};
 use crate::base::LIBRARY_RECORDS;
 use crate::information::Information;
 use crate::line::Line;
+use crate::notation::holds_of;
 use ps_linkinfo::{Body, LinkRecord, ReadStop, Refs, read_records};
 use ps_words::Order;
 use std::alloc::{AllocError, Allocator, Global};
@@ -159,21 +160,17 @@ pub(crate) fn every_reference(
     line.text()
 }
 
-/// Checks how long the first record is that is read of this little-endian link information.
-fn has_size(rt: &(impl Abort + AllocGlobal), bytes: &[u8], size: usize) {
-    let records = read_records(rt.alloc(), LITTLE, bytes).expect(rt, "no records");
-    match records.first() {
-        Some(record) => assert!(rt; record.size() == size),
-        None => assert!(rt; false),
-    }
-}
-
 #[test]
 fn as_many_references_as_a_record_can_have(rt: HostRuntime) {
     let text = every_reference(rt.alloc(), "", "; EOFMARK next 0; ").expect(&rt, "no memory");
     let text = text.as_str();
     let information = Information::new(&rt, LITTLE, text);
-    has_size(&rt, information.as_slice(), 131_088);
+    let records = read_records(rt.alloc(), LITTLE, information.as_slice()).expect(
+        &rt,
+        "no records",
+    );
+    let record = records.first().expect(&rt, "no record");
+    holds_of(&rt, record.size() == 131_088, &record.size());
     reads_records(&rt, text, 131_104, text);
     reads_records(&rt, text, 131_087, "RecordsTruncated at record 0")
 }

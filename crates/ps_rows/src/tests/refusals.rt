@@ -1,4 +1,5 @@
 //! The allocator that refuses chosen allocations, and counts all of them.
+use crate::notation::holds_of;
 use refusing::Refusing;
 use std::alloc::Global;
 use std::process::Abort;
@@ -7,10 +8,10 @@ use std::process::Abort;
 fn makes(rt: &impl Abort, heap: &Refusing<Global>, wanted: &[bool; 4]) {
     for made in wanted {
         let list: Result<Vec<u8, _>, _> = Vec::with_capacity(heap, 10);
-        assert!(rt; list.is_ok() == *made);
+        holds_of(rt, list.is_ok() == *made, wanted);
     }
     let counted = (heap.allocations(), heap.bytes(), heap.has_refused());
-    assert!(rt; counted == (4, 40, wanted.contains(&false)));
+    holds_of(rt, counted == (4, 40, wanted.contains(&false)), wanted)
 }
 
 /// The number of the allocation that is refused alone, and which are made.
@@ -46,9 +47,20 @@ fn chosen_allocations_are_refused(rt: HostRuntime) {
 fn growth_is_an_allocation(rt: HostRuntime) {
     let heap = Refusing::once(rt.alloc(), 2);
     let mut list = Vec::with_capacity(&heap, 1).expect(&rt, "no memory");
-    assert!(rt; list.push(1).is_ok());
-    assert!(rt; list.push(2).is_err());
-    assert!(rt; list.as_slice() == [1].as_slice() && heap.allocations() == 2);
-    assert!(rt; list.push(2).is_ok());
-    assert!(rt; list.as_slice() == [1, 2].as_slice() && heap.allocations() == 3)
+    pushes(&rt, &mut list, (1, true), &[1]);
+    pushes(&rt, &mut list, (2, false), &[1]);
+    holds_of(&rt, heap.allocations() == 2, &heap.allocations());
+    pushes(&rt, &mut list, (2, true), &[1, 2]);
+    holds_of(&rt, heap.allocations() == 3, &heap.allocations())
+}
+
+/// Checks whether a list takes a number, and what it then has.
+fn pushes(
+    rt: &impl Abort,
+    list: &mut Vec<i32, &Refusing<Global>>,
+    (number, is_taken): (i32, bool),
+    wanted: &[i32],
+) {
+    holds_of(rt, list.push(number).is_ok() == is_taken, &number);
+    holds_of(rt, list.as_slice() == wanted, &number)
 }

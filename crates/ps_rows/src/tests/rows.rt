@@ -56,24 +56,19 @@ impl<'a> Check for Answer<'a> {
     }
 }
 
-fn memory_named(rt: &impl Abort, name: &str) -> Memory {
-    match name {
-        "no allocation" => Memory::NoAllocation,
-        "each allocation refused" => Memory::EachAllocationRefused,
-        _ => {
-            holds(rt, name == "ample memory", name);
-            Memory::Ample
-        }
-    }
-}
-
 /// What a line says behind `files `.
 fn tried_with(rt: &impl Abort, files: &str) -> Tried {
     let (name, memory) = files.split_once(", ").expect(rt, files);
-    Tried {
-        base: base_named(rt, name),
-        memory: memory_named(rt, memory),
-    }
+    let base = base_named(rt, name);
+    let memory = match memory {
+        "ample memory" => Memory::Ample,
+        "no allocation" => Memory::NoAllocation,
+        _ => {
+            holds(rt, memory == "each allocation refused", memory);
+            Memory::EachAllocationRefused
+        }
+    };
+    Tried { base, memory }
 }
 
 /// The field before the next bar, and what is behind it.

@@ -2,7 +2,7 @@
 use super::answers::LITTLE;
 use super::link_allocations::Link;
 use crate::code_file::{Changes, CodeFile};
-use crate::notation::holds;
+use crate::notation::behind_name;
 use ps_words::Order;
 use std::process::Abort;
 
@@ -69,6 +69,15 @@ pub(crate) const LONG_UNIT_PAIR: Base<'static> = Base {
     ..PAIR
 };
 
+/// The files above by their names.
+static BASES: [(&str, Base<'static>); 5] = [
+    ("pair", PAIR),
+    ("in-place", IN_PLACE),
+    ("two-units", TWO_UNITS),
+    ("used-unit", USED_UNIT),
+    ("long-unit", LONG_UNIT_PAIR),
+];
+
 /// Other files, each a line: their name, and of what the host, the libraries and the linked file are
 /// made. A line that begins with a number sign says what the next ones are for.
 static FILES: &str = "# the base host, and no library
@@ -111,31 +120,12 @@ pub(crate) fn base_named(rt: &impl Abort, name: &str) -> Base<'static> {
 }
 
 fn base_in(rt: &impl Abort, name: &str) -> Base<'static> {
-    match name {
-        "pair" => PAIR,
-        "in-place" => IN_PLACE,
-        "two-units" => TWO_UNITS,
-        "used-unit" => USED_UNIT,
-        "long-unit" => LONG_UNIT_PAIR,
-        _ => base_of(rt, line_of(rt, name)),
-    }
-}
-
-/// What `FILES` has behind this name.
-fn line_of(rt: &impl Abort, name: &str) -> &'static str {
-    for line in FILES.lines() {
-        if let Some((found, parts)) = line.split_once(" | ") {
-            if found == name {
-                return parts;
-            }
+    for (found, base) in &BASES {
+        if *found == name {
+            return *base;
         }
     }
-    holds(rt, false, name);
-    ""
-}
-
-/// The files of a line behind its name.
-fn base_of(rt: &impl Abort, parts: &'static str) -> Base<'static> {
+    let parts = behind_name(rt, FILES, " | ", name);
     let (host, parts) = parts.split_once(" |").expect(rt, parts);
     let (libraries, linked) = parts.split_once(" |").expect(rt, parts);
     Base {

@@ -9,22 +9,22 @@ use std::process::Abort;
 #[test]
 fn words_of_either_order(rt: HostRuntime) {
     let mut bytes = [0x0A, 0x02, 0x77];
-    assert!(rt; get(Order::Little, &bytes, 0) == 522);
-    assert!(rt; get(Order::Big, &bytes, 0) == 2562);
+    let read = [get(Order::Little, &bytes, 0), get(Order::Big, &bytes, 0)];
+    holds_of(&rt, read == [522, 2562], &read);
     put(Order::Little, &mut bytes, 1, 522);
-    assert!(rt; bytes == [0x0A, 0x0A, 0x02]);
+    holds_of(&rt, bytes == [0x0A, 0x0A, 0x02], &bytes);
     put(Order::Big, &mut bytes, 1, 522);
-    assert!(rt; bytes == [0x0A, 0x02, 0x0A]);
+    holds_of(&rt, bytes == [0x0A, 0x02, 0x0A], &bytes)
 }
 
 #[test]
 fn operands(rt: HostRuntime) {
-    assert!(rt; get_big(&[0x81, 0x02], 0) == 258);
     // bit 7 is not looked at
-    assert!(rt; get_big(&[0x01, 0x02], 0) == 258);
+    let read = [get_big(&[0x81, 0x02], 0), get_big(&[0x01, 0x02], 0)];
+    holds_of(&rt, read == [258, 258], &read);
     let mut bytes = [0xAB, 0, 0, 0xAB];
     put_big(&mut bytes, 1, 258);
-    assert!(rt; bytes == [0xAB, 0x81, 0x02, 0xAB]);
+    holds_of(&rt, bytes == [0xAB, 0x81, 0x02, 0xAB], &bytes)
 }
 
 #[test]
@@ -133,31 +133,31 @@ static FAULTS: [(Fault, u8, &str, &str); 7] = [
 
 #[test]
 fn faults_as_text(rt: HostRuntime) {
-    let alloc = rt.alloc();
     for (fault, number, name, wanted) in &FAULTS {
-        let reason = fault.reason;
-        holds(
-            &rt,
-            (reason.number(), reason.name()) == (*number, *name),
-            *name,
-        );
-        is(&rt, *name, format!(in alloc; "{reason}"), *name);
-        is(&rt, "a fault", format!(in alloc; "{fault}"), *wanted);
-        // a width changes no text
-        is(
-            &rt,
-            "to the right",
-            format!(in alloc; "{fault:>100}"),
-            *wanted,
-        );
-        is(
-            &rt,
-            "to the left",
-            format!(in alloc; "{fault:<100}"),
-            *wanted,
-        );
-        is(&rt, "cut", format!(in alloc; "{fault:.3}"), *wanted);
+        is_named(&rt, fault.reason, *number, *name);
+        has_text(&rt, fault, *wanted);
     }
+}
+
+/// Checks the number and the name of a reason, which is its text.
+fn is_named(rt: &(impl Abort + AllocGlobal), reason: Reason, number: u8, name: &str) {
+    holds(rt, reason.number() == number, name);
+    holds(rt, reason.name() == name, name);
+    is(rt, name, format!(in rt.alloc(); "{reason}"), name)
+}
+
+/// Checks the text of a fault, which no width changes.
+fn has_text(rt: &(impl Abort + AllocGlobal), fault: &Fault, wanted: &str) {
+    let alloc = rt.alloc();
+    is(rt, "a fault", format!(in alloc; "{fault}"), wanted);
+    is(
+        rt,
+        "to the right",
+        format!(in alloc; "{fault:>100}"),
+        wanted,
+    );
+    is(rt, "to the left", format!(in alloc; "{fault:<100}"), wanted);
+    is(rt, "cut", format!(in alloc; "{fault:.3}"), wanted)
 }
 
 /// A writer of which one call fails, behind so many that do not; it counts those behind the one.

@@ -2,6 +2,7 @@
 use std::alloc::{AllocError, Global};
 use std::io;
 use std::io::Write;
+use std::process::Abort;
 
 /// What a writer with no room left does at the next write.
 #[derive(Clone, Copy)]
@@ -58,6 +59,11 @@ impl Room {
     pub(crate) fn counts(&self) -> Counts {
         [self.writes, self.failures, self.stalls, self.shorts]
     }
+}
+
+/// Room for so many bytes, for which there is memory.
+pub(crate) fn room_for(rt: &(impl Abort + AllocGlobal), writer: Writer) -> Room {
+    Room::new(rt.alloc(), writer).expect(rt, "no memory")
 }
 
 impl Write for Room {

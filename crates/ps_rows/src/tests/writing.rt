@@ -5,7 +5,7 @@ use super::link_allocations::Link;
 use super::tables::{Base, Check, IN_PLACE, IN_PLACE_TEXTS, PAIR};
 use super::texts::{Map, Show};
 use super::writers::Full::{Fails, Stalls};
-use super::writers::{Counts, Full, Room, Writer};
+use super::writers::{Counts, Full, Room, Writer, room_for};
 use crate::code_file::CodeFile;
 use crate::notation::{holds, holds_of};
 use ps_linkfile::{LinkError, Linked, Summary, link, prepare, write_show};
@@ -44,15 +44,13 @@ impl<'a> Writing for Show<'a> {
 impl<'a> Writing for Map<'a> {
     fn write<W: Write>(&self, alloc: Global, out: &mut W) -> Result<Option<Summary>, LinkError> {
         match prepare(alloc, self.host, self.libraries) {
-            Ok(linked) => writes_map(&linked, out),
+            Ok(linked) => {
+                linked.write_map(out, &mut ps_writing::Counts::new())?;
+                Ok(None)
+            }
             Err(error) => Err(error),
         }
     }
-}
-
-fn writes_map<W: Write>(linked: &Linked<'_>, out: &mut W) -> Result<Option<Summary>, LinkError> {
-    linked.write_map(out, &mut ps_writing::Counts::new())?;
-    Ok(None)
 }
 
 /// The answer of a call that writes, as text.
@@ -91,9 +89,8 @@ fn counts_where_written<T: Writing>(
     writer: Writer,
     answer: &str,
 ) -> Counts {
-    let alloc = rt.alloc();
-    let mut out = Room::new(alloc, writer).expect(rt, "unexpected error");
-    let answered = call.write(alloc, &mut out);
+    let mut out = room_for(rt, writer);
+    let answered = call.write(rt.alloc(), &mut out);
     was_given(rt, answered, &out, (bytes, writer), answer)
 }
 
@@ -119,8 +116,7 @@ fn tells(
     answer: &str,
     counts: Counts,
 ) {
-    let alloc = rt.alloc();
-    let mut out = Counting::new(Room::new(alloc, writer).expect(rt, "unexpected error"));
+    let mut out = Counting::new(room_for(rt, writer));
     let answered = linked.write_told(&mut out).map_err(LinkError::Write);
     let told = counts_of(&out);
     let out = out.into_inner();
@@ -217,6 +213,15 @@ fn writes_to_any_room(rt: &(impl Abort + AllocGlobal), files: &Link<'_>, linked:
     }
 }
 
+/// A link of these files, which is not refused.
+fn prepared<'a>(
+    rt: &(impl Abort + AllocGlobal),
+    host: &'a [u8],
+    libraries: &'a [&'a [u8]],
+) -> Linked<'a> {
+    prepare(rt.alloc(), host, libraries).expect(rt, "unexpected error")
+}
+
 /// The summary of a linked file that is written into each writer, and whether it is into those of
 /// any room.
 #[derive(Clone, Copy)]
@@ -227,8 +232,7 @@ struct WriteCheck {
 
 impl Check for WriteCheck {
     fn check<R: Abort + AllocGlobal>(&self, rt: &R, link: &Link<'_>) {
-        let linked = prepare(rt.alloc(), link.host, link.libraries);
-        let linked = linked.expect(rt, "unexpected error");
+        let linked = prepared(rt, link.host, link.libraries);
         writes_to_each(rt, link, &linked, self.summary);
         if self.any_room {
             writes_to_any_room(rt, link, &linked);
@@ -317,28 +321,43 @@ static SINGLE: [(Writer, &[u8], Option<usize>, Counts); 5] = [
 #[test]
 fn one_told_write(rt: HostRuntime) {
     for (writer, bytes, taken, wanted) in &SINGLE {
-        let mut out = Counting::new(Room::new(rt.alloc(), *writer).expect(&rt, "unexpected error"));
-        assert!(rt; counts_of(&out) == [0, 0, 0, 0]);
-        assert!(rt; out.told_write(*bytes).ok() == *taken);
-        assert!(rt; counts_of(&out) == *wanted);
+        let mut out = Counting::new(room_for(&rt, *writer));
+        has_counts(&rt, &out, NO_WRITE);
+        holds_of(&rt, out.told_write(*bytes).ok() == *taken, taken);
+        has_counts(&rt, &out, *wanted);
     }
+}
+
+/// Checks what a writer that counts has counted.
+fn has_counts<W: Write>(rt: &impl Abort, out: &Counting<W>, wanted: Counts) {
+    holds_of(rt, counts_of(out) == wanted, &wanted)
 }
 
 /// A plain write to a writer that counts is not counted, and is handed on whole, in one write; so
 /// is a flush.
 #[test]
 fn plain_writes_are_not_counted(rt: HostRuntime) {
-    let alloc = rt.alloc();
-    let bytes = Vec::from_elem(alloc, 0xD7, 100_000).expect(&rt, "unexpected error");
+    let bytes = Vec::from_elem(rt.alloc(), 0xD7, 100_000).expect(&rt, "unexpected error");
     let writer = (100_000, ALL, Stalls);
-    let mut out = Counting::new(Room::new(alloc, writer).expect(&rt, "unexpected error"));
-    assert!(rt; out.write(bytes.as_slice()).ok() == Some(100_000));
-    assert!(rt; out.write(b"more").ok() == Some(0));
-    assert!(rt; out.flush().is_err());
-    assert!(rt; counts_of(&out) == [0, 0, 0, 0]);
+    let mut out = Counting::new(room_for(&rt, writer));
+    takes(&rt, &mut out, bytes.as_slice(), 100_000);
+    takes(&rt, &mut out, b"more", 0);
+    is_not_flushed(&rt, &mut out, NO_WRITE);
     let inner = out.into_inner();
-    assert!(rt; (inner.counts(), inner.flushes) == ([2, 0, 1, 1], 1));
-    assert!(rt; inner.written() == bytes.as_slice());
+    holds_of(&rt, inner.counts() == [2, 0, 1, 1], &inner.counts());
+    holds_of(&rt, inner.flushes == 1, &inner.flushes);
+    holds(&rt, inner.written() == bytes.as_slice(), "other bytes")
+}
+
+/// Checks how many of these bytes a writer takes.
+fn takes(rt: &impl Abort, out: &mut impl Write, bytes: &[u8], count: usize) {
+    holds_of(rt, out.write(bytes).ok() == Some(count), &count)
+}
+
+/// Checks that a flush fails, and what the writer has counted.
+fn is_not_flushed<W: Write>(rt: &impl Abort, out: &mut Counting<W>, counts: Counts) {
+    holds(rt, out.flush().is_err(), "a flush");
+    has_counts(rt, out, counts)
 }
 
 /// The room of a writer of texts, what it does then, and how many writes return an error and how
@@ -371,7 +390,7 @@ fn counts_of_a_map(
     writer: Writer,
     wanted: (u64, u64),
 ) {
-    let mut out = Room::new(rt.alloc(), writer).expect(rt, "no memory");
+    let mut out = room_for(rt, writer);
     let mut counts = ps_writing::Counts::new();
     let is_written = linked.write_map(&mut out, &mut counts).is_ok();
     has_counted(rt, is_written, &out, counts, wanted)
@@ -384,7 +403,7 @@ fn counts_of_a_show(
     writer: Writer,
     wanted: (u64, u64),
 ) {
-    let mut out = Room::new(rt.alloc(), writer).expect(rt, "no memory");
+    let mut out = room_for(rt, writer);
     let mut counts = ps_writing::Counts::new();
     let is_written = write_show(file, &mut out, &mut counts).is_ok();
     has_counted(rt, is_written, &out, counts, wanted)
@@ -394,7 +413,7 @@ fn counts_of_a_show(
 fn failures_of_a_map_and_a_show_are_counted(rt: HostRuntime) {
     let host = CodeFile::new(&rt, LITTLE, IN_PLACE_TEXTS);
     let host = host.as_slice();
-    let linked = prepare(rt.alloc(), host, &[]).expect(&rt, "unexpected error");
+    let linked = prepared(&rt, host, &[]);
     for (room, full, wanted) in &FAILURES {
         let writer = (*room, ALL, *full);
         counts_of_a_map(&rt, &linked, writer, *wanted);
@@ -458,7 +477,7 @@ fn is_error(rt: &(impl Abort + AllocGlobal), error: Option<LinkError>, way: Brok
             let wanted = wanted.as_str();
             is(rt, wanted, described(alloc, &error), wanted);
         }
-        _ => assert!(rt; false, "no error of the write"),
+        _ => holds(rt, false, "no error of the write"),
     }
 }
 
@@ -473,8 +492,7 @@ fn tells_error(rt: &(impl Abort + AllocGlobal), linked: &Linked<'_>, way: Broken
     let mut out = Counting::new(way);
     let answer = linked.write_told(&mut out).map_err(LinkError::Write);
     is_error(rt, answer.err(), way);
-    assert!(rt; out.flush().is_err());
-    assert!(rt; counts_of(&out) == [1, 1, 0, 0]);
+    is_not_flushed(rt, &mut out, [1, 1, 0, 0])
 }
 
 #[test]
@@ -485,7 +503,7 @@ fn the_error_of_the_write_comes_back(rt: HostRuntime) {
         libraries: &[],
         linked: &[],
     };
-    let linked = prepare(rt.alloc(), files.host, &[]).expect(&rt, "unexpected error");
+    let linked = prepared(&rt, files.host, &[]);
     for way in &WAYS {
         gives_error(&rt, &files, *way);
         gives_error(&rt, &linked, *way);
@@ -513,11 +531,7 @@ fn a_list_that_cannot_grow(rt: HostRuntime) {
     let heap = Refusing::once(alloc, 1);
     let mut list = Vec::new(&heap);
     let answer = link(alloc, host.as_slice(), &[], &mut list);
-    is(
-        &rt,
-        "a list",
-        text_of(alloc, answer),
-        "device error OutOfMemory",
-    );
-    assert!(rt; list.is_empty());
+    let wanted = "device error OutOfMemory";
+    is(&rt, wanted, text_of(alloc, answer), wanted);
+    holds(&rt, list.is_empty(), wanted)
 }
