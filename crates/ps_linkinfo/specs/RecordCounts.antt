@@ -2,7 +2,7 @@
 -- references they have, the value of their EOFMARK, and a hash of their names.
 -- Source: the types are those of the published II.0 Linker source; the hash is this project's
 -- profile.
-use Rattle.std.specs.Prelude.{ℕ, ◌||◌, if◌then◌else◌, List, length, Bool, Option, Some, None, fold, count_by, sum_by, slice_get, unwrap_or, filter_map}
+use Rattle.std.specs.Prelude.{◌≡◌, ℕ, ◌||◌, if◌then◌else◌, List, length, Bool, Option, Some, None, fold, count_by, sum_by, slice_get, unwrap_or, filter_map}
 use Rattle.std.specs.Hash.DefaultHasher as sip
 use Rattle.std.specs.declared.hash.DefaultHasher.{DefaultHasher}
 use Rattle.ps_linkinfo.specs.Kinds.{defines_name, kind_of, requests_private, requests_public, requests_unit}
@@ -84,3 +84,13 @@ record_counts_of rs = record {
   references = references_in rs;
   next = next_of rs;
 }
+
+-- these are the counts of the records but for their number, and the value of their EOFMARK
+pub record AreCounted (rs : List Record) (definitions privates publics units references next : ℕ)
+    : Type 0 where
+  pub are_definitions : definitions ≡ definitions_in rs
+  pub are_privates : privates ≡ privates_in rs
+  pub are_publics : publics ≡ publics_in rs
+  pub are_units : units ≡ units_in rs
+  pub are_references : references ≡ references_in rs
+  pub is_next : next ≡ next_of rs

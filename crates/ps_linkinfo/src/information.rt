@@ -1,6 +1,6 @@
 ghost use Rattle.std.specs.Prelude.{◌≡◌, ◌==◌, [], length, IfOk, IfErr, Some, None};
 ghost use Rattle.ps_linkinfo.specs.Records.{reading};
-ghost use Rattle.ps_linkinfo.specs.RecordCounts.{definitions_in, privates_in, publics_in, units_in, references_in, next_of, digest_of};
+ghost use Rattle.ps_linkinfo.specs.RecordCounts.{definitions_in, privates_in, publics_in, units_in, references_in, next_of, digest_of, record_counts_of};
 ghost use Rattle.ps_linkinfo.specs.Numbered.{numbered_records as numbered_spec};
 
 use crate::numbered::NumberedRecords;
@@ -31,35 +31,60 @@ pub struct ReadFault {
 #[derive(Drop)]
 pub struct LinkInformation<'a> {
     order: Order,
+    /// The value of the EOFMARK, 0 where there is none.
+    next: u16,
     bytes: &'a [u8],
-    counts: RecordCounts,
+    /// How many records are a PUBLDEF or a CONSTDEF.
+    definitions: usize,
+    /// How many are a PRIVREF.
+    privates: usize,
+    /// How many are a PUBLREF.
+    publics: usize,
+    /// How many are a UNITREF.
+    units: usize,
+    /// How many references they have.
+    references: usize,
 }
 
 // Clauses see the list of its records.
 impl<'a> Model for LinkInformation<'a> {
-    ghost use Rattle.std.specs.Prelude.{◌≡◌, List};
+    ghost use Rattle.std.specs.Prelude.{List};
     ghost use Rattle.ps_linkinfo.specs.Records.{reading};
-    ghost use Rattle.ps_linkinfo.specs.RecordCounts.{record_counts_of};
+    ghost use Rattle.ps_linkinfo.specs.RecordCounts.{AreCounted};
     ghost use Rattle.ps_linkinfo.specs.declared.record.LinkRecord.{LinkRecord as Record};
 
     ghost Value = { List Record };
 
     ghost view = { λ i. (reading i.order i.bytes.now).0 };
 
-    ghost invariant = { λ i. i.counts ≡ record_counts_of (reading i.order i.bytes.now).0 };
+    ghost invariant = { λ i. AreCounted (reading i.order i.bytes.now).0 i.definitions i.privates i.publics i.units i.references i.next };
 }
 
 impl<'a> LinkInformation<'a> {
+    /// The records of these bytes, up to the EOFMARK or up to the first fault, which have these
+    /// counts.
+    fn counted(order: Order, bytes: &'a [u8], counts: RecordCounts) -> Self
+        requires { counts ≡ record_counts_of (reading order bytes.now).0 }
+        ensures { result ≡ (reading order bytes.now).0 }
+    {
+        LinkInformation {
+            order,
+            next: counts.next,
+            bytes,
+            definitions: counts.definitions,
+            privates: counts.privates,
+            publics: counts.publics,
+            units: counts.units,
+            references: counts.references,
+        }
+    }
+
     /// No records at all, not even an EOFMARK.
     /// Source: this project's profile.
     pub fn none() -> Self
         ensures { result ≡ [] }
     {
-        LinkInformation {
-            order: Order::Little,
-            bytes: &[],
-            counts: RecordCounts::new(),
-        }
+        LinkInformation::counted(Order::Little, &[], RecordCounts::new())
     }
 
     /// The records up to the EOFMARK; what follows it is not read. The bytes spell these records,
@@ -81,11 +106,7 @@ impl<'a> LinkInformation<'a> {
     {
         let (counts, fault) = RecordCounts::read(order, bytes);
         match fault {
-            None => Ok(LinkInformation {
-                order,
-                bytes,
-                counts,
-            }),
+            None => Ok(LinkInformation::counted(order, bytes, counts)),
             Some(reason) => Err(ReadFault {
                 rec: counts.records,
                 reason,
@@ -101,11 +122,7 @@ impl<'a> LinkInformation<'a> {
         ensures { result ≡ (reading order bytes.now).0 }
     {
         let (counts, _) = RecordCounts::read(order, bytes);
-        LinkInformation {
-            order,
-            bytes,
-            counts,
-        }
+        LinkInformation::counted(order, bytes, counts)
     }
 
     /// A copy of the link information, which borrows the same bytes.
@@ -113,19 +130,19 @@ impl<'a> LinkInformation<'a> {
     pub fn copy(&self) -> LinkInformation<'a>
         ensures { result ≡ self.now }
     {
-        LinkInformation {
-            order: self.order,
-            bytes: self.bytes,
-            counts: self.counts,
-        }
+        LinkInformation { ..*self }
     }
 
-    /// How many records there are, the EOFMARK included.
+    /// How many records there are, the EOFMARK included. They are walked, since no link asks.
     /// Source: this project's profile.
     pub fn len(&self) -> usize
         ensures { result ≡ length self.now }
     {
-        self.counts.records
+        let mut len = 0;
+        for _ in NumberedRecords::new(self.order, self.bytes) {
+            len += 1;
+        }
+        len
     }
 
     /// There is no record, not even an EOFMARK.
@@ -133,7 +150,10 @@ impl<'a> LinkInformation<'a> {
     pub fn is_empty(&self) -> bool
         ensures { result ≡ (length self.now == 0) }
     {
-        self.len() == 0
+        match self.records().next() {
+            Some(_) => false,
+            None => true,
+        }
     }
 
     /// How many records define a name of the host: PUBLDEF and CONSTDEF.
@@ -141,7 +161,7 @@ impl<'a> LinkInformation<'a> {
     pub fn definitions(&self) -> usize
         ensures { result ≡ definitions_in self.now }
     {
-        self.counts.definitions
+        self.definitions
     }
 
     /// How many records request a private variable: PRIVREF.
@@ -149,7 +169,7 @@ impl<'a> LinkInformation<'a> {
     pub fn privates(&self) -> usize
         ensures { result ≡ privates_in self.now }
     {
-        self.counts.privates
+        self.privates
     }
 
     /// How many records request a public variable: PUBLREF.
@@ -157,7 +177,7 @@ impl<'a> LinkInformation<'a> {
     pub fn publics(&self) -> usize
         ensures { result ≡ publics_in self.now }
     {
-        self.counts.publics
+        self.publics
     }
 
     /// How many records request a unit: UNITREF.
@@ -165,7 +185,7 @@ impl<'a> LinkInformation<'a> {
     pub fn units(&self) -> usize
         ensures { result ≡ units_in self.now }
     {
-        self.counts.units
+        self.units
     }
 
     /// How many references all records have together.
@@ -173,7 +193,7 @@ impl<'a> LinkInformation<'a> {
     pub fn references(&self) -> usize
         ensures { result ≡ references_in self.now }
     {
-        self.counts.references
+        self.references
     }
 
     /// The next free base offset in words, the value of the EOFMARK: 0 to `MAX_WORD`, and 0 where
@@ -182,7 +202,7 @@ impl<'a> LinkInformation<'a> {
     pub fn next(&self) -> u16
         ensures { result ≡ next_of self.now }
     {
-        self.counts.next
+        self.next
     }
 
     /// The state of a hash of the names of the records that define a name or request a private:
