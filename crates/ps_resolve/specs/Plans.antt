@@ -19,8 +19,9 @@ use Rattle.ps_resolve.specs.declared.allotment.Private.{Private}
 use Rattle.ps_resolve.specs.declared.linkage.Stop.{Stop}
 use Rattle.ps_resolve.specs.declared.linkage.Stop.TheVariants.{Refused, Memory}
 
--- what links segments; the edits are in their order
+-- what links segments, of a host in this byte order; the edits are in the order of the segments
 pub record Links : Type 0 where
+  pub order : Order
   pub edits : List (List Edit)
   pub definitions : List (List ℕ × Def)
   pub privates : List Private
@@ -59,13 +60,14 @@ LinkSegments order [] (d ∷ ds) = ⊥
 LinkSegments order (e ∷ es) [] = ⊥
 
 -- what links these segments, where the host has this byte order
-pub record AreLinks (order : Order) (segs : List Segment) (links : Links) : Type 0 where
-  pub edits : LinkSegments order (edited_segments order segs) links.edits
+pub record AreLinks (host_order : Order) (segs : List Segment) (links : Links) : Type 0 where
+  pub order : links.order ≡ host_order
+  pub edits : LinkSegments host_order (edited_segments host_order segs) links.edits
   pub definitions : links.definitions ≡ definitions (host_records segs)
   pub privates : links.privates ≡ all_allotted (next_of (host_records segs)) (map owner_of segs)
   pub next_free : links.next_free ≡ next_of (host_records segs) + total_words segs
   pub private_words : links.private_words ≡ total_words segs
-  pub data_size : links.data_size ≡ data_size order segs
+  pub data_size : links.data_size ≡ data_size host_order segs
 
 -- the plan is that of a link of these segments, of which the host file has this content
 pub record IsPlanOf (host_order : Order) (host : List ℕ) (segs : List Segment)

@@ -85,9 +85,10 @@ pub(crate) fn link_segments<A: Allocator + Copy>(
     };
     let edits = all_edits(alloc, &link, all, base)?;
     Ok(Links {
+        order,
+        data_size: size.size,
         edits,
         definitions,
         allotment,
-        data_size: size.size,
     })
 }

@@ -17,7 +17,6 @@ use std::marker::Model;
 /// Source: this project's profile.
 #[derive(Drop)]
 pub struct Plan<'a, A: Allocator + Copy = Global> {
-    pub(crate) order: Order,
     pub(crate) host: &'a [u8],
     pub(crate) names: [Name; SLOT_COUNT],
     pub(crate) sources: ArrayVec<Source<'a>, SLOT_COUNT>,
@@ -30,7 +29,7 @@ impl<'a, A: Allocator + Copy> Model for Plan<'a, A> {
 
     ghost Value = { Planned };
 
-    ghost view = { λ p. record { order = p.order; host = p.host.now; names = p.names; sources = p.sources.items; edits = p.links.edits; definitions = p.links.definitions; privates = p.links.privates; next_free = p.links.next_free; private_words = p.links.private_words; data_size = p.links.data_size } };
+    ghost view = { λ p. record { order = p.links.order; host = p.host.now; names = p.names; sources = p.sources.items; edits = p.links.edits; definitions = p.links.definitions; privates = p.links.privates; next_free = p.links.next_free; private_words = p.links.private_words; data_size = p.links.data_size } };
 
     ghost invariant = { λ p. (length p.links.edits ≡ length p.sources.items) × (512 ≤ length p.host.now) };
 }
@@ -41,7 +40,7 @@ impl<'a, A: Allocator + Copy> Plan<'a, A> {
     pub fn order(&self) -> Order
         ensures { result ≡ self.now.order }
     {
-        self.order
+        self.links.order
     }
 
     /// The names of all slots of the linked file, of eight bytes each: the host's, and in the slot

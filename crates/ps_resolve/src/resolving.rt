@@ -68,7 +68,6 @@ fn resolve_opened<'a, A: Allocator + Copy>(
     let links = link_slots(alloc, host, libs, &slots, &mut sources)?;
     let names = slot_names(&slots, sources.as_slice());
     Ok(Plan {
-        order: slots.order(),
         host,
         names,
         sources,

@@ -90,6 +90,7 @@ returns-clause-links g c =
     let whole = allotment_is order ss is ds.found ds.once c.next-base.ensures a.found a.once
     c.words.ensures in
     rw (← c.segments.view_is) (record {
+      order = refl;
       edits = all_linked order ss is ds.found ds.once c.next-base.ensures a.found a.once
           c.words.ensures size.fits c.of-units.ensures known.one_host
           (size.edit ∙ ap (λ (e : Edit). e ∷ []) (sym c.edit.ensures))

@@ -32,7 +32,7 @@ returns-clause-plan g c =
     (sym (ap (λ (o : OpenedFile). Ok o) c.of-slots.ensures ∙ c.requires)) in
     let links = c.in_ok-links.ensures in
     record {
-      order = c.order.ensures ∙ ap (λ (o : OpenedFile). o.order) is;
+      order = links.links.order;
       of_host = refl;
       names = c.slot_names-names.ensures
           ∙ (ap (λ (o : OpenedFile). slot_names o.file c.as_slice.result.now) is
