@@ -1,7 +1,7 @@
 -- The command line of `pslink`, as clap's contracts see it: the commands, and the arguments of
 -- each.
 -- Source: this project's profile.
-use Rattle.std.specs.Prelude.{◌≡◌, ◌⊎◌, List, [], ◌∷◌, Option, map, false, true, Some, codes}
+use Rattle.std.specs.Prelude.{◌≡◌, ◌⊎◌, Bool, List, [], ◌∷◌, Option, fold, map, false, true, Some, codes}
 use Rattle.std.specs.Borrow.{Bor}
 use Rattle.clap.specs.Words.{App, Kinds, Row, Rule, Text, app_of, fault_of, new_app, new_rule, rule_of, subcommand_of, takes, with_rule, with_subcommand}
 use Rattle.clap.specs.declared.error.ErrorKind.TheVariants.{DisplayHelp, DisplayVersion}
@@ -10,6 +10,9 @@ use Rattle.clap.specs.declared.builder.ArgAction.{ArgAction}
 use Rattle.clap.specs.declared.builder.ArgAction.TheVariants.{Set, SetTrue, Append}
 use Rattle.clap.specs.declared.builder.Command.{Command}
 use Rattle.clap.specs.declared.Command.TheViews.{out-Command}
+use Rattle.ps_command.specs.declared.command_line.Argument.{Argument}
+use Rattle.ps_command.specs.declared.command_line.Argument.TheVariants as argument
+use Rattle.ps_command.specs.declared.command_line.CommandForm.{CommandForm}
 
 -- a file that has to be named; with `Append` more of them may be
 abbrev pub file_rule : Text → ArgAction → Rule
@@ -67,6 +70,30 @@ abbrev pub pslink_app : App
 pslink_app = with_subcommand (with_subcommand
     (with_subcommand (with_subcommand (with_subcommand bare_app link_app.top) map_app.top)
     show_app.top) check_app.top) list_app.top
+
+-- files, of which one has to be named or not
+abbrev pub files_rule : Text → ArgAction → Bool → Rule
+files_rule id action required =
+    record (new_rule id) { required = required; action = Some action }
+
+-- an argument of a row of the table
+abbrev pub rule_in : Argument → Rule
+rule_in (argument.File name help) = files_rule name.now Set true
+rule_in (argument.Files name help) = files_rule name.now Append true
+rule_in (argument.AnyFiles name help) = files_rule name.now Append false
+rule_in (argument.Flag name help) = flag_rule name.now
+
+-- a command with the argument of a row too
+abbrev pub with_argument : App → Argument → App
+with_argument app argument = with_rule app (rule_in argument)
+
+-- the command of a row
+abbrev pub app_in : CommandForm → App
+app_in form = fold with_argument (new_app form.name.now) form.arguments.now
+
+-- a program with the command of a row too
+abbrev pub with_form : App → CommandForm → App
+with_form app form = with_subcommand app (app_in form).top
 
 -- the command is this one, of which no argument is one of its commands too
 abbrev pub IsMade : App → Command → Type 0

@@ -2,6 +2,7 @@
 //! any runtime, allocator and writers, and `run_process` with the arguments of a process.
 #![tactic(auto)]
 
+mod command_line;
 mod files;
 mod lists;
 mod output;

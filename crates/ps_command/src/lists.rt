@@ -5,10 +5,9 @@ ghost use Rattle.ps_command.specs.Printed.{IsListed, PrintsFiles, PrintsLists, P
 ghost use Rattle.ps_command.specs.FilesRead.{IsReadError, Reads};
 
 use crate::files::{self, CodeFiles};
-use crate::output;
 use ps_errors::CommandError;
 use ps_listing::LoneUnit;
-use ps_writing::{Counts, separator};
+use ps_writing::{Counts, WriteFault, separator, write_all_of};
 use std::alloc::{AllocError, Allocator};
 use std::io::Write;
 
@@ -86,21 +85,20 @@ fn print_text<O: Write>(
     index: usize,
     form: Form,
     out: &mut O,
-) -> Result<(), CommandError<'static>>
+) -> Result<(), WriteFault>
     requires { units.now ≡ listed_units form file.now }
-    ensures text { OnOk result (Appends (O.contents out.old) (O.contents out.new)
+    ensures { OnOk result (Appends (O.contents out.old) (O.contents out.new)
         (listed_text form index path.now phrase.now file.now)) }
-    ensures err { IfErr result (λ e. e ≡ CommandError.StandardOutput) }
 {
     match form {
-        Form::Lines => Ok(ps_listing::write_list(path, phrase, file, out, &mut Counts::new())?),
+        Form::Lines => ps_listing::write_list(path, phrase, file, out, &mut Counts::new()),
         Form::Json => {
-            output::print(out, separator(index == 0))?;
-            Ok(ps_listing::write_list_json(path, phrase, file, out, &mut Counts::new())?)
+            write_all_of(out, &mut Counts::new(), separator(index == 0))?;
+            ps_listing::write_list_json(path, phrase, file, out, &mut Counts::new())
         }
         Form::Units => {
             ps_listing::write_list(path, phrase, file, out, &mut Counts::new())?;
-            Ok(ps_listing::write_lone_units(path, units, out, &mut Counts::new())?)
+            ps_listing::write_lone_units(path, units, out, &mut Counts::new())
         }
     }
 }
@@ -127,14 +125,13 @@ fn print_file<O: Write>(
     index: usize,
     form: Form,
     out: &mut O,
-) -> Result<u8, CommandError<'static>>
+) -> Result<u8, WriteFault>
     requires { units.now ≡ listed_units form file.now }
     ensures status { IfOk result (λ status. status
         ≡ (if is_refused_in form phrase.now file.now then 1 else 0)) }
     ensures few { IfOk result (λ status. status ≤ 1) }
     ensures text { OnOk result (Appends (O.contents out.old) (O.contents out.new)
         (listed_text form index path.now phrase.now file.now)) }
-    ensures err { IfErr result (λ e. e ≡ CommandError.StandardOutput) }
 {
     print_text(path, phrase, file, units, index, form, out)?;
     Ok(refusal_status(is_refused(phrase, file, units, form)))
@@ -146,16 +143,15 @@ fn print_unread<O: Write>(
     index: usize,
     form: Form,
     out: &mut O,
-) -> Result<(), CommandError<'static>>
-    ensures text { OnOk result (PrintsUnread form index path.now (O.contents out.old)
+) -> Result<(), WriteFault>
+    ensures { OnOk result (PrintsUnread form index path.now (O.contents out.old)
         (O.contents out.new)) }
-    ensures err { IfErr result (λ e. e ≡ CommandError.StandardOutput) }
 {
     match form {
         Form::Lines | Form::Units => Ok(()),
         Form::Json => {
-            output::print(out, separator(index == 0))?;
-            Ok(ps_listing::write_unread_json(path, out, &mut Counts::new())?)
+            write_all_of(out, &mut Counts::new(), separator(index == 0))?;
+            ps_listing::write_unread_json(path, out, &mut Counts::new())
         }
     }
 }
@@ -171,13 +167,12 @@ fn print_list<'a, R: CodeFiles, A: Allocator + Copy, O: Write, E: Write>(
     form: Form,
     out: &mut O,
     err: &mut E,
-) -> Result<u8, CommandError<'a>>
+) -> Result<u8, WriteFault>
     ensures ok { IfOk result (λ status. IsListed (Reads (R.opened rt.now) R.Opened.remaining)
         form index path.entry.now status (O.contents out.old) (O.contents out.new)) }
     ensures few { IfOk result (λ status. status ≤ 3) }
     ensures used { IfOk result (λ status. status ≢ 2) }
     ensures silent { IfOk result (λ status. status ≡ 0 → err.new ≡ err.old) }
-    ensures err { IfErr result (λ e. e ≡ CommandError.StandardOutput) }
 {
     match read(rt, alloc, path, form) {
         Ok(contents) => print_file(
@@ -214,14 +209,13 @@ fn print_files<'a, R: CodeFiles, A: Allocator + Copy, O: Write, E: Write>(
     form: Form,
     out: &mut O,
     err: &mut E,
-) -> Result<u8, CommandError<'a>>
+) -> Result<u8, WriteFault>
     ensures ok { IfOk result (λ status. PrintsFiles (Reads (R.opened rt.now) R.Opened.remaining)
         form 0 (map (λ path. path.now) paths.now) status (O.contents out.old)
         (O.contents out.new)) }
     ensures few { IfOk result (λ status. status ≤ 3) }
     ensures used { IfOk result (λ status. status ≢ 2) }
     ensures silent { IfOk result (λ status. status ≡ 0 → err.new ≡ err.old) }
-    ensures err { IfErr result (λ e. e ≡ CommandError.StandardOutput) }
 {
     let mut status = 0u8;
     let mut index = 0;
@@ -241,17 +235,16 @@ fn print_document<'a, R: CodeFiles, A: Allocator + Copy, O: Write, E: Write>(
     paths: &[&'a str],
     out: &mut O,
     err: &mut E,
-) -> Result<u8, CommandError<'a>>
+) -> Result<u8, WriteFault>
     ensures ok { IfOk result (λ status. PrintsLists (Reads (R.opened rt.now) R.Opened.remaining)
         Form.Json (map (λ path. path.now) paths.now) status (O.contents out.old) (O.contents out.new)) }
     ensures few { IfOk result (λ status. status ≤ 3) }
     ensures used { IfOk result (λ status. status ≢ 2) }
     ensures silent { IfOk result (λ status. status ≡ 0 → err.new ≡ err.old) }
-    ensures err { IfErr result (λ e. e ≡ CommandError.StandardOutput) }
 {
-    output::print(out, b"{\"files\":[")?;
+    write_all_of(out, &mut Counts::new(), b"{\"files\":[")?;
     let status = print_files(rt, alloc, paths, Form::Json, out, err)?;
-    output::print(out, b"\n]}\n")?;
+    write_all_of(out, &mut Counts::new(), b"\n]}\n")?;
     Ok(status)
 }
 
@@ -274,7 +267,7 @@ pub(crate) fn print_lists<'a, R: CodeFiles, A: Allocator + Copy, O: Write, E: Wr
     ensures err { IfErr result (λ e. e ≡ CommandError.StandardOutput) }
 {
     match form {
-        Form::Json => print_document(rt, alloc, paths, out, err),
-        Form::Lines | Form::Units => print_files(rt, alloc, paths, form, out, err),
+        Form::Json => Ok(print_document(rt, alloc, paths, out, err)?),
+        Form::Lines | Form::Units => Ok(print_files(rt, alloc, paths, form, out, err)?),
     }
 }

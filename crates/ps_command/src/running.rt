@@ -9,7 +9,7 @@ ghost use Rattle.ps_linkfile.specs.ReferencesText.{references_of};
 ghost use Rattle.ps_linkfile.specs.Writing.{file_in, summary_in};
 ghost use Rattle.ps_report.specs.Reports.{IsPrintedReport};
 ghost use Rattle.ps_command.specs.CommandLine.{AreAccepted, AskForText, faults_in, named_in, texts};
-ghost use Rattle.ps_command.specs.Printed.{Prints, PrintsLine, PrintsLines, PrintsLists, PrintsMap, PrintsReport, PrintsShow, PrintsText, IsPrintedMap, list_form as list_form_spec, printed_show, version_line};
+ghost use Rattle.ps_command.specs.Printed.{Prints, PrintsLine, PrintsLines, PrintsLists, PrintsMap, PrintsReport, PrintsShow, PrintsText, IsPrintedMap, SomeLink, list_form as list_form_spec, printed_show, version_line};
 ghost use Rattle.ps_command.specs.FilesRead.{Reads, Writes};
 ghost use Rattle.ps_command.specs.Requests.{IsNamedCommand, NamesCheck, NamesList, OverwritesLibrary, WritesLibrary};
 ghost use Rattle.ps_errors.specs.Statuses.{status_of};
@@ -266,11 +266,27 @@ fn link<'a, R: CodeFiles, A: Allocator + Copy, O: Write>(
     ensures usage { IfErr result (λ e. status_of e ≢ 2) }
 {
     let mut line = String::with_capacity(alloc, SUMMARY_LENGTH)?;
-    let bytes = files::read_inputs(rt, alloc, &inputs)?;
-    let views = views(alloc, bytes.libraries.as_slice())?;
-    let summary = link_bytes(rt, alloc, bytes.host.as_slice(), views.as_slice(), path)?;
+    let summary = link_inputs(rt, alloc, &inputs, path)?;
     output::add_summary(&mut line, summary)?;
     output::print(out, line.as_bytes())
+}
+
+/// Links the inputs, and writes the linked file to `path`, once all is read and checked.
+fn link_inputs<'a, R: CodeFiles, A: Allocator + Copy>(
+    rt: &R,
+    alloc: A,
+    inputs: &Inputs<'a, A>,
+    path: &'a str,
+) -> Result<Summary, CommandError<'a>>
+    ensures linked { IfOk result (λ summary. SomeLink (Reads (R.opened rt.now) R.Opened.remaining)
+        inputs.now.host.now (map (λ path. path.now) inputs.now.libraries.items)
+        (λ host libs file. Writes (R.created rt.now) (R.closed rt.now) R.Created.contents
+        path.entry.now file × (summary ≡ summary_of host libs))) }
+    ensures usage { IfErr result (λ e. status_of e ≢ 2) }
+{
+    let bytes = files::read_inputs(rt, alloc, inputs)?;
+    let views = views(alloc, bytes.libraries.as_slice())?;
+    link_bytes(rt, alloc, bytes.host.as_slice(), views.as_slice(), path)
 }
 
 /// Links a host with libraries, and writes the linked file to `path`, once all is checked.

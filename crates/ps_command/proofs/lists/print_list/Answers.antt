@@ -17,7 +17,7 @@ returns-in-Ok-clause-ok g c =
 
 pub returns-in_ok-print_unread-in-Err-clause-ok : goal.returns-in_ok-print_unread-in-Err-clause-ok
 returns-in_ok-print_unread-in-Err-clause-ok g c =
-    inr (c.report-status.ensures ∙ c.of_file.ensures.status, c.in_ok-print_unread-in-Err.ensures.text)
+    inr (c.report-status.ensures ∙ c.of_file.ensures.status, c.in_ok-print_unread-in-Err.ensures)
 
 pub print_file-requires : goal.print_file-requires
 print_file-requires g c = c.as_slice-in-Ok.ensures.value ∙ c.in-Ok.ensures.units

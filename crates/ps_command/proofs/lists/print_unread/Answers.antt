@@ -1,8 +1,9 @@
 use Rattle.std.proofs.KnownBytes.{Appends-trans}
+use Rattle.std.proofs.lemmas.Result.{on_ok_weaker}
 use Rattle.ps_command.proofs.lists.print_unread.Goals as goal
 
-pub returns-in_ok-write_unread_json-in-Json-clause-text :
-    goal.returns-in_ok-write_unread_json-in-Json-clause-text
-returns-in_ok-write_unread_json-in-Json-clause-text g c =
-    rw c.in-Json.is (Appends-trans _ _ _ _ _ (rw c.separator.ensures
-    at c.in_ok-print-in-Json.ensures.ok) c.in_ok-write_unread_json-in-Json.ensures.written)
+pub returns-in_ok-write_all_of-in-Json : goal.returns-in_ok-write_all_of-in-Json
+returns-in_ok-write_all_of-in-Json g c =
+    rw c.in-Json.is (on_ok_weaker c.write_unread_json.result (λ written.
+    Appends-trans _ _ _ _ _ (rw c.separator.ensures at c.in_ok-write_all_of-in-Json.ensures.all)
+    written) c.write_unread_json.ensures.written)

@@ -1,0 +1,34 @@
+use Rattle.std.proofs.Common.{◌≡◌, ◌∙◌, ◌+◌, ◌||◌, ap, ap₂, drop, fold, rules, sym}
+use Rattle.std.proofs.lemmas.List.{at_drop_all, at_drop_more}
+use Rattle.clap.specs.Words.{App, app_of, new_app, with_rule}
+use Rattle.ps_command.specs.CommandLine.{with_argument}
+use Rattle.ps_command.proofs.command_line.command_of.Goals as goal
+
+pub loop-argument-init : goal.loop-argument-init
+loop-argument-init c =
+    let form = c.args.form.now in
+    let bare : app_of c.after_help-command.result ≡ new_app form.name.now = search rules in
+    (ap (λ (app : App). fold with_argument app form.arguments.now) bare, search rules)
+
+pub loop-argument-preserved : goal.loop-argument-preserved
+loop-argument-preserved c =
+    let i = c.loop-argument.argument-index in
+    let arguments = c.args.form.now.arguments.now in
+    let app = app_of c.loop-argument.command in
+    let adds = c.in_ok-command.ensures in
+    let argument = c.argument_of.ensures in
+    let before = c.loop-argument.invariant in (
+      ap (λ (app : App). fold with_argument app (drop (i + 1) arguments))
+          (adds.shape argument.1 ∙ ap (with_rule app) argument.0)
+          ∙ sym (at_drop_more (fold with_argument app) arguments i _ c.loop-argument-test.true)
+          ∙ before.0,
+      adds.globals ∙ ap₂ (λ x y. x || y) before.1 argument.1,
+    )
+
+pub returns : goal.returns
+returns c = (
+  sym (at_drop_all (fold with_argument (app_of c.loop-argument.command))
+      c.args.form.now.arguments.now c.loop-argument.argument-index c.loop-argument-test.false)
+      ∙ c.loop-argument.invariant.0,
+  c.loop-argument.invariant.1,
+)

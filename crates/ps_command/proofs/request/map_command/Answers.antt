@@ -1,5 +1,0 @@
-use Rattle.ps_command.proofs.request.map_command.Goals as goal
-
-pub returns : goal.returns
-returns c = c.with_arg.ensures _ _ c.json_argument.ensures
-    (c.with_arg-with_references.ensures _ _ c.flag_argument.ensures c.inputs_command.ensures)

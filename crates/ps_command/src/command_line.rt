@@ -1,0 +1,319 @@
+//! What the command line accepts, as a table, and the command of clap that it makes.
+ghost use Rattle.std.specs.Prelude.{◌≡◌, IfOk, fold};
+ghost use Rattle.clap.specs.Words.{App, app_of};
+ghost use Rattle.ps_command.specs.CommandLine.{IsArgument, IsMade, app_in, bare_app, files_rule, flag_rule, pslink_app, rule_in, with_form};
+
+use Argument::{AnyFiles, File, Files, Flag};
+use clap::{Arg, ArgAction, Command};
+use std::alloc::{AllocError, Global};
+
+/// What the help of the program ends with.
+const ENDING: &str = "Example:
+  pslink link host.code linked.code library.code
+
+Exit status:
+  0  the command was done
+  1  the files are refused
+  2  wrong usage
+  3  a file could not be read or written, or standard output failed
+  4  out of memory
+
+A name that begins with a dash is given as ./-name, or after --. See pslink(1).";
+
+/// What the help of `link` ends with.
+const LINK_ENDING: &str = "Example:
+  pslink link host.code linked.code library.code
+
+OUT is opened once everything was checked, and is written in place. If a write fails,
+OUT has the first part of the linked file. A linked file is no host any more, so keep
+the host:
+  pslink link host.code linked.new library.code &&
+      mv linked.new linked.code
+The second file is always OUT. If it is forgotten, the first LIB is taken as OUT, and
+is overwritten if the link succeeds. With /dev/stdout as OUT the summary and the file
+are mixed: use /dev/fd/3 and 3>&1. A file is read from a pipe as /dev/stdin.
+
+Exit status:
+  0  the command was done
+  1  the files are refused
+  2  wrong usage
+  3  a file could not be read or written, or standard output failed
+  4  out of memory
+
+A name that begins with a dash is given as ./-name, or after --. See pslink(1).";
+
+/// What the help of `map` ends with.
+const MAP_ENDING: &str = "Example:
+  pslink map host.code library.code
+
+With --references a line follows for each place at which the link stores bytes: its
+offset in the code and in the linked file, the bytes there before and after the link,
+and the record. With --json the same values are printed as one JSON document.
+
+Exit status:
+  0  the map was printed
+  1  the files are refused
+  2  wrong usage
+  3  a file could not be read, or standard output failed
+  4  out of memory
+
+A name that begins with a dash is given as ./-name, or after --. See pslink(1).";
+
+/// What the help of `show` ends with.
+const SHOW_ENDING: &str = "Example:
+  pslink show library.code
+
+With --json the same values are printed as one JSON document.
+
+Exit status:
+  0  the segments were printed
+  1  the file is refused
+  2  wrong usage
+  3  the file could not be read, or standard output failed
+  4  out of memory
+
+A name that begins with a dash is given as ./-name, or after --. See pslink(1).";
+
+/// What the help of `check` ends with.
+const CHECK_ENDING: &str = "Example:
+  pslink check host.code library.code
+
+The report is for a person: the files, where each segment comes from, whether they
+are linked, and if not what is wrong and what to do. A line that begins with
+'warning: ' reports what looks wrong and is no fault, one with 'harmless: ' what changes
+no link, and one with 'note: ' a guess. No file is written. With --json the verdict,
+the warnings and the report are printed as one JSON document.
+
+With --unit, HOST and each LIB are files of any kind. They are listed as by list, and
+after the lines of each file comes a line of each unit that it has, with its first
+fault in a link with a host that would define each name: so a unit can be checked
+before there is a host. The other options then change nothing, and a file without a
+unit is refused.
+
+Exit status:
+  0  the files link, and there may be warnings
+  1  the files are refused; with --strict, or there is a warning
+  2  wrong usage
+  3  a file could not be read, or standard output failed
+  4  out of memory
+
+A name that begins with a dash is given as ./-name, or after --. See pslink(1).";
+
+/// What the help of `list` ends with.
+const LIST_ENDING: &str = "Example:
+  pslink list *.code | grep 'uses AUX'
+
+Each line begins with the name of its file: first a line of the file, and then one
+for each of its segments. A segment whose code, procedure tables or link information
+are refused ends with the number of the fault. A file that can't be read is reported,
+and those after it are listed. With --json the same values are printed as one JSON
+document.
+
+Exit status, the greatest that applies:
+  0  all files were listed
+  1  a file or a segment is refused
+  2  wrong usage
+  3  a file could not be read, or standard output failed
+  4  out of memory
+
+A name that begins with a dash is given as ./-name, or after --. See pslink(1).";
+
+/// An argument of a command: its name, and what the help says of it.
+/// Source: this project's profile.
+#[derive(Clone, Copy)]
+enum Argument {
+    /// A file that has to be named.
+    File(&'static str, &'static str),
+    /// Files, of which at least one has to be named.
+    Files(&'static str, &'static str),
+    /// Files, of which none has to be named.
+    AnyFiles(&'static str, &'static str),
+    /// An option without a value.
+    Flag(&'static str, &'static str),
+}
+
+/// A command: its name, what the help says of it and ends with, and its arguments.
+/// Source: this project's profile.
+#[derive(Clone, Copy)]
+struct CommandForm {
+    name: &'static str,
+    about: &'static str,
+    ending: &'static str,
+    arguments: &'static [Argument],
+}
+
+const HOST: Argument = File("HOST", "The code file that holds the host program");
+
+const LIBRARIES: Argument = AnyFiles("LIB", "A library to search for units, in the order given");
+
+const JSON: Argument = Flag("json", "Prints the same values as one JSON document");
+
+const LINK: CommandForm = CommandForm {
+    name: "link",
+    about: "Links a host with the units that it uses, and writes the linked file",
+    ending: LINK_ENDING,
+    arguments: &[
+        HOST,
+        File("OUT", "The code file to write; it may be HOST"),
+        LIBRARIES,
+    ],
+};
+
+/// The commands, in the order in which the help names them.
+static FORMS: [CommandForm; 5] = [
+    LINK,
+    CommandForm {
+        name: "map",
+        about: "Prints where a link would put each segment and private variable, and writes no file",
+        ending: MAP_ENDING,
+        arguments: &[
+            HOST,
+            LIBRARIES,
+            Flag(
+                "references",
+                "Prints what the link stores at each place, too",
+            ),
+            JSON,
+        ],
+    },
+    CommandForm {
+        name: "show",
+        about: "Prints the segments of one code file and the link information of each",
+        ending: SHOW_ENDING,
+        arguments: &[
+            File(
+                "FILE",
+                "The code file to show: a host, a library, or a linked file",
+            ),
+            JSON,
+        ],
+    },
+    CommandForm {
+        name: "check",
+        about: "Says in words what is wrong with the files and what only looks right",
+        ending: CHECK_ENDING,
+        arguments: &[
+            HOST,
+            LIBRARIES,
+            Flag("strict", "Ends with status 1 on a warning too"),
+            Flag(
+                "unit",
+                "Lists each file, and what refuses each of its units by itself",
+            ),
+            JSON,
+        ],
+    },
+    CommandForm {
+        name: "list",
+        about: "Prints a line of each file and of each of its segments, made for grep",
+        ending: LIST_ENDING,
+        arguments: &[
+            Files(
+                "FILE",
+                "A file of any kind, as a host, a library, or a linked file",
+            ),
+            JSON,
+        ],
+    },
+];
+
+/// What the command line accepts.
+pub(crate) fn command<'a>(heap: Global) -> Result<Command<'a>, AllocError>
+    ensures { IfOk result (λ c. app_of c ≡ pslink_app) }
+{
+    with_commands(bare_command(heap), heap, &FORMS)
+}
+
+/// The command `link` with the name that its usage has.
+pub(crate) fn link_usage<'a>(heap: Global) -> Result<Command<'a>, AllocError> {
+    command_of(heap, &LINK)?.bin_name("pslink link")
+}
+
+/// The program, of which a command is required, without its commands.
+fn bare_command<'a>(heap: Global) -> Command<'a>
+    ensures { app_of result ≡ bare_app }
+{
+    Command::new(heap, "pslink")
+        .version("0.2.0")
+        .about("The Linker of UCSD Pascal II.0 for Pascal hosts and units")
+        .after_help(ENDING)
+        .subcommand_required(true)
+}
+
+/// Adds the commands of these forms.
+fn with_commands<'a>(
+    app: Command<'a>,
+    heap: Global,
+    forms: &[CommandForm],
+) -> Result<Command<'a>, AllocError>
+    ensures { (whole : App) → app_of app.entry ≡ whole
+        → IfOk result (λ c. app_of c ≡ fold with_form whole forms.now) }
+{
+    let mut app = app;
+    for form in forms {
+        app = with_command(app, heap, form)?;
+    }
+    Ok(app)
+}
+
+/// Adds the command of this form.
+fn with_command<'a>(
+    app: Command<'a>,
+    heap: Global,
+    form: &CommandForm,
+) -> Result<Command<'a>, AllocError>
+    ensures { IfOk result (λ c. app_of c ≡ with_form (app_of app.entry) form.now) }
+{
+    app.subcommand(command_of(heap, form)?)
+}
+
+/// The command of this form.
+fn command_of<'a>(heap: Global, form: &CommandForm) -> Result<Command<'a>, AllocError>
+    ensures { IfOk result (IsMade (app_in form.now)) }
+{
+    let mut command = Command::new(heap, form.name)
+        .about(form.about)
+        .after_help(form.ending);
+    for argument in form.arguments {
+        command = command.arg(argument_of(heap, *argument))?;
+    }
+    Ok(command)
+}
+
+/// The argument of this form.
+fn argument_of<'a>(heap: Global, form: Argument) -> Arg<'a>
+    ensures { IsArgument (rule_in form) result }
+{
+    match form {
+        File(name, help) => file(heap, name, help, ArgAction::Set, true),
+        Files(name, help) => file(heap, name, help, ArgAction::Append, true),
+        AnyFiles(name, help) => file(heap, name, help, ArgAction::Append, false),
+        Flag(name, help) => flag(heap, name, help),
+    }
+}
+
+/// A file, or with `Append` files, and whether one has to be named.
+fn file<'a>(
+    heap: Global,
+    name: &'a str,
+    help: &'a str,
+    action: ArgAction,
+    required: bool,
+) -> Arg<'a>
+    ensures { IsArgument (files_rule name.entry.now action required) result }
+{
+    Arg::new(heap, name)
+        .required(required)
+        .action(action)
+        .help(help)
+}
+
+/// An option without a value.
+fn flag<'a>(heap: Global, name: &'a str, help: &'a str) -> Arg<'a>
+    ensures { IsArgument (flag_rule name.entry.now) result }
+{
+    Arg::new(heap, name)
+        .long(name)
+        .action(ArgAction::SetTrue)
+        .help(help)
+}
