@@ -97,13 +97,11 @@ fn write_of_file<W: fmt::Write>(f: &mut Formatter<W>, text: &str, path: &str) ->
         path.fmt(f)?;
         rest = after;
     }
-    let mut first = true;
-    for part in rest.split("the file") {
-        if !first {
-            path.fmt(f)?;
-        }
+    let mut parts = rest.split("the file");
+    f.write_str(parts.next().unwrap_or(""))?;
+    for part in parts {
+        path.fmt(f)?;
         f.write_str(part)?;
-        first = false;
     }
     Ok(())
 }
