@@ -83,7 +83,7 @@ impl<'c, 'a> Case<'c, 'a> {
     /// Source: this project's profile.
     pub fn host_among_libraries(&self) -> Option<usize> {
         for file in 1..=self.inputs.libs.len() {
-            if self.inputs.file_type(file) == FileType::Code(CodeFile::Host) {
+            if matches!(self.inputs.file_type(file), FileType::Code(CodeFile::Host)) {
                 return Some(file);
             }
         }

@@ -2,7 +2,7 @@
 use ps_codefile::Dict;
 use ps_filetype::FileType;
 use ps_words::{Order, Reason};
-use std::fmt::{self, Formatter};
+use std::fmt::{self, Display, Formatter};
 
 /// What a file says of its byte order, or what it is where it is no code file. Its text is a phrase,
 /// as `little-endian`.
@@ -36,6 +36,6 @@ fn write_unordered<W: fmt::Write>(
     if reason == Reason::NoHost && file_type.is_code() {
         f.write_str("no byte order, since no segment has a kind")
     } else {
-        write!(f, "{file_type}")
+        file_type.fmt(f)
     }
 }

@@ -13,12 +13,11 @@ use ps_codefile::dictionary_layout::SLOTS;
 use ps_codefile::kinds::{HOSTSEG, LAST_INTRINSIC, LINKED, UNITSEG};
 use ps_codefile::{Dict, Entry, Role, is_nameless, open};
 use ps_words::{Name, Order, Reason, WORD_LEN, get};
-use std::fmt::{self, Formatter};
 
 /// What a code file is for, by the kinds of its segments.
 ///
 /// Source: this project's profile.
-#[derive(Clone, Copy, PartialEq, Eq)]
+#[derive(Clone, Copy)]
 pub enum CodeFile {
     /// It has a host program.
     Host,
@@ -28,12 +27,6 @@ pub enum CodeFile {
     Linked,
     /// It has linked segments and others, and no host program.
     Mixed,
-}
-
-impl fmt::Display for CodeFile {
-    fn fmt<W: fmt::Write>(&self, f: &mut Formatter<W>) -> fmt::Result {
-        f.write_str(self.word())
-    }
 }
 
 /// The slot wants a unit.
@@ -233,9 +226,12 @@ pub(crate) fn has_readable_code(bytes: &[u8]) -> bool {
     let Ok(dict) = open(bytes) else {
         return false;
     };
-    let has_code = (0..SLOTS).any(|slot| dict.is_whole(slot)
-        && is_readable(&dict.entry(slot).name));
-    has_code && is_code_file(&dict)
+    for slot in 0..SLOTS {
+        if dict.is_whole(slot) && is_readable(&dict.entry(slot).name) {
+            return is_code_file(&dict);
+        }
+    }
+    false
 }
 
 /// The word of a procedure is in the code.

@@ -13,7 +13,7 @@ use std::fmt::{self, Formatter};
 /// What a file is, as far as a few of its bytes say. Its text is a phrase, as `a gzip file`.
 ///
 /// Source: this project's profile.
-#[derive(Clone, Copy, PartialEq, Eq)]
+#[derive(Clone, Copy)]
 pub enum FileType {
     /// A code file.
     Code(CodeFile),
@@ -87,6 +87,10 @@ impl FileType {
             FileType::Elf => "an ELF file, of another system",
             FileType::AppleSingle => "an AppleSingle file",
             FileType::AppleDouble => "an AppleDouble file, which has no byte of the code file",
+            FileType::Later(Release::Three) => {
+                "a code file of release III.0, which is not supported"
+            }
+            FileType::Later(Release::Four) => "a code file of release IV.0, which is not supported",
             FileType::SystemText => "a text of a p-System",
             FileType::Text => "a text",
             FileType::Base64 => "a text in base64",
@@ -97,7 +101,6 @@ impl FileType {
             FileType::Empty => "an empty file",
             FileType::Code(_)
             | FileType::Header { .. }
-            | FileType::Later(_)
             | FileType::Disk { .. }
             | FileType::OneByte { .. }
             | FileType::Converted(_)
@@ -127,27 +130,27 @@ fn other_type(bytes: &[u8]) -> FileType {
     }
 }
 
+/// Writes the form of an image, and the name of its volume, if it has one.
+fn write_disk<W: fmt::Write>(
+    f: &mut Formatter<W>,
+    image: Image,
+    name: Option<Name>,
+) -> fmt::Result {
+    f.write_str(image.phrase())?;
+    match name {
+        Some(name) => write!(f, ", of the volume {}", ShownName(name)),
+        None => Ok(()),
+    }
+}
+
 impl fmt::Display for FileType {
     fn fmt<W: fmt::Write>(&self, f: &mut Formatter<W>) -> fmt::Result {
         match *self {
-            FileType::Code(code_file) => write!(f, "{code_file}"),
+            FileType::Code(code_file) => f.write_str(code_file.word()),
             FileType::Header { bytes } => {
                 write!(f, "a code file behind a header of {bytes} bytes")
             }
-            FileType::Later(release) => {
-                write!(
-                    f,
-                    "a code file of release {release}, which is not supported"
-                )
-            }
-            FileType::Disk { image, name: None } => write!(f, "{image}"),
-            FileType::Disk {
-                image,
-                name: Some(name),
-            } => {
-                let name = ShownName(name);
-                write!(f, "{image}, of the volume {name}")
-            }
+            FileType::Disk { image, name } => write_disk(f, image, name),
             FileType::OneByte { byte } => write!(f, "a file of the byte {byte:02X} alone"),
             FileType::Converted(line_ends) => {
                 write!(f, "a file whose line ends were converted: {line_ends}")

@@ -1,6 +1,5 @@
 //! Images of disks.
 use ps_words::{Name, Order, get};
-use std::fmt::{self, Formatter};
 
 /// Where the directory of a volume is: in block 2.
 const DIRECTORY: usize = 1024;
@@ -24,7 +23,7 @@ const VOLUME_NAME: usize = 6;
 /// The form of the image of a disk.
 ///
 /// Source: Apple II disk images as emulators keep them; DiskCopy 4.2 of Apple.
-#[derive(Clone, Copy, PartialEq, Eq)]
+#[derive(Clone, Copy)]
 pub enum Image {
     /// Its blocks follow one another.
     Blocks,
@@ -38,15 +37,16 @@ pub enum Image {
     Nibbles,
 }
 
-impl fmt::Display for Image {
-    fn fmt<W: fmt::Write>(&self, f: &mut Formatter<W>) -> fmt::Result {
-        f.write_str(match self {
+impl Image {
+    /// What a file of this form is.
+    pub(crate) fn phrase(self) -> &'static str {
+        match self {
             Image::Blocks => "a disk image",
             Image::DosOrder => "a disk image with its sectors in the order of DOS 3.3",
             Image::TwoImg => "a disk image behind a header of the form 2IMG",
             Image::DiskCopy => "a disk image behind a header of DiskCopy 4.2",
             Image::Nibbles => "a disk image of nibbles",
-        })
+        }
     }
 }
 

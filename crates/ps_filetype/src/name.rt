@@ -1,5 +1,6 @@
 //! Names as they are shown.
 ghost use Rattle.std.specs.Prelude.{◌≡◌, Some};
+ghost use Rattle.std.specs.Fmt.{WritesOnOk};
 ghost use Rattle.std.specs.List.{flat_map, list_all};
 ghost use Rattle.ps_filetype.specs.Shown.{is_printed as is_printed_spec, is_quoted as is_quoted_spec, quotes as quotes_spec, shown_byte, shown_name, trimmed as trimmed_spec};
 
@@ -20,21 +21,15 @@ fn is_printed(byte: u8) -> bool
     byte == b' ' || byte.is_ascii_graphic()
 }
 
-/// A byte of a name: as it is, or as `\x` and two digits.
-#[derive(Clone, Copy)]
-struct ShownByte(u8);
-
-impl fmt::Display for ShownByte {
-    ghost output = { λ byte. Some (shown_byte byte.0) };
-
-    #[tactic(auto, using(std::proofs::lemmas::Fmt::hex_byte))]
-    fn fmt<W: fmt::Write>(&self, f: &mut Formatter<W>) -> fmt::Result {
-        let byte = self.0;
-        if is_printed(byte) {
-            f.write_char(char::from(byte))
-        } else {
-            write!(f, "\\x{byte:02x}")
-        }
+/// Writes a byte of a name: as it is, or as `\x` and two digits.
+#[tactic(auto, using(std::proofs::lemmas::Fmt::hex_byte))]
+fn write_byte<W: fmt::Write>(f: &mut Formatter<W>, byte: u8) -> fmt::Result
+    ensures { WritesOnOk W.write_str_gives f.old result (shown_byte byte) f.new }
+{
+    if is_printed(byte) {
+        f.write_char(char::from(byte))
+    } else {
+        write!(f, "\\x{byte:02x}")
     }
 }
 
@@ -47,8 +42,7 @@ impl fmt::Display for ShownBytes<'_> {
 
     fn fmt<W: fmt::Write>(&self, f: &mut Formatter<W>) -> fmt::Result {
         for byte in self.0 {
-            let byte = ShownByte(*byte);
-            write!(f, "{byte}")?;
+            write_byte(f, *byte)?;
         }
         Ok(())
     }

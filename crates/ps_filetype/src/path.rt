@@ -46,17 +46,12 @@ fn has_hidden(path: &str) -> bool
     path.chars().any(is_hidden)
 }
 
-/// A hidden character by its number.
-#[derive(Clone, Copy)]
-struct Escape(char);
-
-impl fmt::Display for Escape {
-    ghost output = { λ c. Some (control_escape c.0) };
-
-    fn fmt<W: fmt::Write>(&self, f: &mut Formatter<W>) -> fmt::Result {
-        let code = self.0 as u32;
-        write!(f, "\\u{{{code:x}}}")
-    }
+/// Writes a hidden character by its number.
+fn write_escape<W: fmt::Write>(f: &mut Formatter<W>, c: char) -> fmt::Result
+    ensures { WritesOnOk W.write_str_gives f.old result (control_escape c) f.new }
+{
+    let code = c as u32;
+    write!(f, "\\u{{{code:x}}}")
 }
 
 /// The letter that stands for a character after a backslash.
@@ -74,39 +69,25 @@ fn escape_letter(c: char) -> Option<char>
     }
 }
 
-/// A character of a path in quotes that has no letter of its own.
-#[derive(Clone, Copy)]
-struct OtherChar(char);
-
-impl fmt::Display for OtherChar {
-    ghost output = { λ c. Some (other_char c.0) };
-
-    fn fmt<W: fmt::Write>(&self, f: &mut Formatter<W>) -> fmt::Result {
-        if is_hidden(self.0) {
-            let escape = Escape(self.0);
-            write!(f, "{escape}")
-        } else {
-            f.write_char(self.0)
-        }
+/// Writes a character of a path in quotes that has no letter of its own.
+fn write_other<W: fmt::Write>(f: &mut Formatter<W>, c: char) -> fmt::Result
+    ensures { WritesOnOk W.write_str_gives f.old result (other_char c) f.new }
+{
+    if is_hidden(c) {
+        write_escape(f, c)
+    } else {
+        f.write_char(c)
     }
 }
 
-/// A character of a path in quotes.
-#[derive(Clone, Copy)]
-struct QuotedChar(char);
-
-impl fmt::Display for QuotedChar {
-    ghost output = { λ c. Some (quoted_char c.0) };
-
-    #[tactic(auto, unfolding(crate::specs::Shown::quoted_char))]
-    fn fmt<W: fmt::Write>(&self, f: &mut Formatter<W>) -> fmt::Result {
-        match escape_letter(self.0) {
-            Some(letter) => write!(f, "\\{letter}"),
-            None => {
-                let other = OtherChar(self.0);
-                write!(f, "{other}")
-            }
-        }
+/// Writes a character of a path in quotes.
+#[tactic(auto, unfolding(crate::specs::Shown::quoted_char))]
+fn write_character<W: fmt::Write>(f: &mut Formatter<W>, c: char) -> fmt::Result
+    ensures { WritesOnOk W.write_str_gives f.old result (quoted_char c) f.new }
+{
+    match escape_letter(c) {
+        Some(letter) => write!(f, "\\{letter}"),
+        None => write_other(f, c),
     }
 }
 
@@ -116,8 +97,7 @@ fn write_quoted<W: fmt::Write>(f: &mut Formatter<W>, path: &str) -> fmt::Result
         f.new }
 {
     for c in path.chars() {
-        let c = QuotedChar(c);
-        write!(f, "{c}")?;
+        write_character(f, c)?;
     }
     Ok(())
 }

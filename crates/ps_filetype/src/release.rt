@@ -8,7 +8,6 @@ ghost use Rattle.ps_filetype.specs.CodeTypes.{has_version as has_version_spec, h
 use crate::code_file::are_letters;
 use ps_codefile::dictionary_layout::{PAIR, SLOTS};
 use ps_words::{BLOCK_SIZE, NAME_LEN, Order, WORD_LEN, get};
-use std::fmt::{self, Formatter};
 
 /// Where the names of the segments begin, in all releases.
 const NAMES: usize = 64;
@@ -35,21 +34,12 @@ const NUMBER: u16 = 256;
 /// A release whose code files are not those of II.0.
 ///
 /// Source: the segment dictionaries of UCSD Pascal III.0 and IV.0.
-#[derive(Clone, Copy, PartialEq, Eq)]
+#[derive(Clone, Copy)]
 pub enum Release {
     /// Release III.0.
     Three,
     /// Release IV.0, or one after it.
     Four,
-}
-
-impl fmt::Display for Release {
-    fn fmt<W: fmt::Write>(&self, f: &mut Formatter<W>) -> fmt::Result {
-        f.write_str(match self {
-            Release::Three => "III.0",
-            Release::Four => "IV.0",
-        })
-    }
 }
 
 /// The later release whose dictionary a file begins with.
@@ -159,7 +149,6 @@ fn has_segment(order: Order, block: &[u8]) -> bool
 
 /// Each segment has a name, a number and a version from `first` to `last`, each other slot has
 /// neither, and there is a segment.
-#[tactic(auto, unfolding(crate::specs::CodeTypes::has_versions))]
 fn has_versions(order: Order, block: &[u8], first: u16, last: u16) -> bool
     requires { 512 ≤ length block.now }
     ensures { result ≡ has_versions_spec order block.now first last }

@@ -47,12 +47,8 @@ impl Letters {
 
 /// A dump begins with the place of its first byte, and what ends that.
 fn is_dump(sample: &[u8]) -> bool {
-    match sample {
-        [b'0', b'0', b'0', b'0', b'0', b'0', b'0', rest @ ..] => {
-            matches!(rest, [b':' | b' ', ..] | [b'0', b':' | b' ', ..])
-        }
-        _ => false,
-    }
+    let end = sample.get(7..).unwrap_or(&[]);
+    sample.starts_with(b"0000000") && matches!(end, [b':' | b' ', ..] | [b'0', b':' | b' ', ..])
 }
 
 /// How many bytes above 7F a text may have, of each four.
@@ -82,18 +78,23 @@ fn is_utf_16(sample: &[u8]) -> bool {
 
 /// The text begins with a record of S-records: S, a digit, and digits in pairs.
 fn is_s_record(sample: &[u8]) -> bool {
-    match sample {
-        [b'S', b'0'..=b'9', rest @ ..] => {
-            let digits = rest.get(..8).unwrap_or(rest);
-            digits.len() == 8 && digits.iter().all(|byte| byte.is_ascii_hexdigit())
+    let Some([b'S', b'0'..=b'9', digits @ ..]) = sample.get(..10) else {
+        return false;
+    };
+    for digit in digits {
+        if !digit.is_ascii_hexdigit() {
+            return false;
         }
-        _ => false,
     }
+    true
 }
 
 /// Most bytes of a text are ASCII.
 fn is_foreign(sample: &[u8]) -> bool {
-    let high = sample.iter().filter(|byte| !byte.is_ascii()).count();
+    let mut high = 0usize;
+    for byte in sample {
+        high = high.saturating_add(usize::from(!byte.is_ascii()));
+    }
     sample.len() / 4 * FOREIGN < high
 }
 

@@ -108,31 +108,19 @@ pub fn check<'a, A: Allocator + Copy>(
     first_of_all();
     let verdict = verdict_of(alloc, host, libs)?;
     let findings = findings_of(alloc, host_path, paths, host, libs, verdict)?;
-    let Findings {
-        overview,
-        name,
-        explanation,
-        looks,
-    } = findings;
+    let lists = lists_without_host(alloc, verdict, host_path, paths, host, libs)?;
+    let parts = Sections {
+        overview: findings.overview.as_str(),
+        explanation: findings.explanation.as_str(),
+        lists: lists.as_str(),
+    };
+    let text = text_of(alloc, verdict, parts, &findings.looks)?;
+    let Findings { name, looks, .. } = findings;
     let Looks {
         warnings,
         harmless,
         notes,
     } = looks;
-    let lists = lists_without_host(alloc, verdict, host_path, paths, host, libs)?;
-    let parts = Sections {
-        overview: overview.as_str(),
-        explanation: explanation.as_str(),
-        lists: lists.as_str(),
-    };
-    let mut text = with_verdict(alloc, verdict, parts)?;
-    add_looks(
-        alloc,
-        &mut text,
-        warnings.as_slice(),
-        harmless.as_slice(),
-        notes.as_slice(),
-    )?;
     Ok(Report {
         verdict,
         name,
@@ -184,6 +172,34 @@ fn add_verdict<A: Allocator>(text: &mut String<A>, verdict: Verdict) -> Result<(
         (string_bytes text.new)) }
 {
     push_verdict(text, verdict)
+}
+
+/// The text of a report: its sections with the line of the verdict, and then what looks wrong.
+fn text_of<A: Allocator + Copy>(
+    alloc: A,
+    verdict: Verdict,
+    parts: Sections<'_>,
+    looks: &Looks<'_, A>,
+) -> Result<String<A>, AllocError>
+    ensures parts { IfOk result (λ text. (before after : List ℕ)
+        × (string_bytes text ≡ (before ++ (codes "\n" ++ verdict_line verdict)
+        ++ other_lines parts.entry.explanation.now ++ other_lines parts.entry.lists.now)
+        ++ after)) }
+    ensures counted { IfOk result (λ text. warnings_in (string_bytes text)
+        ≡ vec_len looks.now.warnings) }
+    ensures lines { IfOk result (λ text. parts.entry.explanation.now ≡ []
+        → parts.entry.lists.now ≡ []
+        → AddsSlotLines [] (slot_lines parts.entry.overview.now) (string_bytes text)) }
+{
+    let mut text = with_verdict(alloc, verdict, parts)?;
+    add_looks(
+        alloc,
+        &mut text,
+        looks.warnings.as_slice(),
+        looks.harmless.as_slice(),
+        looks.notes.as_slice(),
+    )?;
+    Ok(text)
 }
 
 /// The line of the verdict between what is before it and after it, in which no line begins as that of

@@ -9,7 +9,7 @@ use crate::weight::Weight;
 use ps_filetype::{FileType, LineEnds, ShownName, ShownPath};
 use ps_pcode::{CodeLook, Guess, ProcedureLook};
 use ps_words::{Name, Reason};
-use std::fmt::{self, Formatter};
+use std::fmt::{self, Display, Formatter};
 
 /// How a name is odd.
 ///
@@ -404,15 +404,15 @@ impl Look {
 impl fmt::Display for Look {
     fn fmt<W: fmt::Write>(&self, f: &mut Formatter<W>) -> fmt::Result {
         match *self {
-            Look::Entry(look) => write!(f, "{look}"),
-            Look::Record(look) => write!(f, "{look}"),
-            Look::Link(look) => write!(f, "{look}"),
-            Look::Other(OtherLook::File(look)) => write!(f, "{look}"),
-            Look::Other(OtherLook::Dictionary(look)) => write!(f, "{look}"),
-            Look::Other(OtherLook::Segment(look)) => write!(f, "{look}"),
-            Look::Other(OtherLook::Code(look)) => write!(f, "{look}"),
-            Look::Other(OtherLook::Procedure(look)) => write!(f, "{look}"),
-            Look::Other(OtherLook::Guess(guess)) => write!(f, "{guess}"),
+            Look::Entry(look) => look.fmt(f),
+            Look::Record(look) => look.fmt(f),
+            Look::Link(look) => look.fmt(f),
+            Look::Other(OtherLook::File(look)) => look.fmt(f),
+            Look::Other(OtherLook::Dictionary(look)) => look.fmt(f),
+            Look::Other(OtherLook::Segment(look)) => look.fmt(f),
+            Look::Other(OtherLook::Code(look)) => look.fmt(f),
+            Look::Other(OtherLook::Procedure(look)) => look.fmt(f),
+            Look::Other(OtherLook::Guess(guess)) => guess.fmt(f),
         }
     }
 }

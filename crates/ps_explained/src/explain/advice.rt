@@ -7,7 +7,7 @@ use ps_filetype::{FileType, Remedy, ShownPath, is_swapped};
 use ps_pcode::dead_look;
 use ps_warnings::Inputs;
 use ps_words::Reason;
-use std::fmt::{self, Formatter};
+use std::fmt::{self, Display, Formatter};
 
 /// What is wrong.
 pub(super) fn wrong_in(case: &Case<'_, '_>) -> &'static str {
@@ -76,7 +76,7 @@ impl fmt::Display for Advice<'_> {
     fn fmt<W: fmt::Write>(&self, f: &mut Formatter<W>) -> fmt::Result {
         match *self {
             Advice::Sentence { text, path } => write_of_file(f, text, path),
-            Advice::OfType(remedy) => write!(f, "{remedy}"),
+            Advice::OfType(remedy) => remedy.fmt(f),
             Advice::Exchange { host, library } => {
                 let host = ShownPath(host);
                 let library = ShownPath(library);
@@ -94,16 +94,14 @@ fn write_of_file<W: fmt::Write>(f: &mut Formatter<W>, text: &str, path: &str) ->
     let path = ShownPath(path);
     let mut rest = text;
     if let Some(after) = text.strip_prefix("The file") {
-        write!(f, "{path}")?;
+        path.fmt(f)?;
         rest = after;
     }
-    let mut first = true;
-    for part in rest.split("the file") {
-        if !first {
-            write!(f, "{path}")?;
-        }
+    let mut parts = rest.split("the file");
+    f.write_str(parts.next().unwrap_or(""))?;
+    for part in parts {
+        path.fmt(f)?;
         f.write_str(part)?;
-        first = false;
     }
     Ok(())
 }

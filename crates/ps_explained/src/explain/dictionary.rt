@@ -9,7 +9,7 @@ use ps_codefile::kinds::{
 use ps_filetype::{CodeFile, FileType, ShownName};
 use ps_warnings::is_near;
 use ps_words::Name;
-use std::fmt::{self, Formatter, Write};
+use std::fmt::{self, Display, Formatter, Write};
 
 /// Of so many libraries a report says what units they have.
 const MOST_LIBRARIES: usize = 16;
@@ -118,7 +118,7 @@ fn write_names<W: Write>(f: &mut Formatter<W>, dict: &Dict<'_>, wanted: &Name) -
 fn write_name<W: Write>(f: &mut Formatter<W>, name: &Name, wanted: &Name) -> fmt::Result {
     let shown = ShownName(*name);
     if !is_near(name, wanted) {
-        return write!(f, "{shown}");
+        return shown.fmt(f);
     }
     let other = ShownName(*wanted);
     write!(
