@@ -381,17 +381,11 @@ fn later_entries(inputs: &Inputs<'_>, name: &Name, used: usize) -> Option<(usize
     if used == 0 {
         return None;
     }
-    let (mut first, mut more) = (None, 0usize);
-    for file in used.saturating_add(1)..=inputs.libs.len() {
-        if let Some(entry) = entry_in(inputs, name, file) {
-            match first {
-                None => first = Some((file, entry)),
-                Some(_) => more = more.saturating_add(1),
-            }
-        }
-    }
-    let (file, entry) = first?;
-    Some((file, entry, More(more)))
+    let mut later = (used..=inputs.libs.len())
+        .skip(1)
+        .filter_map(|file| Some((file, entry_in(inputs, name, file)?)));
+    let (file, entry) = later.next()?;
+    Some((file, entry, More(later.count())))
 }
 
 /// The first entry of a library that is filled and has this name.
@@ -458,28 +452,15 @@ fn add_unused<A: Allocator>(
     inputs: &Inputs<'_>,
     list: &[ReadSegment<'_>],
 ) -> Result<(), AllocError> {
-    let (mut first, mut more) = (None, 0usize);
-    for file in 1..=inputs.libs.len() {
-        if !is_used(list, file) {
-            match first {
-                None => first = Some(file),
-                Some(_) => more = more.saturating_add(1),
-            }
-        }
-    }
-    let Some(file) = first else {
+    let mut unused = (1..=inputs.libs.len()).filter(|file| !is_used(list, *file));
+    let Some(file) = unused.next() else {
         return Ok(());
     };
-    let (path, more) = (inputs.shown(file), More(more));
+    let (path, more) = (inputs.shown(file), More(unused.count()));
     writeln!(text, "nothing is taken from file {file} {path}{more}")
 }
 
 /// Some segment comes from the file.
 fn is_used(list: &[ReadSegment<'_>], file: usize) -> bool {
-    for segment in list {
-        if matches!(segment.source, Some((at, _)) if at.file == file) {
-            return true;
-        }
-    }
-    false
+    list.iter().any(|segment| segment.source.is_some_and(|source| source.0.file == file))
 }

@@ -91,10 +91,7 @@ fn is_s_record(sample: &[u8]) -> bool {
 
 /// Most bytes of a text are ASCII.
 fn is_foreign(sample: &[u8]) -> bool {
-    let mut high = 0usize;
-    for byte in sample {
-        high = high.saturating_add(usize::from(!byte.is_ascii()));
-    }
+    let high = sample.iter().filter(|byte| !byte.is_ascii()).count();
     sample.len() / 4 * FOREIGN < high
 }
 

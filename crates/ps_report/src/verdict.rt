@@ -13,7 +13,7 @@ use std::fmt::{self, Formatter};
 ///
 /// Its text is one line: `links: ` and the summary, or the line of the refusal.
 /// Source: this project's profile.
-#[derive(Clone, Copy)]
+#[derive(Clone, Copy, Debug, PartialEq, Eq)]
 pub enum Verdict {
     /// The files are linked, and their linked file has so much.
     Links(Summary),
