@@ -1,8 +1,8 @@
 -- Files that are read alike link to the same bytes, or have the same first fault.
 use Rattle.ps_codefile.specs.declared.entry.Role.TheVariants as role
 use Rattle.ps_words.specs.declared.fault.Reason.TheVariants as reason
-use Rattle.ps_relied.proofs.Vocabulary.{AreChosenAlike, AreFilesAlike, AreMoved, AreReadAlike, AreSameSegments, SLOTS, Bool, Both, Change, Fault, HasSameCode, HasSameRecords, IsFound, IsReadAlike, List, None, Ok, Option, Order, Reason, Result, Role, Some, [], and_left, ap, arith, both, bytes_eq, chosen_file, chosen_library, clipped, entries_reason, entry_at, enumerate_from, false, fault_if, file_at, find, find_in, find_passes, first_fault, first_of, has_entry, host_fault, if◌then◌else◌, in_file, in_slot, in_slots, information_block, is_host, is_in_place, is_named, is_unit, kind_is, libraries_fault, library_fault, library_file, linking_fault, linking_moved, list_any, map, name_at, needs_linking, neither, no_host_fault, not, of_any_file, option_and_then, option_map, option_map_or, option_or, or_none, order_of, range_with_len, reading_fault, reading_rest, refiled, refl, renewed, rest_moved, result_err, result_ok, role_of, same_clipped, segments, segments_moved, segments_of, slots, slots_fault, sym, true, ℕ, ◌&&◌, ◌+◌, ◌<◌, ◌==◌, ◌∙◌, ◌∷◌, ◌≡◌, ◌≢◌}
-use Rattle.ps_codefile.specs.Dictionary.{is_filled}
+use Rattle.ps_relied.proofs.Vocabulary.{AreFilesAlike, AreReadAlike, AreSameSegments, Bool, Both, Fault, HasSameCode, HasSameRecords, IsReadAlike, List, None, Ok, Option, Order, Reason, Result, Role, SLOTS, Some, [], and_left, ap, arith, both, both_none, bytes_eq, chosen_file, chosen_library, clipped, entries_reason, entry_at, enumerate_from, false, fault_if, file_at, find, find_in, find_passes, first_fault, first_of, has_entry, host_fault, if◌then◌else◌, in_file, in_slot, in_slots, information_block, is_filled, is_host, is_in_place, is_named, is_unit, kind_is, libraries_fault, library_fault, library_file, linking_fault, list_any, map, name_at, needs_linking, neither, no_host_fault, not, option_and_then, option_map, option_map_or, option_or, order_of, range_with_len, reading_fault, reading_rest, refl, result_err, result_ok, role_of, same_clipped, segments, segments_of, slots, slots_fault, sym, true, ℕ, ◌&&◌, ◌+◌, ◌<◌, ◌==◌, ◌∙◌, ◌∷◌, ◌≡◌, ◌≢◌}
+use Rattle.ps_relied.proofs.SameSearches.{AreChosenAlike, AreMoved, Change, IsFound, linking_moved, refiled, renewed, rest_moved, segments_moved}
 use Rattle.ps_relied.proofs.SameFile.{same_renewed}
 
 -- 1. what is looked up in the entries of two libraries that are read alike
@@ -25,8 +25,9 @@ module _ (order : Order) (file other : List ℕ) (like : IsReadAlike order file 
   -- an entry that is found is filled
   filled_at : (i : ℕ) → find (is_named order name file) slots ≡ Some i
       → (i < SLOTS) × (is_filled (entry_at order file i) ≡ true)
-  filled_at i e = (in_slots i (find_in (is_named order name file) slots i e),
-      and_left _ _ (find_passes (is_named order name file) slots i e))
+  filled_at i e = let at = find_in (is_named order name file) slots i e in
+      let passes = find_passes (is_named order name file) slots i e in
+      (in_slots i at, and_left _ _ passes)
 
   same_reasons : entries_reason order name other ≡ entries_reason order name file
   same_reasons = λ j. if list_any (λ i. named j i
@@ -171,15 +172,15 @@ module _ (host other : List ℕ) (libs others : List (List ℕ))
   segs : reading_fault host libs ≡ None
       → segments order other others ≡ map (renewed change) (segments order host libs)
   unfolding reading_fault
-  segs none = segments_moved change all (grind (arith, or_none))
+  segs none = segments_moved change all (grind (arith, both_none))
 
   reading : option_or (host_fault other) (option_or (slots_fault order other)
       (option_or (no_host_fault order other) (option_or (libraries_fault order others)
       (reading_rest order other others)))) ≡ reading_fault host libs
   unfolding reading_fault libraries_fault
-  reading = rw (← alike.opened, same_slots, same_no_host,
-    (same_libraries order [] 1 libs others alike.libraries).0, rest_moved change all,
-    same_faults (reading_rest order host libs)) refl
+  reading = let none = (same_libraries order [] 1 libs others alike.libraries).0 in
+      let rest = rest_moved change all ∙ same_faults (reading_rest order host libs) in
+      rw (← alike.opened, same_slots, same_no_host, none, rest) refl
 
   pub first_same : first_fault other others ≡ first_fault host libs
   unfolding first_fault reading_fault
@@ -191,4 +192,4 @@ module _ (host other : List ℕ) (libs others : List (List ℕ))
       → AreSameSegments (segments_of host libs) (segments_of other others)
   unfolding first_fault
   segments_same none = rw (← alike.heads.order) (same_renewed change (segments order host libs)
-      (segments order other others) (segs (or_none (reading_fault host libs) _ none).0))
+      (segments order other others) (segs (both_none (reading_fault host libs) _ none).0))

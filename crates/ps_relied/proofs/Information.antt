@@ -1,5 +1,5 @@
 -- Link information is read up to its end mark.
-use Rattle.ps_relied.proofs.Vocabulary.{AreSpelled, Body, IsBody, List, None, Order, Record, Spells, [], arith, drop, drop-append-le, get_or_append_left, length, length-append, map, range_with_len, reading, refl, refs_at, refs_of, size_of, suc, sym, take-append-le, word_at, zero, ℕ, ◌*◌, ◌++◌, ◌+◌, ◌/◌, ◌<◌, ◌↔◌, ◌∙◌, ◌∷◌, ◌≡◌, ◌≤◌}
+use Rattle.ps_relied.proofs.Vocabulary.{AreSpelled, Body, IsBody, List, None, Order, Record, Spells, [], arith, drop, drop-append-le, get_or_append_left, length, length-append, map, range_with_len, reading, refl, refs_of, size_of, suc, sym, take-append-le, word_at, zero, ℕ, ◌*◌, ◌++◌, ◌+◌, ◌/◌, ◌<◌, ◌↔◌, ◌∙◌, ◌∷◌, ◌≡◌, ◌≤◌}
 use Rattle.ps_linkinfo.proofs.ReferenceWords.{refs_len}
 
 -- the law of link information

@@ -1,6 +1,7 @@
 -- Links whose libraries stand elsewhere, or one of which is left out.
 use Rattle.ps_codefile.specs.declared.entry.Role.TheVariants as role
-use Rattle.ps_relied.proofs.Vocabulary.{UnitReference, name_placed, queue_of, slice_get, subst, All, AreChosenAlike, AreMoved, AreSameSegments, Bool, Both, Change, Fits, HaveNoNameInCommon, In, IsFound, List, None, Ok, Option, Order, Reason, Result, Role, Segment, Some, [], added_at, added_segments, ap, arith, both, chosen_library, each_added, empty_slot, entry_at, enumerate_from, exchanged, false, find, first_fault, first_of, found_added, has, has_entry, has_own, in_file, in_segments, inl, inr, is_some, length, libraries_fault, library_file, library_reason, linking_moved, list_any, list_any-append, map, name_at, nat_tests, neither, of_all, option_map, option_or, or_none, order_of, own_made, reading_fault, refl, renumbered, rest_moved, result_ok, role_of, rounds, rounds_fine, same_Some, segments_moved, segments_of, some_mapped, source_of, sources_fine, sym, true, unit_source, without, ℕ, ◌++◌, ◌+◌, ◌<◌, ◌∙◌, ◌∷◌, ◌≡◌, ◌≢◌, ◌≤◌, SLOTS}
+use Rattle.ps_relied.proofs.Vocabulary.{All, AreSameSegments, Bool, Both, HaveNoNameInCommon, In, List, None, Ok, Option, Order, Reason, Result, Role, SLOTS, Segment, Some, UnitReference, [], added_at, ap, arith, both, both_none, chosen_library, empty_slot, entry_at, enumerate_from, exchanged, false, find, first_fault, first_of, found_added, has, has_entry, has_own, in_file, in_segments, is_some, length, libraries_fault, library_file, library_reason, list_any, list_any-append, map, name_at, name_placed, nat_tests, neither, of_all, option_map, option_or, order_of, own_made, queue_of, reading_fault, refl, renumbered, result_ok, role_of, rounds_fine, same_Some, segments_of, slice_get, some_mapped, source_of, sources_fine, subst, sym, true, unit_source, without, ℕ, ◌++◌, ◌+◌, ◌<◌, ◌∙◌, ◌∷◌, ◌≡◌, ◌≢◌, ◌≤◌}
+use Rattle.ps_relied.proofs.SameSearches.{AreChosenAlike, AreMoved, Change, IsFound, linking_moved, rest_moved, segments_moved}
 use Rattle.ps_relied.proofs.SameFile.{same_renewed}
 
 -- 1. libraries by their numbers
@@ -101,7 +102,7 @@ module _ (host : List ℕ) (libs others : List (List ℕ)) (number place : ℕ �
 
   read : reading_fault host libs ≡ None
   unfolding first_fault
-  read = (or_none (reading_fault host libs) _ none).0
+  read = (both_none (reading_fault host libs) _ none).0
 
   of_slots : (slot : ℕ) → slot < SLOTS → role_of (entry_at order host slot) ≡ Ok role.Wanted
       → IsFound change (name_at host slot)
@@ -137,11 +138,11 @@ module _ (host : List ℕ) (libs others : List (List ℕ)) (number place : ℕ �
       let was = are_opened (library_reason order) 1 libs in
       let now = are_opened (library_reason order) 1 others in
       let fine = opened (λ lib. is_some (library_reason order lib)) in
-      let same = segments_moved change moved (grind (arith, or_none)) in
+      let same = segments_moved change moved (grind (arith, both_none)) in
       let rest = rest_moved change moved in
       let linking = linking_moved change (segments_of host libs) in
       record {
-        fine = grind (arith, or_none);
+        fine = grind (arith, both_none);
         same = same_renewed change (segments_of host libs) (segments_of host others) same;
         segments = same;
       }
@@ -159,8 +160,9 @@ module _ (host : List ℕ) (before after : List (List ℕ)) (lib next : List ℕ
       (before ++ (next ∷ lib ∷ after)) (exchanged (library_file spot)) (exchanged spot)
       (grind (arith, nat_tests)) (λ k. grind (arith, nat_tests)) none
       (λ test t. grind (arith, list_any-append test))
-      (λ name s t source. swapped (has_entry (order_of host) name) 0 spot before after lib next
-      (omega arith) (λ p q. apart name ((has (order_of host) name lib).0 p) ((has (order_of host) name next).0 q)))
+      (λ name s t source. let is_there = has (order_of host) name in
+      swapped (has_entry (order_of host) name) 0 spot before after lib next (omega arith)
+      (λ p q. apart name ((is_there lib).0 p) ((is_there next).0 q)))
 
   -- 4. a library is left out
   pub left_out : first_fault host (before ++ (lib ∷ after)) ≡ None
@@ -171,8 +173,8 @@ module _ (host : List ℕ) (before after : List (List ℕ)) (lib next : List ℕ
       (without (library_file spot)) (without spot)
       (grind (arith, nat_tests)) (λ k. grind (arith, nat_tests)) none
       (λ test t. grind (arith, list_any-append test))
-      (λ name s t source. left (has_entry (order_of host) name) 0 spot before after lib (omega arith)
-      (λ e. of_all
-      (λ (q : Segment). q.file ≢ library_file spot) (segments_of host (before ++ (lib ∷ after)))
-      gives t.0 s t.1 (λ j. ((some_mapped {X = ℕ} {Y = ℕ × ℕ} (λ i. (library_file spot, i)) _
+      (λ name s t source. left (has_entry (order_of host) name) 0 spot before after lib
+      (omega arith) (λ e. of_all (λ (q : Segment). q.file ≢ library_file spot)
+      (segments_of host (before ++ (lib ∷ after))) gives t.0 s t.1
+      (λ j. ((some_mapped {X = ℕ} {Y = ℕ × ℕ} (λ i. (library_file spot, i)) _
       (s.file, s.index) (rw e at source)).2 j).0)))

@@ -1,8 +1,7 @@
 -- Links with the same segments make the same file, from whichever files they come.
-use Rattle.ps_relied.proofs.Vocabulary.{AreSameSegments, Change, HaveSameHeads, Known, List, Order, Segment, [], all_blocks, ap, arith, blocks, edited_from, edited_segments, filter, find, find_mapped, flat_map, host_records, known_moved, known_of, length, linked_file, map, map-map, SLOTS, name_at, nat_lt, next_of, of_any_file, option_map_or, order_of, padded_segment, pair_of, private_words, refl, renewed, replicate, same_clipped, segments_of, slots, sym, total_words, ℕ, ◌++◌, ◌+◌, ◌<◌, ◌==◌, ◌∙◌, ◌∷◌, ◌≡◌}
-use Rattle.ps_codefile.specs.Dictionary.{tail_of}
+use Rattle.ps_relied.proofs.Vocabulary.{AreSameSegments, HaveSameHeads, Known, List, Order, SLOTS, Segment, [], ap, arith, blocks, edited_from, edited_segments, filter, find, find_mapped, flat_map, host_records, known_moved, known_of, length, linked_file, map, map-map, name_at, nat_lt, next_of, of_any_file, option_map_or, order_of, padded_segment, pair_of, private_words, refl, replicate, same_clipped, segments_of, slot_name, slot_names, slots, sym, tail_of, total_words, ℕ, ◌++◌, ◌+◌, ◌<◌, ◌==◌, ◌∙◌, ◌∷◌, ◌≡◌}
+use Rattle.ps_relied.proofs.SameSearches.{Change, renewed}
 use Rattle.ps_linkfile.specs.LinkedFile.{all_pairs, dictionary}
-use Rattle.ps_resolve.specs.Added.{slot_name, slot_names}
 use Rattle.ps_resolve.specs.Linking.{segment_edits}
 use Rattle.std.specs.List.{fold}
 

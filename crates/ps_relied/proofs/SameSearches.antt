@@ -1,28 +1,16 @@
 -- Links of two hosts and their libraries in which each search finds what is read the same, where
 -- the number of each file may be another, and the block in which link information begins.
-use Rattle.ps_laws.proofs.Vocabulary.{append_assoc, length-append, IsTurn, all_rounds, segments_before, round_fault, own_units, queue_of, ap, append-nil, take, All, Bool, Err, Fault, Known, List, None, Ok, Option, Order, Reason, Record, Request, Result, Role, RoundsOutcome, Segment, Some, UnitReference, [], added_segments, after, all_unit_references, arith, bytes_eq, chosen_library, code_fault, code_of, entry_at, false, fault_if, file_at, filter, find, first_private_fault, grown_data_size, host_of, host_records, if◌then◌else◌, in_record, in_slot, information_block, information_of, inl, inr, is_empty, is_host, is_missing, is_named, is_nameless, is_none, is_role, known_of, length, library_file, map, nat_lt, needs_linking, next_of, none_at, none_mapped, option_and_then, option_map, option_map_or, option_or, own_segment, owner_of, private_words, range_with_len, reading, refl, request_by_slot, request_fault, request_of, request_parts, requested_from, result_ok, role_fault, role_of, slice_get, slice_get-map, slots, source_made, source_of, subst, sym, table_of, tables_fault, total_words, true, unit_references, unit_source, unit_there, units_of, ℕ, ◌++◌, ◌+◌, ◌<◌, ◌==◌, ◌||◌, ◌∙◌, ◌∷◌, ◌≡◌, ◌≢◌, ◌⊎◌, SLOTS, FIRST_ADDED, MAX_ADDED}
-use Rattle.ps_relied.proofs.ChangedLists.{drop_at, Both, all_mapped, any_mapped, both, find_mapped, first_mapped, in_slots, neither, or_moved, same_clipped}
-use Rattle.ps_relied.proofs.ChangedLists.{known_moved}
+use Rattle.ps_relied.proofs.Vocabulary.{Bool, Both, Err, FIRST_ADDED, Fault, IsTurn, Known, List, MAX_ADDED, None, Ok, Option, Order, Reason, Record, Request, Result, Role, RoundsOutcome, SLOTS, Segment, Some, UnitReference, [], added_at, added_segment, added_segments, after, all_mapped, all_rounds, all_unit_references, any_mapped, ap, append-nil, append_assoc, arith, at_left, both, bytes_eq, chosen_file, chosen_library, code_fault, code_of, data_fault, definitions_fault, drop, drop_at, empty_slots, entries_reason, entry_at, false, file_at, filter, find, find_mapped, first_mapped, first_private_fault, host_records, if◌then◌else◌, in_record, in_slot, in_slots, information_block, information_of, is_empty, is_host, is_named, is_nameless, is_none, is_role, known_moved, known_of, length, length-append, library_file, linking_fault, map, map-append, name_at, needs_linking, neither, next_of, none_at, option_and_then, option_map, option_map_or, option_or, or_moved, own_segment, own_units, owner_of, placed_fault, private_words, privates_fault, queue_of, range_with_len, reading, reading_rest, references_fault, references_fault_from, refl, request_by_slot, request_fault, request_of, requested_from, requested_units, result_ok, role_fault, role_of, round_fault, rounds, rounds_from, same_clipped, segment_at, segments, segments_before, slice_get, slice_get-map, slots, source_fault, source_of, sources_fault, sym, tables_fault, take, true, unit_references, unit_source, units_of, unplaced_fault, ℕ, ◌++◌, ◌+◌, ◌<◌, ◌==◌, ◌||◌, ◌∙◌, ◌∷◌, ◌≡◌, ◌≢◌}
 use Rattle.ps_codefile.specs.declared.entry.Role.TheVariants as role
-use Rattle.std.proofs.Math.ListN.{drop}
 use Rattle.ps_reading.specs.declared.locations.RecordAt.{RecordAt}
 use Rattle.ps_words.specs.declared.fault.Reason.TheVariants as reason
-use Rattle.ps_codefile.specs.Dictionary.{name_at}
-use Rattle.ps_resolve.proofs.Items.{at_left}
 use Rattle.ps_reading.proofs.KnownNames.{grown}
 use Rattle.ps_reading.proofs.RequestQueue.{no_name_left, no_slot_left, round_adds, round_refused}
 use Rattle.ps_resolve.proofs.EachRound.{requested_rest}
-use Rattle.ps_resolve.proofs.ReadingLibraries.{chosen_file}
-use Rattle.ps_resolve.specs.Added.{added_at, added_segment, as_added, empty_slots, placed_fault, requested_units, rounds, rounds_from, segment_at, segments, unplaced_fault}
-use Rattle.ps_resolve.specs.AllFaults.{reading_rest}
-use Rattle.ps_resolve.specs.Faults.{data_fault, definitions_fault, entries_reason, linking_fault, privates_fault, references_fault, references_fault_from, source_fault, sources_fault}
 use Rattle.ps_resolve.specs.Requests.{missing_at}
 use Rattle.ps_resolve.specs.Sources.{own_segments, segment_from, segment_with}
-use Rattle.ps_resolve.specs.declared.edits.data_size.TheConstants.{MAX_DATA_SIZE}
 use Rattle.ps_reading.specs.declared.reading.request.Requester.{Requester}
 use Rattle.ps_reading.specs.declared.reading.request.Requester.TheVariants.{Slot}
-use Rattle.std.proofs.lemmas.List.{map-append}
-use Rattle.std.proofs.lemmas.List.Elements.{All-head, All-tail}
 
 -- two links, for each file of the first its number in the second, and the block in which the link
 -- information of a segment begins there
@@ -80,8 +68,14 @@ module _ (c : Change) where
   linking_moved segs =
       let known = known_moved renewed segs in
       let later = linking_from (known_of segs) (next_of (host_records segs)) segs in
-      rw (known.0, known.1, known.2, find_mapped (λ (s : Segment). is_host s.role) renewed segs,
-        later.0, later.1)
+      rw (
+        known.0,
+        known.1,
+        known.2,
+        find_mapped (λ (s : Segment). is_host s.role) renewed segs,
+        later.0,
+        later.1,
+      )
       (grind (arith, c.same_host))
 
   -- 2. the queue of the names that are requested
@@ -211,13 +205,12 @@ module _ (c : Change) where
           → chosen_library c.order q.name c.others ≡ p → Both (AreChosenAlike q.name) o p
           → IsMoved q by
       go o p e f neither = rw (e, f) (grind (arith, missing), λ n. refl)
-      go o p e f (both a b t) = rw (e, f, t.reasons, t.index)
-          (parts_moved _ _ _ _ _ _ _ _ _ _ _ _ missing t.file (λ i at fine.
-          made q.slot q.name role.Wanted (library_file a.0) (library_file b.0) i t.file
-          (rw (
-            chosen_file c.order q.name c.libs a.0 a.1 c.host e,
-            chosen_file c.order q.name c.others b.0 b.1 c.other f,
-          ) (t.source i at fine))))
+      go o p e f (both a b t) =
+          let was = chosen_file c.order q.name c.libs a.0 a.1 c.host e in
+          let now = chosen_file c.order q.name c.others b.0 b.1 c.other f in
+          rw (e, f, t.reasons, t.index) (parts_moved _ _ _ _ _ _ _ _ _ _ _ _ missing t.file
+          (λ i at fine. made q.slot q.name role.Wanted (library_file a.0) (library_file b.0) i t.file
+          (rw (was, now) (t.source i at fine))))
 
   -- a name that takes a slot, or for which none is left
   placed : (g : UnitReference) (slot : ℕ) → IsFound g.name
@@ -281,23 +274,18 @@ module _ (c : Change) where
             → round_fault c.order c.host c.libs g slot ≡ Some f
             → Follows k (record { added = []; fault = Some f })
         stops prefix k g None f turn e =
-            let found = of_round prefix [] k g None turn in
-            rw (
-              segments_before c.order c.host c.libs prefix [] k turn.all turn.many,
-              drop_at (empty_slots c.order c.host) k,
-              turn.slot_is,
-            ) (no_slot_left c.order c.other c.others units k (map given_from (asked prefix))
-            (given_from g) (named prefix k (Some g) turn.name)
-            ∙ (λ i. ended (Some (unplaced g found i))) ∙ (λ i. ended (refiled (e i))))
+            let before = segments_before c.order c.host c.libs prefix [] k turn.all turn.many in
+            let left = drop_at (empty_slots c.order c.host) k in
+            let name = named prefix k (Some g) turn.name in
+            let fault = unplaced g (of_round prefix [] k g None turn) in
+            let ends = no_slot_left c.order c.other c.others units k (map given_from (asked prefix))
+            (given_from g) name in grind (arith, turn.slot_is)
         stops prefix k g (Some slot) f turn e =
-            let found = of_round prefix [] k g (Some slot) turn in
-            rw (
-              segments_before c.order c.host c.libs prefix [] k turn.all turn.many,
-              drop_at (empty_slots c.order c.host) k,
-              turn.slot_is,
-            ) (round_refused c.order c.other c.others units k (map given_from (asked prefix))
-            slot _ (given_from g) (refile f) (named prefix k (Some g) turn.name)
-            ((placed g slot found).0 ∙ ap refiled e))
+            let before = segments_before c.order c.host c.libs prefix [] k turn.all turn.many in
+            let left = drop_at (empty_slots c.order c.host) k in
+            let name = named prefix k (Some g) turn.name in
+            let fault = (placed g slot (of_round prefix [] k g (Some slot) turn)).0 in
+            grind (arith, turn.slot_is, round_refused)
 
         goes : (prefix : List Segment) (k : ℕ) (g : UnitReference) (slot : ℕ) (s : Segment)
             (rest : RoundsOutcome)
@@ -307,25 +295,21 @@ module _ (c : Change) where
         goes prefix k g slot s rest turn none there later =
             let m = placed g slot (of_round prefix (s ∷ rest.added) k g (Some slot) turn) in
             let refs = unit_references s.file s.slot 0 s.records in
+            let before = segments_before c.order c.host c.libs prefix (s ∷ rest.added) k turn.all
+            turn.many in
             let next = segments_before c.order c.host c.libs (prefix ++ s ∷ []) rest.added (k + 1)
             (turn.all ∙ sym (append_assoc prefix (s ∷ []) rest.added))
             (grind (arith, turn.many, length-append)) in
             let queue = requested_rest c.order c.host c.libs prefix (s ∷ [])
             ∙ ap (requested_from units (asked prefix)) (append-nil refs) in
-            rw (
-              segments_before c.order c.host c.libs prefix (s ∷ rest.added) k turn.all turn.many,
-              drop_at (empty_slots c.order c.host) k,
-              turn.slot_is,
-              round_adds c.order c.other c.others units k (map given_from (asked prefix)) slot
-                  (drop (k + 1) (empty_slots c.order c.host)) (given_from g) (renewed s)
-                  (named prefix k (Some g) turn.name) (m.0 ∙ ap refiled none)
-                  (m.1 none ∙ ap (option_map renewed) there),
-              given_by s.file s.slot 0 s.records,
-              requested_given units refs (asked prefix),
-              ← queue,
-              ← next,
-              later,
-            ) refl
+            let left = drop_at (empty_slots c.order c.host) k in
+            let adds = round_adds c.order c.other c.others units k (map given_from (asked prefix))
+            slot (drop (k + 1) (empty_slots c.order c.host)) (given_from g) (renewed s)
+            (named prefix k (Some g) turn.name) (m.0 ∙ ap refiled none)
+            (m.1 none ∙ ap (option_map renewed) there) in
+            let given = given_by s.file s.slot 0 s.records in
+            let more = requested_given units refs (asked prefix) in
+            rw (before, left, turn.slot_is, adds, given, more, ← queue, ← next, later) refl
 
   -- 6. the hosts' slots are read the same, and what is requested is found
   pub record AreMoved : Type 0 where

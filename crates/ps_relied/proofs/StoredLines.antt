@@ -1,5 +1,5 @@
 -- The lines of the references of a link name each byte that it stores, and no other.
-use Rattle.ps_relied.proofs.Vocabulary.{AreMadeByLines, Bool, Cause, Decides, Decides-eqb, Edit, HaveApartPlaces, HaveLinkedBytes, HaveOneLinkedByte, HaveSummedOffsets, In, IsLine, Word, data_edits, grown_data_size, total_words, known_of, private_offset, enumerate_from, IsLinkedByte, IsMadeByLines, IsOfLink, Err, Ok, Result, Reason, target_of, ◌||◌, IsNumberPlace, IsOnePlace, IsSizePlace, Known, LinkedFile, List, None, Option, Order, Reaches, Record, Segment, Some, SomeItem, StoredIn, Target, [], all_items, all_stored, ap, arith, block_len, block_of, by_slot, cause_at, cause_width, drop, edit_of, edited_segments, false, filter, filter_map, find, find_in, find_passes, flat_map, get_or-drop, get_or-map-range_with_len, get_or-take, if◌then◌else◌, in_filter_map, is_host, length, length-drop, length-map-range_with_len, length-take, linked_byte, list_any, list_any-append, map, map_at, nat_tests, needs_linking, not_apart, of_all, of_filter_map, of_link, of_segments, option_map, option_map_or, order_of, patched_byte, range_with_len, reading_fault, record_edits, refl, refs_of, segments_of, slice_get, slice_index, some_mapped, stored_in, summed_edits, summed_segment, sym, table_of, take, true, ◌&&◌, ◌==◌, ℕ, ◌*◌, ◌+◌, ◌-◌, ◌<◌, ◌∙◌, ◌∷◌, ◌≡◌, ◌≤◌}
+use Rattle.ps_relied.proofs.Vocabulary.{AreMadeByLines, Bool, Cause, Decides, Decides-eqb, Edit, Err, HaveApartPlaces, HaveLinkedBytes, HaveOneLinkedByte, HaveSummedOffsets, In, IsLine, IsLinkedByte, IsMadeByLines, IsNumberPlace, IsOfLink, IsOnePlace, IsSizePlace, Known, LinkedFile, List, None, Ok, Option, Order, Reaches, Reason, Record, Result, Segment, Some, SomeItem, StoredIn, Target, Word, [], all_items, all_stored, ap, arith, block_len, block_of, by_slot, cause_at, cause_width, data_edits, drop, edit_of, edited_segments, enumerate_from, false, filter, filter_map, find, find_in, find_passes, flat_map, get_or-drop, get_or-map-range_with_len, get_or-take, grown_data_size, if◌then◌else◌, in_filter_map, is_host, known_of, length, length-drop, length-map-range_with_len, length-take, linked_byte, list_any, list_any-append, map, map_at, nat_tests, needs_linking, not_apart, of_all, of_filter_map, of_link, of_segments, option_map, option_map_or, order_of, patched_byte, private_offset, range_with_len, reading_fault, record_edits, refl, refs_of, segments_of, slice_get, slice_index, some_mapped, stored_in, summed_edits, summed_segment, sym, table_of, take, target_of, total_words, true, ℕ, ◌&&◌, ◌*◌, ◌+◌, ◌-◌, ◌<◌, ◌==◌, ◌||◌, ◌∙◌, ◌∷◌, ◌≡◌, ◌≤◌}
 use Rattle.ps_laws.proofs.Looking.{any_of_items, find_none, is_there}
 use Rattle.ps_laws.proofs.OnePlace.{host_linked}
 use Rattle.ps_laws.proofs.References.{wide}
@@ -51,9 +51,9 @@ module _ (x : ℕ) where
       → list_any (is_word_at x) (flat_map (λ (r : ℕ × Record). record_edits known code
       (offset r.0) r.1) rs) ≡ false
   no_words known code offset [] = refl
-  no_words known code offset (r ∷ rs) =
-      rw (list_any-append (is_word_at x) (record_edits known code (offset r.0) r.1) _,
-      no_words known code offset rs) (go (target_of known (offset r.0) r.1))
+  no_words known code offset (r ∷ rs) = rw (list_any-append (is_word_at x)
+      (record_edits known code (offset r.0) r.1) _) (rw (no_words known code offset rs)
+      (go (target_of known (offset r.0) r.1)))
     where
       go : (o : Result Target Reason) → (list_any (is_word_at x)
           (elim o [ Err why ↦ [] | Ok t ↦ map (edit_of code t) (refs_of r.1.body) ]) || false)
@@ -133,14 +133,15 @@ module _ (host : List ℕ) (libs : List (List ℕ)) (file : List ℕ)
         let same = listed_is l (k, get) slot in
         let is_now : new ≡ take (cause_width c) (drop at (mine s).linked) =
         now ∙ ap (λ (x : StoredIn). take (cause_width c) (drop at x.linked)) same in
-        let t = (piece_at (patched_byte order s.code (edits s)) (length s.code) (cause_width c) at
-        j).0 (rw is_now at h) in
-        (t.0, of_all (λ (q : Segment). (p b c : ℕ) → IsLinkedByte order segs q p b
+        let t = (piece_at (patched_byte order s.code (edits s)) (length s.code) (cause_width c)
+        at j).0 (rw is_now at h) in
+        let byte = of_all (λ (e : Segment × List Edit). (p : ℕ) → p < length e.0.code
+        → IsLinkedByte order segs e.0 p (linked_byte order e p)) (edited_segments order segs) made
+        there.0 (s, edits s) (rw summed (map_at (summed_segment order segs) segs there.0 s
+        there.1)) (at + j) t.0 in
+        let same_byte = of_all (λ (q : Segment). (p b c : ℕ) → IsLinkedByte order segs q p b
         → IsLinkedByte order segs q p c → b ≡ c) segs one there.0 s there.1 (at + j) _ _
-        (is_linked (at + j) t.0) (of_all (λ (e : Segment × List Edit). (p : ℕ)
-        → p < length e.0.code → IsLinkedByte order segs e.0 p (linked_byte order e p))
-        (edited_segments order segs) made there.0 (s, edits s) (rw summed (map_at
-        (summed_segment order segs) segs there.0 s there.1)) (at + j) t.0) ∙ sym (rw is_now t.1))
+        (is_linked (at + j) t.0) byte in (t.0, same_byte ∙ sym (rw is_now t.1))
 
     known : IsOfLink order host libs s
     known = of_link host libs read s (of_segments order host libs there.0 s there.1)
@@ -157,14 +158,10 @@ module _ (host : List ℕ) (libs : List (List ℕ)) (file : List ℕ)
     -- a word is stored there alone
     words : needs_linking s.role ≡ true → (x : ℕ) → list_any (is_word_at x) (edits s)
         ≡ (is_host s.role && option_map_or (λ t. t - 8 == x) (table_of order s.code 1) false)
-    words linked x =
-        rw (
-          linked,
-          list_any-append (is_word_at x) (if is_host s.role
-              then data_edits order (total_words segs) s.code else []) _,
-          no_words x (known_of segs) s.code (private_offset segs s.slot)
-              (enumerate_from 0 s.records),
-        ) (by (is_host s.role) (table_of order s.code 1))
+    words linked x = rw linked (rw (list_any-append (is_word_at x) (if is_host s.role
+        then data_edits order (total_words segs) s.code else []) _) (rw (no_words x (known_of segs)
+        s.code (private_offset segs s.slot) (enumerate_from 0 s.records))
+        (by (is_host s.role) (table_of order s.code 1))))
       where
         by : (b : Bool) (o : Option ℕ) → (list_any (is_word_at x) (if b then option_map_or
             (λ t. Word (grown_data_size order s.code (total_words segs) t) (t - 8) ∷ []) o []
@@ -181,20 +178,10 @@ module _ (host : List ℕ) (libs : List (List ℕ)) (file : List ℕ)
           let l = in_filter_map listed segs s (mine s) there (rw linked refl) in
           let size = (piece_at (patched_byte order s.code (edits s)) (length s.code)
           (cause_width c) at (p - at)).1 (omega (arith, low, high)) (omega (arith, low, inside)) in
-          free at (take (cause_width c) (drop at (mine s).linked)) (
-            l.0,
-            mine s,
-            rw lists_are l.1,
-            (
-              refl,
-              (
-                c,
-                made_at (cause_at (length s.code) (edits s) s.records) (length s.code) at
-                    (omega (arith, low, inside)) ∙ ap (λ o. Some o) cause,
-                refl,
-              ),
-            ),
-          ) low (omega (arith, low, size))
+          let get = made_at (cause_at (length s.code) (edits s) s.records) (length s.code) at
+          (omega (arith, low, inside)) ∙ ap (λ o. Some o) cause in
+          free at (take (cause_width c) (drop at (mine s).linked))
+          (l.0, mine s, rw lists_are l.1, (refl, (c, get, refl))) low (omega (arith, low, size))
 
       number : IsNumberPlace s p → ⊥
       number n = not_stored n.0 p Number (grind (arith, nat_tests, n.1)) (omega arith) (omega arith)
@@ -211,7 +198,8 @@ module _ (host : List ℕ) (libs : List (List ℕ)) (file : List ℕ)
 
       reference : (rec i x : ℕ) (r : Record) → Reaches s rec r i x p → ⊥
       reference rec i x r ((at, ref), (from, to)) =
-          let linked : needs_linking s.role ≡ true = let unread = known.file.unread in grind arith in
+          let linked : needs_linking s.role ≡ true =
+          (let unread = known.file.unread in grind arith) in
           let itself : Reaches s rec r i x x =
           ((at, ref), (omega arith, omega (arith, wide r.body i x ref))) in
           let first = is_there (find (refers x) s.records) (λ n. find_none (refers x)
@@ -220,8 +208,11 @@ module _ (host : List ℕ) (libs : List (List ℕ)) (file : List ℕ)
           let there = find_in (refers x) s.records first.0 first.1 in
           let place = (refers_if x first.0).0 (find_passes (refers x) s.records first.0 first.1) in
           let ref_there = place.2 ∙ ap (λ y. Some y) place.3 in
-          let same = ((one_at x).references rec i x there.0 place.0 x r first.0 itself ((there.1,
-          ref_there), (omega arith, omega (arith, wide first.0.body place.0 x ref_there)))).0 in
+          let theirs : Reaches s there.0 first.0 place.0 x x = (
+            (there.1, ref_there),
+            (omega arith, omega (arith, wide first.0.body place.0 x ref_there)),
+          ) in
+          let same = ((one_at x).references rec i x there.0 place.0 x r first.0 itself theirs).0 in
           let is_first : first.0 ≡ r = (let b = there.1 in cc) in
           let c = some_mapped cause_width (records_at (numbered_records 0 s.records) x)
           (operand_width r.body) (first_stores x 0 s.records ∙ ap (option_map (λ (q : Record).
@@ -233,8 +224,8 @@ module _ (host : List ℕ) (libs : List (List ℕ)) (file : List ℕ)
           no_size : needs_linking s.role ≡ true → (x rec i : ℕ) (r : Record)
               → Reaches s rec r i x x → list_any (is_word_at x) (edits s) ≡ false
           no_size linked x rec i r itself =
-              let none = λ (t : ℕ) (h : is_host s.role ≡ true) (e : table_of order s.code 1 ≡ Some t)
-              (same : t - 8 ≡ x). (one_at x).size rec i x t 0 r itself
+              let none = λ (t : ℕ) (h : is_host s.role ≡ true)
+              (e : table_of order s.code 1 ≡ Some t) (same : t - 8 ≡ x). (one_at x).size rec i x t 0 r itself
               (h, e, omega arith, omega (arith, same, low t h e)) in
               words linked x ∙ grind (arith, nat_tests, none)
 

@@ -1,4 +1,4 @@
-use Rattle.std.proofs.Common.{◌∷◌, ◌++◌, refl}
+use Rattle.std.proofs.Common.{refl, ◌++◌, ◌∷◌}
 use Rattle.ps_linkfile.proofs.Whole.{none_found}
 use Rattle.ps_relied.proofs.Rearranged.{exchanged_kept}
 use Rattle.ps_relied.proofs.libraries.neighbours_are_exchanged.Goals as goal
