@@ -1,13 +1,18 @@
 -- Lists whose items are changed one by one, and searches by functions that agree. What is known of
 -- all segments does not depend on where each of them comes from.
 use Rattle.std.proofs.Math.ListN.{drop}
-use Rattle.ps_laws.proofs.Vocabulary.{Bool, List, None, Option, SLOTS, Segment, Some, [], arith, false, filter_map, find, first_of, host_records, if◌then◌else◌, list_any, map, nat_lt, nat_tests, option_map, option_map_or, option_or, refl, slice_get, slots, suc, total_words, true, units_of, zero, ℕ, ◌&&◌, ◌+◌, ◌<◌, ◌∷◌, ◌≡◌}
+use Rattle.ps_laws.proofs.Vocabulary.{is_none, Bool, List, None, Option, SLOTS, Segment, Some, [], arith, false, filter_map, find, first_of, host_records, if◌then◌else◌, list_any, map, nat_lt, nat_tests, option_map, option_map_or, option_or, refl, slice_get, slots, suc, total_words, true, units_of, zero, ℕ, ◌&&◌, ◌+◌, ◌<◌, ◌∷◌, ◌≡◌}
 use Rattle.ps_laws.proofs.Items.{In, of_range}
 
 -- both are there, and so related, or neither is
 pub data Both {A : Type 0} (R : A → A → Type 0) : Option A → Option A → Type 0 where
   neither : Both R None None
   both : (a b : A) → R a b → Both R (Some a) (Some b)
+
+pub none_alike : {A : Type 0} {R : A → A → Type 0} (o p : Option A) → Both R o p
+    → is_none p ≡ is_none o
+none_alike o p neither = refl
+none_alike o p (both a b r) = refl
 
 -- a slot is below SLOTS
 pub in_slots : (i : ℕ) → In i slots → i < SLOTS

@@ -40,8 +40,7 @@ module _ (test : List ℕ → Bool) where
       let rest = shifted (exchanged spot) (n + 1 + 1) (n + 1 + 1) after
       (λ i j low k. grind (arith, nat_tests)) in grind (arith, nat_tests)
   swapped n spot (x ∷ before) after a b e apart =
-      let rest = swapped (n + 1) spot before after a b (omega (arith, e)) apart in
-      grind (arith, nat_tests)
+      grind (arith, nat_tests, swapped (n + 1) spot before after a b (omega (arith, e)) apart)
 
   -- one that is not chosen is left out
   left : (n spot : ℕ) (before after : List (List ℕ)) (lib : List ℕ) → spot ≡ n + length before

@@ -1,6 +1,6 @@
 -- Links of two hosts and their libraries in which each search finds what is read the same, where
 -- the number of each file may be another, and the block in which link information begins.
-use Rattle.ps_relied.proofs.Vocabulary.{Bool, Both, Err, FIRST_ADDED, Fault, IsTurn, Known, List, MAX_ADDED, None, Ok, Option, Order, Reason, Record, Request, Result, Role, RoundsOutcome, SLOTS, Segment, Some, UnitReference, [], added_at, added_segment, added_segments, after, all_mapped, all_rounds, all_unit_references, any_mapped, ap, append-nil, append_assoc, arith, at_left, both, bytes_eq, chosen_file, chosen_library, code_fault, code_of, data_fault, definitions_fault, drop, drop_at, empty_slots, entries_reason, entry_at, false, file_at, filter, find, find_mapped, first_mapped, first_private_fault, host_records, if◌then◌else◌, in_record, in_slot, in_slots, information_block, information_of, is_empty, is_host, is_named, is_nameless, is_none, is_role, known_moved, known_of, length, length-append, library_file, linking_fault, map, map-append, name_at, needs_linking, neither, next_of, none_at, option_and_then, option_map, option_map_or, option_or, or_moved, own_segment, own_units, owner_of, placed_fault, private_words, privates_fault, queue_of, range_with_len, reading, reading_rest, references_fault, references_fault_from, refl, request_by_slot, request_fault, request_of, requested_from, requested_units, result_ok, role_fault, role_of, round_fault, rounds, rounds_from, same_clipped, segment_at, segments, segments_before, slice_get, slice_get-map, slots, source_fault, source_of, sources_fault, sym, tables_fault, take, true, unit_references, unit_source, units_of, unplaced_fault, ℕ, ◌++◌, ◌+◌, ◌<◌, ◌==◌, ◌||◌, ◌∙◌, ◌∷◌, ◌≡◌, ◌≢◌}
+use Rattle.ps_relied.proofs.Vocabulary.{none_alike, Bool, Both, Err, FIRST_ADDED, Fault, IsTurn, Known, List, MAX_ADDED, None, Ok, Option, Order, Reason, Record, Request, Result, Role, RoundsOutcome, SLOTS, Segment, Some, UnitReference, [], added_at, added_segment, added_segments, after, all_mapped, all_rounds, all_unit_references, any_mapped, ap, append-nil, append_assoc, arith, at_left, both, bytes_eq, chosen_file, chosen_library, code_fault, code_of, data_fault, definitions_fault, drop, drop_at, empty_slots, entries_reason, entry_at, false, file_at, filter, find, find_mapped, first_mapped, first_private_fault, host_records, if◌then◌else◌, in_record, in_slot, in_slots, information_block, information_of, is_empty, is_host, is_named, is_nameless, is_none, is_role, known_moved, known_of, length, length-append, library_file, linking_fault, map, map-append, name_at, needs_linking, neither, next_of, none_at, option_and_then, option_map, option_map_or, option_or, or_moved, own_segment, own_units, owner_of, placed_fault, private_words, privates_fault, queue_of, range_with_len, reading, reading_rest, references_fault, references_fault_from, refl, request_by_slot, request_fault, request_of, requested_from, requested_units, result_ok, role_fault, role_of, round_fault, rounds, rounds_from, same_clipped, segment_at, segments, segments_before, slice_get, slice_get-map, slots, source_fault, source_of, sources_fault, sym, tables_fault, take, true, unit_references, unit_source, units_of, unplaced_fault, ℕ, ◌++◌, ◌+◌, ◌<◌, ◌==◌, ◌||◌, ◌∙◌, ◌∷◌, ◌≡◌, ◌≢◌}
 use Rattle.ps_codefile.specs.declared.entry.Role.TheVariants as role
 use Rattle.ps_reading.specs.declared.locations.RecordAt.{RecordAt}
 use Rattle.ps_words.specs.declared.fault.Reason.TheVariants as reason
@@ -95,10 +95,8 @@ module _ (c : Change) where
   all_given : (segs : List Segment)
       → all_unit_references (map renewed segs) ≡ map given_from (all_unit_references segs)
   all_given [] = refl
-  all_given (s ∷ segs) =
-      (λ i. given_by s.file s.slot 0 s.records i ++ all_given segs i)
-      ∙ sym (map-append given_from
-      (unit_references s.file s.slot 0 s.records) (all_unit_references segs))
+  all_given (s ∷ segs) = rw (given_by s.file s.slot 0 s.records, all_given segs) (sym (map-append
+      given_from (unit_references s.file s.slot 0 s.records) (all_unit_references segs)))
 
   requested_given : (units : List (List ℕ × ℕ)) (gs queue : List UnitReference)
       → requested_from units (map given_from queue) (map given_from gs)
@@ -169,12 +167,6 @@ module _ (c : Change) where
   IsFound name = Both (AreChosenAlike name) (chosen_library c.order name c.libs)
       (chosen_library c.order name c.others)
 
-  same_missing : (name : List ℕ) (o p : Option (ℕ × List ℕ))
-      → Both (AreChosenAlike name) o p
-      → (is_nameless name || is_none p) ≡ (is_nameless name || is_none o)
-  same_missing name o p neither = refl
-  same_missing name o p (both a b t) = refl
-
   -- a request, by the library and the reason and the entry there
   parts_moved : (m p : Fault) (slot k j : ℕ) (missing : Bool) (why : Option Reason)
       (at : Option ℕ) (f g : ℕ × ℕ → Option Fault) (s t : ℕ × ℕ → Option Segment)
@@ -222,7 +214,7 @@ module _ (c : Change) where
 
   unplaced : (g : UnitReference) → IsFound g.name
       → unplaced_fault c.order c.others (given_from g) ≡ refile (unplaced_fault c.order c.libs g)
-  unplaced g t = rw (same_missing g.name _ _ t) refl
+  unplaced g t = rw (none_alike _ _ t) refl
 
   -- 5. the rounds
   abbrev moved_rounds : RoundsOutcome → RoundsOutcome
@@ -278,8 +270,7 @@ module _ (c : Change) where
             let left = drop_at (empty_slots c.order c.host) k in
             let name = named prefix k (Some g) turn.name in
             let fault = unplaced g (of_round prefix [] k g None turn) in
-            let ends = no_slot_left c.order c.other c.others units k (map given_from (asked prefix))
-            (given_from g) name in grind (arith, turn.slot_is)
+            grind (arith, turn.slot_is, no_slot_left)
         stops prefix k g (Some slot) f turn e =
             let before = segments_before c.order c.host c.libs prefix [] k turn.all turn.many in
             let left = drop_at (empty_slots c.order c.host) k in
@@ -380,17 +371,13 @@ module _ (c : Change) where
 
       empty_moved : (slot : ℕ) → slot < SLOTS
           → theirs added_at slot ≡ option_map renewed (mine added_at slot)
-      empty_moved slot inside =
-          (λ j. if option_map_or is_empty (result_ok (sym (all.roles slot inside) j)) false
-          then find (λ (s : Segment). s.slot == slot) (rounds_moved j).added else None)
-          ∙ pick (is_role is_empty c.order c.host slot)
+      empty_moved slot inside = rw (← all.roles slot inside) (pick (is_role is_empty c.order c.host
+          slot) _ _ ((λ j. find (λ (s : Segment). s.slot == slot) (rounds_moved j).added)
+          ∙ find_mapped (λ (s : Segment). s.slot == slot) renewed (mine added_segments)))
         where
-          pick : (b : Bool) → (if b then find (λ (s : Segment). s.slot == slot)
-              (map renewed (mine added_segments)) else None)
-              ≡ option_map renewed (if b then find (λ (s : Segment). s.slot == slot)
-              (mine added_segments) else None)
-          pick true = find_mapped (λ (s : Segment). s.slot == slot) renewed (mine added_segments)
-          pick false = refl
+          pick : (b : Bool) (o p : Option Segment) → p ≡ option_map renewed o
+              → (if b then p else None) ≡ option_map renewed (if b then o else None)
+          pick b o p e = grind arith
 
       pub segments_moved : theirs segments ≡ map renewed (mine segments)
       unfolding segments
