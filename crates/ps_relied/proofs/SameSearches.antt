@@ -249,16 +249,11 @@ module _ (c : Change) where
         fits k g (ap (λ (gs : List UnitReference). slice_get gs k) all
         ∙ at_left (asked prefix) more.0 k g turn.name)
 
-    named : (prefix : List Segment) (k : ℕ) (o : Option UnitReference)
-        → slice_get (asked prefix) k ≡ o
-        → slice_get (map given_from (asked prefix)) k ≡ option_map given_from o
-    named prefix k o e = slice_get-map given_from (asked prefix) k ∙ ap (option_map given_from) e
-
     follows : Follows 0 (mine rounds)
     follows = all_rounds c.order c.host c.libs Follows
         (λ prefix k all many none. rw (segments_before c.order c.host c.libs prefix [] k
-        (all ∙ sym (append-nil prefix)) many) (no_name_left c.order c.other c.others units k
-        (map given_from (asked prefix)) _ (named prefix k None none)))
+        (all ∙ sym (append-nil prefix)) many) (no_name_left c.order c.other c.others units k _ _
+        (slice_get-map given_from (asked prefix) k ∙ ap (option_map given_from) none)))
         stops goes
       where
         stops : (prefix : List Segment) (k : ℕ) (g : UnitReference) (slot : Option ℕ) (f : Fault)
@@ -268,15 +263,15 @@ module _ (c : Change) where
         stops prefix k g None f turn e =
             let before = segments_before c.order c.host c.libs prefix [] k turn.all turn.many in
             let left = drop_at (empty_slots c.order c.host) k in
-            let name = named prefix k (Some g) turn.name in
+            let name = slice_get-map given_from (asked prefix) k in
             let fault = unplaced g (of_round prefix [] k g None turn) in
-            grind (arith, turn.slot_is, no_slot_left)
+            grind (arith, turn.slot_is, turn.name, no_slot_left)
         stops prefix k g (Some slot) f turn e =
             let before = segments_before c.order c.host c.libs prefix [] k turn.all turn.many in
             let left = drop_at (empty_slots c.order c.host) k in
-            let name = named prefix k (Some g) turn.name in
+            let name = slice_get-map given_from (asked prefix) k in
             let fault = (placed g slot (of_round prefix [] k g (Some slot) turn)).0 in
-            grind (arith, turn.slot_is, round_refused)
+            grind (arith, turn.slot_is, turn.name, round_refused)
 
         goes : (prefix : List Segment) (k : ℕ) (g : UnitReference) (slot : ℕ) (s : Segment)
             (rest : RoundsOutcome)
@@ -294,13 +289,11 @@ module _ (c : Change) where
             let queue = requested_rest c.order c.host c.libs prefix (s ∷ [])
             ∙ ap (requested_from units (asked prefix)) (append-nil refs) in
             let left = drop_at (empty_slots c.order c.host) k in
-            let adds = round_adds c.order c.other c.others units k (map given_from (asked prefix))
-            slot (drop (k + 1) (empty_slots c.order c.host)) (given_from g) (renewed s)
-            (named prefix k (Some g) turn.name) (m.0 ∙ ap refiled none)
-            (m.1 none ∙ ap (option_map renewed) there) in
+            let name = slice_get-map given_from (asked prefix) k in
+            let added = m.1 none in
             let given = given_by s.file s.slot 0 s.records in
             let more = requested_given units refs (asked prefix) in
-            rw (before, left, turn.slot_is, adds, given, more, ← queue, ← next, later) refl
+            grind (arith, turn.slot_is, turn.name, m.0, round_adds)
 
   -- 6. the hosts' slots are read the same, and what is requested is found
   pub record AreMoved : Type 0 where

@@ -114,11 +114,9 @@ module _ (host : List ℕ) (libs : List (List ℕ)) (file : List ℕ)
         let u = of_filter_map listed segs l (rw lists_are at t) in
         let is_mine : l ≡ mine u.0 = grind arith in
         let slots : u.0.slot ≡ s.slot = sym (ap (λ (x : StoredIn). x.slot) is_mine) ∙ e in
-        let rises = (by_slot host libs).0 in
-        let k = not_apart there.0 u.1.0
-        (λ lt. let h = rises there.0 u.1.0 s u.0 lt there.1 u.1.1 in omega (arith, h, slots))
-        (λ lt. let h = rises u.1.0 there.0 u.0 s lt u.1.1 there.1 in omega (arith, h, slots)) in
-        let a = there.1 in let b = u.1.1 in let same : u.0 ≡ s = cc in is_mine ∙ ap mine same
+        let rises = (by_slot host libs).0 in let a = there.1 in let b = u.1.1 in
+        let k : there.0 ≡ u.1.0 = grind (arith, rises) in
+        let same : u.0 ≡ s = cc in is_mine ∙ ap mine same
 
     -- the byte at each place of its code is the linked byte
     is_linked : (p : ℕ) → p < length s.code
