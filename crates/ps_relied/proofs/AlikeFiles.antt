@@ -81,12 +81,6 @@ or_same : {A : Type 0} (a b x y : Option A) → b ≡ a → (a ≡ None → y �
     → option_or b y ≡ option_or a x
 or_same a b x y e h = grind arith
 
--- a segment of the host's own
-in_place : (r : Role) → r ≢ role.Empty → r ≢ role.Wanted → is_in_place r ≡ true
-in_place role.Empty filled own = absurd (filled refl)
-in_place role.Wanted filled own = absurd (own refl)
-in_place r filled own = refl
-
 module _ (host other : List ℕ) (libs others : List (List ℕ))
     (alike : AreFilesAlike host other libs others) where
   abbrev order : Order
@@ -128,9 +122,9 @@ module _ (host other : List ℕ) (libs others : List (List ℕ))
   all = record {
     roles = alike.roles;
     names = alike.heads.names;
-    own = λ slot inside r e filled own. record {
-      code = alike.codes slot inside r e (in_place r filled own);
-      records = alike.records slot inside r e (in_place r filled own);
+    own = λ slot inside r e own. record {
+      code = alike.codes slot inside r e own;
+      records = alike.records slot inside r e own;
       behind = refl;
     };
     found = λ slot inside e. found (name_at host slot);

@@ -130,7 +130,7 @@ module _ (host : List ℕ) (libs others : List (List ℕ)) (number place : ℕ �
       let moved : AreMoved change = record {
         roles = λ slot h. refl;
         names = λ slot h. refl;
-        own = λ slot h r e f o. record { code = refl; records = λ n. refl; behind = refl };
+        own = λ slot h r e o. record { code = refl; records = λ n. refl; behind = refl };
         found = of_slots;
         fits = of_queue;
       } in

@@ -1,6 +1,6 @@
 -- Links of two hosts and their libraries in which each search finds what is read the same, where
 -- the number of each file may be another, and the block in which link information begins.
-use Rattle.ps_relied.proofs.Vocabulary.{none_alike, Bool, Both, Err, FIRST_ADDED, Fault, IsTurn, Known, List, MAX_ADDED, None, Ok, Option, Order, Reason, Record, Request, Result, Role, RoundsOutcome, SLOTS, Segment, Some, UnitReference, [], added_at, added_segment, added_segments, after, all_mapped, all_rounds, all_unit_references, any_mapped, ap, append-nil, append_assoc, arith, at_left, both, bytes_eq, chosen_file, chosen_library, code_fault, code_of, data_fault, definitions_fault, drop, drop_at, empty_slots, entries_reason, entry_at, false, file_at, filter, find, find_mapped, first_mapped, first_private_fault, host_records, if◌then◌else◌, in_record, in_slot, in_slots, information_block, information_of, is_empty, is_host, is_named, is_nameless, is_none, is_role, known_moved, known_of, length, length-append, library_file, linking_fault, map, map-append, name_at, needs_linking, neither, next_of, none_at, option_and_then, option_map, option_map_or, option_or, or_moved, own_segment, own_units, owner_of, placed_fault, private_words, privates_fault, queue_of, range_with_len, reading, reading_rest, references_fault, references_fault_from, refl, request_by_slot, request_fault, request_of, requested_from, requested_units, result_ok, role_fault, role_of, round_fault, rounds, rounds_from, same_clipped, segment_at, segments, segments_before, slice_get, slice_get-map, slots, source_fault, source_of, sources_fault, sym, tables_fault, take, true, unit_references, unit_source, units_of, unplaced_fault, ℕ, ◌++◌, ◌+◌, ◌<◌, ◌==◌, ◌||◌, ◌∙◌, ◌∷◌, ◌≡◌, ◌≢◌}
+use Rattle.ps_relied.proofs.Vocabulary.{is_in_place, none_alike, Bool, Both, Err, FIRST_ADDED, Fault, IsTurn, Known, List, MAX_ADDED, None, Ok, Option, Order, Reason, Record, Request, Result, Role, RoundsOutcome, SLOTS, Segment, Some, UnitReference, [], added_at, added_segment, added_segments, after, all_mapped, all_rounds, all_unit_references, any_mapped, ap, append-nil, append_assoc, arith, at_left, both, bytes_eq, chosen_file, chosen_library, code_fault, code_of, data_fault, definitions_fault, drop, drop_at, empty_slots, entries_reason, entry_at, false, file_at, filter, find, find_mapped, first_mapped, first_private_fault, host_records, if◌then◌else◌, in_record, in_slot, in_slots, information_block, information_of, is_empty, is_host, is_named, is_nameless, is_none, is_role, known_moved, known_of, length, length-append, library_file, linking_fault, map, map-append, name_at, needs_linking, neither, next_of, none_at, option_and_then, option_map, option_map_or, option_or, or_moved, own_segment, own_units, owner_of, placed_fault, private_words, privates_fault, queue_of, range_with_len, reading, reading_rest, references_fault, references_fault_from, refl, request_by_slot, request_fault, request_of, requested_from, requested_units, result_ok, role_fault, role_of, round_fault, rounds, rounds_from, same_clipped, segment_at, segments, segments_before, slice_get, slice_get-map, slots, source_fault, source_of, sources_fault, sym, tables_fault, take, true, unit_references, unit_source, units_of, unplaced_fault, ℕ, ◌++◌, ◌+◌, ◌<◌, ◌==◌, ◌||◌, ◌∙◌, ◌∷◌, ◌≡◌, ◌≢◌}
 use Rattle.ps_codefile.specs.declared.entry.Role.TheVariants as role
 use Rattle.ps_reading.specs.declared.locations.RecordAt.{RecordAt}
 use Rattle.ps_words.specs.declared.fault.Reason.TheVariants as reason
@@ -244,10 +244,8 @@ module _ (c : Change) where
         → IsTurn c.order c.host c.libs prefix rest k g slot → IsFound g.name
     of_round prefix rest k g slot turn =
         let more = grown units (asked prefix) (all_unit_references rest) in
-        let all : mine queue_of ≡ asked prefix ++ more.0 =
-        rw turn.all (requested_rest c.order c.host c.libs prefix rest ∙ more.1) in
-        fits k g (ap (λ (gs : List UnitReference). slice_get gs k) all
-        ∙ at_left (asked prefix) more.0 k g turn.name)
+        let all = requested_rest c.order c.host c.libs prefix rest in
+        fits k g (grind (arith, turn.all, turn.name, more.1, at_left))
 
     follows : Follows 0 (mine rounds)
     follows = all_rounds c.order c.host c.libs Follows
@@ -261,17 +259,11 @@ module _ (c : Change) where
             → round_fault c.order c.host c.libs g slot ≡ Some f
             → Follows k (record { added = []; fault = Some f })
         stops prefix k g None f turn e =
-            let before = segments_before c.order c.host c.libs prefix [] k turn.all turn.many in
-            let left = drop_at (empty_slots c.order c.host) k in
-            let name = slice_get-map given_from (asked prefix) k in
             let fault = unplaced g (of_round prefix [] k g None turn) in
-            grind (arith, turn.slot_is, turn.name, no_slot_left)
+            grind (arith, turn, segments_before, drop_at, slice_get-map, no_slot_left)
         stops prefix k g (Some slot) f turn e =
-            let before = segments_before c.order c.host c.libs prefix [] k turn.all turn.many in
-            let left = drop_at (empty_slots c.order c.host) k in
-            let name = slice_get-map given_from (asked prefix) k in
             let fault = (placed g slot (of_round prefix [] k g (Some slot) turn)).0 in
-            grind (arith, turn.slot_is, turn.name, round_refused)
+            grind (arith, turn, segments_before, drop_at, slice_get-map, round_refused)
 
         goes : (prefix : List Segment) (k : ℕ) (g : UnitReference) (slot : ℕ) (s : Segment)
             (rest : RoundsOutcome)
@@ -302,7 +294,7 @@ module _ (c : Change) where
     pub names : (slot : ℕ) → slot < SLOTS → name_at c.host slot ≡ name_at c.other slot
     pub own : (slot : ℕ) → slot < SLOTS → (r : Role)
         → role_of (entry_at c.order c.host slot) ≡ Ok r
-        → r ≢ role.Empty → r ≢ role.Wanted → IsSource c.host c.other r 0 slot
+        → is_in_place r ≡ true → IsSource c.host c.other r 0 slot
     pub found : (slot : ℕ) → slot < SLOTS
         → role_of (entry_at c.order c.host slot) ≡ Ok role.Wanted
         → IsFound (name_at c.host slot)
@@ -327,7 +319,7 @@ module _ (c : Change) where
             (all.found slot inside e))
         by_role (Ok r) e = rw (← all.names slot inside)
             (made slot (name_at c.host slot) r 0 0 slot
-            (sym c.same_host) (all.own slot inside r e (λ x. cc) (λ x. cc)))
+            (sym c.same_host) (all.own slot inside r e refl))
 
     pub sources_moved : theirs sources_fault ≡ refiled (mine sources_fault)
     unfolding sources_fault
