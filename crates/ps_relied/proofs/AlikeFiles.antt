@@ -1,7 +1,7 @@
 -- Files that are read alike link to the same bytes, or have the same first fault.
 use Rattle.ps_codefile.specs.declared.entry.Role.TheVariants as role
 use Rattle.ps_words.specs.declared.fault.Reason.TheVariants as reason
-use Rattle.ps_relied.proofs.Vocabulary.{AreFilesAlike, AreReadAlike, AreSameSegments, Bool, Both, Fault, HasSameCode, HasSameRecords, IsReadAlike, List, None, Ok, Option, Order, Reason, Result, Role, SLOTS, Some, [], and_left, ap, arith, both, both_none, bytes_eq, chosen_file, chosen_library, clipped, entries_reason, entry_at, enumerate_from, false, fault_if, file_at, find, find_in, find_passes, first_fault, first_of, has_entry, host_fault, if◌then◌else◌, in_file, in_slot, in_slots, information_block, is_filled, is_host, is_in_place, is_named, is_unit, kind_is, libraries_fault, library_fault, library_file, linking_fault, list_any, map, name_at, needs_linking, neither, no_host_fault, not, option_and_then, option_map, option_map_or, option_or, order_of, range_with_len, reading_fault, reading_rest, refl, result_err, result_ok, role_of, same_clipped, segments, segments_of, slots, slots_fault, sym, true, ℕ, ◌&&◌, ◌+◌, ◌<◌, ◌==◌, ◌∙◌, ◌∷◌, ◌≡◌, ◌≢◌}
+use Rattle.ps_relied.proofs.Vocabulary.{AreFilesAlike, AreReadAlike, AreSameSegments, Bool, Both, Fault, HasSameCode, HasSameRecords, IsReadAlike, List, None, Ok, Option, Order, Reason, Result, Role, SLOTS, Some, [], and_left, ap, arith, both, both_none, bytes_eq, chosen_file, chosen_library, clipped, entries_reason, entry_at, enumerate_from, false, fault_if, file_at, find, find_in, find_passes, first_fault, first_of, has_entry, host_fault, if◌then◌else◌, in_file, in_slot, in_slots, information_block, is_filled, is_host, is_named, is_unit, kind_is, libraries_fault, library_fault, library_file, linking_fault, list_any, map, name_at, needs_linking, neither, no_host_fault, not, option_and_then, option_map, option_map_or, option_or, order_of, range_with_len, reading_fault, reading_rest, refl, result_err, result_ok, role_of, same_clipped, segments, segments_of, slots, slots_fault, sym, true, ℕ, ◌&&◌, ◌+◌, ◌<◌, ◌==◌, ◌∙◌, ◌∷◌, ◌≡◌}
 use Rattle.ps_relied.proofs.SameSearches.{AreChosenAlike, AreMoved, Change, IsFound, linking_moved, refiled, renewed, rest_moved, segments_moved}
 use Rattle.ps_relied.proofs.SameFile.{same_renewed}
 

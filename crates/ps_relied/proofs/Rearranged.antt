@@ -1,6 +1,6 @@
 -- Links whose libraries stand elsewhere, or one of which is left out.
 use Rattle.ps_codefile.specs.declared.entry.Role.TheVariants as role
-use Rattle.ps_relied.proofs.Vocabulary.{All, AreSameSegments, Bool, Both, HaveNoNameInCommon, In, List, None, Ok, Option, Order, Reason, Result, Role, SLOTS, Segment, Some, UnitReference, [], added_at, ap, arith, both, both_none, chosen_library, empty_slot, entry_at, enumerate_from, exchanged, false, find, first_fault, first_of, found_added, has, has_entry, has_own, in_file, in_segments, is_some, length, libraries_fault, library_file, library_reason, list_any, list_any-append, map, name_at, name_placed, nat_tests, neither, of_all, option_map, option_or, order_of, own_made, queue_of, reading_fault, refl, renumbered, result_ok, role_of, rounds_fine, same_Some, segments_of, slice_get, some_mapped, source_of, sources_fine, subst, sym, true, unit_source, without, ℕ, ◌++◌, ◌+◌, ◌<◌, ◌∙◌, ◌∷◌, ◌≡◌, ◌≢◌, ◌≤◌}
+use Rattle.ps_relied.proofs.Vocabulary.{All, AreSameSegments, Bool, Both, HaveNoNameInCommon, In, List, None, Ok, Option, Order, Reason, SLOTS, Segment, Some, UnitReference, [], added_at, ap, arith, both, both_none, chosen_library, empty_slot, entry_at, enumerate_from, exchanged, false, find, first_fault, first_of, found_added, has, has_entry, has_own, in_file, in_segments, is_some, length, libraries_fault, library_file, library_reason, list_any, list_any-append, map, name_at, name_placed, nat_tests, neither, of_all, option_map, option_or, order_of, own_made, queue_of, reading_fault, refl, renumbered, role_of, rounds_fine, segments_of, slice_get, some_mapped, source_of, sources_fine, subst, sym, true, unit_source, without, ℕ, ◌++◌, ◌+◌, ◌<◌, ◌∙◌, ◌∷◌, ◌≡◌, ◌≢◌, ◌≤◌}
 use Rattle.ps_relied.proofs.SameSearches.{AreChosenAlike, AreMoved, Change, IsFound, linking_moved, rest_moved, segments_moved}
 use Rattle.ps_relied.proofs.SameFile.{same_renewed}
 
@@ -109,8 +109,7 @@ module _ (host : List ℕ) (libs others : List (List ℕ)) (number place : ℕ �
       let own = has_own order host libs (sources_fine host libs read) slot inside role.Wanted wants
       (λ e. cc) in
       let t = own_made order host libs slot own.0 own.1 in
-      let is : role.Wanted ≡ t.0 = same_Some role.Wanted t.0
-      (sym (ap (λ (o : Result Role Reason). result_ok o) wants) ∙ t.1) in
+      let is : role.Wanted ≡ t.0 = grind (arith, wants, t.1) in
       found (name_at host slot) own.0 (in_segments order host libs slot own.0 inside
       (ap (λ o. option_or o (added_at order host libs slot)) own.1))
       (ap (λ r. source_of order host libs slot r) is ∙ (t.4
