@@ -1,8 +1,8 @@
 -- Files that are read alike link to the same bytes, or have the same first fault.
 use Rattle.ps_codefile.specs.declared.entry.Role.TheVariants as role
 use Rattle.ps_words.specs.declared.fault.Reason.TheVariants as reason
-use Rattle.ps_relied.proofs.Vocabulary.{AreFilesAlike, AreReadAlike, AreSameSegments, Bool, Both, Fault, HasSameCode, HasSameRecords, IsReadAlike, List, None, Ok, Option, Order, Reason, Result, Role, SLOTS, Some, [], and_left, ap, arith, both, both_none, bytes_eq, chosen_file, chosen_library, clipped, entries_reason, entry_at, enumerate_from, false, fault_if, file_at, find, find_in, find_passes, first_fault, first_of, has_entry, host_fault, if◌then◌else◌, in_file, in_slot, in_slots, information_block, is_filled, is_host, is_named, is_unit, kind_is, libraries_fault, library_fault, library_file, linking_fault, list_any, map, name_at, needs_linking, neither, no_host_fault, not, option_and_then, option_map, option_map_or, option_or, order_of, range_with_len, reading_fault, reading_rest, refl, result_err, result_ok, role_of, same_clipped, segments, segments_of, slots, slots_fault, sym, true, ℕ, ◌&&◌, ◌+◌, ◌<◌, ◌==◌, ◌∙◌, ◌∷◌, ◌≡◌}
-use Rattle.ps_relied.proofs.SameSearches.{AreChosenAlike, AreMoved, Change, IsFound, linking_moved, refiled, renewed, rest_moved, segments_moved}
+use Rattle.ps_relied.proofs.Vocabulary.{AreFilesAlike, AreReadAlike, AreSameSegments, Bool, Both, Fault, HasSameCode, HasSameRecords, IsReadAlike, List, None, Option, Order, Reason, Result, Role, SLOTS, Some, [], and_left, ap, arith, both, both_none, bytes_eq, chosen_file, chosen_library, clipped, entries_reason, entry_at, enumerate_from, false, fault_if, file_at, find, find_in, find_passes, first_fault, first_of, has_entry, host_fault, if◌then◌else◌, in_file, in_slot, in_slots, information_block, is_filled, is_host, is_named, is_unit, kind_is, libraries_fault, library_fault, library_file, linking_fault, list_any, map, name_at, needs_linking, neither, no_host_fault, not, option_and_then, option_map, option_map_or, option_or, order_of, range_with_len, reading_fault, reading_rest, refl, result_err, result_ok, same_clipped, segments, segments_of, slots, slots_fault, sym, true, ℕ, ◌&&◌, ◌+◌, ◌<◌, ◌==◌, ◌∙◌, ◌∷◌, ◌≡◌}
+use Rattle.ps_relied.proofs.SameSearches.{AreChosenAlike, AreMoved, Change, IsFound, linking_moved, refiled, renewed, rest_moved, same_roles, segments_moved}
 use Rattle.ps_relied.proofs.SameFile.{same_renewed}
 
 -- 1. what is looked up in the entries of two libraries that are read alike
@@ -13,7 +13,7 @@ same_test b c x y name e h = grind arith
 module _ (order : Order) (file other : List ℕ) (like : IsReadAlike order file other)
     (name : List ℕ) where
   named : clipped false (is_named order name other) ≡ clipped false (is_named order name file)
-  named = same_clipped false (is_named order name other) (is_named order name file)
+  named = same_clipped false _ _
       (λ i h. same_test _ _ _ _ name (like.filled i h) (like.names i h))
 
   same_entry : has_entry order name other ≡ has_entry order name file
@@ -139,14 +139,9 @@ module _ (host other : List ℕ) (libs others : List (List ℕ))
   abbrev is_of : (Role → Bool) → Result Role Reason → Bool
   is_of test r = option_map_or test (result_ok r) false
 
-  same_roles : clipped (Ok role.Empty) (λ slot. role_of (entry_at order other slot))
-      ≡ clipped (Ok role.Empty) (λ slot. role_of (entry_at order host slot))
-  same_roles = same_clipped (Ok role.Empty) (λ slot. role_of (entry_at order other slot))
-      (λ slot. role_of (entry_at order host slot)) (λ slot inside. sym (alike.roles slot inside))
-
   same_slots : slots_fault order other ≡ slots_fault order host
   unfolding slots_fault
-  same_slots = λ j. by (same_roles j) (same_clipped [] (name_at other) (name_at host)
+  same_slots = λ j. by (same_roles change all j) (same_clipped [] (name_at other) (name_at host)
       (λ slot inside. sym (alike.heads.names slot inside)) j)
     where
       by : (ℕ → Result Role Reason) → (ℕ → List ℕ) → Option Fault
@@ -160,7 +155,7 @@ module _ (host other : List ℕ) (libs others : List (List ℕ))
   same_no_host : no_host_fault order other ≡ no_host_fault order host
   unfolding no_host_fault
   same_no_host = λ j. fault_if (not (list_any (λ slot. is_of is_host
-      (same_roles j slot)) slots)) (in_file 0 reason.NoHost)
+      (same_roles change all j slot)) slots)) (in_file 0 reason.NoHost)
 
   -- 5. so the first fault of all is the same, and the segments but for these blocks
   segs : reading_fault host libs ≡ None

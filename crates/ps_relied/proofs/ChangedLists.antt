@@ -64,9 +64,7 @@ pub all_mapped : {A C : Type 0} (m : C → C) (f g : A → Option C) (xs : List 
     → filter_map g xs ≡ map m (filter_map f xs)
 all_mapped m f g [] h = refl
 all_mapped m f g (x ∷ xs) h =
-    let now = h x (0, refl) in
-    let later = all_mapped m f g xs (λ y t. h y (suc t.0, t.1)) in
-    grind (arith, now, later)
+    grind (arith, h x (0, refl), all_mapped m f g xs (λ y t. h y (suc t.0, t.1)))
 
 -- the items from one on
 pub drop_at : (xs : List ℕ) (k : ℕ)

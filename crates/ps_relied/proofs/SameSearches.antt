@@ -1,6 +1,6 @@
 -- Links of two hosts and their libraries in which each search finds what is read the same, where
 -- the number of each file may be another, and the block in which link information begins.
-use Rattle.ps_relied.proofs.Vocabulary.{Bool, Both, Err, FIRST_ADDED, Fault, IsTurn, Known, List, MAX_ADDED, None, Ok, Option, Order, Reason, Record, Request, Result, Role, RoundsOutcome, SLOTS, Segment, Some, UnitReference, [], added_at, added_segment, added_segments, after, all_mapped, all_rounds, all_unit_references, any_mapped, ap, append-nil, append_assoc, arith, at_left, both, bytes_eq, chosen_file, chosen_library, code_fault, code_of, data_fault, definitions_fault, drop, drop_at, empty_slots, entries_reason, entry_at, false, file_at, filter, find, find_mapped, first_mapped, first_private_fault, host_records, if◌then◌else◌, in_record, in_slot, in_slots, information_block, information_of, is_empty, is_host, is_in_place, is_named, is_role, known_moved, known_of, length, length-append, library_file, linking_fault, map, map-append, name_at, needs_linking, neither, next_of, none_alike, none_at, option_and_then, option_map, option_map_or, option_or, or_moved, own_segment, own_units, owner_of, placed_fault, private_words, privates_fault, queue_of, range_with_len, reading, reading_rest, references_fault, references_fault_from, refl, request_by_slot, request_fault, request_of, requested_from, requested_units, result_ok, role_fault, role_of, round_fault, rounds, rounds_from, same_clipped, segment_at, segments, segments_before, slice_get, slice_get-map, slots, source_fault, source_of, sources_fault, sym, tables_fault, take, true, unit_references, unit_source, units_of, unplaced_fault, ℕ, ◌++◌, ◌+◌, ◌<◌, ◌==◌, ◌∙◌, ◌∷◌, ◌≡◌}
+use Rattle.ps_relied.proofs.Vocabulary.{Bool, Both, Err, FIRST_ADDED, Fault, IsTurn, Known, List, MAX_ADDED, None, Ok, Option, Order, Reason, Record, Request, Result, Role, RoundsOutcome, SLOTS, Segment, Some, UnitReference, [], added_at, added_segment, added_segments, after, all_mapped, all_rounds, all_unit_references, any_mapped, ap, append-nil, append_assoc, arith, at_left, both, bytes_eq, chosen_file, chosen_library, clipped, code_fault, code_of, data_fault, definitions_fault, drop, drop_at, empty_slots, entries_reason, entry_at, false, file_at, filter, find, find_mapped, first_mapped, first_private_fault, host_records, if◌then◌else◌, in_record, in_slot, in_slots, information_block, information_of, is_empty, is_host, is_in_place, is_named, is_role, known_moved, known_of, length, length-append, library_file, linking_fault, map, map-append, name_at, needs_linking, neither, next_of, none_alike, none_at, option_and_then, option_map, option_map_or, option_or, or_moved, own_segment, own_units, owner_of, placed_fault, private_words, privates_fault, queue_of, range_with_len, reading, reading_rest, references_fault, references_fault_from, refl, request_by_slot, request_fault, request_of, requested_from, requested_units, result_ok, role_fault, role_of, round_fault, rounds, rounds_from, same_clipped, segment_at, segments, segments_before, slice_get, slice_get-map, slots, source_fault, source_of, sources_fault, sym, tables_fault, take, true, unit_references, unit_source, units_of, unplaced_fault, ℕ, ◌++◌, ◌+◌, ◌<◌, ◌==◌, ◌∙◌, ◌∷◌, ◌≡◌}
 use Rattle.ps_codefile.specs.declared.entry.Role.TheVariants as role
 use Rattle.ps_reading.specs.declared.locations.RecordAt.{RecordAt}
 use Rattle.ps_words.specs.declared.fault.Reason.TheVariants as reason
@@ -201,8 +201,8 @@ module _ (c : Change) where
           let was = chosen_file c.order q.name c.libs a.0 a.1 c.host e in
           let now = chosen_file c.order q.name c.others b.0 b.1 c.other f in
           rw (e, f, t.reasons, t.index) (parts_moved _ _ _ _ _ _ _ _ _ _ _ _ missing t.file
-          (λ i at fine. made q.slot q.name role.Wanted (library_file a.0) (library_file b.0) i t.file
-          (rw (was, now) (t.source i at fine))))
+          (λ i at fine. made q.slot q.name role.Wanted (library_file a.0) (library_file b.0) i
+          t.file (rw (was, now) (t.source i at fine))))
 
   -- a name that takes a slot, or for which none is left
   placed : (g : UnitReference) (slot : ℕ) → IsFound g.name
@@ -278,16 +278,9 @@ module _ (c : Change) where
             let queue = requested_rest c.order c.host c.libs prefix (s ∷ [])
             ∙ ap (requested_from units (asked prefix))
             (append-nil (unit_references s.file s.slot 0 s.records)) in
-            grind (
-              arith,
-              turn,
-              segments_before,
-              drop_at,
-              slice_get-map,
-              given_by,
-              requested_given,
-              round_adds,
-            )
+            let given = given_by s.file s.slot 0 s.records in
+            let name = slice_get-map given_from (asked prefix) k in
+            grind (arith, turn, segments_before, drop_at, requested_given, round_adds)
 
   -- 6. the hosts' slots are read the same, and what is requested is found
   pub record AreMoved : Type 0 where
@@ -328,12 +321,13 @@ module _ (c : Change) where
     sources_moved = first_mapped refile (mine source_fault) (theirs source_fault) slots
         (λ slot t. (slot_moved slot (in_slots slot t)).0)
 
+    pub same_roles : clipped (Ok role.Empty) (λ slot. role_of (entry_at c.order c.other slot))
+        ≡ clipped (Ok role.Empty) (λ slot. role_of (entry_at c.order c.host slot))
+    same_roles = same_clipped (Ok role.Empty) _ _ (λ slot inside. sym (all.roles slot inside))
+
     same_empty : empty_slots c.order c.other ≡ empty_slots c.order c.host
     unfolding empty_slots
-    same_empty = λ j. filter (λ slot. option_map_or is_empty (result_ok (same_clipped
-        (Ok role.Empty) (λ slot. role_of (entry_at c.order c.other slot))
-        (λ slot. role_of (entry_at c.order c.host slot))
-        (λ slot inside. sym (all.roles slot inside)) j slot)) false)
+    same_empty = λ j. filter (λ slot. option_map_or is_empty (result_ok (same_roles j slot)) false)
         (range_with_len FIRST_ADDED MAX_ADDED)
 
     module _ (none : mine sources_fault ≡ None) where

@@ -1,10 +1,9 @@
 -- The lines of the references of a link name each byte that it stores, and no other.
-use Rattle.ps_relied.proofs.Vocabulary.{AreMadeByLines, Bool, Cause, Decides, Decides-eqb, Edit, Err, HaveApartPlaces, HaveLinkedBytes, HaveOneLinkedByte, HaveSummedOffsets, In, IsLine, IsLinkedByte, IsMadeByLines, IsNumberPlace, IsOfLink, IsOnePlace, IsSizePlace, Known, LinkedFile, List, None, Ok, Option, Order, Reaches, Reason, Record, Result, Segment, Some, SomeItem, StoredIn, Target, Word, [], all_items, all_stored, ap, arith, block_len, block_of, by_slot, cause_at, cause_width, data_edits, drop, edit_of, edited_segments, enumerate_from, false, filter, filter_map, find, find_in, find_passes, flat_map, get_or-drop, get_or-map-range_with_len, get_or-take, grown_data_size, if◌then◌else◌, in_filter_map, is_host, known_of, length, length-drop, length-map-range_with_len, length-take, linked_byte, list_any, list_any-append, map, map_at, nat_tests, needs_linking, of_all, of_filter_map, of_link, of_segments, option_map, option_map_or, order_of, patched_byte, private_offset, range_with_len, reading_fault, record_edits, refl, refs_of, segments_of, slice_get, slice_index, some_mapped, stored_in, summed_edits, summed_segment, sym, table_of, take, target_of, total_words, true, ℕ, ◌&&◌, ◌*◌, ◌+◌, ◌-◌, ◌<◌, ◌==◌, ◌||◌, ◌∙◌, ◌∷◌, ◌≡◌, ◌≤◌}
+use Rattle.ps_relied.proofs.Vocabulary.{is_word_at, records_at, AreMadeByLines, Bool, Cause, Decides, Decides-eqb, Edit, Err, HaveApartPlaces, HaveLinkedBytes, HaveOneLinkedByte, HaveSummedOffsets, In, IsLine, IsLinkedByte, IsMadeByLines, IsNumberPlace, IsOfLink, IsOnePlace, IsSizePlace, Known, LinkedFile, List, None, Ok, Option, Order, Reaches, Reason, Record, Result, Segment, Some, SomeItem, StoredIn, Target, Word, [], all_items, all_stored, ap, arith, block_len, block_of, by_slot, cause_at, cause_width, data_edits, drop, edit_of, edited_segments, enumerate_from, false, filter, filter_map, find, find_in, find_passes, flat_map, get_or-drop, get_or-map-range_with_len, get_or-take, grown_data_size, if◌then◌else◌, in_filter_map, is_host, known_of, length, length-drop, length-map-range_with_len, length-take, linked_byte, list_any, list_any-append, map, map_at, nat_tests, needs_linking, of_all, of_filter_map, of_link, of_segments, option_map, option_map_or, order_of, patched_byte, private_offset, range_with_len, reading_fault, record_edits, refl, refs_of, segments_of, slice_get, slice_index, some_mapped, stored_in, summed_edits, summed_segment, sym, table_of, take, target_of, total_words, true, ℕ, ◌&&◌, ◌*◌, ◌+◌, ◌-◌, ◌<◌, ◌==◌, ◌||◌, ◌∙◌, ◌∷◌, ◌≡◌, ◌≤◌}
 use Rattle.ps_laws.proofs.Looking.{any_of_items, find_none, is_there}
 use Rattle.ps_laws.proofs.OnePlace.{host_linked}
 use Rattle.ps_laws.proofs.References.{wide}
 use Rattle.ps_laws.proofs.SoundCodes.{outer}
-use Rattle.ps_linkfile.specs.ReferencesText.{is_word_at, records_at}
 use Rattle.ps_linkfile.specs.declared.cause.Cause.TheVariants.{DataSize, Number}
 use Rattle.ps_linkinfo.specs.Numbered.{numbered_records}
 use Rattle.ps_linkinfo.specs.Operands.{operand_width}
@@ -223,8 +222,8 @@ module _ (host : List ℕ) (libs : List (List ℕ)) (file : List ℕ)
               → Reaches s rec r i x x → list_any (is_word_at x) (edits s) ≡ false
           no_size linked x rec i r itself =
               let none = λ (t : ℕ) (h : is_host s.role ≡ true)
-              (e : table_of order s.code 1 ≡ Some t) (same : t - 8 ≡ x). (one_at x).size rec i x t 0 r itself
-              (h, e, omega arith, omega (arith, same, low t h e)) in
+              (e : table_of order s.code 1 ≡ Some t) (same : t - 8 ≡ x).
+              (one_at x).size rec i x t 0 r itself (h, e, omega arith, omega (arith, same, low t h e)) in
               words linked x ∙ grind (arith, nat_tests, none)
 
     pub segment_made : IsMadeByLines (all_stored host libs) s file (start s)
