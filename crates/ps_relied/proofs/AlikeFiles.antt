@@ -16,11 +16,9 @@ module _ (order : Order) (file other : List ℕ) (like : IsReadAlike order file 
   named = same_clipped false _ _
       (λ i h. same_test _ _ _ _ name (like.filled i h) (like.names i h))
 
-  same_entry : has_entry order name other ≡ has_entry order name file
-  same_entry = λ j. list_any (named j) slots
-
-  same_index : find (is_named order name other) slots ≡ find (is_named order name file) slots
-  same_index = λ j. find (named j) slots
+  same_search : (has_entry order name other ≡ has_entry order name file)
+      × (find (is_named order name other) slots ≡ find (is_named order name file) slots)
+  same_search = (λ j. list_any (named j) slots, λ j. find (named j) slots)
 
   -- an entry that is found is filled
   filled_at : (i : ℕ) → find (is_named order name file) slots ≡ Some i
@@ -32,7 +30,7 @@ module _ (order : Order) (file other : List ℕ) (like : IsReadAlike order file 
   same_reasons : entries_reason order name other ≡ entries_reason order name file
   same_reasons = λ j. if list_any (λ i. named j i
       && list_any (named j) (range_with_len 0 i)) slots
-      then Some reason.DoubledUnit else ((λ j. kind_in other (same_index j))
+      then Some reason.DoubledUnit else ((λ j. kind_in other (same_search.1 j))
       ∙ go (find (is_named order name file) slots) refl) j
     where
       kind_in : List ℕ → Option ℕ → Option Reason
@@ -69,7 +67,7 @@ same_libraries order name n (x ∷ xs) [] t = absurd t
 same_libraries order name n (x ∷ xs) (y ∷ ys) t =
     let later = same_libraries order name (n + 1) xs ys t.1 in (
       rw (← t.0.opened, later.0) refl,
-      rw (same_entry order x y t.0 name) (go (has_entry order name x) _ _ later.1),
+      rw ((same_search order x y t.0 name).0) (go (has_entry order name x) _ _ later.1),
     )
   where
     go : (b : Bool) (o p : Option (ℕ × List ℕ)) → Both (IsSame order) o p
@@ -109,7 +107,7 @@ module _ (host other : List ℕ) (libs others : List (List ℕ))
       go o p e neither = neither
       go o p e (both a b t) = both a b (record {
         file = λ j. library_file (t.0 j);
-        index = same_index order a.1 b.1 t.1 name;
+        index = (same_search order a.1 b.1 t.1 name).1;
         reasons = same_reasons order a.1 b.1 t.1 name;
         source = λ i at fine. let same = same_unit order a.1 b.1 t.1 name i at fine in record {
           code = same.0;

@@ -1,11 +1,6 @@
 -- Link information is read up to its end mark.
-use Rattle.ps_relied.proofs.Vocabulary.{AreSpelled, Body, IsBody, List, None, Order, Record, Spells, [], arith, drop, drop-append-le, get_or_append_left, length, length-append, map, range_with_len, reading, refl, refs_of, size_of, suc, sym, take-append-le, word_at, zero, ℕ, ◌*◌, ◌++◌, ◌+◌, ◌/◌, ◌<◌, ◌↔◌, ◌∙◌, ◌∷◌, ◌≡◌, ◌≤◌}
+use Rattle.ps_relied.proofs.Vocabulary.{AreSpelled, Body, IsBody, List, None, OneSpelling, Order, Record, Spells, [], arith, drop, drop-append-le, get_or_append_left, length, length-append, map, range_with_len, reading, refl, refs_of, size_of, suc, sym, take-append-le, word_at, zero, ℕ, ◌*◌, ◌++◌, ◌+◌, ◌/◌, ◌<◌, ◌∙◌, ◌∷◌, ◌≡◌, ◌≤◌}
 use Rattle.ps_linkinfo.proofs.ReferenceWords.{refs_len}
-
--- the law of link information
-abbrev pub OneSpelling : Type 0
-OneSpelling = (order : Order) (bytes : List ℕ) (rs : List Record)
-    → Spells order bytes rs ↔ (reading order bytes ≡ (rs, None))
 
 -- what is read of bytes is read of them with more after them
 module _ (order : Order) (xs more : List ℕ) where

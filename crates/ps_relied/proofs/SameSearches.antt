@@ -103,10 +103,9 @@ module _ (c : Change) where
       ≡ map given_from (requested_from units queue gs)
   requested_given units [] queue = refl
   requested_given units (g ∷ gs) queue =
-      let had = requested_given units gs queue in
-      let new = requested_given units gs (queue ++ g ∷ []) in
+      let later = requested_given units gs in
       let known = any_mapped (λ (q : UnitReference). bytes_eq q.name g.name) given_from queue in
-      grind (arith, map-append given_from queue (g ∷ []))
+      grind (arith, later, map-append given_from queue (g ∷ []))
 
   -- 3. the code and the records of an entry that a segment is made from
   pub record IsSource (mine theirs : List ℕ) (r : Role) (k i : ℕ) : Type 0 where

@@ -1,5 +1,5 @@
 -- The lines of the references of a link name each byte that it stores, and no other.
-use Rattle.ps_relied.proofs.Vocabulary.{is_word_at, records_at, AreMadeByLines, Bool, Cause, Decides, Decides-eqb, Edit, Err, HaveApartPlaces, HaveLinkedBytes, HaveOneLinkedByte, HaveSummedOffsets, In, IsLine, IsLinkedByte, IsMadeByLines, IsNumberPlace, IsOfLink, IsOnePlace, IsSizePlace, Known, LinkedFile, List, None, Ok, Option, Order, Reaches, Reason, Record, Result, Segment, Some, SomeItem, StoredIn, Target, Word, [], all_items, all_stored, ap, arith, block_len, block_of, by_slot, cause_at, cause_width, data_edits, drop, edit_of, edited_segments, enumerate_from, false, filter, filter_map, find, find_in, find_passes, flat_map, get_or-drop, get_or-map-range_with_len, get_or-take, grown_data_size, if◌then◌else◌, in_filter_map, is_host, known_of, length, length-drop, length-map-range_with_len, length-take, linked_byte, list_any, list_any-append, map, map_at, nat_tests, needs_linking, of_all, of_filter_map, of_link, of_segments, option_map, option_map_or, order_of, patched_byte, private_offset, range_with_len, reading_fault, record_edits, refl, refs_of, segments_of, slice_get, slice_index, some_mapped, stored_in, summed_edits, summed_segment, sym, table_of, take, target_of, total_words, true, ℕ, ◌&&◌, ◌*◌, ◌+◌, ◌-◌, ◌<◌, ◌==◌, ◌||◌, ◌∙◌, ◌∷◌, ◌≡◌, ◌≤◌}
+use Rattle.ps_relied.proofs.Vocabulary.{AreMadeByLines, Bool, Cause, Decides, Decides-eqb, Edit, Err, HaveApartPlaces, HaveLinkedBytes, HaveOneLinkedByte, HaveSummedOffsets, In, IsLine, IsLinkedByte, IsMadeByLines, IsNumberPlace, IsOfLink, IsOnePlace, IsSizePlace, Known, LinkedFile, List, None, Ok, Option, Order, Reaches, Reason, Record, Result, Segment, Some, SomeItem, StoredIn, Target, Word, [], all_items, all_stored, ap, arith, block_len, block_of, by_slot, cause_at, cause_width, data_edits, drop, edit_of, edited_segments, enumerate_from, false, filter, filter_map, find, find_in, find_passes, flat_map, get_or-drop, get_or-map-range_with_len, get_or-take, grown_data_size, if◌then◌else◌, in_filter_map, is_host, is_word_at, known_of, length, length-drop, length-map-range_with_len, length-take, linked_byte, list_any, list_any-append, map, map_at, nat_tests, needs_linking, of_all, of_filter_map, of_link, of_segments, option_map, option_map_or, order_of, patched_byte, private_offset, range_with_len, reading_fault, record_edits, records_at, refl, refs_of, segments_of, slice_get, slice_index, some_mapped, stored_in, summed_edits, summed_segment, sym, table_of, take, target_of, total_words, true, ℕ, ◌&&◌, ◌*◌, ◌+◌, ◌-◌, ◌<◌, ◌==◌, ◌||◌, ◌∙◌, ◌∷◌, ◌≡◌, ◌≤◌}
 use Rattle.ps_laws.proofs.Looking.{any_of_items, find_none, is_there}
 use Rattle.ps_laws.proofs.OnePlace.{host_linked}
 use Rattle.ps_laws.proofs.References.{wide}
