@@ -1,6 +1,6 @@
 -- Links of two hosts and their libraries in which each search finds what is read the same, where
 -- the number of each file may be another, and the block in which link information begins.
-use Rattle.ps_relied.proofs.Vocabulary.{Bool, Both, Err, FIRST_ADDED, Fault, IsTurn, Known, List, MAX_ADDED, None, Ok, Option, Order, Reason, Record, Request, Result, Role, RoundsOutcome, SLOTS, Segment, Some, UnitReference, [], added_at, added_segment, added_segments, after, all_mapped, all_rounds, all_unit_references, any_mapped, ap, append-nil, append_assoc, arith, at_left, both, bytes_eq, chosen_file, chosen_library, clipped, code_fault, code_of, data_fault, definitions_fault, drop, drop_at, empty_slots, entries_reason, entry_at, false, file_at, filter, find, find_mapped, first_mapped, first_private_fault, host_records, if◌then◌else◌, in_record, in_slot, in_slots, information_block, information_of, is_empty, is_host, is_in_place, is_named, is_role, known_moved, known_of, length, length-append, library_file, linking_fault, map, map-append, name_at, needs_linking, neither, next_of, none_alike, none_at, option_and_then, option_map, option_map_or, option_or, or_moved, own_segment, own_units, owner_of, placed_fault, private_words, privates_fault, queue_of, range_with_len, reading, reading_rest, references_fault, references_fault_from, refl, request_by_slot, request_fault, request_of, requested_from, requested_units, result_ok, role_fault, role_of, round_fault, rounds, rounds_from, same_clipped, segment_at, segments, segments_before, slice_get, slice_get-map, slots, source_fault, source_of, sources_fault, sym, tables_fault, take, true, unit_references, unit_source, units_of, unplaced_fault, ℕ, ◌++◌, ◌+◌, ◌<◌, ◌==◌, ◌∙◌, ◌∷◌, ◌≡◌}
+use Rattle.ps_relied.proofs.Vocabulary.{Bool, Both, Err, FIRST_ADDED, Fault, IsTurn, Known, List, MAX_ADDED, None, Ok, Option, Order, Reason, Record, Request, Result, Role, RoundsOutcome, SLOTS, Segment, Some, UnitReference, [], added_at, added_segment, added_segments, after, all_mapped, all_rounds, all_unit_references, any_mapped, ap, append-nil, append_assoc, arith, at_left, both, bytes_eq, chosen_file, chosen_library, clipped, code_fault, code_of, data_fault, definitions_fault, drop, drop_at, empty_slots, entries_reason, entry_at, false, file_at, filter, find, find_mapped, first_mapped, first_private_fault, host_records, if◌then◌else◌, in_record, in_slot, in_slots, information_block, information_of, is_empty, is_host, is_in_place, is_named, is_role, known_moved, known_of, length, length-append, library_file, linking_fault, map, map-append, name_at, needs_linking, neither, next_of, none_alike, none_at, option_and_then, option_map, option_map_or, option_or, or_moved, own_segment, own_units, owner_of, placed_fault, private_words, privates_fault, queue_of, range_with_len, reading, reading_rest, references_fault, references_fault_from, refl, request_by_slot, request_fault, request_of, requested_from, requested_units, result_ok, role_fault, role_of, round_fault, rounds, rounds_from, same_clipped, segment_at, segments, segments_before, slice_get, slice_get-map, slots, source_fault, source_of, sources_fault, sym, tables_fault, take, true, unit_references, unit_source, units_of, ℕ, ◌++◌, ◌+◌, ◌<◌, ◌==◌, ◌∙◌, ◌∷◌, ◌≡◌}
 use Rattle.ps_codefile.specs.declared.entry.Role.TheVariants as role
 use Rattle.ps_reading.specs.declared.locations.RecordAt.{RecordAt}
 use Rattle.ps_words.specs.declared.fault.Reason.TheVariants as reason
@@ -203,17 +203,13 @@ module _ (c : Change) where
           (λ i at fine. made q.slot q.name role.Wanted (library_file a.0) (library_file b.0) i
           t.file (rw (was, now) (t.source i at fine))))
 
-  -- a name that takes a slot, or for which none is left
+  -- a name that takes a slot
   placed : (g : UnitReference) (slot : ℕ) → IsFound g.name
       → Moves (mine placed_fault g slot) (theirs placed_fault (given_from g) slot)
       (mine added_segment g slot) (theirs added_segment (given_from g) slot)
   placed g slot t =
       let m = request_moved (request_of g slot) (request_of (given_from g) slot).requester refl t in
       (m.0, λ n. let e = m.1 n in grind arith)
-
-  unplaced : (g : UnitReference) → IsFound g.name
-      → unplaced_fault c.order c.others (given_from g) ≡ refile (unplaced_fault c.order c.libs g)
-  unplaced g t = rw (none_alike _ _ t) refl
 
   -- 5. the rounds
   abbrev moved_rounds : RoundsOutcome → RoundsOutcome
@@ -258,7 +254,7 @@ module _ (c : Change) where
             → round_fault c.order c.host c.libs g slot ≡ Some f
             → Follows k (record { added = []; fault = Some f })
         stops prefix k g None f turn e =
-            let fault = unplaced g (of_round prefix [] k g None turn) in
+            let missing = none_alike _ _ (of_round prefix [] k g None turn) in
             grind (arith, turn, segments_before, drop_at, slice_get-map, no_slot_left)
         stops prefix k g (Some slot) f turn e =
             let fault = (placed g slot (of_round prefix [] k g (Some slot) turn)).0 in
@@ -274,12 +270,10 @@ module _ (c : Change) where
             let next = segments_before c.order c.host c.libs (prefix ++ s ∷ []) rest.added (k + 1)
             (turn.all ∙ sym (append_assoc prefix (s ∷ []) rest.added))
             (grind (arith, turn.many, length-append)) in
-            let queue = requested_rest c.order c.host c.libs prefix (s ∷ [])
-            ∙ ap (requested_from units (asked prefix))
-            (append-nil (unit_references s.file s.slot 0 s.records)) in
+            let queue = requested_rest c.order c.host c.libs prefix (s ∷ []) in
             let given = given_by s.file s.slot 0 s.records in
             let name = slice_get-map given_from (asked prefix) k in
-            grind (arith, turn, segments_before, drop_at, requested_given, round_adds)
+            grind (arith, turn, segments_before, drop_at, requested_given, round_adds, append-nil)
 
   -- 6. the hosts' slots are read the same, and what is requested is found
   pub record AreMoved : Type 0 where

@@ -19,7 +19,7 @@ pub use Rattle.ps_relied.specs.SameSegments.{AreSameSegments, HaveSameHeads, of_
 pub use Rattle.ps_relied.specs.StoredLines.{AreMadeByLines, IsLine, IsMadeByLines, all_stored}
 pub use Rattle.ps_resolve.proofs.ReadingLibraries.{chosen_file}
 pub use Rattle.ps_resolve.proofs.ReadingUnits.{kind_is}
-pub use Rattle.ps_resolve.specs.Added.{added_at, added_segment, placed_fault, rounds_from, segment_at, slot_name, unplaced_fault}
+pub use Rattle.ps_resolve.specs.Added.{added_at, added_segment, placed_fault, rounds_from, segment_at, slot_name}
 pub use Rattle.ps_resolve.specs.AllFaults.{reading_rest}
 unfoldable pub use Rattle.ps_resolve.specs.AllFaults.{first_fault, reading_fault}
 pub use Rattle.ps_resolve.specs.Faults.{entries_reason, host_fault, library_fault, library_reason, references_fault_from, source_fault}
