@@ -145,16 +145,16 @@ module _ (host : List ℕ) (libs others : List (List ℕ)) (number place : ℕ �
         segments = same;
       }
 
-module _ (host : List ℕ) (before after : List (List ℕ)) (lib next : List ℕ) where
+module _ (host : List ℕ) (before after : List (List ℕ)) (lib : List ℕ) where
   abbrev spot : ℕ
   spot = length before
 
   -- 3. neighbours are exchanged
-  pub exchanged_kept : first_fault host (before ++ (lib ∷ next ∷ after)) ≡ None
+  pub exchanged_kept : (next : List ℕ) → first_fault host (before ++ (lib ∷ next ∷ after)) ≡ None
       → HaveNoNameInCommon (order_of host) lib next
       → IsKept (exchanged (library_file spot)) host (before ++ (lib ∷ next ∷ after))
       (before ++ (next ∷ lib ∷ after))
-  exchanged_kept none apart = kept host (before ++ (lib ∷ next ∷ after))
+  exchanged_kept next none apart = kept host (before ++ (lib ∷ next ∷ after))
       (before ++ (next ∷ lib ∷ after)) (exchanged (library_file spot)) (exchanged spot)
       (grind (arith, nat_tests)) (λ k. grind (arith, nat_tests)) none
       (λ test t. grind (arith, list_any-append test))
