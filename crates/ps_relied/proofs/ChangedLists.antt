@@ -27,8 +27,8 @@ abbrev pub clipped : {A : Type 0} → A → (ℕ → A) → ℕ → A
 clipped d f i = if nat_lt i SLOTS then f i else d
 
 -- functions that agree on the slots: so do searches among these by such functions
-pub same_clipped : {A : Type 0} (d : A) (f g : ℕ → A) → ((i : ℕ) → i < SLOTS → f i ≡ g i)
-    → clipped d f ≡ clipped d g
+pub same_clipped : {A : Type 0} (d : A) (f g : ℕ → A)
+    → ((i : ℕ) → i < SLOTS → f i ≡ g i) → clipped d f ≡ clipped d g
 same_clipped {A} d f g h = λ j i. at i j
   where
     at : (i : ℕ) → clipped d f i ≡ clipped d g i

@@ -43,7 +43,8 @@ module _ (test : List ℕ → Bool) where
       grind (arith, nat_tests, swapped (n + 1) spot before after a b (omega (arith, e)) apart)
 
   -- one that is not chosen is left out
-  left : (n spot : ℕ) (before after : List (List ℕ)) (lib : List ℕ) → spot ≡ n + length before
+  left : (n spot : ℕ) (before after : List (List ℕ)) (lib : List ℕ)
+      → spot ≡ n + length before
       → (chosen_from test n (before ++ (lib ∷ after)) ≡ Some (spot, lib) → ⊥)
       → chosen_from test n (before ++ after)
       ≡ placed (without spot) (chosen_from test n (before ++ (lib ∷ after)))
@@ -66,7 +67,8 @@ module _ (host : List ℕ) (libs others : List (List ℕ)) (number place : ℕ �
     (same_host : number 0 ≡ 0)
     (places : (k : ℕ) → library_file (place k) ≡ number (library_file k))
     (none : first_fault host libs ≡ None)
-    (opened : (test : List ℕ → Bool) → list_any test libs ≡ false → list_any test others ≡ false)
+    (opened : (test : List ℕ → Bool) → list_any test libs ≡ false
+    → list_any test others ≡ false)
     (chosen : (name : List ℕ) (s : Segment) → In s (segments_of host libs)
     → unit_source (order_of host) name libs ≡ Some (s.file, s.index)
     → chosen_library (order_of host) name others
@@ -150,7 +152,8 @@ module _ (host : List ℕ) (before after : List (List ℕ)) (lib : List ℕ) whe
   spot = length before
 
   -- 3. neighbours are exchanged
-  pub exchanged_kept : (next : List ℕ) → first_fault host (before ++ (lib ∷ next ∷ after)) ≡ None
+  pub exchanged_kept : (next : List ℕ)
+      → first_fault host (before ++ (lib ∷ next ∷ after)) ≡ None
       → HaveNoNameInCommon (order_of host) lib next
       → IsKept (exchanged (library_file spot)) host (before ++ (lib ∷ next ∷ after))
       (before ++ (next ∷ lib ∷ after))

@@ -249,8 +249,8 @@ module _ (c : Change) where
         (slice_get-map given_from (asked prefix) k ∙ ap (option_map given_from) none)))
         stops goes
       where
-        stops : (prefix : List Segment) (k : ℕ) (g : UnitReference) (slot : Option ℕ) (f : Fault)
-            → IsTurn c.order c.host c.libs prefix [] k g slot
+        stops : (prefix : List Segment) (k : ℕ) (g : UnitReference) (slot : Option ℕ)
+            (f : Fault) → IsTurn c.order c.host c.libs prefix [] k g slot
             → round_fault c.order c.host c.libs g slot ≡ Some f
             → Follows k (record { added = []; fault = Some f })
         stops prefix k g None f turn e =
@@ -320,8 +320,8 @@ module _ (c : Change) where
 
     same_empty : empty_slots c.order c.other ≡ empty_slots c.order c.host
     unfolding empty_slots
-    same_empty = λ j. filter (λ slot. option_map_or is_empty (result_ok (same_roles j slot)) false)
-        (range_with_len FIRST_ADDED MAX_ADDED)
+    same_empty = λ j. filter (λ slot. option_map_or is_empty (result_ok (same_roles j slot))
+        false) (range_with_len FIRST_ADDED MAX_ADDED)
 
     module _ (none : mine sources_fault ≡ None) where
       own_at : (slot : ℕ) → slot < SLOTS
@@ -345,8 +345,8 @@ module _ (c : Change) where
 
       empty_moved : (slot : ℕ) → slot < SLOTS
           → theirs added_at slot ≡ option_map renewed (mine added_at slot)
-      empty_moved slot inside = rw (← all.roles slot inside) (pick (is_role is_empty c.order c.host
-          slot) _ _ ((λ j. find (λ (s : Segment). s.slot == slot) (rounds_moved j).added)
+      empty_moved slot inside = rw (← all.roles slot inside) (pick (is_role is_empty c.order
+          c.host slot) _ _ ((λ j. find (λ (s : Segment). s.slot == slot) (rounds_moved j).added)
           ∙ find_mapped (λ (s : Segment). s.slot == slot) renewed (mine added_segments)))
         where
           pick : (b : Bool) (o p : Option Segment) → p ≡ option_map renewed o

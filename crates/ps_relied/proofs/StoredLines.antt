@@ -28,7 +28,8 @@ module _ (f : ℕ → ℕ) (n w at : ℕ) where
   abbrev piece : List ℕ
   piece = take w (drop at (map f (range_with_len 0 n)))
 
-  piece_at : (j : ℕ) → ((j < length piece) → (at + j < n) × (slice_index piece j ≡ f (at + j)))
+  piece_at : (j : ℕ)
+      → ((j < length piece) → (at + j < n) × (slice_index piece j ≡ f (at + j)))
       × (j < w → at + j < n → j < length piece)
   piece_at j =
       let all = map f (range_with_len 0 n) in
@@ -71,8 +72,8 @@ module _ (x : ℕ) where
   first_stores n (r ∷ rs) = grind (arith, first_stores (n + 1) rs)
 
   -- what is stored elsewhere than at the number
-  cause_is : (size : ℕ) (edits : List Edit) (rs : List Record) (b : Bool) → (x + 2 ≡ size → ⊥)
-      → list_any (is_word_at x) edits ≡ b → cause_at size edits rs x
+  cause_is : (size : ℕ) (edits : List Edit) (rs : List Record) (b : Bool)
+      → (x + 2 ≡ size → ⊥) → list_any (is_word_at x) edits ≡ b → cause_at size edits rs x
       ≡ (if b then Some DataSize else records_at (numbered_records 0 rs) x)
   cause_is size edits rs b n e = grind (arith, nat_tests)
 
@@ -108,7 +109,8 @@ module _ (host : List ℕ) (libs : List (List ℕ)) (file : List ℕ)
 
   module _ (s : Segment) (there : In s segs) where
     -- a segment is the only one of its slot
-    listed_is : (l : StoredIn) → In l (all_stored host libs) → l.slot ≡ s.slot → l ≡ mine s
+    listed_is : (l : StoredIn) → In l (all_stored host libs) → l.slot ≡ s.slot
+        → l ≡ mine s
     listed_is l t e =
         let u = of_filter_map listed segs l (rw lists_are at t) in
         let is_mine : l ≡ mine u.0 = grind arith in
@@ -120,8 +122,8 @@ module _ (host : List ℕ) (libs : List (List ℕ)) (file : List ℕ)
     -- the byte at each place of its code is the linked byte
     is_linked : (p : ℕ) → p < length s.code
         → IsLinkedByte order segs s p (slice_index file (block_len * start s + p))
-    is_linked = of_all (λ (q : Segment). (p : ℕ) → p < length q.code → IsLinkedByte order segs q p
-        (slice_index file (block_len * start q + p))) segs is.codes there.0 s there.1
+    is_linked = of_all (λ (q : Segment). (p : ℕ) → p < length q.code
+        → IsLinkedByte order segs q p (slice_index file (block_len * start q + p))) segs is.codes there.0 s there.1
 
     named : (at j : ℕ) (new : List ℕ) → IsLine (all_stored host libs) s.slot at new
         → j < length new → (at + j < length s.code)
@@ -167,7 +169,8 @@ module _ (host : List ℕ) (libs : List (List ℕ)) (file : List ℕ)
 
     -- a place that no line covers has none of what is linked
     module _ (p : ℕ) (inside : p < length s.code) (free : (at : ℕ) (new : List ℕ)
-        → IsLine (all_stored host libs) s.slot at new → at ≤ p → p < at + length new → ⊥) where
+        → IsLine (all_stored host libs) s.slot at new → at ≤ p → p < at + length new
+        → ⊥) where
       not_stored : needs_linking s.role ≡ true → (at : ℕ) (c : Cause)
           → cause_at (length s.code) (edits s) s.records at ≡ Some c
           → at ≤ p → p < at + cause_width c → ⊥
@@ -223,7 +226,8 @@ module _ (host : List ℕ) (libs : List (List ℕ)) (file : List ℕ)
           no_size linked x rec i r itself =
               let none = λ (t : ℕ) (h : is_host s.role ≡ true)
               (e : table_of order s.code 1 ≡ Some t) (same : t - 8 ≡ x).
-              (one_at x).size rec i x t 0 r itself (h, e, omega arith, omega (arith, same, low t h e)) in
+              (one_at x).size rec i x t 0 r itself
+              (h, e, omega arith, omega (arith, same, low t h e)) in
               words linked x ∙ grind (arith, nat_tests, none)
 
     pub segment_made : IsMadeByLines (all_stored host libs) s file (start s)
@@ -236,5 +240,5 @@ module _ (host : List ℕ) (libs : List (List ℕ)) (file : List ℕ)
     }
 
   pub made_by_lines : AreMadeByLines host libs file
-  made_by_lines = all_items (λ (s : Segment). IsMadeByLines (all_stored host libs) s file (start s))
-      segs (λ k s e. segment_made s (k, e))
+  made_by_lines = all_items
+      (λ (s : Segment). IsMadeByLines (all_stored host libs) s file (start s)) segs (λ k s e. segment_made s (k, e))
