@@ -73,7 +73,8 @@ module _ (x : ℕ) where
 
   -- what is stored elsewhere than at the number
   cause_is : (size : ℕ) (edits : List Edit) (rs : List Record) (b : Bool)
-      → (x + 2 ≡ size → ⊥) → list_any (is_word_at x) edits ≡ b → cause_at size edits rs x
+      → (x + 2 ≡ size → ⊥) → list_any (is_word_at x) edits ≡ b
+      → cause_at size edits rs x
       ≡ (if b then Some DataSize else records_at (numbered_records 0 rs) x)
   cause_is size edits rs b n e = grind (arith, nat_tests)
 
@@ -123,7 +124,8 @@ module _ (host : List ℕ) (libs : List (List ℕ)) (file : List ℕ)
     is_linked : (p : ℕ) → p < length s.code
         → IsLinkedByte order segs s p (slice_index file (block_len * start s + p))
     is_linked = of_all (λ (q : Segment). (p : ℕ) → p < length q.code
-        → IsLinkedByte order segs q p (slice_index file (block_len * start q + p))) segs is.codes there.0 s there.1
+        → IsLinkedByte order segs q p (slice_index file (block_len * start q + p))) segs
+        is.codes there.0 s there.1
 
     named : (at j : ℕ) (new : List ℕ) → IsLine (all_stored host libs) s.slot at new
         → j < length new → (at + j < length s.code)
@@ -241,4 +243,5 @@ module _ (host : List ℕ) (libs : List (List ℕ)) (file : List ℕ)
 
   pub made_by_lines : AreMadeByLines host libs file
   made_by_lines = all_items
-      (λ (s : Segment). IsMadeByLines (all_stored host libs) s file (start s)) segs (λ k s e. segment_made s (k, e))
+      (λ (s : Segment). IsMadeByLines (all_stored host libs) s file (start s)) segs
+      (λ k s e. segment_made s (k, e))
