@@ -6,7 +6,7 @@ use Rattle.std.proofs.lemmas.List.Elements.{All-cons, All-nil}
 use Rattle.ps_examples.specs.ReadAlike.{library_elsewhere}
 use Rattle.ps_examples.proofs.NotLinked.{util_aux}
 use Rattle.ps_examples.proofs.SegmentOrigins.{any_below, fails}
-use Rattle.ps_linkfile.proofs.StoredCauses.{made_at}
+use Rattle.ps_relied.proofs.StoredLines.{made_at}
 use Rattle.ps_relied.specs.Alike.{IsReadAlike, AreReadAlike, AreFilesAlike, HasSameCode, HasSameRecords}
 use Rattle.ps_relied.specs.Numbered.{HaveNoNameInCommon}
 

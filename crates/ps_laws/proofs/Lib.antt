@@ -28,6 +28,3 @@ pub mod LinkedBytes
 pub mod NotWanted
 pub mod OneList
 pub mod SegmentOrigins
-pub mod ChangedLists
-pub mod MovedSegments
-pub mod SameSearches

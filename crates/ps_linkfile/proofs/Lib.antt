@@ -13,5 +13,3 @@ pub mod Walks
 pub mod Shows
 pub mod FilledPlaces
 pub mod StoredPlaces
-pub mod FileOfSegments
-pub mod StoredCauses

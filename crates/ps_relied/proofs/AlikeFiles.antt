@@ -1,34 +1,74 @@
 -- Files that are read alike link to the same bytes, or have the same first fault.
 use Rattle.ps_codefile.specs.declared.entry.Role.TheVariants as role
 use Rattle.ps_words.specs.declared.fault.Reason.TheVariants as reason
-use Rattle.ps_relied.proofs.Vocabulary.{AreChosenAlike, AreFilesAlike, AreMoved, AreReadAlike, AreSameSegments, Bool, Both, Change, Fault, IsFound, IsReadAlike, List, None, Ok, Option, Order, Reason, Result, Role, Some, [], arith, both, bytes_eq, chosen_file, chosen_library, clipped, entry_at, enumerate_from, false, fault_if, file_at, find, first_fault, first_of, has_entry, host_fault, if◌then◌else◌, in_file, in_slot, information_block, inl, is_host, is_in_place, is_unit, libraries_fault, library_fault, library_file, linking_fault, linking_moved, list_any, map, name_at, needs_linking, neither, no_host_fault, not, of_any_file, option_map, option_map_or, option_or, or_none, order_of, range_with_len, reading_fault, reading_rest, refiled, refl, renewed, rest_moved, result_err, result_ok, role_of, same_clipped, segments, segments_moved, segments_of, slots, slots_fault, sym, true, ℕ, ◌&&◌, ◌+◌, ◌∙◌, ◌∷◌, ◌≡◌, ◌≢◌}
-use Rattle.ps_relied.proofs.Entries.{same_entry, same_index, same_reasons, same_unit}
+use Rattle.ps_relied.proofs.Vocabulary.{AreFilesAlike, AreReadAlike, AreSameSegments, Bool, Both, Fault, HasSameCode, HasSameRecords, IsReadAlike, List, None, Option, Order, Reason, Result, Role, SLOTS, Some, [], and_left, ap, arith, both, both_none, bytes_eq, chosen_file, chosen_library, clipped, entries_reason, entry_at, enumerate_from, false, fault_if, file_at, find, find_in, find_passes, first_fault, first_of, has_entry, host_fault, if◌then◌else◌, in_file, in_slot, in_slots, information_block, is_filled, is_host, is_named, is_unit, kind_is, libraries_fault, library_fault, library_file, linking_fault, list_any, map, name_at, needs_linking, neither, no_host_fault, not, option_and_then, option_map, option_map_or, option_or, order_of, range_with_len, reading_fault, reading_rest, refl, result_err, result_ok, same_clipped, segments, segments_of, slots, slots_fault, sym, true, ℕ, ◌&&◌, ◌+◌, ◌<◌, ◌==◌, ◌∙◌, ◌∷◌, ◌≡◌}
+use Rattle.ps_relied.proofs.SameSearches.{AreChosenAlike, AreMoved, Change, IsFound, linking_moved, refiled, renewed, rest_moved, same_roles, segments_moved}
 use Rattle.ps_relied.proofs.SameFile.{same_renewed}
 
--- 1. libraries that are read alike, one by one
-libraries_alike : (order : Order) (n : ℕ) (libs others : List (List ℕ))
-    → AreReadAlike order libs others → first_of (library_fault order) (enumerate_from n others)
-    ≡ first_of (library_fault order) (enumerate_from n libs)
-libraries_alike order n [] [] t = refl
-libraries_alike order n [] (other ∷ others) t = absurd t
-libraries_alike order n (lib ∷ libs) [] t = absurd t
-libraries_alike order n (lib ∷ libs) (other ∷ others) t =
-    rw (← t.0.opened, libraries_alike order (n + 1) libs others t.1) refl
+-- 1. what is looked up in the entries of two libraries that are read alike
+same_test : (b c : Bool) (x y name : List ℕ) → b ≡ c → (b ≡ true → x ≡ y)
+    → (c && bytes_eq y name) ≡ (b && bytes_eq x name)
+same_test b c x y name e h = grind arith
 
--- the same is chosen
+module _ (order : Order) (file other : List ℕ) (like : IsReadAlike order file other)
+    (name : List ℕ) where
+  named : clipped false (is_named order name other) ≡ clipped false (is_named order name file)
+  named = same_clipped false _ _
+      (λ i h. same_test _ _ _ _ name (like.filled i h) (like.names i h))
+
+  same_search : (has_entry order name other ≡ has_entry order name file)
+      × (find (is_named order name other) slots ≡ find (is_named order name file) slots)
+  same_search = (λ j. list_any (named j) slots, λ j. find (named j) slots)
+
+  -- an entry that is found is filled
+  filled_at : (i : ℕ) → find (is_named order name file) slots ≡ Some i
+      → (i < SLOTS) × (is_filled (entry_at order file i) ≡ true)
+  filled_at i e = let at = find_in (is_named order name file) slots i e in
+      let passes = find_passes (is_named order name file) slots i e in
+      (in_slots i at, and_left _ _ passes)
+
+  same_reasons : entries_reason order name other ≡ entries_reason order name file
+  same_reasons = λ j. if list_any (λ i. named j i
+      && list_any (named j) (range_with_len 0 i)) slots
+      then Some reason.DoubledUnit else ((λ j. kind_in other (same_search.1 j))
+      ∙ go (find (is_named order name file) slots) refl) j
+    where
+      kind_in : List ℕ → Option ℕ → Option Reason
+      kind_in lib o = option_and_then (λ i. let kind = (entry_at order lib i).kind in
+          fault_if (not (kind == 3)) (reason.NotAUnit kind)) o
+
+      go : (o : Option ℕ) → find (is_named order name file) slots ≡ o
+          → kind_in other o ≡ kind_in file o
+      go None e = refl
+      go (Some i) e = let at = filled_at i e in
+          ap (λ kind. fault_if (not (kind == 3)) (reason.NotAUnit kind))
+          (sym (like.kinds i at.0 at.1))
+
+  same_unit : (i : ℕ) → find (is_named order name file) slots ≡ Some i
+      → entries_reason order name file ≡ None
+      → HasSameCode order file other i × HasSameRecords order file other i
+  same_unit i e fine = let at = filled_at i e in
+      like.units i at.0 at.1 (kind_is order name file i fine e)
+
+-- 2. libraries that are read alike, one by one: the faults of all are the same, and for each name
+-- the same one is chosen
 abbrev IsSame : Order → ℕ × List ℕ → ℕ × List ℕ → Type 0
 IsSame order a b = (b.0 ≡ a.0) × IsReadAlike order a.1 b.1
 
-choices_alike : (order : Order) (name : List ℕ) (n : ℕ) (libs others : List (List ℕ))
-    → AreReadAlike order libs others → Both (IsSame order)
+same_libraries : (order : Order) (name : List ℕ) (n : ℕ) (libs others : List (List ℕ))
+    → AreReadAlike order libs others
+    → (first_of (library_fault order) (enumerate_from n others)
+    ≡ first_of (library_fault order) (enumerate_from n libs)) × Both (IsSame order)
     (find (λ (lib : ℕ × List ℕ). has_entry order name lib.1) (enumerate_from n libs))
     (find (λ (lib : ℕ × List ℕ). has_entry order name lib.1) (enumerate_from n others))
-choices_alike order name n [] [] t = neither
-choices_alike order name n [] (y ∷ ys) t = absurd t
-choices_alike order name n (x ∷ xs) [] t = absurd t
-choices_alike order name n (x ∷ xs) (y ∷ ys) t =
-    rw (same_entry order x y t.0 name) (go (has_entry order name x) _ _
-    (choices_alike order name (n + 1) xs ys t.1))
+same_libraries order name n [] [] t = (refl, neither)
+same_libraries order name n [] (y ∷ ys) t = absurd t
+same_libraries order name n (x ∷ xs) [] t = absurd t
+same_libraries order name n (x ∷ xs) (y ∷ ys) t =
+    let later = same_libraries order name (n + 1) xs ys t.1 in (
+      rw (← t.0.opened, later.0) refl,
+      rw ((same_search order x y t.0 name).0) (go (has_entry order name x) _ _ later.1),
+    )
   where
     go : (b : Bool) (o p : Option (ℕ × List ℕ)) → Both (IsSame order) o p
         → Both (IsSame order) (if b then Some (n, x) else o) (if b then Some (n, y) else p)
@@ -39,18 +79,12 @@ or_same : {A : Type 0} (a b x y : Option A) → b ≡ a → (a ≡ None → y �
     → option_or b y ≡ option_or a x
 or_same a b x y e h = grind arith
 
--- a segment of the host's own
-in_place : (r : Role) → r ≢ role.Empty → r ≢ role.Wanted → is_in_place r ≡ true
-in_place role.Empty filled own = absurd (filled refl)
-in_place role.Wanted filled own = absurd (own refl)
-in_place r filled own = refl
-
 module _ (host other : List ℕ) (libs others : List (List ℕ))
     (alike : AreFilesAlike host other libs others) where
   abbrev order : Order
   order = order_of host
 
-  -- 2. all is the same but the blocks of link information
+  -- 3. all is the same but the blocks of link information
   abbrev change : Change
   change = record {
     order = order;
@@ -66,14 +100,14 @@ module _ (host other : List ℕ) (libs others : List (List ℕ))
 
   found : (name : List ℕ) → IsFound change name
   found name = go (chosen_library order name libs) (chosen_library order name others) refl
-      (choices_alike order name 0 libs others alike.libraries)
+      (same_libraries order name 0 libs others alike.libraries).1
     where
       go : (o p : Option (ℕ × List ℕ)) → chosen_library order name others ≡ p
           → Both (IsSame order) o p → Both (AreChosenAlike change name) o p
       go o p e neither = neither
       go o p e (both a b t) = both a b (record {
         file = λ j. library_file (t.0 j);
-        index = same_index order a.1 b.1 t.1 name;
+        index = (same_search order a.1 b.1 t.1 name).1;
         reasons = same_reasons order a.1 b.1 t.1 name;
         source = λ i at fine. let same = same_unit order a.1 b.1 t.1 name i at fine in record {
           code = same.0;
@@ -86,31 +120,26 @@ module _ (host other : List ℕ) (libs others : List (List ℕ))
   all = record {
     roles = alike.roles;
     names = alike.heads.names;
-    own = λ slot inside r e filled own. record {
-      code = alike.codes slot inside r e (in_place r filled own);
-      records = alike.records slot inside r e (in_place r filled own);
+    own = λ slot inside r e own. record {
+      code = alike.codes slot inside r e own;
+      records = alike.records slot inside r e own;
       behind = refl;
     };
     found = λ slot inside e. found (name_at host slot);
-    fits = inl found;
+    fits = λ k g e. found g.name;
   }
 
   same_faults : (o : Option Fault) → refiled change o ≡ o
   same_faults None = refl
   same_faults (Some f) = refl
 
-  -- 3. the faults of the slots
+  -- 4. the faults of the slots
   abbrev is_of : (Role → Bool) → Result Role Reason → Bool
   is_of test r = option_map_or test (result_ok r) false
 
-  same_roles : clipped (Ok role.Empty) (λ slot. role_of (entry_at order other slot))
-      ≡ clipped (Ok role.Empty) (λ slot. role_of (entry_at order host slot))
-  same_roles = same_clipped (Ok role.Empty) (λ slot. role_of (entry_at order other slot))
-      (λ slot. role_of (entry_at order host slot)) (λ slot inside. sym (alike.roles slot inside))
-
   same_slots : slots_fault order other ≡ slots_fault order host
   unfolding slots_fault
-  same_slots = λ j. by (same_roles j) (same_clipped [] (name_at other) (name_at host)
+  same_slots = λ j. by (same_roles change all j) (same_clipped [] (name_at other) (name_at host)
       (λ slot inside. sym (alike.heads.names slot inside)) j)
     where
       by : (ℕ → Result Role Reason) → (ℕ → List ℕ) → Option Fault
@@ -124,36 +153,30 @@ module _ (host other : List ℕ) (libs others : List (List ℕ))
   same_no_host : no_host_fault order other ≡ no_host_fault order host
   unfolding no_host_fault
   same_no_host = λ j. fault_if (not (list_any (λ slot. is_of is_host
-      (same_roles j slot)) slots)) (in_file 0 reason.NoHost)
+      (same_roles change all j slot)) slots)) (in_file 0 reason.NoHost)
 
-  same_libraries : libraries_fault order others ≡ libraries_fault order libs
-  unfolding libraries_fault
-  same_libraries = libraries_alike order 1 libs others alike.libraries
-
-  -- 4. so the first fault of all is the same, and the segments but for these blocks
+  -- 5. so the first fault of all is the same, and the segments but for these blocks
   segs : reading_fault host libs ≡ None
       → segments order other others ≡ map (renewed change) (segments order host libs)
   unfolding reading_fault
-  segs none = segments_moved change all (grind (arith, or_none))
+  segs none = segments_moved change all (grind (arith, both_none))
 
   reading : option_or (host_fault other) (option_or (slots_fault order other)
       (option_or (no_host_fault order other) (option_or (libraries_fault order others)
       (reading_rest order other others)))) ≡ reading_fault host libs
-  unfolding reading_fault
-  reading = λ i. option_or (option_map (in_file 0) (sym alike.opened i))
-      (option_or (same_slots i) (option_or (same_no_host i) (option_or (same_libraries i)
-      ((rest_moved change all ∙ same_faults (reading_rest order host libs)) i))))
+  unfolding reading_fault libraries_fault
+  reading = let none = (same_libraries order [] 1 libs others alike.libraries).0 in
+      let rest = rest_moved change all ∙ same_faults (reading_rest order host libs) in
+      rw (← alike.opened, same_slots, same_no_host, none, rest) refl
 
   pub first_same : first_fault other others ≡ first_fault host libs
   unfolding first_fault reading_fault
   first_same = rw (← alike.heads.order) (or_same _ _ _ _ reading (λ none.
-      (λ i. linking_fault order (segs none i))
-      ∙ (linking_moved change (segments order host libs)
-      ∙ same_faults (linking_fault order (segments order host libs)))))
+      rw (segs none, linking_moved change (segments order host libs))
+      (same_faults (linking_fault order (segments order host libs)))))
 
   pub segments_same : first_fault host libs ≡ None
       → AreSameSegments (segments_of host libs) (segments_of other others)
   unfolding first_fault
-  segments_same none = same_renewed change (segments order host libs)
-      (segments order other others) (segs (or_none (reading_fault host libs) _ none).0)
-      ∙ (λ i. map of_any_file (segments (alike.heads.order i) other others))
+  segments_same none = rw (← alike.heads.order) (same_renewed change (segments order host libs)
+      (segments order other others) (segs (both_none (reading_fault host libs) _ none).0))

@@ -1,10 +1,6 @@
 -- Link information is read up to its end mark.
-use Rattle.ps_relied.proofs.Vocabulary.{AreSpelled, Body, IsBody, List, None, Order, Record, Spells, [], ap, arith, drop, drop-append-le, get_or_append_left, length, length-append, length-map-range_with_len, map, range_with_len, reading, refl, refs_at, refs_of, size_of, suc, sym, take-append-le, word_at, zero, ℕ, ◌*◌, ◌++◌, ◌+◌, ◌/◌, ◌<◌, ◌↔◌, ◌∙◌, ◌∷◌, ◌≡◌, ◌≤◌}
-
--- the law of link information
-abbrev pub OneSpelling : Type 0
-OneSpelling = (order : Order) (bytes : List ℕ) (rs : List Record)
-    → Spells order bytes rs ↔ (reading order bytes ≡ (rs, None))
+use Rattle.ps_relied.proofs.Vocabulary.{AreSpelled, Body, IsBody, List, None, OneSpelling, Order, Record, Spells, [], arith, drop, drop-append-le, get_or_append_left, length, length-append, map, range_with_len, reading, refl, refs_of, size_of, suc, sym, take-append-le, word_at, zero, ℕ, ◌*◌, ◌++◌, ◌+◌, ◌/◌, ◌<◌, ◌∙◌, ◌∷◌, ◌≡◌, ◌≤◌}
+use Rattle.ps_linkinfo.proofs.ReferenceWords.{refs_len}
 
 -- what is read of bytes is read of them with more after them
 module _ (order : Order) (xs more : List ℕ) where
@@ -22,28 +18,13 @@ module _ (order : Order) (xs more : List ℕ) where
   words_more a (suc n) h = λ j. word_more (16 + 2 * a) (omega (arith, h)) j
       ∷ words_more (a + 1) n (omega (arith, h)) j
 
-  -- a list that is whole has its words
-  refs_more : (refs : List ℕ) → 16 + 16 * ((length refs + 7) / 8) ≤ length xs
-      → refs ≡ refs_at order xs (word_at order xs 12)
-      → refs ≡ refs_at order (xs ++ more) (word_at order (xs ++ more) 12)
-  refs_more refs h e =
-      let n : length refs ≡ word_at order xs 12 = ap (λ rs. length rs) e
-      ∙ length-map-range_with_len (λ i. word_at order xs (16 + 2 * i)) 0 (word_at order xs 12) in
-      rw (
-        word_more 12 (omega (arith, h)),
-        words_more 0 (word_at order xs 12)
-            (omega (arith, n, h)),
-      ) e
-
-  words : 16 ≤ length xs → (word_at order (xs ++ more) 8 ≡ word_at order xs 8)
-      × (word_at order (xs ++ more) 10 ≡ word_at order xs 10)
-      × (word_at order (xs ++ more) 14 ≡ word_at order xs 14)
-  words h = (word_more 8 (omega (arith, h)), word_more 10 (omega (arith, h)), word_more 14 h)
-
   body_more : (body : Body) → 16 + 16 * ((length (refs_of body) + 7) / 8) ≤ length xs
       → IsBody order xs body → IsBody order (xs ++ more) body
   body_more body h t =
-      let w = words (omega (arith, h)) in let r = refs_more (refs_of body) h in grind arith
+      let kind = word_more 8 (omega (arith, h)) in let format = word_more 10 (omega (arith, h)) in
+      let count = word_more 12 (omega (arith, h)) in let words = word_more 14 (omega (arith, h)) in
+      let list = words_more 0 (length (refs_of body)) (omega (arith, h)) in
+      grind (arith, kind, format, count, words, list, refs_len order xs)
 
 spelled_more : (order : Order) (rs : List Record) (xs more : List ℕ) → AreSpelled order xs rs
     → AreSpelled order (xs ++ more) rs

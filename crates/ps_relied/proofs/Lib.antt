@@ -1,5 +1,6 @@
 pub mod Vocabulary
-pub mod Entries
+pub mod ChangedLists
+pub mod SameSearches
 pub mod SameFile
 pub mod AlikeFiles
 pub mod Rearranged

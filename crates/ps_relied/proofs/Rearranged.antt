@@ -1,6 +1,7 @@
 -- Links whose libraries stand elsewhere, or one of which is left out.
 use Rattle.ps_codefile.specs.declared.entry.Role.TheVariants as role
-use Rattle.ps_relied.proofs.Vocabulary.{All, AreChosenAlike, AreMoved, AreSameSegments, Bool, Both, Change, Fits, HaveNoNameInCommon, In, IsFound, List, None, Ok, Option, Order, Reason, Result, Role, Segment, Some, [], added_at, added_segments, ap, arith, both, chosen_library, each_added, empty_slot, entry_at, enumerate_from, exchanged, false, find, first_fault, first_of, found_added, has, has_entry, has_own, in_file, in_segments, inl, inr, is_some, length, libraries_fault, library_file, library_reason, linking_moved, list_any, list_any-append, map, name_at, nat_tests, neither, of_all, option_map, option_or, or_none, order_of, own_made, reading_fault, refl, renumbered, rest_moved, result_ok, role_of, rounds, rounds_fine, same_Some, segments_moved, segments_of, some_mapped, source_of, sources_fine, sym, true, unit_source, without, ℕ, ◌++◌, ◌+◌, ◌<◌, ◌∙◌, ◌∷◌, ◌≡◌, ◌≢◌, ◌≤◌, SLOTS}
+use Rattle.ps_relied.proofs.Vocabulary.{All, AreSameSegments, Bool, Both, HaveNoNameInCommon, In, List, None, Ok, Option, Order, Reason, SLOTS, Segment, Some, UnitReference, [], added_at, ap, arith, both, both_none, chosen_library, empty_slot, entry_at, enumerate_from, exchanged, false, find, first_fault, first_of, found_added, has, has_entry, has_own, in_file, in_segments, is_some, length, libraries_fault, library_file, library_reason, list_any, list_any-append, map, name_at, name_placed, nat_tests, neither, of_all, option_map, option_or, order_of, own_made, queue_of, reading_fault, refl, renumbered, role_of, rounds_fine, segments_of, slice_get, some_mapped, source_of, sources_fine, subst, sym, true, unit_source, without, ℕ, ◌++◌, ◌+◌, ◌<◌, ◌∙◌, ◌∷◌, ◌≡◌, ◌≢◌, ◌≤◌}
+use Rattle.ps_relied.proofs.SameSearches.{AreChosenAlike, AreMoved, Change, IsFound, linking_moved, rest_moved, segments_moved}
 use Rattle.ps_relied.proofs.SameFile.{same_renewed}
 
 -- 1. libraries by their numbers
@@ -20,68 +21,39 @@ abbrev placed : (ℕ → ℕ) → Option (ℕ × List ℕ) → Option (ℕ × Li
 placed place o = option_map (λ (a : ℕ × List ℕ). (place a.0, a.1)) o
 
 module _ (test : List ℕ → Bool) where
-  joined : (n p : ℕ) (xs ys : List (List ℕ)) → p ≡ n + length xs
-      → chosen_from test n (xs ++ ys)
-      ≡ option_or (chosen_from test n xs) (chosen_from test p ys)
-  joined n p [] ys e = let same : p ≡ n = omega (arith, e) in rw same refl
-  joined n p (x ∷ xs) ys e =
-      let later = joined (n + 1) p xs ys (omega (arith, e)) in grind (arith, later)
-
+  -- libraries that are numbered from m on, and not from n on
   shifted : (place : ℕ → ℕ) (n m : ℕ) (xs : List (List ℕ))
-      → ((i j : ℕ) → n ≤ i → i < n + length xs → j + n ≡ i + m → place i ≡ j)
+      → ((i j : ℕ) → n ≤ i → j + n ≡ i + m → place i ≡ j)
       → chosen_from test m xs ≡ placed place (chosen_from test n xs)
   shifted place n m [] h = refl
   shifted place n m (x ∷ xs) h =
-      let now : place n ≡ m = h n m (omega arith) (omega arith) (omega arith) in
-      let later = shifted place (n + 1) (m + 1) xs (λ i j low high e.
-      h i j (omega (arith, low)) (omega (arith, high)) (omega (arith, e))) in
-      grind (arith, now, later)
-
-  any_swapped : (before after : List (List ℕ)) (a b : List ℕ)
-      → list_any test (before ++ (a ∷ b ∷ after)) ≡ false
-      → list_any test (before ++ (b ∷ a ∷ after)) ≡ false
-  any_swapped before after a b t =
-      let was = list_any-append test before (a ∷ b ∷ after) in
-      let now = list_any-append test before (b ∷ a ∷ after) in
-      grind arith
-
-  any_left : (before after : List (List ℕ)) (lib : List ℕ)
-      → list_any test (before ++ (lib ∷ after)) ≡ false
-      → list_any test (before ++ after) ≡ false
-  any_left before after lib t =
-      let was = list_any-append test before (lib ∷ after) in
-      let now = list_any-append test before after in
-      grind arith
+      let now : place n ≡ m = h n m (omega arith) (omega arith) in
+      let later = shifted place (n + 1) (m + 1) xs (λ i j low e.
+      h i j (omega (arith, low)) (omega (arith, e))) in grind (arith, now, later)
 
   -- neighbours, not both of which pass, are exchanged
-  swapped : (before after : List (List ℕ)) (a b : List ℕ)
-      → (test a ≡ true → test b ≡ true → ⊥)
-      → chosen_from test 0 (before ++ (b ∷ a ∷ after))
-      ≡ placed (exchanged (length before)) (chosen_from test 0 (before ++ (a ∷ b ∷ after)))
-  swapped before after a b apart =
-      let spot = length before in
-      let first = shifted (exchanged spot) 0 0 before
-      (λ i j low high e. grind (arith, nat_tests)) in
-      let last = shifted (exchanged spot) (spot + 1 + 1) (spot + 1 + 1) after
-      (λ i j low high e. grind (arith, nat_tests)) in
-      let now = joined 0 spot before (b ∷ a ∷ after) (omega arith) in
-      let was = joined 0 spot before (a ∷ b ∷ after) (omega arith) in
-      grind (arith, nat_tests)
+  swapped : (n spot : ℕ) (before after : List (List ℕ)) (a b : List ℕ)
+      → spot ≡ n + length before → (test a ≡ true → test b ≡ true → ⊥)
+      → chosen_from test n (before ++ (b ∷ a ∷ after))
+      ≡ placed (exchanged spot) (chosen_from test n (before ++ (a ∷ b ∷ after)))
+  swapped n spot [] after a b e apart =
+      let rest = shifted (exchanged spot) (n + 1 + 1) (n + 1 + 1) after
+      (λ i j low k. grind (arith, nat_tests)) in grind (arith, nat_tests)
+  swapped n spot (x ∷ before) after a b e apart =
+      grind (arith, nat_tests, swapped (n + 1) spot before after a b (omega (arith, e)) apart)
 
   -- one that is not chosen is left out
-  left : (before after : List (List ℕ)) (lib : List ℕ)
-      → (chosen_from test 0 (before ++ (lib ∷ after)) ≡ Some (length before, lib) → ⊥)
-      → chosen_from test 0 (before ++ after)
-      ≡ placed (without (length before)) (chosen_from test 0 (before ++ (lib ∷ after)))
-  left before after lib other =
-      let spot = length before in
-      let first = shifted (without spot) 0 0 before
-      (λ i j low high e. grind (arith, nat_tests)) in
-      let last = shifted (without spot) (spot + 1) spot after
-      (λ i j low high e. grind (arith, nat_tests)) in
-      let now = joined 0 spot before after (omega arith) in
-      let was = joined 0 spot before (lib ∷ after) (omega arith) in
+  left : (n spot : ℕ) (before after : List (List ℕ)) (lib : List ℕ)
+      → spot ≡ n + length before
+      → (chosen_from test n (before ++ (lib ∷ after)) ≡ Some (spot, lib) → ⊥)
+      → chosen_from test n (before ++ after)
+      ≡ placed (without spot) (chosen_from test n (before ++ (lib ∷ after)))
+  left n spot [] after lib e other =
+      let rest = shifted (without spot) (n + 1) n after (λ i j low k. grind (arith, nat_tests)) in
       grind (arith, nat_tests)
+  left n spot (x ∷ before) after lib e other =
+      let rest = λ (no : test x ≡ false). left (n + 1) spot before after lib (omega (arith, e))
+      (λ h. other (rw no h)) in grind (arith, nat_tests, rest)
 
 -- what is kept: no fault, and the segments but for the numbers of their files
 pub record IsKept (number : ℕ → ℕ)
@@ -90,10 +62,20 @@ pub record IsKept (number : ℕ → ℕ)
   pub same : AreSameSegments (segments_of host libs) (segments_of host others)
   pub segments : segments_of host others ≡ map (renumbered number) (segments_of host libs)
 
--- 2. libraries become others, each name's with another number
+-- 2. libraries become others, in which each unit of the link is found under another number
 module _ (host : List ℕ) (libs others : List (List ℕ)) (number place : ℕ → ℕ)
     (same_host : number 0 ≡ 0)
-    (places : (k : ℕ) → library_file (place k) ≡ number (library_file k)) where
+    (places : (k : ℕ) → library_file (place k) ≡ number (library_file k))
+    (none : first_fault host libs ≡ None)
+    (opened : (test : List ℕ → Bool) → list_any test libs ≡ false
+    → list_any test others ≡ false)
+    (chosen : (name : List ℕ) (s : Segment) → In s (segments_of host libs)
+    → unit_source (order_of host) name libs ≡ Some (s.file, s.index)
+    → chosen_library (order_of host) name others
+    ≡ placed place (chosen_library (order_of host) name libs)) where
+  abbrev order : Order
+  order = order_of host
+
   abbrev change : Change
   change = record {
     order = order_of host;
@@ -106,9 +88,9 @@ module _ (host : List ℕ) (libs others : List (List ℕ)) (number place : ℕ �
     block = λ r k i b. b;
   }
 
-  found : (name : List ℕ) → chosen_library (order_of host) name others
-      ≡ placed place (chosen_library (order_of host) name libs) → IsFound change name
-  found name e = rw e (go (chosen_library (order_of host) name libs))
+  found : (name : List ℕ) (s : Segment) → In s (segments_of host libs)
+      → unit_source order name libs ≡ Some (s.file, s.index) → IsFound change name
+  found name s t source = rw (chosen name s t source) (go (chosen_library order name libs))
     where
       go : (o : Option (ℕ × List ℕ)) → Both (AreChosenAlike change name) o (placed place o)
       go None = neither
@@ -119,120 +101,81 @@ module _ (host : List ℕ) (libs others : List (List ℕ)) (number place : ℕ �
         source = λ i at fine. record { code = refl; records = λ n. refl; behind = refl };
       })
 
-  kept : first_fault host libs ≡ None → ((slot : ℕ) → slot < SLOTS
-      → role_of (entry_at (order_of host) host slot) ≡ Ok role.Wanted
-      → IsFound change (name_at host slot)) → Fits change (rounds (order_of host) host libs)
-      → (list_any (λ lib. is_some (library_reason (order_of host) lib)) libs ≡ false
-      → list_any (λ lib. is_some (library_reason (order_of host) lib)) others ≡ false)
-      → IsKept number host libs others
+  read : reading_fault host libs ≡ None
+  unfolding first_fault
+  read = (both_none (reading_fault host libs) _ none).0
+
+  of_slots : (slot : ℕ) → slot < SLOTS → role_of (entry_at order host slot) ≡ Ok role.Wanted
+      → IsFound change (name_at host slot)
+  of_slots slot inside wants =
+      let own = has_own order host libs (sources_fine host libs read) slot inside role.Wanted wants
+      (λ e. cc) in
+      let t = own_made order host libs slot own.0 own.1 in
+      let is : role.Wanted ≡ t.0 = grind (arith, wants, t.1) in
+      found (name_at host slot) own.0 (in_segments order host libs slot own.0 inside
+      (ap (λ o. option_or o (added_at order host libs slot)) own.1))
+      (ap (λ r. source_of order host libs slot r) is ∙ (t.4
+      ∙ (λ j. Some ((sym t.3.is j).file, (sym t.3.is j).index))))
+
+  of_queue : (k : ℕ) (g : UnitReference) → slice_get (queue_of order host libs) k ≡ Some g
+      → IsFound change g.name
+  of_queue k g e =
+      let t = name_placed order host libs (rounds_fine host libs read) k g e in
+      let b = (empty_slot order host k t.0.slot t.1.slot).1 in
+      subst (λ name. IsFound change name) t.1.name (found t.0.name t.0 (in_segments order host libs
+      t.0.slot t.0 (omega (arith, b)) (found_added order host libs k t.0 t.1.there)) t.1.source)
+
+  pub kept : IsKept number host libs others
   unfolding first_fault reading_fault libraries_fault
-  kept none wanted fits opened =
+  kept =
       let moved : AreMoved change = record {
         roles = λ slot h. refl;
         names = λ slot h. refl;
-        own = λ slot h r e f o. record { code = refl; records = λ n. refl; behind = refl };
-        found = wanted;
-        fits = fits;
+        own = λ slot h r e o. record { code = refl; records = λ n. refl; behind = refl };
+        found = of_slots;
+        fits = of_queue;
       } in
-      let was = are_opened (library_reason (order_of host)) 1 libs in
-      let now = are_opened (library_reason (order_of host)) 1 others in
-      let same = segments_moved change moved (grind (arith, or_none)) in
+      let was = are_opened (library_reason order) 1 libs in
+      let now = are_opened (library_reason order) 1 others in
+      let fine = opened (λ lib. is_some (library_reason order lib)) in
+      let same = segments_moved change moved (grind (arith, both_none)) in
       let rest = rest_moved change moved in
       let linking = linking_moved change (segments_of host libs) in
       record {
-        fine = grind (arith, or_none);
+        fine = grind (arith, both_none);
         same = same_renewed change (segments_of host libs) (segments_of host others) same;
         segments = same;
       }
 
--- 3. neighbours are exchanged
-module _ (host : List ℕ) (before after : List (List ℕ)) (a b : List ℕ)
-    (apart : HaveNoNameInCommon (order_of host) a b)
-    (none : first_fault host (before ++ (a ∷ b ∷ after)) ≡ None) where
+module _ (host : List ℕ) (before after : List (List ℕ)) (lib : List ℕ) where
   abbrev spot : ℕ
   spot = length before
 
-  swapped_host : exchanged (library_file spot) 0 ≡ 0
-  swapped_host = grind (arith, nat_tests)
+  -- 3. neighbours are exchanged
+  pub exchanged_kept : (next : List ℕ)
+      → first_fault host (before ++ (lib ∷ next ∷ after)) ≡ None
+      → HaveNoNameInCommon (order_of host) lib next
+      → IsKept (exchanged (library_file spot)) host (before ++ (lib ∷ next ∷ after))
+      (before ++ (next ∷ lib ∷ after))
+  exchanged_kept next none apart = kept host (before ++ (lib ∷ next ∷ after))
+      (before ++ (next ∷ lib ∷ after)) (exchanged (library_file spot)) (exchanged spot)
+      (grind (arith, nat_tests)) (λ k. grind (arith, nat_tests)) none
+      (λ test t. grind (arith, list_any-append test))
+      (λ name s t source. let is_there = has (order_of host) name in
+      swapped (has_entry (order_of host) name) 0 spot before after lib next (omega arith)
+      (λ p q. apart name ((is_there lib).0 p) ((is_there next).0 q)))
 
-  swapped_places : (k : ℕ)
-      → library_file (exchanged spot k) ≡ exchanged (library_file spot) (library_file k)
-  swapped_places k = grind (arith, nat_tests)
-
-  all_found : (name : List ℕ) → IsFound (change host (before ++ (a ∷ b ∷ after))
-      (before ++ (b ∷ a ∷ after)) (exchanged (library_file spot)) (exchanged spot) swapped_host
-      swapped_places) name
-  all_found name = found host (before ++ (a ∷ b ∷ after)) (before ++ (b ∷ a ∷ after))
-      (exchanged (library_file spot)) (exchanged spot) swapped_host swapped_places name
-      (swapped (has_entry (order_of host) name) before after a b
-      (λ p q. apart name ((has (order_of host) name a).0 p) ((has (order_of host) name b).0 q)))
-
-  pub exchanged_kept : IsKept (exchanged (library_file spot)) host (before ++ (a ∷ b ∷ after))
-      (before ++ (b ∷ a ∷ after))
-  exchanged_kept = kept host (before ++ (a ∷ b ∷ after)) (before ++ (b ∷ a ∷ after))
-      (exchanged (library_file spot)) (exchanged spot) swapped_host swapped_places none
-      (λ slot h w. all_found (name_at host slot)) (inl all_found)
-      (any_swapped (λ lib. is_some (library_reason (order_of host) lib)) before after a b)
-
--- 4. a library is left out
-module _ (host : List ℕ) (before after : List (List ℕ)) (lib : List ℕ)
-    (none : first_fault host (before ++ (lib ∷ after)) ≡ None)
-    (gives : All (λ (s : Segment). s.file ≢ library_file (length before))
-    (segments_of host (before ++ (lib ∷ after)))) where
-  abbrev place : ℕ
-  place = length before
-
-  abbrev order : Order
-  order = order_of host
-
-  abbrev all : List (List ℕ)
-  all = before ++ (lib ∷ after)
-
-  fewer_host : without (library_file place) 0 ≡ 0
-  fewer_host = grind (arith, nat_tests)
-
-  fewer_places : (k : ℕ)
-      → library_file (without place k) ≡ without (library_file place) (library_file k)
-  fewer_places k = grind (arith, nat_tests)
-
-  abbrev IsThere : List ℕ → Type 0
-  IsThere name = IsFound (change host all (before ++ after) (without (library_file place))
-      (without place) fewer_host fewer_places) name
-
-  -- a unit of another file is not chosen in the library
-  from_other : (name : List ℕ) (s : Segment) → In s (segments_of host all)
-      → unit_source order name all ≡ Some (s.file, s.index) → IsThere name
-  from_other name s t source = found host all (before ++ after) (without (library_file place))
-      (without place) fewer_host fewer_places name
-      (left (has_entry order name) before after lib (λ e. of_all
-      (λ (q : Segment). q.file ≢ library_file place) (segments_of host all) gives t.0 s t.1
-      (λ j. ((some_mapped {X = ℕ} {Y = ℕ × ℕ} (λ i. (library_file place, i)) _
+  -- 4. a library is left out
+  pub left_out : first_fault host (before ++ (lib ∷ after)) ≡ None
+      → All (λ (s : Segment). s.file ≢ library_file spot)
+      (segments_of host (before ++ (lib ∷ after)))
+      → IsKept (without (library_file spot)) host (before ++ (lib ∷ after)) (before ++ after)
+  left_out none gives = kept host (before ++ (lib ∷ after)) (before ++ after)
+      (without (library_file spot)) (without spot)
+      (grind (arith, nat_tests)) (λ k. grind (arith, nat_tests)) none
+      (λ test t. grind (arith, list_any-append test))
+      (λ name s t source. left (has_entry (order_of host) name) 0 spot before after lib
+      (omega arith) (λ e. of_all (λ (q : Segment). q.file ≢ library_file spot)
+      (segments_of host (before ++ (lib ∷ after))) gives t.0 s t.1
+      (λ j. ((some_mapped {X = ℕ} {Y = ℕ × ℕ} (λ i. (library_file spot, i)) _
       (s.file, s.index) (rw e at source)).2 j).0)))
-
-  read : reading_fault host all ≡ None
-  unfolding first_fault
-  read = (or_none (reading_fault host all) _ none).0
-
-  of_slots : (slot : ℕ) → slot < SLOTS → role_of (entry_at order host slot) ≡ Ok role.Wanted
-      → IsThere (name_at host slot)
-  of_slots slot inside wants =
-      let own = has_own order host all (sources_fine host all read) slot inside role.Wanted wants
-      (λ e. cc) in
-      let t = own_made order host all slot own.0 own.1 in
-      let is : role.Wanted ≡ t.0 = same_Some role.Wanted t.0
-      (sym (ap (λ (o : Result Role Reason). result_ok o) wants) ∙ t.1) in
-      from_other (name_at host slot) own.0 (in_segments order host all slot own.0 inside
-      (ap (λ o. option_or o (added_at order host all slot)) own.1))
-      (ap (λ r. source_of order host all slot r) is ∙ (t.4
-      ∙ (λ j. Some ((sym t.3.is j).file, (sym t.3.is j).index))))
-
-  of_rounds : All (λ (s : Segment). IsThere s.name) (added_segments order host all)
-  of_rounds = each_added order host all (λ s. IsThere s.name) (λ j g s known.
-      let b = (empty_slot order host j s.slot known.slot).1 in
-      from_other s.name s (in_segments order host all s.slot s (omega (arith, b))
-      (found_added order host all j s known.there)) known.source)
-
-  pub left_out : IsKept (without (library_file place)) host all (before ++ after)
-  left_out = kept host all (before ++ after) (without (library_file place)) (without place)
-      fewer_host fewer_places none of_slots (inr (rounds_fine host all read, of_rounds))
-      (any_left (λ lib. is_some (library_reason order lib)) before after lib)

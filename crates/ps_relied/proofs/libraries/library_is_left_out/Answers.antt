@@ -1,4 +1,4 @@
-use Rattle.std.proofs.Common.{◌∷◌, ◌++◌, refl}
+use Rattle.std.proofs.Common.{refl, ◌++◌, ◌∷◌}
 use Rattle.ps_linkfile.proofs.Whole.{none_found}
 use Rattle.ps_relied.proofs.Rearranged.{left_out}
 use Rattle.ps_relied.proofs.libraries.library_is_left_out.Goals as goal

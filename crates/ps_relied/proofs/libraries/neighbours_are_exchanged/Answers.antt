@@ -1,13 +1,13 @@
-use Rattle.std.proofs.Common.{◌∷◌, ◌++◌, refl}
+use Rattle.std.proofs.Common.{refl, ◌++◌, ◌∷◌}
 use Rattle.ps_linkfile.proofs.Whole.{none_found}
 use Rattle.ps_relied.proofs.Rearranged.{exchanged_kept}
 use Rattle.ps_relied.proofs.libraries.neighbours_are_exchanged.Goals as goal
 
 pub returns-clause-linked : goal.returns-clause-linked
 returns-clause-linked c = λ host lib next file before after apart is.
-    let kept = exchanged_kept host before after lib next apart
+    let kept = exchanged_kept host before after lib next
     (none_found c.first_of_all.ensures.some host
-    (before ++ (lib ∷ next ∷ after)) is.accepted) in
+    (before ++ (lib ∷ next ∷ after)) is.accepted) apart in
     c.link_is_its_segments.ensures host host (before ++ (lib ∷ next ∷ after))
     (before ++ (next ∷ lib ∷ after)) file is
     (c.first_of_all.ensures.none host (before ++ (next ∷ lib ∷ after)) kept.fine)
@@ -19,6 +19,6 @@ returns-clause-refused c = λ host lib next before after apart none file is. non
 
 pub returns-clause-numbers : goal.returns-clause-numbers
 returns-clause-numbers c = λ host lib next file before after apart is.
-    (exchanged_kept host before after lib next apart
+    (exchanged_kept host before after lib next
     (none_found c.first_of_all.ensures.some host (before ++ (lib ∷ next ∷ after))
-    is.accepted)).segments
+    is.accepted) apart).segments

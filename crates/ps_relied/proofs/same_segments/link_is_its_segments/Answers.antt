@@ -1,4 +1,4 @@
-use Rattle.std.proofs.Common.{sym, subst, ◌∙◌}
+use Rattle.std.proofs.Common.{subst, sym, ◌∙◌}
 use Rattle.ps_linkfile.proofs.Whole.{none_found}
 use Rattle.ps_linkfile.specs.LinkedFile.{LinkedFile}
 use Rattle.ps_relied.proofs.SameFile.{same_file}
