@@ -11,5 +11,6 @@ first_and_rest (name ∷ names) d some = refl
 
 -- the same, where those behind it are a slice
 pub all_names : (names : List (Bor (List ℕ))) (d : Bor (List ℕ)) → 0 < length names
-    → (get_or names 0 d).now ∷ contents (take (length names - 1) (drop 1 names)) ≡ contents names
+    → (get_or names 0 d).now ∷ contents (take (length names - 1) (drop 1 names))
+    ≡ contents names
 all_names names d some = rw (take_rest names 1) (first_and_rest names d some)

@@ -49,8 +49,8 @@ IsNotLinked room host libs (TooSmall size) =
 
 -- the same of a call whose libraries are one after another: more of them than have a place on the
 -- stack need memory before they are read
-abbrev pub IsCallNotDone : (List (List ℕ) → NotDone → Type 0) → List ℕ → List ℕ → NotDone
-    → Type 0
+abbrev pub IsCallNotDone : (List (List ℕ) → NotDone → Type 0) → List ℕ → List ℕ
+    → NotDone → Type 0
 IsCallNotDone P libs lengths (Refused r) =
     (sum lengths ≡ length libs) × P (split libs lengths) (Refused r)
 IsCallNotDone P libs lengths WrongLengths = sum lengths ≢ length libs

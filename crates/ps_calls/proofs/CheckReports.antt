@@ -10,8 +10,8 @@ use Rattle.ps_answers.specs.declared.outcome.NotDone.TheVariants.{Refused, Wrong
 
 -- the report of files with these names, by the bytes of its text
 pub report_of : (named names : List (List ℕ)) (host : List ℕ) (libs : List (List ℕ))
-    (verdict : Verdict) (warnings : ℕ) (text bytes : List ℕ) → named ≡ names → bytes ≡ text
-    → IsReport named host libs verdict warnings text
+    (verdict : Verdict) (warnings : ℕ) (text bytes : List ℕ) → named ≡ names
+    → bytes ≡ text → IsReport named host libs verdict warnings text
     → IsReport names host libs verdict warnings bytes
 report_of named names host libs verdict warnings text bytes all same is =
     rw (all, sym same) at is

@@ -50,7 +50,8 @@ all_texts names i end all = All-map IsUtf8 (λ (name : Bor (List ℕ)). name.now
     (take_all i names end) all)
 
 pub misnamed : {X : Type 0} (names lengths : List ℕ) (parts : List (Bor (List ℕ)))
-    (r : Result X NotDone) → sum lengths ≡ length names → contents parts ≡ split names lengths
+    (r : Result X NotDone) → sum lengths ≡ length names
+    → contents parts ≡ split names lengths
     → IfErr r (IsUnreadable (contents parts)) → IfErr r (IsMisnamed names lengths)
 misnamed names lengths parts (Ok x) whole e h = tt
 misnamed names lengths parts (Err (Refused r)) whole e h = h

@@ -42,7 +42,8 @@ module _ (how : ListForm) (all_names all_files : List (List ℕ)) where
 -- the first file was listed
 pub listed_first : (how : ListForm) (name file : List ℕ) (names files : List (List ℕ))
     (phrase : List ℕ)
-    → ListsLeft how (name ∷ names) (file ∷ files) names files (listed how true name phrase file)
+    → ListsLeft how (name ∷ names) (file ∷ files) names files
+        (listed how true name phrase file)
 listed_first how name file names files phrase =
     record { rest = λ more are. (phrase, more, are, refl) }
 
@@ -56,8 +57,8 @@ one_ends xs ys n short = by (nat_le (length xs) n) refl
     by false gt = inr (drop_all n ys (grind (arith, nat_tests)))
 
 -- nothing is listed where no name or no file is left
-pub none_listed : (how : ListForm) (names files : List (List ℕ)) → (names ≡ []) ⊎ (files ≡ [])
-    → AreListed how false names files []
+pub none_listed : (how : ListForm) (names files : List (List ℕ))
+    → (names ≡ []) ⊎ (files ≡ []) → AreListed how false names files []
 none_listed how [] files e = refl
 none_listed how (name ∷ names) [] e = refl
 none_listed how (name ∷ names) (file ∷ files) (inl e) = cc

@@ -37,21 +37,23 @@ report_printed how names host libs verdict name warnings report (Ok text) is sam
   warnings,
   report,
   is,
-  subst (λ (n : Option (List ℕ)). IsPrintedText (is_json how) verdict n warnings report text.items)
-      same made,
+  subst (λ (n : Option (List ℕ)). IsPrintedText
+      (is_json how) verdict n warnings report text.items) same made,
 )
 report_printed how names host libs verdict name warnings report (Err error) is same made = tt
 
 -- what looks wrong as lines, by the bytes of them
 pub looks_lines : {E : Type 0} (warnings harmless notes : List Warning) (n : ℕ)
-    (lines : List ℕ) (r : Result (Vec ℕ Global) E) → length warnings ≡ n → warnings_in lines ≡ n
+    (lines : List ℕ) (r : Result (Vec ℕ Global) E) → length warnings ≡ n
+    → warnings_in lines ≡ n
     → AreLookLines warnings harmless notes lines → IfOk r (λ text. text.items ≡ lines)
     → IfOk r (λ text. ArePrintedLooks false n text.items)
 looks_lines warnings harmless notes n lines (Ok text) many counted are made = (
   ap warnings_in made ∙ counted,
   warnings,
   many,
-  (harmless, notes, subst (λ (t : List ℕ). AreLookLines warnings harmless notes t) (sym made) are),
+  (harmless, notes, subst (λ (t : List ℕ). AreLookLines warnings harmless notes t)
+      (sym made) are),
 )
 looks_lines warnings harmless notes n lines (Err error) many counted are made = tt
 

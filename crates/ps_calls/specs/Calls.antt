@@ -80,8 +80,8 @@ pub record ShowNeeds (file room : List ℕ) (answer : Answer) : Type 0 where
 
 -- the room begins with the text of a report, which has the names of the files, and the answer has
 -- what was found
-pub record Reports (names : List (List ℕ)) (host : List ℕ) (libs : List (List ℕ)) (strict : Bool)
-    (old new : List ℕ) (answer : CheckAnswer) : Type 0 where
+pub record Reports (names : List (List ℕ)) (host : List ℕ) (libs : List (List ℕ))
+    (strict : Bool) (old new : List ℕ) (answer : CheckAnswer) : Type 0 where
   pub found : Found
   pub is : IsFound names host libs strict old new found
   pub told : answer ≡ found_answer found
@@ -95,8 +95,8 @@ pub record ReportNeeds (names : List (List ℕ)) (host : List ℕ) (libs : List 
 
 -- What was answered of a call for a text, or for names of units: an outcome of it, by which the
 -- room begins with the text, or which says why it does not.
-pub record IsAnswered (k : Option TextKind) (host libs lengths names name_lengths old new : List ℕ)
-    (answer : Answer) : Type 0 where
+pub record IsAnswered (k : Option TextKind)
+    (host libs lengths names name_lengths old new : List ℕ) (answer : Answer) : Type 0 where
   pub outcome : Result Done NotDone
   pub told : answer ≡ answer_of outcome
   pub printed : IfOk outcome (IsPrinted k host libs lengths names name_lengths old new)

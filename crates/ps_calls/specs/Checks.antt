@@ -27,9 +27,9 @@ IsCheckable libs lengths names name_lengths =
     (sum lengths ≡ length libs) × (length name_lengths ≡ 1 + length lengths)
     × AreNames names name_lengths
 
--- the room begins with the text of a report of these files, which has their names, and what is found
--- has the verdict of that report, how many lines of it begin with `warning: `, its length, the
--- status that goes with them, and the name of what the fault is about
+-- the room begins with the text of a report of these files, which has their names, and what is
+-- found has the verdict of that report, how many lines of it begin with `warning: `, its length,
+-- the status that goes with them, and the name of what the fault is about
 abbrev pub IsFound : List (List ℕ) → List ℕ → List (List ℕ) → Bool → List ℕ
     → List ℕ → Found → Type 0
 IsFound names host libs strict old new found =

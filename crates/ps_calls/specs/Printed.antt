@@ -81,8 +81,8 @@ is_json form.Lines = false
 is_json form.Json = true
 
 -- the report of a check, as it is printed
-abbrev pub IsPrintedReport : TextForm → List (List ℕ) → List ℕ → List (List ℕ) → List ℕ
-    → Type 0
+abbrev pub IsPrintedReport : TextForm → List (List ℕ) → List ℕ → List (List ℕ)
+    → List ℕ → Type 0
 IsPrintedReport how names host libs text =
     (verdict : Verdict) × (warnings : ℕ) × (report : List ℕ)
     × IsReport names host libs verdict warnings report
@@ -90,8 +90,8 @@ IsPrintedReport how names host libs text =
 
 -- What looks wrong, one by one, as it is printed, of a report of these files: as many warnings as
 -- that has.
-abbrev pub IsPrintedLooks : TextForm → List (List ℕ) → List ℕ → List (List ℕ) → List ℕ
-    → Type 0
+abbrev pub IsPrintedLooks : TextForm → List (List ℕ) → List ℕ → List (List ℕ)
+    → List ℕ → Type 0
 IsPrintedLooks how names host libs text =
     (verdict : Verdict) × (warnings : ℕ) × (report : List ℕ)
     × IsReport names host libs verdict warnings report
@@ -139,20 +139,20 @@ IsNotMade k host libs NoMemory = ⊤
 IsNotMade k host libs (TooSmall size) = ⊥
 
 -- the room begins with it
-abbrev pub IsPut : TextKind → List (List ℕ) → List ℕ → List (List ℕ) → List ℕ → List ℕ
-    → Done → Type 0
+abbrev pub IsPut : TextKind → List (List ℕ) → List ℕ → List (List ℕ) → List ℕ
+    → List ℕ → Done → Type 0
 IsPut k names host libs old new d = (text : List ℕ) × IsTextOf k names host libs text
     × RoomBeginsWith text old new × (d ≡ done.Text (length text))
 
 -- it has so many bytes, and there is less room
-abbrev pub IsLong : TextKind → List (List ℕ) → List ℕ → List (List ℕ) → List ℕ → ℕ
-    → Type 0
+abbrev pub IsLong : TextKind → List (List ℕ) → List ℕ → List (List ℕ) → List ℕ
+    → ℕ → Type 0
 IsLong k names host libs room size = (text : List ℕ) × IsTextOf k names host libs text
     × IsAbove size text room
 
 -- why it is not put into this room
-abbrev pub IsNotPut : TextKind → List (List ℕ) → List ℕ → List (List ℕ) → List ℕ → NotDone
-    → Type 0
+abbrev pub IsNotPut : TextKind → List (List ℕ) → List ℕ → List (List ℕ) → List ℕ
+    → NotDone → Type 0
 IsNotPut k names host libs room (Refused r) = CanRefuse k host libs r
 IsNotPut k names host libs room WrongLengths = ⊥
 IsNotPut k names host libs room WrongNames = ⊥
@@ -194,8 +194,8 @@ HasInputs named libs lengths names name_lengths =
     HasRightLengths named libs lengths names name_lengths × HasNames named names name_lengths
 
 -- why a call for it leaves the room as it was
-abbrev pub IsKindNotPrinted : TextKind → List ℕ → List ℕ → List ℕ → List ℕ → List ℕ → List ℕ
-    → NotDone → Type 0
+abbrev pub IsKindNotPrinted : TextKind → List ℕ → List ℕ → List ℕ → List ℕ
+    → List ℕ → List ℕ → NotDone → Type 0
 IsKindNotPrinted k room host libs lengths names name_lengths (Refused r) =
     HasInputs (needs_names k) libs lengths names name_lengths
     × CanRefuse k host (split libs lengths) r
@@ -211,15 +211,15 @@ IsKindNotPrinted k room host libs lengths names name_lengths (TooSmall size) =
     × IsLong k (split names name_lengths) host (split libs lengths) room size
 
 -- a text, which there may not be, is not put into this room
-abbrev pub IsNotPrinted : Option TextKind → List ℕ → List ℕ → List ℕ → List ℕ → List ℕ
-    → List ℕ → NotDone → Type 0
+abbrev pub IsNotPrinted : Option TextKind → List ℕ → List ℕ → List ℕ → List ℕ
+    → List ℕ → List ℕ → NotDone → Type 0
 IsNotPrinted None room host libs lengths names name_lengths why = why ≡ NoSuchText
 IsNotPrinted (Some k) room host libs lengths names name_lengths why =
     IsKindNotPrinted k room host libs lengths names name_lengths why
 
 -- a call for it was right, and the room begins with it
-abbrev pub IsPrinted : Option TextKind → List ℕ → List ℕ → List ℕ → List ℕ → List ℕ
-    → List ℕ → List ℕ → Done → Type 0
+abbrev pub IsPrinted : Option TextKind → List ℕ → List ℕ → List ℕ → List ℕ
+    → List ℕ → List ℕ → List ℕ → Done → Type 0
 IsPrinted None host libs lengths names name_lengths old new d = ⊥
 IsPrinted (Some k) host libs lengths names name_lengths old new d =
     HasInputs (needs_names k) libs lengths names name_lengths

@@ -47,4 +47,5 @@ IsNotShown room file WrongLengths = ⊥
 IsNotShown room file WrongNames = ⊥
 IsNotShown room file NoSuchText = ⊥
 IsNotShown room file NoMemory = show_fault file ≡ None
-IsNotShown room file (TooSmall size) = (show_fault file ≡ None) × IsAbove size (show_of file) room
+IsNotShown room file (TooSmall size) = (show_fault file ≡ None)
+    × IsAbove size (show_of file) room

@@ -9,7 +9,8 @@ module _ (Read : Text → List ℕ → Type 0) (how : Form) (all : List Text)
     (old : Option (List ℕ)) where
   -- the files before this index have this status, and what is printed of those that are left is
   -- added to it
-  pub record ListsLeft (i : ℕ) (left : List Text) (status : ℕ) (now : Option (List ℕ)) : Type 0
+  pub record ListsLeft (i : ℕ) (left : List Text) (status : ℕ)
+      (now : Option (List ℕ)) : Type 0
     where
       pub rest : (more : ℕ) (new : Option (List ℕ)) → PrintsFiles Read how i left more now new
           → PrintsFiles Read how 0 all (max status more) old new

@@ -23,8 +23,8 @@ abbrev pub caused : CommandError → CommandError
 caused (error.Read path why) = error.Unreadable path why
 caused other = other
 
--- what is reported of the file at this path alone, for which it cannot be read: the system's reason,
--- its length, or else want of memory
+-- what is reported of the file at this path alone, for which it cannot be read: the system's
+-- reason, its length, or else want of memory
 abbrev pub unread_error : Bor (List ℕ) → CommandError → CommandError
 unread_error path (error.Read at why) = error.Unreadable at why
 unread_error path (error.TooLong at) = error.TooLong at

@@ -27,8 +27,8 @@ its_own_record_alone g s name h =
     (subst (λ (own : List Segment). RequestsAt (own ++ s ∷ []) t.0 g.at.rec g.name) own_of_itself
     t.2.1)
   where
-    go : (i : ℕ) → i < 2 → RequestsAt (demo_segment ∷ util_segment ∷ s ∷ []) i g.at.rec g.name
-        → ⊥
+    go : (i : ℕ) → i < 2 → RequestsAt
+        (demo_segment ∷ util_segment ∷ s ∷ []) i g.at.rec g.name → ⊥
     go zero l a = no_name demo_segment aux (count_aux, (blank_aux, tt))
         (subst (λ (q : Segment). RequestsName q aux) (sym (same demo_segment a.0 a.1))
         (g.at.rec, a.2, a.3, (a.4, a.5 ∙ name)))

@@ -117,7 +117,8 @@ the_big_endian_one_is_missing h = let t = (subst Missing big_is h.1) 0 demo_segm
         more
 
 -- UTIL is not of entry 3 of the library
-pub another_entry : IsOfLink Little host (library ∷ []) (record util_segment { index = 3 }) → ⊥
+pub another_entry : IsOfLink Little host (library ∷ []) (record util_segment { index = 3 })
+    → ⊥
 unfolding own_segments empty_slots rounds segments
 another_entry h =
     let n : 2 ≡ 3 = ap (λ (o : Option Segment). option_map_or (λ s. s.index) o 0) h.there in

@@ -25,7 +25,8 @@ only_filled : (file : List ℕ) → any_below SLOTS
     (λ k. is_filled (entry_at Little file k) && not (k == 2)) ≡ false → (i : ℕ) → i < SLOTS
     → is_filled (entry_at Little file i) ≡ true → i ≡ 2
 only_filled file all i h filled = (Decides-eqb i 2).0 (lone (is_filled (entry_at Little file i))
-    (i == 2) (fails SLOTS (λ k. is_filled (entry_at Little file k) && not (k == 2)) all i h) filled)
+    (i == 2) (fails SLOTS (λ k. is_filled (entry_at Little file k) && not (k == 2)) all i h)
+        filled)
 
 -- the library is read like the one whose unit is elsewhere
 pub library_alike : IsReadAlike Little library library_elsewhere

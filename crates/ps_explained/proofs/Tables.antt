@@ -27,11 +27,13 @@ abbrev all_printed : List ℕ → Bool
 all_printed text = list_all is_printed text
 
 -- the sentences are short
-pub meaning_short : (text : List ℕ) (n : ℕ) → text ≡ meaning_of n → length text ≤ SENTENCE_LEN
+pub meaning_short : (text : List ℕ) (n : ℕ) → text ≡ meaning_of n
+    → length text ≤ SENTENCE_LEN
 meaning_short text n is = subst (λ (t : List ℕ). length t ≤ SENTENCE_LEN) (sym is)
     (short (meaning_of n) (row_passes is_short (map (λ row. row.now) MEANINGS) n refl refl))
 
-pub remedy_short : (text : List ℕ) (n : ℕ) → text ≡ remedy_of n → length text ≤ SENTENCE_LEN
+pub remedy_short : (text : List ℕ) (n : ℕ) → text ≡ remedy_of n
+    → length text ≤ SENTENCE_LEN
 remedy_short text n is = subst (λ (t : List ℕ). length t ≤ SENTENCE_LEN) (sym is)
     (short (remedy_of n) (row_passes is_short (map (λ row. row.now) REMEDIES) n refl refl))
 

@@ -1,6 +1,7 @@
 -- Which files are code files of release II.0 as they ought to be: code files that are no file of a
 -- later release, whose bytes are not exchanged in pairs, and that are not one byte throughout.
--- Source: this project's profile, over the segment dictionaries of UCSD Pascal II.0, III.0 and IV.0.
+-- Source: this project's profile, over the segment dictionaries of UCSD Pascal II.0, III.0 and
+-- IV.0.
 use Rattle.std.specs.Prelude.{ℕ, ◌+◌, ◌-◌, ◌*◌, ◌/◌, ◌%◌, ◌==◌, ◌&&◌, ◌||◌, not, if◌then◌else◌, List, length, nat_le, nat_lt, slice_get, slice_index, take, Bool, false, Result, Ok, Err, is_some}
 use Rattle.std.specs.List.{list_all, list_any, range_with_len}
 use Rattle.std.specs.Option.{option_map_or}

@@ -87,7 +87,8 @@ of_place (s ∷ ss) p g e = elim (split_at (references_of s) (all_unit_reference
 -- a record that requests a name has its unit reference among those of all
 requests_at : (segs : List Segment) (j rec : ℕ) (name : List ℕ) → RequestsAt segs j rec name
     → (p : ℕ) × (h : UnitReference) × (owner segs p ≡ j)
-    × (slice_get (all_unit_references segs) p ≡ Some h) × (h.name ≡ name) × (h.at.rec ≡ rec)
+    × (slice_get (all_unit_references segs) p ≡ Some h) × (h.name ≡ name)
+    × (h.at.rec ≡ rec)
 requests_at [] j rec name t = absurd (let e = t.1 in cc)
 requests_at (q ∷ ss) zero rec name t =
     let there : slice_get q.records rec ≡ Some t.2 = (let a = t.1 in let b = t.3 in cc) in
@@ -194,14 +195,17 @@ giver units segs k p g t = ((of.0, of.1, of.3.5, of.3.6), requested, first)
         → RequestsAt segs j k g.name → ⊥
     first j n b requests =
         let a = requests_at segs j n g.name requests in
-        let before : Before (owner segs a.0 ∷ a.1.at.rec ∷ []) (owner segs p ∷ g.at.rec ∷ []) =
+        let before : Before (owner segs a.0 ∷ a.1.at.rec ∷ [])
+            (owner segs p ∷ g.at.rec ∷ []) =
         rw (a.2, a.5) b in
         elim (cases_order a.0 p) [
           | inl same ↦
               let one : a.1 ≡ g = (let u = a.3 in let v = t.0 in cc) in
-              let itself : Before (owner segs p ∷ g.at.rec ∷ []) (owner segs p ∷ g.at.rec ∷ []) =
+              let itself : Before (owner segs p ∷ g.at.rec ∷ [])
+                  (owner segs p ∷ g.at.rec ∷ []) =
               rw (same, one) at before in
-              not_both (owner segs p ∷ g.at.rec ∷ []) (owner segs p ∷ g.at.rec ∷ []) itself itself
+              not_both (owner segs p ∷ g.at.rec ∷ [])
+                  (owner segs p ∷ g.at.rec ∷ []) itself itself
           | inr u ↦ elim u [
             | inl l ↦ distinct units [] (all_unit_references segs) k p a.0 g a.1 t l a.3 a.4
             | inr l ↦ not_both (owner segs a.0 ∷ a.1.at.rec ∷ []) (owner segs p ∷ g.at.rec
@@ -222,8 +226,7 @@ module _ (order : Order) (host : List ℕ) where
       let t = requested_at _ [] _ k g (omega arith) e in
       (owner all t.0, giver _ all k t.0 g t.1)
 
-  -- 4. what the host's own slots have
-  -- a slot of a unit's role is a unit slot
+  -- 4. what the host's own slots have a slot of a unit's role is a unit slot
   pub unit_slot : (slot : ℕ) (r : Role)
       → is_unit r ≡ true → HasRole order host slot r → IsUnitSlot order host slot
   unit_slot slot r unit has = grind arith

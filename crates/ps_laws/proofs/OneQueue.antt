@@ -30,7 +30,8 @@ pub giver_moves : (xs ys : List Segment) (n i : ℕ) (g : UnitReference) → Agr
 giver_moves xs ys n i g same l t = (
   (t.0.0, sym (same i l) ∙ t.0.1, t.0.2, t.0.3),
   requests_moves xs ys i g.at.rec g.name (same i l) t.1,
-  λ j rec b requests. t.2 j rec b (requests_moves ys xs j rec g.name (sym (same j (below j rec b))) requests),
+  λ j rec b requests. t.2 j rec b
+      (requests_moves ys xs j rec g.name (sym (same j (below j rec b))) requests),
 )
   where
     below : (j rec : ℕ) → Before (j ∷ rec ∷ []) (i ∷ g.at.rec ∷ []) → j < n
@@ -173,15 +174,14 @@ module _ (order : Order) (host : List ℕ) (libs : List (List ℕ))
     same_name = elim (B.complete i g.at.rec g.name there.1)
         [ inl has ↦ absurd ((A.requested k g at).1 has) | inr t ↦ found t.0 t.1 t.2 t.3 ]
 
--- 4. the segments
--- the first library that has an entry of the name has no second one
+-- 4. the segments the first library that has an entry of the name has no second one
 abbrev pub HasOneEntry : Order → List (List ℕ) → List ℕ → Type 0
 HasOneEntry order libs name =
     (k : ℕ) (lib : List ℕ) → slice_get libs k ≡ Some lib
     → ((lesser : ℕ) (other : List ℕ) → lesser < k
     → slice_get libs lesser ≡ Some other → HasEntry order name other → ⊥)
-    → (i j : ℕ) → i < SLOTS → j < SLOTS → IsNamed order name lib i → IsNamed order name lib j
-    → i ≡ j
+    → (i j : ℕ) → i < SLOTS → j < SLOTS → IsNamed order name lib i
+    → IsNamed order name lib j → i ≡ j
 
 segment : ℕ → List ℕ → Role → Bool → ℕ → ℕ → List ℕ → Option ProcedureTables
     → ℕ → List Record → Segment

@@ -7,14 +7,14 @@ use Rattle.ps_laws.proofs.Looking.{of_test}
 use Rattle.ps_laws.proofs.Sources.{OneStop, none_has, unit_least, placed_late}
 use Rattle.ps_words.specs.declared.fault.Reason.TheVariants as reason
 
--- 1. one round
--- what is wrong with the unit of a reference, where this slot, or none, is left for it
+-- 1. one round what is wrong with the unit of a reference, where this slot, or none, is left for it
 abbrev RoundHas : Order → List ℕ → List (List ℕ) → UnitReference → Option ℕ → Fault
     → Type 0
 RoundHas order host libs g left f =
     ((f ≡ in_record g.at.segment.file g.at.segment.slot g.at.rec reason.MissingUnit)
     × IsMissing order libs g.name)
-    ⊎ (((f ≡ in_record g.at.segment.file g.at.segment.slot g.at.rec reason.NoSlot) × (left ≡ None))
+    ⊎ (((f ≡ in_record g.at.segment.file g.at.segment.slot g.at.rec reason.NoSlot)
+        × (left ≡ None))
     ⊎ ((slot : ℕ) × (left ≡ Some slot) × PlacedFault order host libs g.name slot f))
 
 -- a fault of rank 13 or above that has a record has one that was read

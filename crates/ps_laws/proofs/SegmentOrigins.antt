@@ -166,8 +166,8 @@ module _ (law : OneStop) (spells : OneSpelling) (host : List ℕ) (libs : List (
         (in_range FIRST_ADDED MAX_ADDED slot low (omega (arith, high)))
         (ap (λ (o : Result Role Reason). option_map_or is_empty (result_ok o) false) has)
 
-    none_left : (slot : ℕ) → FIRST_ADDED ≤ slot → slot < s.slot → HasRole order host slot role.Empty
-        → IsTaken (segments order host libs) slot
+    none_left : (slot : ℕ) → FIRST_ADDED ≤ slot → slot < s.slot
+        → HasRole order host slot role.Empty → IsTaken (segments order host libs) slot
     none_left slot low lt has =
         let at = in_empty order host libs j s in_round in
         let b = (empty_slot order host j s.slot at).1 in

@@ -36,8 +36,8 @@ over_segments {B} {S} order host libs g each apart =
     (let a = slot_is order host libs i s.0 s.1 in let b = slot_is order host libs j t.0 t.1 in
     apart s.0 t.0 x y (omega (arith, h, a, b)) s.2 t.2))))
   where
-    here : (slot : ℕ) (s : Segment) → slot < SLOTS → segment_at order host libs slot ≡ Some s
-        → IsSegment order host libs s
+    here : (slot : ℕ) (s : Segment) → slot < SLOTS
+        → segment_at order host libs slot ≡ Some s → IsSegment order host libs s
     here slot s lt e = let at = slot_is order host libs slot s e in
         (rw at lt, subst (λ i. segment_at order host libs i ≡ Some s) (sym at) e)
 

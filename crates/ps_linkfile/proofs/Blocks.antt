@@ -24,7 +24,8 @@ few_blocks (o ∷ os) h =
     omega (arith, all_blocks-cons o os, one, rest)
 
 -- each slot is one of sixteen
-pub slots_below : (from : ℕ) (os : List Segment) → Ascend from os → All (λ o. o.slot < SLOTS) os
+pub slots_below : (from : ℕ) (os : List Segment) → Ascend from os
+    → All (λ o. o.slot < SLOTS) os
 slots_below from [] h = All-nil (λ (o : Segment). o.slot < SLOTS)
 slots_below from (o ∷ os) h = All-cons (λ (p : Segment). p.slot < SLOTS) o os h.1
     (slots_below (o.slot + 1) os h.2)

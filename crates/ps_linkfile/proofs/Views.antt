@@ -43,5 +43,6 @@ got {X} xs i x h = drop_more xs i x (slice_get_within xs i x h)
 
 -- a segment and its edits
 pub is_at : (ss os : List Segment) (ds : List (List Edit)) (i : ℕ) (v : Segment) (d : List Edit)
-    → ss ≡ os → i < length ss → v ≡ get_or ss i v → slice_get ds i ≡ Some d → IsAt os ds i v d
+    → ss ≡ os → i < length ss → v ≡ get_or ss i v → slice_get ds i ≡ Some d
+    → IsAt os ds i v d
 is_at ss os ds i v d same lt is k = grind (arith, here, got)

@@ -341,7 +341,8 @@ module _ (host : List ℕ) (libs : List (List ℕ)) where
                 ∙ sym (k.kinds_and_texts p behind_names zero)
             | inr behind_zeros ↦ elim (cases_lt p 512) [
               | inl in_tail ↦ part_same f g _ 256 512 p h.tail k.tail behind_zeros in_tail
-              | inr in_codes ↦ same_codes f g (segments_of host libs) 0 1 p (segments_of host libs)
+              | inr in_codes ↦ same_codes f g (segments_of host libs) 0 1 p
+                  (segments_of host libs)
                   (left_start _ (segments_ascend (order_of host) host libs)) same in_codes
                   (omega (arith, lt, h.size))
             ]
@@ -351,7 +352,8 @@ module _ (host : List ℕ) (libs : List (List ℕ)) where
     where
       same : All (λ s. (j : ℕ) → j < 512 * blocks (length s.code)
           → get_or f (512 * block_of (segments_of host libs) s.slot + j) 0
-          ≡ get_or g (512 * block_of (segments_of host libs) s.slot + j) 0) (segments_of host libs)
+          ≡ get_or g (512 * block_of (segments_of host libs) s.slot + j) 0)
+              (segments_of host libs)
       same = λ i s lt j within.
           elim (cases_lt j (length (get_or (segments_of host libs) i s).code)) [
             | inl of_code ↦ single host libs h.accepted i s lt j _ _

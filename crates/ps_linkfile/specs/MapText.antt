@@ -38,7 +38,8 @@ kind_word Constant = codes "constant"
 
 -- `public COUNT    value 3`
 abbrev pub definition_row : List ℕ × Def → List Value
-definition_row d = OfKind (kind_word d.1.kind) ∷ Named d.0 ∷ Number (codes "value") d.1.value ∷ []
+definition_row d = OfKind (kind_word d.1.kind) ∷ Named d.0 ∷ Number (codes "value") d.1.value
+    ∷ []
 
 -- `private 07 STATE    offset 8 words 4`
 abbrev pub private_row : Private → List Value
@@ -51,7 +52,8 @@ last_row next size blocks = Total (codes "next") next ∷ Number (codes "data") 
     ∷ Number (codes "blocks") blocks ∷ []
 
 -- the rows of a map: of its segments, its definitions and its privates, and the last one
-abbrev pub map_rows : Form → List Segment → List (List ℕ × Def) → List Private → ℕ → ℕ → List ℕ
+abbrev pub map_rows : Form → List Segment → List (List ℕ × Def) → List Private → ℕ
+    → ℕ → List ℕ
 map_rows form segs defs privates next size =
     by_form form [] (codes "{\"segments\":[") ++ rows_in form (row_among segs) segs
     ++ by_form form [] (codes "\n],\"definitions\":[") ++ rows_in form definition_row defs

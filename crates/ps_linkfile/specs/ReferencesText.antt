@@ -93,9 +93,9 @@ cause_word (Reference kind name rec) = codes "reference"
 abbrev pub bytes_at : List ℕ → ℕ → ℕ → List ℕ
 bytes_at code p width = take width (drop p code)
 
--- the row of a place, as `number 07 UTIL     at 22 file 1046 was 02 is 07`: the slot and the name of
--- the segment, the place in its code and in the linked file, and the bytes there before and after
--- the link
+-- the row of a place, as `number 07 UTIL     at 22 file 1046 was 02 is 07`: the slot and the name
+-- of the segment, the place in its code and in the linked file, and the bytes there before and
+-- after the link
 abbrev pub place_row : Form → StoredIn → ℕ → Cause → List Value
 place_row form s p cause =
     Stored (cause_word cause) s.slot s.name ∷ Number (codes "at") p

@@ -11,7 +11,8 @@ module _ (f : ℕ → Option LoneUnit) (all old : List LoneUnit) (i : ℕ) where
   -- what is found in one slot more
   pub one_more : (o : Option LoneUnit) → i < SLOTS → f i ≡ o
       → all ≡ old ++ filter_map f (range_with_len i (SLOTS - i))
-      → all ≡ (old ++ option_to_list o) ++ filter_map f (range_with_len (i + 1) (SLOTS - (i + 1)))
+      → all ≡ (old ++ option_to_list o)
+      ++ filter_map f (range_with_len (i + 1) (SLOTS - (i + 1)))
   one_more o lt is h =
       let left : SLOTS - i ≡ suc (SLOTS - (i + 1)) = omega arith in
       h ∙ ap (λ (k : ℕ). old ++ filter_map f (range_with_len i k)) left
@@ -28,7 +29,8 @@ module _ (f : ℕ → Option LoneUnit) (all old : List LoneUnit) (i : ℕ) where
       → all ≡ old ++ filter_map f (range_with_len i (SLOTS - i))
       → all ≡ old ++ filter_map f (range_with_len (i + 1) (SLOTS - (i + 1)))
   none_more lt is h = one_more None lt is h
-      ∙ ap (λ (xs : List LoneUnit). xs ++ filter_map f (range_with_len (i + 1) (SLOTS - (i + 1))))
+      ∙ ap (λ (xs : List LoneUnit). xs
+          ++ filter_map f (range_with_len (i + 1) (SLOTS - (i + 1))))
       (append-nil old)
 
   -- where one is found, there is one

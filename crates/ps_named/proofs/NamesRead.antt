@@ -10,11 +10,12 @@ use Rattle.ps_words.specs.FaultPlaces.{read_record}
 
 -- the name of a slot by its own entry is that of the files as they are read
 pub read_by_entry : (host : List ℕ) (libs : List (List ℕ)) (slot : ℕ) (name : List ℕ)
-    → entry_name (opened_alone host) slot ≡ Some name → read_name host libs slot None ≡ Some name
+    → entry_name (opened_alone host) slot ≡ Some name
+    → read_name host libs slot None ≡ Some name
 read_by_entry host libs slot name has = by (opened_alone host) refl has
   where
-    by : (r : Result OpenedFile Reason) → opened_alone host ≡ r → entry_name r slot ≡ Some name
-        → read_name host libs slot None ≡ Some name
+    by : (r : Result OpenedFile Reason) → opened_alone host ≡ r
+        → entry_name r slot ≡ Some name → read_name host libs slot None ≡ Some name
     by (Err why) e is = cc
     by (Ok f) e is =
         let h : HostFiles = record { order = f.order; file = f.file; libs = libs } in
@@ -24,7 +25,8 @@ read_by_entry host libs slot name has = by (opened_alone host) refl has
 
 -- the name of a fault in this slot of the host
 pub named_in_slot : (host : List ℕ) (libs : List (List ℕ)) (f : Fault) (slot : ℕ)
-    (rec : Option ℕ) (name : Option (List ℕ)) → rec ≡ read_record f → host_slot f ≡ Some slot
+    (rec : Option ℕ) (name : Option (List ℕ)) → rec ≡ read_record f
+    → host_slot f ≡ Some slot
     → name ≡ read_name host libs slot rec → name ≡ fault_name host libs f
 unfolding fault_name
 named_in_slot host libs f slot rec name read in_slot is =

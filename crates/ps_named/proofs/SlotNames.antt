@@ -17,6 +17,7 @@ module _ (f : ℕ → List ℕ) (all old : List ℕ) (i : ℕ) where
       rest = flat_map f (range_with_len (i + 1) (SLOTS - (i + 1)))
 
   -- after the last slot
-  pub no_more : SLOTS - i ≡ 0 → all ≡ old ++ flat_map f (range_with_len i (SLOTS - i)) → all ≡ old
+  pub no_more : SLOTS - i ≡ 0 → all ≡ old ++ flat_map f (range_with_len i (SLOTS - i))
+      → all ≡ old
   no_more left h = h ∙ ap (λ (k : ℕ). old ++ flat_map f (range_with_len i k)) left
       ∙ append-nil old

@@ -26,8 +26,9 @@ place_members f =
     ++ (codes ",\"record\":" ++ (number_or_null f.rec
     ++ (codes ",\"reference\":" ++ number_or_null f.reference))))))
 
--- `{"number":13,"reason":"MissingUnit","kind":null,"file":0,"slot":7,"record":null,"reference":null,
--- "name":"UTIL    ","name_hex":"5554494C20202020"}`: a fault, with the name of what it is about
+-- `{"number":13,"reason":"MissingUnit","kind":null,"file":0,"slot":7,"record":null,
+-- "reference":null,"name":"UTIL    ","name_hex":"5554494C20202020"}`: a fault, with the name of
+-- what it is about
 abbrev pub fault_json : Option (List ℕ) → Fault → List ℕ
 fault_json name f = codes "{" ++ (reason_members f.reason
     ++ (codes "," ++ (place_members f ++ (codes "," ++ (name_members name ++ codes "}")))))

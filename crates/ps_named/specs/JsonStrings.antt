@@ -7,8 +7,8 @@ use Rattle.std.specs.List.{flat_map}
 use Rattle.ps_writing.specs.JsonText.{json_byte}
 use Rattle.ps_writing.specs.Lines.{hex_byte}
 
--- the letter that stands for a character after a backslash: a quote, a backslash and a line end have
--- one
+-- the letter that stands for a character after a backslash: a quote, a backslash and a line end
+-- have one
 abbrev pub escape_letter : ℕ → Option ℕ
 escape_letter c = if c == 34 then Some 34 else (if c == 92 then Some 92
     else (if c == 10 then Some 110 else None))

@@ -108,8 +108,8 @@ module _ (units : List (List ℕ × ℕ)) where
 
   -- and after any names more
   pub still_known : (queue gs now : List UnitReference) (rs : List Record)
-      → now ≡ take MAX_REQUESTED (requested_from units queue gs) → AreAlreadyKnown units queue rs
-      → AreAlreadyKnown units now rs
+      → now ≡ take MAX_REQUESTED (requested_from units queue gs)
+      → AreAlreadyKnown units queue rs → AreAlreadyKnown units now rs
   still_known queue gs now rs is (inl full) = grind (arith, grown queue gs, length-append queue)
   still_known queue gs now rs is (inr h) = grind (arith, more_known)
 

@@ -105,7 +105,8 @@ references-cons file slot rec r rs = grind arith
 -- the names that a record requests, and then those of the records after it
 pub kept_more : (units : List (List ℕ × ℕ)) (queue now : List UnitReference)
     (file slot rec : ℕ) (r : Record) (rs : List Record)
-    → now ≡ take MAX_REQUESTED (requested_from units queue (unit_references file slot rec (r ∷ [])))
+    → now ≡ take MAX_REQUESTED (requested_from units queue
+        (unit_references file slot rec (r ∷ [])))
     → take MAX_REQUESTED (requested_from units now (unit_references file slot (rec + 1) rs))
     ≡ take MAX_REQUESTED (requested_from units queue (unit_references file slot rec (r ∷ rs)))
 kept_more units queue now file slot rec r rs is =
@@ -155,8 +156,8 @@ joined_more xs s r = grind (arith, append_assoc)
 
 -- the k-th name, as the queue that is kept has it
 pub at_round : (queue items : List UnitReference) (i n : ℕ) (o : Option UnitReference)
-    → items ≡ take MAX_REQUESTED queue → i < MAX_REQUESTED → n ≡ i → o ≡ slice_get items n
-    → slice_get queue i ≡ o
+    → items ≡ take MAX_REQUESTED queue → i < MAX_REQUESTED → n ≡ i
+    → o ≡ slice_get items n → slice_get queue i ≡ o
 at_round queue items i n o is lt same h = grind arith
 
 -- what is kept of a queue has ten names at most

@@ -116,7 +116,7 @@ eight host ss long all slot lt = by (find (λ (x : Segment). x.slot == slot) ss)
     by (Some s) e = (find_has HasName (λ (x : Segment). x.slot == slot) ss s e all).1
 
 -- names of eight bytes each, one after another, have eight times as many bytes as there are names
-run : (f : ℕ → List ℕ) → (xs : List ℕ) → ((x : ℕ) → x < SLOTS → length (f x) ≡ 8)
+run : (f : ℕ → List ℕ) (xs : List ℕ) → ((x : ℕ) → x < SLOTS → length (f x) ≡ 8)
     → All (λ (x : ℕ). x < SLOTS) xs → length (flat_map (λ name. name) (map f xs))
     ≡ 8 * length xs
 run f [] h all = refl

@@ -23,14 +23,16 @@ owed_next line all old w left words before new so_far one is = record {
       let whole = so_far.rest (line words ++ more) (words, more, one, are, refl) in (
         whole.0,
         whole.1,
-        ap (λ (t : List ℕ). t ++ more) is ∙ (append_assoc before (line words) more ∙ whole.2),
+        ap (λ (t : List ℕ). t ++ more) is
+        ∙ (append_assoc before (line words) more ∙ whole.2),
       );
 }
 
 -- the same at a place among all of them
 pub owed_at : (line : List ℕ → List ℕ) (all : List Warning) (old : List ℕ) (i : ℕ)
     (words before new : List ℕ) → i < length all → Owed line all old (drop i all) before
-    → one_line words ≡ true → new ≡ before ++ line words → Owed line all old (drop (i + 1) all) new
+    → one_line words ≡ true → new ≡ before ++ line words
+    → Owed line all old (drop (i + 1) all) new
 owed_at line [] old i words before new within so_far one is = absurd (omega (arith, within))
 owed_at line (w ∷ ws) old i words before new within so_far one is =
     owed_next line (w ∷ ws) old (get_or (w ∷ ws) i w) (drop (i + 1) (w ∷ ws)) words before new
@@ -46,13 +48,15 @@ owed_none line all old left now none so_far =
     (whole.0, whole.1, sym (append-nil now) ∙ whole.2)
 
 -- three texts that are added
-pub three_added : (old warned calm new a b c : List ℕ) → warned ≡ old ++ a → calm ≡ warned ++ b
-    → new ≡ calm ++ c → new ≡ old ++ (a ++ (b ++ c))
+pub three_added : (old warned calm new a b c : List ℕ) → warned ≡ old ++ a
+    → calm ≡ warned ++ b → new ≡ calm ++ c → new ≡ old ++ (a ++ (b ++ c))
 three_added old warned calm new a b c first second last =
     last ∙ (ap (λ (t : List ℕ). t ++ c) (second ∙ ap (λ (t : List ℕ). t ++ b) first)
     ∙ (append_assoc (old ++ a) b c ∙ append_assoc old a (b ++ c)))
 
 -- the same lines, of the same lists
-pub same_looks : (ws hs ns ws' hs' ns' : List Warning) (more text : List ℕ) → ws ≡ ws' → hs ≡ hs'
-    → ns ≡ ns' → more ≡ text → AreLookLines ws hs ns more → AreLookLines ws' hs' ns' text
+pub same_looks : (ws hs ns ws' hs' ns' : List Warning) (more text : List ℕ) → ws ≡ ws'
+    → hs ≡ hs'
+    → ns ≡ ns' → more ≡ text → AreLookLines ws hs ns more
+    → AreLookLines ws' hs' ns' text
 same_looks ws hs ns ws' hs' ns' more text a b c d are = rw (a, b, c, d) at are

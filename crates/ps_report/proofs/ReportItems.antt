@@ -46,7 +46,8 @@ items_all all first left now none so_far =
     (so_far.rest [] (subst (λ (ws : List Warning). AreItems first ws []) (sym none) refl))
 
 -- a document begins with its verdict
-pub begins : (verdict : Verdict) (name : Option (List ℕ)) (items calm guesses report text : List ℕ)
+pub begins : (verdict : Verdict) (name : Option (List ℕ))
+    (items calm guesses report text : List ℕ)
     → text ≡ report_json verdict name items calm guesses report → BeginsWith text verdict name
 unfolding report_json
 begins verdict name items calm guesses report text is = (

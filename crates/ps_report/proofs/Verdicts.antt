@@ -27,7 +27,8 @@ no_warning warnings none some = absurd (grind (arith, nat_tests))
 some_warning : (warnings : ℕ) → (warnings == 0) ≡ false → 0 < warnings
 some_warning warnings some = grind (arith, nat_tests)
 
-pub warned_or_refused : (host : List ℕ) (libs : List (List ℕ)) (text : List ℕ) (warnings : ℕ)
+pub warned_or_refused : (host : List ℕ) (libs : List (List ℕ)) (text : List ℕ)
+    (warnings : ℕ)
     (verdict : Verdict) → IsVerdict host libs verdict → warnings_in text ≡ warnings
     → (check_status true warnings verdict ≡ 1) ↔ (HasWarning text ⊎ IsRefused host libs)
 warned_or_refused host libs text warnings (Links s) right counted = by (warnings == 0) refl

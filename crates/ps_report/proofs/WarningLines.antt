@@ -45,8 +45,8 @@ adds_warning old line new one begins is = (
   line ++ 10 ∷ [],
   is,
   λ rest. warnings_after line rest one
-      ∙ (ap (λ (t : Bool). length (cond t (line ∷ warning_lines rest) (warning_lines rest))) begins
-      ∙ omega arith),
+      ∙ (ap (λ (t : Bool). length (cond t (line ∷ warning_lines rest) (warning_lines rest)))
+      begins ∙ omega arith),
 )
 
 -- a line that does not
@@ -57,8 +57,8 @@ adds_no_warning old line new one begins is = (
   line ++ 10 ∷ [],
   is,
   λ rest. warnings_after line rest one
-      ∙ (ap (λ (t : Bool). length (cond t (line ∷ warning_lines rest) (warning_lines rest))) begins
-      ∙ no_more (warnings_in rest)),
+      ∙ (ap (λ (t : Bool). length (cond t (line ∷ warning_lines rest) (warning_lines rest)))
+      begins ∙ no_more (warnings_in rest)),
 )
 
 pub none_added : (text : List ℕ) → AddsWarnings text 0 text
@@ -195,7 +195,8 @@ pub keeps_slot_lines : (old lines new : List ℕ) → new ≡ old ++ other_lines
     → AddsSlotLines old (slot_lines lines) new
 unfolding other_lines slot_lines
 keeps_slot_lines old lines new is =
-    subst (λ (new : List ℕ). AddsSlotLines old (filter is_slot_line (lines_of lines)) new) (sym is)
+    subst (λ (new : List ℕ). AddsSlotLines old (filter is_slot_line (lines_of lines)) new)
+        (sym is)
     (adds_slots old (lines_of lines) (one_each lines))
 
 -- the line of a warning
@@ -222,13 +223,15 @@ adds_warning_line old line new one is = by (is_warning_line line) refl
         )
     by false e =
         let same = is ∙ ap (λ (l : List ℕ). old ++ l) (warning_is line false e) in (
-          adds_warning old (mark false ++ line) new (one_append (mark false) line refl one) refl same,
+          adds_warning old (mark false ++ line) new
+              (one_append (mark false) line refl one) refl same,
           adds_no_line old (mark false ++ line) new (one_append (mark false) line refl one) refl
               same,
         )
 
 -- the line of a note, or of what is harmless
-note_is : (is_note : Bool) (line : List ℕ) → note_line is_note line ≡ head is_note ++ (line ++ 10 ∷ [])
+note_is : (is_note : Bool) (line : List ℕ)
+    → note_line is_note line ≡ head is_note ++ (line ++ 10 ∷ [])
 unfolding note_line
 note_is is_note line = refl
 
@@ -241,7 +244,8 @@ adds_note_line old line new true one is =
     )
 adds_note_line old line new false one is =
     let same = is ∙ ap (λ (l : List ℕ). old ++ l) (note_is false line) in (
-      adds_no_warning old (head false ++ line) new (one_append (head false) line refl one) refl same,
+      adds_no_warning old (head false ++ line) new
+          (one_append (head false) line refl one) refl same,
       adds_no_line old (head false ++ line) new (one_append (head false) line refl one) refl same,
     )
 

@@ -10,8 +10,8 @@ use Rattle.ps_report.specs.declared.printing.PrintError.TheVariants.{Memory, Wri
 use Rattle.ps_report.specs.declared.verdict.Verdict.{Verdict}
 
 -- where a write failed, a known writer took a prefix of a report as it is printed
-abbrev pub LeavesTextPrefix : Bool → Verdict → Option (List ℕ) → ℕ → List ℕ → PrintError
-    → Option (List ℕ) → Option (List ℕ) → Type 0
+abbrev pub LeavesTextPrefix : Bool → Verdict → Option (List ℕ) → ℕ → List ℕ
+    → PrintError → Option (List ℕ) → Option (List ℕ) → Type 0
 LeavesTextPrefix json verdict name warnings report Memory old new = ⊤
 LeavesTextPrefix json verdict name warnings report (Write fault) old new =
     (text : List ℕ) × IsPrintedText json verdict name warnings report text

@@ -44,15 +44,15 @@ lists_json items harmless notes =
     ++ (codes "\n],\"notes\":[" ++ (notes ++ codes "\n]")))))
 
 -- the document of a verdict with the name of what its fault is about, of these items and this text
-unfoldable pub report_json : Verdict → Option (List ℕ) → List ℕ → List ℕ → List ℕ → List ℕ
-    → List ℕ
+unfoldable pub report_json : Verdict → Option (List ℕ) → List ℕ → List ℕ → List ℕ
+    → List ℕ → List ℕ
 report_json verdict name items harmless notes report =
     verdict_json name verdict ++ (codes "," ++ (lists_json items harmless notes
     ++ (codes ",\"report\":\"" ++ (json_text report ++ codes "\"}\n"))))
 
 -- the document of this verdict and this name, of what looks wrong, by its weight, and of this text
-abbrev pub IsDocument : Verdict → Option (List ℕ) → List Warning → List Warning → List Warning
-    → List ℕ → List ℕ → Type 0
+abbrev pub IsDocument : Verdict → Option (List ℕ) → List Warning → List Warning
+    → List Warning → List ℕ → List ℕ → Type 0
 IsDocument verdict name warnings harmless notes report text =
     (items : List ℕ) × (calm : List ℕ) × (guesses : List ℕ) × AreItems true warnings items
     × AreItems true harmless calm × AreItems true notes guesses
@@ -60,7 +60,8 @@ IsDocument verdict name warnings harmless notes report text =
 
 -- the document of this verdict and this name, these warnings and this text, whatever is harmless or
 -- noted
-abbrev pub IsReportJson : Verdict → Option (List ℕ) → List Warning → List ℕ → List ℕ → Type 0
+abbrev pub IsReportJson : Verdict → Option (List ℕ) → List Warning → List ℕ → List ℕ
+    → Type 0
 IsReportJson verdict name warnings report text =
     (harmless : List Warning) × (notes : List Warning)
     × IsDocument verdict name warnings harmless notes report text

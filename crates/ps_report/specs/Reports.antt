@@ -11,9 +11,9 @@ use Rattle.ps_report.specs.Verdicts.{IsVerdict, Tells, check_status, verdict_nam
 use Rattle.ps_report.specs.WarningLines.{AreLookLinesOf, warnings_in}
 use Rattle.ps_report.specs.declared.verdict.Verdict.{Verdict}
 
--- The verdict is right, and its line is in the text; so many lines begin with `warning: `; where the
--- files are linked, those that begin with `slot ` are those of the segments; and where no file is a
--- host, the text has the list of each.
+-- The verdict is right, and its line is in the text; so many lines begin with `warning: `; where
+-- the files are linked, those that begin with `slot ` are those of the segments; and where no file
+-- is a host, the text has the list of each.
 pub record IsReport (paths : List (List ℕ)) (host : List ℕ) (libs : List (List ℕ))
     (verdict : Verdict) (warnings : ℕ) (text : List ℕ) : Type 0 where
   pub right : IsVerdict host libs verdict
@@ -24,7 +24,8 @@ pub record IsReport (paths : List (List ℕ)) (host : List ℕ) (libs : List (Li
 
 -- A report as it is printed: its text, or the JSON document that has the verdict with the name of
 -- what its fault is about, so many warnings and the text.
-abbrev pub IsPrintedText : Bool → Verdict → Option (List ℕ) → ℕ → List ℕ → List ℕ → Type 0
+abbrev pub IsPrintedText : Bool → Verdict → Option (List ℕ) → ℕ → List ℕ → List ℕ
+    → Type 0
 IsPrintedText false verdict name warnings report text = text ≡ report
 IsPrintedText true verdict name warnings report text = (items : List Warning)
     × (length items ≡ warnings) × IsReportJson verdict name items report text
@@ -32,8 +33,8 @@ IsPrintedText true verdict name warnings report text = (items : List Warning)
 -- What a check of the files at these paths may print, the host's first, and its status: a report,
 -- whose status is 1 where the files are refused, and, if it is strict, where a line of the report
 -- begins with `warning: `.
-abbrev pub IsPrintedReport : List (List ℕ) → List ℕ → List (List ℕ) → Bool → Bool → ℕ
-    → List ℕ → Type 0
+abbrev pub IsPrintedReport : List (List ℕ) → List ℕ → List (List ℕ) → Bool → Bool
+    → ℕ → List ℕ → Type 0
 IsPrintedReport paths host libs strict json status text =
     (verdict : Verdict) × (warnings : ℕ) × (report : List ℕ)
     × IsReport paths host libs verdict warnings report

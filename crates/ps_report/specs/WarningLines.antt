@@ -57,8 +57,8 @@ warning_line line = mark (is_warning_line line) ++ (line ++ 10 ∷ [])
 abbrev pub AreLinesBy : (List ℕ → List ℕ) → List Warning → List ℕ → Type 0
 AreLinesBy line [] text = text ≡ []
 AreLinesBy line (w ∷ warnings) text =
-    (words : List ℕ) × (rest : List ℕ) × (one_line words ≡ true) × AreLinesBy line warnings rest
-    × (text ≡ line words ++ rest)
+    (words : List ℕ) × (rest : List ℕ) × (one_line words ≡ true)
+    × AreLinesBy line warnings rest × (text ≡ line words ++ rest)
 
 -- what looks wrong, one by one: a line for each warning, then one for each look that is harmless,
 -- and then one for each note, and nothing else

@@ -130,7 +130,8 @@ module _ {slot next : ℕ} {duplicate : Option ℕ} {before : List Private} {all
   on : (duplicate ≡ Some n → ⊥) → (m : ℕ) → duplicate ≡ Some m → n + 1 ≤ m
   on other m e = grind arith
 
-  requests : (w : Option ℕ) → words_in r.body ≡ w → is_private_reference r.body ≡ is_some w
+  requests : (w : Option ℕ) → words_in r.body ≡ w
+      → is_private_reference r.body ≡ is_some w
   requests w h = grind arith
 
   pub allot_on : words_in r.body ≡ None

@@ -84,7 +84,8 @@ module _ (known : Known) (R : ℕ → Bool) (code : List ℕ) where
       let next = rest (n + 1) (off + words_taken r.body) (os ++ operands (Slot 0) (refs_of r.body))
       in grind (arith, edits_more, words_before)
 
-  pub no_links : (rs : List Record) (n off : ℕ) (os : List (ℕ × ℕ)) → units_requested rs ≡ 0
+  pub no_links : (rs : List Record) (n off : ℕ) (os : List (ℕ × ℕ))
+      → units_requested rs ≡ 0
       → publics_in rs ≡ 0 → privates_in rs ≡ 0 → NoLinks known R code n off os rs
   no_links [] n off os u p q = grind arith
   no_links (r ∷ rs) n off os u p q = at

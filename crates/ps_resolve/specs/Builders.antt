@@ -23,8 +23,7 @@ use Rattle.ps_words.specs.declared.fault.Reason.{Reason}
 use Rattle.ps_words.specs.declared.fault.Reason.TheVariants as reason
 use Rattle.ps_resolve.specs.declared.allotment.TheConstants.{MAX_NEXT_FREE}
 
--- 1. definitions
--- no record of this kind has the name of an earlier record of this kind
+-- 1. definitions no record of this kind has the name of an earlier record of this kind
 abbrev pub HaveNoNamesakes : (Body → Bool) → List Record → Type 0
 HaveNoNamesakes test rs = (rec : ℕ) (r : Record) → slice_get rs rec ≡ Some r
     → HasEarlierNamesake test rs rec r → ⊥
@@ -127,7 +126,8 @@ requested_in place r = option_map
 
 -- what all records of the segments request, by segment and then by record
 abbrev pub all_requested : List Owner → List RequestedPrivate
-all_requested ss = flat_map (λ (s : Owner). filter_map (requested_in s.0) (enumerate_from 0 s.1)) ss
+all_requested ss = flat_map (λ (s : Owner). filter_map (requested_in s.0) (enumerate_from 0 s.1))
+    ss
 
 -- a private without its offset
 abbrev pub requested_of : Private → RequestedPrivate

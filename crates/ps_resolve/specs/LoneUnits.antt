@@ -32,8 +32,8 @@ lone_fault order host files slot =
 
 -- a slot has a unit whose code, tables and records have no fault
 abbrev pub IsSoundUnit : Order → List ℕ → List (List ℕ) → ℕ → Type 0
-IsSoundUnit order host files slot =
-    (s : Segment) × (slot_reading order host files slot ≡ Some (Ok s)) × (is_unit s.role ≡ true)
+IsSoundUnit order host files slot = (s : Segment)
+    × (slot_reading order host files slot ≡ Some (Ok s)) × (is_unit s.role ≡ true)
 
 -- what was found by placing a unit: no fault, its fault, or that memory ran out
 abbrev pub Finds : {X E : Type 0} → Result X Stop → Result (Option Fault) E → Type 0

@@ -28,8 +28,8 @@ RequestsAt segs i rec name =
 
 -- a slot of role Unit or Wanted of the host has the name
 abbrev pub HasSlot : Order → List ℕ → List ℕ → Type 0
-HasSlot order host name =
-    SomeBelow SLOTS (λ slot. IsUnitSlot order host slot × ((entry_at order host slot).name ≡ name))
+HasSlot order host name = SomeBelow SLOTS (λ slot. IsUnitSlot order host slot
+    × ((entry_at order host slot).name ≡ name))
 
 -- the reference is of the i-th segment, and its record is the first of all that requests the name
 abbrev pub IsGiver : List Segment → ℕ → UnitReference → Type 0
@@ -37,8 +37,8 @@ IsGiver segs i g =
     ((s : Segment) × (slice_get segs i ≡ Some s) × (g.at.segment.file ≡ s.file)
     × (g.at.segment.slot ≡ s.slot))
     × RequestsAt segs i g.at.rec g.name
-    × ((j rec : ℕ) → Before (j ∷ rec ∷ []) (i ∷ g.at.rec ∷ []) → RequestsAt segs j rec g.name
-    → ⊥)
+    × ((j rec : ℕ) → Before (j ∷ rec ∷ []) (i ∷ g.at.rec ∷ [])
+    → RequestsAt segs j rec g.name → ⊥)
 
 -- both are givers of their names, g before h
 abbrev pub AreGiven : List Segment → UnitReference → UnitReference → Type 0

@@ -50,8 +50,8 @@ pub only_added : (found : List LookAt) (new : LinkLooks)
 only_added found new is = λ i. record { warnings = is.warnings i; harmless = is.harmless i }
 
 -- so where there was no warning yet
-pub only_found : (ws hs : List Warning) (found : List LookAt) (new : LinkLooks) → ws ≡ [] → hs ≡ []
-    → Adds (link_looks ws hs) found new → new ≡ sorted found
+pub only_found : (ws hs : List Warning) (found : List LookAt) (new : LinkLooks) → ws ≡ []
+    → hs ≡ [] → Adds (link_looks ws hs) found new → new ≡ sorted found
 unfolding link_looks_in
 only_found ws hs found new w h is =
     only_added found new (rw (w, h) at is)
@@ -70,7 +70,8 @@ pub owes_after : {old mid new : LinkLooks} {all left : List LookAt} → Adds old
 owes_after h k = record { done = k.done; split = k.split; added = none_then h k.added }
 
 pub owes_less : {old mid new : LinkLooks} {all left here rest : List LookAt}
-    → left ≡ here ++ rest → Owes old all left mid → Adds mid here new → Owes old all rest new
+    → left ≡ here ++ rest → Owes old all left mid → Adds mid here new
+    → Owes old all rest new
 owes_less {here = here} {rest = rest} e h more = record {
   done = h.done ++ here;
   split = append_assoc h.done here rest
@@ -78,8 +79,8 @@ owes_less {here = here} {rest = rest} e h more = record {
   added = adds_both h.added more;
 }
 
-pub owes_none : {old new : LinkLooks} {all left : List LookAt} → left ≡ [] → Owes old all left new
-    → Adds old all new
+pub owes_none : {old new : LinkLooks} {all left : List LookAt} → left ≡ []
+    → Owes old all left new → Adds old all new
 owes_none e h = adds_is (sym (append-nil h.done)
     ∙ (ap (λ (l : List LookAt). h.done ++ l) (sym e) ∙ h.split)) h.added
 
@@ -123,7 +124,8 @@ more_in ws place l = ap (filter (λ (x : LookAt). is_about_link x.look))
 
 -- what a push adds to the notes, to what is harmless, and to the warnings
 pub pushed_note : (place : WarningAt) (l : Look) (ws hs : List Warning) → IsWeight l weight.Note
-    → Adds (link_looks ws hs) (look_at place.path.now place.segment place.rec l) (link_looks ws hs)
+    → Adds (link_looks ws hs) (look_at place.path.now place.segment place.rec l)
+        (link_looks ws hs)
 pushed_note place (which.Entry e) ws hs h = absurd (cc)
 pushed_note place (which.Link e) ws hs h = absurd (cc)
 pushed_note place (which.Record (said.UnitDefinition n)) ws hs h = absurd (cc)
@@ -187,8 +189,8 @@ warned place (which.Record (said.HighDefinition a b c)) ws hs h = record {
 }
 
 -- a definition that has no effect is harmless, and no other record
-weighed : (l : Look) (w : Weight) → (w ≡ weight.Look) ⊎ (w ≡ weight.Damaged) → IsWeight l w
-    → is_harmless_look l ≡ false
+weighed : (l : Look) (w : Weight) → (w ≡ weight.Look) ⊎ (w ≡ weight.Damaged)
+    → IsWeight l w → is_harmless_look l ≡ false
 weighed (which.Entry e) w h is = refl
 weighed (which.Link e) w h is = refl
 weighed (which.Other e) w h is = refl

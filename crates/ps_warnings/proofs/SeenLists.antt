@@ -10,7 +10,8 @@ use Rattle.ps_warnings.specs.Seen.{Seen, seen}
 use Rattle.ps_warnings.specs.declared.segments.ReadSegment.{ReadSegment}
 
 -- those that are left
-pub seen_left : (ss : List ReadSegment) (i : ℕ) (s : ReadSegment) → drop i ss ≡ s ∷ drop (i + 1) ss
+pub seen_left : (ss : List ReadSegment) (i : ℕ) (s : ReadSegment)
+    → drop i ss ≡ s ∷ drop (i + 1) ss
     → drop i (map seen ss) ≡ seen s ∷ drop (i + 1) (map seen ss)
 seen_left ss i s h = drop-map seen i ss ∙ (ap (λ (l : List ReadSegment). map seen l) h
     ∙ ap (λ (l : List Seen). seen s ∷ l) (sym (drop-map seen (i + 1) ss)))

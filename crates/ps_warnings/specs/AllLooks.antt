@@ -54,5 +54,6 @@ all_looks paths program host libs list =
     ++ looks_of_link paths host list
 
 -- all looks of files whose link has these segments
-abbrev pub link_looks_of : List (List ℕ) → List ℕ → List (List ℕ) → List Seen → List LookAt
+abbrev pub link_looks_of : List (List ℕ) → List ℕ → List (List ℕ) → List Seen
+    → List LookAt
 link_looks_of paths host libs list = all_looks paths (host_records list) host libs list

@@ -53,14 +53,15 @@ looks_of_segment path host order e (Ok code) after = if kind_needs_linking e.kin
     then looks_of_records path host order e code (reading order after).0 else []
 
 -- what looks wrong in the segment of an entry of a file
-abbrev pub looks_of_entry : List ℕ → Option (List Record) → Order → List ℕ → Entry → List LookAt
+abbrev pub looks_of_entry : List ℕ → Option (List Record) → Order → List ℕ → Entry
+    → List LookAt
 looks_of_entry path host order bytes e = looks_of_segment path host order e (code_of bytes e)
     (information_of bytes e)
 
 -- what looks wrong in a slot of a file: in its segment, or, in the host, in an entry that is not
 -- filled, which a unit of the link takes or not
-unfoldable pub looks_of_slot : List ℕ → Option (List Record) → List Seen → Order → List ℕ → ℕ → ℕ
-    → List LookAt
+unfoldable pub looks_of_slot : List ℕ → Option (List Record) → List Seen → Order
+    → List ℕ → ℕ → ℕ → List LookAt
 looks_of_slot path host list order bytes file slot =
     let e = entry_at order bytes slot in
     if is_filled e then looks_of_entry path host order bytes e
@@ -90,21 +91,22 @@ extent_at order bytes slot = let e = entry_at order bytes slot in
     else extent 0 0 0
 
 -- the first earlier entry that has bytes of this one
-unfoldable pub overlap_look : List ℕ → Order → List ℕ → List Extent → Extent → List LookAt
+unfoldable pub overlap_look : List ℕ → Order → List ℕ → List Extent → Extent
+    → List LookAt
 overlap_look path order bytes extents e = if nat_lt e.slot SLOTS
     then found_at path (Some (entry_at order bytes e.slot).name) None (overlap extents e) else []
 
 -- what looks wrong in a code file that can be read: in its slots, and where entries overlap
-unfoldable pub looks_of_entries : List ℕ → Option (List Record) → List Seen → Order → List ℕ → ℕ
-    → List LookAt
+unfoldable pub looks_of_entries : List ℕ → Option (List Record) → List Seen → Order
+    → List ℕ → ℕ → List LookAt
 looks_of_entries path host list order bytes file =
     flat_map (looks_of_slot path host list order bytes file) slots
     ++ flat_map (overlap_look path order bytes (map (extent_at order bytes) slots))
     (map (extent_at order bytes) slots)
 
 -- so in a file, of which the words are read in the host's order
-unfoldable pub looks_of_code_file : List ℕ → Option (List Record) → List Seen → Order → List ℕ → ℕ
-    → List LookAt
+unfoldable pub looks_of_code_file : List ℕ → Option (List Record) → List Seen → Order
+    → List ℕ → ℕ → List LookAt
 looks_of_code_file path host list order bytes file = option_map_or
     (λ f. looks_of_entries path host list f.order f.file file)
     (result_ok (opened_beside order bytes)) []

@@ -89,7 +89,8 @@ abbrev pub definition_of : List Record → Option (List Record) → List ℕ →
 definition_of rs host name = if is_requested rs name && not (is_defined host name)
     then which.Record (look.OwnDefinition name) else which.Record (look.UnitDefinition name)
 
-abbrev pub definition_as : List Record → Option (List Record) → List ℕ → Body → Option Look
+abbrev pub definition_as : List Record → Option (List Record) → List ℕ → Body
+    → Option Look
 definition_as rs host name (PublDef value) = Some (definition_of rs host name)
 definition_as rs host name (UnitRef refs) = None
 definition_as rs host name (PublRef refs) = None

@@ -36,7 +36,8 @@ origin_in file index (Ok f) = Some (file, records_at index f)
 origin_in file index (Err why) = None
 
 -- so of an entry of a host or a library, which is read in the host's order
-unfoldable pub origin_of : List ℕ → List (List ℕ) → ℕ × ℕ → Option (ℕ × List Record)
+unfoldable pub origin_of : List ℕ → List (List ℕ) → ℕ × ℕ
+    → Option (ℕ × List Record)
 origin_of host libs at = if nat_lt at.1 SLOTS
     then origin_in at.0 at.1 (opened_beside (host_order host) (file_at host libs at.0)) else None
 
@@ -45,7 +46,8 @@ abbrev pub records_from : Option (ℕ × List Record) → List Record
 records_from None = []
 records_from (Some origin) = origin.1
 
-unfoldable pub seen_with : Option ℕ → List ℕ → SegmentPart → Option (ℕ × List Record) → Seen
+unfoldable pub seen_with : Option ℕ → List ℕ → SegmentPart → Option (ℕ × List Record)
+    → Seen
 seen_with slot name what origin = record {
   slot = slot;
   name = name;
@@ -135,7 +137,8 @@ taken_of h (slot ∷ ss) = (if takes_slot h slot then 1 else 0) + taken_of h ss
 unfoldable pub read_entry : HostFiles → ℕ → Option (ℕ × ℕ)
 read_entry h slot = if is_some (reading_in h slot) then entry_in h slot else None
 
-abbrev pub slot_origin : List ℕ → List (List ℕ) → HostFiles → ℕ → Option (ℕ × List Record)
+abbrev pub slot_origin : List ℕ → List (List ℕ) → HostFiles → ℕ
+    → Option (ℕ × List Record)
 slot_origin host libs h slot = option_and_then (origin_of host libs) (read_entry h slot)
 
 -- what is seen of the segment of a slot

@@ -56,8 +56,8 @@ room_here needed old mid size i room h lt =
 
 -- after some pieces there is room for those that are left
 pub room_then : (needed : Bool) (old new : Counts) (n size pieces left : ℕ)
-    → HasRoom needed old n → Rises old new size pieces → NoneFailed old new → size + left ≤ n
-    → HasRoom needed new left
+    → HasRoom needed old n → Rises old new size pieces → NoneFailed old new
+    → size + left ≤ n → HasRoom needed new left
 room_then needed old new n size pieces left room h none le =
     room_left needed old new n size left room h.by_bytes h.shorts none le
 

@@ -36,8 +36,7 @@ module _ {S : Type 0} {added : S → List ℕ → S → Type 0} {f : S} {all res
   pub none_yet : rest ≡ all → Written added f all rest f
   none_yet e = record { done = []; split = e; wrote = adds_none }
 
-  -- where the text that is left begins with a part and this part is added, what is after it is
-  -- left
+  -- where the text that is left begins with a part and this part is added, what is after it is left
   pub some_more : {g h : S} {here left : List ℕ} → left ≡ here ++ rest
       → Written added f all left g → Adds added g here h → Written added f all rest h
   some_more {here = here} e w more = record {

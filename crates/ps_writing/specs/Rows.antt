@@ -12,10 +12,10 @@ use Rattle.ps_writing.specs.declared.rows.RowPart.{RowPart}
 use Rattle.ps_writing.specs.declared.rows.RowPart.TheVariants as part
 
 -- A value of a row: the slot and the name, or the kind, that a row begins with; the number that the
--- last row begins with; a number; a number that a line has in two digits; whether the word holds; of
--- a record its index, which its row begins with, its kind, its name and its references, or a fault
--- in place of these; what is stored, with the slot and the name of its segment, which a row begins
--- with; and bytes.
+-- last row begins with; a number; a number that a line has in two digits; whether the word holds;
+-- of a record its index, which its row begins with, its kind, its name and its references, or a
+-- fault in place of these; what is stored, with the slot and the name of its segment, which a row
+-- begins with; and bytes.
 pub data Value : Type 0 where
   InSlot : List ℕ → ℕ → List ℕ → Value
   OfKind : List ℕ → Value

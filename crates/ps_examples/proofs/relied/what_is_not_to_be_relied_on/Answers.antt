@@ -14,8 +14,8 @@ returns c = record {
   a_line_of_a_byte_that_stays = (0, _, refl, (refl, (_, refl, refl)));
   a_byte_of_the_input = refl;
   a_byte_of_a_line = refl;
-  another_tail = λ t. let h : 42 ≡ 43 = ap (λ (xs : List ℕ). slice_index xs 44) t.heads.tail in
-      omega (arith, h);
+  another_tail = λ t. let h : 42
+      ≡ 43 = ap (λ (xs : List ℕ). slice_index xs 44) t.heads.tail in omega (arith, h);
   its_file = refl;
   a_library_that_gives = refl;
   a_library_that_is_refused = refl;

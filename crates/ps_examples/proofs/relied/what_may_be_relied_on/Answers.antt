@@ -30,11 +30,12 @@ returns c =
     let heads : HaveSameHeads host host =
     record { order = refl; names = λ slot h. refl; tail = refl } in
     record {
-      made_by_its_lines = c.references_make_the_file.ensures.made host file (library ∷ []) of_pair;
+      made_by_its_lines = c.references_make_the_file.ensures.made host file
+          (library ∷ []) of_pair;
       a_line = (1, _, refl, (refl, (_, refl, refl)));
       alike = like;
-      linked_alike = c.what_is_not_read.ensures.linked host host (library ∷ []) (library_elsewhere ∷ []) file
-          like of_pair;
+      linked_alike = c.what_is_not_read.ensures.linked host host (library ∷ [])
+          (library_elsewhere ∷ []) file like of_pair;
       without_one = c.library_is_left_out.ensures.linked host of_aux file [] (library ∷ [])
           not_of_file_1 behind;
       its_number = c.library_is_left_out.ensures.numbers host of_aux file [] (library ∷ [])

@@ -7,11 +7,13 @@ returns-in-Some c =
     let rows = c.args.table.now in
     some_item (λ (row : Bor (List ℕ)). row.now) rows c.from.result c.get.result
     c.in-Some.text c.in-Some.is c.get.ensures.lookup
-    ∙ ap (λ (i : ℕ). get_or (map (λ (row : Bor (List ℕ)). row.now) rows) i []) c.from.ensures
+    ∙ ap (λ (i : ℕ). get_or (map (λ (row : Bor (List ℕ)). row.now) rows) i [])
+        c.from.ensures
 
 pub returns-in-None : goal.returns-in-None
 returns-in-None c =
     let rows = c.args.table.now in
     no_item (λ (row : Bor (List ℕ)). row.now) rows c.from.result c.get.result
     c.in-None.is c.get.ensures.lookup
-    ∙ ap (λ (i : ℕ). get_or (map (λ (row : Bor (List ℕ)). row.now) rows) i []) c.from.ensures
+    ∙ ap (λ (i : ℕ). get_or (map (λ (row : Bor (List ℕ)). row.now) rows) i [])
+        c.from.ensures

@@ -12,5 +12,5 @@ returns g c =
       ← c.added.ensures,
     ) (c.begin_row.ensures
     ⨾ (c.add_part.ensures ⨾ (c.add_part-2.ensures ⨾ (c.add_part-3.ensures
-    ⨾ (c.add_part-4.ensures ⨾ (c.add_part-5.ensures ⨾ (c.add_part-6.ensures ⨾ adds_none))))))
-    ⨾ c.end_row.ensures)
+    ⨾ (c.add_part-4.ensures ⨾ (c.add_part-5.ensures
+    ⨾ (c.add_part-6.ensures ⨾ adds_none)))))) ⨾ c.end_row.ensures)

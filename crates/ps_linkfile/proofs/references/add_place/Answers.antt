@@ -12,5 +12,6 @@ returns g c = adds_is (rw (
   c.as_slice.ensures.value,
   c.item_end.ensures,
   ← c.stored.view_is,
-)) ((c.add_part.ensures ⨾ (c.add_part-2.ensures ⨾ (c.add_part-3.ensures ⨾ (c.add_part-4.ensures
+)) ((c.add_part.ensures ⨾ (c.add_part-2.ensures
+    ⨾ (c.add_part-3.ensures ⨾ (c.add_part-4.ensures
     ⨾ (c.add_part-5.ensures ⨾ adds_none))))) ⨾ c.add_record.ensures ⨾ c.add_by_form.ensures)

@@ -12,7 +12,8 @@ stored : (host : List ℕ) (libs : List (List ℕ)) (p q : Planned) (ls : List S
 stored host libs p q ls plan same listed = listed ∙ all_stored_are host libs p q plan same
 
 pub stored_in_segments-requires-clause-plan : goal.stored_in_segments-requires-clause-plan
-stored_in_segments-requires-clause-plan g c = as_plan _ _ _ _ c.in_ok-linked.ensures.plan c.plan.ensures.plan
+stored_in_segments-requires-clause-plan g c = as_plan _ _ _ _ c.in_ok-linked.ensures.plan
+    c.plan.ensures.plan
 
 pub returns-clause-text : goal.returns-clause-text
 returns-clause-text g c = joined _ _ _ _ _ c.in_ok-linked.ensures.map

@@ -24,16 +24,17 @@ pub returns-in_err-write_code-clause-prefix : goal.returns-in_err-write_code-cla
 returns-in_err-write_code-clause-prefix g c =
     let at =
     is_at _ _ _ _ _ _ c.sources-source-items.ensures.sources c.loop-k-test.true
-    c.source-item.is c.edits.ensures in
-    on_err_always c.from_residual.result (codes_prefix _ _ _ _ _ _ _ _ _ _ at
-    c.loop-k.invariant.codes.1 (rw (c.order.ensures, c.code.ensures) at c.in_err-write_code.ensures.prefix))
+    c.source-item.is c.edits.ensures in on_err_always c.from_residual.result
+    (codes_prefix _ _ _ _ _ _ _ _ _ _ at c.loop-k.invariant.codes.1
+    (rw (c.order.ensures, c.code.ensures) at c.in_err-write_code.ensures.prefix))
 
 pub returns-in_err-write_code-clause-writes : goal.returns-in_err-write_code-clause-writes
 returns-in_err-write_code-clause-writes g c =
     let at =
     is_at _ _ _ _ _ _ c.sources-source-items.ensures.sources c.loop-k-test.true
     c.source-item.is c.edits.ensures in
-    blocks_stop _ _ _ _ _ _ _ at.here c.loop-k.invariant.counts.1 (rw c.code.ensures at c.write_code.ensures.writes)
+    blocks_stop _ _ _ _ _ _ _ at.here c.loop-k.invariant.counts.1
+        (rw c.code.ensures at c.write_code.ensures.writes)
 
 pub returns-clause-writes : goal.returns-clause-writes
 returns-clause-writes g c = grind (arith, length-map, blocks_done, drop_all)

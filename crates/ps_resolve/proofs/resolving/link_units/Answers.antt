@@ -55,8 +55,8 @@ pub returns-in-None-clause-stop : goal.returns-in-None-clause-stop
 returns-in-None-clause-stop g c =
     let o : OpenedFile = c.args.slots.now in
     let libs = contents c.args.libs.now in
-    let none = faultless o libs c.read_added.result.fault c.requires.faultless c.read_added.ensures.ends
-    c.in_default.is in
+    let none = faultless o libs c.read_added.result.fault c.requires.faultless
+        c.read_added.ensures.ends c.in_default.is in
     let host : List ℕ = c.args.host.now in
     let t = all_of host libs o c.read_added.new.segments.items c.requires.opened
     c.read_added.ensures.all none in
@@ -74,8 +74,8 @@ invariant_of-link_segments g c =
     let libs = contents c.args.libs.now in
     let files = opened_files o.order libs in
     let given : List Segment = c.as_slice-items.result.now in
-    let none = faultless o libs c.read_added.result.fault c.requires.faultless c.read_added.ensures.ends
-    c.in_default.is in
+    let none = faultless o libs c.read_added.result.fault c.requires.faultless
+        c.read_added.ensures.ends c.in_default.is in
     let host : List ℕ = c.args.host.now in
     let value = c.as_slice-items.ensures.value in
     let t = all_of host libs o given c.requires.opened (value ∙ c.read_added.ensures.all) none in
@@ -102,8 +102,8 @@ returns-in-Some-host_of g c =
     let order : Order = c.order-order.result in
     let given : List Segment = c.as_slice-items.result.now in
     let all : List Segment = segments (order_of host) host libs in
-    let read = faultless o libs c.read_added.result.fault c.requires.faultless c.read_added.ensures.ends
-    c.in_default.is in
+    let read = faultless o libs c.read_added.result.fault c.requires.faultless
+        c.read_added.ensures.ends c.in_default.is in
     let order_is : order ≡ order_of host =
     c.order-order.ensures ∙ ap (λ (x : OpenedFile). x.order) is in
     let value = c.as_slice-items.ensures.value in

@@ -170,8 +170,8 @@ loop-round-preserved c =
             (omega arith) refl c.in-Some.ensures in
             let is : c.enqueue_segment.new.queue.items ≡ take MAX_REQUESTED next =
             c.enqueue_segment.ensures
-            ∙ (ap (λ (q : List UnitReference). take MAX_REQUESTED (requested_from units q gs)) r.2
-            ∙ kept units queue gs) in
+            ∙ (ap (λ (q : List UnitReference). take MAX_REQUESTED (requested_from units q gs))
+            r.2 ∙ kept units queue gs) in
             let rest = rounds_from host.order host.file libs units left (i + 1) next in
             let here = ap (λ (l : List ℕ). rounds_from host.order host.file libs units l i queue)
             (drop_at slots i slot lt (get_or_default slots i 0 slot lt))

@@ -11,7 +11,8 @@ pub returns-then-needs_linking : goal.returns-then-needs_linking
 returns-then-needs_linking g c =
     let d = c.args.dict.now in
     let e = entry_at d.order d.file c.args.slot in
-    let is = rw c.entry-entry.ensures at (sym c.needs_linking.ensures ∙ c.if-needs_linking.true) in
+    let is = rw c.entry-entry.ensures at
+        (sym c.needs_linking.ensures ∙ c.if-needs_linking.true) in
     let all = linked c.args.path.now (option_map (λ (h : Bor
     (List Record)). h.now) c.args.context.now.host) d.order e
     (information_of d.file e) c.args.code.now is in
@@ -24,7 +25,8 @@ pub returns : goal.returns
 returns g c =
     let d = c.args.dict.now in
     let e = entry_at d.order d.file c.args.slot in
-    let is = rw c.entry-entry.ensures at (sym c.needs_linking.ensures ∙ c.if-needs_linking.false) in
+    let is = rw c.entry-entry.ensures at
+        (sym c.needs_linking.ensures ∙ c.if-needs_linking.false) in
     let none = not_linked c.args.path.now (option_map (λ (h : Bor
     (List Record)). h.now) c.args.context.now.host) d.order e
     (information_of d.file e) (Ok c.args.code.now) is in

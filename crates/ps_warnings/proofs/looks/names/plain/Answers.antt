@@ -8,7 +8,8 @@ map_next : (f : ℕ → ℕ) (xs : List ℕ) (i : ℕ) → i < length xs
     → map f (take (suc i) xs) ≡ map f (take i xs) ++ (f (get_or xs i 0) ∷ [])
 map_next f [] i h = absurd (omega (arith, h))
 map_next f (x ∷ xs) zero h = refl
-map_next f (x ∷ xs) (suc i) h = ap (λ (l : List ℕ). f x ∷ l) (map_next f xs i (omega (arith, h)))
+map_next f (x ∷ xs) (suc i) h = ap (λ (l : List ℕ). f x ∷ l)
+    (map_next f xs i (omega (arith, h)))
 
 map_more : (f : ℕ → ℕ) (xs : List ℕ) (i : ℕ) → i < length xs
     → map f (take (i + 1) xs) ≡ map f (take i xs) ++ (f (get_or xs i 0) ∷ [])
