@@ -43,7 +43,7 @@ module _ (how : ListForm) (all_names all_files : List (List ℕ)) where
 pub listed_first : (how : ListForm) (name file : List ℕ) (names files : List (List ℕ))
     (phrase : List ℕ)
     → ListsLeft how (name ∷ names) (file ∷ files) names files
-        (listed how true name phrase file)
+    (listed how true name phrase file)
 listed_first how name file names files phrase =
     record { rest = λ more are. (phrase, more, are, refl) }
 

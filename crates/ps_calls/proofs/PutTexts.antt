@@ -52,8 +52,12 @@ looks_lines warnings harmless notes n lines (Ok text) many counted are made = (
   ap warnings_in made ∙ counted,
   warnings,
   many,
-  (harmless, notes, subst (λ (t : List ℕ). AreLookLines warnings harmless notes t)
-      (sym made) are),
+  (
+    harmless,
+    notes,
+    subst (λ (t : List ℕ). AreLookLines warnings harmless notes t)
+        (sym made) are,
+  ),
 )
 looks_lines warnings harmless notes n lines (Err error) many counted are made = tt
 

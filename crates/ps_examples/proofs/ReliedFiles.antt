@@ -26,7 +26,7 @@ only_filled : (file : List ℕ) → any_below SLOTS
     → is_filled (entry_at Little file i) ≡ true → i ≡ 2
 only_filled file all i h filled = (Decides-eqb i 2).0 (lone (is_filled (entry_at Little file i))
     (i == 2) (fails SLOTS (λ k. is_filled (entry_at Little file k) && not (k == 2)) all i h)
-        filled)
+    filled)
 
 -- the library is read like the one whose unit is elsewhere
 pub library_alike : IsReadAlike Little library library_elsewhere

@@ -196,16 +196,16 @@ giver units segs k p g t = ((of.0, of.1, of.3.5, of.3.6), requested, first)
     first j n b requests =
         let a = requests_at segs j n g.name requests in
         let before : Before (owner segs a.0 ∷ a.1.at.rec ∷ [])
-            (owner segs p ∷ g.at.rec ∷ []) =
+        (owner segs p ∷ g.at.rec ∷ []) =
         rw (a.2, a.5) b in
         elim (cases_order a.0 p) [
           | inl same ↦
               let one : a.1 ≡ g = (let u = a.3 in let v = t.0 in cc) in
               let itself : Before (owner segs p ∷ g.at.rec ∷ [])
-                  (owner segs p ∷ g.at.rec ∷ []) =
+              (owner segs p ∷ g.at.rec ∷ []) =
               rw (same, one) at before in
               not_both (owner segs p ∷ g.at.rec ∷ [])
-                  (owner segs p ∷ g.at.rec ∷ []) itself itself
+              (owner segs p ∷ g.at.rec ∷ []) itself itself
           | inr u ↦ elim u [
             | inl l ↦ distinct units [] (all_unit_references segs) k p a.0 g a.1 t l a.3 a.4
             | inr l ↦ not_both (owner segs a.0 ∷ a.1.at.rec ∷ []) (owner segs p ∷ g.at.rec

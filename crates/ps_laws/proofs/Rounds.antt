@@ -14,7 +14,7 @@ RoundHas order host libs g left f =
     ((f ≡ in_record g.at.segment.file g.at.segment.slot g.at.rec reason.MissingUnit)
     × IsMissing order libs g.name)
     ⊎ (((f ≡ in_record g.at.segment.file g.at.segment.slot g.at.rec reason.NoSlot)
-        × (left ≡ None))
+    × (left ≡ None))
     ⊎ ((slot : ℕ) × (left ≡ Some slot) × PlacedFault order host libs g.name slot f))
 
 -- a fault of rank 13 or above that has a record has one that was read

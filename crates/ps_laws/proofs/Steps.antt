@@ -139,4 +139,4 @@ module _ (order : Order) (host : List ℕ) where
   unfolding no_host_fault
   step_3 = least_if _ _ (Decides-like _ (λ n slot h r. n (slot, h, r)) (λ n t. n t.0 t.1 t.2)
       (Decides-not _ (any_lesser _ (λ i. HasRole order host i role.Host)
-          (λ i. host_role _) SLOTS)))
+      (λ i. host_role _) SLOTS)))

@@ -353,7 +353,7 @@ module _ (host : List ℕ) (libs : List (List ℕ)) where
       same : All (λ s. (j : ℕ) → j < 512 * blocks (length s.code)
           → get_or f (512 * block_of (segments_of host libs) s.slot + j) 0
           ≡ get_or g (512 * block_of (segments_of host libs) s.slot + j) 0)
-              (segments_of host libs)
+          (segments_of host libs)
       same = λ i s lt j within.
           elim (cases_lt j (length (get_or (segments_of host libs) i s).code)) [
             | inl of_code ↦ single host libs h.accepted i s lt j _ _

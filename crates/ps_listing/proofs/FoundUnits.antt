@@ -30,7 +30,7 @@ module _ (f : ℕ → Option LoneUnit) (all old : List LoneUnit) (i : ℕ) where
       → all ≡ old ++ filter_map f (range_with_len (i + 1) (SLOTS - (i + 1)))
   none_more lt is h = one_more None lt is h
       ∙ ap (λ (xs : List LoneUnit). xs
-          ++ filter_map f (range_with_len (i + 1) (SLOTS - (i + 1))))
+      ++ filter_map f (range_with_len (i + 1) (SLOTS - (i + 1))))
       (append-nil old)
 
   -- where one is found, there is one

@@ -171,7 +171,7 @@ unopened_members why = codes ",\"order\":null,\"contents\":null,\"fault\":" ++ f
 abbrev pub unread_members : List ℕ
 unread_members =
     codes
- ",\"length\":null,\"type\":null,\"order\":null,\"contents\":null,\"fault\":null,\"segments\":[\n]}"
+    ",\"length\":null,\"type\":null,\"order\":null,\"contents\":null,\"fault\":null,\"segments\":[\n]}"
 
 -- the items of the segments: a file of which the phrase says that it is something else has none
 abbrev pub segment_items : List ℕ → Order → List ℕ → List ℕ

@@ -106,7 +106,7 @@ references-cons file slot rec r rs = grind arith
 pub kept_more : (units : List (List ℕ × ℕ)) (queue now : List UnitReference)
     (file slot rec : ℕ) (r : Record) (rs : List Record)
     → now ≡ take MAX_REQUESTED (requested_from units queue
-        (unit_references file slot rec (r ∷ [])))
+    (unit_references file slot rec (r ∷ [])))
     → take MAX_REQUESTED (requested_from units now (unit_references file slot (rec + 1) rs))
     ≡ take MAX_REQUESTED (requested_from units queue (unit_references file slot rec (r ∷ rs)))
 kept_more units queue now file slot rec r rs is =

@@ -24,7 +24,7 @@ owed_next line all old w left words before new so_far one is = record {
         whole.0,
         whole.1,
         ap (λ (t : List ℕ). t ++ more) is
-        ∙ (append_assoc before (line words) more ∙ whole.2),
+            ∙ (append_assoc before (line words) more ∙ whole.2),
       );
 }
 

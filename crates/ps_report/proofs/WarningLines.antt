@@ -196,7 +196,7 @@ pub keeps_slot_lines : (old lines new : List ℕ) → new ≡ old ++ other_lines
 unfolding other_lines slot_lines
 keeps_slot_lines old lines new is =
     subst (λ (new : List ℕ). AddsSlotLines old (filter is_slot_line (lines_of lines)) new)
-        (sym is)
+    (sym is)
     (adds_slots old (lines_of lines) (one_each lines))
 
 -- the line of a warning

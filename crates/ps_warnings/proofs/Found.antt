@@ -125,7 +125,7 @@ more_in ws place l = ap (filter (λ (x : LookAt). is_about_link x.look))
 -- what a push adds to the notes, to what is harmless, and to the warnings
 pub pushed_note : (place : WarningAt) (l : Look) (ws hs : List Warning) → IsWeight l weight.Note
     → Adds (link_looks ws hs) (look_at place.path.now place.segment place.rec l)
-        (link_looks ws hs)
+    (link_looks ws hs)
 pushed_note place (which.Entry e) ws hs h = absurd (cc)
 pushed_note place (which.Link e) ws hs h = absurd (cc)
 pushed_note place (which.Record (said.UnitDefinition n)) ws hs h = absurd (cc)

@@ -8,7 +8,7 @@ returns-in-Some c =
     some_item (λ (row : Bor (List ℕ)). row.now) rows c.from.result c.get.result
     c.in-Some.text c.in-Some.is c.get.ensures.lookup
     ∙ ap (λ (i : ℕ). get_or (map (λ (row : Bor (List ℕ)). row.now) rows) i [])
-        c.from.ensures
+    c.from.ensures
 
 pub returns-in-None : goal.returns-in-None
 returns-in-None c =
@@ -16,4 +16,4 @@ returns-in-None c =
     no_item (λ (row : Bor (List ℕ)). row.now) rows c.from.result c.get.result
     c.in-None.is c.get.ensures.lookup
     ∙ ap (λ (i : ℕ). get_or (map (λ (row : Bor (List ℕ)). row.now) rows) i [])
-        c.from.ensures
+    c.from.ensures

@@ -18,7 +18,7 @@ loop-i-preserved g c =
 pub returns : goal.returns
 returns g c = all_written (numbered_over (row_item c.args.form definition_row)
     c.args.definitions.now c.loop-i.i (omega (arith, c.len-i-end.ensures, c.loop-i-test.false)))
-        c.loop-i.invariant
+    c.loop-i.invariant
 
 pub returns-then-has_failed : goal.returns-then-has_failed
 returns-then-has_failed g c = all_stopped c.loop-i.invariant

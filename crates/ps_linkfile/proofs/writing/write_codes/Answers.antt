@@ -34,7 +34,7 @@ returns-in_err-write_code-clause-writes g c =
     is_at _ _ _ _ _ _ c.sources-source-items.ensures.sources c.loop-k-test.true
     c.source-item.is c.edits.ensures in
     blocks_stop _ _ _ _ _ _ _ at.here c.loop-k.invariant.counts.1
-        (rw c.code.ensures at c.write_code.ensures.writes)
+    (rw c.code.ensures at c.write_code.ensures.writes)
 
 pub returns-clause-writes : goal.returns-clause-writes
 returns-clause-writes g c = grind (arith, length-map, blocks_done, drop_all)

@@ -21,7 +21,7 @@ returns-in-Some-clause-stop g c =
     let found : own_reading_fault v.order v.file v.libs ≡ Some fault =
     sym c.read_own.ensures.first ∙ c.in-Some.is in
     first_read host libs fault
-        (sym (fault_of_host host libs v (opened_is host libs slots (sym c.requires.opened)))
+    (sym (fault_of_host host libs v (opened_is host libs slots (sym c.requires.opened)))
     ∙ first_own v.order v.file v.libs fault found)
 
 pub link_units-requires : goal.link_units-requires

@@ -56,7 +56,7 @@ returns-in-None-clause-stop g c =
     let o : OpenedFile = c.args.slots.now in
     let libs = contents c.args.libs.now in
     let none = faultless o libs c.read_added.result.fault c.requires.faultless
-        c.read_added.ensures.ends c.in_default.is in
+    c.read_added.ensures.ends c.in_default.is in
     let host : List ℕ = c.args.host.now in
     let t = all_of host libs o c.read_added.new.segments.items c.requires.opened
     c.read_added.ensures.all none in
@@ -75,7 +75,7 @@ invariant_of-link_segments g c =
     let files = opened_files o.order libs in
     let given : List Segment = c.as_slice-items.result.now in
     let none = faultless o libs c.read_added.result.fault c.requires.faultless
-        c.read_added.ensures.ends c.in_default.is in
+    c.read_added.ensures.ends c.in_default.is in
     let host : List ℕ = c.args.host.now in
     let value = c.as_slice-items.ensures.value in
     let t = all_of host libs o given c.requires.opened (value ∙ c.read_added.ensures.all) none in
@@ -103,7 +103,7 @@ returns-in-Some-host_of g c =
     let given : List Segment = c.as_slice-items.result.now in
     let all : List Segment = segments (order_of host) host libs in
     let read = faultless o libs c.read_added.result.fault c.requires.faultless
-        c.read_added.ensures.ends c.in_default.is in
+    c.read_added.ensures.ends c.in_default.is in
     let order_is : order ≡ order_of host =
     c.order-order.ensures ∙ ap (λ (x : OpenedFile). x.order) is in
     let value = c.as_slice-items.ensures.value in

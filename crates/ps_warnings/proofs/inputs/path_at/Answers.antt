@@ -9,7 +9,7 @@ pub returns-in-Some : goal.returns-in-Some
 returns-in-Some c =
     let files = c.args.paths.now in
     path_read files c.args.index c.in-Some.path.now
-        (slice_get_read files (length files) c.args.index
+    (slice_get_read files (length files) c.args.index
     c.in-Some.path.now refl (ltb-true c.args.index (length files) (sym c.in-Some.ensures.lookup.0))
     c.in-Some.ensures.lookup.1)
 

@@ -13,7 +13,7 @@ returns-in-None c =
     let found = ap (option_map (λ (p : EntryAt). (p.file, p.index))) (sym c.in-None.is)
     ∙ c.source_in.ensures in
     c.without_entry.ensures ∙ (ap
-        (λ (n : List ℕ). seen_with (Some c.args.slot) n c.args.part None)
+    (λ (n : List ℕ). seen_with (Some c.args.slot) n c.args.part None)
     c.name_in-name.ensures ∙ ap (λ (o : Option (ℕ × ℕ)). seen_with (Some c.args.slot)
     (name_in c.args.host.now c.args.slot) c.args.part (option_and_then there o)) found)
 

@@ -17,7 +17,7 @@ returns g c =
     let f = seen_in i.host.now (contents i.libs.now) h in
     c.in_ok-add_segment.ensures
     ∙ (ap (λ (l : List Seen). l ++ cons_option (option_map seen c.unit_without_slot-unit.result)
-        [])
+    [])
     c.in_ok-list.ensures
     ∙ ap (λ (o : Option Seen). filter_map f slots ++ cons_option o [])
     (c.unit_without_slot-unit.ensures ∙ ap (λ (n : ℕ). option_and_then (seen_unit h)

@@ -12,7 +12,7 @@ returns-then-needs_linking g c =
     let d = c.args.dict.now in
     let e = entry_at d.order d.file c.args.slot in
     let is = rw c.entry-entry.ensures at
-        (sym c.needs_linking.ensures ∙ c.if-needs_linking.true) in
+    (sym c.needs_linking.ensures ∙ c.if-needs_linking.true) in
     let all = linked c.args.path.now (option_map (λ (h : Bor
     (List Record)). h.now) c.args.context.now.host) d.order e
     (information_of d.file e) c.args.code.now is in
@@ -26,7 +26,7 @@ returns g c =
     let d = c.args.dict.now in
     let e = entry_at d.order d.file c.args.slot in
     let is = rw c.entry-entry.ensures at
-        (sym c.needs_linking.ensures ∙ c.if-needs_linking.false) in
+    (sym c.needs_linking.ensures ∙ c.if-needs_linking.false) in
     let none = not_linked c.args.path.now (option_map (λ (h : Bor
     (List Record)). h.now) c.args.context.now.host) d.order e
     (information_of d.file e) (Ok c.args.code.now) is in

@@ -8,4 +8,4 @@ use Rattle.ps_warnings.proofs.looks.extents.extents_of.Given as goal
 abbrev pub invariant-loop-slot : goal.invariant-loop-slot
 invariant-loop-slot l = (length l.extents ≡ SLOT_COUNT)
     × (take l.slot l.extents ≡ map (extent_at l.dict.order l.dict.file)
-        (range_with_len 0 l.slot))
+    (range_with_len 0 l.slot))
