@@ -226,7 +226,8 @@ module _ (order : Order) (host : List ℕ) where
       let t = requested_at _ [] _ k g (omega arith) e in
       (owner all t.0, giver _ all k t.0 g t.1)
 
-  -- 4. what the host's own slots have a slot of a unit's role is a unit slot
+  -- 4. what the host's own slots have
+  -- a slot of a unit's role is a unit slot
   pub unit_slot : (slot : ℕ) (r : Role)
       → is_unit r ≡ true → HasRole order host slot r → IsUnitSlot order host slot
   unit_slot slot r unit has = grind arith

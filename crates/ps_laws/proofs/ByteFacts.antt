@@ -100,7 +100,8 @@ one_becomes segs units publics bases s rec name (PrivRef words refs) x b c t u =
     + (n + words_before segs s.slot rec))) (bases t.0 u.0 t.1 u.1) ∙ sym u.2)
 one_becomes segs units publics bases s rec name other x b c t u = absurd t
 
--- 2. the byte a record and its reference by their numbers
+-- 2. the byte
+-- a record and its reference by their numbers
 same_reference : (s : Segment) (rec i x other j y : ℕ) (r q : Record) → IsReference s rec r i x
     → IsReference s other q j y → (rec ≡ other) × (i ≡ j) → (r ≡ q) × (x ≡ y)
 same_reference s rec i x other j y r q a b e = grind arith

@@ -174,7 +174,8 @@ module _ (order : Order) (host : List ℕ) (libs : List (List ℕ))
     same_name = elim (B.complete i g.at.rec g.name there.1)
         [ inl has ↦ absurd ((A.requested k g at).1 has) | inr t ↦ found t.0 t.1 t.2 t.3 ]
 
--- 4. the segments the first library that has an entry of the name has no second one
+-- 4. the segments
+-- the first library that has an entry of the name has no second one
 abbrev pub HasOneEntry : Order → List (List ℕ) → List ℕ → Type 0
 HasOneEntry order libs name =
     (k : ℕ) (lib : List ℕ) → slice_get libs k ≡ Some lib

@@ -41,7 +41,8 @@ map_map : {A C D : Type 0} (f : C → D) (g : A → C) (o : Option A)
     → option_map f (option_map g o) ≡ option_map (λ a. f (g a)) o
 map_map f g o = grind arith
 
--- 1. the record's name what is looked up is what the first item of the key has
+-- 1. the record's name
+-- what is looked up is what the first item of the key has
 lookup_found : {D : Type 0} (test : List ℕ → Bool) (ds : List (List ℕ × D)) → lookup test
     ds ≡ option_map (λ (e : List ℕ × D). e.1) (find (λ (e : List ℕ × D). test e.0) ds)
 lookup_found test [] = refl

@@ -7,7 +7,8 @@ use Rattle.ps_laws.proofs.Looking.{of_test}
 use Rattle.ps_laws.proofs.Sources.{OneStop, none_has, unit_least, placed_late}
 use Rattle.ps_words.specs.declared.fault.Reason.TheVariants as reason
 
--- 1. one round what is wrong with the unit of a reference, where this slot, or none, is left for it
+-- 1. one round
+-- what is wrong with the unit of a reference, where this slot, or none, is left for it
 abbrev RoundHas : Order → List ℕ → List (List ℕ) → UnitReference → Option ℕ → Fault
     → Type 0
 RoundHas order host libs g left f =

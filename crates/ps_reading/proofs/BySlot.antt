@@ -10,7 +10,8 @@ use Rattle.ps_reading.proofs.Items.{find_passes}
 use Rattle.ps_reading.proofs.ReadingKnown.{own_parts}
 use Rattle.ps_reading.proofs.NextItems.{drop_at}
 
--- 1. where a segment goes a segment goes before one of a later slot, and after one of another
+-- 1. where a segment goes
+-- a segment goes before one of a later slot, and after one of another
 pub put_before : (s x : Segment) (xs : List Segment) → s.slot < x.slot
     → put_by_slot s (x ∷ xs) ≡ s ∷ x ∷ xs
 put_before s x xs h = grind arith
@@ -63,7 +64,8 @@ All-put P s (x ∷ xs) all h = by (nat_lt s.slot x.slot) (All-put P s xs (All-ta
     by true rest = All-cons P s (x ∷ xs) h all
     by false rest = All-cons P x (put_by_slot s xs) (All-head P x xs all) rest
 
--- 2. one segment more among those of slots before the segments of later slots
+-- 2. one segment more among those of slots
+-- before the segments of later slots
 put_front : (f : ℕ → Option Segment) → InPlace f → (s : Segment) (n a : ℕ) → s.slot < a
     → put_by_slot s (filter_map f (range_with_len a n))
     ≡ s ∷ filter_map f (range_with_len a n)

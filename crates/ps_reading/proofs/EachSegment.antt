@@ -13,7 +13,8 @@ find_has {X} P test (y ∷ ys) x h all =
         → (test x ≡ true) × P x
     by rest b e = grind arith
 
--- 1. what it is made of the segment has the code of its entry, and is this one
+-- 1. what it is made of
+-- the segment has the code of its entry, and is this one
 pub record IsMade (order : Order) (host : List ℕ) (libs : List (List ℕ)) (slot : ℕ)
     (name : List ℕ) (r : Role) (place : ℕ × ℕ) (s : Segment) : Type 0 where
   pub code : List ℕ
@@ -69,7 +70,8 @@ module _ (order : Order) (host : List ℕ) (libs : List (List ℕ)) where
         there,
       ))
 
-  -- 2. what holds of each the segment of a slot is its own, or of an empty slot one that was added
+  -- 2. what holds of each
+  -- the segment of a slot is its own, or of an empty slot one that was added
   pub at_slot : (P : Segment → Type 0) → All P (added_segments order host libs)
       → (slot : ℕ) (s : Segment) → segment_at order host libs slot ≡ Some s
       → (own_segment order host libs slot ≡ Some s)

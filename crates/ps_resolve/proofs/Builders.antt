@@ -336,7 +336,8 @@ pub not_allotted : (base : ℕ) (ss : List Owner) (stop : Stop)
     → StopsPrivates base ss stop
 not_allotted base ss stop d = grind (arith, first_unfit, some_segment)
 
--- 4. what is allotted slots first, then records
+-- 4. what is allotted
+-- slots first, then records
 later_record : (a b s r : ℕ) → (nat_lt a s || (a == s && nat_le (b + 1) r)) ≡ true
     → Before (a ∷ b ∷ []) (s ∷ r ∷ [])
 later_record a b s r h = grind arith

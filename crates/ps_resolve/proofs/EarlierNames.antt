@@ -18,7 +18,8 @@ is_same x y = x == y
 flips : (x y : ℕ) → is_same x y ≡ is_same y x
 flips x y = grind arith
 
--- 1. numbers of names a private more, and another record
+-- 1. numbers of names
+-- a private more, and another record
 pub taken : (r : Record) (rs : List Record) → is_private_reference r.body ≡ true
     → private_numbers (r ∷ rs) ≡ number r ∷ private_numbers rs
 taken r rs h = rw (h, filter) refl
@@ -116,7 +117,8 @@ few_privates rs few =
     distinct_names rs (private_numbers rs) (IsPermutation-refl (private_numbers rs))
     (few_ascend (private_numbers rs) (subst (λ n. n < 2) (sym (counted rs)) few))
 
--- 2. what was seen of the records a record after a prefix
+-- 2. what was seen of the records
+-- a record after a prefix
 pub at_end : (prefix : List Record) (r : Record) (rs : List Record)
     → slice_get (prefix ++ r ∷ rs) (length prefix) ≡ Some r
 at_end [] r rs = refl

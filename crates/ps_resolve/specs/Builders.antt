@@ -23,7 +23,8 @@ use Rattle.ps_words.specs.declared.fault.Reason.{Reason}
 use Rattle.ps_words.specs.declared.fault.Reason.TheVariants as reason
 use Rattle.ps_resolve.specs.declared.allotment.TheConstants.{MAX_NEXT_FREE}
 
--- 1. definitions no record of this kind has the name of an earlier record of this kind
+-- 1. definitions
+-- no record of this kind has the name of an earlier record of this kind
 abbrev pub HaveNoNamesakes : (Body → Bool) → List Record → Type 0
 HaveNoNamesakes test rs = (rec : ℕ) (r : Record) → slice_get rs rec ≡ Some r
     → HasEarlierNamesake test rs rec r → ⊥

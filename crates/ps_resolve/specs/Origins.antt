@@ -19,7 +19,8 @@ use Rattle.ps_reading.specs.Sources.{Segment, information_block, order_of, table
 use Rattle.ps_resolve.specs.RequestedUnits.{HasSlot}
 use Rattle.ps_codefile.specs.declared.dictionary_layout.TheConstants.{FIRST_ADDED, SLOTS}
 
--- 1. which slots have a segment a segment of the list has this slot
+-- 1. which slots have a segment
+-- a segment of the list has this slot
 abbrev pub IsTaken : List Segment → ℕ → Type 0
 IsTaken segs slot = SomeItem segs (λ k s. s.slot ≡ slot)
 
@@ -61,7 +62,8 @@ pub record IsAddedUnit (order : Order) (host : List ℕ) (segs : List Segment)
   pub named : is_nameless s.name ≡ false
   pub free : HasSlot order host s.name → ⊥
 
--- 2. which file and which entry file 0 of a link is the host, and file k the k-th library
+-- 2. which file and which entry
+-- file 0 of a link is the host, and file k the k-th library
 abbrev pub IsFile : List ℕ → List (List ℕ) → ℕ → List ℕ → Type 0
 IsFile host libs k file = slice_get (host ∷ libs) k ≡ Some file
 
@@ -85,8 +87,9 @@ pub record IsUnitOf (order : Order) (host : List ℕ) (libs : List (List ℕ)) (
   -- its kind is UNITSEG
   pub kind : (entry_at order library i).kind ≡ 3
 
--- 3. what is read there the code is the file's bytes from the entry's block on, as many as the
--- entry says, and the file has them all
+-- 3. what is read there
+-- the code is the file's bytes from the entry's block on, as many as the entry says, and the file
+-- has them all
 abbrev pub IsSliceOf : List ℕ → Entry → List ℕ → Type 0
 IsSliceOf file e code =
     (block_len * e.address + e.length ≤ length file)
@@ -109,7 +112,8 @@ pub record IsReadFrom (order : Order) (host : List ℕ) (libs : List (List ℕ))
       → Spells order (information_of source (entry_at order source s.index)) s.records
   pub unread : needs_linking s.role ≡ false → s.records ≡ []
 
--- 4. of all segments of a link each of the host's sixteen slots that is not empty has one
+-- 4. of all segments of a link
+-- each of the host's sixteen slots that is not empty has one
 abbrev pub HaveOneEach : List ℕ → List Segment → Type 0
 HaveOneEach host segs = (slot : ℕ) → slot < SLOTS
     → (HasRole (order_of host) host slot Empty → ⊥) → HasOne segs slot
