@@ -1,10 +1,11 @@
 -- Which edit covers a place, of edits that are apart.
-use Rattle.std.proofs.Common.{◌≡◌, ℕ, zero, suc, ◌+◌, ◌-◌, ◌≤◌, ◌<◌, List, [], ◌∷◌, length, drop, get_or, Option, Some, None, All, refl, ap, sym, ◌∙◌, subst, arith, true, false, Bool}
+use Rattle.std.proofs.Common.{◌≡◌, ℕ, zero, suc, ◌+◌, ◌≤◌, ◌<◌, List, [], ◌∷◌, length, drop, get_or, None, All, refl, sym, ◌∙◌, arith, false}
 use Rattle.std.proofs.lemmas.Bool.Decides.{nat_tests}
 use Rattle.std.proofs.lemmas.List.Elements.{All-head, All-tail}
 use Rattle.std.proofs.lemmas.List.{drop_more}
 use Rattle.std.specs.Prelude.{find}
-use Rattle.ps_words.specs.Edits.{AreApart, IsInside, covers, place_of, stored_bytes, width}
+use Rattle.ps_words.proofs.Orders.{covers_to}
+use Rattle.ps_words.specs.Edits.{AreApart, IsInside, covers, place_of, width}
 use Rattle.ps_words.specs.declared.order.Order.{Order}
 use Rattle.ps_words.specs.declared.edit.Edit.{Edit}
 use Rattle.ps_patch.specs.Patched.{patched_by, patched_from}
@@ -15,16 +16,12 @@ not_before e p h = grind (arith, nat_tests)
 not_behind : (e : Edit) (p : ℕ) → place_of e + width e ≤ p → covers p e ≡ false
 not_behind e p h = grind (arith, nat_tests)
 
-covers_to : (e : Edit) (p : ℕ) → covers p e ≡ true → p < place_of e + width e
-covers_to e p h = grind (arith, nat_tests)
-
 -- nothing covers a place before all edits
 find_none : (es : List Edit) (from p : ℕ) → AreApart from es → p < from
     → find (covers p) es ≡ None
 find_none [] from p h k = refl
 find_none (e ∷ es) from p h k =
-    rw (not_before e p (omega (arith, h.0)))
-    (find_none es (place_of e + width e) p h.1 (omega (arith, h.0)))
+    grind (arith, not_before, find_none es (place_of e + width e) p h.1)
 
 -- an edit that ends before a place is passed over
 find_next : (e : Edit) (es : List Edit) (p : ℕ) → place_of e + width e ≤ p
@@ -35,20 +32,7 @@ find_next e es p h = rw (not_behind e p h)
 patched_one : (order : Order) (old new : ℕ) (e : Edit) (es : List Edit) (from p : ℕ)
     → AreApart from (e ∷ es) → new ≡ patched_by order e p old
     → patched_from order es p new ≡ patched_from order (e ∷ es) p old
-patched_one order old new e es from p apart is = at (covers p e) refl
-  where
-    rest : (o : Option Edit) → find (covers p) es ≡ o → covers p e ≡ false
-        → patched_from order es p new ≡ patched_from order (e ∷ es) p old
-    rest None none off = let same : new ≡ old = rw off at is in rw (off, none) same
-    rest (Some x) some off = rw (off, some)
-
-    at : (b : Bool) → covers p e ≡ b
-        → patched_from order es p new ≡ patched_from order (e ∷ es) p old
-    at true on =
-        let same : new ≡ get_or (stored_bytes order e) (p - place_of e) 0 = rw on at is in
-        let none = find_none es (place_of e + width e) p apart.1 (covers_to e p on) in
-        rw (on, none) same
-    at false off = rest (find (covers p) es) refl off
+patched_one order old new e es from p apart is = grind (arith, find_none, covers_to)
 
 apart_lower : (es : List Edit) (from : ℕ) → AreApart from es → AreApart 0 es
 apart_lower [] from h = tt
@@ -62,8 +46,7 @@ apart_drop (e ∷ es) (suc at) from h = apart_drop es at (place_of e + width e) 
 
 apart_one : (es : List Edit) (at : ℕ) (d : Edit) → at < length es → AreApart 0 es
     → AreApart 0 (get_or es at d ∷ drop (at + 1) es)
-apart_one es at d h apart = subst (λ (xs : List Edit). AreApart 0 xs) (drop_more es at d h)
-    (apart_drop es at 0 apart)
+apart_one es at d h apart = rw (drop_more es at d h) at (apart_drop es at 0 apart)
 
 -- the edit at `at`, once it is stored, need not be looked at again
 pub patched_step : (order : Order) (old new : ℕ) (es : List Edit) (at : ℕ) (d : Edit) (p : ℕ)
@@ -90,8 +73,7 @@ patched_last order old new es at d p h apart lt is =
 pub find_step : (es : List Edit) (at : ℕ) (d : Edit) (p : ℕ) → at < length es
     → place_of (get_or es at d) + width (get_or es at d) ≤ p
     → find (covers p) (drop at es) ≡ find (covers p) (drop (at + 1) es)
-find_step es at d p h le = ap (λ (xs : List Edit). find (covers p) xs) (drop_more es at d h)
-    ∙ find_next (get_or es at d) (drop (at + 1) es) p le
+find_step es at d p h le = grind (arith, drop_more, find_next)
 
 -- edits inside a code cover nothing past its end
 pub find_past : (n : ℕ) (es : List Edit) (p : ℕ) → All (IsInside n) es → n ≤ p

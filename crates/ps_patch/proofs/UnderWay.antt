@@ -47,26 +47,11 @@ block_over t next to count way is within before over =
 -- past the code's end all that its edits leave is 0
 patched_past : (t : Patching) (p : ℕ) → All (IsInside (length t.code)) t.edits
     → patched_byte t.order t.code t.edits p ≡ patched_or_zero t.order t.code t.edits p
-patched_past t p inside = at (nat_lt p (length t.code)) refl
-  where
-    at : (b : Bool) → nat_lt p (length t.code) ≡ b
-        → patched_byte t.order t.code t.edits p ≡ patched_or_zero t.order t.code t.edits p
-    at true on = rw on
-    at false off =
-        let past = ltb-false p (length t.code) off in
-        let none = find_past (length t.code) t.edits p inside past in
-        let zero : get_or t.code p 0 ≡ 0 = get_or-eq_default t.code 0 past in
-        rw (off, none) zero
+patched_past t p inside = grind (arith, ltb-false, find_past, get_or-eq_default)
 
 -- a place of the block that the edits from `next` on are stored in
 pub block_patched : (t : Patching) (next k copied new : ℕ) → IsUnderWay t next
     → copied ≡ get_or t.code (t.position + k) 0
     → new ≡ patched_from t.order (drop next t.edits) (t.position + k) copied
     → new ≡ patched_or_zero t.order t.code t.edits (t.position + k)
-block_patched t next k copied new way same is =
-    let p = t.position + k in
-    let found : find (covers p) t.edits ≡ find (covers p) (drop next t.edits) =
-    way.before p (omega arith) in
-    let all : patched_from t.order (drop next t.edits) p copied
-    ≡ patched_byte t.order t.code t.edits p = rw (found, same) in
-    is ∙ (all ∙ patched_past t p way.are_edits.inside)
+block_patched t next k copied new way same is = grind (arith, patched_past)
