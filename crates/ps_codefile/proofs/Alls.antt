@@ -1,5 +1,5 @@
 -- Tests of a list of numbers.
-use Rattle.std.proofs.Common.{◌≡◌, ℕ, zero, suc, ◌+◌, ◌<◌, ◌≤◌, ◌-◌, Bool, true, false, true≢false, ◌&&◌, ◌||◌, refl, sym, ◌∙◌, subst, arith, add-zero}
+use Rattle.std.proofs.Common.{◌≡◌, ℕ, zero, suc, ◌+◌, ◌<◌, ◌≤◌, ◌-◌, Bool, true, false, true≢false, refl, sym, ◌∙◌, subst, arith, add-zero}
 use Rattle.std.specs.List.{list_all, list_any, range_with_len}
 
 -- where each number of a list passes a test, all pass
@@ -16,14 +16,8 @@ all_from p a (suc n) h =
 pub not_all : (p : ℕ → Bool) (a n i j : ℕ) → i < n → j ≡ a + i → p j ≡ false
     → list_all p (range_with_len a n) ≡ false
 not_all p a zero i j lt e h = absurd (omega arith)
-not_all p a (suc n) zero j lt e h = let x : j ≡ a = omega arith in let g =
-    subst (λ (m : ℕ). p m ≡ false) x h in rw g
-not_all p a (suc n) (suc i) j lt e h = rw (not_all p (a + 1) n i j (omega arith) (omega arith) h)
-    (and_false (p a))
-  where
-    and_false : (b : Bool) → (b && false) ≡ false
-    and_false true = refl
-    and_false false = refl
+not_all p a (suc n) zero j lt e h = grind arith
+not_all p a (suc n) (suc i) j lt e h = grind (arith, not_all p (a + 1) n i j)
 
 -- each number of the list passes
 pub all_at : (p : ℕ → Bool) (n : ℕ) → list_all p (range_with_len 1 n) ≡ true → (j : ℕ)
@@ -49,11 +43,5 @@ none_from p a (suc n) h =
 pub some_at : (p : ℕ → Bool) (a n i j : ℕ) → i < n → j ≡ a + i → p j ≡ true
     → list_any p (range_with_len a n) ≡ true
 some_at p a zero i j lt e h = absurd (omega arith)
-some_at p a (suc n) zero j lt e h = let x : j ≡ a = omega arith in let g =
-    subst (λ (m : ℕ). p m ≡ true) x h in rw g refl
-some_at p a (suc n) (suc i) j lt e h = rw (some_at p (a + 1) n i j (omega arith) (omega arith) h)
-    (or_true (p a))
-  where
-    or_true : (b : Bool) → (b || true) ≡ true
-    or_true true = refl
-    or_true false = refl
+some_at p a (suc n) zero j lt e h = grind arith
+some_at p a (suc n) (suc i) j lt e h = grind (arith, some_at p (a + 1) n i j)

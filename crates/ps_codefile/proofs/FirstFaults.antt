@@ -23,19 +23,13 @@ not_true false h = refl
 pub none_outside : (order : Order) (code : List ℕ) → dictionary_len code ≤ length code
     → ((q : ℕ) → 1 ≤ q → q < procedures code + 1 → is_outside order code q ≡ false)
     → HasTables order code
-none_outside order code fits none = record {
-  fits = fits;
-  placed = all_from (is_placed order code) 1 (procedures code)
-      (λ k lt. not_false (is_placed order code (1 + k))
-      (none (1 + k) (omega arith) (omega (arith, lt))));
-}
+none_outside order code fits none = grind (arith, all_from, not_false)
 
 -- where none of them passes a test, no procedure does
 pub none_passes : (code : List ℕ) (test : ℕ → Bool)
     → ((q : ℕ) → 1 ≤ q → q < procedures code + 1 → test q ≡ false)
     → list_any test (numbers code) ≡ false
-none_passes code test none = none_from test 1 (procedures code)
-    (λ k lt. none (1 + k) (omega arith) (omega (arith, lt)))
+none_passes code test none = grind (arith, none_from)
 
 -- the first that passes passes
 first_passes : (code : List ℕ) (test : ℕ → Bool) (p : ℕ) → IsFirstProcedure code test p
@@ -77,9 +71,4 @@ pub read_whole : (order : Order) (code : List ℕ) (host : Bool) → HasTables o
     → (host && lacks_outer_block order code) ≡ false
     → list_any (is_native order code) (numbers code) ≡ false
     → read_tables order code host ≡ Ok (record { order = order; code = code })
-read_whole order code host has whole none =
-    let native : list_any (λ t. slice_index code t == 0) (tables order code) ≡ false =
-    sym (any_table (λ t. slice_index code t == 0) order code) ∙ none in
-    let fits = has.fits in
-    let placed = has.placed in
-    grind (arith, nat_tests, native, whole, fits, placed)
+read_whole order code host has whole none = grind (arith, any_table, nat_tests)

@@ -1,5 +1,5 @@
 -- The words and the tables of a code, procedure by procedure.
-use Rattle.std.proofs.Common.{◌≡◌, ℕ, suc, ◌-◌, ◌+◌, ◌*◌, ◌<◌, ◌≤◌, ◌==◌, ◌||◌, List, [], ◌∷◌, Bool, false, Option, Some, None, get_or, length, refl, sym, ◌∙◌, ap, arith}
+use Rattle.std.proofs.Common.{◌≡◌, ℕ, suc, ◌-◌, ◌+◌, ◌*◌, ◌<◌, ◌≤◌, ◌==◌, ◌||◌, List, [], ◌∷◌, Bool, false, Option, get_or, length, refl, sym, ◌∙◌, ap, arith}
 use Rattle.std.specs.List.{list_any, filter_map, range_with_len}
 use Rattle.std.proofs.lemmas.List.FromFn.{get_or-map-range_with_len, length-map-range_with_len}
 use Rattle.std.proofs.lemmas.Bool.Decides.{nat_tests}
@@ -12,14 +12,7 @@ use Rattle.ps_codefile.proofs.Alls.{all_at}
 any_of : (test : ℕ → Bool) (f : ℕ → Option ℕ) (ns : List ℕ)
     → list_any (λ n. passes test (f n)) ns ≡ list_any test (filter_map f ns)
 any_of test f [] = refl
-any_of test f (n ∷ ns) = at (f n) refl (any_of test f ns)
-  where
-    at : (o : Option ℕ) → f n ≡ o → list_any (λ m. passes test (f m)) ns
-        ≡ list_any test (filter_map f ns)
-        → list_any (λ m. passes test (f m)) (n ∷ ns)
-        ≡ list_any test (filter_map f (n ∷ ns))
-    at None is rest = rw is rest
-    at (Some t) is rest = rw is (ap (λ (b : Bool). test t || b) rest)
+any_of test f (n ∷ ns) = grind (arith, any_of test f ns)
 
 -- and so for the numbers of all procedures
 pub any_table : (test : ℕ → Bool) (order : Order) (code : List ℕ)
@@ -30,16 +23,12 @@ any_table test order code = any_of test (table_of order code) (numbers code)
 -- there is a word for each procedure
 pub count : (order : Order) (code words : List ℕ) → HasWords order code words
     → length words ≡ procedures code
-count order code words has = ap (λ (ws : List ℕ). length ws) has.all
-    ∙ length-map-range_with_len (content_of order code) 1 (procedures code)
+count order code words has = grind (arith, length-map-range_with_len)
 
 -- that of procedure p
 pub word_at : (order : Order) (code words : List ℕ) (p d : ℕ) → HasWords order code words
     → 1 ≤ p → p ≤ procedures code → get_or words (p - 1) d ≡ content_of order code p
-word_at order code words p d has low high =
-    ap (λ (ws : List ℕ). get_or ws (p - 1) d) has.all
-    ∙ get_or-map-range_with_len (content_of order code) 1 (procedures code) (p - 1) p d
-    (omega (arith, low, high)) (omega (arith, low))
+word_at order code words p d has low high = grind (arith, get_or-map-range_with_len)
 
 -- the table of procedure p lies in the code
 pub whole_table : (order : Order) (code : List ℕ) (p : ℕ) → HasTables order code → 1 ≤ p

@@ -1,14 +1,10 @@
-use Rattle.std.proofs.Common.{◌+◌, ◌∙◌, ℕ, List, length, ap, sym, arith}
+use Rattle.std.proofs.Common.{◌+◌, ◌∙◌, ap, sym, arith}
 use Rattle.std.proofs.lemmas.List.FromFn.{length-map-range_with_len, map-range_with_len_more}
 use Rattle.ps_codefile.specs.Procedures.{ProcedureTables, content_of}
 use Rattle.ps_codefile.proofs.procedures.ProcedureDictionary.procs.Goals as goal
 
 pub push-requires : goal.push-requires
-push-requires c =
-    let code = c.args.self.now.code in
-    let long = ap (λ (ws : List ℕ). length ws) c.loop-i.invariant
-    ∙ length-map-range_with_len (content_of c.args.self.now.order code) 1 c.loop-i.i in
-    omega (arith, long)
+push-requires c = grind (arith, length-map-range_with_len)
 
 pub loop-i-preserved : goal.loop-i-preserved
 loop-i-preserved c =
