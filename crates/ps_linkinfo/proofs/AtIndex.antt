@@ -1,5 +1,5 @@
 -- The record with an index, of records that are given one by one with their indices.
-use Rattle.ps_linkinfo.proofs.Vocabulary.{◌≡◌, ℕ, suc, ◌+◌, ◌-◌, ◌<◌, ◌≤◌, List, [], ◌∷◌, length, Some, None, sym, ◌∙◌, ap, arith, slice_get, numbered_records, Record}
+use Rattle.ps_linkinfo.proofs.Vocabulary.{◌≡◌, ℕ, ◌+◌, ◌-◌, ◌≤◌, List, [], ◌∷◌, length, Some, None, sym, ◌∙◌, ap, arith, slice_get, numbered_records, Record}
 use Rattle.std.proofs.lemmas.Option.{some_pair_parts}
 
 -- the record with index `rec` is among those that are left
@@ -16,37 +16,17 @@ split : (n : ℕ) (rs : List Record) (i : ℕ) (r : Record) (more : List (ℕ ×
     → (rest : List Record) × (rs ≡ r ∷ rest) × (n ≡ i)
     × (more ≡ numbered_records (n + 1) rest)
 split n [] i r more e = absurd (omega (arith, ap length e))
-split n (s ∷ rest) i r more e =
-    let same = some_pair_parts n i s r (cc) in
-    let behind : numbered_records (n + 1) rest ≡ more = cc in
-    (rest, ap (λ (q : Record). q ∷ rest) same.1, same.0, sym behind)
+split n (s ∷ rest) i r more e = grind (arith, some_pair_parts)
 
 pub found : (all : List Record) (rec i : ℕ) (r : Record) (left more : List (ℕ × Record))
     → IsAhead all rec left → left ≡ (i, r) ∷ more → i ≡ rec
     → slice_get all rec ≡ Some r
-found all rec i r left more ahead is at =
-    let parts = split ahead.index ahead.rest i r more (sym ahead.numbered ∙ is) in
-    let none : rec - ahead.index ≡ 0 = omega (arith, parts.2, at) in
-    ahead.same ∙ (ap (λ (k : ℕ). slice_get ahead.rest k) none
-    ∙ ap (λ (rs : List Record). slice_get rs 0) parts.1)
+found all rec i r left more ahead is at = grind (arith, split)
 
 pub passed : (all : List Record) (rec i : ℕ) (r : Record) (left more : List (ℕ × Record))
     → IsAhead all rec left → left ≡ (i, r) ∷ more → (i ≡ rec → ⊥)
     → IsAhead all rec more
-passed all rec i r left more ahead is other =
-    let parts = split ahead.index ahead.rest i r more (sym ahead.numbered ∙ is) in
-    let at_most = ahead.low in
-    let is_not : ahead.index ≡ rec → ⊥ = λ e. other (sym parts.2 ∙ e) in
-    let low : ahead.index < rec = grind (arith, at_most, is_not) in
-    let one : rec - ahead.index ≡ suc (rec - (ahead.index + 1)) = omega (arith, low) in
-    record {
-      index = ahead.index + 1;
-      rest = parts.0;
-      numbered = parts.3;
-      low = omega (arith, low);
-      same = ahead.same ∙ (ap (λ (k : ℕ). slice_get ahead.rest k) one
-          ∙ ap (λ (rs : List Record). slice_get rs (suc (rec - (ahead.index + 1)))) parts.1);
-    }
+passed all rec i r left more ahead is other = grind (arith, split)
 
 pub missing : (all : List Record) (rec : ℕ) (left : List (ℕ × Record)) → IsAhead all rec left
     → left ≡ [] → slice_get all rec ≡ None

@@ -5,13 +5,11 @@ use Rattle.ps_linkinfo.specs.Refs.{words_of}
 
 pub words_len : (order : Order) (bytes : List ℕ)
     → length (words_of order bytes) ≡ length bytes / 2
-words_len order bytes = length-map-range_with_len (λ i. word_at order bytes (2 * i)) 0
-    (length bytes / 2)
+words_len order bytes = grind (arith, length-map-range_with_len)
 
 pub words_get : (order : Order) (bytes : List ℕ) (i : ℕ) → i < length (words_of order bytes)
     → get_or (words_of order bytes) i 0 ≡ word_at order bytes (2 * i)
-words_get order bytes i h = get_or-map-range_with_len (λ i. word_at order bytes (2 * i)) 0
-    (length bytes / 2) i i 0 (omega (arith, words_len order bytes)) (zero-add i)
+words_get order bytes i h = grind (arith, get_or-map-range_with_len, words_len, zero-add)
 
 pub refs_len : (order : Order) (x : List ℕ) (n : ℕ) → length (refs_at order x n) ≡ n
 refs_len order x n = length-map-range_with_len (λ i. word_at order x (16 + 2 * i)) 0 n

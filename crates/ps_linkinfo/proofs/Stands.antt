@@ -1,5 +1,5 @@
 -- The reading of link information is what its bytes spell, or what stops it.
-use Rattle.ps_linkinfo.proofs.Vocabulary.{◌≡◌, ℕ, zero, suc, ◌+◌, ◌/◌, ◌<◌, ◌≤◌, ◌==◌, List, [], ◌∷◌, length, length-drop, drop, Bool, true, false, Option, Some, None, refl, sym, ◌∙◌, ap, subst, arith, if◌then◌else◌, nat_tests, AllByRecursion, word_at, Order, Reason, AreSpelled, BeginsWith, IsBody, EndsOnce, Spells, Stops, is_eof, size_of, used_by, body_at, record_at, refs_at, refs_of, bad, bad_format, list_len, reading, read_from, Body, UnitRef, PublRef, PrivRef, PublDef, ConstDef, Eof, Record}
+use Rattle.ps_linkinfo.proofs.Vocabulary.{◌≡◌, ℕ, zero, suc, ◌+◌, ◌/◌, ◌<◌, ◌≤◌, ◌==◌, List, [], ◌∷◌, length, length-drop, drop, Bool, true, false, Option, Some, None, refl, arith, nat_tests, AllByRecursion, word_at, Order, Reason, AreSpelled, BeginsWith, IsBody, EndsOnce, Spells, Stops, is_eof, size_of, used_by, body_at, record_at, refs_of, bad, bad_format, list_len, reading, read_from, Body, Record}
 use Rattle.ps_linkinfo.proofs.ReferenceWords.{refs_len}
 use Rattle.ps_linkinfo.proofs.Spelled.{behind_cons}
 use Rattle.ps_linkinfo.proofs.OneReading.{record_is, no_fault}
@@ -34,81 +34,37 @@ end_type order x h a b c d e = grind (arith, nat_tests)
 -- where no fault applies, the body that the first words spell is whole
 body_stands : (order : Order) (x : List ℕ) → bad order x ≡ None
     → StandsWhole order x (body_at order x)
-body_stands order x good = is_unit (kind == 1) refl
-  where
-    kind : ℕ
-    kind = word_at order x 8
-
-    a : ℕ
-    a = word_at order x 10
-
-    count : ℕ
-    count = word_at order x 12
-
-    refs : List ℕ
-    refs = refs_at order x count
-
-    long : 16 ≤ length x
-    long = long_enough order x good
-
-    is_const : (b : Bool) → (kind == 8) ≡ b → (kind == 1) ≡ false → (kind == 3) ≡ false
-        → (kind == 4) ≡ false → (kind == 7) ≡ false
-        → StandsWhole order x (if b then ConstDef a else Eof a)
-    is_const true e f g h i = ((grind (arith, nat_tests), refl), omega (arith, long))
-    is_const false e f g h i = ((end_type order x good f g h i e, refl), omega (arith, long))
-
-    is_def : (b : Bool) → (kind == 7) ≡ b → (kind == 1) ≡ false → (kind == 3) ≡ false
-        → (kind == 4) ≡ false → StandsWhole order x
-        (if b then PublDef a else (if kind == 8 then ConstDef a else Eof a))
-    is_def true e f g h = ((grind (arith, nat_tests), refl), omega (arith, long))
-    is_def false e f g h = is_const (kind == 8) refl f g h e
-
-    is_private : (b : Bool) → (kind == 4) ≡ b → (kind == 1) ≡ false
-        → (kind == 3) ≡ false → StandsWhole order x
-        (if b then PrivRef (word_at order x 14) refs
-        else (if kind == 7 then PublDef a else (if kind == 8 then ConstDef a else Eof a)))
-    is_private true e f g = let s = format_stands order x 2 (private_format order x good e) in
-        ((grind (arith, nat_tests), s.0, refl, refl), rw (refs_len order x count) s.1)
-    is_private false e f g = is_def (kind == 7) refl f g e
-
-    is_public : (b : Bool) → (kind == 3) ≡ b → (kind == 1) ≡ false
-        → StandsWhole order x (if b then PublRef refs
-        else (if kind == 4 then PrivRef (word_at order x 14) refs
-        else (if kind == 7 then PublDef a else (if kind == 8 then ConstDef a else Eof a))))
-    is_public true e f = let s = format_stands order x 2 (big_format order x good e) in
-        ((grind (arith, nat_tests), s.0, refl), rw (refs_len order x count) s.1)
-    is_public false e f = is_private (kind == 4) refl f e
-
-    is_unit : (b : Bool) → (kind == 1) ≡ b → StandsWhole order x (if b then UnitRef refs
-        else (if kind == 3 then PublRef refs
-        else (if kind == 4 then PrivRef (word_at order x 14) refs
-        else (if kind == 7 then PublDef a else (if kind == 8 then ConstDef a else Eof a)))))
-    is_unit true e = let k : kind ≡ 1 = grind (arith, nat_tests) in let s =
-        format_stands order x 1 (unit_format order x good k) in
-        ((k, s.0, refl), rw (refs_len order x count) s.1)
-    is_unit false e = is_public (kind == 3) refl e
+body_stands order x good =
+    grind (
+      arith,
+      long_enough,
+      nat_tests,
+      end_type,
+      format_stands,
+      private_format,
+      refs_len,
+      big_format,
+      unit_format,
+    )
 
 -- where there is no fault, a record begins
 pub begins_at : (order : Order) (x : List ℕ) → bad order x ≡ None
     → BeginsWith order x (record_at order x)
-begins_at order x good = let b = body_stands order x good in
-    record { whole = b.1; name = refl; body = b.0 }
+begins_at order x good = grind (arith, body_stands)
 
 -- records that are spelled and end are the reading
 pub spells_reads : (order : Order) (x : List ℕ) (rs : List Record) → AreSpelled order x rs
     → EndsOnce rs → reading order x ≡ (rs, None)
 spells_reads order x [] h e = absurd e
-spells_reads order x (r ∷ []) h e =
-    let same = record_is order x r h.0 in
-    read_last order x (no_fault order x r.body h.0.body h.0.whole) (ap is_eof (sym same) ∙ e)
-    ∙ ap (λ (s : Record). (s ∷ [], None)) (sym same)
+spells_reads order x (r ∷ []) h e = grind (arith, record_is, read_last, no_fault)
 spells_reads order x (r ∷ s ∷ rs) h e =
-    let same = record_is order x r h.0 in
-    let by : Record → List Record × Option Reason = λ t. let rest =
-    reading order (drop (size_of t) x) in (t ∷ rest.0, rest.1) in
-    read_more order x (no_fault order x r.body h.0.body h.0.whole) (ap is_eof (sym same) ∙ e.0)
-    ∙ ap by (sym same) ∙ ap (λ (rest : List Record × Option Reason). (r ∷ rest.0, rest.1))
-    (spells_reads order (drop (size_of r) x) (s ∷ rs) h.1 e.1)
+    grind (
+      arith,
+      record_is,
+      read_more,
+      no_fault,
+      spells_reads order (drop (size_of r) x) (s ∷ rs) h.1 e.1,
+    )
 
 -- so are records that are spelled and their fault
 pub stops_reads : (order : Order) (x : List ℕ) (rs : List Record) (why : Reason)
@@ -116,13 +72,14 @@ pub stops_reads : (order : Order) (x : List ℕ) (rs : List Record) (why : Reaso
     → bad order (drop (used_by rs) x) ≡ Some why → reading order x ≡ (rs, Some why)
 stops_reads order x [] why h e b = read_end order x why b
 stops_reads order x (r ∷ rs) why h e b =
-    let same = record_is order x r h.0 in
-    let by : Record → List Record × Option Reason = λ t. let rest =
-    reading order (drop (size_of t) x) in (t ∷ rest.0, rest.1) in
-    read_more order x (no_fault order x r.body h.0.body h.0.whole) (ap is_eof (sym same) ∙ e.0)
-    ∙ ap by (sym same) ∙ ap (λ (rest : List Record × Option Reason). (r ∷ rest.0, rest.1))
-    (stops_reads order (drop (size_of r) x) rs why h.1 e.1
-    (subst (λ (y : List ℕ). bad order y ≡ Some why) (behind_cons r rs x) b))
+    grind (
+      arith,
+      record_is,
+      read_more,
+      no_fault,
+      behind_cons,
+      stops_reads order (drop (size_of r) x) rs why h.1 e.1,
+    )
 
 -- what a reading says of the bytes
 abbrev pub IsReadingOf : Order → List ℕ → List Record × Option Reason → Type 0
@@ -140,15 +97,8 @@ ends_more r (s ∷ rs) e h = (e, h)
 is_read_more : (order : Order) (x : List ℕ) (r : Record) → BeginsWith order x r
     → is_eof r ≡ false → (rs : List Record) (why : Option Reason)
     → IsReadingOf order (drop (size_of r) x) (rs, why) → IsReadingOf order x (r ∷ rs, why)
-is_read_more order x r b e rs None h = record
-    { spelled = (b, h.spelled); ends = ends_more r rs e h.ends }
-is_read_more order x r b e rs (Some why) h =
-    record {
-      spelled = (b, h.spelled);
-      goes_on = (e, h.goes_on);
-      stops =
-          subst (λ (y : List ℕ). bad order y ≡ Some why) (sym (behind_cons r rs x)) h.stops;
-    }
+is_read_more order x r b e rs None h = grind (arith, ends_more)
+is_read_more order x r b e rs (Some why) h = grind (arith, behind_cons)
 
 -- where n is above a sixteenth of the bytes, the reading of n records at most is what the bytes
 -- spell, or what stops it
@@ -180,9 +130,4 @@ reading_is order x = read_from_is (length x / 16 + 1) order x (omega arith)
 
 -- the records of a reading are spelled
 pub reading_spelled : (order : Order) (x : List ℕ) → AreSpelled order x (reading order x).0
-reading_spelled order x = at (reading order x).0 (reading order x).1 (reading_is order x)
-  where
-    at : (rs : List Record) (why : Option Reason) → IsReadingOf order x (rs, why)
-        → AreSpelled order x rs
-    at rs None h = h.spelled
-    at rs (Some why) h = h.spelled
+reading_spelled order x = grind (arith, reading_is)

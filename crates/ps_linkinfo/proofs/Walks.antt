@@ -1,5 +1,5 @@
 -- Walks over link information.
-use Rattle.ps_linkinfo.proofs.Vocabulary.{◌≡◌, ℕ, zero, suc, ◌+◌, ◌/◌, ◌-◌, ◌≤◌, List, [], ◌∷◌, ◌++◌, length, length-drop, drop, Bool, true, false, Option, Some, None, Result, Ok, Err, refl, sym, ◌∙◌, ap, subst, append_assoc, arith, append-nil, AllByRecursion, filter_map, Order, Reason, AreSpelled, BeginsWith, reading, read_from, record_at, size_of, is_eof, bad, used_by, Walk, Advances, HasGiven, left_of, whole_walk, sum_by-append, Record}
+use Rattle.ps_linkinfo.proofs.Vocabulary.{◌≡◌, ℕ, zero, suc, ◌+◌, ◌/◌, ◌≤◌, List, [], ◌∷◌, ◌++◌, length, length-drop, drop, false, Option, Some, None, Result, Ok, Err, refl, sym, ◌∙◌, ap, subst, append_assoc, arith, append-nil, AllByRecursion, filter_map, Order, Reason, AreSpelled, reading, read_from, size_of, is_eof, bad, used_by, Walk, Advances, HasGiven, left_of, whole_walk, sum_by-append, Record}
 use Rattle.std.specs.Result.{result_ok}
 use Rattle.ps_linkinfo.specs.Left.{items_of, items_at, items_left, records_left, fault_in, fault_left}
 use Rattle.ps_linkinfo.proofs.Spelled.{spelled_fit, spelled_more, used_more, used_cons}
@@ -28,35 +28,18 @@ items_first order bytes = refl
 
 pub records_first : (order : Order) (bytes : List ℕ)
     → records_left (whole_walk order bytes) ≡ (reading order bytes).0
-records_first order bytes = ap (λ (is : List (Result Record Reason)). filter_map result_ok is)
-    (items_first order bytes) ∙ oks_of_items (reading order bytes).0 (reading order bytes).1
+records_first order bytes = grind (arith, items_first, oks_of_items)
 
 pub fault_first : (order : Order) (bytes : List ℕ)
     → fault_left (whole_walk order bytes) ≡ (reading order bytes).1
-fault_first order bytes = ap fault_in (items_first order bytes)
-    ∙ fault_of_items (reading order bytes).0 (reading order bytes).1
+fault_first order bytes = grind (arith, items_first, fault_of_items)
 
 -- a record takes 16 bytes at least
 few_from : (n : ℕ) (order : Order) (x : List ℕ)
     → length (read_from n order x).0 ≤ length x / 16
 few_from zero order x = omega arith
-few_from (suc n) order x = at (λ y. few_from n order y) (bad order x) refl
-    (is_eof (record_at order x)) refl
-  where
-    r : Record
-    r = record_at order x
-
-    at : ((y : List ℕ) → length (read_from n order y).0 ≤ length y / 16)
-        → (b : Option Reason) → bad order x ≡ b → (e : Bool)
-        → is_eof (record_at order x) ≡ e
-        → length (read_from (suc n) order x).0 ≤ length x / 16
-    at again (Some why) p e q = rw (p, read_from) (omega arith)
-    at again None p true q = let long = long_enough order x p in rw (p, q, read_from) (omega arith)
-    at again None p false q =
-        let size = size_least r in
-        let whole : size_of r ≤ length x = (begins_at order x p).whole in
-        rw (p, q, read_from)
-        (omega (arith, again (drop (size_of r) x), length-drop (size_of r) x, whole, size))
+few_from (suc n) order x =
+    grind (arith, long_enough, size_least, begins_at, length-drop, few_from n order)
 
 pub few : (order : Order) (x : List ℕ) → length (reading order x).0 ≤ length x / 16
 few order x = few_from (length x / 16 + 1) order x
@@ -72,22 +55,7 @@ items_count (r ∷ rs) why = omega (arith, items_count rs why)
 -- for a fault
 pub few_left : (w : Walk) → length (items_left w) ≤ left_of w
 unfolding items_at
-few_left w = at w.ended refl
-  where
-    x : List ℕ
-    x = drop w.used w.bytes
-
-    count : length (items_at w) ≤ (length w.bytes - w.used) / 16 + 1
-    count = omega (
-      arith,
-      items_count (reading w.order x).0 (reading w.order x).1,
-      few w.order x,
-      length-drop w.used w.bytes,
-    )
-
-    at : (b : Bool) → w.ended ≡ b → length (items_left w) ≤ left_of w
-    at true e = rw e (omega arith)
-    at false e = rw e count
+few_left w = grind (arith, items_count, few, length-drop)
 
 -- what a walk has given
 pub given_first : (order : Order) (bytes : List ℕ) → HasGiven (whole_walk order bytes) []
@@ -96,24 +64,12 @@ given_first order bytes = record { spelled = tt; used = refl }
 -- a walk that gives a record has given this record too, after those before it
 pub given_more : (w v : Walk) (rs : List Record) (r : Record) → HasGiven w rs
     → Advances w (Some (Ok r)) v → HasGiven v (rs ++ r ∷ [])
-given_more w v rs r h a =
-    let next : Walk = record w { used = w.used + size_of r; ended = is_eof r } in
-    let begins : BeginsWith w.order (drop (used_by rs) w.bytes) r =
-    subst (λ (n : ℕ). BeginsWith w.order (drop n w.bytes) r) h.used a.1 in
-    let so_far : HasGiven next (rs ++ r ∷ []) =
-    record {
-      spelled = spelled_more w.order w.bytes rs r h.spelled begins;
-      used = ap (λ (n : ℕ). n + size_of r) h.used ∙ sym (used_more rs r);
-    } in
-    subst (λ (u : Walk). HasGiven u (rs ++ r ∷ [])) (sym a.2) so_far
+given_more w v rs r h a = grind (arith, spelled_more, used_more)
 
 -- a walk that gives a fault has given the records that it had given before
 pub given_fault : (w v : Walk) (rs : List Record) (why : Reason) → HasGiven w rs
     → Advances w (Some (Err why)) v → HasGiven v rs
-given_fault w v rs why h a =
-    let next : Walk = record w { ended = true } in
-    let so_far : HasGiven next rs = record { spelled = h.spelled; used = h.used } in
-    subst (λ (u : Walk). HasGiven u rs) (sym a.2) so_far
+given_fault w v rs why h a = grind arith
 
 -- records that are spelled and take as many bytes are the same
 one_row : (order : Order) (bytes : List ℕ) (rs ss : List Record) → AreSpelled order bytes rs
@@ -122,17 +78,11 @@ one_row order bytes [] [] h k e = refl
 one_row order bytes [] (s ∷ ss) h k e = absurd (omega (arith, used_cons s ss, size_least s, e))
 one_row order bytes (r ∷ rs) [] h k e = absurd (omega (arith, used_cons r rs, size_least r, e))
 one_row order bytes (r ∷ rs) (s ∷ ss) h k e =
-    let same : s ≡ r = record_is order bytes s k.0 ∙ sym (record_is order bytes r h.0) in
-    let size : size_of s ≡ size_of r = ap size_of same in
-    let rest = one_row order (drop (size_of r) bytes) rs ss h.1
-    (subst (λ (n : ℕ). AreSpelled order (drop n bytes) ss) size k.1)
-    (omega (arith, used_cons r rs, used_cons s ss, size, e)) in
-    cc
+    grind (arith, record_is, used_cons, one_row order (drop (size_of r) bytes) rs ss h.1)
 
 pub given_one : (w : Walk) (rs others : List Record) → HasGiven w rs → HasGiven w others
     → others ≡ rs
-given_one w rs others h k = one_row w.order w.bytes rs others h.spelled k.spelled
-    (sym h.used ∙ k.used)
+given_one w rs others h k = grind (arith, one_row)
 
 -- a walk over these bytes has given these records, none of them an EOFMARK while it goes on, and
 -- has the rest of their reading to give
@@ -144,11 +94,7 @@ pub record Walked (order : Order) (bytes : List ℕ) (w : Walk) (rs : List Recor
 -- at its start
 pub walked_first : (order : Order) (bytes : List ℕ)
     → Walked order bytes (whole_walk order bytes) []
-walked_first order bytes = record {
-  records = records_first order bytes;
-  fault = fault_first order bytes;
-  goes_on = λ _. tt;
-}
+walked_first order bytes = grind (arith, records_first, fault_first)
 
 goes_more : (rs : List Record) (r : Record) → AllByRecursion (λ r. is_eof r ≡ false) rs
     → is_eof r ≡ false → AllByRecursion (λ r. is_eof r ≡ false) (rs ++ r ∷ [])
@@ -163,54 +109,24 @@ Steps w i v = Advances w (Some i) v × (items_left w ≡ i ∷ items_left v)
 pub walked_more : (order : Order) (bytes : List ℕ) (w v : Walk) (rs : List Record)
     (i : Result Record Reason) (r : Record) → Walked order bytes w rs → Steps w i v
     → i ≡ Ok r → Walked order bytes v (rs ++ r ∷ [])
-walked_more order bytes w v rs i r h step is = record {
-  records = append_assoc rs (r ∷ []) (records_left v)
-      ∙ ap (λ (is : List (Result Record Reason)). rs ++ filter_map result_ok is) (sym now.1)
-      ∙ h.records;
-  fault = ap fault_in (sym now.1) ∙ h.fault;
-  goes_on = λ e. goes_more rs r (h.goes_on now.0.0)
-      (ap (λ (u : Walk). u.ended) (sym now.0.2) ∙ e);
-}
-  where
-    now : Steps w (Ok r) v
-    now = subst (λ (j : Result Record Reason). Steps w j v) is step
+walked_more order bytes w v rs i r h step is = grind (arith, append_assoc, goes_more)
 
 -- and none of those before it is an EOFMARK
 pub walked_on : (order : Order) (bytes : List ℕ) (w v : Walk) (rs : List Record)
     (i : Result Record Reason) (r : Record) → Walked order bytes w rs → Steps w i v
     → i ≡ Ok r → AllByRecursion (λ r. is_eof r ≡ false) rs
-walked_on order bytes w v rs i r h step is =
-    let now : Steps w (Ok r) v = subst (λ (j : Result Record Reason). Steps w j v) is step in
-    h.goes_on now.0.0
+walked_on order bytes w v rs i r h step is = grind arith
 
 -- at its end these are all
 pub walked_all : (order : Order) (bytes : List ℕ) (w : Walk) (rs : List Record)
     → Walked order bytes w rs → items_left w ≡ [] → reading order bytes ≡ (rs, None)
-walked_all order bytes w rs h none =
-    let records : rs ≡ (reading order bytes).0 =
-    sym (append-nil rs)
-    ∙ ap (λ (is : List (Result Record Reason)). rs ++ filter_map result_ok is) (sym none)
-    ∙ h.records in
-    let fault : None ≡ (reading order bytes).1 = ap fault_in (sym none) ∙ h.fault in
-    ap (λ (ss : List Record). (ss, (reading order bytes).1)) (sym records)
-    ∙ ap (λ (why : Option Reason). (rs, why)) (sym fault)
+walked_all order bytes w rs h none = grind (arith, append-nil)
 
 -- at a fault these are all, and it is the fault
 pub walked_to_fault : (order : Order) (bytes : List ℕ) (w v : Walk) (rs : List Record)
     (i : Result Record Reason) (why : Reason) → Walked order bytes w rs → Steps w i v
     → i ≡ Err why → reading order bytes ≡ (rs, Some why)
-walked_to_fault order bytes w v rs i why h step is =
-    let now : Steps w (Err why) v = subst (λ (j : Result Record Reason). Steps w j v) is step in
-    let ended : items_left v ≡ [] = ap items_left now.0.2 in
-    let only : items_left w ≡ Err why ∷ [] =
-    now.1 ∙ ap (λ (is : List (Result Record Reason)). Err why ∷ is) ended in
-    let records : rs ≡ (reading order bytes).0 =
-    sym (append-nil rs)
-    ∙ ap (λ (is : List (Result Record Reason)). rs ++ filter_map result_ok is) (sym only)
-    ∙ h.records in
-    let fault : Some why ≡ (reading order bytes).1 = ap fault_in (sym only) ∙ h.fault in
-    ap (λ (ss : List Record). (ss, (reading order bytes).1)) (sym records)
-    ∙ ap (λ (w : Option Reason). (rs, w)) (sym fault)
+walked_to_fault order bytes w v rs i why h step is = grind (arith, append-nil)
 
 -- what it has given fits in the bytes
 pub walked_fits : (order : Order) (bytes : List ℕ) (w : Walk) (rs : List Record)

@@ -3,9 +3,7 @@ use Rattle.ps_linkinfo.proofs.ReferenceWords.{refs_are, refs_len}
 use Rattle.ps_linkinfo.proofs.first.refs_at.Goals as goal
 
 pub returns-clause-refs : goal.returns-clause-refs
-returns-clause-refs c = c.new-refs.ensures
-    ∙ (refs_are c.args.order c.args.rest.now c.get-count.result (omega arith)
-    ∙ ap (refs_at c.args.order c.args.rest.now) c.get-count.ensures)
+returns-clause-refs c = grind (arith, refs_are)
 
 pub returns-clause-size : goal.returns-clause-size
 returns-clause-size c =

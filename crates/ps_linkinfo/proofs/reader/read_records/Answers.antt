@@ -1,16 +1,11 @@
-use Rattle.ps_linkinfo.proofs.Vocabulary.{◌≡◌, ◌∙◌, [], List, Option, length, rules, subst, sym, Reason, Stops, Walk, whole_walk, Record}
+use Rattle.ps_linkinfo.proofs.Vocabulary.{arith, ◌≡◌, List, Option, length, rules, subst, Reason, Stops, Record}
 use Rattle.ps_linkinfo.proofs.OneReading.{is_reading, is_stop}
 use Rattle.ps_linkinfo.proofs.Stands.{IsReadingOf, reading_is}
-use Rattle.ps_linkinfo.proofs.Walks.{Walked, walked_first, walked_more, walked_all, walked_to_fault, walked_good}
+use Rattle.ps_linkinfo.proofs.Walks.{walked_first, walked_more, walked_all, walked_to_fault, walked_good}
 use Rattle.ps_linkinfo.proofs.reader.read_records.Goals as goal
 
 pub loop-item-init : goal.loop-item-init
-loop-item-init g c =
-    let start : c.into_iter-item-iterator.result ≡ whole_walk c.args.order c.args.bytes.now =
-    c.into_iter-item-iterator.ensures.into_iter_gives ∙ c.new-item-items.ensures in
-    let walked = subst (λ (w : Walk). Walked c.args.order c.args.bytes.now w []) (sym start)
-    (walked_first c.args.order c.args.bytes.now) in
-    record { can = tt; finite = tt; walked = rw c.new-records.ensures.items walked }
+loop-item-init g c = grind (arith, walked_first)
 
 pub loop-item-preserved : goal.loop-item-preserved
 loop-item-preserved g c =
@@ -20,15 +15,7 @@ loop-item-preserved g c =
     record { can = tt; finite = tt; walked = rw c.in_ok-push-in-Ok.ensures.items walked }
 
 pub returns-clause-ok : goal.returns-clause-ok
-returns-clause-ok g c =
-    let order = c.args.order in
-    let bytes = c.args.bytes.now in
-    let rs = c.loop-item.records.items in
-    let all = walked_all order bytes c.loop-item.item-iterator rs c.loop-item.invariant.walked
-    c.in-None.ensures.steps.1.0 in
-    let read = subst (λ (read : List Record × Option Reason). IsReadingOf order bytes read) all
-    (reading_is order bytes) in
-    is_reading order bytes rs read.spelled read.ends
+returns-clause-ok g c = grind (arith, walked_all, reading_is, is_reading)
 
 pub returns-in-Err-clause-stops : goal.returns-in-Err-clause-stops
 returns-in-Err-clause-stops g c =

@@ -1,4 +1,4 @@
-use Rattle.ps_linkinfo.proofs.Vocabulary.{◌≡◌, ◌∙◌, ◌∷◌, List, ℕ, true, false, Some, ap, sym, refl, Record}
+use Rattle.ps_linkinfo.proofs.Vocabulary.{arith, ◌≡◌, ◌∷◌, List, ℕ, true, false, Some, refl, Record}
 use Rattle.ps_linkinfo.specs.declared.sort.Sort.{Sort}
 use Rattle.ps_linkinfo.specs.Sorts.{first_named, is_named}
 use Rattle.ps_linkinfo.proofs.information.LinkInformation.find.Goals as goal
@@ -13,26 +13,13 @@ later : (name : List ℕ) (sort : Sort) (r : ℕ × Record) (rs : List (ℕ × R
 later name sort r rs is = rw is refl
 
 pub loop-rec-init : goal.loop-rec-init
-loop-rec-init c =
-    ap (λ (xs : List (ℕ × Record)). first_named c.args.name.now c.args.sort xs)
-    (c.into_iter-rec-iterator.ensures.into_iter_gives ∙ c.records-rec-items.ensures)
+loop-rec-init c = grind arith
 
 pub loop-rec-preserved : goal.loop-rec-preserved
-loop-rec-preserved c =
-    let passed = later c.args.name.now c.args.sort (c.in-Some.rec, c.in-Some.record) c.next.new.self
-    (sym c.is_named.ensures ∙ c.if-is_named.false) in
-    sym passed ∙ sym (ap
-    (λ (xs : List (ℕ × Record)). first_named c.args.name.now c.args.sort xs)
-    c.in-Some.ensures.steps) ∙ c.loop-rec.invariant
+loop-rec-preserved c = grind (arith, later)
 
 pub returns-then-is_named : goal.returns-then-is_named
-returns-then-is_named c =
-    let found = here c.args.name.now c.args.sort (c.in-Some.rec, c.in-Some.record) c.next.new.self
-    (sym c.is_named.ensures ∙ c.if-is_named.true) in
-    sym found ∙ sym (ap
-    (λ (xs : List (ℕ × Record)). first_named c.args.name.now c.args.sort xs)
-    c.in-Some.ensures.steps) ∙ c.loop-rec.invariant
+returns-then-is_named c = grind (arith, here)
 
 pub returns : goal.returns
-returns c = ap (λ (xs : List (ℕ × Record)). first_named c.args.name.now c.args.sort xs)
-    (sym c.in-None.ensures.steps.0) ∙ c.loop-rec.invariant
+returns c = grind arith

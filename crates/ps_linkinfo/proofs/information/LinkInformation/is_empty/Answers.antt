@@ -1,5 +1,5 @@
 use Rattle.std.specs.Prelude.{◌==◌}
-use Rattle.ps_linkinfo.proofs.Vocabulary.{ℕ, List, [], ◌∷◌, ◌≡◌, ◌∙◌, sym, true, length, numbered_records, refl, Record}
+use Rattle.ps_linkinfo.proofs.Vocabulary.{List, [], ◌∷◌, ◌≡◌, ◌∙◌, sym, true, length, numbered_records, refl, Record}
 use Rattle.ps_linkinfo.proofs.information.LinkInformation.is_empty.Goals as goal
 
 none : (rs : List Record) → numbered_records 0 rs ≡ [] → true ≡ (length rs == 0)

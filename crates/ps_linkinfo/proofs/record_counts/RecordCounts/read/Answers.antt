@@ -1,5 +1,4 @@
-use Rattle.ps_linkinfo.proofs.Vocabulary.{◌≡◌, ◌++◌, ◌∷◌, ◌∙◌, [], arith, ap, sym, subst, references_in, Walk, whole_walk}
-use Rattle.ps_linkinfo.specs.declared.record_counts.RecordCounts.{RecordCounts}
+use Rattle.ps_linkinfo.proofs.Vocabulary.{◌≡◌, ◌++◌, ◌∷◌, ◌∙◌, [], arith, sym, subst, Walk, whole_walk}
 use Rattle.ps_linkinfo.proofs.Tallies.{few_records, few_references}
 use Rattle.ps_linkinfo.proofs.Walks.{Walked, walked_first, walked_more, walked_fits, walked_on}
 use Rattle.ps_linkinfo.proofs.record_counts.RecordCounts.read.Goals as goal
@@ -15,23 +14,10 @@ loop-item-init c =
     )
 
 pub add-requires-clause-few : goal.add-requires-clause-few
-add-requires-clause-few c =
-    let rs = c.loop-item.invariant.0 in (
-      rs,
-      c.loop-item.invariant.2,
-      omega (
-        arith,
-        few_records rs,
-        walked_fits _ _ _ rs c.loop-item.invariant.1,
-      ),
-    )
+add-requires-clause-few c = grind (arith, few_records, walked_fits)
 
 pub add-requires-clause-room : goal.add-requires-clause-room
-add-requires-clause-room c =
-    let rs = c.loop-item.invariant.0 in
-    let is : c.loop-item.counts.references ≡ references_in rs =
-    ap (λ (t : RecordCounts). t.references) c.loop-item.invariant.2 in
-    omega (arith, is, few_references rs, walked_fits _ _ _ rs c.loop-item.invariant.1)
+add-requires-clause-room c = grind (arith, few_references, walked_fits)
 
 pub loop-item-preserved : goal.loop-item-preserved
 loop-item-preserved c =

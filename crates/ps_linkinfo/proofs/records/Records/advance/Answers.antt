@@ -1,4 +1,4 @@
-use Rattle.ps_linkinfo.proofs.Vocabulary.{◌∙◌, List, ℕ, drop, sym, ap, refl, subst, BeginsWith, bad}
+use Rattle.ps_linkinfo.proofs.Vocabulary.{arith, ◌∙◌, sym, ap, bad}
 use Rattle.ps_linkinfo.specs.Left.{items_left}
 use Rattle.ps_linkinfo.proofs.Steps.{left_end, left_next}
 use Rattle.ps_linkinfo.proofs.records.Records.advance.Goals as goal
@@ -12,12 +12,4 @@ returns-in-Err-clause-first c =
     c.in-Err.reason c.if-self.false bad_there
 
 pub returns-in-Ok-clause-first : goal.returns-in-Ok-clause-first
-returns-in-Ok-clause-first c =
-    let w = c.self.inside in
-    let begins : BeginsWith w.order (drop w.used w.bytes.now) c.in-Ok.record =
-    subst (λ (x : List ℕ). BeginsWith w.order x c.in-Ok.record) c.split_at.ensures.back
-    c.in-Ok.ensures.ok in
-    ap items_left (sym c.self.view_is) ∙ left_next
-    (record { order = w.order; bytes = w.bytes.now; used = w.used; ended = w.ended })
-    c.in-Ok.record _ c.if-self.false begins
-    (rw (c.in-Ok.ensures.size, c.is_eof-self-inside.ensures) refl)
+returns-in-Ok-clause-first c = grind (arith, left_next)
