@@ -1,5 +1,5 @@
 -- The reading of link information is what its bytes spell, or what stops it.
-use Rattle.ps_linkinfo.proofs.Vocabulary.{◌≡◌, ℕ, zero, suc, ◌+◌, ◌/◌, ◌<◌, ◌≤◌, ◌==◌, List, [], ◌∷◌, length, length-drop, drop, Bool, true, false, Option, Some, None, refl, arith, nat_tests, AllByRecursion, word_at, Order, Reason, AreSpelled, BeginsWith, IsBody, EndsOnce, Spells, Stops, is_eof, size_of, used_by, body_at, record_at, refs_of, bad, bad_format, list_len, reading, read_from, Body, Record}
+use Rattle.ps_linkinfo.proofs.Vocabulary.{◌≡◌, ℕ, zero, suc, ◌+◌, ◌/◌, ◌<◌, ◌≤◌, List, [], ◌∷◌, length, length-drop, drop, Bool, true, false, Option, Some, None, refl, arith, nat_tests, AllByRecursion, Order, Reason, AreSpelled, BeginsWith, IsBody, EndsOnce, Spells, Stops, is_eof, size_of, used_by, body_at, record_at, refs_of, bad, list_len, reading, read_from, Body, Record}
 use Rattle.ps_linkinfo.proofs.ReferenceWords.{refs_len}
 use Rattle.ps_linkinfo.proofs.Spelled.{behind_cons}
 use Rattle.ps_linkinfo.proofs.OneReading.{record_is, no_fault}
@@ -9,43 +9,10 @@ use Rattle.ps_linkinfo.proofs.Steps.{read_end, read_last, read_more, long_enough
 abbrev StandsWhole : Order → List ℕ → Body → Type 0
 StandsWhole order x b = IsBody order x b × (16 + list_len (length (refs_of b)) ≤ length x)
 
-format_stands : (order : Order) (x : List ℕ) (format : ℕ) → bad_format order x format ≡ None
-    → (word_at order x 10 ≡ format) × (16 + list_len (word_at order x 12) ≤ length x)
-format_stands order x format h = (grind (arith, nat_tests), grind (arith, nat_tests))
-
-unit_format : (order : Order) (x : List ℕ) → bad order x ≡ None → word_at order x 8 ≡ 1
-    → bad_format order x 1 ≡ None
-unit_format order x h k = grind (arith, nat_tests)
-
-big_format : (order : Order) (x : List ℕ) → bad order x ≡ None
-    → (word_at order x 8 == 3) ≡ true → bad_format order x 2 ≡ None
-big_format order x h k = grind (arith, nat_tests)
-
-private_format : (order : Order) (x : List ℕ) → bad order x ≡ None
-    → (word_at order x 8 == 4) ≡ true → bad_format order x 2 ≡ None
-private_format order x h k = grind (arith, nat_tests)
-
-end_type : (order : Order) (x : List ℕ) → bad order x ≡ None
-    → (word_at order x 8 == 1) ≡ false → (word_at order x 8 == 3) ≡ false
-    → (word_at order x 8 == 4) ≡ false → (word_at order x 8 == 7) ≡ false
-    → (word_at order x 8 == 8) ≡ false → word_at order x 8 ≡ 0
-end_type order x h a b c d e = grind (arith, nat_tests)
-
 -- where no fault applies, the body that the first words spell is whole
 body_stands : (order : Order) (x : List ℕ) → bad order x ≡ None
     → StandsWhole order x (body_at order x)
-body_stands order x good =
-    grind (
-      arith,
-      long_enough,
-      nat_tests,
-      end_type,
-      format_stands,
-      private_format,
-      refs_len,
-      big_format,
-      unit_format,
-    )
+body_stands order x good = grind (arith, nat_tests, refs_len)
 
 -- where there is no fault, a record begins
 pub begins_at : (order : Order) (x : List ℕ) → bad order x ≡ None

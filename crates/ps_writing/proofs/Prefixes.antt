@@ -1,5 +1,5 @@
 -- Prefixes of what is to be written.
-use Rattle.ps_writing.proofs.Vocabulary.{Appends, AppendsPrefix, ◌≡◌, ℕ, ◌+◌, ◌-◌, List, [], ◌++◌, length, take, drop, Option, Some, None, Result, Ok, Err, OnErr, sym, ◌∙◌, ap, subst, append_assoc, arith, length-drop, append-nil, take_all, take-append-drop}
+use Rattle.ps_writing.proofs.Vocabulary.{Appends, AppendsPrefix, ◌≡◌, ℕ, ◌+◌, ◌-◌, List, [], ◌++◌, length, take, drop, Option, Some, None, Result, Ok, Err, OnErr, sym, ap, append_assoc, arith, length-drop, append-nil, take_all, take-append-drop}
 use Rattle.std.proofs.Math.Seq.{take-append_seam, take-add}
 
 -- what stays as it was grew by nothing
@@ -13,17 +13,13 @@ pub appends_twice : (a b c : Option (List ℕ)) (xs ys : List ℕ) → Appends a
 appends_twice None b c xs ys h k = tt
 appends_twice (Some xa) None c xs ys h k = absurd h
 appends_twice (Some xa) (Some xb) None xs ys h k = absurd k
-appends_twice (Some xa) (Some xb) (Some xc) xs ys h k =
-    k ∙ (ap (λ (zs : List ℕ). zs ++ ys) h ∙ append_assoc xa xs ys)
+appends_twice (Some xa) (Some xb) (Some xc) xs ys h k = grind (arith, append_assoc)
 
 -- a prefix and then a prefix of the rest
 pub appends_more : (a b c : Option (List ℕ)) (i n : ℕ) (bs : List ℕ)
     → Appends a b (take i bs) → Appends b c (take n (take (length bs - i) (drop i bs)))
     → Appends a c (take (i + n) bs)
-appends_more a b c i n bs h k =
-    let whole = take_all (length bs - i) (drop i bs) (omega (arith, length-drop i bs)) in
-    rw take-add (appends_twice a b c (take i bs) (take n (drop i bs)) h
-    (subst (λ (xs : List ℕ). Appends b c (take n xs)) whole k))
+appends_more a b c i n bs h k = grind (arith, take_all, length-drop, take-add, appends_twice)
 
 -- a prefix, with what is left
 pub prefix_from : (a c : Option (List ℕ)) (prefix rest bs : List ℕ) → prefix ++ rest ≡ bs

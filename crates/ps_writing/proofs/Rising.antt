@@ -1,5 +1,5 @@
 -- How the counts of a writer rise while bytes are written in pieces.
-use Rattle.ps_writing.proofs.Vocabulary.{min, Counts, WriteFault, NoneFailed, OneFailed, Rises, ◌≡◌, ◌≢◌, ℕ, ◌+◌, ◌-◌, ◌≤◌, ◌<◌, Bool, true, false, Result, Ok, Err, ap, arith, ◌^◌, AreAtMost, AreBelow, Failures, HasRoom, IfDevice, IfStalled, OneError, OneStall, RisesByPieces, counts_after, one_more, saturated_after}
+use Rattle.ps_writing.proofs.Vocabulary.{min, Counts, WriteFault, NoneFailed, OneFailed, Rises, ◌≡◌, ◌≢◌, ℕ, ◌+◌, ◌-◌, ◌≤◌, ◌<◌, Bool, true, false, Result, Ok, Err, arith, ◌^◌, AreAtMost, AreBelow, HasRoom, IfDevice, IfStalled, OneError, OneStall, RisesByPieces, counts_after, one_more, saturated_after}
 use Rattle.std.specs.declared.io.Error.{Error}
 use Rattle.ps_writing.specs.declared.write_fault.WriteFault.TheVariants.{Device, Stalled}
 
@@ -11,13 +11,8 @@ one_more_is n lt = omega arith
 pub none_saturated : {E : Type 0} (c : Counts) (size : ℕ) (result : Result ℕ E)
     → AreBelow c 18446744073709551615
     → saturated_after c size result ≡ counts_after c size result
-none_saturated c size (Ok taken) low = rw (
-  one_more_is c.writes low.writes,
-  one_more_is c.stalls low.stalls,
-  one_more_is c.shorts low.shorts,
-)
-none_saturated c size (Err error) low =
-    rw (one_more_is c.writes low.writes, one_more_is c.errors low.errors)
+none_saturated c size (Ok taken) low = grind (arith, one_more_is)
+none_saturated c size (Err error) low = grind (arith, one_more_is)
 
 -- the counts after the first i of so many bytes went out; while some are left, each write was short
 pub record Progress (old new : Counts) (size i : ℕ) : Type 0 where
@@ -40,47 +35,27 @@ progress old mid size i taken left h lt is le ne = grind arith
 room_left : (needed : Bool) (old new : Counts) (n made left : ℕ) → HasRoom needed old n
     → new.writes ≤ old.writes + made → new.shorts ≤ old.shorts + made → NoneFailed old new
     → made + left ≤ n → HasRoom needed new left
-room_left true old new n made left room writes shorts none le = record {
-  writes = omega (arith, room.writes, writes, le);
-  errors = omega (arith, room.errors, ap (λ (f : Failures). f.errors) none, le);
-  stalls = omega (arith, room.stalls, ap (λ (f : Failures). f.stalls) none, le);
-  shorts = omega (arith, room.shorts, shorts, le);
-}
+room_left true old new n made left room writes shorts none le = grind arith
 room_left false old new n made left room writes shorts none le = tt
 
 -- while some of the bytes are left, there is room for one write more
 pub room_here : (needed : Bool) (old mid : Counts) (size i : ℕ) → HasRoom needed old size
     → Progress old mid size i → i < size → HasRoom needed mid 1
-room_here needed old mid size i room h lt =
-    room_left needed old mid size i 1 room h.by_bytes h.shorts h.none (omega (arith, lt))
+room_here needed old mid size i room h lt = grind (arith, room_left)
 
 -- after some pieces there is room for those that are left
 pub room_then : (needed : Bool) (old new : Counts) (n size pieces left : ℕ)
     → HasRoom needed old n → Rises old new size pieces → NoneFailed old new
     → size + left ≤ n → HasRoom needed new left
-room_then needed old new n size pieces left room h none le =
-    room_left needed old new n size left room h.by_bytes h.shorts none le
+room_then needed old new n size pieces left room h none le = grind (arith, room_left)
 
 pub rises_none : (c : Counts) → Rises c c 0 0
-rises_none c = record {
-  by_bytes = omega arith;
-  by_pieces = λ room. omega arith;
-  shorts = omega arith;
-}
+rises_none c = grind arith
 
 -- some pieces, and then more, of a file that has still more
 pub rises_then : (a b c : Counts) (m x n y size pieces : ℕ) → Rises a b m x
     → Rises b c n y → m + n ≤ size → x + y ≤ pieces → Rises a c size pieces
-rises_then a b c m x n y size pieces h k le few = record {
-  by_bytes = omega (arith, h.by_bytes, k.by_bytes);
-  by_pieces =
-      λ room. omega (
-        arith,
-        h.by_pieces (omega arith),
-        k.by_pieces (omega (arith, h.shorts)),
-      );
-  shorts = omega (arith, h.shorts, k.shorts);
-}
+rises_then a b c m x n y size pieces h k le few = grind arith
 
 -- a writer with small counts can count what is written of a file
 module _ (old new : Counts) (small : AreAtMost old 4294967296) where
@@ -90,16 +65,10 @@ module _ (old new : Counts) (small : AreAtMost old 4294967296) where
 
   pub if_device : (fault : WriteFault) → OneFailed fault old new
       → IfDevice fault (OneError old new)
-  if_device (Device error) h = record {
-    errors = omega (arith, small.errors, ap (λ (f : Failures). f.errors) h);
-    stalls = ap (λ (f : Failures). f.stalls) h;
-  }
+  if_device (Device error) h = grind arith
   if_device Stalled h = tt
 
   pub if_stalled : (fault : WriteFault) → OneFailed fault old new
       → IfStalled fault (OneStall old new)
   if_stalled (Device error) h = tt
-  if_stalled Stalled h = record {
-    errors = ap (λ (f : Failures). f.errors) h;
-    stalls = omega (arith, small.stalls, ap (λ (f : Failures). f.stalls) h);
-  }
+  if_stalled Stalled h = grind arith

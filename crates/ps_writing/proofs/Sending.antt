@@ -15,11 +15,7 @@ Sends old new gathered bytes rest = (sent : List ℕ) × Appends old new sent
 -- both are sent
 pub sends_both : (a b c : Option (List ℕ)) (gathered bytes none : List ℕ)
     → Appends a b gathered → none ≡ [] → Appends b c bytes → Sends a c gathered bytes none
-sends_both a b c gathered bytes none h e k = (
-  gathered ++ bytes,
-  appends_twice a b c gathered bytes h k,
-  ap (λ xs. (gathered ++ bytes) ++ xs) e ∙ append-nil (gathered ++ bytes),
-)
+sends_both a b c gathered bytes none h e k = grind (arith, appends_twice, append-nil)
 
 module _ (first old new : Option (List ℕ)) (text gathered bytes : List ℕ) where
   -- where no write has failed, the text that was added grows by the bytes

@@ -1,5 +1,5 @@
 -- Text that is added piece by piece: what was added so far, and what is left of all.
-use Rattle.std.proofs.Common.{◌≡◌, ℕ, suc, ◌+◌, ◌-◌, ◌<◌, ◌≤◌, List, [], ◌∷◌, ◌++◌, length, drop, append_assoc, append-nil, sym, subst, ◌∙◌, ap, arith}
+use Rattle.std.proofs.Common.{◌≡◌, ℕ, ◌+◌, ◌-◌, ◌<◌, ◌≤◌, List, [], ◌∷◌, ◌++◌, length, drop, append_assoc, append-nil, sym, subst, ◌∙◌, ap, arith}
 use Rattle.ps_writing.proofs.Vocabulary.{flat_map, range_with_len, drop_all}
 use Rattle.ps_writing.specs.Adding.{Adds}
 
@@ -48,8 +48,7 @@ module _ {S : Type 0} {added : S → List ℕ → S → Type 0} {f : S} {all res
 
   -- where nothing is left, all was added
   pub all_written : {g : S} → rest ≡ [] → Written added f all rest g → Adds added f all g
-  all_written e w = adds_is (sym (append-nil w.done)
-      ∙ (ap (λ bs. w.done ++ bs) (sym e) ∙ w.split)) w.wrote
+  all_written e w = grind (arith, adds_is, append-nil)
 
   -- a writer that takes no more has taken what is left as well
   pub all_stopped : {g : S} → Written added f all rest g → Adds added g rest g
@@ -60,12 +59,10 @@ module _ (line_of : ℕ → List ℕ) (i n : ℕ) where
   -- the lines of the slots from i on
   pub slots_left : i < n → flat_map line_of (range_with_len i (n - i))
       ≡ line_of i ++ flat_map line_of (range_with_len (i + 1) (n - (i + 1)))
-  slots_left lt = let left : n - i ≡ suc (n - (i + 1)) = omega arith in
-      ap (λ k. flat_map line_of (range_with_len i k)) left
+  slots_left lt = grind arith
 
   pub slots_over : n ≤ i → flat_map line_of (range_with_len i (n - i)) ≡ []
-  slots_over le = let left : n - i ≡ 0 = omega arith in
-      ap (λ k. flat_map line_of (range_with_len i k)) left
+  slots_over le = grind arith
 
 module _ {X : Type 0} (line_of : X → List ℕ) (xs : List X) (i : ℕ) where
   -- the lines of the items from i on

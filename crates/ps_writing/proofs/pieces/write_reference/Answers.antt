@@ -4,19 +4,13 @@ use Rattle.ps_writing.proofs.ReferenceText.{digits_few}
 use Rattle.ps_writing.proofs.pieces.write_reference.Goals as goal
 
 pub write_digits-digits-requires : goal.write_digits-digits-requires
-write_digits-digits-requires c = (
-  let few = digits_few c.args.place (omega arith) in
-      omega (arith, few),
-  omega arith,
-)
+write_digits-digits-requires c = grind (arith, digits_few)
 
 pub overflow_sub-blank : goal.overflow_sub-blank
-overflow_sub-blank c = let few = digits_few c.args.place (omega arith) in
-    omega (arith, few, c.write_digits-digits.ensures.start)
+overflow_sub-blank c = grind (arith, digits_few)
 
 pub returns-clause-begins : goal.returns-clause-begins
-returns-clause-begins c = let few = digits_few c.args.place (omega arith) in
-    omega (arith, few, c.write_digits-digits.ensures.start)
+returns-clause-begins c = grind (arith, digits_few)
 
 pub returns-clause-text : goal.returns-clause-text
 returns-clause-text c = grind (arith, digits_few, drop-set_at)
