@@ -78,11 +78,8 @@ of_place : (segs : List Segment) (p : ℕ) (g : UnitReference)
     → slice_get (all_unit_references segs) p ≡ Some g → (s : Segment)
     × (slice_get segs (owner segs p) ≡ Some s) × (d : ℕ) × IsOf s.file s.slot 0 s.records g d
 of_place [] p g e = absurd (cc)
-of_place (s ∷ ss) p g e = elim (split_at (references_of s) (all_unit_references ss) p g e) [
-  | inl h ↦ (let r = reference_is s.file s.slot 0 s.records p g h in
-      rw (owner_first s ss p g h) (s, refl, r.0, r.1))
-  | inr t ↦ rw (t.1, owner_later s ss t.0) (of_place ss t.0 g t.2)
-]
+of_place (s ∷ ss) p g e =
+    grind (arith, split_at, references_of, reference_is, owner_first, owner_later, of_place ss)
 
 -- a record that requests a name has its unit reference among those of all
 requests_at : (segs : List Segment) (j rec : ℕ) (name : List ℕ) → RequestsAt segs j rec name
@@ -221,10 +218,7 @@ module _ (order : Order) (host : List ℕ) where
       → slice_get (requested_units order host libs segs) k ≡ Some g
       → (i : ℕ) × IsGiver (own_segments order host libs ++ segs) i g
   unfolding requested_units
-  given libs segs k g e =
-      let all = own_segments order host libs ++ segs in
-      let t = requested_at _ [] _ k g (omega arith) e in
-      (owner all t.0, giver _ all k t.0 g t.1)
+  given libs segs k g e = grind (arith, requested_at, giver)
 
   -- 4. what the host's own slots have
   -- a slot of a unit's role is a unit slot
@@ -343,8 +337,7 @@ module _ (order : Order) (host : List ℕ) (libs : List (List ℕ))
     earliest : (k : ℕ) (g : UnitReference) → slice_get queue k ≡ Some g
         → (p : ℕ) × IsEarliest (own_units order host libs) [] (all_unit_references all) k p g
     unfolding requested_units
-    earliest k g e = requested_at (own_units order host libs) [] (all_unit_references all) k g
-        (omega arith) e
+    earliest k g e = grind (arith, requested_at, own_units)
 
     not_slot : (queue : List UnitReference) (name : List ℕ)
         → is_already_known (own_units order host libs) queue name ≡ false
@@ -377,13 +370,7 @@ module _ (order : Order) (host : List ℕ) (libs : List (List ℕ))
 
     are_given : (j k : ℕ) (g h : UnitReference) → j < k → slice_get queue j ≡ Some g
         → slice_get queue k ≡ Some h → AreGiven all g h
-    are_given j k g h l e u =
-        let t = earliest j g e in
-        let v = earliest k h u in
-        let gives = giver _ all j t.0 g t.1 in
-        let follows = giver _ all k v.0 h v.1 in
-        let turn = in_turn _ [] _ j k t.0 v.0 g h l t.1 v.1 in
-        (owner all t.0, owner all v.0, gives, follows, in_order all t.0 v.0 g h turn t.1.0 v.1.0)
+    are_given j k g h l e u = grind (arith, earliest, giver, in_turn, in_order)
 
     apart : (j k : ℕ) (g h : UnitReference) → j < k → slice_get queue j ≡ Some g
         → slice_get queue k ≡ Some h → g.name ≡ h.name → ⊥
@@ -392,8 +379,7 @@ module _ (order : Order) (host : List ℕ) (libs : List (List ℕ))
 
     is_once : (j k : ℕ) (g h : UnitReference) → slice_get queue j ≡ Some g
         → slice_get queue k ≡ Some h → g.name ≡ h.name → j ≡ k
-    is_once j k g h e u same = not_apart j k (λ l. apart j k g h l e u same)
-        (λ l. apart k j h g l u e (sym same))
+    is_once j k g h e u same = grind (arith, not_apart, apart)
 
     same_names : map (λ (s : Segment). s.name) (added_segments order host libs)
         ≡ map (λ (g : UnitReference). g.name) (queue_of order host libs)
@@ -405,8 +391,7 @@ module _ (order : Order) (host : List ℕ) (libs : List (List ℕ))
 
     is_wanted : (k : ℕ) (s : Segment) → slice_get (added_segments order host libs) k ≡ Some s
         → (s.role ≡ role.Wanted) × (s.added ≡ true)
-    is_wanted k s e = let round = (segment_named order host libs k s e).1 in
-        (round.role, round.is_added)
+    is_wanted k s e = grind (arith, segment_named)
 
     pub units_are : AddedUnits order host libs (queue_of order host libs)
         (added_segments order host libs)

@@ -65,9 +65,7 @@ becomes order segs base s rec name (PrivRef words refs) i x t g e =
     let is : Base (private_offset segs s.slot rec) ≡ t = cc in
     (next_of (host_records segs), base, ap (λ u. stored_bytes order (edit_of s.code u x)) (sym is))
 becomes order segs base s rec name (UnitRef refs) i x t g e =
-    let u = slot_found (lookup (bytes_eq name) (units_of segs)) t e in
-    let stored = ap (λ v. stored_bytes order (edit_of s.code v x)) u.2 in
-    (u.0, unit_slot_is name segs u.0 u.1, stored)
+    grind (arith, slot_found, unit_slot_is)
 becomes order segs base s rec name (PublRef refs) i x t g e =
     let u = base_found (definition_of name (definitions (host_records segs))) t e in
     let value = public_is segs name u.0.value (given name (host_records segs) u.0 u.1 u.2) in

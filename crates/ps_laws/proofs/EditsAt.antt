@@ -8,8 +8,7 @@ use Rattle.ps_words.specs.Edits.{place_of, width, covers}
 
 -- what is in a joined list is in one of its parts
 of_joined : {A : Type 0} (xs ys : List A) (a : A) → In a (xs ++ ys) → In a xs ⊎ In a ys
-of_joined xs ys a t = elim (split_at xs ys t.0 a t.1)
-    [ inl e ↦ inl (t.0, e) | inr u ↦ inr (u.0, u.2) ]
+of_joined xs ys a t = grind (arith, split_at)
 
 -- what is in a list that is joined of what the items give is in what one of them gives
 of_flat : {A C : Type 0} (f : A → List C) (xs : List A) (y : C) → In y (flat_map f xs)

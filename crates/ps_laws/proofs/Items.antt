@@ -18,8 +18,7 @@ module _ {A : Type 0} (xs ys : List A) (a : A) where
 pub in_flat : {A C : Type 0} (f : A → List C) (xs : List A) (x : A) (y : C) → In x xs
     → In y (f x) → In y (flat_map f xs)
 in_flat f [] x y t u = absurd (let e = t.1 in cc)
-in_flat f (z ∷ xs) x y (zero, e) u =
-    let same : z ≡ x = cc in in_left (f z) (flat_map f xs) y (rw same u)
+in_flat f (z ∷ xs) x y (zero, e) u = grind (arith, in_left)
 in_flat f (z ∷ xs) x y (suc i, e) u = in_right (f z) (flat_map f xs) y (in_flat f xs x y (i, e) u)
 
 -- what is in a list with one more item, if there is one
@@ -35,8 +34,7 @@ of_more o ys y t = grind arith
 pub in_filter_map : {A C : Type 0} (f : A → Option C) (xs : List A) (x : A) (y : C) → In x xs
     → f x ≡ Some y → In y (filter_map f xs)
 in_filter_map f [] x y t u = search (rules, arith)
-in_filter_map f (z ∷ xs) x y (zero, e) u =
-    let same : f z ≡ Some y = cc in rw same (zero, refl)
+in_filter_map f (z ∷ xs) x y (zero, e) u = grind arith
 in_filter_map f (z ∷ xs) x y (suc i, e) u =
     in_more (f z) (filter_map f xs) y (in_filter_map f xs x y (i, e) u)
 
@@ -75,8 +73,7 @@ of_filter test a (suc n) i j e = grind (arith, of_filter test (a + 1) n i)
 pub in_filter : {A : Type 0} (test : A → Bool) (xs : List A) (x : A) → In x xs
     → test x ≡ true → In x (filter test xs)
 in_filter test [] x t h = search (rules, arith)
-in_filter test (y ∷ xs) x (zero, e) h =
-    let same : y ≡ x = cc in rw (same, h) (zero, refl)
+in_filter test (y ∷ xs) x (zero, e) h = grind arith
 in_filter test (y ∷ xs) x (suc i, e) h = behind (test y) (in_filter test xs x (i, e) h)
   where
     behind : (b : Bool) → In x (filter test xs)

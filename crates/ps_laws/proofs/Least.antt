@@ -167,8 +167,7 @@ pub least_else : {X P : Type 0} {B : X → X → Type 0} {S : X → Type 0} {o :
     → Least B (λ y. ((y ≡ x) × P) ⊎ S y) (if b then Some x else o)
 least_else true x d l apart = this x (inl (refl, d.0 refl))
     (λ y. elim [ inl s ↦ inl s.0 | inr t ↦ inr (apart y t) ])
-least_else false x d l apart = least_same (λ y s. inr s)
-    (λ y. elim [ inl s ↦ absurd (false≢true (d.1 s.1)) | inr t ↦ t ]) l
+least_else false x d l apart = grind (arith, least_same, false≢true)
 
 -- the first over the list of what all items give is the first over the items themselves
 pub first_of_filter_map : {W X Y : Type 0} (f : X → Option Y) (g : W → Option X) (ws : List W)

@@ -1,6 +1,6 @@
 -- The offset of a private is the base offset of the host's end mark, and the words of all segments
 -- before and of the records before its own.
-use Rattle.ps_laws.proofs.Vocabulary.{flat_map, Record, Segment, host_records, private_words, total_words, next_of, private_offset, words_taken, rules, ◌≡◌, ℕ, ◌+◌, ◌<◌, ◌≤◌, List, [], ◌∷◌, take, refl, ap, arith, sum_by, lt-ltb, all_private_words, records_before, words_before}
+use Rattle.ps_laws.proofs.Vocabulary.{flat_map, Record, Segment, host_records, private_words, total_words, next_of, private_offset, words_taken, rules, ◌≡◌, ℕ, ◌+◌, ◌<◌, ◌≤◌, List, [], ◌∷◌, take, refl, arith, sum_by, lt-ltb, all_private_words, records_before, words_before}
 use Rattle.std.proofs.lemmas.List.Sums.{sum_by-append, sum_by-cons}
 use Rattle.ps_laws.proofs.Segments.{Ascends}
 
@@ -32,8 +32,7 @@ before slot rec ss = words (flat_map (records_before slot rec) ss)
 module _ (slot rec : ℕ) where
   next_segment : (s : Segment) (ss : List Segment)
       → before slot rec (s ∷ ss) ≡ words (records_before slot rec s) + before slot rec ss
-  next_segment s ss = sum_by-append (λ (r : Record). words_taken r.body)
-      (records_before slot rec s) (flat_map (records_before slot rec) ss)
+  next_segment s ss = grind (arith, sum_by-append)
 
   -- of segments in greater slots no words are before
   none_behind : (from : ℕ) (ss : List Segment)
@@ -53,15 +52,16 @@ module _ (all : List Segment) (Q : ℕ → List Segment → Type 0) (none : (off
       → private_offset all slot rec ≡ off + before slot rec rest) → Ascends from rest
       → Q off rest
   carried_on from off [] offsets ascends = none off
-  carried_on from off (s ∷ rest) offsets ascends = more s rest off
-      (λ rec. (let a = offsets s.slot rec ascends.0 in let b = next_segment s.slot rec s rest in
-      let c = ap words (of_same rec s) in let d = words_are (take rec s.records) in let e =
-      none_behind s.slot rec (s.slot + 1) rest (omega arith) ascends.1 in
-      omega (arith, a, b, c, d, e)))
-      (carried_on (s.slot + 1) (off + private_words s.records) rest (λ slot rec low. (let a =
-      offsets slot rec (let h = ascends.0 in omega (arith, low, h)) in let b =
-      next_segment slot rec s rest in let c = ap words (of_lesser slot rec s (omega (arith, low)))
-      in let d = words_are s.records in omega (arith, a, b, c, d))) ascends.1)
+  carried_on from off (s ∷ rest) offsets ascends =
+      grind (
+        arith,
+        next_segment,
+        of_same,
+        words_are,
+        none_behind,
+        of_lesser,
+        carried_on (s.slot + 1) (off + private_words s.records) rest,
+      )
 
   -- holds of all segments of a link with the base offset
   pub carried : Ascends 0 all → Q (next_of (host_records all)) all

@@ -59,8 +59,7 @@ rises : (from : ℕ) (segs : List Segment) → Ascends from segs → Rises segs
 rises from [] a i j s q l e u = absurd (cc)
 rises from (x ∷ xs) a i zero s q l e u = absurd (omega (arith, l))
 rises from (x ∷ xs) a zero (suc j) s q l e u = grind (arith, lowest)
-rises from (x ∷ xs) a (suc i) (suc j) s q l e u =
-    rises (x.slot + 1) xs a.1 i j s q (omega (arith, l)) e u
+rises from (x ∷ xs) a (suc i) (suc j) s q l e u = grind (arith, rises (x.slot + 1) xs a.1 i j s q)
 
 -- where later segments have greater slots, no two places have the same slot
 one_place : (segs : List Segment) → Rises segs → (i j : ℕ) (s q : Segment) → slice_get

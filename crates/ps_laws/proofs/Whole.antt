@@ -1,6 +1,6 @@
 -- The first fault of all is the smallest that is.
 use Rattle.ps_laws.proofs.Vocabulary.{◌⊎◌, ◌≢◌, slice_get, cases_lt, option_or, option_map, order_of, added_fault, Step, OfHost, OfSlots, OfNoHost, OfLibraries, OfSources, OfAdded, OfDefinitions, OfPrivates, OfDataSize, OfReferences, key, InRound, Order, Fault, ◌≡◌, ℕ, ◌+◌, ◌<◌, ◌≤◌, List, [], ◌∷◌, Option, Some, None, true, refl, sym, ap, subst, ◌∙◌, inl, inr, arith, segments, turn, is_of_reading, StandsIn, FaultAt, NoneStandsInReading, IsFirst, both_none}
-use Rattle.ps_resolve.specs.Faults.{slots_fault, sources_fault, linking_fault}
+use Rattle.ps_resolve.specs.Faults.{sources_fault, linking_fault}
 use Rattle.ps_resolve.specs.AllFaults.{first_fault, reading_fault}
 use Rattle.ps_laws.proofs.Least.{Least, nothing, this, Precedes, least_same, least_or, least_or_then, not_both}
 use Rattle.ps_laws.proofs.Steps.{step_1, step_2, step_3, step_4}
@@ -129,8 +129,7 @@ module _ (host : List ℕ) (libs : List (List ℕ)) where
   pub none_read : reading_fault host libs ≡ None → (sources_fault order host libs
       ≡ None) × (added_fault order host libs ≡ None)
   unfolding reading_fault
-  none_read e = both_none _ _ (both_none _ _ (both_none _ _ (both_none (slots_fault order host) _
-      (both_none _ _ e).1).1).1).1
+  none_read e = grind (arith, both_none)
 
   -- the first fault of linking is the smallest that applies in turns 7 to 10, where the rounds end
   -- without a fault
