@@ -1,5 +1,5 @@
 -- The blocks of codes whose slots ascend.
-use Rattle.ps_linkfile.proofs.Vocabulary.{nat_lt, filter, find, blocks, Order, pair_of, Ascend, All, All-nil, All-cons, All-head, All-tail, MAX_WORD, block_of, nat_tests, word_bytes, all_blocks, starts_of, ◌≡◌, ◌≤◌, ◌==◌, ◌∷◌, length-append, ◌∙◌, ℕ, List, map, take, drop, None, refl, ◌+◌, ◌*◌, ◌<◌, [], ◌++◌, length, arith, eq-eqb, take-add, map-append, take_all, MAX_CODE_LEN, MAX_CODE_BLOCKS, SLOT_COUNT, SLOTS, Segment}
+use Rattle.ps_linkfile.proofs.Vocabulary.{nat_lt, filter, find, blocks, Order, pair_of, Ascend, All, All-nil, All-head, All-tail, MAX_WORD, block_of, nat_tests, word_bytes, all_blocks, starts_of, ◌≡◌, ◌≤◌, ◌==◌, ◌∷◌, length-append, ◌∙◌, ℕ, List, map, take, drop, None, refl, ◌+◌, ◌*◌, ◌<◌, [], ◌++◌, length, arith, eq-eqb, take-add, map-append, take_all, MAX_CODE_LEN, MAX_CODE_BLOCKS, SLOT_COUNT, SLOTS, Segment}
 use Rattle.std.proofs.lemmas.List.Sums.{sum_by-cons, sum_by_push}
 
 pub all_blocks-cons : (o : Segment) (os : List Segment)
@@ -10,8 +10,7 @@ all_blocks-cons o os = sum_by-cons (λ (p : Segment). blocks (length p.code)) o 
 pub few_codes : (from : ℕ) (os : List Segment) → from ≤ SLOTS → Ascend from os
     → from + length os ≤ SLOT_COUNT
 few_codes from [] k h = omega arith
-few_codes from (o ∷ os) k h = let rest = few_codes (o.slot + 1) os (omega (arith, h.1)) h.2 in
-    omega (arith, rest, h.0)
+few_codes from (o ∷ os) k h = grind (arith, few_codes (o.slot + 1) os)
 
 -- a code takes at most MAX_CODE_BLOCKS blocks
 pub few_blocks : (os : List Segment) → All (λ o. length o.code ≤ MAX_CODE_LEN) os
@@ -27,8 +26,7 @@ few_blocks (o ∷ os) h =
 pub slots_below : (from : ℕ) (os : List Segment) → Ascend from os
     → All (λ o. o.slot < SLOTS) os
 slots_below from [] h = All-nil (λ (o : Segment). o.slot < SLOTS)
-slots_below from (o ∷ os) h = All-cons (λ (p : Segment). p.slot < SLOTS) o os h.1
-    (slots_below (o.slot + 1) os h.2)
+slots_below from (o ∷ os) h = grind (arith, slots_below (o.slot + 1) os h.2)
 
 -- no code is before the first
 pub none_before : (from : ℕ) (os : List Segment) (slot : ℕ) → Ascend from os → slot ≤ from

@@ -1,5 +1,5 @@
 -- The codes of a plan's sources, one after another.
-use Rattle.ps_linkfile.proofs.Vocabulary.{length-map-range_with_len, Appends, blocks, Order, Edit, patched_or_zero, all_blocks, padded_code, padded_codes, HaveEdits, AppendsPrefix, ◌≡◌, ℕ, ◌+◌, ◌*◌, List, [], ◌∷◌, ◌++◌, length, drop, Option, ◌∙◌, append_assoc, arith, length-append, Segment}
+use Rattle.ps_linkfile.proofs.Vocabulary.{length-map-range_with_len, Appends, Order, Edit, all_blocks, padded_code, padded_codes, HaveEdits, AppendsPrefix, ◌≡◌, ℕ, ◌+◌, ◌*◌, List, [], ◌∷◌, ◌++◌, length, drop, Option, append_assoc, arith, length-append, Segment}
 use Rattle.ps_linkfile.proofs.Blocks.{all_blocks-cons}
 use Rattle.ps_writing.proofs.Prefixes.{appends_twice, prefix_more}
 
@@ -52,10 +52,10 @@ pub codes_len : (order : Order) (os : List Segment) (ds : List (List Edit)) → 
 codes_len order [] ds h = omega arith
 codes_len order (o ∷ os) [] h = absurd h
 codes_len order (o ∷ os) (d ∷ ds) h =
-    length-append (padded_code order o.code d) (padded_codes order os ds)
-    ∙ omega (
+    grind (
       arith,
-      length-map-range_with_len (patched_or_zero order o.code d) 0 (512 * blocks (length o.code)),
+      length-append,
+      length-map-range_with_len,
+      all_blocks-cons,
       codes_len order os ds h.1,
-      all_blocks-cons o os,
     )

@@ -15,9 +15,7 @@ module _ (f : ℕ → List ℕ) where
   pub four_each : ((s : ℕ) → length (f s) ≡ 4)
       → (n a : ℕ) → length (flat_map f (range_with_len a n)) ≡ 4 * n
   four_each h zero a = omega arith
-  four_each h (suc n) a =
-      let rest = four_each h n (a + 1) in
-      length-append (f a) (flat_map f (range_with_len (a + 1) n)) ∙ omega (arith, h a, rest)
+  four_each h (suc n) a = grind (arith, length-append, four_each h n (a + 1))
 
 module _ (order : Order) (all : List Segment) where
   -- the pair of a slot has four bytes

@@ -1,5 +1,5 @@
 -- A plan of a link can be written, and its file is the linked file.
-use Rattle.ps_linkfile.proofs.Vocabulary.{length-map, flat_map, patched_byte, Order, Edit, private_words, Segment, order_of, Known, Planned, LinkSegments, IsPlan, linked_segments, padded_code, padded_segment, linked_file, padded_codes, file_in, HaveEdits, known_of, total_words, next_of, host_records, arith, ◌≡◌, ℕ, ◌+◌, ◌≤◌, ◌<◌, List, [], ◌∷◌, length, map, refl, ap, block_len, segments_of, edited_from, summary_of, summary_in, IsReady}
+use Rattle.ps_linkfile.proofs.Vocabulary.{length-map, flat_map, patched_byte, Order, Edit, private_words, Segment, order_of, Known, Planned, LinkSegments, IsPlan, linked_segments, padded_code, padded_segment, linked_file, padded_codes, file_in, HaveEdits, arith, ◌≡◌, ℕ, ◌+◌, ◌≤◌, ◌<◌, List, [], ◌∷◌, length, map, refl, ap, block_len, segments_of, edited_from, summary_of, summary_in, IsReady}
 use Rattle.ps_resolve.specs.Added.{slot_names}
 use Rattle.ps_linkfile.proofs.Slots.{segments_ascend, segments_small}
 
@@ -16,8 +16,7 @@ of_edited order known words free (s ∷ ss) = ap (λ ts. s ∷ ts)
 -- the linked segments with their edits are the segments of the link
 pub linked_are : (host : List ℕ) (libs : List (List ℕ))
     → segments_in (linked_segments host libs) ≡ segments_of host libs
-linked_are host libs = let ss = segments_of host libs in of_edited (order_of host) (known_of ss)
-    (total_words ss) (next_of (host_records ss)) ss
+linked_are host libs = grind (arith, of_edited)
 
 -- each source has its own edits
 have_edits : (order : Order) (known : Known) (words free : ℕ) (ss : List Segment)

@@ -1,5 +1,5 @@
 -- How the counts of a writer rise while a file is written.
-use Rattle.ps_linkfile.proofs.Vocabulary.{All, blocks, MAX_CODE_LEN, Counts, NoneFailed, Rises, all_blocks, Ascend, rules, ◌≡◌, ◌∙◌, ℕ, ◌+◌, ◌*◌, ◌≤◌, List, [], ◌∷◌, length, drop, Bool, true, ap, refl, arith, AreAtMost, HasRoom, Segment}
+use Rattle.ps_linkfile.proofs.Vocabulary.{All, blocks, MAX_CODE_LEN, Counts, NoneFailed, Rises, all_blocks, Ascend, rules, ◌≡◌, ℕ, ◌+◌, ◌*◌, ◌≤◌, List, [], ◌∷◌, length, drop, Bool, true, arith, AreAtMost, HasRoom, Segment}
 use Rattle.ps_linkfile.specs.declared.block_layout.TheConstants.{MAX_FILE_BLOCKS}
 use Rattle.ps_linkfile.proofs.Blocks.{all_blocks-cons, few_codes, few_blocks}
 use Rattle.ps_writing.proofs.Rising.{rises_none, rises_then, room_then}
@@ -7,12 +7,7 @@ use Rattle.ps_writing.proofs.Rising.{rises_none, rises_then, room_then}
 -- small counts have room for the longest file
 pub room_for_a_file : (c : Counts) → AreAtMost c 4294967296
     → HasRoom true c (512 * MAX_FILE_BLOCKS)
-room_for_a_file c small = record {
-  writes = omega (arith, small.writes);
-  errors = omega (arith, small.errors);
-  stalls = omega (arith, small.stalls);
-  shorts = omega (arith, small.shorts);
-}
+room_for_a_file c small = grind arith
 
 -- a file has few blocks
 pub few_of_all : (os : List Segment) → Ascend 0 os
@@ -29,13 +24,7 @@ pub record BlocksSoFar (os : List Segment) (count n : ℕ) (old new : Counts) : 
 next_blocks : (os : List Segment) (count n : ℕ) (o : Segment) → drop count os
     ≡ o ∷ drop (count + 1) os → n + all_blocks (drop count os) ≡ all_blocks os
     → n + blocks (length o.code) + all_blocks (drop (count + 1) os) ≡ all_blocks os
-next_blocks os count n o at h = sum (all_blocks os) (all_blocks (drop count os))
-    (all_blocks (drop (count + 1) os)) (blocks (length o.code)) h (ap all_blocks at
-    ∙ all_blocks-cons o (drop (count + 1) os))
-  where
-    sum : (all here rest one : ℕ) → n + here ≡ all → here ≡ one + rest
-        → n + one + rest ≡ all
-    sum all here rest one h k = omega arith
+next_blocks os count n o at h = grind (arith, all_blocks-cons)
 
 -- some blocks and then more are within all of them, in bytes and in blocks
 within : (x y rest all : ℕ) → x + y + rest ≡ all
@@ -44,11 +33,7 @@ within x y rest all h = (omega arith, omega arith)
 
 -- none is written yet
 pub blocks_none : (os : List Segment) (c : Counts) → BlocksSoFar os 0 0 c c
-blocks_none os c = record {
-  sum = omega arith;
-  rises = rises_none c;
-  none = refl;
-}
+blocks_none os c = grind (arith, rises_none)
 
 module _ (os : List Segment) (count n : ℕ) (o : Segment) (a b : Counts) where
   -- the blocks of one source more

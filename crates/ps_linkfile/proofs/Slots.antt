@@ -52,8 +52,7 @@ segments_rise from (s ∷ ss) rises within = (
 
 module _ (order : Order) (host : List ℕ) (libs : List (List ℕ)) where
   pub segments_ascend : Ascend 0 (segments order host libs)
-  segments_ascend = segments_rise 0 (segments order host libs)
-      (ascend order host libs) (all_within order host libs)
+  segments_ascend = grind (arith, segments_rise, ascend, all_within)
 
   pub segments_small : All (λ s. length s.code ≤ MAX_CODE_LEN) (segments order host libs)
   segments_small = all_small order host libs

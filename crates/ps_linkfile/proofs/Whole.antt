@@ -1,5 +1,5 @@
 -- The linked file is one list: where its facts hold, each byte is that of the list.
-use Rattle.ps_linkfile.proofs.Vocabulary.{flat_map, length-map-range_with_len, get_or-map-range_with_len, nat_tests, file_order, ext_get_or, all_blocks, LinkedFile, All-nil, in_file, Segment, drop_all, block_of, All-cons, opened_as, order_of, drop-drop, blocks, get_or_append_left, get_or-replicate, Order, Fault, pair_of, Reason, Edit, padded_segment, linked_file, OpenedFile, patched_or_zero, linked_segments, ◌≡◌, ℕ, suc, List, ◌+◌, ◌-◌, ◌*◌, ◌/◌, ◌≤◌, ◌<◌, [], ◌∷◌, ◌++◌, length, map, get_or, take, drop, replicate, Option, Some, None, Result, Err, Bool, true, false, cond, refl, sym, ◌∙◌, ap, subst, inl, inr, arith, append_assoc, length-append, length-take, length-drop, All, nat_lt, slice_range, option_map, append-nil, get_or-take, get_or-drop, get_or-append-add, take_at, drop_at, cases_lt, ltb-false, le-ltb, IsLinkedByte, segments_of, HaveLinkedBytes, HaveOneLinkedByte, IsStopped, linked_byte, NamesFirst, error_of, All-map, SLOTS}
+use Rattle.ps_linkfile.proofs.Vocabulary.{flat_map, length-map-range_with_len, get_or-map-range_with_len, nat_tests, ext_get_or, all_blocks, LinkedFile, All-nil, in_file, Segment, drop_all, block_of, All-cons, order_of, drop-drop, blocks, get_or_append_left, get_or-replicate, Order, Fault, pair_of, Reason, Edit, padded_segment, linked_file, OpenedFile, patched_or_zero, linked_segments, ◌≡◌, ℕ, suc, List, ◌+◌, ◌-◌, ◌*◌, ◌/◌, ◌≤◌, ◌<◌, [], ◌∷◌, ◌++◌, length, get_or, take, drop, replicate, Option, Some, None, Result, Err, Bool, false, cond, refl, sym, ◌∙◌, ap, subst, inl, inr, arith, append_assoc, length-append, length-take, length-drop, All, slice_range, option_map, append-nil, get_or-take, get_or-drop, get_or-append-add, take_at, drop_at, cases_lt, ltb-false, le-ltb, IsLinkedByte, segments_of, HaveLinkedBytes, HaveOneLinkedByte, IsStopped, linked_byte, NamesFirst, error_of, All-map, SLOTS}
 use Rattle.std.specs.Result.{result_err}
 use Rattle.std.proofs.lemmas.List.Folds.{drop_split}
 use Rattle.std.proofs.Math.Seq.{take-append_seam, drop-append-add}
@@ -52,36 +52,26 @@ IsLaid order file all e = (p : ℕ) → p < 512 * blocks (length e.0.code)
 module _ (order : Order) where
   inside : (e : Segment × List Edit) (p : ℕ) → p < length e.0.code
       → patched_or_zero order e.0.code e.1 p ≡ linked_byte order e p
-  inside e p lt = let yes : nat_lt p (length e.0.code) ≡ true = grind (arith, nat_tests)
-      in rw yes
+  inside e p lt = grind (arith, nat_tests)
 
   past : (e : Segment × List Edit) (p : ℕ) → length e.0.code ≤ p
       → patched_or_zero order e.0.code e.1 p ≡ 0
-  past e p le = let no : nat_lt p (length e.0.code) ≡ false = le-ltb p (length e.0.code) le
-      in rw no
+  past e p le = grind (arith, le-ltb)
 
   padded_len : (e : Segment × List Edit)
       → length (padded_segment order e) ≡ 512 * blocks (length e.0.code)
-  padded_len e = length-map-range_with_len (patched_or_zero order e.0.code e.1) 0
-      (512 * blocks (length e.0.code))
+  padded_len e = grind (arith, length-map-range_with_len)
 
   padded_at : (e : Segment × List Edit) (p : ℕ) → p < 512 * blocks (length e.0.code)
       → get_or (padded_segment order e) p 0 ≡ patched_or_zero order e.0.code e.1 p
-  padded_at e p lt = get_or-map-range_with_len (patched_or_zero order e.0.code e.1) 0
-      (512 * blocks (length e.0.code)) p p 0 lt (omega arith)
+  padded_at e p lt = grind (arith, get_or-map-range_with_len)
 
   -- all codes, each in whole blocks, take 512 bytes for each of their blocks
   codes_len : (es : List (Segment × List Edit)) → length (flat_map (padded_segment order) es)
       ≡ 512 * all_blocks (segments_in es)
   codes_len [] = omega arith
   codes_len (e ∷ es) =
-      length-append (padded_segment order e) (flat_map (padded_segment order) es)
-      ∙ omega (
-        arith,
-        padded_len e,
-        codes_len es,
-        all_blocks-cons e.0 (segments_in es),
-      )
+      grind (arith, length-append, padded_len, all_blocks-cons, segments_in, codes_len es)
 
   -- codes that are put one after another are at the blocks of their slots
   laid : (all : List Segment) (prefix : List ℕ) (from block : ℕ)
@@ -131,8 +121,7 @@ whole_test : (short : Bool) (of : Result OpenedFile Reason) → option_map
 whole_test short of h = grind arith
 
 whole_host : (host : List ℕ) → host_fault host ≡ None → 512 ≤ length host
-whole_host host h = ltb-false (length host) 512
-    (whole_test (nat_lt (length host) 512) (opened_as host (file_order host)) h)
+whole_host host h = grind (arith, ltb-false, whole_test)
 
 module _ (host : List ℕ) (libs : List (List ℕ)) where
   host_first : reading_fault host libs ≡ None → host_fault host ≡ None

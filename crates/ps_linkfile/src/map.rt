@@ -15,9 +15,8 @@ use crate::linked::{Linked, prepare};
 use ps_laws::first_of_all;
 use ps_resolve::{Def, DefKind, Definitions, Plan, Private, Segment};
 use ps_words::Name;
-use ps_writing::{
-    Form, RowPart, Text, TextWriter, add_by_form, add_part, begin_row, end_row, in_memory,
-};
+use ps_writing::RowPart::{Flag, InSlot, Named, Number, OfKind, Short, Total};
+use ps_writing::{Form, Text, TextWriter, add_by_form, add_part, begin_row, end_row, in_memory};
 use std::alloc::Allocator;
 
 /// Adds the row of a segment, whose code begins in this block.
@@ -29,13 +28,13 @@ fn add_segment<S: TextWriter>(text: &mut S, form: Form, index: usize, segment: &
     add_part(
         text,
         form,
-        RowPart::InSlot(b"segment ", segment.slot(), segment.name()),
+        InSlot(b"segment ", segment.slot(), segment.name()),
     );
-    add_part(text, form, RowPart::Number(b"file", segment.file()));
-    add_part(text, form, RowPart::Short(b"entry", segment.index()));
-    add_part(text, form, RowPart::Number(b"block", block as usize));
-    add_part(text, form, RowPart::Number(b"length", segment.code().len()));
-    add_part(text, form, RowPart::Flag(b"added", segment.added()));
+    add_part(text, form, Number(b"file", segment.file()));
+    add_part(text, form, Short(b"entry", segment.index()));
+    add_part(text, form, Number(b"block", block as usize));
+    add_part(text, form, Number(b"length", segment.code().len()));
+    add_part(text, form, Flag(b"added", segment.added()));
     end_row(text, form);
 }
 
@@ -70,9 +69,9 @@ fn add_definition<S: TextWriter>(text: &mut S, form: Form, index: usize, name: N
     ensures { Adds S.added text.old (row_in form index (definition_row (name, def))) text.new }
 {
     begin_row(text, form, index);
-    add_part(text, form, RowPart::OfKind(kind_word(def.kind)));
-    add_part(text, form, RowPart::Named(name));
-    add_part(text, form, RowPart::Number(b"value", def.value as usize));
+    add_part(text, form, OfKind(kind_word(def.kind)));
+    add_part(text, form, Named(name));
+    add_part(text, form, Number(b"value", def.value as usize));
     end_row(text, form);
 }
 
@@ -98,21 +97,9 @@ fn add_private<S: TextWriter>(text: &mut S, form: Form, index: usize, private: &
     ensures { Adds S.added text.old (row_in form index (private_row private.now)) text.new }
 {
     begin_row(text, form, index);
-    add_part(
-        text,
-        form,
-        RowPart::InSlot(b"private ", private.slot, private.name),
-    );
-    add_part(
-        text,
-        form,
-        RowPart::Number(b"offset", private.offset as usize),
-    );
-    add_part(
-        text,
-        form,
-        RowPart::Number(b"words", private.words as usize),
-    );
+    add_part(text, form, InSlot(b"private ", private.slot, private.name));
+    add_part(text, form, Number(b"offset", private.offset as usize));
+    add_part(text, form, Number(b"words", private.words as usize));
     end_row(text, form);
 }
 
@@ -138,17 +125,9 @@ fn add_last<A: Allocator + Copy, S: TextWriter>(
     ensures { Adds S.added text.old
         (values_in form (last_row plan.now.next_free plan.now.data_size blocks)) text.new }
 {
-    add_part(
-        text,
-        form,
-        RowPart::Total(b"next", plan.next_free() as usize),
-    );
-    add_part(
-        text,
-        form,
-        RowPart::Number(b"data", plan.data_size() as usize),
-    );
-    add_part(text, form, RowPart::Number(b"blocks", blocks));
+    add_part(text, form, Total(b"next", plan.next_free() as usize));
+    add_part(text, form, Number(b"data", plan.data_size() as usize));
+    add_part(text, form, Number(b"blocks", blocks));
 }
 
 /// Adds the map of a plan that can be written, but for the end of a document.

@@ -21,8 +21,9 @@ use crate::stored_places::{StoredPlaces, stored_in_segments};
 use ps_laws::first_of_all;
 use ps_linkinfo::Kind;
 use ps_words::{BLOCK_SIZE, Name};
+use ps_writing::RowPart::{Bytes, Named, Number, Stored};
 use ps_writing::{
-    Counts, Form, RowPart, Text, TextWriter, WriteFault, add_by_form, add_part, by_form, separator,
+    Counts, Form, Text, TextWriter, WriteFault, add_by_form, add_part, by_form, separator,
     write_text,
 };
 use std::alloc::{Allocator, Global};
@@ -63,12 +64,9 @@ fn add_reference<S: TextWriter>(text: &mut S, form: Form, kind: Kind, name: Name
     add_by_form(text, form, b" ", b",\"record\":{\"kind\":\"");
     text.add(kind.word().as_bytes());
     add_by_form(text, form, b"", b"\"");
-    add_part(text, form, RowPart::Named(name));
-    add_part(
-        text,
-        form,
-        RowPart::Number(by_form(form, b"record", b"index"), index),
-    );
+    add_part(text, form, Named(name));
+    let word = by_form(form, b"record", b"index");
+    add_part(text, form, Number(word, index));
     add_by_form(text, form, b"", b"}");
 }
 
@@ -96,30 +94,14 @@ fn add_place<S: TextWriter, A: Allocator>(
     ensures { Adds S.added text.old (place_in form stored.now (place, Some cause)) text.new }
 {
     let width = cause.width();
-    add_part(
-        text,
-        form,
-        RowPart::Stored(cause.word(), stored.slot, stored.name),
-    );
-    add_part(text, form, RowPart::Number(b"at", place));
-    add_part(
-        text,
-        form,
-        RowPart::Number(
-            by_form(form, b"file", b"offset"),
-            file_offset(stored.block, place),
-        ),
-    );
-    add_part(
-        text,
-        form,
-        RowPart::Bytes(b"was", bytes_at(stored.code, place, width)),
-    );
-    add_part(
-        text,
-        form,
-        RowPart::Bytes(b"is", bytes_at(stored.linked.as_slice(), place, width)),
-    );
+    add_part(text, form, Stored(cause.word(), stored.slot, stored.name));
+    add_part(text, form, Number(b"at", place));
+    let word = by_form(form, b"file", b"offset");
+    add_part(text, form, Number(word, file_offset(stored.block, place)));
+    let was = bytes_at(stored.code, place, width);
+    add_part(text, form, Bytes(b"was", was));
+    let is = bytes_at(stored.linked.as_slice(), place, width);
+    add_part(text, form, Bytes(b"is", is));
     add_record(text, form, cause);
     add_by_form(text, form, b"\n", item_end(cause));
 }

@@ -22,8 +22,9 @@ use ps_codefile::dictionary_layout::{SLOT_COUNT, SLOTS};
 use ps_codefile::{Dict, Entry, Role};
 use ps_linkinfo::{Body, LinkRecord, Records, walk_from_start};
 use ps_words::{Fault, Name, Order, Reason};
+use ps_writing::RowPart::{self, Flag, InSlot, Kind, Named, Number, Record, References};
 use ps_writing::{
-    Counts, Form, RowPart, Text, TextWriter, add_by_form, add_part, add_reason, begin_row, end_row,
+    Counts, Form, Text, TextWriter, add_by_form, add_part, add_reason, begin_row, end_row,
     in_memory, two_digits, write_text,
 };
 use std::alloc::Allocator;
@@ -93,19 +94,11 @@ pub(crate) fn add_entry<S: TextWriter>(text: &mut S, form: Form, slot: u8, entry
     ensures { Adds S.added text.old (entry_in form slot entry) text.new }
 {
     begin_row(text, form, slot as usize);
-    add_part(text, form, RowPart::InSlot(b"slot ", slot, entry.name));
-    add_part(text, form, RowPart::Number(b"kind", entry.kind as usize));
-    add_part(
-        text,
-        form,
-        RowPart::Number(b"address", entry.address as usize),
-    );
-    add_part(
-        text,
-        form,
-        RowPart::Number(b"length", entry.length as usize),
-    );
-    add_part(text, form, RowPart::Number(b"text", entry.text as usize));
+    add_part(text, form, InSlot(b"slot ", slot, entry.name));
+    add_part(text, form, Number(b"kind", entry.kind as usize));
+    add_part(text, form, Number(b"address", entry.address as usize));
+    add_part(text, form, Number(b"length", entry.length as usize));
+    add_part(text, form, Number(b"text", entry.text as usize));
     add_by_form(text, form, b"\n", b"");
 }
 
@@ -175,28 +168,24 @@ fn add_body<S: TextWriter>(text: &mut S, form: Form, units: &[Name], name: Name,
 {
     match body {
         Body::UnitRef(refs) => {
-            add_part(text, form, RowPart::Named(name));
-            add_part(text, form, RowPart::References(refs));
-            add_part(
-                text,
-                form,
-                RowPart::Flag(b"unlisted", !is_listed(units, name)),
-            );
+            add_part(text, form, Named(name));
+            add_part(text, form, References(refs));
+            add_part(text, form, Flag(b"unlisted", !is_listed(units, name)));
         }
         Body::PublRef(refs) => {
-            add_part(text, form, RowPart::Named(name));
-            add_part(text, form, RowPart::References(refs));
+            add_part(text, form, Named(name));
+            add_part(text, form, References(refs));
         }
         Body::PrivRef { words, refs } => {
-            add_part(text, form, RowPart::Named(name));
-            add_part(text, form, RowPart::Number(b"words", *words as usize));
-            add_part(text, form, RowPart::References(refs));
+            add_part(text, form, Named(name));
+            add_part(text, form, Number(b"words", *words as usize));
+            add_part(text, form, References(refs));
         }
         Body::PublDef(value) | Body::ConstDef(value) => {
-            add_part(text, form, RowPart::Named(name));
-            add_part(text, form, RowPart::Number(b"value", *value as usize));
+            add_part(text, form, Named(name));
+            add_part(text, form, Number(b"value", *value as usize));
         }
-        Body::Eof(next) => add_part(text, form, RowPart::Number(b"next", *next as usize)),
+        Body::Eof(next) => add_part(text, form, Number(b"next", *next as usize)),
     }
 }
 
@@ -212,12 +201,8 @@ fn add_record<S: TextWriter>(
     ensures { Adds S.added text.old (record_in form units.now (rec, entry.now)) text.new }
 {
     begin_row(text, form, rec);
-    add_part(text, form, RowPart::Record(rec));
-    add_part(
-        text,
-        form,
-        RowPart::Kind(entry.body.kind().word().as_bytes()),
-    );
+    add_part(text, form, Record(rec));
+    add_part(text, form, Kind(entry.body.kind().word().as_bytes()));
     add_body(text, form, units, entry.name, &entry.body);
     end_row(text, form);
 }
@@ -227,7 +212,7 @@ fn add_record_fault<S: TextWriter>(text: &mut S, form: Form, rec: usize, reason:
     ensures { Adds S.added text.old (fault_in form rec (Some reason)) text.new }
 {
     begin_row(text, form, rec);
-    add_part(text, form, RowPart::Record(rec));
+    add_part(text, form, Record(rec));
     add_part(text, form, RowPart::Fault(reason));
     end_row(text, form);
 }

@@ -7,8 +7,7 @@ pub loop-k-init : goal.loop-k-init
 loop-k-init c = (1, 0, pairs_none c.args.order c.args.sources.now c.requires.slots)
 
 pub bounds-starts-k : goal.bounds-starts-k
-bounds-starts-k c = omega
-    (arith, many_starts c.args.sources.now c.args.starts.now c.requires.starts, c.loop-k-test.true)
+bounds-starts-k c = grind (arith, many_starts)
 
 pub overflow_cast-code : goal.overflow_cast-code
 overflow_cast-code c = grind (arith, size_at)

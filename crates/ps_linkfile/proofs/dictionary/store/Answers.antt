@@ -6,5 +6,4 @@ put : (a k : ℕ) (xs ys zs : List ℕ) → ys ≡ zs → k ≡ length zs
 put a k xs ys zs e h = grind (arith, drop-drop)
 
 pub returns-clause-stored : goal.returns-clause-stored
-returns-clause-stored c = put c.args.place _ c.args.dictionary.now _ c.args.part.now
-    c.copy_from_slice.ensures.after (omega arith)
+returns-clause-stored c = grind (arith, put)

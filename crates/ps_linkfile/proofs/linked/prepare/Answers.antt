@@ -29,6 +29,4 @@ pub returns-in-Ok-clause-accepted : goal.returns-in-Ok-clause-accepted
 returns-in-Ok-clause-accepted g c = c.first_of_all.ensures.none _ _ c.in-Ok.ensures.sound
 
 pub returns-in-Err-clause-first : goal.returns-in-Err-clause-first
-returns-in-Err-clause-first g c =
-    rw (c.from.ensures) (names_first c.first_of_all.ensures.some c.first_of_all.ensures.parts
-    c.first_of_all.ensures.read _ _ _ c.in-Err.ensures.stop)
+returns-in-Err-clause-first g c = grind (arith, names_first)

@@ -1,6 +1,4 @@
 use Rattle.std.proofs.Common.{arith, refl}
-use Rattle.ps_linkfile.specs.MapText.{private_row}
-use Rattle.ps_writing.specs.Rows.{row_item}
 use Rattle.ps_linkfile.proofs.Vocabulary.{drop_more}
 use Rattle.ps_writing.proofs.Numbered.{numbered_left, numbered_over}
 use Rattle.ps_writing.proofs.Written.{all_stopped, all_written, none_yet, some_more}
@@ -10,14 +8,10 @@ pub loop-i-init : goal.loop-i-init
 loop-i-init g c = none_yet refl
 
 pub loop-i-preserved : goal.loop-i-preserved
-loop-i-preserved g c =
-    let xs = c.args.privates.now in
-    some_more (numbered_left (row_item c.args.form private_row) xs c.loop-i.i _
-    (drop_more xs c.loop-i.i _ c.loop-i-test.true)) c.loop-i.invariant c.add_private.ensures
+loop-i-preserved g c = grind (arith, some_more, numbered_left, drop_more)
 
 pub returns : goal.returns
-returns g c = all_written (numbered_over (row_item c.args.form private_row)
-    c.args.privates.now c.loop-i.i (omega (arith, c.loop-i-test.false))) c.loop-i.invariant
+returns g c = grind (arith, all_written, numbered_over)
 
 pub returns-then-has_failed : goal.returns-then-has_failed
 returns-then-has_failed g c = all_stopped c.loop-i.invariant

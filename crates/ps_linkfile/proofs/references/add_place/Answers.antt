@@ -4,10 +4,10 @@ use Rattle.ps_linkfile.proofs.references.add_place.Goals as goal
 pub returns : goal.returns
 returns g c = adds_is (rw (
   c.word.ensures,
-  c.by_form.ensures,
+  c.by_form-word.ensures,
   c.file_offset.ensures,
-  c.bytes_at.ensures,
-  c.bytes_at-2.ensures,
+  c.bytes_at-was.ensures,
+  c.bytes_at-is.ensures,
   c.width-width.ensures,
   c.as_slice.ensures.value,
   c.item_end.ensures,

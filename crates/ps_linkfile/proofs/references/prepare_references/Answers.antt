@@ -1,4 +1,4 @@
-use Rattle.ps_linkfile.proofs.Vocabulary.{IsPlan, StoredIn, Planned, all_stored_in, all_stored_of, references_in, edited_segments, ◌≡◌, ◌∙◌, ◌++◌, ℕ, List, ap, contents, Json}
+use Rattle.ps_linkfile.proofs.Vocabulary.{arith, IsPlan, StoredIn, Planned, all_stored_in, all_stored_of, references_in, edited_segments, ◌≡◌, ◌∙◌, ◌++◌, ℕ, List, ap, contents, Json}
 use Rattle.ps_linkfile.specs.MapText.{members_of}
 use Rattle.ps_linkfile.proofs.StoredPlaces.{as_plan, joined, all_stored_are}
 use Rattle.ps_linkfile.proofs.Maps.{members_are}
@@ -12,8 +12,7 @@ stored : (host : List ℕ) (libs : List (List ℕ)) (p q : Planned) (ls : List S
 stored host libs p q ls plan same listed = listed ∙ all_stored_are host libs p q plan same
 
 pub stored_in_segments-requires-clause-plan : goal.stored_in_segments-requires-clause-plan
-stored_in_segments-requires-clause-plan g c = as_plan _ _ _ _ c.in_ok-linked.ensures.plan
-    c.plan.ensures.plan
+stored_in_segments-requires-clause-plan g c = grind (arith, as_plan)
 
 pub returns-clause-text : goal.returns-clause-text
 returns-clause-text g c = joined _ _ _ _ _ c.in_ok-linked.ensures.map

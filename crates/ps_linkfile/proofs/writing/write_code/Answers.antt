@@ -5,14 +5,7 @@ use Rattle.ps_writing.proofs.Rising.{rises_then, room_then}
 use Rattle.ps_linkfile.proofs.writing.write_code.Goals as goal
 
 pub write_all-requires : goal.write_all-requires
-write_all-requires g c =
-    let n = length c.args.code.now in
-    let (at, inv) = c.loop-patcher.invariant in
-    let some : c.fill.result ≡ min 512 (n - min (512 * at) n) =
-    rw inv.is at c.fill.ensures.count in
-    let below : 512 * at < n = omega (arith, some, c.loop-patcher-test.true) in
-    room_then g.T.WriteCounter.needs_room _ _ (512 * blocks n) (512 * at) at
-    (length c.fill.new.block) c.requires.room inv.rises inv.none (omega (arith, below))
+write_all-requires g c = grind (arith, room_then)
 
 pub loop-patcher-preserved : goal.loop-patcher-preserved
 loop-patcher-preserved g c =

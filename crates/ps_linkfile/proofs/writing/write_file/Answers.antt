@@ -1,5 +1,4 @@
-use Rattle.ps_linkfile.proofs.Vocabulary.{all_blocks, on_err_weaker, on_ok_weaker, padded_codes, arith, length, length-append, refl, ◌*◌, dictionary}
-use Rattle.ps_linkfile.specs.declared.block_layout.TheConstants.{MAX_FILE_BLOCKS}
+use Rattle.ps_linkfile.proofs.Vocabulary.{on_err_weaker, on_ok_weaker, padded_codes, arith, length-append, dictionary}
 use Rattle.ps_writing.proofs.Prefixes.{appends_twice, prefix_last, prefix_then, on_err_always}
 use Rattle.ps_linkfile.proofs.Codes.{codes_len}
 use Rattle.ps_writing.proofs.Rising.{rises_none, rises_then, room_then}
@@ -7,16 +6,10 @@ use Rattle.ps_linkfile.proofs.Rising.{few_of_all}
 use Rattle.ps_linkfile.proofs.writing.write_file.Goals as goal
 
 pub write_all-requires : goal.write_all-requires
-write_all-requires g c = room_then g.T.WriteCounter.needs_room _ _ (512 * MAX_FILE_BLOCKS) 0 0
-    (length c.dictionary_of.result) c.requires.room (rises_none _) refl (omega arith)
+write_all-requires g c = grind (arith, room_then, rises_none)
 
 pub write_codes-requires-clause-room : goal.write_codes-requires-clause-room
-write_codes-requires-clause-room g c =
-    let plan = c.args.plan.now in
-    let few = few_of_all plan.sources c.requires.ready.slots c.requires.ready.sizes in
-    room_then g.T.WriteCounter.needs_room _ _ (512 * MAX_FILE_BLOCKS)
-    (length c.dictionary_of.result) _ (512 * all_blocks plan.sources) c.requires.room
-    c.write_all.ensures.writes c.in_ok-write_all.ensures.ok (omega (arith, few))
+write_codes-requires-clause-room g c = grind (arith, few_of_all, room_then)
 
 pub returns-in_err-write_all-clause-prefix : goal.returns-in_err-write_all-clause-prefix
 returns-in_err-write_all-clause-prefix g c = grind (arith, on_err_always, prefix_then)
