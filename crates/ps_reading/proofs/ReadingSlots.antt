@@ -141,6 +141,10 @@ module _ (order : Order) (host : List ℕ) (files : List (List ℕ)) (slot : ℕ
   abbrev added : RoundsOutcome
   added = read_rounds order host files
 
+  pub first_by : (fault : Fault) → source_fault order host files slot ≡ Some fault
+      → slot_fault order host files slot ≡ Some fault
+  first_by fault h = grind arith
+
   module _ (fine : source_fault order host files slot ≡ None) where
     pub next_by : (next : ℕ) → slot_after added (empty_slots order host) ≡ Some next
         → next ≡ slot → slot_fault order host files slot ≡ added.fault

@@ -307,7 +307,6 @@ impl<'a> HostReading<'a> {
     }
 
     /// Why a slot has no segment.
-    #[tactic(auto, using(crate::proofs::ReadingSlots::next_by, crate::proofs::ReadingSlots::none_by, crate::proofs::ReadingSlots::other_by))]
     fn fault_in(&self, slot: u8) -> Option<Fault>
         requires { slot < SLOTS }
         ensures { result ≡ slot_fault self.now.order self.now.file

@@ -1,5 +1,7 @@
 -- One record more of the privates.
-use Rattle.ps_resolve.proofs.Vocabulary.{rules, ◌≡◌, ℕ, ◌+◌, ◌<◌, ◌≤◌, ◌++◌, List, [], ◌∷◌, length, length-append, Bool, true, false, is_some, Option, Some, None, refl, sym, ◌∙◌, ap, arith, append_assoc, nat_eq, Decides, bytes_eq, option_eq, list_any, slice_get, nat_tests, is_private_reference, privates_in, Owner, words_in, allotted_privates, private_words, private_fault, all_allotted, first_private_fault, unallotted_fault, IsStop, Record, FindsNamesake, HasEarlierNamesake, Stop, Private, MAX_NEXT_FREE}
+use Rattle.ps_resolve.proofs.Vocabulary.{rules, ◌≡◌, ℕ, ◌+◌, ◌<◌, ◌≤◌, ◌++◌, List, [], ◌∷◌, length, length-append, Bool, true, false, nat_lt, is_some, Option, Some, None, refl, sym, ◌∙◌, ap, arith, append_assoc, nat_eq, Decides, bytes_eq, option_eq, list_any, slice_get, nat_tests, is_private_reference, privates_in, Owner, words_in, allotted_privates, private_words, private_fault, all_allotted, all_words, first_private_fault, unallotted_fault, unfit_fault, IsStop, Fault, Record, FindsNamesake, HasEarlierNamesake, Stop, Private, MAX_NEXT_FREE}
+use Rattle.std.specs.Prelude.{⊤}
+use Rattle.ps_resolve.specs.declared.linkage.Stop.TheVariants.{Memory, Refused}
 use Rattle.ps_words.specs.declared.fault.Reason.TheVariants as reason
 use Rattle.ps_reading.proofs.RecordCounts.{one_private}
 use Rattle.ps_resolve.proofs.LookingBack.{requests_is, names}
@@ -177,6 +179,60 @@ module _ {slot next : ℕ} {duplicate : Option ℕ} {before : List Private} {all
     pub room_fault : (duplicate ≡ Some n → ⊥) → MAX_NEXT_FREE < free + w
         → private_fault 0 next [] all ≡ Some (n, reason.NoRoom)
     room_fault other lt = grind (arith, nat_tests, names, fresh)
+
+-- a stop at the private of a record is one at all
+module _ {slot next : ℕ} {duplicate : Option ℕ} {before : List Private} {all : List Record}
+    {ps : List Private} {free n : ℕ} {r : Record} {rs : List Record} {w : ℕ}
+    (found : FindsNamesake is_private_reference all duplicate)
+    (a : Allots slot next duplicate before all ps free n (r ∷ rs))
+    (some : words_in r.body ≡ Some w) (file : ℕ) where
+  abbrev requested : Private
+  requested = record { slot = slot; rec = n; name = r.name; offset = free; words = w }
+
+  refused_at : (f : Fault) (again : Bool) → option_eq nat_eq duplicate (Some n) ≡ again
+      → (far : Bool) → nat_lt MAX_NEXT_FREE (free + w) ≡ far
+      → unfit_fault file slot duplicate requested ≡ Some f
+      → unallotted_fault file slot next all ≡ Some f
+  refused_at f true is far lt h =
+      let first = duplicate_fault found a some (is_duplicate duplicate n is) in
+      grind arith
+  refused_at f false is true lt h =
+      let far : MAX_NEXT_FREE < free + w = grind (arith, nat_tests) in
+      let first = room_fault found a some (not_duplicate duplicate n is) far in
+      grind arith
+  refused_at f false is false lt h = grind arith
+
+  pub stopped_at : (stop : Stop) → 0 < length (allotted_privates slot 0 next all)
+      → IsStop ⊤ (unfit_fault file slot duplicate requested) stop
+      → IsStop (0 < length (allotted_privates slot 0 next all))
+      (unallotted_fault file slot next all) stop
+  stopped_at Memory wanted h = wanted
+  stopped_at (Refused f) wanted h = refused_at f (option_eq nat_eq duplicate (Some n)) refl
+      (nat_lt MAX_NEXT_FREE (free + w)) refl h
+
+-- With the privates so far, those of the segments that are left are all, and so with words and
+-- faults.
+pub record AllotsAll (next : ℕ) (all : List Owner) (ps : List Private) (free : ℕ)
+    (rest : List Owner) : Type 0 where
+  pub privates : ps ++ all_allotted free rest ≡ all_allotted next all
+  pub words : free + all_words rest ≡ next + all_words all
+  pub first : first_private_fault free rest ≡ first_private_fault next all
+
+module _ {next : ℕ} {all : List Owner} {ps : List Private} {free : ℕ} (s : Owner)
+    {rest : List Owner} (a : AllotsAll next all ps free (s ∷ rest)) where
+  -- a segment more
+  pub segment_on : (now : List Private) (end : ℕ)
+      → now ≡ ps ++ allotted_privates s.0.slot 0 free s.1 → end ≡ free + private_words s.1
+      → private_fault 0 free [] s.1 ≡ None → AllotsAll next all now end rest
+  segment_on now end is words none = record {
+    privates = rw (is, words, append_assoc) a.privates;
+    words = omega (arith, a.words, words);
+    first = grind (arith, a.first);
+  }
+
+  -- a segment without records
+  pub segment_passed : s.1 ≡ [] → AllotsAll next all ps free rest
+  segment_passed none = grind (arith, a)
 
 -- a stop at the first segment that is left is one at all
 module _ (place : SegmentAt) (rs : List Record) (rest all : List Owner) (next free : ℕ) where

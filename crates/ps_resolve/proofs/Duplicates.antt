@@ -1,5 +1,8 @@
 -- One record more of a table of definitions.
-use Rattle.ps_resolve.proofs.Vocabulary.{rules, ◌≡◌, ℕ, ◌+◌, List, [], ◌∷◌, ◌++◌, length, true, false, Option, Some, None, is_some, refl, arith, append_assoc, length-append, ◌<◌, def_in, definitions, definition_of, first_duplicate, first_duplicate_from, is_definition, definitions_in, Record, nil_from_length}
+use Rattle.ps_resolve.proofs.Vocabulary.{rules, ◌≡◌, ℕ, ◌+◌, List, [], ◌∷◌, ◌++◌, length, true, false, Option, Some, None, is_some, refl, arith, append_assoc, length-append, ◌<◌, def_in, definitions, definition_of, first_duplicate, first_duplicate_from, is_definition, definitions_in, Record, nil_from_length, Bool, Fault, Stop, IsStop, doubled_fault, duplicate_fault}
+use Rattle.std.specs.Prelude.{⊤}
+use Rattle.ps_reading.specs.declared.locations.SegmentAt.{SegmentAt}
+use Rattle.ps_resolve.specs.declared.linkage.Stop.TheVariants.{Memory, Refused}
 use Rattle.ps_resolve.specs.declared.definitions.Def.{Def}
 use Rattle.ps_reading.proofs.RecordCounts.{one_more}
 
@@ -63,3 +66,20 @@ pub again_first : (n : ℕ) (ds : List (List ℕ × Def)) (r : Record) (rs : Lis
     → def_in r.body ≡ Some d → is_some (definition_of r.name ds) ≡ true
     → first_duplicate_from n ds (r ∷ rs) ≡ Some n
 again_first n ds r rs d h k = grind arith
+
+-- a stop at the definition of a record is one at all
+module _ (place : SegmentAt) (n : ℕ) (ds : List (List ℕ × Def)) (all : List Record)
+    (r : Record) (rs : List Record) (d : Def) (some : def_in r.body ≡ Some d)
+    (defines : Defines all ds n (r ∷ rs)) where
+  abbrev here : Bool → Option Fault
+  here again = doubled_fault (record { segment = place; rec = n }) again
+
+  refused_at : (f : Fault) (again : Bool) → is_some (definition_of r.name ds) ≡ again
+      → here again ≡ Some f → duplicate_fault place.file place.slot all ≡ Some f
+  refused_at f true is h = grind (arith, again_first)
+  refused_at f false is h = grind arith
+
+  pub stopped_at : (stop : Stop) → IsStop ⊤ (here (is_some (definition_of r.name ds))) stop
+      → IsStop (0 < length (definitions all)) (duplicate_fault place.file place.slot all) stop
+  stopped_at Memory h = grind (arith, some_there)
+  stopped_at (Refused f) h = refused_at f (is_some (definition_of r.name ds)) refl h

@@ -23,10 +23,10 @@ pub use Rattle.ps_resolve.specs.Linking.{data_edits, edited_from, edited_segment
 pub use Rattle.ps_resolve.specs.Offsets.{FollowOn, RiseFrom, is_from, is_of, offset_listed}
 pub use Rattle.ps_resolve.specs.Operands.{edit_of, is_in, operands, reference_reason, refs_fault, value_of, width_of}
 pub use Rattle.ps_resolve.specs.Plans.{AreLinks, AreStopped, IsPlanOf, IsStopped, LinkSegments, LinksSegment}
-pub use Rattle.ps_resolve.specs.Privates.{Allotted, Owner, all_allotted, all_words, allotment_of, allotted_privates, first_private_fault, owner_of, owner_of_linkage, private_fault, private_words, total_words, unallotted_fault, words_in}
-pub use Rattle.ps_resolve.specs.References.{HasTarget, HaveTargets, Known, known_by, record_edits, records_edits, records_fault, target_in, target_of, words_taken, words_taken_by}
+pub use Rattle.ps_resolve.specs.Privates.{Allotted, Owner, all_allotted, all_words, allotment_of, allotted_privates, first_private_fault, owner_of, owner_of_linkage, private_fault, private_words, total_words, unallotted_fault, unfit_fault, words_in}
+pub use Rattle.ps_resolve.specs.References.{HasTarget, HaveTargets, Known, first_record_fault, known_by, record_edits, records_edits, records_fault, target_in, target_of, words_taken, words_taken_by}
 pub use Rattle.ps_resolve.specs.Standing.Definitions.{HasEarlierNamesake}
-pub use Rattle.ps_resolve.specs.Stops.{IsStop, duplicate_fault}
+pub use Rattle.ps_resolve.specs.Stops.{IsStop, doubled_fault, duplicate_fault}
 pub use Rattle.ps_resolve.specs.Symbols.{def_in, definition_in, definition_of, definitions, first_duplicate, first_duplicate_from}
 pub use Rattle.ps_resolve.specs.TakenPlaces.{AreTaken}
 pub use Rattle.ps_resolve.specs.declared.allotment.Private.{Private}

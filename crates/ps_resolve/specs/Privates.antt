@@ -2,10 +2,11 @@
 -- before it, and the first that cannot be.
 -- Source: the end mark's base offset is that of the published II.0 Linker source; the order of
 -- allotment is this project's profile.
-use Rattle.std.specs.Prelude.{map, ℕ, ◌+◌, if◌then◌else◌, List, [], ◌∷◌, ◌++◌, nat_lt, Option, Some, None, bytes_eq}
+use Rattle.std.specs.Prelude.{map, ℕ, ◌+◌, if◌then◌else◌, List, [], ◌∷◌, ◌++◌, nat_eq, nat_lt, Option, Some, None, bytes_eq}
 use Rattle.std.specs.List.{list_any}
-use Rattle.std.specs.Option.{option_map, option_or}
+use Rattle.std.specs.Option.{option_eq, option_map, option_or}
 use Rattle.ps_linkinfo.specs.Records.{reading}
+use Rattle.ps_reading.specs.Searches.{fault_if}
 use Rattle.ps_reading.specs.Sources.{Segment}
 use Rattle.ps_resolve.specs.declared.linkage.Linkage.{Linkage}
 use Rattle.ps_reading.specs.declared.locations.SegmentAt.{SegmentAt}
@@ -63,6 +64,18 @@ private_fault rec next seen (r ∷ rs) =
 abbrev pub unallotted_fault : ℕ → ℕ → ℕ → List Record → Option Fault
 unallotted_fault file slot next rs = option_map (λ f. in_record file slot f.0 f.1)
     (private_fault 0 next [] rs)
+
+-- why a private is not allotted, where `duplicate` is the first record of its segment that has the
+-- name of an earlier one
+abbrev pub unfit_reason : Option ℕ → Private → Option Reason
+unfit_reason duplicate p =
+    option_or (fault_if (option_eq nat_eq duplicate (Some p.rec)) reason.DoubledPrivate)
+    (fault_if (nat_lt MAX_NEXT_FREE (p.offset + p.words)) reason.NoRoom)
+
+-- that fault, in a segment with this file and this slot
+abbrev pub unfit_fault : ℕ → ℕ → Option ℕ → Private → Option Fault
+unfit_fault file slot duplicate p = option_map (λ why. in_record file slot p.rec why)
+    (unfit_reason duplicate p)
 
 -- an owner of privates is the place of a segment, and its records
 abbrev pub Owner : Type 0

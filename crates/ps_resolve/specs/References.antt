@@ -7,6 +7,7 @@ use Rattle.std.specs.Map.{lookup}
 use Rattle.ps_words.specs.declared.edit.Edit.{Edit}
 use Rattle.ps_words.specs.declared.fault.Reason.{Reason}
 use Rattle.ps_words.specs.declared.fault.Reason.TheVariants as reason
+use Rattle.ps_codefile.specs.Procedures.{is_reserved, ProcedureTables}
 use Rattle.ps_linkinfo.specs.Records.{refs_of}
 use Rattle.ps_linkinfo.specs.declared.record.Body.{Body}
 use Rattle.ps_linkinfo.specs.declared.record.Body.TheVariants.{UnitRef, PublRef, PrivRef, PublDef, ConstDef, Eof}
@@ -101,6 +102,13 @@ records_fault known reserved code rec off taken (r ∷ rs) =
           (records_fault known reserved code (rec + 1) (off + words_taken r.body)
           (taken ++ operands t (refs_of r.body)) rs)
     ]
+
+-- the first fault of the records of a segment with these tables, whose privates begin at this
+-- offset
+abbrev pub first_record_fault : Known → ProcedureTables → ℕ → List Record
+    → Option (ℕ × (Option ℕ × Reason))
+first_record_fault known tables free rs =
+    records_fault known (is_reserved tables.order tables.code) tables.code 0 free [] rs
 
 -- the edits of the records' references, in order
 abbrev pub record_edits : Known → List ℕ → ℕ → Record → List Edit

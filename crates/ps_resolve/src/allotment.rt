@@ -1,7 +1,7 @@
-ghost use Rattle.std.specs.Prelude.{◌≡◌, ◌<◌, ◌≤◌, ◌+◌, ◌++◌, [], IfOk, IfErr, None, length, map, unwrap_or};
+ghost use Rattle.std.specs.Prelude.{◌≡◌, ◌<◌, ◌≤◌, ◌+◌, ◌++◌, ◌∷◌, [], IfOk, IfErr, OnOk, Some, None, length, map, unwrap_or, ⊤};
 ghost use Rattle.ps_reading.specs.KnownSegments.{AscendFrom};
 ghost use Rattle.ps_resolve.specs.Offsets.{FollowOn, offset_listed};
-ghost use Rattle.ps_resolve.specs.Privates.{words_in, allotted_privates, private_words, private_fault, all_allotted, all_words, first_private_fault, owner_of, owner_of_linkage, allotment_of, unallotted_fault, Owner};
+ghost use Rattle.ps_resolve.specs.Privates.{words_in, allotted_privates, private_words, private_fault, all_allotted, all_words, first_private_fault, owner_of, owner_of_linkage, allotment_of, unallotted_fault, unfit_fault, Owner};
 ghost use Rattle.ps_resolve.specs.Stops.{IsStop};
 ghost use Rattle.ps_resolve.specs.Builders.{HaveDistinctPrivates, HaveRoom, StopsPrivates, requested_of, all_requested, AreByRecord, words_of_all};
 
@@ -46,6 +46,32 @@ pub(crate) fn words_of_private(body: &Body) -> Option<u16>
     }
 }
 
+/// Appends a private of the segment that is there, and returns the next free offset. Refuses that of
+/// the record `duplicate`, and one that ends past `MAX_NEXT_FREE`.
+fn append<A: Allocator + Copy>(
+    place: SegmentAt,
+    duplicate: Option<usize>,
+    private: Private,
+    privates: &mut Vec<Private, A>,
+) -> Result<u16, Stop>
+    ensures privates { OnOk result (privates.new.items ≡ privates.old.items ++ private ∷ []) }
+    ensures end { IfOk result (λ end. end ≡ private.offset + private.words) }
+    ensures other { OnOk result (duplicate ≡ Some private.rec → ⊥) }
+    ensures fits { OnOk result (private.offset + private.words ≤ MAX_NEXT_FREE) }
+    ensures stop { IfErr result (IsStop ⊤
+        (unfit_fault place.file place.slot duplicate private)) }
+{
+    let at = place.record(private.rec);
+    if duplicate == Some(private.rec) {
+        return Err(Stop::in_record(at, Reason::DoubledPrivate));
+    }
+    if private.offset as usize + private.words as usize > MAX_NEXT_FREE {
+        return Err(Stop::in_record(at, Reason::NoRoom));
+    }
+    privates.push(private)?;
+    Ok(private.offset + private.words)
+}
+
 /// Allots the privates of a segment from `next` on, and returns the next free offset.
 #[tactic(auto, using(crate::proofs::Duplicates::positive, crate::proofs::AllottedPrivates::privates_counted))]
 pub(crate) fn allot<A: Allocator + Copy>(
@@ -71,20 +97,14 @@ pub(crate) fn allot<A: Allocator + Copy>(
     let mut free = next;
     for (rec, record) in records.records() {
         if let Some(words) = words_of_private(&record.body) {
-            if duplicate == Some(rec) {
-                return Err(Stop::in_record(place.record(rec), Reason::DoubledPrivate));
-            }
-            if free as usize + words as usize > MAX_NEXT_FREE {
-                return Err(Stop::in_record(place.record(rec), Reason::NoRoom));
-            }
-            privates.push(Private {
+            let private = Private {
                 rec,
                 offset: free,
                 words,
                 name: record.name,
                 slot: place.slot,
-            })?;
-            free += words;
+            };
+            free = append(place, duplicate, private, privates)?;
         }
     }
     Ok(free)

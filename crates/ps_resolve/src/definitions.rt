@@ -1,16 +1,17 @@
-ghost use Rattle.std.specs.Prelude.{◌≡◌, ◌<◌, ◌==◌, length, slice_get, Some, None, IfOk, IfErr};
+ghost use Rattle.std.specs.Prelude.{◌≡◌, ◌<◌, ◌==◌, ◌++◌, ◌∷◌, [], length, slice_get, Some, None, is_some, false, IfOk, IfErr, OnOk, ⊤};
 ghost use Rattle.indexmap.specs.IndexMap.{hasher_of};
-ghost use Rattle.ps_linkinfo.specs.RecordCounts.{digest_of, is_definition};
+ghost use Rattle.ps_linkinfo.specs.RecordCounts.{definitions_in, digest_of, is_definition};
 ghost use Rattle.ps_linkinfo.specs.Records.{reading};
 ghost use Rattle.ps_resolve.specs.Symbols.{definitions, definition_of, def_in, first_duplicate};
-ghost use Rattle.ps_resolve.specs.Stops.{IsStop, duplicate_fault};
+ghost use Rattle.ps_resolve.specs.Stops.{IsStop, doubled_fault, duplicate_fault};
 ghost use Rattle.ps_resolve.specs.Builders.{HaveNoNamesakes, StopsDefinitions};
+ghost use Rattle.ps_resolve.specs.declared.linkage.Stop.TheVariants.{Memory};
 
 use crate::linkage::{Linkage, Stop};
 use crate::name_hasher::{NameHasher, NameKey};
 use indexmap::IndexMap;
 use ps_linkinfo::{Body, LinkInformation, LinkRecord};
-use ps_reading::SegmentAt;
+use ps_reading::{RecordAt, SegmentAt};
 use ps_words::{Name, Reason};
 use std::alloc::{Allocator, Global};
 use std::marker::Model;
@@ -72,9 +73,68 @@ fn def_of(entry: &LinkRecord) -> Option<Def>
     }
 }
 
-/// The definitions of a segment's records by hashes that are keyed by these records. It is made at
-/// its exact size.
-#[tactic(auto, using(crate::proofs::Duplicates::definitions_counted, crate::proofs::Duplicates::positive, crate::proofs::Duplicates::no_definitions))]
+/// An empty table for the definitions of a segment's records, by hashes that are keyed by these
+/// records. It is made at its exact size.
+fn empty_table<A: Allocator + Copy>(
+    alloc: A,
+    records: &LinkInformation,
+) -> Result<IndexMap<NameKey, Def, NameHasher, A>, Stop>
+    ensures empty { IfOk result (λ m. m.entries ≡ []) }
+    ensures keyed { IfOk result (λ m. hasher_of m ≡ digest_of records.now) }
+    ensures stop { IfErr result (λ stop. (stop ≡ Memory) × (0 < definitions_in records.now)) }
+{
+    let hasher = NameHasher::of(records);
+    let table = IndexMap::with_capacity_and_hasher(alloc, records.definitions(), hasher)?;
+    Ok(table)
+}
+
+/// Puts a definition into the table, or refuses the record that is there, as the table has its
+/// name.
+fn define<A: Allocator + Copy>(
+    by_name: &mut IndexMap<NameKey, Def, NameHasher, A>,
+    place: RecordAt,
+    name: Name,
+    def: Def,
+) -> Result<(), Stop>
+    ensures keyed { hasher_of by_name.new ≡ hasher_of by_name.old }
+    ensures entries { OnOk result (by_name.new.entries
+        ≡ by_name.old.entries ++ (name, def) ∷ []) }
+    ensures once { OnOk result (is_some (definition_of name by_name.old.entries) ≡ false) }
+    ensures stop { IfErr result (IsStop ⊤ (doubled_fault place
+        (is_some (definition_of name by_name.old.entries)))) }
+{
+    if by_name.insert(NameKey(name), def)?.is_some() {
+        return Err(Stop::in_record(place, Reason::DoubledDefinition));
+    }
+    Ok(())
+}
+
+/// Puts the definitions of a segment's records into an empty table.
+fn define_all<A: Allocator + Copy>(
+    by_name: &mut IndexMap<NameKey, Def, NameHasher, A>,
+    place: SegmentAt,
+    records: &LinkInformation,
+) -> Result<(), Stop>
+    requires { by_name.old.entries ≡ [] }
+    ensures keyed { hasher_of by_name.new ≡ hasher_of by_name.old }
+    ensures entries { OnOk result (by_name.new.entries ≡ definitions records.now) }
+    ensures once { OnOk result (first_duplicate records.now ≡ None) }
+    ensures stop { IfErr result (IsStop (0 < length (definitions records.now))
+        (duplicate_fault place.file place.slot records.now)) }
+{
+    if records.definitions() == 0 {
+        return Ok(());
+    }
+    for (rec, record) in records.records() {
+        if let Some(def) = def_of(&record) {
+            define(by_name, place.record(rec), record.name, def)?;
+        }
+    }
+    Ok(())
+}
+
+/// The definitions of a segment's records by hashes that are keyed by these records.
+#[tactic(auto, using(crate::proofs::Duplicates::definitions_counted))]
 fn table_of<A: Allocator + Copy>(
     alloc: A,
     place: SegmentAt,
@@ -86,18 +146,8 @@ fn table_of<A: Allocator + Copy>(
     ensures stop { IfErr result (IsStop (0 < length (definitions records.now))
         (duplicate_fault place.file place.slot records.now)) }
 {
-    let count = records.definitions();
-    let mut by_name = IndexMap::with_capacity_and_hasher(alloc, count, NameHasher::of(records))?;
-    if count == 0 {
-        return Ok(by_name);
-    }
-    for (rec, record) in records.records() {
-        if let Some(def) = def_of(&record) {
-            if by_name.insert(NameKey(record.name), def)?.is_some() {
-                return Err(Stop::in_record(place.record(rec), Reason::DoubledDefinition));
-            }
-        }
-    }
+    let mut by_name = empty_table(alloc, records)?;
+    define_all(&mut by_name, place, records)?;
     Ok(by_name)
 }
 

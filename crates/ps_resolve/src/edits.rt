@@ -30,7 +30,6 @@ const MOST_EDITS_BESIDE_REFERENCES: usize = 2;
 
 /// A table of the places of a linked segment's code, with the edits that are no reference's: its
 /// number, and in the host's segment `size`.
-#[tactic(auto, using(crate::proofs::ReservedEdits::number_table, crate::proofs::ReservedEdits::size_table))]
 fn own_edits<A: Allocator + Copy>(
     alloc: A,
     procedures: &Procs,

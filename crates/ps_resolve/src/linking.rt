@@ -1,10 +1,12 @@
-ghost use Rattle.std.specs.Prelude.{◌≡◌, ℕ, ◌∷◌, [], map, All, true, None, IfOk, IfErr};
+ghost use Rattle.std.specs.Prelude.{◌≡◌, ℕ, ◌≤◌, ◌∷◌, [], length, map, All, true, None, IfOk, IfErr};
 ghost use Rattle.ps_resolve.specs.Edits.{AreOfReferences};
 ghost use Rattle.ps_resolve.specs.Faults.{references_fault_from, linking_fault};
 ghost use Rattle.ps_resolve.specs.Linkable.{AreLinkable};
 ghost use Rattle.ps_resolve.specs.Linking.{data_edits, edited_from};
 ghost use Rattle.ps_resolve.specs.Plans.{AreLinks, AreStopped, LinkSegments};
 ghost use Rattle.ps_codefile.specs.Roles.{is_host as is_host_spec};
+ghost use Rattle.ps_reading.specs.Sources.{units_of};
+ghost use Rattle.ps_resolve.specs.References.{known_by};
 
 use crate::allotment::Allotment;
 use crate::definitions::Definitions;
@@ -14,8 +16,9 @@ use crate::linkage::Stop;
 use crate::links::Links;
 use crate::references::names::{LinkNames, Linking, Names};
 use crate::segments::Segments;
+use ps_codefile::dictionary_layout::SLOT_COUNT;
 use ps_reading::{HOST_FILE, Segment, SegmentAt, UnitSlots};
-use ps_words::Edit;
+use ps_words::{Edit, Order};
 use std::alloc::Allocator;
 
 /// The edits of each segment, where the first private has the offset `base`.
@@ -48,6 +51,44 @@ fn all_edits<A: Allocator + Copy>(
     Ok(edits)
 }
 
+/// The edits of each segment of a link with these definitions, where the first private has the offset
+/// `base`, and `size` stores the host's data size.
+fn edits_by<A: Allocator + Copy>(
+    alloc: A,
+    order: Order,
+    definitions: &Definitions<A>,
+    size: Edit,
+    segments: &[Segment],
+    base: u16,
+) -> Result<Vec<Vec<Edit, A>, A>, Stop>
+    requires linkable { AreLinkable order size base segments.now }
+    requires most { length segments.now ≤ SLOT_COUNT }
+    ensures links { (words : ℕ)
+        → All (λ s. is_host_spec s.role ≡ true
+        → data_edits order words s.code ≡ size ∷ []) segments.now
+        → IfOk result (λ edits. LinkSegments order
+        (edited_from order (known_by definitions.now (units_of segments.now)) words base
+        segments.now) (map (λ e. e.items) edits.items)) }
+    ensures sound { IfOk result (λ _. references_fault_from order
+        (known_by definitions.now (units_of segments.now)) base segments.now ≡ None) }
+    ensures stop { IfErr result (AreOfReferences order
+        (known_by definitions.now (units_of segments.now)) base segments.now) }
+{
+    let units = UnitSlots::of(segments);
+    let known = Names {
+        link: Some(LinkNames {
+            definitions,
+            units: &units,
+        }),
+    };
+    let link = Linking {
+        order,
+        names: &known,
+        size,
+    };
+    all_edits(alloc, &link, segments, base)
+}
+
 /// What links segments that were read without a fault, or the first fault of their definitions,
 /// their privates, the host's data size and their references. A function by itself, so that its
 /// tables take room of the stack only once the files are read.
@@ -71,19 +112,7 @@ pub(crate) fn link_segments<A: Allocator + Copy>(
     let base = own.records.next();
     let allotment = Allotment::of_segments(alloc, base, all)?;
     let size = grown_data_size(order, own, allotment.words())?;
-    let units = UnitSlots::of(all);
-    let known = Names {
-        link: Some(LinkNames {
-            definitions: &definitions,
-            units: &units,
-        }),
-    };
-    let link = Linking {
-        order,
-        names: &known,
-        size: size.edit(),
-    };
-    let edits = all_edits(alloc, &link, all, base)?;
+    let edits = edits_by(alloc, order, &definitions, size.edit(), all, base)?;
     Ok(Links {
         order,
         data_size: size.size,

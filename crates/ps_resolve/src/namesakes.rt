@@ -73,7 +73,25 @@ fn empty_names<A: Allocator + Copy>(
 }
 
 /// The index, from 0, of the first private's record that has the name of an earlier one, in a walk
-/// over all. It takes a table by hashes, which records without such a one do not need.
+/// over all, whose names are put into the set. It is empty.
+fn first_again<A: Allocator + Copy>(
+    names: &mut IndexSet<NameKey, NameHasher, A>,
+    records: &LinkInformation,
+) -> Result<Option<usize>, Stop>
+    requires { names.old.keys ≡ [] }
+    ensures found { IfOk result (FindsNamesake is_private_reference records.now) }
+    ensures stop { IfErr result (λ stop. stop ≡ Memory) }
+{
+    for (rec, record) in records.records() {
+        if is_private(&record.body) && !names.insert(NameKey(record.name))? {
+            return Ok(Some(rec));
+        }
+    }
+    Ok(None)
+}
+
+/// The index, from 0, of the first private's record that has the name of an earlier one. It takes a
+/// table by hashes, which records without such a one do not need.
 fn first_namesake<A: Allocator + Copy>(
     alloc: A,
     records: &LinkInformation,
@@ -82,12 +100,7 @@ fn first_namesake<A: Allocator + Copy>(
     ensures stop { IfErr result (λ stop. stop ≡ Memory) }
 {
     let mut names = empty_names(alloc, records)?;
-    for (rec, record) in records.records() {
-        if is_private(&record.body) && !names.insert(NameKey(record.name))? {
-            return Ok(Some(rec));
-        }
-    }
-    Ok(None)
+    first_again(&mut names, records)
 }
 
 /// The index, from 0, of the first PRIVREF record that has the name of an earlier one.

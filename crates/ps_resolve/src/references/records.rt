@@ -1,9 +1,9 @@
-ghost use Rattle.std.specs.Prelude.{◌≡◌, ◌+◌, ◌++◌, OnOk, IfOk, IfErr, IsPermutation, [], Some, None, true};
+ghost use Rattle.std.specs.Prelude.{◌≡◌, ◌≤◌, ◌+◌, ◌++◌, OnOk, IfOk, IfErr, IsPermutation, [], Some, None, true, option_map};
 ghost use Rattle.ps_codefile.specs.Roles.{needs_linking};
 ghost use Rattle.ps_resolve.specs.EditTables.{IsTableOf, edits_of};
 ghost use Rattle.ps_resolve.specs.Linkable.{IsNext};
-ghost use Rattle.ps_resolve.specs.References.{target_of as target_of_spec, words_taken as words_taken_spec, records_edits};
-ghost use Rattle.ps_resolve.specs.Faults.{segment_fault};
+ghost use Rattle.ps_resolve.specs.References.{target_of as target_of_spec, words_taken as words_taken_spec, records_edits, first_record_fault};
+ghost use Rattle.ps_resolve.specs.Faults.{in_segment, segment_fault};
 ghost use Rattle.ps_resolve.specs.Privates.{private_words};
 ghost use Rattle.ps_resolve.specs.Stops.{IsStop};
 ghost use Rattle.ps_resolve.specs.TakenPlaces.{AreTaken};
@@ -16,8 +16,8 @@ use crate::references::names::{Linking, Names};
 use crate::references::{ReferenceEdits, Target};
 use ps_codefile::Procs;
 use ps_linkinfo::{Body, LinkInformation, LinkRecord};
-use ps_reading::Segment;
-use ps_words::Reason;
+use ps_reading::{Segment, SegmentAt};
+use ps_words::{MAX_WORD, Reason};
 use std::alloc::Allocator;
 
 /// What the operands of the record's references become.
@@ -50,6 +50,44 @@ pub(crate) fn words_taken(body: &Body) -> u16
     ensures { result ≡ words_taken_spec body.now }
 {
     words_of_private(body).unwrap_or(0)
+}
+
+/// Adds the edits of these records of a linked segment to those found, where the first of their
+/// privates has the offset `free`, or finds their first fault. Returns the offset after the last
+/// private.
+fn add_each<A: Allocator + Copy>(
+    names: &Names<A>,
+    place: SegmentAt,
+    records: &LinkInformation,
+    free: u16,
+    found: &mut ReferenceEdits<'_, A>,
+) -> Result<u16, Stop>
+    requires room { free + private_words records.now ≤ MAX_WORD }
+    requires table { IsTableOf found.old.procedures.code found.old.edits.states.items }
+    requires taken { AreTaken found.old.procedures found.old.edits.states.items [] }
+    ensures edits { OnOk result (IsPermutation (edits_of found.old.edits.states.items
+        ++ records_edits names.now found.old.procedures.code free records.now)
+        (edits_of found.new.edits.states.items)) }
+    ensures table { OnOk result (IsTableOf found.old.procedures.code
+        found.new.edits.states.items) }
+    ensures end { IfOk result (λ end. end ≡ free + private_words records.now) }
+    ensures sound { OnOk result (first_record_fault names.now found.old.procedures free records.now
+        ≡ None) }
+    ensures stop { IfErr result (IsStop ⊥ (option_map (in_segment place.file place.slot)
+        (first_record_fault names.now found.old.procedures free records.now))) }
+{
+    let mut next = free;
+    for (rec, record) in records.records() {
+        let at = place.record(rec);
+        match target_of(names, next, &record) {
+            Err(reason) => return Err(Stop::in_record(at, reason)),
+            Ok(target) => {
+                found.add_record(at, target, &record.body)?;
+                next += words_taken(&record.body);
+            }
+        }
+    }
+    Ok(next)
 }
 
 /// Adds the edits of all records of a linked segment to `edits`, where the first of its privates
@@ -89,16 +127,6 @@ pub(crate) fn add_records<'a, A: Allocator + Copy>(
         return Ok((edits, free));
     }
     let mut found = ReferenceEdits { procedures, edits };
-    let mut next = free;
-    for (rec, record) in records.records() {
-        let place = segment.place().record(rec);
-        match target_of(link.names, next, &record) {
-            Err(reason) => return Err(Stop::in_record(place, reason)),
-            Ok(target) => {
-                found.add_record(place, target, &record.body)?;
-                next += words_taken(&record.body);
-            }
-        }
-    }
+    let next = add_each(link.names, segment.place(), records, free, &mut found)?;
     Ok((found.edits, next))
 }

@@ -1,5 +1,6 @@
-use Rattle.ps_resolve.proofs.Vocabulary.{◌∙◌, sym, arith, append-nil}
-use Rattle.ps_resolve.proofs.AllottedPrivates.{Allots, allot_more, allot_on, allots, duplicate_fault, is_duplicate, no_privates, not_duplicate, room_fault}
+use Rattle.ps_resolve.proofs.Vocabulary.{◌∙◌, sym, arith, append-nil, err_from_is_err_and}
+use Rattle.ps_resolve.proofs.AllottedPrivates.{Allots, allot_more, allot_on, allots, no_privates, privates_counted, stopped_at}
+use Rattle.ps_resolve.proofs.Duplicates.{positive}
 use Rattle.ps_reading.proofs.NumberedRecords.{one, none}
 use Rattle.ps_resolve.proofs.allotment.allot.Goals as goal
 
@@ -16,32 +17,24 @@ loop-rec-init g c =
     let before = c.args.privates.now.items in
     grind (arith, allots c.args.place.slot c.args.next d before rs)
 
-pub returns-then-eq-clause-stop : goal.returns-then-eq-clause-stop
-returns-then-eq-clause-stop g c =
+pub returns-in_err-free-clause-stop : goal.returns-in_err-free-clause-stop
+returns-in_err-free-clause-stop g c =
     let step = one c.loop-rec.invariant c.in-Some.ensures.steps in
     let some = sym c.words_of_private.ensures ∙ c.in-Some-words_of_private.is in
-    let again = is_duplicate _ _ (sym c.eq.ensures ∙ c.if-eq.true) in
-    grind (arith, duplicate_fault c.in_ok-duplicate.ensures.found step.2 some again)
-
-pub returns-then-free-words-gt-MAX_NEXT_FREE-clause-stop :
-    goal.returns-then-free-words-gt-MAX_NEXT_FREE-clause-stop
-returns-then-free-words-gt-MAX_NEXT_FREE-clause-stop g c =
-    let step = one c.loop-rec.invariant c.in-Some.ensures.steps in
-    let some = sym c.words_of_private.ensures ∙ c.in-Some-words_of_private.is in
-    let other = not_duplicate _ _ (sym c.eq.ensures ∙ c.if-eq.false) in
     grind (
       arith,
-      room_fault c.in_ok-duplicate.ensures.found step.2 some other
-          (omega (arith, c.if-free-words-gt-MAX_NEXT_FREE.true)),
+      err_from_is_err_and,
+      stopped_at c.in_ok-duplicate.ensures.found step.2 some c.args.place.file,
+      positive,
+      privates_counted,
     )
 
 pub loop-rec-preserved-in-Some-words_of_private : goal.loop-rec-preserved-in-Some-words_of_private
 loop-rec-preserved-in-Some-words_of_private g c =
     let step = one c.loop-rec.invariant c.in-Some.ensures.steps in
     let some = sym c.words_of_private.ensures ∙ c.in-Some-words_of_private.is in
-    let other = not_duplicate _ _ (sym c.eq.ensures ∙ c.if-eq.false) in
-    let more = allot_more c.in_ok-duplicate.ensures.found step.2 some other
-    (omega (arith, c.if-free-words-gt-MAX_NEXT_FREE.false)) in
+    let more = allot_more c.in_ok-duplicate.ensures.found step.2 some c.in_ok-free.ensures.other
+    c.in_ok-free.ensures.fits in
     grind (arith, Allots)
 
 pub loop-rec-preserved : goal.loop-rec-preserved

@@ -1,4 +1,4 @@
-use Rattle.ps_resolve.proofs.Vocabulary.{◌≡◌, ℕ, ◌+◌, [], ◌∷◌, List, map, Some, refl, sym, ◌∙◌, ap, arith, err_from_is_err_and, Edit, Order, Segment, host_of, definitions, Allotted, owner_of, all_words, AreSegments}
+use Rattle.ps_resolve.proofs.Vocabulary.{◌≡◌, ◌+◌, [], ◌∷◌, List, map, Some, refl, sym, ◌∙◌, ap, arith, err_from_is_err_and, Edit, Order, Segment, host_of, definitions, Allotted, owner_of, all_words, AreSegments}
 use Rattle.ps_resolve.specs.declared.host_segment.HostSegment.{HostSegment}
 use Rattle.ps_resolve.proofs.HostSegments.{of_hosts}
 use Rattle.ps_resolve.proofs.AllSegments.{slots_are}
@@ -49,8 +49,8 @@ returns-in_err-size-clause-stop g c =
           c.in_err-size.ensures.stop,
     )
 
-pub all_edits-requires : goal.all_edits-requires
-all_edits-requires g c =
+pub edits_by-requires : goal.edits_by-requires
+edits_by-requires g c =
     let known = c.segments.invariant in
     let is = found_own known in
     let ss : List Segment = c.segments.inside.items.now in
@@ -58,10 +58,13 @@ all_edits-requires g c =
     ≡ c.next-base.result + all_words (map owner_of ss) = grind arith in
     let free = ap (λ (a : Allotted). a.next_free) c.allotment.view_is in
     record {
-      sound = known.sound;
-      room = omega (arith, end, free, c.allotment.ranges.1.0.1);
-      table = grind (arith, of_hosts);
-      alike = known.alike;
+      linkable = record {
+        sound = known.sound;
+        room = omega (arith, end, free, c.allotment.ranges.1.0.1);
+        table = grind (arith, of_hosts);
+        alike = known.alike;
+      };
+      most = known.most;
     }
 
 pub returns-in_err-edits-clause-stop : goal.returns-in_err-edits-clause-stop
@@ -74,7 +77,7 @@ returns-in_err-edits-clause-stop g c =
     rw (p.1, p.2, ← c.segments.view_is)
     (references_stop c.segments.inside.order c.segments.inside.items.now is ds.found ds.once
     c.next-base.ensures a.found a.once c.words.ensures c.in_ok-size.ensures.fits
-    c.of-units.ensures c.in_err-edits.field-0.0 c.in_err-edits.ensures.stop)
+    refl c.in_err-edits.field-0.0 c.in_err-edits.ensures.stop)
 
 pub returns-clause-links : goal.returns-clause-links
 returns-clause-links g c =
@@ -92,7 +95,7 @@ returns-clause-links g c =
     rw (← c.segments.view_is) (record {
       order = refl;
       edits = all_linked order ss is ds.found ds.once c.next-base.ensures a.found a.once
-          c.words.ensures size.fits c.of-units.ensures known.one_host
+          c.words.ensures size.fits refl known.one_host
           (size.edit ∙ ap (λ (e : Edit). e ∷ []) (sym c.edit.ensures))
           (map (λ e. e.items) c.in_ok-edits.edits.items) c.in_ok-edits.ensures.links;
       definitions = ds.found ∙ ap definitions (sym (records_are order ss is));
@@ -110,4 +113,4 @@ returns-clause-sound g c =
     rw (← c.segments.view_is)
     (none_stands c.segments.inside.order c.segments.inside.items.now is ds.found ds.once
     c.next-base.ensures a.found a.once c.words.ensures c.in_ok-size.ensures.fits
-    c.of-units.ensures c.in_ok-edits.ensures.sound)
+    refl c.in_ok-edits.ensures.sound)

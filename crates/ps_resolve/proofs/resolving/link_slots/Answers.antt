@@ -1,4 +1,4 @@
-use Rattle.ps_resolve.proofs.Vocabulary.{◌≡◌, ℕ, List, Ok, Some, refl, sym, ◌∙◌, ap, OpenedFile, opened_alone, contents, HostFiles, opened_host, own_reading_fault}
+use Rattle.ps_resolve.proofs.Vocabulary.{◌≡◌, ℕ, List, Ok, Some, refl, sym, ◌∙◌, OpenedFile, opened_alone, contents, HostFiles, opened_host, own_reading_fault}
 use Rattle.ps_resolve.proofs.FirstFaults.{first_read}
 use Rattle.ps_reading.proofs.ReadingSlots.{fault_of_host, first_own}
 use Rattle.ps_resolve.proofs.resolving.link_slots.Goals as goal

@@ -1,4 +1,4 @@
-use Rattle.ps_resolve.proofs.Vocabulary.{◌≡◌, ℕ, List, length, map, Bool, true, false, Option, None, Ok, is_some, refl, sym, ◌∙◌, ap, subst, All, IfOk, IfErr-weaker, IfOk-weaker, Fault, Order, OpenedFile, opened_alone, Segment, contents, host_of, opened_files, order_of, segments, linking_fault, AscendFrom, HasOneHost, first_fault, reading_fault, AreOfLink, AreStopped, AreLinks, IsStopped, all_read, host_reading_fault, own_reading_fault, read_rounds}
+use Rattle.ps_resolve.proofs.Vocabulary.{◌≡◌, ℕ, List, map, true, false, Option, None, Ok, is_some, sym, ◌∙◌, ap, subst, All, IfOk, IfErr-weaker, IfOk-weaker, Fault, Order, OpenedFile, opened_alone, Segment, contents, host_of, opened_files, order_of, segments, linking_fault, AscendFrom, HasOneHost, first_fault, reading_fault, AreOfLink, AreStopped, AreLinks, IsStopped, all_read, host_reading_fault, own_reading_fault, read_rounds}
 use Rattle.ps_resolve.proofs.FirstFaults.{first_read, first_linked, stopped}
 use Rattle.ps_reading.proofs.OfLink.{has_host, of_link, slots_fine}
 use Rattle.ps_reading.proofs.ReadingHosts.{host_is, host_read}

@@ -1,7 +1,7 @@
 use Rattle.ps_linkinfo.specs.RecordCounts.{is_private_reference}
 use Rattle.ps_resolve.proofs.EarlierNames.{Scans}
 use Rattle.ps_reading.proofs.NumberedRecords.{IsLeft}
-use Rattle.ps_resolve.proofs.namesakes.first_namesake.Given as goal
+use Rattle.ps_resolve.proofs.namesakes.first_again.Given as goal
 
 -- the set has the names of the records of this kind so far, none of which an earlier one has
 abbrev pub invariant-loop-rec : goal.invariant-loop-rec

@@ -1,8 +1,8 @@
 use Rattle.ps_resolve.proofs.Vocabulary.{arith, ◌≡◌, ◌+◌, ◌++◌, ◌∙◌, [], ◌∷◌, List, ℕ, ap, sym, subst, bytes_eq, not-false, not-true, list_any, is_private_reference}
 use Rattle.ps_resolve.proofs.EarlierNames.{Scans, scan_end, scan_found, scan_more, scan_on, scans}
 use Rattle.ps_reading.proofs.NumberedRecords.{one, none}
-use Rattle.ps_resolve.proofs.namesakes.first_namesake.Goals as goal
-use Rattle.ps_resolve.proofs.namesakes.first_namesake.Goals.{else-is_private-via-then-is_private+in_ok-insert+else-not-branch, else-is_private-via-else-is_private}
+use Rattle.ps_resolve.proofs.namesakes.first_again.Goals as goal
+use Rattle.ps_resolve.proofs.namesakes.first_again.Goals.{else-is_private-via-then-is_private+in_ok-insert+else-not-branch, else-is_private-via-else-is_private}
 
 pub loop-rec-init : goal.loop-rec-init
 loop-rec-init g c =

@@ -1,0 +1,5 @@
+use Rattle.std.proofs.Common.{rules}
+use Rattle.ps_resolve.proofs.allotment.append.Goals as goal
+
+pub returns-clause-privates : goal.returns-clause-privates
+returns-clause-privates g c = search rules
