@@ -1,4 +1,4 @@
-use Rattle.ps_resolve.proofs.Vocabulary.{◌≡◌, ℕ, ◌+◌, ◌-◌, ◌&&◌, true, arith, nat_le, nat_lt, or_right, nat_tests, covers, Order, procedures, table_of, is_reserved, IsOfTable, IsHost}
+use Rattle.ps_resolve.proofs.Vocabulary.{◌≡◌, ℕ, ◌+◌, ◌-◌, ◌&&◌, true, rules, arith, nat_le, nat_lt, or_right, nat_tests, covers, Order, procedures, table_of, is_reserved, IsOfTable, IsHost}
 use Rattle.ps_words.specs.declared.edit.Edit.TheVariants.{Word}
 use Rattle.ps_resolve.specs.declared.host_segment.HostSegment.{HostSegment}
 use Rattle.ps_resolve.proofs.HostSegments.{some_table}
@@ -28,3 +28,12 @@ stored order h v is = record {
 
 pub returns-clause-table : goal.returns-clause-table
 returns-clause-table c = stored c.args.order c.args.host.now _ c.requires
+
+pub returns-clause-edit : goal.returns-clause-edit
+returns-clause-edit c = search rules
+
+pub returns-clause-size : goal.returns-clause-size
+returns-clause-size c = search rules
+
+pub returns-clause-fits : goal.returns-clause-fits
+returns-clause-fits c = search rules
