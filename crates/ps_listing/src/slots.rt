@@ -37,7 +37,6 @@ pub(crate) fn kind_of(dict: &Dict, slot: u8) -> u16
 }
 
 /// Adds what the line of a slot begins with.
-#[tactic(auto, using(ps_writing::proofs::Written::adds_is), unfolding(crate::specs::ListText::slot_head))]
 fn add_head<S: TextWriter>(text: &mut S, path: &str, dict: &Dict, slot: u8)
     requires { slot < SLOTS }
     ensures { Adds S.added text.old (slot_head path.now dict.now.order dict.now.file slot)
@@ -177,7 +176,6 @@ fn is_refused_slot(dict: &Dict, slot: u8) -> bool
 }
 
 /// Some slot is refused.
-#[tactic(auto, unfolding(crate::specs::ListText::has_refused))]
 pub(crate) fn has_refused(dict: &Dict) -> bool
     ensures { result ≡ has_refused_spec dict.now.order dict.now.file }
 {
