@@ -153,7 +153,6 @@ fn add_segments<S: TextWriter>(text: &mut S, phrase: &str, dict: &Dict)
 }
 
 /// Adds the item of a file of so many bytes that was opened, or was not.
-#[tactic(auto, using(ps_writing::proofs::Written::adds_is))]
 fn add_item<S: TextWriter>(
     text: &mut S,
     path: &str,

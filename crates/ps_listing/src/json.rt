@@ -22,7 +22,6 @@ fn add_text_byte<S: TextWriter>(text: &mut S, byte: u8)
 }
 
 /// Adds a text inside a string.
-#[tactic(auto, using(std::proofs::lemmas::List::drop_more, ps_writing::proofs::Written::all_written, ps_writing::proofs::Written::items_left, ps_writing::proofs::Written::items_over, ps_writing::proofs::Written::none_yet, ps_writing::proofs::Written::some_more))]
 pub(crate) fn add_text<S: TextWriter>(text: &mut S, bytes: &[u8])
     ensures { Adds S.added text.old (flat_map text_byte bytes.now) text.new }
 {

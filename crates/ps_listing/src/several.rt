@@ -1,6 +1,5 @@
 //! Several files, each by itself: whether one has a host program, and their lists one after another.
 ghost use Rattle.std.specs.Prelude.{◌≡◌, ◌∷◌, ◌++◌, ℕ, List, IfOk, OnOk, map};
-ghost use Rattle.std.specs.List.{list_any};
 ghost use Rattle.ps_resolve.specs.Sources.{contents};
 ghost use Rattle.ps_listing.specs.FileLists.{AreLists, has_host as has_host_spec, has_host_among as has_host_among_spec, has_host_as as has_host_as_spec, is_for_host as is_for_host_spec};
 ghost use Rattle.ps_listing.specs.ListText.{list_of};
@@ -37,20 +36,18 @@ fn has_host(file: &[u8]) -> bool
     has_host_as(open(file))
 }
 
-/// Some of these files has a host program.
-fn any_has_host(libs: &[&[u8]]) -> bool
-    ensures { result ≡ list_any (λ lib. has_host_spec lib.now) libs.now }
-{
-    libs.iter().any(|lib| has_host(lib))
-}
-
 /// Some of these files has a host program: its list says that it is a host. A file that cannot be
 /// opened has none.
 /// Source: this project's profile.
 pub fn has_host_among(libs: &[&[u8]]) -> bool
     ensures { result ≡ has_host_among_spec (contents libs.now) }
 {
-    any_has_host(libs)
+    for lib in libs {
+        if has_host(lib) {
+            return true;
+        }
+    }
+    false
 }
 
 /// Adds the list of a file.

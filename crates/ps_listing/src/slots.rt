@@ -1,6 +1,6 @@
 //! The line of each slot.
-ghost use Rattle.std.specs.Prelude.{◌≡◌, ◌<◌, ◌≤◌, Ok};
-ghost use Rattle.std.specs.List.{flat_map, list_any, range_with_len};
+ghost use Rattle.std.specs.Prelude.{◌≡◌, ◌<◌, Ok};
+ghost use Rattle.std.specs.List.{flat_map};
 ghost use Rattle.ps_codefile.specs.Dictionary.{entry_at, role_of, slots};
 ghost use Rattle.ps_writing.specs.Adding.{Adds};
 ghost use Rattle.ps_listing.specs.ListText.{fault_alone, found_line, found_words, has_refused as has_refused_spec, is_refused_role as is_refused_role_spec, is_refused_slot as is_refused_slot_spec, refused_line, role_line, slot_head, slot_line};
@@ -37,7 +37,6 @@ pub(crate) fn kind_of(dict: &Dict, slot: u8) -> u16
 }
 
 /// Adds what the line of a slot begins with.
-#[tactic(auto, using(ps_writing::proofs::Written::adds_is), unfolding(crate::specs::ListText::slot_head))]
 fn add_head<S: TextWriter>(text: &mut S, path: &str, dict: &Dict, slot: u8)
     requires { slot < SLOTS }
     ensures { Adds S.added text.old (slot_head path.now dict.now.order dict.now.file slot)
@@ -176,19 +175,14 @@ fn is_refused_slot(dict: &Dict, slot: u8) -> bool
     is_refused_role(dict, slot, dict.role(slot))
 }
 
-/// One of the slots below `end` is refused.
-fn has_refused_below(dict: &Dict, end: u8) -> bool
-    requires { end ≤ SLOTS }
-    ensures { result ≡ list_any (is_refused_slot_spec dict.now.order dict.now.file)
-        (range_with_len 0 end) }
-{
-    (0..end).any(|slot| is_refused_slot(dict, slot))
-}
-
 /// Some slot is refused.
-#[tactic(auto, unfolding(crate::specs::ListText::has_refused))]
 pub(crate) fn has_refused(dict: &Dict) -> bool
     ensures { result ≡ has_refused_spec dict.now.order dict.now.file }
 {
-    has_refused_below(dict, SLOTS)
+    for slot in 0..SLOTS {
+        if is_refused_slot(dict, slot) {
+            return true;
+        }
+    }
+    false
 }

@@ -43,7 +43,6 @@ fn add_uses<S: TextWriter>(text: &mut S, records: &LinkInformation)
 }
 
 /// Adds that there is no fault, and the units that these records use.
-#[tactic(auto, using(ps_writing::proofs::Written::adds_is))]
 fn add_uses_member<S: TextWriter>(text: &mut S, records: &LinkInformation)
     ensures { Adds S.added text.old (uses_member records.now) text.new }
 {
