@@ -9,7 +9,7 @@ import sys
 ROOT = pathlib.Path(__file__).resolve().parent.parent
 LINKING, USING = ROOT / "docs/LINKING.md", ROOT / "docs/USING.md"
 SENTENCES = next((ROOT / "crates").glob("*/src/sentences.rt"))
-WARNINGS = [ROOT / f"crates/{file}" for file in ("ps_warnings/src/warnings.rt", "ps_pcode/src/looks.rt")]
+WARNINGS = [ROOT / f"crates/{file}" for file in ("ps_warnings/src/warnings.rt", "ps_segments/src/looks.rt")]
 LOOKS = ["FileLook", "DictionaryLook", "SegmentLook", "EntryLook", "CodeLook", "ProcedureLook", "RecordLook", "LinkLook"]
 # A reader of LINKING and of pslink(1) has the section at hand.
 OF_THE_PAGE = " in pslink(1)"

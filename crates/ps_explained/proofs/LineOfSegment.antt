@@ -4,10 +4,10 @@ use Rattle.std.specs.Prelude.{Option, Some, None, decimal}
 use Rattle.std.specs.Str.{IsUtf8}
 use Rattle.ps_filetype.specs.Shown.{shown_name, shown_path}
 use Rattle.ps_explained.specs.SlotLines.{is_slot_line, one_line}
-use Rattle.ps_warnings.specs.SegmentParts.{part_words}
+use Rattle.ps_segments.specs.SegmentParts.{part_words}
 use Rattle.ps_explained.specs.SegmentLines.{from_words, head_words, slot_words, two_digits}
-use Rattle.ps_warnings.specs.declared.segments.SegmentPart.{SegmentPart}
-use Rattle.ps_warnings.specs.declared.segments.SegmentPart.TheVariants as part
+use Rattle.ps_segments.specs.declared.segments.SegmentPart.{SegmentPart}
+use Rattle.ps_segments.specs.declared.segments.SegmentPart.TheVariants as part
 use Rattle.ps_explained.proofs.OneLine.{above, and_both, one_append, one_digits, one_name, one_path}
 
 one_two : (n : ℕ) → one_line (two_digits n) ≡ true

@@ -6,10 +6,10 @@ use Rattle.ps_resolve.specs.Added.{segments}
 use Rattle.ps_resolve.specs.Readings.{HostFiles, opened_host, read_requests}
 use Rattle.ps_reading.specs.declared.reading.added.UnitReference.{UnitReference}
 use Rattle.ps_resolve.proofs.ReadingSlots.{host_of_files}
-use Rattle.ps_warnings.specs.Paths.{path_of}
+use Rattle.ps_segments.specs.Paths.{path_of}
 use Rattle.ps_explained.specs.SegmentLines.{from_words, head_words, lines_of_segments, part_as, segment_line, segment_lines}
 use Rattle.ps_explained.specs.SlotLines.{AddsSlotLines}
-use Rattle.ps_warnings.specs.declared.segments.SegmentPart.{SegmentPart}
+use Rattle.ps_segments.specs.declared.segments.SegmentPart.{SegmentPart}
 use Rattle.ps_explained.proofs.SlotLines.{adds_then}
 
 -- the line of a segment that is this

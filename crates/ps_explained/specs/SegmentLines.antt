@@ -12,10 +12,10 @@ use Rattle.ps_resolve.specs.Added.{segments}
 use Rattle.ps_resolve.specs.Readings.{read_requests}
 use Rattle.ps_reading.specs.declared.reading.added.UnitReference.{UnitReference}
 use Rattle.ps_filetype.specs.Shown.{shown_name, shown_path}
-use Rattle.ps_warnings.specs.SegmentParts.{part_words}
-use Rattle.ps_warnings.specs.Paths.{path_of}
-use Rattle.ps_warnings.specs.declared.segments.SegmentPart.{SegmentPart}
-use Rattle.ps_warnings.specs.declared.segments.SegmentPart.TheVariants as part
+use Rattle.ps_segments.specs.SegmentParts.{part_words}
+use Rattle.ps_segments.specs.Paths.{path_of}
+use Rattle.ps_segments.specs.declared.segments.SegmentPart.{SegmentPart}
+use Rattle.ps_segments.specs.declared.segments.SegmentPart.TheVariants as part
 
 -- the number of a slot or an entry, of two digits
 abbrev pub two_digits : ℕ → List ℕ

@@ -1,12 +1,11 @@
 //! A fault, and what the files say of it.
-use crate::privates::words_of;
 use ps_codefile::code_layout::NUMBERS;
 use ps_codefile::dictionary_layout::SLOTS;
 use ps_codefile::{Dict, Entry, ProcedureDictionary, ProcedureFault, Role};
 use ps_filetype::{CodeFile, FileType, ShownName};
-use ps_linkinfo::{LinkRecord, Operand};
-use ps_resolve::Reading;
-use ps_warnings::{Inputs, ReadSegment, SegmentPart, in_slot};
+use ps_linkinfo::{LinkInformation, LinkRecord, Operand};
+use ps_resolve::{Reading, words_before};
+use ps_segments::{Inputs, ReadSegment, SegmentPart, in_slot};
 use ps_words::{Fault, Name, Reason};
 
 /// A fault, and what of the files it is about.
@@ -39,12 +38,16 @@ impl<'c, 'a> Case<'c, 'a> {
             Some(slot) => in_slot(list, slot),
             None => None,
         };
+        let words = match (fault.slot, fault.rec) {
+            (Some(slot), Some(rec)) => words_before(reading.segments(), slot, rec),
+            _ => words_before(reading.segments(), SLOTS, 0),
+        };
         Case {
             inputs,
             list,
             fault,
             segment,
-            words: words_of(reading.segments(), fault),
+            words: u64::from(words.unwrap_or(u32::MAX)),
         }
     }
 
@@ -70,13 +73,27 @@ impl<'c, 'a> Case<'c, 'a> {
     /// The record that the fault is reported with, where it can be read.
     /// Source: the published II.0 Linker source.
     pub fn record(&self) -> Option<LinkRecord<'a>> {
-        self.segment?.records().record(self.fault.rec?)
+        match self.fault.rec {
+            Some(rec) => self.records().record(rec),
+            None => None,
+        }
+    }
+
+    /// The records of its segment, up to the first that cannot be read.
+    pub(crate) fn records(&self) -> LinkInformation<'a> {
+        match self.segment {
+            Some(segment) => segment.records(),
+            None => LinkInformation::none(),
+        }
     }
 
     /// The operand that the fault is reported with.
     /// Source: the published II.0 Linker source.
     pub fn operand(&self) -> Option<Operand> {
-        self.record()?.operand(self.fault.reference?)
+        match (self.record(), self.fault.reference) {
+            (Some(record), Some(reference)) => record.operand(reference),
+            _ => None,
+        }
     }
 
     /// The first library that has a host program.
@@ -112,8 +129,19 @@ impl<'c, 'a> Case<'c, 'a> {
     /// Source: this project's profile.
     pub fn earlier_entry(&self) -> Option<(u8, ShownName)> {
         let dict = Dict::read(self.inputs.host).ok()?;
-        let (slot, entry) = (self.fault.slot?, self.entry()?);
-        earlier_in(&dict, self.fault.reason, slot, &entry.name)
+        let (slot, name) = (self.fault.slot?, self.entry()?.name);
+        for earlier in 0..SLOTS {
+            let found = dict.entry(earlier).name;
+            let is_like = match (self.fault.reason, dict.role(earlier)) {
+                (Reason::TwoHosts, Ok(Role::Host)) => true,
+                (Reason::DoubledSegment, Ok(Role::Unit | Role::Wanted)) => found == name,
+                _ => false,
+            };
+            if earlier < slot && is_like {
+                return Some((earlier, ShownName(found)));
+            }
+        }
+        None
     }
 
     /// The first thing that is wrong with the procedures of the code.
@@ -126,27 +154,5 @@ impl<'c, 'a> Case<'c, 'a> {
         }
         let is_host = matches!(segment.part, SegmentPart::Host);
         ProcedureDictionary::read_or_fault(segment.order, code, is_host).err()
-    }
-}
-
-/// The first slot before this one that has a host program, or a unit of the name, as the second one
-/// is refused for this reason.
-fn earlier_in(dict: &Dict<'_>, reason: Reason, slot: u8, name: &Name) -> Option<(u8, ShownName)> {
-    for earlier in 0..SLOTS {
-        let found = dict.entry(earlier).name;
-        let is_like = is_doubled(reason, dict.role(earlier), found == *name);
-        if earlier < slot && is_like {
-            return Some((earlier, ShownName(found)));
-        }
-    }
-    None
-}
-
-/// A second segment is refused for this reason beside one of this role, which has its name or not.
-fn is_doubled(reason: Reason, role: Result<Role, Reason>, has_name: bool) -> bool {
-    match (reason, role) {
-        (Reason::TwoHosts, Ok(Role::Host)) => true,
-        (Reason::DoubledSegment, Ok(Role::Unit | Role::Wanted)) => has_name,
-        _ => false,
     }
 }

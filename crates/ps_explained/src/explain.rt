@@ -9,7 +9,7 @@ mod records;
 mod references;
 
 use crate::cases::Case;
-use ps_filetype::ShownName;
+use ps_filetype::{ShownName, ShownPath};
 use ps_words::Reason;
 use std::fmt::{self, Formatter, Write};
 
@@ -26,14 +26,12 @@ pub struct Explanation<'c, 'a>(
 impl fmt::Display for Explanation<'_, '_> {
     fn fmt<W: Write>(&self, f: &mut Formatter<W>) -> fmt::Result {
         let case = &self.0;
-        writeln!(f, "  file {}", case.inputs.shown(case.fault.file))?;
+        writeln!(f, "  file {}", ShownPath(case.inputs.path(case.fault.file)))?;
         write_slot(f, case)?;
         write_record(f, case)?;
         references::write_reference(f, case)?;
         write_details(f, case)?;
-        let wrong = advice::wrong_in(case);
-        let remedy = advice::remedy_in(case);
-        writeln!(f, "  {wrong}\n  {remedy}")
+        advice::write_advice(f, case)
     }
 }
 

@@ -22,20 +22,14 @@ impl fmt::Display for OrderOf<'_> {
                 Order::Little => f.write_str("little-endian"),
                 Order::Big => f.write_str("big-endian"),
             },
-            Err(reason) => write_unordered(f, reason, FileType::of(self.0)),
+            Err(reason) => {
+                let file_type = FileType::of(self.0);
+                if reason == Reason::NoHost && file_type.is_code() {
+                    f.write_str("no byte order, since no segment has a kind")
+                } else {
+                    file_type.fmt(f)
+                }
+            }
         }
-    }
-}
-
-/// What a file is said to be that shows no byte order for this reason.
-fn write_unordered<W: fmt::Write>(
-    f: &mut Formatter<W>,
-    reason: Reason,
-    file_type: FileType,
-) -> fmt::Result {
-    if reason == Reason::NoHost && file_type.is_code() {
-        f.write_str("no byte order, since no segment has a kind")
-    } else {
-        file_type.fmt(f)
     }
 }

@@ -2,7 +2,7 @@
 ghost use Rattle.std.specs.Prelude.{◌≡◌, ◌∷◌, ◌++◌, [], IfOk, None, OnOk, Some, ℕ, length, string_bytes};
 ghost use Rattle.ps_resolve.specs.AllFaults.{reading_fault};
 ghost use Rattle.ps_resolve.specs.Sources.{contents};
-ghost use Rattle.ps_warnings.specs.Paths.{path_of};
+ghost use Rattle.ps_segments.specs.Paths.{path_of};
 ghost use Rattle.ps_explained.specs.SegmentLines.{requester_of as requester_of_spec, from_words, head_words, lines_of_segments, name_in as name_in_spec, part_added as part_added_spec, part_as, segment_lines, slot_words, two_digits};
 ghost use Rattle.ps_explained.specs.SlotLines.{AddsSlotLines, slot_lines};
 
@@ -12,7 +12,7 @@ use ps_codefile::Role;
 use ps_codefile::dictionary_layout::SLOTS;
 use ps_filetype::{ShownName, ShownPath};
 use ps_resolve::{HostReading, Reading, Segment as LinkedSegment, UnitReference};
-use ps_warnings::{Inputs, ReadSegment, SegmentPart, in_slot};
+use ps_segments::{Inputs, ReadSegment, SegmentPart, in_slot};
 use ps_words::{Name, Reason};
 use std::alloc::{AllocError, Allocator};
 use std::fmt::{self, Formatter, Write as _};
@@ -95,7 +95,7 @@ fn file_lines<A: Allocator>(alloc: A, inputs: &Inputs<'_>) -> Result<String<A>, 
         writeln!(
             text,
             "file {file} {}: {} bytes, {}",
-            inputs.shown(file),
+            ShownPath(inputs.path(file)),
             bytes.len(),
             OrderOf(bytes)
         )?;
@@ -108,7 +108,7 @@ fn file_lines<A: Allocator>(alloc: A, inputs: &Inputs<'_>) -> Result<String<A>, 
 /// slot, or with `no slot`, and, where later libraries have a unit of its name too, one that names
 /// the first of them; the slots without a segment; and the first library from which nothing is taken.
 ///
-/// `reading` is what was read of the files of `inputs`, and `list` what `ps_warnings::segments_of`
+/// `reading` is what was read of the files of `inputs`, and `list` what `ps_segments::segments_of`
 /// gives for them. Where they were read without a fault, the lines that begin with `slot ` are those
 /// of the segments of the link, by slot. Returns an error where memory was refused.
 /// Source: this project's profile.
@@ -366,7 +366,7 @@ fn later_line<A: Allocator>(
 ) -> Result<String<A>, AllocError> {
     let mut text = String::new(alloc);
     if let Some((file, entry, more)) = later_entries(inputs, &name, used) {
-        let path = inputs.shown(file);
+        let path = ShownPath(inputs.path(file));
         writeln!(
             text,
             "  not used: {path} entry {entry:02} has the name too{more}"
@@ -456,7 +456,7 @@ fn add_unused<A: Allocator>(
     let Some(file) = unused.next() else {
         return Ok(());
     };
-    let (path, more) = (inputs.shown(file), More(unused.count()));
+    let (path, more) = (ShownPath(inputs.path(file)), More(unused.count()));
     writeln!(text, "nothing is taken from file {file} {path}{more}")
 }
 

@@ -1,7 +1,7 @@
 //! What the link information says of a fault.
 use crate::cases::Case;
 use ps_linkinfo::{LinkRecord, Sort};
-use ps_warnings::length_of;
+use ps_segments::length_of;
 use ps_words::{Name, Order, Reason};
 
 impl<'a> Case<'_, 'a> {
@@ -23,18 +23,21 @@ impl<'a> Case<'_, 'a> {
             Reason::DoubledPrivate => Sort::Private,
             _ => Sort::Definition,
         };
-        let duplicate = self.record()?;
-        self.segment?.records().find(&duplicate.name, sort)
+        match self.record() {
+            Some(duplicate) => self.records().find(&duplicate.name, sort),
+            None => None,
+        }
     }
 
     /// The record by which a unit itself defines the name.
     /// Source: this project's profile.
     pub fn own_definition(&self, name: &Name) -> Option<usize> {
-        let unit = self.segment?;
-        if !unit.part.is_unit() {
-            return None;
+        match self.segment {
+            Some(unit) if unit.part.is_unit() => {
+                let (rec, _) = self.records().find(name, Sort::Variable)?;
+                Some(rec)
+            }
+            _ => None,
         }
-        let (rec, _) = unit.records().find(name, Sort::Variable)?;
-        Some(rec)
     }
 }

@@ -1,10 +1,9 @@
 //! What the files say of the reference that a fault is reported with.
 use crate::cases::Case;
 use ps_linkinfo::{Body, LinkRecord, Operand, Sort};
-use ps_pcode::procedures_of;
 use ps_resolve::{RecordAt, ReferenceAt, SegmentAt, covering_reference};
-use ps_warnings::host_of;
-use ps_words::{Name, get_big};
+use ps_segments::{host_of, procedures_of};
+use ps_words::{Fault, Name, get_big};
 
 impl<'a> Case<'_, 'a> {
     /// The bytes of an operand, as far as the code has them.
@@ -34,20 +33,24 @@ impl<'a> Case<'_, 'a> {
         procedures.table_with(first).or(procedures.table_with(last))
     }
 
-    /// Where the reference is that the fault is in.
-    fn reference_at(&self) -> Option<ReferenceAt> {
-        let (file, slot) = (self.fault.file, self.fault.slot?);
-        let segment = SegmentAt { file, slot };
-        let (rec, reference) = (self.fault.rec?, self.fault.reference?);
-        let at = RecordAt { segment, rec };
-        Some(ReferenceAt { at, reference })
-    }
-
     /// The earlier reference that covers a byte of this one, and its record.
     /// Source: this project's profile.
     pub fn earlier_reference(&self) -> Option<(ReferenceAt, LinkRecord<'a>)> {
-        let records = self.segment?.records();
-        let earlier = covering_reference(&records, self.reference_at()?, self.operand()?)?;
+        let Fault {
+            file,
+            slot: Some(slot),
+            rec: Some(rec),
+            reference: Some(reference),
+            ..
+        } = self.fault
+        else {
+            return None;
+        };
+        let segment = SegmentAt { file, slot };
+        let at = RecordAt { segment, rec };
+        let operand = self.operand()?;
+        let records = self.records();
+        let earlier = covering_reference(&records, ReferenceAt { at, reference }, operand)?;
         Some((earlier, records.record(earlier.at.rec)?))
     }
 
@@ -63,10 +66,13 @@ impl<'a> Case<'_, 'a> {
 
     /// The value of the host's definition of the name.
     fn defined_value(&self, name: &Name) -> Option<u16> {
-        let (_, record) = host_of(self.list)?.records().find(name, Sort::Variable)?;
-        match record.body {
-            Body::PublDef(value) => Some(value),
-            _ => None,
+        let host = host_of(self.list)?;
+        match host.records().find(name, Sort::Variable) {
+            Some((_, record)) => match record.body {
+                Body::PublDef(value) => Some(value),
+                _ => None,
+            },
+            None => None,
         }
     }
 }

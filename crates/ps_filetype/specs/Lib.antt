@@ -1,3 +1,4 @@
 pub mod CodeFiles
 pub mod Shown
 pub mod CodeTypes
+pub mod Names

@@ -65,9 +65,23 @@ impl FileType {
             return FileType::Later(release);
         }
         match code_file_of(bytes) {
-            Some(_) if is_swapped_file(bytes) => FileType::Swapped,
-            Some(code_file) => FileType::Code(code_file),
-            None => other_type(bytes),
+            Some(_) if is_swapped_file(bytes) => return FileType::Swapped,
+            Some(code_file) => return FileType::Code(code_file),
+            None => {}
+        }
+        if let Some(file_type) = by_first_bytes(bytes) {
+            return file_type;
+        }
+        if let Some((image, name)) = image_of(bytes) {
+            return FileType::Disk { image, name };
+        }
+        if let Some(file_type) = behind_header(bytes).or(text_type(bytes)) {
+            return file_type;
+        }
+        match LineEnds::of(bytes) {
+            _ if is_system_text(bytes) => FileType::SystemText,
+            Some(line_ends) => FileType::Converted(line_ends),
+            None => FileType::Unknown,
         }
     }
 
@@ -109,40 +123,6 @@ impl FileType {
     }
 }
 
-/// What a file is that is no code file.
-fn other_type(bytes: &[u8]) -> FileType {
-    if let Some(file_type) = by_first_bytes(bytes) {
-        return file_type;
-    }
-    if let Some((image, name)) = image_of(bytes) {
-        return FileType::Disk { image, name };
-    }
-    if let Some(file_type) = behind_header(bytes) {
-        return file_type;
-    }
-    if let Some(file_type) = text_type(bytes) {
-        return file_type;
-    }
-    match LineEnds::of(bytes) {
-        _ if is_system_text(bytes) => FileType::SystemText,
-        Some(line_ends) => FileType::Converted(line_ends),
-        None => FileType::Unknown,
-    }
-}
-
-/// Writes the form of an image, and the name of its volume, if it has one.
-fn write_disk<W: fmt::Write>(
-    f: &mut Formatter<W>,
-    image: Image,
-    name: Option<Name>,
-) -> fmt::Result {
-    f.write_str(image.phrase())?;
-    match name {
-        Some(name) => write!(f, ", of the volume {}", ShownName(name)),
-        None => Ok(()),
-    }
-}
-
 impl fmt::Display for FileType {
     fn fmt<W: fmt::Write>(&self, f: &mut Formatter<W>) -> fmt::Result {
         match *self {
@@ -150,7 +130,13 @@ impl fmt::Display for FileType {
             FileType::Header { bytes } => {
                 write!(f, "a code file behind a header of {bytes} bytes")
             }
-            FileType::Disk { image, name } => write_disk(f, image, name),
+            FileType::Disk { image, name } => {
+                f.write_str(image.phrase())?;
+                match name {
+                    Some(name) => write!(f, ", of the volume {}", ShownName(name)),
+                    None => Ok(()),
+                }
+            }
             FileType::OneByte { byte } => write!(f, "a file of the byte {byte:02X} alone"),
             FileType::Converted(line_ends) => {
                 write!(f, "a file whose line ends were converted: {line_ends}")

@@ -56,10 +56,20 @@ pub(crate) fn image_of(bytes: &[u8]) -> Option<(Image, Option<Name>)> {
         return Some((Image::Blocks, Some(name)));
     }
     if bytes.starts_with(b"2IMG") {
-        return Some((Image::TwoImg, volume_of_two_img(bytes)));
+        // (its blocks, or its sectors, follow the header)
+        let name = volume_at(bytes, TWO_IMG + DIRECTORY);
+        let name = name.or(volume_at(bytes, TWO_IMG + DOS_DIRECTORY));
+        return Some((Image::TwoImg, name));
     }
-    if bytes.len() == NIBBLES_LENGTH && has_prologue(bytes) {
-        return Some((Image::Nibbles, None));
+    if bytes.len() == NIBBLES_LENGTH {
+        // (what begins the address of a sector is among the first bytes of a track)
+        let track = bytes.get(..512).unwrap_or(bytes);
+        if track
+            .windows(3)
+            .any(|three| matches!(three, [0xD5, 0xAA, 0x96]))
+        {
+            return Some((Image::Nibbles, None));
+        }
     }
     if let Some(name) = volume_at(bytes, DISK_COPY + DIRECTORY) {
         return Some((Image::DiskCopy, Some(name)));
@@ -69,22 +79,6 @@ pub(crate) fn image_of(bytes: &[u8]) -> Option<(Image, Option<Name>)> {
     }
     let name = volume_at(bytes, DOS_DIRECTORY)?;
     Some((Image::DosOrder, Some(name)))
-}
-
-/// What begins the address of a sector is among the first bytes of a track.
-fn has_prologue(bytes: &[u8]) -> bool {
-    let track = bytes.get(..512).unwrap_or(bytes);
-    track
-        .windows(3)
-        .any(|three| matches!(three, [0xD5, 0xAA, 0x96]))
-}
-
-/// The name of the volume behind the header of the form 2IMG, whose blocks or sectors follow.
-fn volume_of_two_img(bytes: &[u8]) -> Option<Name> {
-    match volume_at(bytes, TWO_IMG + DIRECTORY) {
-        Some(name) => Some(name),
-        None => volume_at(bytes, TWO_IMG + DOS_DIRECTORY),
-    }
 }
 
 /// The word at a place of a directory, in either order.

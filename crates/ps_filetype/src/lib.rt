@@ -1,7 +1,7 @@
 //! What a file is, by its first bytes and a few more: a code file, and which, or something else
 //! that was given in place of one, with the way from there to the code file. How the paths of files
 //! and the names of segments and records are shown: as they are, or quoted where a byte of them could
-//! be taken for the end of a line or move the cursor of a terminal.
+//! be taken for the end of a line or move the cursor of a terminal. Which names look wrong.
 #![tactic(auto)]
 
 mod bytes;
@@ -10,6 +10,7 @@ mod file_type;
 mod images;
 mod line_ends;
 mod name;
+mod odd_names;
 mod path;
 mod release;
 mod remedy;
@@ -22,6 +23,7 @@ pub use file_type::FileType;
 pub use images::Image;
 pub use line_ends::LineEnds;
 pub use name::ShownName;
+pub use odd_names::{Oddity, has_any, is_near, oddity_of, plain};
 pub use path::{ShownPath, is_hidden};
 pub use release::Release;
 pub use remedy::Remedy;

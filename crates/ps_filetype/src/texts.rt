@@ -10,39 +10,9 @@ const EDITOR: usize = 1024;
 /// What begins an indented line of a p-System text.
 const INDENT: u8 = 0x10;
 
-/// What each byte of a sample is.
-#[derive(Clone, Copy)]
-struct Letters {
-    /// A byte of a text.
-    are_text: bool,
-    /// A letter of base64, or the end of a line.
-    are_base64: bool,
-    /// A hexadecimal digit, a blank or the end of a line.
-    are_hex: bool,
-}
-
 /// The byte is one of a text.
 fn is_text(byte: u8) -> bool {
     matches!(byte, b'\t' | b'\n' | b'\r' | 0x0C | 0x1A | b' '..=b'~' | 0x80..=0xFF)
-}
-
-impl Letters {
-    fn of(sample: &[u8]) -> Letters {
-        let has_any = !sample.is_empty();
-        let (mut are_text, mut are_base64, mut are_hex) = (has_any, has_any, has_any);
-        for byte in sample {
-            let is_end = matches!(*byte, b'\r' | b'\n');
-            let is_sign = matches!(*byte, b'+' | b'/' | b'=');
-            are_text = are_text && is_text(*byte);
-            are_base64 = are_base64 && (is_end || is_sign || byte.is_ascii_alphanumeric());
-            are_hex = are_hex && (is_end || *byte == b' ' || byte.is_ascii_hexdigit());
-        }
-        Letters {
-            are_text,
-            are_base64,
-            are_hex,
-        }
-    }
 }
 
 /// A dump begins with the place of its first byte, and what ends that.
@@ -89,27 +59,31 @@ fn is_s_record(sample: &[u8]) -> bool {
     true
 }
 
-/// Most bytes of a text are ASCII.
-fn is_foreign(sample: &[u8]) -> bool {
-    let high = sample.iter().filter(|byte| !byte.is_ascii()).count();
-    sample.len() / 4 * FOREIGN < high
-}
-
-/// The kind of text of a file that is one.
+/// The kind of text of a file that is one. Most bytes of a text are ASCII.
 pub(crate) fn text_type(bytes: &[u8]) -> Option<FileType> {
     let sample = bytes.get(..SAMPLE).unwrap_or(bytes);
-    let letters = Letters::of(sample);
+    let has_any = !sample.is_empty();
+    let (mut are_text, mut are_base64, mut are_hex) = (has_any, has_any, has_any);
+    let mut foreign = 0usize;
+    for byte in sample {
+        let is_end = matches!(*byte, b'\r' | b'\n');
+        let is_sign = matches!(*byte, b'+' | b'/' | b'=');
+        are_text = are_text && is_text(*byte);
+        are_base64 = are_base64 && (is_end || is_sign || byte.is_ascii_alphanumeric());
+        are_hex = are_hex && (is_end || *byte == b' ' || byte.is_ascii_hexdigit());
+        foreign = foreign.saturating_add(usize::from(!byte.is_ascii()));
+    }
     if is_utf_16(sample) {
         Some(FileType::WideText)
-    } else if !letters.are_text || is_foreign(sample) {
+    } else if !are_text || sample.len() / 4 * FOREIGN < foreign {
         None
     } else if sample.starts_with(b"begin ") {
         Some(FileType::Uuencode)
     } else if is_s_record(sample) {
         Some(FileType::SRecords)
-    } else if letters.are_hex || is_dump(sample) {
+    } else if are_hex || is_dump(sample) {
         Some(FileType::HexDump)
-    } else if letters.are_base64 {
+    } else if are_base64 {
         Some(FileType::Base64)
     } else {
         Some(FileType::Text)

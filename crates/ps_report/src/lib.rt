@@ -13,6 +13,7 @@ mod verdict;
 mod without_host;
 
 pub use printing::{PrintError, Printing, write_check};
-pub use ps_warnings::{Look, Oddity, Warning, WarningAt};
+pub use ps_filetype::Oddity;
+pub use ps_warnings::{Look, Warning, WarningAt};
 pub use report::{Report, check};
 pub use verdict::{Verdict, verdict_of};

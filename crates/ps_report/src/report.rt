@@ -4,7 +4,7 @@ ghost use Rattle.ps_resolve.specs.Sources.{contents};
 ghost use Rattle.ps_resolve.specs.Standing.{NoneStands};
 ghost use Rattle.ps_warnings.specs.AllLooks.{link_looks_of};
 ghost use Rattle.ps_warnings.specs.Found.{link_looks, sorted};
-ghost use Rattle.ps_warnings.specs.SeenSegments.{seen_segments};
+ghost use Rattle.ps_segments.specs.SeenSegments.{seen_segments};
 ghost use Rattle.ps_explained.specs.SegmentLines.{segment_lines};
 ghost use Rattle.ps_explained.specs.SlotLines.{AddsSlotLines, slot_lines};
 ghost use Rattle.ps_report.specs.Lists.{HasLists, lacks_host};

@@ -1,13 +1,12 @@
 -- Segments as they were read, in lists.
-use Rattle.std.proofs.Common.{◌≡◌, ◌∙◌, ◌∷◌, ◌+◌, ◌≤◌, ℕ, Bor, List, length, drop, map, ap, sym, refl, arith}
+use Rattle.std.proofs.Common.{◌≡◌, ◌∙◌, ◌∷◌, ◌+◌, ◌≤◌, ℕ, Bor, List, length, drop, map, ap, sym, arith}
 use Rattle.std.proofs.lemmas.List.{drop-map, length-map}
 use Rattle.std.specs.Prelude.{Result, Ok, Err}
-use Rattle.std.specs.Result.{is_ok}
 use Rattle.ps_words.specs.declared.fault.Reason.{Reason}
 use Rattle.ps_codefile.specs.Dictionary.{IsViewOf}
 use Rattle.ps_resolve.specs.Sources.{contents}
-use Rattle.ps_warnings.specs.Seen.{Seen, seen}
-use Rattle.ps_warnings.specs.declared.segments.ReadSegment.{ReadSegment}
+use Rattle.ps_segments.specs.Seen.{Seen, seen}
+use Rattle.ps_segments.specs.declared.segments.ReadSegment.{ReadSegment}
 
 -- those that are left
 pub seen_left : (ss : List ReadSegment) (i : ℕ) (s : ReadSegment)
@@ -41,11 +40,3 @@ pub code_is : (r : Result (Bor (List ℕ)) Reason) (answer : Result (List ℕ) R
     → IsViewOf (λ code. code.now) r answer → answer ≡ code_as r
 code_is (Ok code) answer is = is
 code_is (Err why) answer is = is
-
-same_ok : (r : Result (Bor (List ℕ)) Reason) → is_ok r ≡ is_ok (code_as r)
-same_ok (Ok code) = refl
-same_ok (Err why) = refl
-
-pub ok_is : (r : Result (Bor (List ℕ)) Reason) (answer : Result (List ℕ) Reason)
-    → IsViewOf (λ code. code.now) r answer → is_ok r ≡ is_ok answer
-ok_is r answer is = same_ok r ∙ sym (ap is_ok (code_is r answer is))

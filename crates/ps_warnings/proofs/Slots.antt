@@ -17,9 +17,9 @@ use Rattle.ps_warnings.specs.AllLooks.{looks_of_file, looks_of_link, looks_of_un
 use Rattle.ps_warnings.specs.EntryLooks.{empty_look, overlap}
 use Rattle.ps_warnings.specs.FileLooks.{definition_looks, looks_of_code_file, looks_of_entries, looks_of_records, looks_of_entry, looks_of_segment, looks_of_slot, overlap_look}
 use Rattle.ps_warnings.specs.Found.{LookAt, found_at, found_in_record}
-use Rattle.ps_warnings.specs.Paths.{path_of}
+use Rattle.ps_segments.specs.Paths.{path_of}
 use Rattle.ps_warnings.specs.RecordLooks.{first_definition, first_high, low_mark}
-use Rattle.ps_warnings.specs.Seen.{Seen, has_slot}
+use Rattle.ps_segments.specs.Seen.{Seen, has_slot}
 use Rattle.ps_warnings.specs.declared.looks.extents.Extent.{Extent}
 use Rattle.ps_codefile.specs.declared.dictionary_layout.TheConstants.{SLOTS}
 

@@ -18,7 +18,7 @@ use Rattle.ps_linkinfo.specs.declared.record.LinkRecord.{LinkRecord as Record}
 use Rattle.ps_warnings.specs.EntryLooks.{empty_look, overlap}
 use Rattle.ps_warnings.specs.Found.{LookAt, found_at, found_in_record}
 use Rattle.ps_warnings.specs.RecordLooks.{first_definition, first_high, first_past, low_mark}
-use Rattle.ps_warnings.specs.Seen.{Seen, has_slot}
+use Rattle.ps_segments.specs.Seen.{Seen, has_slot}
 use Rattle.ps_warnings.specs.declared.looks.extents.Extent.{Extent}
 use Rattle.ps_codefile.specs.declared.dictionary_layout.TheConstants.{SLOTS}
 

@@ -1,11 +1,7 @@
-pub mod Paths
-pub mod SegmentParts
 pub mod RecordLooks
 pub mod EntryLooks
 pub mod Weights
 pub mod LinkLooks
-pub mod Seen
 pub mod Found
 pub mod FileLooks
 pub mod AllLooks
-pub mod SeenSegments

@@ -1,33 +1,20 @@
 -- What looks wrong in a link as a whole, by its segments as they were read, in their order.
 -- Source: this project's profile.
-use Rattle.std.specs.Prelude.{ℕ, ◌==◌, ◌%◌, ◌&&◌, not, if◌then◌else◌, List, map, nat_lt, Bool, Option, Some, None}
-use Rattle.std.specs.Char.{to_ascii_uppercase}
+use Rattle.std.specs.Prelude.{ℕ, ◌&&◌, if◌then◌else◌, List, nat_lt, Bool, Option, Some, None}
 use Rattle.std.specs.List.{find}
 use Rattle.std.specs.Option.{option_map}
-use Rattle.std.specs.Str.{bytes_eq}
 use Rattle.ps_words.specs.declared.order.Order.{Order}
 use Rattle.ps_codefile.specs.Dictionary.{entry_at}
 use Rattle.ps_codefile.specs.declared.entry.Entry.{Entry}
-use Rattle.ps_warnings.specs.SegmentParts.{is_added, is_unit}
-use Rattle.ps_warnings.specs.declared.segments.SegmentPart.{SegmentPart}
+use Rattle.ps_filetype.specs.Names.{is_near}
+use Rattle.ps_segments.specs.SegmentParts.{is_added, is_unit}
+use Rattle.ps_segments.specs.declared.segments.SegmentPart.{SegmentPart}
 use Rattle.ps_warnings.specs.EntryLooks.{has_name_or_kind}
-use Rattle.ps_warnings.specs.Seen.{Seen}
+use Rattle.ps_segments.specs.Seen.{Seen}
 use Rattle.ps_warnings.specs.declared.warnings.LinkLook.TheVariants as look
 use Rattle.ps_warnings.specs.declared.warnings.Look.{Look}
 use Rattle.ps_warnings.specs.declared.warnings.Look.TheVariants as which
 use Rattle.ps_codefile.specs.declared.dictionary_layout.TheConstants.{SLOTS}
-
--- a byte of a name as it ought to be written: without bit 7, a capital letter, and a blank for a 0
-abbrev pub plain_byte : ℕ → ℕ
-plain_byte byte = if byte % 128 == 0 then 32 else to_ascii_uppercase (byte % 128)
-
--- a name as it ought to be written
-abbrev pub plain : List ℕ → List ℕ
-plain name = map plain_byte name
-
--- the names differ, and only in what a careless hand changes
-abbrev pub is_near : List ℕ → List ℕ → Bool
-is_near a b = not (bytes_eq a b) && bytes_eq (plain a) (plain b)
 
 -- a unit that a record requests takes a slot whose entry in the host has a name or a kind
 abbrev pub taken_slot : ℕ → SegmentPart → Entry → Option Look

@@ -5,8 +5,8 @@ ghost use Rattle.std.specs.Option.{option_map};
 ghost use Rattle.ps_resolve.specs.Sources.{contents};
 ghost use Rattle.ps_warnings.specs.AllLooks.{all_looks, link_looks_of, looks_of_file, looks_of_files};
 ghost use Rattle.ps_warnings.specs.Found.{Adds, found_at, found_in_record, link_looks, look_at, sorted};
-ghost use Rattle.ps_warnings.specs.Paths.{host_order, paths_in};
-ghost use Rattle.ps_warnings.specs.Seen.{host_records, seen};
+ghost use Rattle.ps_segments.specs.Paths.{host_order, paths_in};
+ghost use Rattle.ps_segments.specs.Seen.{host_records, seen};
 
 mod codes;
 mod doubled;
@@ -14,17 +14,14 @@ mod entries;
 mod extents;
 mod files;
 mod links;
-pub(crate) mod names;
+mod names;
 mod records;
 
-use crate::inputs::Inputs;
-use crate::segments::{ReadSegment, host_of, in_slot};
 use crate::warnings::{Look, OtherLook, Warning, WarningAt};
 use crate::weight::Weight;
 use ps_linkinfo::LinkInformation;
-use ps_pcode::Guess;
-use ps_resolve::EntryAt;
-use ps_words::{Fault, Reason};
+use ps_segments::{Guess, Inputs, ReadSegment, host_of, in_slot};
+use ps_words::Fault;
 use std::alloc::{AllocError, Allocator};
 
 /// What is looked at, and what a report says of it already.
@@ -34,39 +31,33 @@ struct Context<'c, 'a> {
     list: &'c [ReadSegment<'a>],
     /// The fault that the report explains.
     fault: Option<Fault>,
-    /// Where the segment comes from that the fault is in.
-    refused: Option<EntryAt>,
     /// No name of an entry has a capital letter.
     are_small: bool,
     /// The records of the host program of the link, if it has one.
     host: Option<&'c LinkInformation<'a>>,
 }
 
-/// Where the segment comes from that a fault is in.
-fn refused_entry(list: &[ReadSegment<'_>], fault: Option<Fault>) -> Option<EntryAt> {
-    Some(in_slot(list, fault?.slot?)?.source?.0)
-}
-
 impl Context<'_, '_> {
-    /// The fault's explanation says what the file is.
-    fn is_type_told(&self, file: usize) -> bool {
-        let Some(fault) = self.fault else {
-            return false;
-        };
-        match fault.reason {
-            Reason::MissingUnit => true,
-            Reason::ShortFile
-            | Reason::NoOrder
-            | Reason::OrderMismatch
-            | Reason::NoHost
-            | Reason::NativeProcedure => fault.file == file,
-            _ => false,
-        }
-    }
-
     /// The fault is in the segment that comes from this entry.
     fn is_refused(&self, file: usize, index: u8) -> bool {
-        self.refused == Some(EntryAt { file, index })
+        let Some(
+            Fault {
+                slot: Some(slot),
+                ..
+            },
+        ) = self.fault
+        else {
+            return false;
+        };
+        match in_slot(self.list, slot) {
+            Some(
+                ReadSegment {
+                    source: Some((at, _)),
+                    ..
+                },
+            ) => at.file == file && at.index == index,
+            _ => false,
+        }
     }
 }
 
@@ -279,7 +270,6 @@ fn add_looks<'a, A: Allocator>(
         inputs,
         list,
         fault,
-        refused: refused_entry(list, fault),
         are_small: names::are_small(inputs),
         host,
     };

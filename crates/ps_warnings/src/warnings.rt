@@ -1,37 +1,14 @@
 //! What looks wrong in files and is no fault: the one home of these sentences, but for those of codes,
-//! which `ps_pcode` has. `man/make_fault_table.py` makes the tables of warnings and of notes in
+//! which `ps_segments` has. `man/make_fault_table.py` makes the tables of warnings and of notes in
 //! USING.md from the enums of both: what each means and what to do about it is above it, and its weight
 //! is in `weight` here.
-ghost use Rattle.std.specs.Prelude.{◌≡◌};
-ghost use Rattle.ps_warnings.specs.Weights.{IsWeight, record_weight};
+ghost use Rattle.ps_warnings.specs.Weights.{IsWeight};
 
 use crate::weight::Weight;
-use ps_filetype::{FileType, LineEnds, ShownName, ShownPath};
-use ps_pcode::{CodeLook, Guess, ProcedureLook};
+use ps_filetype::{FileType, LineEnds, Oddity, ShownName, ShownPath};
+use ps_segments::{CodeLook, Guess, ProcedureLook};
 use ps_words::{Name, Reason};
 use std::fmt::{self, Display, Formatter};
-
-/// How a name is odd.
-///
-/// Source: this project's profile.
-#[derive(Clone, Copy)]
-pub enum Oddity {
-    HighBytes,
-    ControlBytes,
-    Zeros,
-    SmallLetters,
-}
-
-impl fmt::Display for Oddity {
-    fn fmt<W: fmt::Write>(&self, f: &mut Formatter<W>) -> fmt::Result {
-        f.write_str(match self {
-            Oddity::HighBytes => "has bytes above 127",
-            Oddity::ControlBytes => "has control bytes",
-            Oddity::Zeros => "is padded with zeros where blanks are expected",
-            Oddity::SmallLetters => "has small letters, and other names have capitals",
-        })
-    }
-}
 
 /// What looks wrong in a file as a whole.
 ///
@@ -242,20 +219,6 @@ pub enum RecordLook {
     },
 }
 
-impl RecordLook {
-    fn weight(self) -> Weight
-        ensures { result ≡ record_weight self }
-    {
-        match self {
-            RecordLook::UnitDefinition { .. } => Weight::Harmless,
-            RecordLook::PastPrivate { .. }
-            | RecordLook::OwnDefinition { .. }
-            | RecordLook::LowMark { .. }
-            | RecordLook::HighDefinition { .. } => Weight::Look,
-        }
-    }
-}
-
 impl fmt::Display for RecordLook {
     fn fmt<W: fmt::Write>(&self, f: &mut Formatter<W>) -> fmt::Result {
         match *self {
@@ -347,32 +310,6 @@ pub enum OtherLook {
     Guess(Guess),
 }
 
-impl OtherLook {
-    fn weight(self) -> Weight {
-        match self {
-            OtherLook::Guess(_) => Weight::Note,
-            OtherLook::File(FileLook::Padded { .. })
-            | OtherLook::Dictionary(DictionaryLook::IntrinsicKind { .. }) => Weight::Harmless,
-            OtherLook::File(FileLook::NoCodeFile { .. })
-            | OtherLook::Dictionary(
-                DictionaryLook::FullTail { .. }
-                | DictionaryLook::NoName { .. }
-                | DictionaryLook::MachineType { .. },
-            )
-            | OtherLook::Segment(_)
-            | OtherLook::Procedure(ProcedureLook::LinkedWithRecords) => Weight::Look,
-            OtherLook::File(FileLook::Doubled { .. } | FileLook::Converted { .. })
-            | OtherLook::Dictionary(DictionaryLook::DeadTail { .. })
-            | OtherLook::Code(_)
-            | OtherLook::Procedure(
-                ProcedureLook::OtherProcedure { .. }
-                | ProcedureLook::OutsideCode { .. }
-                | ProcedureLook::LostTables,
-            ) => Weight::Damaged,
-        }
-    }
-}
-
 /// What looks wrong: a look about the link, in an entry, in a record or in the link as a whole, each
 /// of which has its definition, or another one. Its text is half a sentence.
 ///
@@ -394,9 +331,35 @@ impl Look {
     {
         match *self {
             Look::Entry(_) => Weight::Look,
-            Look::Record(look) => look.weight(),
             Look::Link(_) => Weight::Look,
-            Look::Other(look) => look.weight(),
+            Look::Record(look) => match look {
+                RecordLook::UnitDefinition { .. } => Weight::Harmless,
+                RecordLook::PastPrivate { .. }
+                | RecordLook::OwnDefinition { .. }
+                | RecordLook::LowMark { .. }
+                | RecordLook::HighDefinition { .. } => Weight::Look,
+            },
+            Look::Other(look) => match look {
+                OtherLook::Guess(_) => Weight::Note,
+                OtherLook::File(FileLook::Padded { .. })
+                | OtherLook::Dictionary(DictionaryLook::IntrinsicKind { .. }) => Weight::Harmless,
+                OtherLook::File(FileLook::NoCodeFile { .. })
+                | OtherLook::Dictionary(
+                    DictionaryLook::FullTail { .. }
+                    | DictionaryLook::NoName { .. }
+                    | DictionaryLook::MachineType { .. },
+                )
+                | OtherLook::Segment(_)
+                | OtherLook::Procedure(ProcedureLook::LinkedWithRecords) => Weight::Look,
+                OtherLook::File(FileLook::Doubled { .. } | FileLook::Converted { .. })
+                | OtherLook::Dictionary(DictionaryLook::DeadTail { .. })
+                | OtherLook::Code(_)
+                | OtherLook::Procedure(
+                    ProcedureLook::OtherProcedure { .. }
+                    | ProcedureLook::OutsideCode { .. }
+                    | ProcedureLook::LostTables,
+                ) => Weight::Damaged,
+            },
         }
     }
 }

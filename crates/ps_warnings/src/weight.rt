@@ -7,7 +7,7 @@ use std::fmt::{self, Formatter};
 /// How much a look weighs: whether a link of the files goes wrong by it. Its text is one word.
 ///
 /// Source: this project's profile.
-#[derive(Clone, Copy, Debug, PartialEq, Eq)]
+#[derive(Clone, Copy)]
 pub enum Weight {
     /// A guess by what P-code means, which no source of this project says. It is no warning.
     Note,

@@ -4,43 +4,32 @@ use crate::cases::Case;
 use crate::sentences::{meaning_of, remedy_of};
 use ps_codefile::kinds::{FIRST_INTRINSIC, LAST_INTRINSIC, LINKED};
 use ps_filetype::{FileType, Remedy, ShownPath, is_swapped};
-use ps_pcode::dead_look;
-use ps_warnings::Inputs;
+use ps_segments::{Inputs, dead_look};
 use ps_words::Reason;
 use std::fmt::{self, Display, Formatter};
 
-/// What is wrong.
-pub(super) fn wrong_in(case: &Case<'_, '_>) -> &'static str {
+/// What the fault is, and what to do about it, in two lines.
+pub(super) fn write_advice<W: fmt::Write>(
+    f: &mut Formatter<W>,
+    case: &Case<'_, '_>,
+) -> fmt::Result {
+    let wrong = wrong_in(case);
+    let remedy = remedy_in(case);
+    writeln!(f, "  {wrong}\n  {remedy}")
+}
+
+/// What is wrong. Damaged code may be read as native code.
+fn wrong_in(case: &Case<'_, '_>) -> &'static str {
     match case.fault.reason {
-        Reason::MissingUnit => wrong_where_missing(case),
-        Reason::NativeProcedure => wrong_where_native(case),
+        Reason::MissingUnit if case.fault.rec.is_some() =>
+            "No library has the unit that the UNITREF in this record requests.",
+        Reason::MissingUnit => "No library has the unit that the slot wants.",
+        Reason::NativeProcedure if dead_look(case.code()).is_some() =>
+            "The code is damaged: a part of it was not read, or never written.",
+        Reason::NativeProcedure if is_exchanged(case) =>
+            "The bytes of the code are exchanged in pairs.",
         reason => meaning_of(reason.number()),
     }
-}
-
-/// What is wrong where a unit is missing.
-fn wrong_where_missing(case: &Case<'_, '_>) -> &'static str {
-    if case.fault.rec.is_some() {
-        "No library has the unit that the UNITREF in this record requests."
-    } else {
-        "No library has the unit that the slot wants."
-    }
-}
-
-/// What is wrong where a procedure is native code, as damaged code may be read.
-fn wrong_where_native(case: &Case<'_, '_>) -> &'static str {
-    if is_dead(case) {
-        "The code is damaged: a part of it was not read, or never written."
-    } else if is_exchanged(case) {
-        "The bytes of the code are exchanged in pairs."
-    } else {
-        meaning_of(Reason::NativeProcedure.number())
-    }
-}
-
-/// A part of the code of the fault's segment was not read.
-fn is_dead(case: &Case<'_, '_>) -> bool {
-    dead_look(case.code()).is_some()
 }
 
 /// The bytes of the code of the fault's segment are exchanged in pairs.
@@ -53,7 +42,7 @@ fn is_exchanged(case: &Case<'_, '_>) -> bool {
 
 /// What to do. Its text is a line.
 #[derive(Clone, Copy)]
-pub(super) enum Advice<'a> {
+enum Advice<'a> {
     /// Sentences, in which the path has the place of `the file`.
     Sentence { text: &'static str, path: &'a str },
     /// What to do with the file that is no code file.
@@ -107,7 +96,7 @@ fn write_of_file<W: fmt::Write>(f: &mut Formatter<W>, text: &str, path: &str) ->
 }
 
 /// What to do about the fault.
-pub(super) fn remedy_in<'a>(case: &Case<'_, 'a>) -> Advice<'a> {
+fn remedy_in<'a>(case: &Case<'_, 'a>) -> Advice<'a> {
     let text = match case.fault.reason {
         Reason::ShortFile | Reason::NoOrder | Reason::OrderMismatch | Reason::NoHost => {
             return remedy_of_file(case);
@@ -124,7 +113,7 @@ pub(super) fn remedy_in<'a>(case: &Case<'_, 'a>) -> Advice<'a> {
 /// What to do about a procedure of native code, as damaged code may be read.
 fn remedy_of_native<'a>(case: &Case<'_, 'a>) -> Advice<'a> {
     let path = case.inputs.path(case.fault.file);
-    if is_dead(case) {
+    if dead_look(case.code()).is_some() {
         let text = remedy_of(Reason::Truncated.number());
         return Advice::Sentence { text, path };
     }
@@ -148,23 +137,18 @@ fn remedy_of_kind(kind: u16) -> &'static str {
 
 /// What to do about a file that is no code file, or not the one that is needed.
 fn remedy_of_file<'a>(case: &Case<'_, 'a>) -> Advice<'a> {
-    let file = case.fault.file;
+    let (inputs, file) = (case.inputs, case.fault.file);
     match case.fault.reason {
-        Reason::NoHost => remedy_of_no_host(case),
-        Reason::OrderMismatch if case.inputs.file_type(file).is_code() => remedy_of_order(case),
-        _ => Advice::of_file(case.inputs, file),
-    }
-}
-
-/// What to do where the host is none: a library may be one.
-fn remedy_of_no_host<'a>(case: &Case<'_, 'a>) -> Advice<'a> {
-    let file = case.fault.file;
-    match case.host_among_libraries() {
-        Some(library) => Advice::Exchange {
-            host: case.inputs.path(file),
-            library: case.inputs.path(library),
+        // (a library may be the host)
+        Reason::NoHost => match case.host_among_libraries() {
+            Some(library) => Advice::Exchange {
+                host: inputs.path(file),
+                library: inputs.path(library),
+            },
+            None => Advice::of_file(inputs, file),
         },
-        None => Advice::of_file(case.inputs, file),
+        Reason::OrderMismatch if inputs.file_type(file).is_code() => remedy_of_order(case),
+        _ => Advice::of_file(inputs, file),
     }
 }
 

@@ -2,7 +2,7 @@
 ghost use Rattle.std.specs.Prelude.{◌≡◌, ◌+◌, ◌*◌};
 
 use crate::cases::Case;
-use ps_pcode::dead_look;
+use ps_segments::dead_look;
 use ps_words::BLOCK_SIZE;
 use std::fmt::{self, Formatter, Write};
 

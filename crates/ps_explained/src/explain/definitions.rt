@@ -1,8 +1,8 @@
 //! What is said of a name that the host program does not define as it is requested.
 use crate::cases::Case;
-use ps_filetype::ShownName;
+use ps_filetype::{ShownName, plain};
 use ps_linkinfo::{LinkInformation, Sort};
-use ps_warnings::{host_of, plain};
+use ps_segments::host_of;
 use ps_words::Name;
 use std::fmt::{self, Formatter, Write};
 

@@ -6,8 +6,7 @@ use ps_codefile::dictionary_layout::SLOTS;
 use ps_codefile::kinds::{
     FIRST_INTRINSIC, HOSTSEG, LAST_INTRINSIC, LINKED, SEGPROC, SEPRTSEG, UNITSEG,
 };
-use ps_filetype::{CodeFile, FileType, ShownName};
-use ps_warnings::is_near;
+use ps_filetype::{CodeFile, FileType, ShownName, ShownPath, is_near};
 use ps_words::Name;
 use std::fmt::{self, Display, Formatter, Write};
 
@@ -35,7 +34,10 @@ pub(super) fn write_orders<W: Write>(f: &mut Formatter<W>, case: &Case<'_, '_>) 
 pub(super) fn write_host<W: Write>(f: &mut Formatter<W>, case: &Case<'_, '_>) -> fmt::Result {
     write_no_host(f, case.inputs.file_type(0))?;
     match case.host_among_libraries() {
-        Some(file) => writeln!(f, "  {} has a host program", case.inputs.shown(file)),
+        Some(file) => {
+            let path = ShownPath(case.inputs.path(file));
+            writeln!(f, "  {path} has a host program")
+        }
         None => Ok(()),
     }
 }
@@ -89,7 +91,7 @@ fn write_units<W: Write>(
     file: usize,
     wanted: &Name,
 ) -> fmt::Result {
-    let path = case.inputs.shown(file);
+    let path = ShownPath(case.inputs.path(file));
     let file_type = case.inputs.file_type(file);
     match case.inputs.dict(file) {
         Some(dict) if file_type.is_code() => {
@@ -135,14 +137,10 @@ pub(super) fn write_entries<W: Write>(f: &mut Formatter<W>, case: &Case<'_, '_>)
     let Some(dict) = case.inputs.dict(case.fault.file) else {
         return Ok(());
     };
-    write_entries_of(f, &dict, &segment.name)
-}
-
-/// The entries of a name.
-fn write_entries_of<W: Write>(f: &mut Formatter<W>, dict: &Dict<'_>, name: &Name) -> fmt::Result {
+    let name = segment.name;
     for slot in 0..SLOTS {
         let entry = dict.entry(slot);
-        if dict.filled(slot) && entry.name == *name {
+        if dict.filled(slot) && entry.name == name {
             let kind = entry.kind;
             let word = kind_word(kind);
             writeln!(f, "  entry {slot:02} has the name, of kind {kind}: {word}")?;

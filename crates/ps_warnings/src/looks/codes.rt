@@ -9,11 +9,10 @@ use ps_codefile::kinds::LINKED;
 use ps_codefile::{Dict, Entry};
 use ps_filetype::only_byte;
 use ps_linkinfo::LinkInformation;
-use ps_pcode::{
+use ps_segments::{
     CodeLook, ProcedureLook, is_without_procedures, number_look, procedures_look, stripped_look,
     table_look, unread_look,
 };
-use ps_words::Order;
 use std::alloc::{AllocError, Allocator};
 
 /// Looks at the code of the segment of an entry of a file; a fault tells of what was not read, or not.
@@ -35,8 +34,12 @@ pub(super) fn look_at<'a, A: Allocator>(
         return looks.add_other(place, (!is_without_procedures(code)).then_some(look));
     }
     let (order, kind) = (dict.order(), entry.kind);
+    let unread = match is_told {
+        true => None,
+        false => unread_look(order, kind, code).map(OtherLook::Code),
+    };
     let found = [
-        untold_look(order, kind, code, is_told),
+        unread,
         stripped_look(code).map(OtherLook::Code),
         number_look(dict, slot, kind, code).map(OtherLook::Code),
         procedures_look(order, kind, slot, code).map(OtherLook::Procedure),
@@ -44,15 +47,6 @@ pub(super) fn look_at<'a, A: Allocator>(
         table_look(order, code).map(OtherLook::Procedure),
     ];
     looks.add_others(place, &found)
-}
-
-/// A part of the code that was not read, where no fault tells of it.
-fn untold_look(order: Order, kind: u16, code: &[u8], is_told: bool) -> Option<OtherLook> {
-    if is_told {
-        None
-    } else {
-        unread_look(order, kind, code).map(OtherLook::Code)
-    }
 }
 
 /// A record after the code of a segment that is linked: one that is no end mark and has a name that

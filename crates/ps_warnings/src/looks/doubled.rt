@@ -4,7 +4,7 @@ ghost use Rattle.std.specs.Prelude.{◌≤◌};
 use super::extents::Extent;
 use crate::warnings::{FileLook, OtherLook};
 use ps_filetype::only_byte;
-use ps_words::BLOCK_SIZE;
+use ps_words::{BLOCK_SIZE, blocks_of};
 
 /// Where so many bytes beside two equal sectors are equal too, the bytes repeat by right.
 const REPEATED: usize = 16;
@@ -20,58 +20,42 @@ pub(super) fn doubled_block(bytes: &[u8], extents: &[Extent]) -> Option<OtherLoo
     None
 }
 
+/// What the entries have of the file says that the second of two equal sectors ought to be another
+/// one. Two entries may have the same code, and what no entry has may be anything, but for a last
+/// sector without which the file ends where its last entry does.
 fn doubled_sector(bytes: &[u8], size: usize, extents: &[Extent]) -> Option<OtherLook>
     requires { 1 ≤ size }
 {
     let (mut last, mut second): (&[u8], usize) = (&[], 0);
     for here in bytes.chunks(size) {
         let start = second.saturating_sub(size);
+        let end = second.saturating_add(size);
         // (where its halves are equal, its bytes repeat by right, or are one byte)
         let half = here.len() / 2;
         if here == last && here.get(..half) != here.get(half..) {
-            let end = second.saturating_add(size);
-            let pair = Pair { start, second, end };
-            if pair.is_by_mistake(bytes, extents) {
+            let is_by_mistake = match (part_at(extents, start), part_at(extents, second)) {
+                (Some(part), Some(other)) if part == other => {
+                    // (the bytes before the two sectors, or those after them, may repeat too)
+                    let before = start.saturating_sub(REPEATED);
+                    let middle = second.saturating_sub(REPEATED);
+                    let is_before = part <= before && are_equal(bytes, before, middle);
+                    !is_before && !are_equal(bytes, second, end)
+                }
+                (Some(part), Some(other)) => {
+                    part == 0 || start.abs_diff(part) != second.abs_diff(other)
+                }
+                (Some(_), None) => bytes.len() <= end,
+                (None, _) => false,
+            };
+            if is_by_mistake {
                 let end = second.saturating_sub(1);
                 return Some(OtherLook::File(FileLook::Doubled { start, end }));
             }
         }
-        second = second.saturating_add(size);
+        second = end;
         last = here;
     }
     None
-}
-
-/// Two equal sectors, one after the other.
-#[derive(Clone, Copy)]
-struct Pair {
-    start: usize,
-    second: usize,
-    end: usize,
-}
-
-impl Pair {
-    /// What the entries have of the file says that the second sector ought to be another one. Two
-    /// entries may have the same code, and what no entry has may be anything, but for a last sector
-    /// without which the file ends where its last entry does.
-    fn is_by_mistake(self, bytes: &[u8], extents: &[Extent]) -> bool {
-        match (part_at(extents, self.start), part_at(extents, self.second)) {
-            (Some(part), Some(other)) if part == other => !self.goes_on(bytes, part),
-            (Some(part), Some(other)) => {
-                part == 0 || self.start.abs_diff(part) != self.second.abs_diff(other)
-            }
-            (Some(_), None) => bytes.len() <= self.end,
-            (None, _) => false,
-        }
-    }
-
-    /// The bytes before the two sectors, in the part that begins here, or those after them repeat
-    /// too.
-    fn goes_on(self, bytes: &[u8], part: usize) -> bool {
-        let before = self.start.saturating_sub(REPEATED);
-        part <= before && are_equal(bytes, before, self.second.saturating_sub(REPEATED))
-            || are_equal(bytes, self.second, self.end)
-    }
 }
 
 /// So many bytes from one place on are those from another one on, and not one byte.
@@ -91,7 +75,8 @@ fn part_at(extents: &[Extent], place: usize) -> Option<usize> {
         return Some(0);
     }
     for extent in extents {
-        if extent.start <= place && place < extent.last_block_end() {
+        let last_block_end = BLOCK_SIZE.saturating_mul(blocks_of(extent.end));
+        if extent.start <= place && place < last_block_end {
             return Some(extent.start);
         }
     }

@@ -6,20 +6,18 @@ ghost use Rattle.ps_codefile.specs.Dictionary.{entry_at, information_of, kind_ne
 ghost use Rattle.ps_warnings.specs.EntryLooks.{empty_look as empty_look_spec, empty_slot as empty_slot_spec, half_entry as half_entry_spec, has_name_or_kind as has_name_or_kind_spec};
 ghost use Rattle.ps_warnings.specs.FileLooks.{looks_of_entry, looks_of_segment, looks_of_slot};
 ghost use Rattle.ps_warnings.specs.Found.{Adds, link_looks};
-ghost use Rattle.ps_warnings.specs.Paths.{path_of, paths_in};
-ghost use Rattle.ps_warnings.specs.Seen.{has_slot as has_slot_spec, seen};
+ghost use Rattle.ps_segments.specs.Paths.{path_of, paths_in};
+ghost use Rattle.ps_segments.specs.Seen.{has_slot as has_slot_spec, seen};
 
-use super::names::oddity_of;
 use super::{Context, Looks, codes, in_file, records};
-use crate::segments::ReadSegment;
 use crate::warnings::{DictionaryLook, EntryLook, Look, OtherLook, SegmentLook, WarningAt};
 use ps_codefile::code_layout::NUMBERS;
 use ps_codefile::dictionary_layout::{SLOTS, TAIL};
 use ps_codefile::kinds::{FIRST_INTRINSIC, HOSTSEG, LAST_INTRINSIC, LINKED, UNITSEG};
 use ps_codefile::{Dict, Entry, ProcedureDictionary, Role, is_nameless};
-use ps_filetype::only_byte;
+use ps_filetype::{oddity_of, only_byte};
 use ps_linkinfo::LinkInformation;
-use ps_pcode::{FileCode, Info, REPEATED, SECTOR};
+use ps_segments::{FileCode, Info, REPEATED, ReadSegment, SECTOR};
 use ps_words::{Order, Reason};
 use std::alloc::{AllocError, Allocator};
 
@@ -213,28 +211,21 @@ fn refused_look(
     if context.is_refused(file, slot) {
         return None;
     }
-    let (reason, rec) = match code {
-        Ok(code) => refusal_of(dict, slot, code)?,
-        Err(reason) => (reason, None),
+    let rec = None;
+    let code = match code {
+        Ok(code) => code,
+        Err(reason) => return Some(OtherLook::Segment(SegmentLook::Refused { reason, rec })),
     };
-    Some(OtherLook::Segment(SegmentLook::Refused { reason, rec }))
-}
-
-/// Why a link that takes the segment of this code is refused, and at which record.
-fn refusal_of(dict: &Dict<'_>, slot: u8, code: &[u8]) -> Option<(Reason, Option<usize>)>
-    requires { slot < SLOTS }
-{
     let entry = dict.entry(slot);
     if !needs_linking(&entry) || code.len() < NUMBERS {
         return None;
     }
     if let Err(reason) = ProcedureDictionary::read(dict.order(), code, entry.kind == HOSTSEG) {
-        return Some((reason, None));
+        return Some(OtherLook::Segment(SegmentLook::Refused { reason, rec }));
     }
-    match LinkInformation::read(dict.order(), dict.after(slot)) {
-        Ok(_) => None,
-        Err(fault) => Some((fault.reason, Some(fault.rec))),
-    }
+    let fault = LinkInformation::read(dict.order(), dict.after(slot)).err()?;
+    let (reason, rec) = (fault.reason, Some(fault.rec));
+    Some(OtherLook::Segment(SegmentLook::Refused { reason, rec }))
 }
 
 /// What looks wrong in the dictionary's words of an entry that is filled: that it has no name, where
@@ -251,33 +242,32 @@ fn dictionary_looks(
     let is_told = file == 0 || context.is_refused(file, slot);
     let nameless = OtherLook::Dictionary(DictionaryLook::NoName { slot });
     let intrinsic = OtherLook::Dictionary(DictionaryLook::IntrinsicKind { slot, kind });
-    [
-        is_nameless(&entry.name).then_some(nameless),
-        (!is_told && is_intrinsic(entry)).then_some(intrinsic),
-        machine_look(dict, entry, slot),
-    ]
-}
-
-/// A machine type that is not P-code's, of the host program or of a unit.
-fn machine_look(dict: &Dict<'_>, entry: &Entry, slot: u8) -> Option<OtherLook> {
-    if !needs_linking(entry) {
-        return None;
-    }
-    let Info {
-        machine,
-        version,
-        ..
-    } = Info::of(dict, slot)?;
+    // (a machine type that is not P-code's, of the host program or of a unit)
     let p_code = match dict.order() {
         Order::Little => 2,
         Order::Big => 1,
     };
-    let look = DictionaryLook::MachineType {
-        slot,
-        machine,
-        version,
+    let machine = match Info::of(dict, slot) {
+        Some(
+            Info {
+                machine,
+                version,
+                ..
+            },
+        ) if needs_linking(entry) && machine != 0 && machine != p_code => {
+            Some(OtherLook::Dictionary(DictionaryLook::MachineType {
+                slot,
+                machine,
+                version,
+            }))
+        }
+        _ => None,
     };
-    (machine != 0 && machine != p_code).then_some(OtherLook::Dictionary(look))
+    [
+        is_nameless(&entry.name).then_some(nameless),
+        (!is_told && is_intrinsic(entry)).then_some(intrinsic),
+        machine,
+    ]
 }
 
 /// The entry is of Apple Pascal: an intrinsic unit, or its data. No link reads its records.

@@ -1,20 +1,19 @@
 //! Entries that overlap in their file.
 ghost use Rattle.std.specs.Prelude.{◌≡◌, ◌<◌, ◌^◌, OnOk, map, nat_lt};
 ghost use Rattle.std.specs.List.{flat_map};
-ghost use Rattle.std.specs.Result.{is_ok};
-ghost use Rattle.ps_codefile.specs.Dictionary.{code_of, entry_at, slots};
+ghost use Rattle.ps_codefile.specs.Dictionary.{entry_at, slots};
 ghost use Rattle.ps_linkinfo.specs.Records.{reading, used_by};
 ghost use Rattle.ps_warnings.specs.EntryLooks.{overlap, shares as shares_spec};
 ghost use Rattle.ps_warnings.specs.FileLooks.{extent_at as extent_at_spec, extent_of_kind as extent_of_kind_spec, information_end as information_end_spec, overlap_look};
 ghost use Rattle.ps_warnings.specs.Found.{Adds, link_looks};
 
 use super::Looks;
-use crate::segments::length_of;
 use crate::warnings::{EntryLook, Look, WarningAt};
 use ps_codefile::Dict;
 use ps_codefile::dictionary_layout::{SLOT_COUNT, SLOTS};
 use ps_codefile::kinds::{HOSTSEG, LINKED, UNITSEG};
 use ps_linkinfo::LinkInformation;
+use ps_segments::length_of;
 use ps_words::{BLOCK_SIZE, Order, blocks_of};
 use std::alloc::{AllocError, Allocator};
 
@@ -23,21 +22,10 @@ use std::alloc::{AllocError, Allocator};
 pub(super) struct Extent {
     slot: u8,
     pub(super) start: usize,
-    end: usize,
+    pub(super) end: usize,
 }
 
 impl Extent {
-    /// Where the last block ends that has bytes of the entry.
-    pub(super) fn last_block_end(&self) -> usize {
-        BLOCK_SIZE.saturating_mul(blocks_of(self.end))
-    }
-
-    /// Its bytes in its file.
-    pub(super) fn bytes_in<'b>(&self, file: &'b [u8]) -> &'b [u8] {
-        file.get(self.start..self.end.min(file.len()))
-            .unwrap_or(&[])
-    }
-
     /// No bytes.
     const EMPTY: Extent = Extent {
         slot: 0,
@@ -94,22 +82,10 @@ fn extent_at(dict: &Dict<'_>, slot: u8) -> Extent
     requires { slot < SLOTS }
     ensures { result ≡ extent_at_spec dict.now.order dict.now.file slot }
 {
-    if dict.filled(slot) && has_code(dict, slot) {
+    if dict.filled(slot) && dict.is_in_file(slot) {
         extent_of_kind(dict, slot)
     } else {
         Extent::EMPTY
-    }
-}
-
-/// The entry has a code.
-fn has_code(dict: &Dict<'_>, slot: u8) -> bool
-    requires { slot < SLOTS }
-    ensures { result ≡ is_ok (code_of dict.now.file
-        (entry_at dict.now.order dict.now.file slot)) }
-{
-    match dict.code(slot) {
-        Ok(_) => true,
-        Err(_) => false,
     }
 }
 

@@ -4,8 +4,8 @@ ghost use Rattle.std.specs.Option.{option_map};
 ghost use Rattle.ps_warnings.specs.AllLooks.{looks_of_file};
 ghost use Rattle.ps_warnings.specs.FileLooks.{looks_of_code_file, looks_of_entries};
 ghost use Rattle.ps_warnings.specs.Found.{Adds, link_looks};
-ghost use Rattle.ps_warnings.specs.Paths.{host_order, path_of, paths_in};
-ghost use Rattle.ps_warnings.specs.Seen.{seen};
+ghost use Rattle.ps_segments.specs.Paths.{host_order, path_of, paths_in};
+ghost use Rattle.ps_segments.specs.Seen.{seen};
 
 use super::doubled::doubled_block;
 use super::extents::{Extent, extents_of};
@@ -14,7 +14,8 @@ use crate::warnings::{FileLook, OtherLook};
 use ps_codefile::Dict;
 use ps_codefile::dictionary_layout::SLOTS;
 use ps_filetype::{FileType, LineEnds, is_code_type};
-use ps_pcode::FileCode;
+use ps_segments::FileCode;
+use ps_words::Reason;
 use std::alloc::{AllocError, Allocator};
 
 /// The byte that CP/M pads files with.
@@ -43,10 +44,19 @@ pub(super) fn look_at<'a, A: Allocator>(
     looks.add_other(in_file(context.inputs.path(file)), look)
 }
 
-/// What a file is that is no code file, where the fault does not tell it.
+/// What a file is that is no code file, where the fault's explanation does not say it.
 fn type_look(context: &Context<'_, '_>, file: usize, bytes: &[u8]) -> Option<OtherLook> {
-    if context.is_type_told(file) {
-        return None;
+    if let Some(fault) = context.fault {
+        match fault.reason {
+            Reason::MissingUnit => return None,
+            Reason::ShortFile
+            | Reason::NoOrder
+            | Reason::OrderMismatch
+            | Reason::NoHost
+            | Reason::NativeProcedure
+                if fault.file == file => return None,
+            _ => {}
+        }
     }
     let file_type = FileType::of(bytes);
     Some(OtherLook::File(FileLook::NoCodeFile { file_type }))
@@ -130,7 +140,8 @@ fn converted_in(bytes: &[u8], dict: &Dict<'_>, extents: &[Extent]) -> Option<Oth
         return converted(bytes);
     }
     for extent in extents {
-        if let Some(look) = converted(extent.bytes_in(bytes)) {
+        let part = bytes.get(extent.start..extent.end.min(bytes.len()));
+        if let Some(look) = converted(part.unwrap_or(&[])) {
             return Some(look);
         }
     }

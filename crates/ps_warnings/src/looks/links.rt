@@ -3,17 +3,17 @@ ghost use Rattle.std.specs.Prelude.{◌≡◌, ◌<◌, ◌≤◌, OnOk, length,
 ghost use Rattle.ps_codefile.specs.Dictionary.{entry_at};
 ghost use Rattle.ps_warnings.specs.AllLooks.{looks_of_unit, looks_of_units, looks_of_link};
 ghost use Rattle.ps_warnings.specs.Found.{Adds, link_looks};
-ghost use Rattle.ps_warnings.specs.Paths.{paths_in};
+ghost use Rattle.ps_segments.specs.Paths.{paths_in};
 ghost use Rattle.ps_warnings.specs.LinkLooks.{is_near_unit as is_near_unit_spec, other_spelling as other_spelling_spec, taken_by as taken_by_spec, taken_slot as taken_slot_spec};
-ghost use Rattle.ps_warnings.specs.Seen.{seen};
+ghost use Rattle.ps_segments.specs.Seen.{seen};
 
 use super::entries::has_name_or_kind;
-use super::names::is_near;
 use super::{Context, Looks};
-use crate::segments::{ReadSegment, SegmentPart};
 use crate::warnings::{LinkLook, Look, WarningAt};
 use ps_codefile::Dict;
 use ps_codefile::dictionary_layout::SLOTS;
+use ps_filetype::is_near;
+use ps_segments::{ReadSegment, SegmentPart};
 use ps_words::Name;
 use std::alloc::{AllocError, Allocator};
 

@@ -8,17 +8,17 @@ ghost use Rattle.ps_linkinfo.specs.Records.{reading};
 ghost use Rattle.ps_resolve.specs.Searches.{first_of};
 ghost use Rattle.ps_warnings.specs.FileLooks.{data_size as data_size_spec, definition_looks, looks_of_records};
 ghost use Rattle.ps_warnings.specs.Found.{Adds, link_looks};
-ghost use Rattle.ps_warnings.specs.RecordLooks.{definition_as as definition_as_spec, definition_of as definition_of_spec, first_definition as first_definition_spec, first_high, first_past, high_as as high_as_spec, high_value as high_value_spec, is_defined as is_defined_spec, is_requested as is_requested_spec, low_below as low_below_spec, low_mark as low_mark_spec, past_as as past_as_spec, past_words as past_words_spec};
+ghost use Rattle.ps_warnings.specs.RecordLooks.{definition_as as definition_as_spec, definition_of as definition_of_spec, first_definition as first_definition_spec, first_high, first_past, high_as as high_as_spec, is_defined as is_defined_spec, is_requested as is_requested_spec, low_mark as low_mark_spec, past_as as past_as_spec, past_words as past_words_spec};
 
-use super::names::oddity_of;
 use super::{Context, Looks};
 use crate::warnings::{Look, OtherLook, RecordLook, SegmentLook, WarningAt};
 use ps_codefile::code_layout::NUMBERS;
 use ps_codefile::dictionary_layout::SLOTS;
 use ps_codefile::kinds::HOSTSEG;
 use ps_codefile::{Dict, Entry, ProcedureDictionary};
+use ps_filetype::oddity_of;
 use ps_linkinfo::{Body, LinkInformation, LinkRecord, Refs, Sort};
-use ps_pcode::{FileCode, OperandGuesses};
+use ps_segments::{FileCode, OperandGuesses};
 use ps_words::{Name, Order, get_big};
 use std::alloc::{AllocError, Allocator};
 
@@ -243,17 +243,6 @@ fn first_definition(
     None
 }
 
-/// An end mark is below half the size of a host program's own data, in bytes.
-fn low_below(next: u16, size: u16) -> Option<Look>
-    ensures { result ≡ low_below_spec next size }
-{
-    if next < size / 2 {
-        Some(Look::Record(RecordLook::LowMark { next, data: size }))
-    } else {
-        None
-    }
-}
-
 /// The end mark of the host program, where it is below half its data size.
 fn low_mark(records: &LinkInformation<'_>, size: Option<u16>) -> Option<Look>
     ensures { result ≡ low_mark_spec records.now size }
@@ -261,27 +250,30 @@ fn low_mark(records: &LinkInformation<'_>, size: Option<u16>) -> Option<Look>
     match size {
         None => None,
         Some(_) if records.is_empty() => None,
-        Some(size) => low_below(records.next(), size),
+        Some(data) => {
+            let next = records.next();
+            if next < data / 2 {
+                Some(Look::Record(RecordLook::LowMark { next, data }))
+            } else {
+                None
+            }
+        }
     }
 }
 
-/// A variable that the host program defines at the next free base offset or above it.
-fn high_value(next: u16, name: Name, value: u16) -> Option<Look>
-    ensures { result ≡ high_value_spec next name value }
-{
-    if value < next {
-        None
-    } else {
-        Some(Look::Record(RecordLook::HighDefinition { name, value, next }))
-    }
-}
-
-/// The same of a record.
+/// A record of a variable that the host program defines at the next free base offset or above it.
 fn high_as(next: u16, entry: &LinkRecord<'_>) -> Option<Look>
     ensures { result ≡ high_as_spec next entry.now.name entry.now.body }
 {
     match entry.body {
-        Body::PublDef(value) => high_value(next, entry.name, value),
+        Body::PublDef(value) => {
+            if value < next {
+                None
+            } else {
+                let name = entry.name;
+                Some(Look::Record(RecordLook::HighDefinition { name, value, next }))
+            }
+        }
         Body::UnitRef(_)
         | Body::PublRef(_)
         | Body::PrivRef { .. }

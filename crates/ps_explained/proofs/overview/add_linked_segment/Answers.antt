@@ -1,7 +1,7 @@
 use Rattle.std.proofs.Common.{◌≡◌, ◌∷◌, [], List, ℕ, ap, length, refl, subst, string_bytes}
 use Rattle.std.specs.Result.{OnOk}
 use Rattle.ps_resolve.specs.Sources.{contents}
-use Rattle.ps_warnings.specs.Paths.{path_of}
+use Rattle.ps_segments.specs.Paths.{path_of}
 use Rattle.ps_explained.specs.SlotLines.{AddsSlotLines}
 use Rattle.ps_explained.proofs.LinesOfSegments.{same_line}
 use Rattle.ps_explained.proofs.overview.add_linked_segment.Goals as goal

@@ -1,8 +1,8 @@
 use Rattle.std.proofs.Common.{◌≡◌, ◌∙◌, ◌∷◌, List, ℕ, None, ap, map, string_bytes, subst}
 use Rattle.ps_warnings.specs.AllLooks.{link_looks_of}
 use Rattle.ps_warnings.specs.Found.{sorted}
-use Rattle.ps_warnings.specs.Seen.{Seen, seen}
-use Rattle.ps_warnings.specs.SeenSegments.{seen_by}
+use Rattle.ps_segments.specs.Seen.{Seen, seen}
+use Rattle.ps_segments.specs.SeenSegments.{seen_by}
 use Rattle.ps_resolve.specs.AllFaults.{reading_fault}
 use Rattle.ps_resolve.specs.Readings.{ReadFiles, opened_host}
 use Rattle.ps_resolve.specs.Sources.{contents}

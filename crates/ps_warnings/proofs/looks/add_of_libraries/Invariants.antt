@@ -4,8 +4,8 @@ use Rattle.std.specs.Option.{option_map}
 use Rattle.ps_resolve.specs.Sources.{contents}
 use Rattle.ps_warnings.specs.AllLooks.{looks_of_file}
 use Rattle.ps_warnings.specs.Found.{link_looks}
-use Rattle.ps_warnings.specs.Paths.{host_order, paths_in}
-use Rattle.ps_warnings.specs.Seen.{seen}
+use Rattle.ps_segments.specs.Paths.{host_order, paths_in}
+use Rattle.ps_segments.specs.Seen.{seen}
 use Rattle.ps_warnings.proofs.Found.{Owes}
 use Rattle.ps_warnings.proofs.looks.add_of_libraries.Given as goal
 

@@ -1,7 +1,7 @@
 use Rattle.std.proofs.Common.{◌∙◌, sym, ap}
 use Rattle.std.specs.Prelude.{Some}
 use Rattle.std.specs.Option.{option_map}
-use Rattle.ps_warnings.specs.Seen.{Seen, seen}
+use Rattle.ps_segments.specs.Seen.{Seen, seen}
 use Rattle.ps_warnings.proofs.looks.records_of_host.Goals as goal
 
 pub returns-in-None : goal.returns-in-None

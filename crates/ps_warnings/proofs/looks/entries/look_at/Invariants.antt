@@ -4,8 +4,8 @@ use Rattle.std.specs.Option.{option_map}
 use Rattle.ps_codefile.specs.Dictionary.{slots}
 use Rattle.ps_warnings.specs.FileLooks.{looks_of_slot}
 use Rattle.ps_warnings.specs.Found.{link_looks}
-use Rattle.ps_warnings.specs.Paths.{path_of, paths_in}
-use Rattle.ps_warnings.specs.Seen.{seen}
+use Rattle.ps_segments.specs.Paths.{path_of, paths_in}
+use Rattle.ps_segments.specs.Seen.{seen}
 use Rattle.ps_warnings.proofs.Found.{Owes}
 use Rattle.ps_codefile.specs.declared.dictionary_layout.TheConstants.{SLOTS}
 use Rattle.ps_warnings.proofs.looks.entries.look_at.Given as goal

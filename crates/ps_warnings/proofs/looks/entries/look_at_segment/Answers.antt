@@ -6,7 +6,7 @@ use Rattle.std.specs.Prelude.{Result}
 use Rattle.ps_words.specs.declared.fault.Reason.{Reason}
 use Rattle.ps_codefile.specs.Dictionary.{entry_at, information_of}
 use Rattle.ps_warnings.specs.FileLooks.{looks_of_segment}
-use Rattle.ps_warnings.specs.Paths.{path_of, paths_in}
+use Rattle.ps_segments.specs.Paths.{path_of, paths_in}
 use Rattle.ps_warnings.proofs.Found.{adds_is, none_then}
 use Rattle.ps_warnings.proofs.SeenLists.{code_as, code_is}
 use Rattle.ps_warnings.proofs.Slots.{no_code}

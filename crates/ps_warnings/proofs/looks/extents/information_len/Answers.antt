@@ -1,8 +1,14 @@
-use Rattle.std.proofs.Common.{◌∙◌, ◌<◌, ◌^◌, List, ap, arith}
-use Rattle.ps_linkinfo.specs.Records.{used_by}
+use Rattle.std.proofs.Common.{◌≡◌, ◌∙◌, ◌<◌, ◌≤◌, ◌^◌, ℕ, List, length, ap, arith}
+use Rattle.ps_words.specs.declared.order.Order.{Order}
+use Rattle.ps_linkinfo.specs.Records.{reading, used_by}
 use Rattle.ps_linkinfo.specs.declared.record.LinkRecord.{LinkRecord as Record}
-use Rattle.ps_warnings.proofs.Lengths.{reading_fits}
+use Rattle.ps_linkinfo.proofs.Spelled.{spelled_fit}
+use Rattle.ps_linkinfo.proofs.Stands.{reading_spelled}
 use Rattle.ps_warnings.proofs.looks.extents.information_len.Goals as goal
+
+-- records are in the bytes that they are read of
+reading_fits : (order : Order) (x : List ℕ) → used_by (reading order x).0 ≤ length x
+reading_fits order x = spelled_fit order x (reading order x).0 (reading_spelled order x)
 
 pub returns-clause-used : goal.returns-clause-used
 returns-clause-used c =

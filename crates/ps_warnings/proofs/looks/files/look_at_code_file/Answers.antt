@@ -2,10 +2,10 @@ use Rattle.std.proofs.Common.{◌∙◌, Bor, List, map, sym, ap}
 use Rattle.std.proofs.lemmas.Result.{on_ok_weaker}
 use Rattle.std.specs.Option.{option_map}
 use Rattle.ps_linkinfo.specs.declared.record.LinkRecord.{LinkRecord as Record}
-use Rattle.ps_warnings.specs.Seen.{seen}
+use Rattle.ps_segments.specs.Seen.{seen}
 use Rattle.ps_words.specs.declared.order.Order.{Order}
 use Rattle.ps_codefile.specs.Dictionary.{opened_beside}
-use Rattle.ps_warnings.specs.Paths.{host_order, path_of, paths_in}
+use Rattle.ps_segments.specs.Paths.{host_order, path_of, paths_in}
 use Rattle.ps_warnings.proofs.Found.{adds_is, none_then}
 use Rattle.ps_warnings.proofs.Slots.{can_read, cannot_read}
 use Rattle.ps_warnings.proofs.looks.files.look_at_code_file.Goals as goal

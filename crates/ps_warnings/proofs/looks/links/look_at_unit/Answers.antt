@@ -3,8 +3,8 @@ use Rattle.std.proofs.lemmas.List.{take-map}
 use Rattle.std.proofs.lemmas.Result.{on_ok_weaker}
 use Rattle.ps_warnings.specs.AllLooks.{looks_of_unit}
 use Rattle.ps_warnings.specs.LinkLooks.{other_spelling}
-use Rattle.ps_warnings.specs.Seen.{Seen, seen}
-use Rattle.ps_warnings.specs.declared.segments.ReadSegment.{ReadSegment}
+use Rattle.ps_segments.specs.Seen.{Seen, seen}
+use Rattle.ps_segments.specs.declared.segments.ReadSegment.{ReadSegment}
 use Rattle.ps_warnings.proofs.Found.{adds_both}
 use Rattle.ps_warnings.proofs.looks.links.look_at_unit.Goals as goal
 

@@ -1,8 +1,8 @@
 use Rattle.std.proofs.Common.{map, refl}
 use Rattle.std.proofs.lemmas.List.{drop_more}
-use Rattle.ps_warnings.specs.Paths.{paths_in}
+use Rattle.ps_segments.specs.Paths.{paths_in}
 use Rattle.ps_warnings.specs.AllLooks.{looks_of_unit, looks_of_units}
-use Rattle.ps_warnings.specs.Seen.{seen}
+use Rattle.ps_segments.specs.Seen.{seen}
 use Rattle.ps_warnings.proofs.Found.{numbered_left, numbered_over, owes_all, owes_less, owes_none}
 use Rattle.ps_warnings.proofs.SeenLists.{seen_left, seen_over}
 use Rattle.ps_warnings.proofs.looks.links.look_at_units.Goals as goal

@@ -1,9 +1,9 @@
 use Rattle.std.proofs.Common.{drop, map}
 use Rattle.std.specs.List.{enumerate_from, flat_map}
-use Rattle.ps_warnings.specs.Paths.{paths_in}
+use Rattle.ps_segments.specs.Paths.{paths_in}
 use Rattle.ps_warnings.specs.AllLooks.{looks_of_unit, looks_of_units}
 use Rattle.ps_warnings.specs.Found.{link_looks}
-use Rattle.ps_warnings.specs.Seen.{seen}
+use Rattle.ps_segments.specs.Seen.{seen}
 use Rattle.ps_warnings.proofs.Found.{Owes}
 use Rattle.ps_warnings.proofs.looks.links.look_at_units.Given as goal
 

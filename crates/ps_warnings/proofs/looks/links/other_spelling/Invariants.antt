@@ -1,7 +1,7 @@
 use Rattle.std.proofs.Common.{◌≡◌, drop, map}
 use Rattle.std.specs.List.{find}
 use Rattle.ps_warnings.specs.LinkLooks.{is_near_unit}
-use Rattle.ps_warnings.specs.Seen.{seen}
+use Rattle.ps_segments.specs.Seen.{seen}
 use Rattle.ps_warnings.proofs.looks.links.other_spelling.Given as goal
 
 -- the unit is looked for in what is left

@@ -1,0 +1,93 @@
+//! Names that look wrong, and names as they ought to be written.
+ghost use Rattle.std.specs.Prelude.{◌≡◌};
+ghost use Rattle.ps_filetype.specs.Names.{is_near as is_near_spec, plain as plain_spec, plain_byte as plain_byte_spec};
+
+use ps_codefile::is_nameless;
+use ps_words::{NAME_LEN, Name};
+use std::fmt::{self, Formatter};
+use std::ops::RangeInclusive;
+
+/// How a name is odd.
+///
+/// Source: this project's profile.
+#[derive(Clone, Copy)]
+pub enum Oddity {
+    HighBytes,
+    ControlBytes,
+    Zeros,
+    SmallLetters,
+}
+
+impl fmt::Display for Oddity {
+    fn fmt<W: fmt::Write>(&self, f: &mut Formatter<W>) -> fmt::Result {
+        f.write_str(match self {
+            Oddity::HighBytes => "has bytes above 127",
+            Oddity::ControlBytes => "has control bytes",
+            Oddity::Zeros => "is padded with zeros where blanks are expected",
+            Oddity::SmallLetters => "has small letters, and other names have capitals",
+        })
+    }
+}
+
+/// One of these bytes is in the name.
+/// Source: this project's profile.
+pub fn has_any(name: &Name, bytes: RangeInclusive<u8>) -> bool {
+    for byte in name {
+        if bytes.contains(byte) {
+            return true;
+        }
+    }
+    false
+}
+
+/// How a name is odd; none where it is as a compiler writes it, or no name. Small letters are odd
+/// only where other names have capitals.
+/// Source: this project's profile.
+pub fn oddity_of(name: &Name, are_small: bool) -> Option<Oddity> {
+    if is_nameless(name) || !has_any(name, 0..=0x1F) && !has_any(name, b'a'..=0xFF) {
+        None
+    } else if has_any(name, 0x80..=0xFF) {
+        Some(Oddity::HighBytes)
+    } else if has_any(name, 0x01..=0x1F) || name.contains(&0x7F) {
+        Some(Oddity::ControlBytes)
+    } else if name.contains(&0) {
+        Some(Oddity::Zeros)
+    } else if !are_small && has_any(name, b'a'..=b'z') {
+        Some(Oddity::SmallLetters)
+    } else {
+        None
+    }
+}
+
+/// A byte of a name as it ought to be written: without bit 7, a capital letter, and a blank for a 0.
+fn plain_byte(byte: u8) -> u8
+    ensures { result ≡ plain_byte_spec byte }
+{
+    match byte % 128 {
+        0 => b' ',
+        low => low.to_ascii_uppercase(),
+    }
+}
+
+/// A name as it ought to be written where a careless hand wrote it in small letters, with high bits
+/// set, or with zeros for blanks.
+///
+/// Source: this project's profile.
+pub fn plain(name: &Name) -> Name
+    ensures { result ≡ plain_spec name.now }
+{
+    let mut plain = [0; NAME_LEN];
+    for i in 0..NAME_LEN {
+        plain[i] = plain_byte(name[i]);
+    }
+    plain
+}
+
+/// The names differ, and only in small letters, high bits, or zeros where blanks are expected.
+///
+/// Source: this project's profile.
+pub fn is_near(a: &Name, b: &Name) -> bool
+    ensures { result ≡ is_near_spec a.now b.now }
+{
+    a != b && plain(a) == plain(b)
+}

@@ -1,0 +1,4 @@
+pub mod Paths
+pub mod SegmentParts
+pub mod Seen
+pub mod SeenSegments

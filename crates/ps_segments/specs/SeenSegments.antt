@@ -1,0 +1,170 @@
+-- The segments of a link as they were read: of each slot of the host its segment, also where it is
+-- refused, and then the first unit for which no slot is left.
+-- Source: this project's profile.
+use Rattle.std.specs.Prelude.{ℕ, ◌+◌, ◌&&◌, if◌then◌else◌, List, [], ◌∷◌, ◌++◌, nat_lt, slice_get, Bool, true, false, Option, Some, None, Result, Ok, Err, codes, filter_map, is_some, option_and_then}
+use Rattle.std.specs.List.{cons_option, list_any}
+use Rattle.std.specs.Option.{option_map, option_map_or}
+use Rattle.std.specs.Result.{is_ok}
+use Rattle.std.specs.Str.{bytes_eq}
+use Rattle.ps_words.specs.declared.fault.Fault.{Fault}
+use Rattle.ps_words.specs.declared.fault.Reason.{Reason}
+use Rattle.ps_codefile.specs.Dictionary.{OpenedFile, code_of, entry_at, information_of, opened_beside, role_of, slots}
+use Rattle.ps_codefile.specs.declared.entry.Role.{Role}
+use Rattle.ps_codefile.specs.declared.entry.Role.TheVariants as role
+use Rattle.ps_linkinfo.specs.Records.{reading}
+use Rattle.ps_linkinfo.specs.declared.record.LinkRecord.{LinkRecord as Record}
+use Rattle.ps_resolve.specs.Readings.{HostFiles, opened_host, read_requests, slot_entry, slot_reading, slot_request}
+use Rattle.ps_resolve.specs.Sources.{Segment, file_at, opened_files}
+use Rattle.ps_reading.specs.declared.reading.added.UnitReference.{UnitReference}
+use Rattle.ps_reading.specs.declared.reading.request.Request.{Request}
+use Rattle.ps_reading.specs.declared.reading.request.Requester.{Requester}
+use Rattle.ps_reading.specs.declared.reading.request.Requester.TheVariants as by
+use Rattle.ps_segments.specs.Paths.{host_order}
+use Rattle.ps_segments.specs.Seen.{Seen, part_needs_linking}
+use Rattle.ps_segments.specs.declared.segments.SegmentPart.{SegmentPart}
+use Rattle.ps_segments.specs.declared.segments.SegmentPart.TheVariants as part
+use Rattle.ps_codefile.specs.declared.dictionary_layout.TheConstants.{SLOTS}
+
+-- the records that can be read at an entry of a file that was opened, if it has a code
+abbrev pub records_at : ℕ → OpenedFile → List Record
+records_at index f = let e = entry_at f.order f.file index in
+    if is_ok (code_of f.file e) then (reading f.order (information_of f.file e)).0 else []
+
+-- where a segment comes from: its file, and the records there; none where the file is not opened
+abbrev pub origin_in : ℕ → ℕ → Result OpenedFile Reason → Option (ℕ × List Record)
+origin_in file index (Ok f) = Some (file, records_at index f)
+origin_in file index (Err why) = None
+
+-- so of an entry of a host or a library, which is read in the host's order
+unfoldable pub origin_of : List ℕ → List (List ℕ) → ℕ × ℕ
+    → Option (ℕ × List Record)
+origin_of host libs at = if nat_lt at.1 SLOTS
+    then origin_in at.0 at.1 (opened_beside (host_order host) (file_at host libs at.0)) else None
+
+-- what is seen of a segment that comes from there
+abbrev pub records_from : Option (ℕ × List Record) → List Record
+records_from None = []
+records_from (Some origin) = origin.1
+
+unfoldable pub seen_with : Option ℕ → List ℕ → SegmentPart → Option (ℕ × List Record)
+    → Seen
+seen_with slot name what origin = record {
+  slot = slot;
+  name = name;
+  part = what;
+  file = option_map (λ o. o.0) origin;
+  records = if part_needs_linking what then records_from origin else [];
+}
+
+-- the request that a slot has in a reading, its entry, what was read of it, and its role
+abbrev pub request_in : HostFiles → ℕ → Option Request
+request_in h slot = slot_request h.order h.file (opened_files h.order h.libs) slot
+
+abbrev pub entry_in : HostFiles → ℕ → Option (ℕ × ℕ)
+entry_in h slot = slot_entry h.order h.file (opened_files h.order h.libs) slot
+
+abbrev pub reading_in : HostFiles → ℕ → Option (Result Segment Fault)
+reading_in h slot = slot_reading h.order h.file (opened_files h.order h.libs) slot
+
+abbrev pub role_in : HostFiles → ℕ → Result Role Reason
+role_in h slot = role_of (entry_at h.order h.file slot)
+
+-- the name of the segment of a slot
+abbrev pub name_by : HostFiles → ℕ → Option Request → List ℕ
+name_by h slot None = (entry_at h.order h.file slot).name
+name_by h slot (Some r) = r.name
+
+unfoldable pub name_in : HostFiles → ℕ → List ℕ
+name_in h slot = if nat_lt slot SLOTS then name_by h slot (request_in h slot)
+    else codes "        "
+
+-- a slot of this role has or wants a unit
+abbrev pub is_for_unit : Result Role Reason → Bool
+is_for_unit (Ok role.Unit) = true
+is_for_unit (Ok role.Wanted) = true
+is_for_unit (Ok role.Empty) = false
+is_for_unit (Ok role.Plain) = false
+is_for_unit (Ok role.Host) = false
+is_for_unit (Err why) = false
+
+-- the unit of a slot has this name
+abbrev pub is_unit_of : HostFiles → List ℕ → ℕ → Bool
+is_unit_of h name slot = is_for_unit (role_in h slot)
+    && bytes_eq (entry_at h.order h.file slot).name name
+
+-- the unit of some slot of the host has this name
+unfoldable pub is_of_host : HostFiles → List ℕ → Bool
+is_of_host h name = list_any (is_unit_of h name) slots
+
+-- what a unit is that is requested; none where it is one of the host's that is refused
+abbrev pub part_by : HostFiles → List ℕ → Requester → Option SegmentPart
+part_by h name by.Slot = Some part.Wanted
+part_by h name (by.Record place) = if is_of_host h name then None
+    else Some (part.Added (name_in h place.segment.slot) place.rec)
+
+-- what the segment of a slot of this role is, that is not requested
+abbrev pub part_of_role : Result Role Reason → Option SegmentPart
+part_of_role (Ok role.Plain) = Some part.Plain
+part_of_role (Ok role.Host) = Some part.Host
+part_of_role (Ok role.Unit) = Some part.Unit
+part_of_role (Ok role.Empty) = None
+part_of_role (Ok role.Wanted) = None
+part_of_role (Err why) = None
+
+-- what the segment of a slot is; none where there is none
+abbrev pub part_for : HostFiles → ℕ → Option Request → Option SegmentPart
+part_for h slot None = part_of_role (role_in h slot)
+part_for h slot (Some r) = part_by h r.name r.requester
+
+unfoldable pub part_in : HostFiles → ℕ → Option SegmentPart
+part_in h slot = part_for h slot (request_in h slot)
+
+-- a record requests the unit that takes a slot
+abbrev pub is_by_record : Requester → Bool
+is_by_record by.Slot = false
+is_by_record (by.Record place) = true
+
+unfoldable pub takes_slot : HostFiles → ℕ → Bool
+takes_slot h slot = option_map_or (λ r. is_by_record r.requester) (request_in h slot) false
+
+-- how many of these slots are taken so
+abbrev pub taken_of : HostFiles → List ℕ → ℕ
+taken_of h [] = 0
+taken_of h (slot ∷ ss) = (if takes_slot h slot then 1 else 0) + taken_of h ss
+
+-- where the segment of a slot comes from, if it was read: its file and its entry there, and what
+-- they have
+unfoldable pub read_entry : HostFiles → ℕ → Option (ℕ × ℕ)
+read_entry h slot = if is_some (reading_in h slot) then entry_in h slot else None
+
+abbrev pub slot_origin : List ℕ → List (List ℕ) → HostFiles → ℕ
+    → Option (ℕ × List Record)
+slot_origin host libs h slot = option_and_then (origin_of host libs) (read_entry h slot)
+
+-- what is seen of the segment of a slot
+unfoldable pub seen_in : List ℕ → List (List ℕ) → HostFiles → ℕ → Option Seen
+seen_in host libs h slot = option_map (λ what. seen_with (Some slot) (name_in h slot) what
+    (slot_origin host libs h slot)) (part_in h slot)
+
+-- what is seen of a unit that is requested and for which no slot is left
+abbrev pub seen_unit : HostFiles → UnitReference → Option Seen
+seen_unit h u = if is_of_host h u.name then None
+    else Some (seen_with None u.name (part.Added (name_in h u.at.segment.slot) u.at.rec) None)
+
+-- what is seen of the unit of the first requested name for which no slot is left
+unfoldable pub unplaced : HostFiles → Option Seen
+unplaced h = option_and_then (seen_unit h)
+    (slice_get (read_requests h.order h.file (opened_files h.order h.libs))
+    (taken_of h slots))
+
+-- what is seen of all of them, by slot
+unfoldable pub seen_of : List ℕ → List (List ℕ) → HostFiles → List Seen
+seen_of host libs h = filter_map (seen_in host libs h) slots ++ cons_option (unplaced h) []
+
+-- what is seen of the segments of a link, whose host can be read or not
+abbrev pub seen_by : List ℕ → List (List ℕ) → Result HostFiles Reason → List Seen
+seen_by host libs (Ok h) = seen_of host libs h
+seen_by host libs (Err why) = []
+
+abbrev pub seen_segments : List ℕ → List (List ℕ) → List Seen
+seen_segments host libs = seen_by host libs (opened_host host libs)

@@ -1,0 +1,83 @@
+//! The code of a procedure of P-code.
+use crate::places::MOST;
+use crate::rules::{Rule, ShownRules};
+use crate::table::Release;
+use crate::tables::{Ends, pointed_at};
+use crate::walks::Walk;
+use ps_words::Order;
+
+/// From this operand on a jump goes by the jump table.
+const BY_TABLE: u8 = 128;
+
+/// The code of a procedure.
+#[derive(Clone, Copy)]
+pub(crate) struct Body<'c> {
+    pub(crate) order: Order,
+    /// That of its segment, up to the procedure's table.
+    pub(crate) code: &'c [u8],
+    pub(crate) ends: Ends,
+}
+
+/// Where a jump leads to.
+#[derive(Clone, Copy)]
+pub(crate) enum Target {
+    /// So many bytes after the place where the procedure is entered.
+    Short(usize),
+    ByTable(usize),
+    /// No place that the procedure has.
+    Outside,
+}
+
+impl<'c> Body<'c> {
+    /// That before a table; none where the table names no place in the code, or one that is too far
+    /// away to be of a procedure.
+    pub(crate) fn before(order: Order, segment: &'c [u8], table: usize) -> Option<Body<'c>> {
+        let body = Body {
+            order,
+            code: segment.get(..table)?,
+            ends: Ends::at(order, segment, table)?,
+        };
+        if body.len() < MOST { Some(body) } else { None }
+    }
+
+    /// How many bytes it has, with its jump table and the sizes before its table.
+    pub(crate) fn len(self) -> usize {
+        self.code.len().saturating_sub(self.ends.enter)
+    }
+
+    /// What it shows of the rules by the table of instructions of the release by which it keeps to
+    /// more of them.
+    pub(crate) fn shown_rules(self, walk: &mut Walk) -> ShownRules {
+        let later = walk.over(self, Release::Later);
+        if later.rules_kept() == Rule::ALL.len() {
+            return later;
+        }
+        let earlier = walk.over(self, Release::Earlier);
+        if later.rules_kept() < earlier.rules_kept() {
+            earlier
+        } else {
+            later
+        }
+    }
+
+    /// Where a jump with this operand leads to, whose instruction ends at a place.
+    ///
+    /// The jump table is before the procedure's table: an operand of 256 minus n names the word n
+    /// bytes before that table, which says how far before the word the jump goes.
+    pub(crate) fn target(self, operand: u8, end: usize) -> Target {
+        if operand < BY_TABLE {
+            let place = end.saturating_add(usize::from(operand));
+            return Target::Short(place.saturating_sub(self.ends.enter));
+        }
+        let length = self.code.len().saturating_add(usize::from(operand));
+        let Some(word) = length.checked_sub(256) else {
+            return Target::Outside;
+        };
+        match pointed_at(self.order, self.code, word) {
+            Some(place) if self.ends.enter <= place => {
+                Target::ByTable(place.saturating_sub(self.ends.enter))
+            }
+            _ => Target::Outside,
+        }
+    }
+}
