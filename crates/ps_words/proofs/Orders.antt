@@ -49,7 +49,8 @@ only_one (x ∷ es) from p apart a b (zero, la, ea) (suc k, lb, eb) on_a on_b =
 only_one (x ∷ es) from p apart a b (suc i, la, ea) (zero, lb, eb) on_a on_b =
     grind (arith, covers_to, covers_from, behind es (place_of x + width x) a apart.1)
 only_one (x ∷ es) from p apart a b (suc i, la, ea) (suc k, lb, eb) on_a on_b =
-    only_one es (place_of x + width x) p apart.1 a b (i, omega arith, ea) (k, omega arith, eb) on_a on_b
+    only_one es (place_of x + width x) p apart.1 a b (i, omega arith, ea) (k, omega arith, eb) on_a
+    on_b
 
 -- so what is found there is the one that covers the place
 found_is : (es : List Edit) (e : Edit) (p : ℕ) → AreApart 0 es → Contains es e
