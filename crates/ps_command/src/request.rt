@@ -302,9 +302,17 @@ fn usage_error(
     ensures { kind ≢ ErrorKind.OutOfMemory → result ≢ CommandError.Memory
         → status_of result ≡ 2 }
 {
-    let Ok(mut command) = made else {
-        return CommandError::Memory;
-    };
+    match made {
+        Ok(mut command) => error_with_usage(&mut command, kind, text),
+        Err(_) => CommandError::Memory,
+    }
+}
+
+/// The error of this kind, with the usage of this command.
+fn error_with_usage(command: &mut Command<'_>, kind: ErrorKind, text: &str) -> CommandError<'static>
+    ensures { kind ≢ ErrorKind.OutOfMemory → result ≢ CommandError.Memory
+        → status_of result ≡ 2 }
+{
     match command.error(kind, text) {
         Ok(error) => CommandError::from(error),
         Err(_) => CommandError::Memory,

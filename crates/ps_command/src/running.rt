@@ -349,8 +349,10 @@ fn map_bytes<A: Allocator + Copy, O: Write>(
     ensures err { IfErr result (λ e. status_of e ≢ 3 → out.new ≡ out.old) }
     ensures usage { IfErr result (λ e. status_of e ≢ 2) }
 {
-    let linked = ps_linkfile::prepare(alloc, host, libraries)?;
-    write_map(&linked, json, out)
+    match ps_linkfile::prepare(alloc, host, libraries) {
+        Ok(linked) => write_map(&linked, json, out),
+        Err(error) => Err(CommandError::from(error)),
+    }
 }
 
 /// Writes the map of a link that is prepared, with `json` as JSON. Nothing is let go here where a
@@ -388,8 +390,10 @@ fn references_bytes<A: Allocator + Copy, O: Write>(
     ensures err { IfErr result (λ e. status_of e ≢ 3 → out.new ≡ out.old) }
     ensures usage { IfErr result (λ e. status_of e ≢ 2) }
 {
-    let map = ps_linkfile::prepare_references(alloc, host, libraries)?;
-    write_references(&map, json, out)
+    match ps_linkfile::prepare_references(alloc, host, libraries) {
+        Ok(map) => write_references(&map, json, out),
+        Err(error) => Err(CommandError::from(error)),
+    }
 }
 
 /// Writes the map of a link that is prepared and what the link stores, with `json` as JSON.
