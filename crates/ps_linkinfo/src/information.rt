@@ -208,6 +208,7 @@ impl<'a> LinkInformation<'a> {
     /// The state of a hash of the names of the records that define a name or request a private:
     /// eight bytes each, in the order of the records, and nothing else.
     /// Source: this project's profile.
+    #[tactic(auto, using(crate::proofs::Digests::all_left, crate::proofs::Digests::taken, crate::proofs::Digests::passed))]
     pub fn digest(&self) -> DefaultHasher
         ensures { result ≡ digest_of self.now }
     {

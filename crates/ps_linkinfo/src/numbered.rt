@@ -38,6 +38,7 @@ impl<'a> Model for NumberedRecords<'a> {
 
 impl<'a> NumberedRecords<'a> {
     /// A walk over the records of the bytes, up to the EOFMARK or up to the first fault.
+    #[tactic(auto, using(crate::proofs::Walks::records_first, crate::proofs::Walks::few))]
     pub(crate) fn new(order: Order, bytes: &'a [u8]) -> Self
         ensures { result ≡ numbered_spec 0 (reading order bytes.now).0 }
     {
