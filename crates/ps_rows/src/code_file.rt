@@ -89,13 +89,18 @@ impl CodeFile {
     pub fn change(&mut self, rt: &(impl Abort + AllocGlobal), changes: Changes<'_>) {
         self.has_changed = true;
         for statement in changes.split(';') {
-            let mut words = statement.split_whitespace();
-            if let Some(kind) = words.next() {
-                self.state(rt, kind, &mut words);
-                ends(rt, &mut words, statement);
-            }
+            self.make(rt, statement);
         }
         self.settle(rt, "the end")
+    }
+
+    /// Makes the change of a statement, if it has any word.
+    fn make(&mut self, rt: &(impl Abort + AllocGlobal), statement: &str) {
+        let mut words = statement.split_whitespace();
+        if let Some(kind) = words.next() {
+            self.state(rt, kind, &mut words);
+            ends(rt, &mut words, statement);
+        }
     }
 
     /// Checks that what is before this statement changed the file; it is printed where nothing did.
@@ -128,26 +133,49 @@ impl CodeFile {
     ) {
         match kind {
             "slot" => self.slot(rt, words),
-            "size" => self.size(rt, number(rt, words)),
-            "records" => self.records(word(rt, words)),
-            "at" => self.hex(rt, number(rt, words), words),
-            "fill" => self.fill(rt, number(rt, words), words),
-            "names" => self.names(rt, number(rt, words), words),
-            "code" => self.hex(rt, place_in_code(rt, words), words),
-            "word" => self.word(rt, place_in_code(rt, words), word(rt, words)),
-            "demo-code" => self.demo(rt, word(rt, words)),
-            "util-code" => self.util(rt, word(rt, words), words),
+            "at" => self.at(rt, words),
+            "code" => self.code(rt, words),
+            "word" => self.code_word(rt, words),
+            "fill" => self.fill(rt, words),
+            _ => self.state_part(rt, kind, words),
+        }
+    }
+
+    /// The same of a statement that is about a whole part of the file.
+    fn state_part(&mut self, rt: &impl Abort, kind: &str, words: &mut SplitWhitespace<'_>) {
+        match kind {
+            "size" => self.size(rt, words),
+            "names" => self.names(rt, words),
+            "records" => self.records(rt, words),
+            "demo-code" => self.demo(rt, words),
+            "util-code" => self.util(rt, words),
             _ => holds(rt, false, kind),
         }
     }
 
-    fn size(&mut self, rt: &impl Abort, size: usize) {
+    fn size(&mut self, rt: &impl Abort, words: &mut SplitWhitespace<'_>) {
+        let size = number(rt, words);
         self.has_changed = size != self.bytes.len();
         self.bytes.resize(size, 0).expect(rt, "no memory")
     }
 
-    fn records(&mut self, block: u16) {
-        self.record = Some(code_place(block, 0))
+    fn records(&mut self, rt: &impl Abort, words: &mut SplitWhitespace<'_>) {
+        self.record = Some(code_place(word(rt, words), 0))
+    }
+
+    fn at(&mut self, rt: &impl Abort, words: &mut SplitWhitespace<'_>) {
+        let place = number(rt, words);
+        self.hex(rt, place, words)
+    }
+
+    fn code(&mut self, rt: &impl Abort, words: &mut SplitWhitespace<'_>) {
+        let place = place_in_code(rt, words);
+        self.hex(rt, place, words)
+    }
+
+    fn code_word(&mut self, rt: &impl Abort, words: &mut SplitWhitespace<'_>) {
+        let place = place_in_code(rt, words);
+        self.word(rt, place, words)
     }
 
     fn slot(&mut self, rt: &impl Abort, words: &mut SplitWhitespace<'_>) {
@@ -172,9 +200,9 @@ impl CodeFile {
         let slot = usize::from(slot);
         match part {
             "name" => self.name(rt, NAMES + NAME_SIZE * slot, words),
-            "kind" => self.word(rt, KINDS + WORD_SIZE * slot, word(rt, words)),
-            "address" => self.word(rt, PAIR_SIZE * slot, word(rt, words)),
-            "length" => self.word(rt, PAIR_SIZE * slot + WORD_SIZE, word(rt, words)),
+            "kind" => self.word(rt, KINDS + WORD_SIZE * slot, words),
+            "address" => self.word(rt, PAIR_SIZE * slot, words),
+            "length" => self.word(rt, PAIR_SIZE * slot + WORD_SIZE, words),
             _ => holds(rt, false, part),
         }
     }
@@ -184,15 +212,15 @@ impl CodeFile {
         self.put(rt, place, &name)
     }
 
-    fn demo(&mut self, rt: &impl Abort, block: u16) {
-        let code = demo_code(self.order);
-        self.put(rt, code_place(block, 0), &code)
+    fn demo(&mut self, rt: &impl Abort, words: &mut SplitWhitespace<'_>) {
+        let place = code_place(word(rt, words), 0);
+        self.put(rt, place, &demo_code(self.order))
     }
 
-    fn util(&mut self, rt: &impl Abort, block: u16, words: &mut SplitWhitespace<'_>) {
+    fn util(&mut self, rt: &impl Abort, words: &mut SplitWhitespace<'_>) {
+        let place = code_place(word(rt, words), 0);
         let number = u8::try_from(word(rt, words)).expect(rt, "no segment number");
-        let code = util_code(self.order, number);
-        self.put(rt, code_place(block, 0), &code)
+        self.put(rt, place, &util_code(self.order, number))
     }
 
     /// Bytes in two hexadecimal digits each.
@@ -207,7 +235,8 @@ impl CodeFile {
     }
 
     /// So many bytes of one value.
-    fn fill(&mut self, rt: &impl Abort, place: usize, words: &mut SplitWhitespace<'_>) {
+    fn fill(&mut self, rt: &impl Abort, words: &mut SplitWhitespace<'_>) {
+        let place = number(rt, words);
         let count = number(rt, words);
         let byte = byte(rt, words.next().unwrap_or("no byte"));
         for k in 0..count {
@@ -215,7 +244,8 @@ impl CodeFile {
         }
     }
 
-    fn names(&mut self, rt: &impl Abort, place: usize, words: &mut SplitWhitespace<'_>) {
+    fn names(&mut self, rt: &impl Abort, words: &mut SplitWhitespace<'_>) {
+        let place = number(rt, words);
         for k in 0..16 {
             match words.next() {
                 None => return,
@@ -242,7 +272,9 @@ impl CodeFile {
         self.record = Some(place.saturating_add(bytes.len()))
     }
 
-    fn word(&mut self, rt: &impl Abort, place: usize, word: u16) {
+    /// The next word, as a number of two bytes.
+    fn word(&mut self, rt: &impl Abort, place: usize, words: &mut SplitWhitespace<'_>) {
+        let word = word(rt, words);
         self.put(rt, place, &bytes_of(self.order, word))
     }
 }

@@ -57,13 +57,18 @@ impl Information {
     pub fn new(rt: &(impl Abort + AllocGlobal), order: Order, text: &str) -> Information {
         let mut information = Information::empty(rt, order);
         for record in text.split(';') {
-            let mut words = record.split_whitespace();
-            if let Some(kind) = words.next() {
-                information.record(rt, kind, &mut words);
-                ends(rt, &mut words, record);
-            }
+            information.add(rt, record);
         }
         information
+    }
+
+    /// Adds the record of a text, if it has any word.
+    fn add(&mut self, rt: &impl Abort, record: &str) {
+        let mut words = record.split_whitespace();
+        if let Some(kind) = words.next() {
+            self.record(rt, kind, &mut words);
+            ends(rt, &mut words, record);
+        }
     }
 
     /// The records' bytes.
@@ -183,12 +188,12 @@ pub(crate) fn put(rt: &impl Abort, all: &mut [u8], place: usize, bytes: &[u8]) -
     }
 }
 
-/// Puts bytes in place of others. Returns whether one of them was another before.
+/// Puts bytes in place of as many others. Returns whether one of them was another before.
 fn change(part: &mut [u8], bytes: &[u8]) -> bool {
-    let mut has_changed = false;
-    for (to, from) in part.iter_mut().zip(bytes) {
-        has_changed = has_changed || *to != *from;
-        *to = *from;
+    if part.len() != bytes.len() {
+        return false;
     }
+    let has_changed = *part != *bytes;
+    part.copy_from_slice(bytes);
     has_changed
 }

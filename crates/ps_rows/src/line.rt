@@ -1,6 +1,8 @@
 //! Texts of what a call answers, made word by word.
-use std::alloc::{AllocError, Global};
-use std::fmt::Debug;
+use crate::notation::holds;
+use std::alloc::Global;
+use std::fmt::{Debug, Display};
+use std::process::Abort;
 
 /// A text that is being made; it is none once memory was wanting.
 #[derive(Drop)]
@@ -18,10 +20,25 @@ impl Line {
         }
     }
 
+    /// This text.
+    pub fn of(alloc: Global, text: &str) -> Line {
+        let mut line = Line::new(alloc);
+        line.word(text);
+        line
+    }
+
     /// Adds a text.
     pub fn word(&mut self, word: &str) {
         if self.text.push_str(word).is_err() {
             self.is_whole = false;
+        }
+    }
+
+    /// Adds lines, which have semicolons between them.
+    pub fn lines(&mut self, lines: &str) {
+        for line in lines.split(';') {
+            self.word(line);
+            self.word("\n");
         }
     }
 
@@ -44,9 +61,17 @@ impl Line {
         }
     }
 
-    /// The text.
-    pub fn text(self) -> Result<String, AllocError> {
+    /// Adds a value as `Display` prints it.
+    pub fn shown<D: Display>(&mut self, value: &D) {
+        if write!(self.text, "{value}").is_err() {
+            self.is_whole = false;
+        }
+    }
+
+    /// The text, for which there has to be memory.
+    pub fn text(self, rt: &impl Abort) -> String {
         let Line { text, is_whole } = self;
-        if is_whole { Ok(text) } else { Err(AllocError) }
+        holds(rt, is_whole, "no memory");
+        text
     }
 }

@@ -16,7 +16,11 @@ pub fn holds_of<D: Debug>(rt: &impl Abort, is_right: bool, value: &D) {
 
 /// The next word as a number.
 pub fn number(rt: &impl Abort, words: &mut SplitWhitespace<'_>) -> usize {
-    let word = words.next().unwrap_or("a number that is not there");
+    number_of(rt, words.next().unwrap_or("a number that is not there"))
+}
+
+/// A number.
+pub fn number_of(rt: &impl Abort, word: &str) -> usize {
     word.parse().expect(rt, word)
 }
 
@@ -34,6 +38,15 @@ pub fn word_of(rt: &impl Abort, word: &str) -> u16 {
 pub fn byte(rt: &impl Abort, digits: &str) -> u8 {
     holds(rt, digits.len() == 2, digits);
     u8::from_str_radix(digits, 16).expect(rt, digits)
+}
+
+/// The bytes of words of two hexadecimal digits each.
+pub fn hex(rt: &(impl Abort + AllocGlobal), words: &str) -> Vec<u8> {
+    let mut bytes = Vec::new(rt.alloc());
+    for digits in words.split_whitespace() {
+        bytes.push(byte(rt, digits)).expect(rt, "no memory");
+    }
+    bytes
 }
 
 /// The number behind a word that says what it is.

@@ -2,6 +2,7 @@
 mod added_units;
 mod allocations;
 mod answers;
+mod calls;
 mod changed_bytes;
 mod cuts;
 mod dictionary;
@@ -22,6 +23,7 @@ mod plan;
 mod procedures;
 mod readings;
 mod record_kinds;
+mod record_rows;
 mod record_walk;
 mod records;
 mod refusals;

@@ -1,8 +1,9 @@
 //! Calls where memory is wanting.
 use super::answers::{OUT_OF_MEMORY, is};
+use crate::line::Line;
 use crate::notation::holds;
 use refusing::Refusing;
-use std::alloc::{AllocError, Allocator, Global};
+use std::alloc::{Allocator, Global};
 use std::process::Abort;
 
 /// More allocations than a call on these files makes.
@@ -11,7 +12,7 @@ const MANY: u64 = 1000;
 /// A call that takes memory.
 pub(crate) trait Allocating {
     /// Makes the call, which grows on `heap`, and returns its answer as text made on `alloc`.
-    fn answer<A: Allocator + Copy>(&self, alloc: Global, heap: A) -> Result<String, AllocError>;
+    fn answer<A: Allocator + Copy>(&self, alloc: Global, heap: A) -> Line;
 }
 
 /// Makes a call with each allocation refused in turn, until none was refused: the answer is out of

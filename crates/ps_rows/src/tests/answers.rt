@@ -1,10 +1,11 @@
 //! Answers as text.
-use super::link_allocations::Link;
+use super::calls::Link;
+use crate::line::Line;
 use crate::notation::holds;
-use ps_linkfile::{LinkError, Summary, link};
+use ps_linkfile::{LinkError, Summary};
 use ps_words::{Fault, Order};
 use ps_writing::WriteFault;
-use std::alloc::{AllocError, Global};
+use std::alloc::Global;
 use std::process::Abort;
 
 /// The byte order of most inputs.
@@ -14,46 +15,48 @@ pub(crate) const LITTLE: Order = Order::Little;
 pub(crate) const OUT_OF_MEMORY: &str = "out of memory";
 
 /// Checks a text, for which there was memory.
-pub(crate) fn is(rt: &impl Abort, what: &str, text: Result<String, AllocError>, wanted: &str) {
-    let text = text.expect(rt, "no memory");
+pub(crate) fn is(rt: &impl Abort, what: &str, line: Line, wanted: &str) {
+    let text = line.text(rt);
     assert!(rt; text.as_str() == wanted, "{what}: {text}");
 }
 
 /// A link's answer: the program's line for a Summary, or the text of an error.
-pub(crate) fn text_of(
-    alloc: Global,
-    answer: Result<Summary, LinkError>,
-) -> Result<String, AllocError> {
+pub(crate) fn text_of(alloc: Global, answer: Result<Summary, LinkError>) -> Line {
     match answer {
-        Ok(
-            Summary {
-                segments,
-                private_words,
-                blocks,
-            },
-        ) => format!(in alloc; "segments {segments} private words {private_words} blocks {blocks}"),
+        Ok(summary) => text_of_summary(alloc, summary),
         Err(error) => text_of_error(alloc, error),
     }
 }
 
+/// The program's line.
+fn text_of_summary(alloc: Global, summary: Summary) -> Line {
+    let mut line = Line::new(alloc);
+    line.number("segments ", summary.segments);
+    line.number(" private words ", summary.private_words as usize);
+    line.number(" blocks ", summary.blocks);
+    line
+}
+
 /// A fault, if there is one.
-pub(crate) fn text_of_fault(alloc: Global, fault: Option<Fault>) -> Result<String, AllocError> {
+pub(crate) fn text_of_fault(alloc: Global, fault: Option<Fault>) -> Line {
+    let mut line = Line::new(alloc);
     match fault {
-        None => String::from_str(alloc, "no fault"),
-        Some(fault) => format!(in alloc; "{fault}"),
+        None => line.word("no fault"),
+        Some(fault) => line.shown(&fault),
     }
+    line
 }
 
 /// An error: the fault's text, or a word for each other one.
-pub(crate) fn text_of_error(alloc: Global, error: LinkError) -> Result<String, AllocError> {
+pub(crate) fn text_of_error(alloc: Global, error: LinkError) -> Line {
+    let mut line = Line::new(alloc);
     match error {
-        LinkError::Refused(fault) => format!(in alloc; "{fault}"),
-        LinkError::Memory => String::from_str(alloc, OUT_OF_MEMORY),
-        LinkError::Write(WriteFault::Device(error)) => {
-            format!(in alloc; "device error {:?}", error.kind())
-        }
-        LinkError::Write(WriteFault::Stalled) => String::from_str(alloc, "stalled"),
+        LinkError::Refused(fault) => line.shown(&fault),
+        LinkError::Memory => line.word(OUT_OF_MEMORY),
+        LinkError::Write(WriteFault::Device(error)) => line.value("device error ", &error.kind()),
+        LinkError::Write(WriteFault::Stalled) => line.word("stalled"),
     }
+    line
 }
 
 /// Checks the summary of a link and the file, which is written to a list of bytes, or the error,
@@ -61,7 +64,23 @@ pub(crate) fn text_of_error(alloc: Global, error: LinkError) -> Result<String, A
 pub(crate) fn links(rt: &(impl Abort + AllocGlobal), what: &str, files: &Link<'_>, answer: &str) {
     let alloc = rt.alloc();
     let mut out = Vec::new(alloc);
-    let answered = link(alloc, files.host, files.libraries, &mut out);
+    let answered = files.link_to(alloc, &mut out);
     is(rt, what, text_of(alloc, answered), answer);
     holds(rt, out.as_slice() == files.linked, what)
+}
+
+/// The same of a host and one library.
+pub(crate) fn links_pair(
+    rt: &(impl Abort + AllocGlobal),
+    what: &str,
+    (host, library): (&[u8], &[u8]),
+    linked: &[u8],
+    answer: &str,
+) {
+    let files = Link {
+        host,
+        libraries: &[library],
+        linked,
+    };
+    links(rt, what, &files, answer)
 }

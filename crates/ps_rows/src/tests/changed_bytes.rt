@@ -1,9 +1,9 @@
 //! The base pair with each byte of the host's segment dictionary changed.
-use super::answers::{LITTLE, links};
-use super::link_allocations::Link;
+use super::answers::{LITTLE, links_pair};
 use super::tables::{HOST_TEXTS, LIBRARY_TEXTS, LINKED_TEXTS};
 use crate::code_file::CodeFile;
-use std::alloc::{AllocError, Global};
+use crate::line::Line;
+use std::alloc::Global;
 use std::process::Abort;
 
 /// What is answered for a changed byte.
@@ -22,34 +22,67 @@ use Wanted::{HostAlone, Pair, PairWithByte, Refused};
 
 /// What is answered where the byte at a place of the host's dictionary is this one.
 fn expected(place: usize, byte: u8) -> Wanted {
+    match place {
+        4..=7 => expected_of_host(place, byte),
+        28..=31 | 224..=255 => Pair,
+        0..=63 => expected_of_pair(place, byte),
+        120..=127 => Refused("13 MissingUnit", Some(7)),
+        192..=223 => expected_of_kind(place, byte),
+        _ => PairWithByte,
+    }
+}
+
+/// The same of the host segment's address and length.
+fn expected_of_host(place: usize, byte: u8) -> Wanted {
+    let fault = match (place, byte) {
+        (4, 0) => "12 BadAddress",
+        (4 | 5, _) | (7, 0x7F) => "16 Truncated",
+        (6, 0) => return Refused("4 NoHost", None),
+        (6, 0x80) | (7, 0x01) => "17 BadProcDict",
+        _ => "11 BadLength",
+    };
+    Refused(fault, Some(1))
+}
+
+/// The same of the address and the length of an empty slot.
+fn expected_of_pair(place: usize, byte: u8) -> Wanted {
     let slot = Some(place / 4);
+    match (place % 4, byte) {
+        (3, 0x80 | 0xFF) => Refused("11 BadLength", slot),
+        (2 | 3, _) => Refused("12 BadAddress", slot),
+        _ => Pair,
+    }
+}
+
+/// The same of the kinds.
+fn expected_of_kind(place: usize, byte: u8) -> Wanted {
     match (place, byte) {
-        (4, 0) => Refused("12 BadAddress", slot),
-        (4 | 5, _) => Refused("16 Truncated", slot),
-        (6, 0) => Refused("4 NoHost", None),
-        (6, 0x80) | (7, 0x01) => Refused("17 BadProcDict", slot),
-        (7, 0x7F) => Refused("16 Truncated", slot),
-        (6 | 7, _) => Refused("11 BadLength", slot),
-        (28..=31, _) => Pair,
-        (..64, 0x80 | 0xFF) if place % 4 == 3 => Refused("11 BadLength", slot),
-        (..64, _) if place % 4 >= 2 => Refused("12 BadAddress", slot),
-        (120..=127, _) => Refused("13 MissingUnit", Some(7)),
-        (64..192 | 256.., _) => PairWithByte,
-        (193..224, _) if place % 2 == 1 => Refused("2 NoOrder", None),
         (194, 0) => Refused("4 NoHost", None),
         (194, _) => Refused("10 UnknownKind", Some(1)),
         (206, _) => HostAlone,
+        _ if place % 2 == 1 => Refused("2 NoOrder", None),
         _ => Pair,
     }
 }
 
 /// The line that is answered.
-fn answer(alloc: Global, wanted: Wanted) -> Result<String, AllocError> {
+fn answer(alloc: Global, wanted: Wanted) -> Line {
+    let mut line = Line::new(alloc);
     match wanted {
-        Pair | PairWithByte => String::from_str(alloc, "segments 2 private words 4 blocks 3"),
-        HostAlone => String::from_str(alloc, "segments 1 private words 0 blocks 2"),
-        Refused(fault, Some(slot)) => format!(in alloc; "refused {fault} file 0 slot {slot}"),
-        Refused(fault, None) => format!(in alloc; "refused {fault} file 0"),
+        Pair | PairWithByte => line.word("segments 2 private words 4 blocks 3"),
+        HostAlone => line.word("segments 1 private words 0 blocks 2"),
+        Refused(fault, slot) => add_refusal(&mut line, fault, slot),
+    }
+    line
+}
+
+/// Adds a refusal of the host's dictionary.
+fn add_refusal(line: &mut Line, fault: &str, slot: Option<usize>) {
+    line.word("refused ");
+    line.word(fault);
+    line.word(" file 0");
+    if let Some(slot) = slot {
+        line.number(" slot ", slot)
     }
 }
 
@@ -72,25 +105,31 @@ fn check(rt: &(impl Abort + AllocGlobal), library: &[u8], place: usize, byte: u8
     let linked = written(rt, &wanted, place, byte);
     let mut host = CodeFile::new(rt, LITTLE, HOST_TEXTS);
     host.put(rt, place, &[byte]);
-    let files = Link {
-        host: host.as_slice(),
-        libraries: &[library],
-        linked: linked.as_slice(),
-    };
-    answers(rt, &files, wanted, (place, byte))
+    let what = what(rt.alloc(), place, byte).text(rt);
+    let answer = answer(rt.alloc(), wanted).text(rt);
+    let files = (host.as_slice(), library);
+    links_pair(rt, what.as_str(), files, linked.as_slice(), answer.as_str())
 }
 
-/// Checks the answer to these files.
-fn answers(
-    rt: &(impl Abort + AllocGlobal),
-    files: &Link<'_>,
-    wanted: Wanted,
-    (place, byte): (usize, u8),
-) {
-    let alloc = rt.alloc();
-    let answer = answer(alloc, wanted).expect(rt, "no memory");
-    let what = format!(in alloc; "byte {place} set to {byte}").expect(rt, "no memory");
-    links(rt, what.as_str(), files, answer.as_str())
+/// What is changed.
+fn what(alloc: Global, place: usize, byte: u8) -> Line {
+    let mut line = Line::new(alloc);
+    line.number("byte ", place);
+    line.number(" set to ", byte as usize);
+    line
+}
+
+/// The bytes that each byte is changed to.
+static BYTES: [u8; 5] = [0x00, 0x01, 0x7F, 0x80, 0xFF];
+
+/// Checks the answers where the byte at a place of the host's dictionary, which is this one, is
+/// another.
+fn checks_each(rt: &(impl Abort + AllocGlobal), library: &[u8], place: usize, byte: u8) {
+    for other in &BYTES {
+        if *other != byte {
+            check(rt, library, place, *other);
+        }
+    }
 }
 
 #[test]
@@ -98,10 +137,7 @@ fn each_byte_of_the_dictionary(rt: HostRuntime) {
     let host = CodeFile::new(&rt, LITTLE, HOST_TEXTS);
     let library = CodeFile::new(&rt, LITTLE, LIBRARY_TEXTS);
     for place in 0..512 {
-        for byte in [0x00, 0x01, 0x7F, 0x80, 0xFF] {
-            if host.as_slice().get(place) != Some(&byte) {
-                check(&rt, library.as_slice(), place, byte);
-            }
-        }
+        let byte = host.as_slice().get(place).expect(&rt, "a short host");
+        checks_each(&rt, library.as_slice(), place, *byte);
     }
 }

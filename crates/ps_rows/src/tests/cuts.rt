@@ -1,51 +1,27 @@
 //! Files truncated to every length.
-use super::answers::links;
-use super::link_allocations::Link;
-use super::tables::{BIG_PAIR, Base, Check, PAIR};
+use super::answers::links_pair;
+use super::calls::Link;
+use super::rows::{Row, check_all, field, fields};
+use super::tables::{Check, base_named};
+use crate::notation::{holds, number_of};
 use std::process::Abort;
 
 const WHOLE: &str = "segments 2 private words 4 blocks 3";
 
-/// Whether it is the base host that is truncated, and not the base library, the lengths from one on to
-/// the one before another, and what is answered.
-static CUTS: [(bool, usize, usize, &str); 11] = [
-    (true, 0, 512, "refused 1 ShortFile file 0"),
-    (true, 512, 530, "refused 16 Truncated file 0 slot 1"),
-    (
-        true,
-        530,
-        1040,
-        "refused 19 RecordsTruncated file 0 slot 1 record 0",
-    ),
-    (
-        true,
-        1040,
-        1056,
-        "refused 19 RecordsTruncated file 0 slot 1 record 1",
-    ),
-    (true, 1056, 1537, WHOLE),
-    (false, 0, 512, "refused 1 ShortFile file 1"),
-    (false, 512, 536, "refused 16 Truncated file 1 slot 7"),
-    (
-        false,
-        536,
-        1056,
-        "refused 19 RecordsTruncated file 1 slot 7 record 0",
-    ),
-    (
-        false,
-        1056,
-        1088,
-        "refused 19 RecordsTruncated file 1 slot 7 record 1",
-    ),
-    (
-        false,
-        1088,
-        1104,
-        "refused 19 RecordsTruncated file 1 slot 7 record 2",
-    ),
-    (false, 1104, 1537, WHOLE),
-];
+/// Which of the base host and the base library is truncated, the lengths from one on to the one
+/// before another, and what is answered.
+static CUTS: &str = "\
+host | 0 | 512 | refused 1 ShortFile file 0
+host | 512 | 530 | refused 16 Truncated file 0 slot 1
+host | 530 | 1040 | refused 19 RecordsTruncated file 0 slot 1 record 0
+host | 1040 | 1056 | refused 19 RecordsTruncated file 0 slot 1 record 1
+host | 1056 | 1537 | segments 2 private words 4 blocks 3
+library | 0 | 512 | refused 1 ShortFile file 1
+library | 512 | 536 | refused 16 Truncated file 1 slot 7
+library | 536 | 1056 | refused 19 RecordsTruncated file 1 slot 7 record 0
+library | 1056 | 1088 | refused 19 RecordsTruncated file 1 slot 7 record 1
+library | 1088 | 1104 | refused 19 RecordsTruncated file 1 slot 7 record 2
+library | 1104 | 1537 | segments 2 private words 4 blocks 3";
 
 /// Checks the answer to a host and a library, of which one is truncated to this length, and what is
 /// written where they are linked.
@@ -57,14 +33,17 @@ fn answers(
 ) {
     let library = link.libraries.first().copied().unwrap_or(&[]);
     let linked = if answer == WHOLE { link.linked } else { &[] };
-    let whole = if is_host { link.host } else { library };
-    let cut = whole.get(..length).unwrap_or(&[]);
-    let files = Link {
-        host: if is_host { cut } else { link.host },
-        libraries: &[if is_host { library } else { cut }],
-        linked,
+    let files = if is_host {
+        (cut_to(link.host, length), library)
+    } else {
+        (link.host, cut_to(library, length))
     };
-    links(rt, "a cut file", &files, answer)
+    links_pair(rt, "a cut file", files, linked, answer)
+}
+
+/// The first bytes of a file.
+fn cut_to(file: &[u8], length: usize) -> &[u8] {
+    file.get(..length).unwrap_or(&[])
 }
 
 /// A host and a library, each of which is cut to each length.
@@ -73,19 +52,30 @@ struct Cuts;
 
 impl Check for Cuts {
     fn check<R: Abort + AllocGlobal>(&self, rt: &R, link: &Link<'_>) {
-        for (is_host, from, to, answer) in &CUTS {
-            for length in *from..*to {
-                answers(rt, link, (*is_host, length), *answer);
-            }
+        check_all(rt, &CutRows { link }, CUTS)
+    }
+}
+
+/// The lengths of a row.
+#[derive(Drop)]
+struct CutRows<'a> {
+    link: &'a Link<'a>,
+}
+
+impl<'a> Row for CutRows<'a> {
+    fn check<R: Abort + AllocGlobal>(&self, rt: &R, row: &str) {
+        let (file, rest) = field(rt, row);
+        let (from, to, answer) = fields(rt, rest);
+        let is_host = file == "host";
+        holds(rt, is_host || file == "library", row);
+        for length in number_of(rt, from)..number_of(rt, to) {
+            answers(rt, self.link, (is_host, length), answer);
         }
     }
 }
 
-static PAIRS: [Base<'static>; 2] = [PAIR, BIG_PAIR];
-
 #[test]
 fn each_length_in_either_byte_order(rt: HostRuntime) {
-    for base in &PAIRS {
-        base.check(&rt, ("", "", ""), &Cuts);
-    }
+    base_named(&rt, "pair").check(&rt, ("", "", ""), &Cuts);
+    base_named(&rt, "big pair").check(&rt, ("", "", ""), &Cuts)
 }

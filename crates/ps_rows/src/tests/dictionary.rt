@@ -2,7 +2,8 @@
 ghost use Rattle.std.specs.Prelude.{◌<◌};
 
 use super::answers::is;
-use super::tables::{HOST_TEXTS, LIBRARY_TEXTS, LINKED_TEXTS};
+use super::rows::{Row, check_all, fields};
+use super::tables::{HOST_TEXTS, LIBRARY_TEXTS};
 use crate::base::{HOST_RECORDS, UTIL, UTIL_ENTRY, demo_code, util_code};
 use crate::code_file::CodeFile;
 use crate::information::Information;
@@ -11,11 +12,8 @@ use crate::notation::{holds, holds_of};
 use ps_codefile::dictionary_layout::SLOTS;
 use ps_codefile::{Dict, Entry, Role};
 use ps_words::{Order, Reason};
-use std::alloc::{AllocError, Global};
+use std::alloc::Global;
 use std::process::Abort;
-
-/// The byte orders, each with the other one.
-const ORDERS: [(Order, Order); 2] = [(Order::Little, Order::Big), (Order::Big, Order::Little)];
 
 /// Adds a slot to the text unless it is empty, how long its code is, and what follows it.
 fn add_slot(line: &mut Line, dictionary: &Dict<'_>, slot: u8)
@@ -23,88 +21,102 @@ fn add_slot(line: &mut Line, dictionary: &Dict<'_>, slot: u8)
 {
     let role = dictionary.role(slot);
     if role != Ok(Role::Empty) {
-        let entry = dictionary.entry(slot);
-        line.number("slot ", slot.into());
-        line.word(" ");
-        line.name(&entry.name);
-        line.value(" ", &role);
-        line.number(" kind ", entry.kind.into());
-        line.number(" address ", entry.address.into());
-        line.number(" length ", entry.length.into())
+        line.number(" ", slot as usize);
+        add_entry(line, &dictionary.entry(slot), role)
     }
     if dictionary.filled(slot) {
-        line.value(" code ", &dictionary.code(slot).map(|code| code.len()));
+        add_code(line, dictionary.code(slot));
         line.number(" after ", dictionary.after(slot).len());
-        line.word("; ")
+        line.word(";")
+    }
+}
+
+/// Adds an entry and its role.
+fn add_entry(line: &mut Line, entry: &Entry, role: Result<Role, Reason>) {
+    line.word(" ");
+    line.name(&entry.name);
+    line.value(" ", &role);
+    line.number(" kind ", entry.kind as usize);
+    line.number(" address ", entry.address as usize);
+    line.number(" length ", entry.length as usize)
+}
+
+/// Adds how long a code is, or what is wrong with it.
+fn add_code(line: &mut Line, code: Result<&[u8], Reason>) {
+    match code {
+        Ok(code) => line.number(" code ", code.len()),
+        Err(reason) => line.value(" code ", &reason),
     }
 }
 
 /// The slots of a dictionary that are not empty, or why there is none, as text.
-fn describe(
-    alloc: Global,
-    answer: Result<Dict<'_>, Reason>,
-    order: Order,
-) -> Result<String, AllocError> {
+fn describe(alloc: Global, answer: Result<Dict<'_>, Reason>, order: Order) -> Line {
     let mut line = Line::new(alloc);
     match answer {
         Ok(dictionary) => {
-            if dictionary.order() != order {
-                line.word("another order ");
-            }
+            line.word(if dictionary.order() == order {
+                "slots"
+            } else {
+                "another order"
+            });
             for slot in 0..SLOTS {
                 add_slot(&mut line, &dictionary, slot);
             }
         }
         Err(reason) => line.value("", &reason),
     }
-    line.text()
+    line
 }
 
-/// The slots of the base host, of the host with its unit in place, of the base library and of the
-/// linked base pair.
-const HOST_TEXT: &str =
-    "slot 1 DEMO     Ok(Host) kind 1 address 1 length 18 code Ok(18) after 512; \
-     slot 7 UTIL     Ok(Wanted) kind 3 address 0 length 0";
+/// Whether a file is read as a host, or beside a host, or beside one of the other byte order; the
+/// texts that it is made of; and its slots, or why it is not read.
+static FILES: &str = "\
+host | HOST | slots 1 DEMO     Ok(Host) kind 1 address 1 length 18 code 18 after 512; \
+7 UTIL     Ok(Wanted) kind 3 address 0 length 0
+host | HOST HAS_UNIT | slots 1 DEMO     Ok(Host) kind 1 address 1 length 18 code 18 after 1536; \
+7 UTIL     Ok(Unit) kind 3 address 3 length 24 code 24 after 512;
+library | LIBRARY | slots 2 UTIL     Ok(Unit) kind 3 address 1 length 24 code 24 after 512;
+turned | LIBRARY | OrderMismatch
+library | LIBRARY SHORT | ShortFile
+turned | LIBRARY SHORT | ShortFile
+library | NO_NAMES | slots
+library | LINKED_SEGMENTS LINKED_OPERANDS \
+| slots 1 DEMO     Ok(Plain) kind 0 address 1 length 18 code 18 after 512; \
+7 UTIL     Ok(Plain) kind 0 address 2 length 24 code 24 after 0;
+host | LINKED_SEGMENTS LINKED_OPERANDS | NoHost";
 
-const IN_PLACE: &str =
-    "slot 1 DEMO     Ok(Host) kind 1 address 1 length 18 code Ok(18) after 1536; \
-     slot 7 UTIL     Ok(Unit) kind 3 address 3 length 24 code Ok(24) after 512; ";
+/// The slots of a file, in either byte order.
+struct FileRows;
 
-const LIBRARY_TEXT: &str =
-    "slot 2 UTIL     Ok(Unit) kind 3 address 1 length 24 code Ok(24) after 512; ";
+impl Row for FileRows {
+    fn check<R: Abort + AllocGlobal>(&self, rt: &R, row: &str) {
+        let (kind, texts, wanted) = fields(rt, row);
+        has_slots(rt, (Order::Little, Order::Big), (kind, texts), wanted);
+        has_slots(rt, (Order::Big, Order::Little), (kind, texts), wanted)
+    }
+}
 
-const LINKED: &str = "slot 1 DEMO     Ok(Plain) kind 0 address 1 length 18 code Ok(18) after 512; \
-     slot 7 UTIL     Ok(Plain) kind 0 address 2 length 24 code Ok(24) after 0; ";
-
-/// Files, whether they are read as hosts, or beside a host, whether their words are in the other
-/// byte order than the host's, and their slots, or why they are not read.
-static FILES: [(&str, bool, bool, &str); 9] = [
-    ("HOST", true, false, HOST_TEXT),
-    ("HOST HAS_UNIT", true, false, IN_PLACE),
-    ("LIBRARY", false, false, LIBRARY_TEXT),
-    ("LIBRARY", false, true, "OrderMismatch"),
-    ("LIBRARY SHORT", false, false, "ShortFile"),
-    ("LIBRARY SHORT", false, true, "ShortFile"),
-    ("NO_NAMES", false, false, ""),
-    (LINKED_TEXTS, false, false, LINKED),
-    (LINKED_TEXTS, true, false, "NoHost"),
-];
+/// Checks the slots of a file or a host of the first of these byte orders; the second is the other
+/// one.
+fn has_slots(
+    rt: &(impl Abort + AllocGlobal),
+    (order, other): (Order, Order),
+    (kind, texts): (&str, &str),
+    wanted: &str,
+) {
+    let own = if kind == "turned" { other } else { order };
+    let file = CodeFile::new(rt, own, texts);
+    let answer = if kind == "host" {
+        Dict::read(file.as_slice())
+    } else {
+        Dict::read_beside(file.as_slice(), order)
+    };
+    is(rt, kind, describe(rt.alloc(), answer, order), wanted)
+}
 
 #[test]
 fn files_in_either_byte_order(rt: HostRuntime) {
-    let alloc = rt.alloc();
-    for (order, other) in ORDERS {
-        for (texts, is_host, is_turned, wanted) in &FILES {
-            let own = if *is_turned { other } else { order };
-            let file = CodeFile::new(&rt, own, *texts);
-            let answer = if *is_host {
-                Dict::read(file.as_slice())
-            } else {
-                Dict::read_beside(file.as_slice(), order)
-            };
-            is(&rt, "a file", describe(alloc, answer, order), *wanted);
-        }
-    }
+    check_all(&rt, &FileRows, FILES)
 }
 
 /// The entry of a slot without a segment.
@@ -138,16 +150,26 @@ fn has_code(rt: &impl Abort, dictionary: &Dict<'_>, slot: u8, code: &[u8])
     holds_of(rt, dictionary.code(slot) == Ok(code), &slot)
 }
 
+/// Checks the parts of the base host in a byte order.
+fn host_has_its_parts(rt: &(impl Abort + AllocGlobal), order: Order) {
+    let host = CodeFile::new(rt, order, HOST_TEXTS);
+    let information = Information::new(rt, order, HOST_RECORDS);
+    let host = Dict::read(host.as_slice()).expect(rt, "no host");
+    gives_the_host_s_parts(rt, &host, information.as_slice());
+    has_code(rt, &host, 1, &demo_code(order))
+}
+
+/// Checks the code of the base library in a byte order.
+fn library_has_its_code(rt: &(impl Abort + AllocGlobal), order: Order) {
+    let library = CodeFile::new(rt, order, LIBRARY_TEXTS);
+    let library = Dict::read_beside(library.as_slice(), order).expect(rt, "no library");
+    has_code(rt, &library, 2, &util_code(order, UTIL_ENTRY))
+}
+
 #[test]
 fn parts_of_the_base_files(rt: HostRuntime) {
-    for (order, _) in ORDERS {
-        let host = CodeFile::new(&rt, order, HOST_TEXTS);
-        let information = Information::new(&rt, order, HOST_RECORDS);
-        let host = Dict::read(host.as_slice()).expect(&rt, "no host");
-        gives_the_host_s_parts(&rt, &host, information.as_slice());
-        has_code(&rt, &host, 1, &demo_code(order));
-        let library = CodeFile::new(&rt, order, LIBRARY_TEXTS);
-        let library = Dict::read_beside(library.as_slice(), order).expect(&rt, "no library");
-        has_code(&rt, &library, 2, &util_code(order, UTIL_ENTRY));
-    }
+    host_has_its_parts(&rt, Order::Little);
+    host_has_its_parts(&rt, Order::Big);
+    library_has_its_code(&rt, Order::Little);
+    library_has_its_code(&rt, Order::Big)
 }

@@ -1,28 +1,21 @@
 //! `link` and its parts where memory is wanting, and how often it is requested.
 use super::allocations::{Allocating, refused_allocations};
 use super::answers::{is, text_of};
+use super::calls::{Link, tell_to, write_to};
 use super::plan::{describe, text_of_stop};
-use super::tables::{Base, Check, IN_PLACE, LONG_UNIT_PAIR, PAIR};
+use super::rows::{Row, check_all, field, fields};
+use super::tables::{Check, base_named};
 use super::writers::{Full, Room};
-use crate::notation::holds_of;
-use ps_linkfile::{LinkError, Linked, Summary, link, map_text, prepare};
-use ps_resolve::resolve;
-use ps_writing::Counting;
+use crate::line::Line;
+use crate::notation::{holds_of, number_of};
+use ps_linkfile::{LinkError, Linked, Summary};
 use refusing::Refusing;
-use std::alloc::{AllocError, Allocator, Global};
+use std::alloc::{Allocator, Global};
 use std::process::Abort;
-
-/// `link` with these files; the linked file is empty where it is refused.
-#[derive(Clone, Copy)]
-pub(crate) struct Link<'a> {
-    pub host: &'a [u8],
-    pub libraries: &'a [&'a [u8]],
-    pub linked: &'a [u8],
-}
 
 impl Link<'_> {
     /// A writer with room for the linked file, which takes no memory.
-    fn room(&self, alloc: Global) -> Result<Room, AllocError> {
+    fn room(&self, alloc: Global) -> Room {
         Room::new(alloc, (self.linked.len(), usize::MAX, Full::Stalls))
     }
 
@@ -43,24 +36,19 @@ impl Link<'_> {
     }
 
     /// An answer as text, where no other bytes were written than it says.
-    fn text_of(
-        &self,
-        alloc: Global,
-        answer: Result<Summary, LinkError>,
-        written: &[u8],
-    ) -> Result<String, AllocError> {
+    fn text_of(&self, alloc: Global, answer: Result<Summary, LinkError>, written: &[u8]) -> Line {
         let wanted = if answer.is_ok() { self.linked } else { &[] };
         if written != wanted {
-            return String::from_str(alloc, "other bytes were written");
+            return Line::of(alloc, "other bytes were written");
         }
         text_of(alloc, answer)
     }
 }
 
 impl<'a> Allocating for Link<'a> {
-    fn answer<A: Allocator + Copy>(&self, alloc: Global, heap: A) -> Result<String, AllocError> {
-        let mut out = self.room(alloc)?;
-        let answer = link(heap, self.host, self.libraries, &mut out);
+    fn answer<A: Allocator + Copy>(&self, alloc: Global, heap: A) -> Line {
+        let mut out = self.room(alloc);
+        let answer = self.link_to(heap, &mut out);
         self.text_of(alloc, answer, out.written())
     }
 }
@@ -73,8 +61,8 @@ struct Resolve<'a> {
 }
 
 impl<'a> Allocating for Resolve<'a> {
-    fn answer<A: Allocator + Copy>(&self, alloc: Global, heap: A) -> Result<String, AllocError> {
-        match resolve(heap, self.link.host, self.link.libraries) {
+    fn answer<A: Allocator + Copy>(&self, alloc: Global, heap: A) -> Line {
+        match self.link.resolve(heap) {
             Ok(plan) => describe(alloc, &plan),
             Err(stop) => text_of_stop(alloc, &stop),
         }
@@ -88,13 +76,21 @@ struct Prepare<'a> {
 }
 
 impl<'a> Allocating for Prepare<'a> {
-    fn answer<A: Allocator + Copy>(&self, alloc: Global, heap: A) -> Result<String, AllocError> {
-        let mut out = self.link.room(alloc)?;
-        let answer = match prepare(heap, self.link.host, self.link.libraries) {
-            Ok(linked) => linked.write(&mut out).map_err(LinkError::Write),
-            Err(error) => Err(error),
-        };
+    fn answer<A: Allocator + Copy>(&self, alloc: Global, heap: A) -> Line {
+        let mut out = self.link.room(alloc);
+        let answer = prepare_and_write(&self.link, heap, &mut out);
         self.link.text_of(alloc, answer, out.written())
+    }
+}
+
+fn prepare_and_write<A: Allocator + Copy>(
+    link: &Link<'_>,
+    heap: A,
+    out: &mut Room,
+) -> Result<Summary, LinkError> {
+    match link.prepare(heap) {
+        Ok(linked) => write_to(&linked, out),
+        Err(error) => Err(error),
     }
 }
 
@@ -105,12 +101,21 @@ fn writes_to_each<A: Allocator + Copy>(
     linked: &Linked<'_, A>,
     summary: &str,
 ) {
-    let mut room = link.room(rt.alloc()).expect(rt, "no memory");
-    let answer = linked.write(&mut room).map_err(LinkError::Write);
+    let mut room = link.room(rt.alloc());
+    let answer = write_to(linked, &mut room);
     link.has(rt, answer, room.written(), summary);
     writes_to_a_list(rt, link, linked, summary);
-    let mut told = Counting::new(link.room(rt.alloc()).expect(rt, "no memory"));
-    let answer = linked.write_told(&mut told).map_err(LinkError::Write);
+    tells(rt, link, linked, summary)
+}
+
+fn tells<A: Allocator + Copy>(
+    rt: &(impl Abort + AllocGlobal),
+    link: &Link<'_>,
+    linked: &Linked<'_, A>,
+    summary: &str,
+) {
+    let room = link.room(rt.alloc());
+    let (answer, told) = tell_to(linked, room);
     link.has(rt, answer, told.into_inner().written(), summary)
 }
 
@@ -121,7 +126,7 @@ fn writes_to_a_list<A: Allocator + Copy>(
     summary: &str,
 ) {
     let mut list = Vec::new(rt.alloc());
-    let answer = linked.write(&mut list).map_err(LinkError::Write);
+    let answer = write_to(linked, &mut list);
     link.has(rt, answer, list.as_slice(), summary)
 }
 
@@ -134,11 +139,10 @@ fn writing_grows_nothing(
     summary: &str,
 ) {
     let heap = Refusing::once(rt.alloc(), 0);
-    let heap = &heap;
-    let linked = prepare(heap, link.host, link.libraries).expect(rt, "unexpected error");
-    has_grown(rt, heap, asked);
+    let linked = link.prepare(&heap).expect(rt, "unexpected error");
+    has_grown(rt, &heap, asked);
     writes_to_each(rt, link, &linked, summary);
-    has_grown(rt, heap, asked)
+    has_grown(rt, &heap, asked)
 }
 
 /// Checks how many allocations there were on a heap, and of how many bytes.
@@ -157,7 +161,7 @@ fn a_map_grows_by_its_text(
 ) {
     let heap = Refusing::once(rt.alloc(), 0);
     let heap = &heap;
-    let text = map_text(heap, link.host, link.libraries).expect(rt, "unexpected error");
+    let text = link.map_text(heap).expect(rt, "unexpected error");
     let grown = heap.allocations().saturating_sub(allocations);
     let asked = heap.bytes().saturating_sub(bytes);
     has_room(rt, text.len() as u64, (grown, asked))
@@ -200,42 +204,48 @@ impl<'a> Check for Planned<'a> {
 /// each of its code's 18, 24 or 530, and a list 16 for each edit that there is room for: one for
 /// each reference and two more. A private variable takes 24 bytes. Names are compared only where a
 /// segment has two private variables or more.
-static PLANS: [(Base<'static>, Planned<'static>); 3] = [
-    (
-        PAIR,
-        Planned {
-            asked: (10, 596),
-            plan: "slot 1 file 0 entry 1 length 18: word at 4: 18 byte at 16: 1; \
-slot 7 file 1 entry 2 length 24: big at 1: 3 big at 4: 10 byte at 22: 7; \
-definitions 1 privates 1 words 4 next 12 data 18",
-            summary: "segments 2 private words 4 blocks 3",
-        },
-    ),
-    (
-        LONG_UNIT_PAIR,
-        Planned {
-            asked: (9, 2580),
-            plan: "slot 1 file 0 entry 1 length 18: word at 4: 10 byte at 16: 1; \
-slot 7 file 1 entry 2 length 530: big at 511: 258 byte at 528: 7; \
-definitions 1 privates 0 words 0 next 8 data 10",
-            summary: "segments 2 private words 0 blocks 4",
-        },
-    ),
-    (
-        IN_PLACE,
-        Planned {
-            asked: (9, 556),
-            plan: "slot 1 file 0 entry 1 length 18: word at 4: 10 byte at 16: 1; \
-slot 7 file 0 entry 7 length 24: big at 1: 3 byte at 22: 7; \
-definitions 1 privates 0 words 0 next 8 data 10",
-            summary: "segments 2 private words 0 blocks 3",
-        },
-    ),
-];
+static PLANS: &str = "\
+pair | 10 596 | slot 1 file 0 entry 1 length 18: \
+Word { value: 18, place: 4 } Byte { value: 1, place: 16 }; \
+slot 7 file 1 entry 2 length 24: \
+Big { value: 3, place: 1 } Big { value: 10, place: 4 } Byte { value: 7, place: 22 }; \
+definitions 1 privates 1 words 4 next 12 data 18 | segments 2 private words 4 blocks 3
+long-unit | 9 2580 | slot 1 file 0 entry 1 length 18: \
+Word { value: 10, place: 4 } Byte { value: 1, place: 16 }; \
+slot 7 file 1 entry 2 length 530: Big { value: 258, place: 511 } Byte { value: 7, place: 528 }; \
+definitions 1 privates 0 words 0 next 8 data 10 | segments 2 private words 0 blocks 4
+in-place | 9 556 | slot 1 file 0 entry 1 length 18: \
+Word { value: 10, place: 4 } Byte { value: 1, place: 16 }; \
+slot 7 file 0 entry 7 length 24: Big { value: 3, place: 1 } Byte { value: 7, place: 22 }; \
+definitions 1 privates 0 words 0 next 8 data 10 | segments 2 private words 0 blocks 3";
+
+/// Files, how many allocations their plan makes and of how many bytes, the plan, and the program's
+/// line.
+struct PlanRows;
+
+impl Row for PlanRows {
+    fn check<R: Abort + AllocGlobal>(&self, rt: &R, row: &str) {
+        let (files, rest) = field(rt, row);
+        let (asked, plan, summary) = fields(rt, rest);
+        let check = Planned {
+            asked: asked_for(rt, asked),
+            plan,
+            summary,
+        };
+        base_named(rt, files).check(rt, ("", "", ""), &check)
+    }
+}
 
 #[test]
 fn writing_takes_no_memory(rt: HostRuntime) {
-    for (base, planned) in &PLANS {
-        base.check(&rt, ("", "", ""), planned);
-    }
+    check_all(&rt, &PlanRows, PLANS)
+}
+
+/// How many allocations there are, and of how many bytes.
+fn asked_for(rt: &impl Abort, asked: &str) -> (u64, u64) {
+    let (allocations, bytes) = asked.split_once(' ').expect(rt, asked);
+    (
+        number_of(rt, allocations) as u64,
+        number_of(rt, bytes) as u64,
+    )
 }

@@ -2,7 +2,7 @@
 ghost use Rattle.std.specs.Prelude.{◌<◌};
 
 use super::answers::{LITTLE, is, text_of_fault};
-use super::rows::{changes, field};
+use super::rows::{Row, changes, check_all, field};
 use super::tables::{HOST_TEXTS, LIBRARY_TEXTS};
 use crate::code_file::CodeFile;
 use ps_codefile::dictionary_layout::SLOTS;
@@ -47,28 +47,44 @@ fn has_fault(rt: &(impl Abort + AllocGlobal), file: &[u8], slot: u8, what: &str,
     is(rt, what, text_of_fault(alloc, found), wanted)
 }
 
-/// Checks a row in a byte order.
-fn is_right(rt: &(impl Abort + AllocGlobal), order: Order, row: &str) {
-    let (what, rest) = field(rt, row);
-    let (changes, wanted) = changes(rt, rest);
-    let file = CodeFile::new(rt, order, LIBRARY_TEXTS).with(rt, changes);
-    has_fault(rt, file.as_slice(), 2, what, wanted)
+/// The unit of the base library in a byte order.
+struct UnitRows {
+    order: Order,
 }
 
-#[test]
-fn units_by_themselves(rt: HostRuntime) {
-    for row in ROWS.lines() {
-        is_right(&rt, Order::Little, row);
-        is_right(&rt, Order::Big, row);
+impl Row for UnitRows {
+    fn check<R: Abort + AllocGlobal>(&self, rt: &R, row: &str) {
+        let (what, rest) = field(rt, row);
+        let (changes, wanted) = changes(rt, rest);
+        let file = CodeFile::new(rt, self.order, LIBRARY_TEXTS).with(rt, changes);
+        has_fault(rt, file.as_slice(), 2, what, wanted)
     }
 }
 
 #[test]
+fn units_by_themselves(rt: HostRuntime) {
+    check_all(
+        &rt,
+        &UnitRows {
+            order: Order::Little,
+        },
+        ROWS,
+    );
+    check_all(&rt, &UnitRows { order: Order::Big }, ROWS)
+}
+
+/// Checks the first fault of the segment in a slot of the base host.
+fn host_has_fault(rt: &(impl Abort + AllocGlobal), slot: u8, what: &str, wanted: &str)
+    requires { slot < SLOTS }
+{
+    let host = CodeFile::new(rt, LITTLE, HOST_TEXTS);
+    has_fault(rt, host.as_slice(), slot, what, wanted)
+}
+
+#[test]
 fn segments_that_are_no_units_of_the_file(rt: HostRuntime) {
-    let file = CodeFile::new(&rt, LITTLE, HOST_TEXTS);
-    let file = file.as_slice();
-    has_fault(&rt, file, 0, "an empty slot", "no fault");
-    has_fault(&rt, file, 1, "a host", "no fault");
+    host_has_fault(&rt, 0, "an empty slot", "no fault");
+    host_has_fault(&rt, 1, "a host", "no fault");
     let wanted = "refused 13 MissingUnit file 0 slot 7";
-    has_fault(&rt, file, 7, "a wanted unit", wanted)
+    host_has_fault(&rt, 7, "a wanted unit", wanted)
 }

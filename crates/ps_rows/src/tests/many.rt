@@ -1,15 +1,15 @@
 //! More records and more libraries than a word counts.
 use super::answers::{LITTLE, links};
-use super::link_allocations::Link;
+use super::calls::Link;
 use super::plan::linkage;
 use super::tables::{HOST_TEXTS, LIBRARY_TEXTS};
 use crate::code_file::CodeFile;
 use crate::information::{Information, Name};
+use crate::line::Line;
 use crate::notation::{holds, holds_of};
-use ps_linkfile::map_text;
 use ps_linkinfo::{Body, LinkRecord, read_records};
 use ps_resolve::{Allotment, Def, DefKind, Definitions};
-use std::alloc::{AllocError, Global};
+use std::alloc::Global;
 use std::process::Abort;
 
 /// How many definitions there are, and how many private variables.
@@ -17,17 +17,17 @@ const NUMBERED: usize = 100_000;
 
 /// A definition and a private variable of each number in turn, and an end mark. The values are the
 /// numbers' last three digits; each fourth variable has a word.
-fn numbered(alloc: Global) -> Result<String, AllocError> {
-    let mut text = String::new(alloc);
+fn numbered(alloc: Global) -> Line {
+    let mut line = Line::new(alloc);
     for number in 0..NUMBERED {
-        let (value, words) = (number % 1000, usize::from(number % 4 == 0));
-        write!(
-            text,
-            "PUBLDEF N{number} value {value}; PRIVREF N{number} words {words} at; "
-        )?;
+        line.number("PUBLDEF N", number);
+        line.number(" value ", number % 1000);
+        line.number("; PRIVREF N", number);
+        line.number(" words ", usize::from(number % 4 == 0));
+        line.word(" at; ")
     }
-    text.push_str("EOFMARK next 8")?;
-    Ok(text)
+    line.word("EOFMARK next 8");
+    line
 }
 
 /// Checks the definition of a number, by its name and by its index.
@@ -77,7 +77,7 @@ fn are_numbered(
 
 #[test]
 fn records_of_a_hundred_thousand_names(rt: HostRuntime) {
-    let text = numbered(rt.alloc()).expect(&rt, "no memory");
+    let text = numbered(rt.alloc()).text(&rt);
     let information = Information::new(&rt, LITTLE, text.as_str());
     reads_numbered(&rt, information.as_slice())
 }
@@ -104,6 +104,17 @@ private 07 STATE    offset 8 words 4
 next 12 data 18 blocks 3
 ";
 
+/// Checks the map of these files.
+fn has_map(rt: &(impl Abort + AllocGlobal), host: &[u8], libraries: &[&[u8]]) {
+    let link = Link {
+        host,
+        libraries,
+        linked: &[],
+    };
+    let map = link.map_text(rt.alloc()).expect(rt, "no map");
+    holds(rt, map.as_slice() == MAP_OF_MANY.as_bytes(), "another map")
+}
+
 #[test]
 fn libraries_past_the_number_of_a_word(rt: HostRuntime) {
     let host = CodeFile::new(&rt, LITTLE, HOST_TEXTS);
@@ -112,8 +123,7 @@ fn libraries_past_the_number_of_a_word(rt: HostRuntime) {
     let libraries = Vec::from_elem(rt.alloc(), zeros.as_slice(), 65_536);
     let mut libraries = libraries.expect(&rt, "no memory");
     libraries.push(library.as_slice()).expect(&rt, "no memory");
-    let map = map_text(rt.alloc(), host.as_slice(), libraries.as_slice()).expect(&rt, "no map");
-    holds(&rt, map.as_slice() == MAP_OF_MANY.as_bytes(), "another map");
+    has_map(&rt, host.as_slice(), libraries.as_slice());
     libraries.push(&[]).expect(&rt, "no memory");
     let link = Link {
         host: host.as_slice(),

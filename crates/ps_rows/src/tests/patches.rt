@@ -1,9 +1,21 @@
 //! Edits on codes, at once and block by block.
+ghost use Rattle.std.specs.Prelude.{[], ◌∷◌, length};
+ghost use Rattle.ps_words.specs.Edits.{AreEdits};
+
 use crate::information::put;
 use crate::notation::holds_of;
 use ps_patch::{Patcher, apply};
 use ps_words::{Edit, Order};
 use std::process::Abort;
+
+/// Checks what a code is with these edits.
+fn becomes(rt: &impl Abort, order: Order, code: &mut [u8], edits: &[Edit], wanted: &[u8])
+    requires { AreEdits (length code.old) edits.now }
+{
+    apply(order, code, edits);
+    let code = &*code;
+    holds_of(rt, code == wanted, &code)
+}
 
 #[test]
 fn edits_at_once(rt: HostRuntime) {
@@ -12,18 +24,28 @@ fn edits_at_once(rt: HostRuntime) {
         place: 1,
         value: 10,
     }];
-    apply(Order::Little, &mut code, &edits);
-    holds_of(&rt, code == [0xD7, 0x80, 0x0A, 0xAB], &code);
-    apply(Order::Big, &mut code, &[]);
-    holds_of(&rt, code == [0xD7, 0x80, 0x0A, 0xAB], &code);
-    let mut code = [0x00, 0x0A, 0xFF];
+    let wanted = [0xD7, 0x80, 0x0A, 0xAB];
+    becomes(&rt, Order::Little, &mut code, &edits, &wanted);
+    becomes(&rt, Order::Big, &mut code, &[], &wanted)
+}
+
+#[test]
+fn a_word_at_once(rt: HostRuntime) {
     let edits = [Edit::Word {
         place: 0,
         value: 18,
     }];
-    apply(Order::Big, &mut code, &edits);
-    holds_of(&rt, code == [0x00, 0x12, 0xFF], &code);
-    let mut code = [0x00, 0x00, 0x05];
+    becomes(
+        &rt,
+        Order::Big,
+        &mut [0x00, 0x0A, 0xFF],
+        &edits,
+        &[0x00, 0x12, 0xFF],
+    )
+}
+
+#[test]
+fn an_operand_and_a_byte_at_once(rt: HostRuntime) {
     let edits = [
         Edit::Big {
             place: 0,
@@ -31,9 +53,17 @@ fn edits_at_once(rt: HostRuntime) {
         },
         Edit::Byte { place: 2, value: 7 },
     ];
-    apply(Order::Little, &mut code, &edits);
-    holds_of(&rt, code == [0x81, 0x02, 0x07], &code);
-    let mut code = [0x11, 0x22, 0x33];
+    becomes(
+        &rt,
+        Order::Little,
+        &mut [0x00, 0x00, 0x05],
+        &edits,
+        &[0x81, 0x02, 0x07],
+    )
+}
+
+#[test]
+fn a_byte_and_a_word_at_once(rt: HostRuntime) {
     let edits = [
         Edit::Byte { place: 0, value: 9 },
         Edit::Word {
@@ -41,8 +71,13 @@ fn edits_at_once(rt: HostRuntime) {
             value: 0x0102,
         },
     ];
-    apply(Order::Little, &mut code, &edits);
-    holds_of(&rt, code == [9, 2, 1], &code)
+    becomes(
+        &rt,
+        Order::Little,
+        &mut [0x11, 0x22, 0x33],
+        &edits,
+        &[9, 2, 1],
+    )
 }
 
 /// Checks that a block has these bytes, and zeros behind them.
@@ -65,28 +100,49 @@ fn fills(rt: &impl Abort, patcher: Patcher<'_>, wanted: &[u8], counts: &[usize])
     }
 }
 
+/// Checks the blocks of a code with one edit, whose bytes are these.
+fn fills_edited(rt: &impl Abort, order: Order, edit: Edit, bytes: &[u8])
+    requires { AreEdits 1024 (edit ∷ []) }
+{
+    let code = [0xD7; 1024];
+    let mut wanted = code;
+    put(rt, &mut wanted, edit.place(), bytes);
+    let edits = [edit];
+    fills(rt, Patcher::new(order, &code, &edits), &wanted, &[512, 512])
+}
+
 #[test]
 fn blocks_of_codes_without_edits(rt: HostRuntime) {
     let long = [0xD7; 1024];
     let patcher = Patcher::new(Order::Little, &long, &[]);
-    fills(&rt, patcher, &long, &[512, 512, 0, 0]);
+    fills(&rt, patcher, &long, &[512, 512, 0, 0])
+}
+
+#[test]
+fn blocks_of_short_codes_without_edits(rt: HostRuntime) {
     let short = [1, 2, 3, 4, 5];
-    fills(
-        &rt,
-        Patcher::new(Order::Little, &short, &[]),
-        &short,
-        &[5, 0],
-    );
+    let patcher = Patcher::new(Order::Little, &short, &[]);
+    fills(&rt, patcher, &short, &[5, 0]);
     fills(&rt, Patcher::new(Order::Little, &[], &[]), &[], &[0])
+}
+
+/// A code of 530 bytes with these at its end.
+fn long_code(rt: &impl Abort, end: &[u8]) -> [u8; 530] {
+    let mut code = [0xD7; 530];
+    put(rt, &mut code, 510, end);
+    code
 }
 
 #[test]
 fn an_operand_across_two_blocks(rt: HostRuntime) {
-    let end = [
-        0xA5, 0x80, 0xFF, 0xD7, 0xAD, 0, 0, 0, 0, 0, 6, 0, 0x0A, 2, 1, 0, 2, 0, 2, 1,
-    ];
-    let mut code = [0xD7; 530];
-    put(&rt, &mut code, 510, &end);
+    let code = long_code(
+        &rt,
+        b"\xA5\x80\xFF\xD7\xAD\0\0\0\0\0\x06\0\x0A\x02\x01\0\x02\0\x02\x01",
+    );
+    let wanted = long_code(
+        &rt,
+        b"\xA5\x81\x02\xD7\xAD\0\0\0\0\0\x06\0\x0A\x02\x01\0\x02\0\x07\x01",
+    );
     let edits = [
         Edit::Big {
             place: 511,
@@ -97,31 +153,20 @@ fn an_operand_across_two_blocks(rt: HostRuntime) {
             value: 7,
         },
     ];
-    let mut wanted = code;
-    wanted[511] = 0x81;
-    wanted[512] = 0x02;
-    wanted[528] = 7;
     let patcher = Patcher::new(Order::Little, &code, &edits);
     fills(&rt, patcher, &wanted, &[512, 18, 0])
 }
 
 #[test]
 fn operands_at_the_end_and_at_the_start_of_a_block(rt: HostRuntime) {
-    let code = [0xD7; 1024];
-    let end = [Edit::Big {
+    let end = Edit::Big {
         place: 510,
         value: 3,
-    }];
-    let mut wanted = code;
-    put(&rt, &mut wanted, 510, &[0x80, 0x03]);
-    let patcher = Patcher::new(Order::Little, &code, &end);
-    fills(&rt, patcher, &wanted, &[512, 512]);
-    let start = [Edit::Big {
+    };
+    fills_edited(&rt, Order::Little, end, &[0x80, 0x03]);
+    let start = Edit::Big {
         place: 512,
         value: 3,
-    }];
-    let mut wanted = code;
-    put(&rt, &mut wanted, 512, &[0x80, 0x03]);
-    let patcher = Patcher::new(Order::Big, &code, &start);
-    fills(&rt, patcher, &wanted, &[512, 512])
+    };
+    fills_edited(&rt, Order::Big, start, &[0x80, 0x03])
 }

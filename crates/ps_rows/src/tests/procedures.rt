@@ -1,11 +1,13 @@
 //! The procedure dictionary and the attribute tables of a code.
 use super::answers::{LITTLE, is};
+use super::rows::{Row, check_all, fields};
 use crate::base::{UTIL_ENTRY, demo_code, util_code};
+use crate::code_file::{Changes, CodeFile};
 use crate::line::Line;
-use crate::notation::holds_of;
+use crate::notation::{hex, holds, holds_of};
 use ps_codefile::Procs;
 use ps_words::Order;
-use std::alloc::{AllocError, Global};
+use std::alloc::Global;
 use std::process::Abort;
 
 const BIG: Order = Order::Big;
@@ -13,7 +15,7 @@ const BIG: Order = Order::Big;
 /// How many procedures a code has and where their dictionary begins, each that has a table and
 /// where, and the places from which on bytes are reserved and are not, in turn; or why they are
 /// refused.
-fn describe(alloc: Global, order: Order, code: &[u8], is_host: bool) -> Result<String, AllocError> {
+fn describe(alloc: Global, order: Order, code: &[u8], is_host: bool) -> Line {
     let mut line = Line::new(alloc);
     if code.len() >= 2 {
         match Procs::read(order, code, is_host) {
@@ -21,7 +23,7 @@ fn describe(alloc: Global, order: Order, code: &[u8], is_host: bool) -> Result<S
             Err(reason) => line.value("", &reason),
         }
     }
-    line.text()
+    line
 }
 
 /// Adds the procedures of a code of this length.
@@ -59,14 +61,18 @@ fn has(
     is(rt, "procedures", text, wanted)
 }
 
+/// Checks the procedures of the base codes in a byte order.
+fn base_codes_have(rt: &(impl Abort + AllocGlobal), order: Order) {
+    let util = util_code(order, UTIL_ENTRY);
+    has(rt, (order, &util, false), "1 from 20, 1 at 18; 10 24");
+    let demo = demo_code(order);
+    has(rt, (order, &demo, true), "1 from 14, 1 at 12; 4 18")
+}
+
 #[test]
 fn procedures_of_the_base_codes(rt: HostRuntime) {
-    for order in [LITTLE, BIG] {
-        let util = util_code(order, UTIL_ENTRY);
-        has(&rt, (order, &util, false), "1 from 20, 1 at 18; 10 24");
-        let demo = demo_code(order);
-        has(&rt, (order, &demo, true), "1 from 14, 1 at 12; 4 18");
-    }
+    base_codes_have(&rt, LITTLE);
+    base_codes_have(&rt, BIG)
 }
 
 /// Checks which places of a host's little-endian code are marked as reserved, each by a star.
@@ -89,107 +95,87 @@ fn reserved_places_are_marked(rt: HostRuntime) {
     marks(&rt, &code, b"-**********---******");
 }
 
-/// A little-endian code: an instruction, a table of procedure 1, the words of procedures 2 and 1,
-/// of which the second has this high byte, and the numbers of segment 7. The words stand at 11 and
-/// 13, so that the tables stand at these minus their values.
-fn code_of(second: u8, first: u8, high: u8) -> [u8; 17] {
-    [
-        0xD7, 10, 0, 6, 0, 4, 0, 2, 0, 1, 0, second, 0, first, high, 7, 2,
-    ]
+/// Codes in a byte order, of the host segment or of another one, in hexadecimal digits; and their
+/// procedures. The first are an instruction, a table of procedure 1, the words of procedures 2 and 1
+/// at 11 and 13, so that the tables stand at these minus their values, and the numbers of segment 7.
+static CODES: &str = "\
+little host | D7 0A 00 06 00 04 00 02 00 01 00 02 00 04 00 07 02 | 2 from 11, 1 at 9, 2 at 9; 1 17
+little host | D7 0A 00 06 00 04 00 02 00 01 00 00 00 04 00 07 02 | 2 from 11, 1 at 9; 1 17
+# procedure 1 has no body
+little unit | D7 0A 00 06 00 04 00 02 00 01 00 02 00 00 00 07 02 | 2 from 11, 2 at 9; 1 17
+little host | D7 0A 00 06 00 04 00 02 00 01 00 02 00 00 00 07 02 | BadProcDict
+# a table at 8 is whole, and byte 8 is 0; one at 7 is not
+little unit | D7 0A 00 06 00 04 00 02 00 01 00 00 00 05 00 07 02 | NativeProcedure
+little unit | D7 0A 00 06 00 04 00 02 00 01 00 00 00 06 00 07 02 | BadProcDict
+little unit | D7 0A 00 06 00 04 00 02 00 01 00 00 00 0D 00 07 02 | BadProcDict
+little unit | D7 0A 00 06 00 04 00 02 00 01 00 00 00 0E 00 07 02 | BadProcDict
+little unit | D7 0A 00 06 00 04 00 02 00 01 00 00 00 00 01 07 02 | BadProcDict
+# a table at 10 ends in the dictionary, whose first byte is 11
+little unit | D7 0A 00 06 00 04 00 02 00 01 00 00 00 03 00 07 02 | BadProcDict
+little unit | D7 0A 00 06 00 04 00 02 00 01 00 00 00 01 00 07 02 | BadProcDict
+# procedure 2 is native
+little host | D7 0A 00 06 00 04 00 02 00 01 00 03 00 04 00 07 02 | NativeProcedure
+little unit | D7 0A 00 06 00 04 00 02 00 01 00 03 00 00 00 07 02 | NativeProcedure
+little host | D7 0A 00 06 00 04 00 02 00 01 00 03 00 00 00 07 02 | BadProcDict
+little host | D7 0A 00 06 00 04 00 02 00 01 00 03 00 03 00 07 02 | BadProcDict
+little host | D7 0A 00 06 00 04 00 02 00 01 00 04 00 05 00 07 02 | BadProcDict
+# three bytes before the dictionary belong to nothing
+little host | D7 0A 00 06 00 04 00 02 00 01 00 AB AB AB 00 00 07 00 07 02 | 2 from 14, 1 at 9; 1 11 14 20
+# two tables in order, and turned round
+little host | D7 0A 00 06 00 04 00 02 00 01 00 AB 0A 00 06 00 04 00 02 00 02 00 02 00 0F 00 07 02 \
+| 2 from 22, 1 at 9, 2 at 20; 1 11 12 28
+little host | D7 0A 00 06 00 04 00 02 00 01 00 AB 0A 00 06 00 04 00 02 00 02 00 0D 00 04 00 07 02 \
+| 2 from 22, 1 at 20, 2 at 9; 1 11 12 28
+# no procedures
+big unit | D7 07 00 | 0 from 1; 1 3
+big host | D7 07 00 | BadProcDict
+# a dictionary as long as the code, and longer ones
+big unit | 00 00 07 01 | 1 from 0; 0 4
+big unit | 00 00 07 02 | BadProcDict
+big unit | 07 01 | BadProcDict";
+
+/// The procedures of a code.
+struct CodeRows;
+
+impl Row for CodeRows {
+    fn check<R: Abort + AllocGlobal>(&self, rt: &R, row: &str) {
+        let (segment, code, wanted) = fields(rt, row);
+        let (order, is_host) = segment_of(rt, segment);
+        has(rt, (order, hex(rt, code).as_slice(), is_host), wanted)
+    }
 }
 
-const BAD: &str = "BadProcDict";
-
-const NATIVE: &str = "NativeProcedure";
-
-/// The words of procedures 2 and 1, the second's high byte, and whether the code is the host
-/// segment's.
-static WORDS: [(u8, u8, u8, bool, &str); 16] = [
-    (2, 4, 0, true, "2 from 11, 1 at 9, 2 at 9; 1 17"),
-    (0, 4, 0, true, "2 from 11, 1 at 9; 1 17"),
-    // procedure 1 has no body
-    (2, 0, 0, false, "2 from 11, 2 at 9; 1 17"),
-    (2, 0, 0, true, BAD),
-    // a table at 8 is whole, and byte 8 is 0; one at 7 is not
-    (0, 5, 0, false, NATIVE),
-    (0, 6, 0, false, BAD),
-    (0, 13, 0, false, BAD),
-    (0, 14, 0, false, BAD),
-    (0, 0, 1, false, BAD),
-    // a table at 10 ends in the dictionary, whose first byte is 11
-    (0, 3, 0, false, BAD),
-    (0, 1, 0, false, BAD),
-    // procedure 2 is native
-    (3, 4, 0, true, NATIVE),
-    (3, 0, 0, false, NATIVE),
-    (3, 0, 0, true, BAD),
-    (3, 3, 0, true, BAD),
-    (4, 5, 0, true, BAD),
-];
-
-/// Other codes, in this byte order.
-static CODES: [(Order, &[u8], bool, &str); 8] = [
-    // three bytes before the dictionary belong to nothing
-    (
-        LITTLE,
-        &[
-            0xD7, 10, 0, 6, 0, 4, 0, 2, 0, 1, 0, 0xAB, 0xAB, 0xAB, 0, 0, 7, 0, 7, 2,
-        ],
-        true,
-        "2 from 14, 1 at 9; 1 11 14 20",
-    ),
-    // two tables in order, and turned round
-    (
-        LITTLE,
-        &[
-            0xD7, 10, 0, 6, 0, 4, 0, 2, 0, 1, 0, 0xAB, 10, 0, 6, 0, 4, 0, 2, 0, 2, 0, 2, 0, 15, 0,
-            7, 2,
-        ],
-        true,
-        "2 from 22, 1 at 9, 2 at 20; 1 11 12 28",
-    ),
-    (
-        LITTLE,
-        &[
-            0xD7, 10, 0, 6, 0, 4, 0, 2, 0, 1, 0, 0xAB, 10, 0, 6, 0, 4, 0, 2, 0, 2, 0, 13, 0, 4, 0,
-            7, 2,
-        ],
-        true,
-        "2 from 22, 1 at 20, 2 at 9; 1 11 12 28",
-    ),
-    // no procedures
-    (BIG, &[0xD7, 7, 0], false, "0 from 1; 1 3"),
-    (BIG, &[0xD7, 7, 0], true, BAD),
-    // a dictionary as long as the code, and longer ones
-    (BIG, &[0, 0, 7, 1], false, "1 from 0; 0 4"),
-    (BIG, &[0, 0, 7, 2], false, BAD),
-    (BIG, &[7, 1], false, BAD),
-];
+/// The byte order of a row, and whether the code is the host segment's.
+fn segment_of(rt: &impl Abort, segment: &str) -> (Order, bool) {
+    match segment {
+        "little host" => (LITTLE, true),
+        "little unit" => (LITTLE, false),
+        "big host" => (BIG, true),
+        _ => {
+            holds(rt, segment == "big unit", segment);
+            (BIG, false)
+        }
+    }
+}
 
 #[test]
 fn tables_of_small_codes(rt: HostRuntime) {
-    for (second, first, high, is_host, wanted) in &WORDS {
-        let code = code_of(*second, *first, *high);
-        has(&rt, (LITTLE, &code, *is_host), *wanted);
-    }
-    for (order, code, is_host, wanted) in &CODES {
-        has(&rt, (*order, *code, *is_host), *wanted);
-    }
+    check_all(&rt, &CodeRows, CODES)
+}
+
+/// Checks the procedures of a code of another segment that is made by these changes.
+fn made_has(rt: &(impl Abort + AllocGlobal), order: Order, changes: Changes<'_>, wanted: &str) {
+    let code = CodeFile::new(rt, order, "").with(rt, changes);
+    has(rt, (order, code.as_slice(), false), wanted)
 }
 
 /// As many procedures as there can be, of which none has a table, and of which the last has one as
 /// far from the end as can be.
 #[test]
 fn as_many_procedures_as_there_can_be(rt: HostRuntime) {
-    let mut code = [0; 523];
-    code[522] = 255;
-    has(&rt, (BIG, &code, false), "255 from 11; 11 523");
-    let mut code = Vec::from_elem(rt.alloc(), 0xD7, 70000).expect(&rt, "unexpected error");
-    let bytes = code.as_mut_slice();
-    assert!(rt; bytes.len() == 70000);
-    bytes[69488..70000].fill(0);
-    bytes[69488..69490].fill(0xFF);
-    bytes[69999] = 255;
+    let none = "fill 64 128 00; size 523; at 522 FF";
+    made_has(&rt, BIG, none, "255 from 11; 11 523");
+    let last = "size 70000; fill 0 69488 D7; fill 69488 2 FF; at 69999 FF";
     let wanted = "255 from 69488, 255 at 3953; 3945 3955 69488 70000";
-    has(&rt, (LITTLE, bytes, false), wanted)
+    made_has(&rt, LITTLE, last, wanted)
 }

@@ -2,13 +2,13 @@
 ghost use Rattle.std.specs.Prelude.{◌<◌};
 
 use super::answers::{is, text_of_fault};
-use super::link_allocations::Link;
-use super::rows::{changes, field};
-use super::tables::{BIG_PAIR, Base, Check, USED_UNIT};
+use super::calls::Link;
+use super::rows::{Row, changes, check_all, field};
+use super::tables::{Check, base_named};
 use crate::line::Line;
 use ps_codefile::dictionary_layout::SLOTS;
 use ps_resolve::{HostReading, Reading, Requester, read};
-use std::alloc::{AllocError, Global};
+use std::alloc::Global;
 use std::process::Abort;
 
 /// What a row shows, the changes of the host and of the library, what is read of each slot and how
@@ -40,13 +40,13 @@ fn add_request(line: &mut Line, host: &HostReading, slot: u8)
     match host.request(slot).map(|request| request.requester) {
         None => (),
         Some(Requester::Slot) => {
-            line.number("slot ", slot.into());
+            line.number("slot ", slot as usize);
             line.word(" wants a unit; ")
         }
         Some(Requester::Record(place)) => {
-            line.number("slot ", slot.into());
+            line.number("slot ", slot as usize);
             line.number(" is requested by file ", place.segment.file);
-            line.number(" slot ", place.segment.slot.into());
+            line.number(" slot ", place.segment.slot as usize);
             line.number(" record ", place.rec);
             line.word("; ")
         }
@@ -60,22 +60,22 @@ fn add_segment(line: &mut Line, host: &HostReading, slot: u8)
     match host.segment(slot) {
         None => (),
         Some(Err(fault)) => {
-            line.number("slot ", slot.into());
+            line.number("slot ", slot as usize);
             line.value(" has ", &fault.reason);
             line.word("; ")
         }
         Some(Ok(segment)) => {
-            line.number("slot ", slot.into());
+            line.number("slot ", slot as usize);
             line.word(if segment.added() { " adds" } else { " has" });
             line.number(" file ", segment.file());
-            line.number(" entry ", segment.index().into());
+            line.number(" entry ", segment.index() as usize);
             line.word("; ")
         }
     }
 }
 
 /// What was read of each slot, and how many segments there are.
-fn describe(alloc: Global, reading: &Reading) -> Result<String, AllocError> {
+fn describe(alloc: Global, reading: &Reading) -> Line {
     let mut line = Line::new(alloc);
     if let Ok(host) = reading.host() {
         for slot in 0..SLOTS {
@@ -84,7 +84,7 @@ fn describe(alloc: Global, reading: &Reading) -> Result<String, AllocError> {
         }
     }
     line.number("segments ", reading.segments().len());
-    line.text()
+    line
 }
 
 /// What is read of a link.
@@ -104,18 +104,24 @@ impl<'a> Check for ReadCheck<'a> {
     }
 }
 
-fn is_read(rt: &(impl Abort + AllocGlobal), base: &Base<'_>, row: &str) {
-    let (what, rest) = field(rt, row);
-    let (host, rest) = changes(rt, rest);
-    let (library, rest) = changes(rt, rest);
-    let (slots, fault) = field(rt, rest);
-    base.check(rt, (host, library, ""), &ReadCheck { what, slots, fault })
+/// The link of these files.
+struct ReadingRows<'a> {
+    files: &'a str,
+}
+
+impl<'a> Row for ReadingRows<'a> {
+    fn check<R: Abort + AllocGlobal>(&self, rt: &R, row: &str) {
+        let (what, rest) = field(rt, row);
+        let (host, rest) = changes(rt, rest);
+        let (library, rest) = changes(rt, rest);
+        let (slots, fault) = field(rt, rest);
+        let check = ReadCheck { what, slots, fault };
+        base_named(rt, self.files).check(rt, (host, library, ""), &check)
+    }
 }
 
 #[test]
 fn each_slot_is_read(rt: HostRuntime) {
-    for row in ROWS.lines() {
-        is_read(&rt, &USED_UNIT, row);
-    }
-    is_read(&rt, &BIG_PAIR, BIG_ROW)
+    check_all(&rt, &ReadingRows { files: "used-unit" }, ROWS);
+    check_all(&rt, &ReadingRows { files: "big pair" }, BIG_ROW)
 }

@@ -1,23 +1,25 @@
 //! Link information as `read_records` reads it.
 use super::allocations::{Allocating, makes_no_allocation, refuses_each_allocation};
-use super::answers::{LITTLE, OUT_OF_MEMORY, is};
+use super::answers::{LITTLE, OUT_OF_MEMORY};
+use super::record_rows::Reader;
+use super::rows::check_all;
 use crate::base::LIBRARY_RECORDS;
 use crate::information::Information;
 use crate::line::Line;
 use crate::notation::holds_of;
 use ps_linkinfo::{Body, LinkRecord, ReadStop, Refs, read_records};
 use ps_words::Order;
-use std::alloc::{AllocError, Allocator, Global};
+use std::alloc::{Allocator, Global};
 use std::process::Abort;
 
 /// What the base library's link information is read as.
 pub(crate) const BASE_RECORDS: &str =
-    "PUBLREF COUNT    at 1; PRIVREF STATE    words 4 at 4; EOFMARK next 0; ";
+    "PUBLREF COUNT    at 1; PRIVREF STATE    words 4 at 4; EOFMARK next 0";
 
 fn list(line: &mut Line, references: &Refs<'_>) {
     line.word(" at");
     for i in 0..references.len() {
-        line.number(" ", references.get(i).into());
+        line.number(" ", references.get(i) as usize);
     }
 }
 
@@ -34,12 +36,12 @@ pub(crate) fn describe(line: &mut Line, record: &LinkRecord<'_>) {
         }
         Body::PrivRef { words, refs } => {
             named(line, "PRIVREF ", record);
-            line.number(" words ", (*words).into());
+            line.number(" words ", (*words) as usize);
             list(line, refs)
         }
         Body::PublDef(value) => defined(line, "PUBLDEF ", record, *value),
         Body::ConstDef(value) => defined(line, "CONSTDEF ", record, *value),
-        Body::Eof(next) => line.number("EOFMARK next ", (*next).into()),
+        Body::Eof(next) => line.number("EOFMARK next ", (*next) as usize),
     }
 }
 
@@ -52,7 +54,7 @@ fn named(line: &mut Line, kind: &str, record: &LinkRecord<'_>) {
 /// The same of a definition, with its value.
 fn defined(line: &mut Line, kind: &str, record: &LinkRecord<'_>, value: u16) {
     named(line, kind, record);
-    line.number(" value ", value.into())
+    line.number(" value ", value as usize)
 }
 
 /// The records, or why there are none, as text made on `alloc`; the list itself grows on `heap`.
@@ -61,95 +63,54 @@ pub(crate) fn read<A: Allocator + Copy>(
     heap: A,
     order: Order,
     bytes: &[u8],
-) -> Result<String, AllocError> {
+) -> Line {
     let mut line = Line::new(alloc);
     match read_records(heap, order, bytes) {
-        Ok(records) => {
-            for record in records.iter() {
-                describe(&mut line, record);
-                line.word("; ");
-            }
-        }
+        Ok(records) => add_records(&mut line, records.as_slice()),
         Err(ReadStop::Refused { rec, reason }) => {
             line.value("", &reason);
             line.number(" at record ", rec)
         }
         Err(ReadStop::Memory) => line.word(OUT_OF_MEMORY),
     }
-    line.text()
+    line
 }
 
-/// Checks what these records are read as in either byte order, where they are truncated to this
-/// length.
-pub(crate) fn reads_records(
-    rt: &(impl Abort + AllocGlobal),
-    records: &str,
-    length: usize,
-    wanted: &str,
-) {
-    let alloc = rt.alloc();
-    for order in [Order::Little, Order::Big] {
-        let information = Information::new(rt, order, records);
-        let bytes = information.as_slice().get(..length).unwrap_or(&[]);
-        is(rt, "records", read(alloc, alloc, order, bytes), wanted);
+fn add_records(line: &mut Line, records: &[LinkRecord<'_>]) {
+    let mut mark = "";
+    for record in records {
+        line.word(mark);
+        describe(line, record);
+        mark = "; ";
     }
 }
 
-/// A record of each type, and what they are read as.
-const EACH_TYPE: &str = "UNITREF UTIL at 1; PUBLREF COUNT at 2 4; PRIVREF STATE words 4 at 6; \
-PUBLDEF COUNT value 3; CONSTDEF DEMO value 9; EOFMARK next 7";
-
-const EACH_TYPE_READ: &str =
-    "UNITREF UTIL     at 1; PUBLREF COUNT    at 2 4; PRIVREF STATE    words 4 at 6; \
-PUBLDEF COUNT    value 3; CONSTDEF DEMO     value 9; EOFMARK next 7; ";
-
-/// Records, the length that they are truncated to, and what they are read as.
-type Read<'a> = (&'a str, usize, &'a str);
-
-static READ: [Read<'static>; 10] = [
-    (LIBRARY_RECORDS, 80, BASE_RECORDS),
-    (LIBRARY_RECORDS, 79, "RecordsTruncated at record 2"),
-    (LIBRARY_RECORDS, 64, "RecordsTruncated at record 2"),
-    (LIBRARY_RECORDS, 31, "RecordsTruncated at record 0"),
-    (LIBRARY_RECORDS, 0, "RecordsTruncated at record 0"),
-    (EACH_TYPE, 144, EACH_TYPE_READ),
-    (
-        "PUBLREF COUNT at; EOFMARK next 0",
-        32,
-        "PUBLREF COUNT    at; EOFMARK next 0; ",
-    ),
-    (
-        "PUBLREF COUNT at 1 2 3 4 5 6 7 8; EOFMARK next 0",
-        48,
-        "PUBLREF COUNT    at 1 2 3 4 5 6 7 8; EOFMARK next 0; ",
-    ),
-    (
-        "PUBLREF COUNT at 1 2 3 4 5 6 7 8 9; EOFMARK next 0",
-        64,
-        "PUBLREF COUNT    at 1 2 3 4 5 6 7 8 9; EOFMARK next 0; ",
-    ),
-    // a type 99 behind the end mark is not read
-    (
-        "EOFMARK next 0; TYPE 99 COUNT 0 0 0",
-        32,
-        "EOFMARK next 0; ",
-    ),
-];
+static ROWS: &str =
+    "PUBLREF COUNT at 1; PRIVREF STATE words 4 at 4; EOFMARK next 0 | 80 | PUBLREF COUNT    at 1; \
+PRIVREF STATE    words 4 at 4; EOFMARK next 0
+PUBLREF COUNT at 1; PRIVREF STATE words 4 at 4; EOFMARK next 0 | 79 | RecordsTruncated at record 2
+PUBLREF COUNT at 1; PRIVREF STATE words 4 at 4; EOFMARK next 0 | 64 | RecordsTruncated at record 2
+PUBLREF COUNT at 1; PRIVREF STATE words 4 at 4; EOFMARK next 0 | 31 | RecordsTruncated at record 0
+PUBLREF COUNT at 1; PRIVREF STATE words 4 at 4; EOFMARK next 0 | 0 | RecordsTruncated at record 0
+UNITREF UTIL at 1; PUBLREF COUNT at 2 4; PRIVREF STATE words 4 at 6; PUBLDEF COUNT value 3; \
+CONSTDEF DEMO value 9; EOFMARK next 7 | 144 | UNITREF UTIL     at 1; PUBLREF COUNT    at 2 4; \
+PRIVREF STATE    words 4 at 6; PUBLDEF COUNT    value 3; CONSTDEF DEMO     value 9; EOFMARK next 7
+PUBLREF COUNT at; EOFMARK next 0 | 32 | PUBLREF COUNT    at; EOFMARK next 0
+PUBLREF COUNT at 1 2 3 4 5 6 7 8; EOFMARK next 0 | 48 | PUBLREF COUNT    at 1 2 3 4 5 6 7 8; \
+EOFMARK next 0
+PUBLREF COUNT at 1 2 3 4 5 6 7 8 9; EOFMARK next 0 | 64 | PUBLREF COUNT    at 1 2 3 4 5 6 7 8 9; \
+EOFMARK next 0
+# a type 99 behind the end mark is not read
+EOFMARK next 0; TYPE 99 COUNT 0 0 0 | 32 | EOFMARK next 0";
 
 #[test]
 fn records_in_either_byte_order(rt: HostRuntime) {
-    for (records, length, wanted) in &READ {
-        reads_records(&rt, *records, *length, *wanted);
-    }
+    check_all(&rt, &Reader::List, ROWS)
 }
 
 /// A record of references 0, 1, 2 and so on, as many as it can have, and an end mark, as text
 /// between these texts.
-pub(crate) fn every_reference(
-    alloc: Global,
-    before: &str,
-    behind: &str,
-) -> Result<String, AllocError> {
+pub(crate) fn every_reference(alloc: Global, before: &str, behind: &str) -> Line {
     let mut line = Line::new(alloc);
     line.word(before);
     line.word("PUBLREF COUNT    at");
@@ -157,22 +118,24 @@ pub(crate) fn every_reference(
         line.number(" ", reference);
     }
     line.word(behind);
-    line.text()
+    line
 }
 
 #[test]
 fn as_many_references_as_a_record_can_have(rt: HostRuntime) {
-    let text = every_reference(rt.alloc(), "", "; EOFMARK next 0; ").expect(&rt, "no memory");
+    let text = every_reference(rt.alloc(), "", "; EOFMARK next 0").text(&rt);
     let text = text.as_str();
     let information = Information::new(&rt, LITTLE, text);
-    let records = read_records(rt.alloc(), LITTLE, information.as_slice()).expect(
-        &rt,
-        "no records",
-    );
-    let record = records.first().expect(&rt, "no record");
-    holds_of(&rt, record.size() == 131_088, &record.size());
-    reads_records(&rt, text, 131_104, text);
-    reads_records(&rt, text, 131_087, "RecordsTruncated at record 0")
+    has_first_size(&rt, information.as_slice(), 131_088);
+    Reader::List.reads_in_either_order(&rt, (text, 131_104), text);
+    Reader::List.reads_in_either_order(&rt, (text, 131_087), "RecordsTruncated at record 0")
+}
+
+/// Checks the size of the first record.
+fn has_first_size(rt: &(impl Abort + AllocGlobal), bytes: &[u8], size: usize) {
+    let records = read_records(rt.alloc(), LITTLE, bytes).expect(rt, "no records");
+    let record = records.first().expect(rt, "no record");
+    holds_of(rt, record.size() == size, &record.size())
 }
 
 /// `read_records` on these little-endian bytes.
@@ -182,7 +145,7 @@ struct ReadRecords<'a> {
 }
 
 impl<'a> Allocating for ReadRecords<'a> {
-    fn answer<A: Allocator + Copy>(&self, alloc: Global, heap: A) -> Result<String, AllocError> {
+    fn answer<A: Allocator + Copy>(&self, alloc: Global, heap: A) -> Line {
         read(alloc, heap, LITTLE, self.bytes)
     }
 }

@@ -7,15 +7,31 @@
 //! | `what \| host \| library \| linked \| summary` | a link: also the changes of what they are linked to, and the line that the program prints |
 //! | `# sizes` | nothing: what the rows below are about |
 //!
-//! The files are `BASES` of `tables.rt`, in the other byte order behind the word `big`. A dash stands
-//! for no changes.
+//! The files are those of `FILES` of `tables.rt`, in the other byte order behind the word `big`. A
+//! dash stands for no changes.
 use super::allocations::{makes_no_allocation, refuses_each_allocation};
 use super::answers::links;
-use super::link_allocations::Link;
+use super::calls::Link;
 use super::tables::{Base, Check, base_named};
 use crate::code_file::Changes;
 use crate::notation::holds;
 use std::process::Abort;
+
+/// What each row of a text checks.
+pub(crate) trait Row {
+    /// Checks a row.
+    fn check<R: Abort + AllocGlobal>(&self, rt: &R, row: &str);
+}
+
+/// Checks each row of a text. A line that begins with a number sign says what the rows below are
+/// about.
+pub(crate) fn check_all(rt: &(impl Abort + AllocGlobal), call: &impl Row, rows: &str) {
+    for row in rows.lines() {
+        if !row.starts_with('#') {
+            call.check(rt, row);
+        }
+    }
+}
 
 /// The memory that a link is given beside as much as it requests.
 #[derive(Clone, Copy)]
@@ -59,21 +75,33 @@ impl<'a> Check for Answer<'a> {
 /// What a line says behind `files `.
 fn tried_with(rt: &impl Abort, files: &str) -> Tried {
     let (name, memory) = files.split_once(", ").expect(rt, files);
-    let base = base_named(rt, name);
-    let memory = match memory {
+    Tried {
+        base: base_named(rt, name),
+        memory: memory_named(rt, memory),
+    }
+}
+
+fn memory_named(rt: &impl Abort, memory: &str) -> Memory {
+    match memory {
         "ample memory" => Memory::Ample,
         "no allocation" => Memory::NoAllocation,
         _ => {
             holds(rt, memory == "each allocation refused", memory);
             Memory::EachAllocationRefused
         }
-    };
-    Tried { base, memory }
+    }
 }
 
 /// The field before the next bar, and what is behind it.
 pub(crate) fn field<'a>(rt: &impl Abort, row: &'a str) -> (&'a str, &'a str) {
     row.split_once(" | ").expect(rt, row)
+}
+
+/// The three fields of a row.
+pub(crate) fn fields<'a>(rt: &impl Abort, row: &'a str) -> (&'a str, &'a str, &'a str) {
+    let (first, rest) = field(rt, row);
+    let (second, third) = field(rt, rest);
+    (first, second, third)
 }
 
 /// The same where the field is of changes.
@@ -94,9 +122,6 @@ fn outcome(row: &str) -> (Changes<'_>, &str) {
 }
 
 fn check_row(rt: &(impl Abort + AllocGlobal), tried: &Tried, row: &str) {
-    if row.starts_with('#') {
-        return;
-    }
     let (what, rest) = field(rt, row);
     let (host, rest) = changes(rt, rest);
     let (library, rest) = changes(rt, rest);
@@ -110,12 +135,15 @@ fn check_row(rt: &(impl Abort + AllocGlobal), tried: &Tried, row: &str) {
     tried.base.check(rt, (host, library, linked), &check)
 }
 
+impl Row for Tried {
+    fn check<R: Abort + AllocGlobal>(&self, rt: &R, row: &str) {
+        check_row(rt, self, row)
+    }
+}
+
 /// Checks each of these rows with the files and the memory that this says.
 pub(crate) fn check_each(rt: &(impl Abort + AllocGlobal), files: &str, rows: &str) {
-    let tried = tried_with(rt, files);
-    for row in rows.lines() {
-        check_row(rt, &tried, row);
-    }
+    check_all(rt, &tried_with(rt, files), rows)
 }
 
 /// Checks each of these rows, whose first line says the files and the memory.
@@ -124,6 +152,7 @@ pub(crate) fn check_rows(rt: &(impl Abort + AllocGlobal), rows: &str) {
     for row in rows.lines() {
         match row.strip_prefix("files ") {
             Some(files) => tried = Some(tried_with(rt, files)),
+            None if row.starts_with('#') => (),
             None => check_row(rt, &tried.expect(rt, "a row without files"), row),
         }
     }

@@ -1,6 +1,6 @@
 //! The files that tables of links change.
 use super::answers::LITTLE;
-use super::link_allocations::Link;
+use super::calls::Link;
 use crate::code_file::{Changes, CodeFile};
 use crate::notation::behind_name;
 use ps_words::Order;
@@ -20,67 +20,18 @@ pub(crate) struct Base<'a> {
     pub linked: &'a str,
 }
 
-/// The base pair.
-pub(crate) const PAIR: Base<'static> = Base {
-    order: LITTLE,
-    host: "HOST",
-    libraries: "LIBRARY",
-    linked: "LINKED_SEGMENTS LINKED_OPERANDS",
-};
-
-pub(crate) const BIG_PAIR: Base<'static> = Base {
-    order: Order::Big,
-    ..PAIR
-};
-
-/// The host with its unit in place, and no library.
-pub(crate) const IN_PLACE: Base<'static> = Base {
-    order: LITTLE,
-    host: "HOST HAS_UNIT",
-    libraries: "",
-    linked: "LINKED_SEGMENTS LINKED_REFERENCE",
-};
-
-pub(crate) const BIG_IN_PLACE: Base<'static> = Base {
-    order: Order::Big,
-    ..IN_PLACE
-};
-
-/// The host and the library of two units.
-pub(crate) const TWO_UNITS: Base<'static> = Base {
-    order: LITTLE,
-    host: "HOST WANTS_AUX",
-    libraries: "LIBRARY HAS_AUX",
-    linked: "LINKED_SEGMENTS LINKED_OPERANDS LINKED_SECOND",
-};
-
-/// The base host, and the library whose unit uses another one.
-pub(crate) const USED_UNIT: Base<'static> = Base {
-    order: LITTLE,
-    host: "HOST",
-    libraries: "LIBRARY HAS_AUX USES_AUX",
-    linked: "LINKED_SEGMENTS LINKED_SECOND LINKED_USER",
-};
-
-/// The base host, and the library whose unit has an operand that lies in two blocks.
-pub(crate) const LONG_UNIT_PAIR: Base<'static> = Base {
-    libraries: "LONG_LIBRARY",
-    linked: "LINKED_SEGMENTS LONG_UNIT",
-    ..PAIR
-};
-
-/// The files above by their names.
-static BASES: [(&str, Base<'static>); 5] = [
-    ("pair", PAIR),
-    ("in-place", IN_PLACE),
-    ("two-units", TWO_UNITS),
-    ("used-unit", USED_UNIT),
-    ("long-unit", LONG_UNIT_PAIR),
-];
-
-/// Other files, each a line: their name, and of what the host, the libraries and the linked file are
+/// The files, each a line: their name, and of what the host, the libraries and the linked file are
 /// made. A line that begins with a number sign says what the next ones are for.
-static FILES: &str = "# the base host, and no library
+static FILES: &str =
+    "# the base pair, the host with its unit in place, and the host and the library of two units
+pair | HOST | LIBRARY | LINKED_SEGMENTS LINKED_OPERANDS
+in-place | HOST HAS_UNIT | | LINKED_SEGMENTS LINKED_REFERENCE
+two-units | HOST WANTS_AUX | LIBRARY HAS_AUX | LINKED_SEGMENTS LINKED_OPERANDS LINKED_SECOND
+# the base host, and the library whose unit uses another one
+used-unit | HOST | LIBRARY HAS_AUX USES_AUX | LINKED_SEGMENTS LINKED_SECOND LINKED_USER
+# the base host, and the library whose unit has an operand that lies in two blocks
+long-unit | HOST | LONG_LIBRARY | LINKED_SEGMENTS LONG_UNIT
+# the base host, and no library
 host-alone | HOST | | LINKED_SEGMENTS LINKED_OPERANDS
 turned-library | HOST | turned LIBRARY |
 # the unit has the code and the link information of the base library's
@@ -120,11 +71,6 @@ pub(crate) fn base_named(rt: &impl Abort, name: &str) -> Base<'static> {
 }
 
 fn base_in(rt: &impl Abort, name: &str) -> Base<'static> {
-    for (found, base) in &BASES {
-        if *found == name {
-            return *base;
-        }
-    }
     let parts = behind_name(rt, FILES, " | ", name);
     let (host, parts) = parts.split_once(" |").expect(rt, parts);
     let (libraries, linked) = parts.split_once(" |").expect(rt, parts);

@@ -1,5 +1,6 @@
 //! Words of either byte order, blocks, and faults as text.
 use super::answers::is;
+use crate::line::Line;
 use crate::notation::{holds, holds_of};
 use ps_words::{BLOCK_SIZE, Fault, Order, Reason, blocks_of, get, get_big, put, put_big};
 use std::fmt;
@@ -27,17 +28,18 @@ fn operands(rt: HostRuntime) {
     holds_of(&rt, bytes == [0xAB, 0x81, 0x02, 0xAB], &bytes)
 }
 
+/// Checks how many blocks so many bytes take.
+fn take(rt: &impl Abort, len: usize, wanted: usize) {
+    holds_of(rt, blocks_of(len) == wanted, &len)
+}
+
 #[test]
 fn blocks(rt: HostRuntime) {
-    for (len, wanted) in [
-        (0, 0),
-        (1, 1),
-        (BLOCK_SIZE, 1),
-        (513, 2),
-        (usize::MAX, 1 << 55),
-    ] {
-        holds_of(&rt, blocks_of(len) == wanted, &len);
-    }
+    take(&rt, 0, 0);
+    take(&rt, 1, 1);
+    take(&rt, BLOCK_SIZE, 1);
+    take(&rt, 513, 2);
+    take(&rt, usize::MAX, 1 << 55)
 }
 
 /// A fault with every part, the last reference of the last record of a file as long as one can be.
@@ -49,115 +51,71 @@ const WHOLE: Fault = Fault {
     reference: Some(65_534),
 };
 
-/// Faults, their numbers and names, and their texts.
-static FAULTS: [(Fault, u8, &str, &str); 7] = [
-    (
-        WHOLE,
-        14,
-        "NotAUnit",
-        "refused 14 NotAUnit kind 65535 file 13 slot 15 record 4194303 reference 65534",
-    ),
-    (
-        Fault {
-            reason: Reason::NotAUnit { kind: 5 },
-            file: 1,
-            slot: Some(7),
-            rec: None,
-            reference: None,
-        },
-        14,
-        "NotAUnit",
-        "refused 14 NotAUnit kind 5 file 1 slot 7",
-    ),
-    (
-        Fault {
-            reason: Reason::MissingDefinition,
-            file: 2,
-            slot: Some(8),
-            rec: Some(3),
-            reference: None,
-        },
-        28,
-        "MissingDefinition",
-        "refused 28 MissingDefinition file 2 slot 8 record 3",
-    ),
-    (
-        Fault {
-            reason: Reason::NoSlot,
-            file: 2,
-            slot: Some(8),
-            rec: Some(3),
-            reference: None,
-        },
-        35,
-        "NoSlot",
-        "refused 35 NoSlot file 2 slot 8 record 3",
-    ),
-    (
-        Fault {
-            reason: Reason::ShortFile,
-            file: 12,
-            slot: None,
-            rec: None,
-            reference: None,
-        },
-        1,
-        "ShortFile",
-        "refused 1 ShortFile file 12",
-    ),
-    (
-        Fault {
-            reason: Reason::Overlap,
-            file: 0,
-            slot: Some(15),
-            rec: Some(0),
-            reference: Some(65534),
-        },
-        33,
-        "Overlap",
-        "refused 33 Overlap file 0 slot 15 record 0 reference 65534",
-    ),
-    (
-        Fault {
-            reason: Reason::DoubledPrivate,
-            file: usize::MAX,
-            slot: Some(0),
-            rec: Some(usize::MAX),
-            reference: None,
-        },
-        25,
-        "DoubledPrivate",
-        "refused 25 DoubledPrivate file 18446744073709551615 slot 0 record 18446744073709551615",
-    ),
-];
+/// Checks a fault: the number and the name of its reason, and its text.
+fn is_fault(
+    rt: &(impl Abort + AllocGlobal),
+    fault: Fault,
+    (number, name): (u8, &str),
+    wanted: &str,
+) {
+    is_named(rt, fault.reason, number, name);
+    has_text(rt, &fault, wanted)
+}
 
 #[test]
 fn faults_as_text(rt: HostRuntime) {
-    for (fault, number, name, wanted) in &FAULTS {
-        is_named(&rt, fault.reason, *number, *name);
-        has_text(&rt, fault, *wanted);
-    }
+    let wanted = "refused 14 NotAUnit kind 65535 file 13 slot 15 record 4194303 reference 65534";
+    is_fault(&rt, WHOLE, (14, "NotAUnit"), wanted);
+    let fault = Fault::in_slot(1, 7, Reason::NotAUnit { kind: 5 });
+    let wanted = "refused 14 NotAUnit kind 5 file 1 slot 7";
+    is_fault(&rt, fault, (14, "NotAUnit"), wanted);
+    let fault = Fault::in_file(12, Reason::ShortFile);
+    is_fault(&rt, fault, (1, "ShortFile"), "refused 1 ShortFile file 12")
+}
+
+#[test]
+fn faults_of_records_as_text(rt: HostRuntime) {
+    let fault = Fault::in_record(2, 8, 3, Reason::MissingDefinition);
+    let wanted = "refused 28 MissingDefinition file 2 slot 8 record 3";
+    is_fault(&rt, fault, (28, "MissingDefinition"), wanted);
+    let fault = Fault::in_record(2, 8, 3, Reason::NoSlot);
+    let wanted = "refused 35 NoSlot file 2 slot 8 record 3";
+    is_fault(&rt, fault, (35, "NoSlot"), wanted);
+    let fault = Fault::in_reference(0, 15, 0, 65534, Reason::Overlap);
+    let wanted = "refused 33 Overlap file 0 slot 15 record 0 reference 65534";
+    is_fault(&rt, fault, (33, "Overlap"), wanted);
+    let fault = Fault::in_record(usize::MAX, 0, usize::MAX, Reason::DoubledPrivate);
+    let wanted =
+        "refused 25 DoubledPrivate file 18446744073709551615 slot 0 record 18446744073709551615";
+    is_fault(&rt, fault, (25, "DoubledPrivate"), wanted)
 }
 
 /// Checks the number and the name of a reason, which is its text.
 fn is_named(rt: &(impl Abort + AllocGlobal), reason: Reason, number: u8, name: &str) {
     holds(rt, reason.number() == number, name);
     holds(rt, reason.name() == name, name);
-    is(rt, name, format!(in rt.alloc(); "{reason}"), name)
+    let mut line = Line::new(rt.alloc());
+    line.shown(&reason);
+    is(rt, name, line, name)
 }
 
 /// Checks the text of a fault, which no width changes.
 fn has_text(rt: &(impl Abort + AllocGlobal), fault: &Fault, wanted: &str) {
     let alloc = rt.alloc();
-    is(rt, "a fault", format!(in alloc; "{fault}"), wanted);
+    let mut line = Line::new(alloc);
+    for _ in 0..4 {
+        line.word(wanted);
+        line.word("\n");
+    }
+    let wanted = line.text(rt);
+    let mut text = Line::new(alloc);
+    text.shown(&format_args!("{fault}\n{fault:>100}\n{fault:<100}\n{fault:.3}\n"));
     is(
         rt,
-        "to the right",
-        format!(in alloc; "{fault:>100}"),
-        wanted,
-    );
-    is(rt, "to the left", format!(in alloc; "{fault:<100}"), wanted);
-    is(rt, "cut", format!(in alloc; "{fault:.3}"), wanted)
+        "a fault, to the right, to the left, and cut",
+        text,
+        wanted.as_str(),
+    )
 }
 
 /// A writer of which one call fails, behind so many that do not; it counts those behind the one.

@@ -1,5 +1,5 @@
 //! A writer that takes little, and then stalls or fails.
-use std::alloc::{AllocError, Global};
+use std::alloc::Global;
 use std::io;
 use std::io::Write;
 use std::process::Abort;
@@ -23,7 +23,7 @@ pub(crate) type Counts = [u64; 4];
 #[derive(Drop)]
 pub(crate) struct Room {
     bytes: Vec<u8>,
-    taken: usize,
+    room: usize,
     per_write: usize,
     full: Full,
     writes: u64,
@@ -36,10 +36,10 @@ pub(crate) struct Room {
 
 impl Room {
     /// Room for so many bytes; the memory is taken here, and no write takes any.
-    pub(crate) fn new(alloc: Global, (room, per_write, full): Writer) -> Result<Room, AllocError> {
-        Ok(Room {
-            bytes: Vec::from_elem(alloc, 0, room)?,
-            taken: 0,
+    pub(crate) fn new(alloc: Global, (room, per_write, full): Writer) -> Room {
+        Room {
+            bytes: Vec::with_capacity(alloc, room).unwrap_or(Vec::new(alloc)),
+            room,
             per_write,
             full,
             writes: 0,
@@ -47,12 +47,12 @@ impl Room {
             stalls: 0,
             shorts: 0,
             flushes: 0,
-        })
+        }
     }
 
     /// The bytes that were taken.
     pub(crate) fn written(&self) -> &[u8] {
-        self.bytes.get(..self.taken).unwrap_or(&[])
+        self.bytes.as_slice()
     }
 
     /// What was counted.
@@ -63,13 +63,13 @@ impl Room {
 
 /// Room for so many bytes, for which there is memory.
 pub(crate) fn room_for(rt: &(impl Abort + AllocGlobal), writer: Writer) -> Room {
-    Room::new(rt.alloc(), writer).expect(rt, "no memory")
+    Room::new(rt.alloc(), writer)
 }
 
 impl Write for Room {
     fn write(&mut self, buf: &[u8]) -> io::Result<usize> {
         self.writes = self.writes.saturating_add(1);
-        let left = self.bytes.len().saturating_sub(self.taken);
+        let left = self.room.saturating_sub(self.bytes.len());
         let count = buf.len().min(self.per_write).min(left);
         if count == 0 && !buf.is_empty() {
             return match self.full {
@@ -87,11 +87,11 @@ impl Write for Room {
         if count < buf.len() {
             self.shorts = self.shorts.saturating_add(1);
         }
-        for (to, from) in self.bytes.iter_mut().skip(self.taken).zip(buf) {
-            *to = *from;
+        let taken = buf.get(..count).unwrap_or(buf);
+        match self.bytes.extend_from_slice(taken) {
+            Ok(_) => Ok(count),
+            Err(_) => Err(io::Error::from(io::ErrorKind::OutOfMemory)),
         }
-        self.taken = self.taken.saturating_add(count);
-        Ok(count)
     }
 
     fn flush(&mut self) -> io::Result<()> {

@@ -1,20 +1,25 @@
 //! What a writer is given of a linked file, a map or a show, where it takes all or little, stalls
 //! or fails.
+ghost use Rattle.std.specs.Prelude.{◌<◌};
+
 use super::answers::{LITTLE, is, text_of, text_of_error};
-use super::link_allocations::Link;
-use super::tables::{Base, Check, IN_PLACE, IN_PLACE_TEXTS, PAIR};
+use super::calls::{Link, tell_to, write_map, write_to};
+use super::rows::{Row, check_all};
+use super::tables::{Check, IN_PLACE_TEXTS, base_named};
 use super::texts::{Map, Show};
 use super::writers::Full::{Fails, Stalls};
 use super::writers::{Counts, Full, Room, Writer, room_for};
 use crate::code_file::CodeFile;
-use crate::notation::{holds, holds_of};
-use ps_linkfile::{LinkError, Linked, Summary, link, prepare, write_show};
+use crate::line::Line;
+use crate::notation::{ends, holds, holds_of, number, number_of};
+use ps_linkfile::{LinkError, Linked, Summary, write_show};
 use ps_writing::{Counting, ToldWriter, WriteFault};
 use refusing::Refusing;
-use std::alloc::{AllocError, Global};
+use std::alloc::Global;
 use std::io;
 use std::io::{ErrorKind, Write};
 use std::process::Abort;
+use std::str::SplitWhitespace;
 
 /// What is written in pieces.
 pub(crate) trait Writing {
@@ -24,43 +29,44 @@ pub(crate) trait Writing {
 
 impl<'a> Writing for Link<'a> {
     fn write<W: Write>(&self, alloc: Global, out: &mut W) -> Result<Option<Summary>, LinkError> {
-        Ok(Some(link(alloc, self.host, self.libraries, out)?))
+        Ok(Some(self.link_to(alloc, out)?))
     }
 }
 
 impl<'a> Writing for Linked<'a> {
     fn write<W: Write>(&self, _alloc: Global, out: &mut W) -> Result<Option<Summary>, LinkError> {
-        Ok(Some(Linked::write(self, out)?))
+        Ok(Some(write_to(self, out)?))
     }
 }
 
 impl<'a> Writing for Show<'a> {
     fn write<W: Write>(&self, _alloc: Global, out: &mut W) -> Result<Option<Summary>, LinkError> {
-        write_show(self.file, out, &mut ps_writing::Counts::new())?;
-        Ok(None)
+        without_summary(write_show(self.file, out, &mut ps_writing::Counts::new()))
     }
 }
 
 impl<'a> Writing for Map<'a> {
     fn write<W: Write>(&self, alloc: Global, out: &mut W) -> Result<Option<Summary>, LinkError> {
-        match prepare(alloc, self.host, self.libraries) {
-            Ok(linked) => {
-                linked.write_map(out, &mut ps_writing::Counts::new())?;
-                Ok(None)
-            }
+        match self.link.prepare(alloc) {
+            Ok(linked) => without_summary(write_map(&linked, out, &mut ps_writing::Counts::new())),
             Err(error) => Err(error),
         }
     }
 }
 
+/// An answer that has no summary.
+fn without_summary(answer: Result<(), LinkError>) -> Result<Option<Summary>, LinkError> {
+    match answer {
+        Ok(()) => Ok(None),
+        Err(error) => Err(error),
+    }
+}
+
 /// The answer of a call that writes, as text.
-fn answer_of(
-    alloc: Global,
-    answer: Result<Option<Summary>, LinkError>,
-) -> Result<String, AllocError> {
+fn answer_of(alloc: Global, answer: Result<Option<Summary>, LinkError>) -> Line {
     match answer {
         Ok(Some(summary)) => text_of(alloc, Ok(summary)),
-        Ok(None) => String::from_str(alloc, WRITTEN),
+        Ok(None) => Line::of(alloc, WRITTEN),
         Err(error) => text_of_error(alloc, error),
     }
 }
@@ -71,13 +77,12 @@ fn was_given(
     rt: &(impl Abort + AllocGlobal),
     answered: Result<Option<Summary>, LinkError>,
     out: &Room,
-    (bytes, (room, per_write, _)): (&[u8], Writer),
+    (bytes, (room, _, _)): (&[u8], Writer),
     answer: &str,
 ) -> Counts {
-    let text = answer_of(rt.alloc(), answered).expect(rt, "unexpected error");
+    is(rt, answer, answer_of(rt.alloc(), answered), answer);
     let written = out.written() == bytes.get(..room).unwrap_or(bytes);
-    holds(rt, text.as_str() == answer, text.as_str());
-    holds_of(rt, written && out.flushes == 0, &(room, per_write));
+    holds_of(rt, written && out.flushes == 0, &room);
     out.counts()
 }
 
@@ -104,8 +109,7 @@ pub(crate) fn writes<T: Writing>(
     counts: Counts,
 ) {
     let counted = counts_where_written(rt, written, writer, answer);
-    let (room, per_write, _) = writer;
-    holds_of(rt, counted == counts, &(room, per_write, counted))
+    holds_of(rt, counted == counts, &counted)
 }
 
 /// The same of a linked file, which is written to a writer that counts as it does itself.
@@ -116,14 +120,11 @@ fn tells(
     answer: &str,
     counts: Counts,
 ) {
-    let mut out = Counting::new(room_for(rt, writer));
-    let answered = linked.write_told(&mut out).map_err(LinkError::Write);
+    let (answered, out) = tell_to(linked, room_for(rt, writer));
     let told = counts_of(&out);
     let out = out.into_inner();
     let counted = was_given(rt, answered.map(Some), &out, (file, writer), answer);
-    let (room, per_write, _) = writer;
-    let is_right = told == counts && counted == counts;
-    holds_of(rt, is_right, &(room, per_write, told))
+    holds_of(rt, told == counts && counted == counts, &told)
 }
 
 /// What a writer that counts has counted.
@@ -144,35 +145,80 @@ const STALLED: &str = "stalled";
 
 const ALL: usize = usize::MAX;
 
-/// Writers to which three blocks are written, the answer of those that do not take all, and how
-/// many writes of each kind there are. A write that failed is not repeated.
-static WRITERS: [(Writer, Option<&str>, Counts); 25] = [
-    ((1536, 512, Fails), None, [3, 0, 0, 0]),
-    ((1536, 513, Fails), None, [3, 0, 0, 0]),
-    ((1536, ALL, Fails), None, [3, 0, 0, 0]),
-    ((1536, ALL, Stalls), None, [3, 0, 0, 0]),
-    ((1536, 511, Fails), None, [6, 0, 0, 3]),
-    ((1536, 256, Fails), None, [6, 0, 0, 3]),
-    ((1536, 1, Fails), None, [1536, 0, 0, 1533]),
-    ((0, ALL, Fails), Some(FAILED), [1, 1, 0, 0]),
-    ((0, ALL, Stalls), Some(STALLED), [1, 0, 1, 1]),
-    ((1, ALL, Fails), Some(FAILED), [2, 1, 0, 1]),
-    ((1, ALL, Stalls), Some(STALLED), [2, 0, 1, 2]),
-    ((100, ALL, Fails), Some(FAILED), [2, 1, 0, 1]),
-    ((100, ALL, Stalls), Some(STALLED), [2, 0, 1, 2]),
-    ((511, ALL, Fails), Some(FAILED), [2, 1, 0, 1]),
-    ((511, ALL, Stalls), Some(STALLED), [2, 0, 1, 2]),
-    ((512, ALL, Fails), Some(FAILED), [2, 1, 0, 0]),
-    ((512, ALL, Stalls), Some(STALLED), [2, 0, 1, 1]),
-    ((513, ALL, Fails), Some(FAILED), [3, 1, 0, 1]),
-    ((513, ALL, Stalls), Some(STALLED), [3, 0, 1, 2]),
-    ((1024, ALL, Fails), Some(FAILED), [3, 1, 0, 0]),
-    ((1024, ALL, Stalls), Some(STALLED), [3, 0, 1, 1]),
-    ((1025, ALL, Fails), Some(FAILED), [4, 1, 0, 1]),
-    ((1025, ALL, Stalls), Some(STALLED), [4, 0, 1, 2]),
-    ((1535, ALL, Fails), Some(FAILED), [4, 1, 0, 1]),
-    ((1535, ALL, Stalls), Some(STALLED), [4, 0, 1, 2]),
-];
+/// Writers to which three blocks are written, each a line: their room, how much a write takes at
+/// most, and what they do where there is no room; the answer; and how many writes of each kind there
+/// are. A write that failed is not repeated.
+static WRITERS: &str = "\
+1536 512 fails written 3 0 0 0
+1536 513 fails written 3 0 0 0
+1536 all fails written 3 0 0 0
+1536 all stalls written 3 0 0 0
+1536 511 fails written 6 0 0 3
+1536 256 fails written 6 0 0 3
+1536 1 fails written 1536 0 0 1533
+0 all fails failed 1 1 0 0
+0 all stalls stalled 1 0 1 1
+1 all fails failed 2 1 0 1
+1 all stalls stalled 2 0 1 2
+100 all fails failed 2 1 0 1
+100 all stalls stalled 2 0 1 2
+511 all fails failed 2 1 0 1
+511 all stalls stalled 2 0 1 2
+512 all fails failed 2 1 0 0
+512 all stalls stalled 2 0 1 1
+513 all fails failed 3 1 0 1
+513 all stalls stalled 3 0 1 2
+1024 all fails failed 3 1 0 0
+1024 all stalls stalled 3 0 1 1
+1025 all fails failed 4 1 0 1
+1025 all stalls stalled 4 0 1 2
+1535 all fails failed 4 1 0 1
+1535 all stalls stalled 4 0 1 2";
+
+/// The writer of a row.
+fn writer_of(rt: &impl Abort, words: &mut SplitWhitespace<'_>) -> Writer {
+    let room = number(rt, words);
+    let per_write = words.next().unwrap_or("no number");
+    let per_write = if per_write == "all" {
+        ALL
+    } else {
+        number_of(rt, per_write)
+    };
+    (room, per_write, full_of(rt, words))
+}
+
+/// What a writer of a row does where it has no room.
+fn full_of(rt: &impl Abort, words: &mut SplitWhitespace<'_>) -> Full {
+    match words.next().unwrap_or("no word") {
+        "fails" => Fails,
+        word => {
+            holds(rt, word == "stalls", word);
+            Stalls
+        }
+    }
+}
+
+/// The answer of a row, which is this one where the writer takes all.
+fn answer_in<'a>(rt: &impl Abort, words: &mut SplitWhitespace<'_>, written: &'a str) -> &'a str {
+    match words.next().unwrap_or("no answer") {
+        "written" => written,
+        "failed" => FAILED,
+        word => {
+            holds(rt, word == "stalled", word);
+            STALLED
+        }
+    }
+}
+
+/// How many writes of each kind a row has.
+fn counts_in(rt: &impl Abort, words: &mut SplitWhitespace<'_>) -> Counts {
+    [
+        number(rt, words) as u64,
+        number(rt, words) as u64,
+        number(rt, words) as u64,
+        number(rt, words) as u64,
+    ]
+}
 
 /// Writes a linked file into a writer by each call.
 fn writes_by_each_call(
@@ -187,16 +233,30 @@ fn writes_by_each_call(
     tells(rt, (linked, file), writer, answer, counts)
 }
 
-/// Writes a linked file of three blocks into each of these writers.
+/// Writes a linked file of three blocks into the writer of a row.
+fn writes_to(
+    rt: &(impl Abort + AllocGlobal),
+    files: &Link<'_>,
+    linked: &Linked<'_>,
+    (row, summary): (&str, &str),
+) {
+    let mut words = row.split_whitespace();
+    let writer = writer_of(rt, &mut words);
+    let answer = answer_in(rt, &mut words, summary);
+    let counts = counts_in(rt, &mut words);
+    ends(rt, &mut words, row);
+    writes_by_each_call(rt, files, linked, (writer, answer, counts))
+}
+
+/// Writes it into each writer.
 fn writes_to_each(
     rt: &(impl Abort + AllocGlobal),
     files: &Link<'_>,
     linked: &Linked<'_>,
     summary: &str,
 ) {
-    for (writer, refused, counts) in &WRITERS {
-        let answer = refused.unwrap_or(summary);
-        writes_by_each_call(rt, files, linked, (*writer, answer, *counts));
+    for row in WRITERS.lines() {
+        writes_to(rt, files, linked, (row, summary));
     }
 }
 
@@ -214,12 +274,8 @@ fn writes_to_any_room(rt: &(impl Abort + AllocGlobal), files: &Link<'_>, linked:
 }
 
 /// A link of these files, which is not refused.
-fn prepared<'a>(
-    rt: &(impl Abort + AllocGlobal),
-    host: &'a [u8],
-    libraries: &'a [&'a [u8]],
-) -> Linked<'a> {
-    prepare(rt.alloc(), host, libraries).expect(rt, "unexpected error")
+fn prepared<'a>(rt: &(impl Abort + AllocGlobal), link: &Link<'a>) -> Linked<'a> {
+    link.prepare(rt.alloc()).expect(rt, "unexpected error")
 }
 
 /// The summary of a linked file that is written into each writer, and whether it is into those of
@@ -232,7 +288,7 @@ struct WriteCheck {
 
 impl Check for WriteCheck {
     fn check<R: Abort + AllocGlobal>(&self, rt: &R, link: &Link<'_>) {
-        let linked = prepared(rt, link.host, link.libraries);
+        let linked = prepared(rt, link);
         writes_to_each(rt, link, &linked, self.summary);
         if self.any_room {
             writes_to_any_room(rt, link, &linked);
@@ -240,92 +296,141 @@ impl Check for WriteCheck {
     }
 }
 
-static WRITTEN_FILES: [(Base<'static>, WriteCheck); 2] = [
-    (
-        IN_PLACE,
-        WriteCheck {
-            summary: "segments 2 private words 0 blocks 3",
-            any_room: false,
-        },
-    ),
-    (
-        PAIR,
-        WriteCheck {
-            summary: "segments 2 private words 4 blocks 3",
-            any_room: true,
-        },
-    ),
-];
+/// Writes a linked file into each writer.
+fn writes_file(rt: &(impl Abort + AllocGlobal), files: &str, check: WriteCheck) {
+    base_named(rt, files).check(rt, ("", "", ""), &check)
+}
 
 #[test]
 fn writers_of_linked_files(rt: HostRuntime) {
-    for (base, check) in &WRITTEN_FILES {
-        base.check(&rt, ("", "", ""), check);
-    }
+    let in_place = WriteCheck {
+        summary: "segments 2 private words 0 blocks 3",
+        any_room: false,
+    };
+    writes_file(&rt, "in-place", in_place);
+    let pair = WriteCheck {
+        summary: "segments 2 private words 4 blocks 3",
+        any_room: true,
+    };
+    writes_file(&rt, "pair", pair)
 }
 
 /// Writes this short text into writers that take all or little, stall or fail. No write is made
 /// after one that failed.
 pub(crate) fn writes_text<T: Writing>(rt: &(impl Abort + AllocGlobal), call: &T, text: &str) {
-    let text = text.as_bytes();
-    for per_write in [1, 7, ALL] {
-        let count = text.len().div_ceil(per_write) as u64;
-        let wanted = [count, 0, 0, count.saturating_sub(1)];
-        writes(
-            rt,
-            (call, text),
-            (text.len(), per_write, Fails),
-            WRITTEN,
-            wanted,
-        );
-    }
-    for (room, shorts) in [(0, 0), (1, 1), (text.len().saturating_sub(1), 1)] {
-        let wanted = [shorts + 1, 1, 0, shorts];
-        writes(rt, (call, text), (room, ALL, Fails), FAILED, wanted);
-        let wanted = [shorts + 1, 0, 1, shorts + 1];
-        writes(rt, (call, text), (room, ALL, Stalls), STALLED, wanted);
-    }
+    let written = (call, text.as_bytes());
+    writes_all(rt, written, 1);
+    writes_all(rt, written, 7);
+    writes_all(rt, written, ALL);
+    writes_part(rt, written, 0, 0);
+    writes_part(rt, written, 1, 1);
+    writes_part(rt, written, text.len().saturating_sub(1), 1)
+}
+
+/// Writes a text, so many bytes at most by each write.
+fn writes_all<T: Writing>(rt: &(impl Abort + AllocGlobal), written: (&T, &[u8]), per_write: usize)
+    requires { 0 < per_write }
+{
+    let (_, text) = written;
+    let count = text.len().div_ceil(per_write) as u64;
+    let wanted = [count, 0, 0, count.saturating_sub(1)];
+    writes(rt, written, (text.len(), per_write, Fails), WRITTEN, wanted)
+}
+
+/// Writes a text into writers that take so many of its bytes alone, by as many writes that take
+/// fewer than there are.
+fn writes_part<T: Writing>(
+    rt: &(impl Abort + AllocGlobal),
+    written: (&T, &[u8]),
+    room: usize,
+    shorts: u64,
+) {
+    let writes_made = shorts.saturating_add(1);
+    let wanted = [writes_made, 1, 0, shorts];
+    writes(rt, written, (room, ALL, Fails), FAILED, wanted);
+    let wanted = [writes_made, 0, 1, writes_made];
+    writes(rt, written, (room, ALL, Stalls), STALLED, wanted)
 }
 
 /// How many halves of a long text a writer has room for, what it does then, the answer, and how
 /// many writes fail and stall.
-static HALVES: [(usize, Full, &str, (u64, u64)); 5] = [
-    (2, Fails, WRITTEN, (0, 0)),
-    (0, Fails, FAILED, (1, 0)),
-    (0, Stalls, STALLED, (0, 1)),
-    (1, Fails, FAILED, (1, 0)),
-    (1, Stalls, STALLED, (0, 1)),
-];
+static HALVES: &str = "\
+2 fails written 0 0
+0 fails failed 1 0
+0 stalls stalled 0 1
+1 fails failed 1 0
+1 stalls stalled 0 1";
+
+/// What is written as a long text.
+#[derive(Drop)]
+struct HalfRows<'a, T: Writing> {
+    call: &'a T,
+    text: &'a [u8],
+}
+
+impl<'a, T: Writing> Row for HalfRows<'a, T> {
+    /// Writes it into the writer of a row.
+    fn check<R: Abort + AllocGlobal>(&self, rt: &R, row: &str) {
+        let mut words = row.split_whitespace();
+        let room = self.text.len().saturating_mul(number(rt, &mut words)) / 2;
+        let writer = (room, ALL, full_of(rt, &mut words));
+        let answer = answer_in(rt, &mut words, WRITTEN);
+        let written = (self.call, self.text);
+        let [_, failures, stalls, _] = counts_where_written(rt, written, writer, answer);
+        holds(rt, (failures, stalls) == failures_in(rt, &mut words), row);
+        ends(rt, &mut words, row)
+    }
+}
 
 /// Writes this text, of many pieces, into writers that take all, half or none of it. One write
 /// fails or stalls, and none is made after it, which would fail or stall too.
 pub(crate) fn writes_long_text<T: Writing>(rt: &(impl Abort + AllocGlobal), call: &T, text: &str) {
     let text = text.as_bytes();
-    for (halves, full, answer, wanted) in &HALVES {
-        let room = text.len().saturating_mul(*halves) / 2;
-        let writer = (room, ALL, *full);
-        let [_, failures, stalls, _] = counts_where_written(rt, (call, text), writer, *answer);
-        holds_of(rt, (failures, stalls) == *wanted, &room);
+    check_all(rt, &HalfRows { call, text }, HALVES)
+}
+
+/// How many writes of a row fail, and how many stall.
+fn failures_in(rt: &impl Abort, words: &mut SplitWhitespace<'_>) -> (u64, u64) {
+    (number(rt, words) as u64, number(rt, words) as u64)
+}
+
+/// Single writes to a writer that counts, each a line: the writer, the bytes, how many of them it
+/// takes, and what is counted. A dash is no bytes, and a write that fails.
+static SINGLE: &str = "\
+3 3 fails abc 3 1 0 0 0
+3 2 fails abc 2 1 0 0 1
+0 3 stalls abc 0 1 0 1 1
+0 3 fails abc - 1 1 0 0
+0 3 fails - 0 1 0 0 0";
+
+/// A single write.
+struct SingleRows;
+
+impl Row for SingleRows {
+    fn check<R: Abort + AllocGlobal>(&self, rt: &R, row: &str) {
+        let mut words = row.split_whitespace();
+        let mut out = Counting::new(room_for(rt, writer_of(rt, &mut words)));
+        has_counts(rt, &out, NO_WRITE);
+        let bytes = words.next().unwrap_or("no bytes");
+        let bytes = if bytes == "-" { "" } else { bytes };
+        let taken = out.told_write(bytes.as_bytes()).ok();
+        holds(rt, taken == taken_in(rt, &mut words), row);
+        has_counts(rt, &out, counts_in(rt, &mut words));
+        ends(rt, &mut words, row)
     }
 }
 
-/// Single writes to a writer that counts, and what is answered and counted.
-static SINGLE: [(Writer, &[u8], Option<usize>, Counts); 5] = [
-    ((3, 3, Fails), b"abc", Some(3), [1, 0, 0, 0]),
-    ((3, 2, Fails), b"abc", Some(2), [1, 0, 0, 1]),
-    ((0, 3, Stalls), b"abc", Some(0), [1, 0, 1, 1]),
-    ((0, 3, Fails), b"abc", None, [1, 1, 0, 0]),
-    ((0, 3, Fails), b"", Some(0), [1, 0, 0, 0]),
-];
+/// How many bytes the write of a row takes.
+fn taken_in(rt: &impl Abort, words: &mut SplitWhitespace<'_>) -> Option<usize> {
+    match words.next().unwrap_or("no number") {
+        "-" => None,
+        word => Some(number_of(rt, word)),
+    }
+}
 
 #[test]
 fn one_told_write(rt: HostRuntime) {
-    for (writer, bytes, taken, wanted) in &SINGLE {
-        let mut out = Counting::new(room_for(&rt, *writer));
-        has_counts(&rt, &out, NO_WRITE);
-        holds_of(&rt, out.told_write(*bytes).ok() == *taken, taken);
-        has_counts(&rt, &out, *wanted);
-    }
+    check_all(&rt, &SingleRows, SINGLE)
 }
 
 /// Checks what a writer that counts has counted.
@@ -360,14 +465,13 @@ fn is_not_flushed<W: Write>(rt: &impl Abort, out: &mut Counting<W>, counts: Coun
     has_counts(rt, out, counts)
 }
 
-/// The room of a writer of texts, what it does then, and how many writes return an error and how
-/// many take nothing.
-static FAILURES: [(usize, Full, (u64, u64)); 4] = [
-    (4096, Fails, (0, 0)),
-    (4096, Stalls, (0, 0)),
-    (9, Fails, (1, 0)),
-    (9, Stalls, (0, 1)),
-];
+/// Writers of texts, each a line: the writer, and how many writes return an error and how many take
+/// nothing.
+static FAILURES: &str = "\
+4096 all fails 0 0
+4096 all stalls 0 0
+9 all fails 1 0
+9 all stalls 0 1";
 
 /// Checks what was counted where a text was written, or was not: the writes that the writer had.
 fn has_counted(
@@ -392,7 +496,7 @@ fn counts_of_a_map(
 ) {
     let mut out = room_for(rt, writer);
     let mut counts = ps_writing::Counts::new();
-    let is_written = linked.write_map(&mut out, &mut counts).is_ok();
+    let is_written = write_map(linked, &mut out, &mut counts).is_ok();
     has_counted(rt, is_written, &out, counts, wanted)
 }
 
@@ -412,13 +516,26 @@ fn counts_of_a_show(
 #[test]
 fn failures_of_a_map_and_a_show_are_counted(rt: HostRuntime) {
     let host = CodeFile::new(&rt, LITTLE, IN_PLACE_TEXTS);
-    let host = host.as_slice();
-    let linked = prepared(&rt, host, &[]);
-    for (room, full, wanted) in &FAILURES {
-        let writer = (*room, ALL, *full);
-        counts_of_a_map(&rt, &linked, writer, *wanted);
-        counts_of_a_show(&rt, host, writer, *wanted);
+    let files = host.alone();
+    let linked = prepared(&rt, &files);
+    counts_each(&rt, &linked, files.host)
+}
+
+/// Writes the map of a link and the show of its host into each writer.
+fn counts_each(rt: &(impl Abort + AllocGlobal), linked: &Linked<'_>, host: &[u8]) {
+    for row in FAILURES.lines() {
+        are_counted(rt, linked, host, row);
     }
+}
+
+/// Writes both into the writer of a row.
+fn are_counted(rt: &(impl Abort + AllocGlobal), linked: &Linked<'_>, host: &[u8], row: &str) {
+    let mut words = row.split_whitespace();
+    let writer = writer_of(rt, &mut words);
+    let wanted = failures_in(rt, &mut words);
+    ends(rt, &mut words, row);
+    counts_of_a_map(rt, linked, writer, wanted);
+    counts_of_a_show(rt, host, writer, wanted)
 }
 
 /// A writer whose calls all fail.
@@ -463,9 +580,13 @@ static WAYS: [Broken; 6] = [
 ];
 
 /// An error's kind, number and text.
-fn described(alloc: Global, error: &io::Error) -> Result<String, AllocError> {
-    let (kind, code) = (error.kind(), error.raw_os_error());
-    format!(in alloc; "{kind:?} {code:?} {error}")
+fn described(alloc: Global, error: &io::Error) -> Line {
+    let mut line = Line::new(alloc);
+    line.value("", &error.kind());
+    line.value(" ", &error.raw_os_error());
+    line.word(" ");
+    line.shown(error);
+    line
 }
 
 /// Checks that an error is that of this writer.
@@ -473,7 +594,7 @@ fn is_error(rt: &(impl Abort + AllocGlobal), error: Option<LinkError>, way: Brok
     let alloc = rt.alloc();
     match error {
         Some(LinkError::Write(WriteFault::Device(error))) => {
-            let wanted = described(alloc, &way.error()).expect(rt, "no memory");
+            let wanted = described(alloc, &way.error()).text(rt);
             let wanted = wanted.as_str();
             is(rt, wanted, described(alloc, &error), wanted);
         }
@@ -489,8 +610,7 @@ fn gives_error<T: Writing>(rt: &(impl Abort + AllocGlobal), call: &T, way: Broke
 
 /// Checks the same of a writer that counts.
 fn tells_error(rt: &(impl Abort + AllocGlobal), linked: &Linked<'_>, way: Broken) {
-    let mut out = Counting::new(way);
-    let answer = linked.write_told(&mut out).map_err(LinkError::Write);
+    let (answer, mut out) = tell_to(linked, way);
     is_error(rt, answer.err(), way);
     is_not_flushed(rt, &mut out, [1, 1, 0, 0])
 }
@@ -498,29 +618,30 @@ fn tells_error(rt: &(impl Abort + AllocGlobal), linked: &Linked<'_>, way: Broken
 #[test]
 fn the_error_of_the_write_comes_back(rt: HostRuntime) {
     let host = CodeFile::new(&rt, LITTLE, IN_PLACE_TEXTS);
-    let files = Link {
-        host: host.as_slice(),
-        libraries: &[],
-        linked: &[],
-    };
-    let linked = prepared(&rt, files.host, &[]);
+    let files = host.alone();
+    let linked = prepared(&rt, &files);
+    give_each_error(&rt, &files, &linked)
+}
+
+/// Checks that each call gives the error of each writer.
+fn give_each_error(rt: &(impl Abort + AllocGlobal), files: &Link<'_>, linked: &Linked<'_>) {
     for way in &WAYS {
-        gives_error(&rt, &files, *way);
-        gives_error(&rt, &linked, *way);
-        tells_error(&rt, &linked, *way);
+        gives_error(rt, files, *way);
+        gives_error(rt, linked, *way);
+        tells_error(rt, linked, *way);
     }
 }
 
 #[test]
 fn texts_of_write_faults(rt: HostRuntime) {
-    let torn = WriteFault::Device(Broken::Torn.error());
-    let text = format!(in rt.alloc();
-        "{torn}, {}, {}",
-        WriteFault::Stalled,
-        LinkError::Write(WriteFault::Stalled)
-    );
+    let mut line = Line::new(rt.alloc());
+    line.shown(&WriteFault::Device(Broken::Torn.error()));
+    line.word(", ");
+    line.shown(&WriteFault::Stalled);
+    line.word(", ");
+    line.shown(&LinkError::Write(WriteFault::Stalled));
     let wanted = "the tape is torn, the writer takes no more bytes, the writer takes no more bytes";
-    is(&rt, "faults of writes", text, wanted)
+    is(&rt, "faults of writes", line, wanted)
 }
 
 /// A list whose memory is refused takes no byte.
@@ -530,7 +651,7 @@ fn a_list_that_cannot_grow(rt: HostRuntime) {
     let host = CodeFile::new(&rt, LITTLE, IN_PLACE_TEXTS);
     let heap = Refusing::once(alloc, 1);
     let mut list = Vec::new(&heap);
-    let answer = link(alloc, host.as_slice(), &[], &mut list);
+    let answer = host.alone().link_to(alloc, &mut list);
     let wanted = "device error OutOfMemory";
     is(&rt, wanted, text_of(alloc, answer), wanted);
     holds(&rt, list.is_empty(), wanted)

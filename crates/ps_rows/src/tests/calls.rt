@@ -1,0 +1,83 @@
+//! A link of files, and the calls that make and write it. They have no clauses, so the proof of a
+//! test has nothing of what the linker promises.
+use crate::code_file::CodeFile;
+use ps_linkfile::{LinkError, Linked, Summary, link, map_text, prepare};
+use ps_resolve::{Plan, Stop, resolve};
+use ps_writing::{Counting, Counts};
+use std::alloc::Allocator;
+use std::io::Write;
+
+/// The files of a link; the linked file is empty where it is refused.
+#[derive(Clone, Copy)]
+pub(crate) struct Link<'a> {
+    pub host: &'a [u8],
+    pub libraries: &'a [&'a [u8]],
+    pub linked: &'a [u8],
+}
+
+impl<'a> Link<'a> {
+    /// `link` with these files.
+    pub(crate) fn link_to<A: Allocator + Copy, W: Write>(
+        &self,
+        alloc: A,
+        out: &mut W,
+    ) -> Result<Summary, LinkError> {
+        link(alloc, self.host, self.libraries, out)
+    }
+
+    /// `prepare` with these files.
+    pub(crate) fn prepare<A: Allocator + Copy>(
+        &self,
+        alloc: A,
+    ) -> Result<Linked<'a, A>, LinkError> {
+        prepare(alloc, self.host, self.libraries)
+    }
+
+    /// `map_text` of these files.
+    pub(crate) fn map_text<A: Allocator + Copy>(&self, alloc: A) -> Result<Vec<u8, A>, LinkError> {
+        map_text(alloc, self.host, self.libraries)
+    }
+
+    /// `resolve` with these files.
+    pub(crate) fn resolve<A: Allocator + Copy>(&self, alloc: A) -> Result<Plan<'a, A>, Stop> {
+        resolve(alloc, self.host, self.libraries)
+    }
+}
+
+impl CodeFile {
+    /// The link of this host without a library.
+    pub(crate) fn alone(&self) -> Link<'_> {
+        Link {
+            host: self.as_slice(),
+            libraries: &[],
+            linked: &[],
+        }
+    }
+}
+
+/// Writes a linked file.
+pub(crate) fn write_to<A: Allocator + Copy, W: Write>(
+    linked: &Linked<'_, A>,
+    out: &mut W,
+) -> Result<Summary, LinkError> {
+    linked.write(out).map_err(LinkError::Write)
+}
+
+/// Writes the map of a link.
+pub(crate) fn write_map<W: Write>(
+    linked: &Linked<'_>,
+    out: &mut W,
+    counts: &mut Counts,
+) -> Result<(), LinkError> {
+    linked.write_map(out, counts).map_err(LinkError::Write)
+}
+
+/// Writes a linked file to a writer that counts, and returns that writer too.
+pub(crate) fn tell_to<A: Allocator + Copy, W: Write + Drop>(
+    linked: &Linked<'_, A>,
+    out: W,
+) -> (Result<Summary, LinkError>, Counting<W>) {
+    let mut out = Counting::new(out);
+    let answer = linked.write_told(&mut out).map_err(LinkError::Write);
+    (answer, out)
+}
