@@ -10,26 +10,37 @@ pub(crate) const MOST: usize = BITS * WORDS;
 
 /// Some of the first places, as bits.
 #[derive(Clone, Copy)]
-pub(crate) struct Places([u64; WORDS]);
+pub(crate) struct Places {
+    words: [u64; WORDS],
+    /// No word from this one on has a bit.
+    used: usize,
+}
 
 impl Places {
-    pub(crate) const NONE: Places = Places([0; WORDS]);
+    pub(crate) const NONE: Places = Places {
+        words: [0; WORDS],
+        used: 0,
+    };
 
     /// Takes all places out.
     pub(crate) fn clear(&mut self) {
-        self.0 = [0; WORDS];
+        for word in self.words.iter_mut().take(self.used) {
+            *word = 0;
+        }
+        self.used = 0;
     }
 
     /// With this place, if it is one of the first.
     pub(crate) fn add(&mut self, place: usize) {
         let index = place / BITS;
         if index < WORDS {
-            self.0[index] |= 1 << (place % BITS);
+            self.words[index] |= 1 << (place % BITS);
+            self.used = self.used.max(index + 1);
         }
     }
 
     pub(crate) fn has(&self, place: usize) -> bool {
-        match self.0.get(place / BITS) {
+        match self.words.get(place / BITS) {
             Some(word) => *word >> (place % BITS) & 1 == 1,
             None => false,
         }
@@ -37,10 +48,14 @@ impl Places {
 
     /// The first of these that is none of those.
     pub(crate) fn first_beside(&self, those: &Places) -> Option<usize> {
-        for index in 0..WORDS {
-            let rest = self.0[index] & !those.0[index];
+        for (index, word) in self.words.iter().enumerate().take(self.used) {
+            let rest = *word & !those.words.get(index).copied().unwrap_or(0);
             if rest != 0 {
-                return Some(BITS * index + rest.trailing_zeros() as usize);
+                return Some(
+                    index
+                        .saturating_mul(BITS)
+                        .saturating_add(rest.trailing_zeros() as usize),
+                );
             }
         }
         None
