@@ -55,7 +55,7 @@
  * Threads: any number of threads may call at once. There is no lock and no state.
  * Memory: a call takes memory by malloc and realloc of the C library and returns all of it by free
  * before it ends. A link of up to 256 libraries requests none before it has read the files.
- * Stack: leave a call 64 KB; a link of up to 16 libraries takes about 22, one of more up to 30, and a
+ * Stack: leave a call 64 KB; a link of up to 16 libraries takes about 23, one of more up to 30, and a
  * check or another text up to 33.
  * Signals: no function is to be called from a signal handler, nor, where the process has threads,
  * in a child between fork and exec. pslink_version and pslink_release_number are not concerned.
