@@ -8,6 +8,8 @@ ghost use Rattle.ps_linkfile.specs.LinkedFile.{summary_of};
 ghost use Rattle.ps_linkfile.specs.MapText.{map_in, map_json_in, map_json_of, map_of, plan_rows};
 ghost use Rattle.ps_linkfile.specs.Writing.{file_in, summary_in, IsReady, StandsFor};
 ghost use Rattle.ps_writing.specs.Prefixes.{AppendsPrefix};
+ghost use Rattle.ps_writing.specs.declared.write_fault.WriteFault.{WriteFault};
+ghost use Rattle.ps_linkfile.specs.declared.error.LinkError.TheVariants.{Write as WriteFailed};
 ghost use Rattle.ps_linkfile.specs.Outcomes.{AppendsLinkedFile, HasUsedNumber, NamesFirst, IsUnprepared, IsUnlinked, LeavesUntouched, LeavesPrefix};
 ghost use Rattle.ps_writing.specs.Counts.{AreAtMost, IfDevice, IfStalled, NoneFailed, OneError, OneFailed, OneStall, RisesByBytes, RisesByPieces};
 
@@ -209,7 +211,7 @@ pub fn prepare<'a, A: Allocator + Copy>(
 /// Refuses `Write` where the writer failed, which then has a prefix of the linked file.
 /// Source: UCSD Pascal II.0 manual, code file format; the published II.0 Linker source; the layout
 /// is this project's profile.
-#[tactic(auto, using(std::proofs::lemmas::Result::err_from_is_err_and, crate::proofs::Whole::none_found))]
+#[tactic(auto, using(crate::proofs::Whole::none_found))]
 pub fn link<'a, A: Allocator + Copy, W: Write>(
     alloc: A,
     host: &'a [u8],
@@ -228,6 +230,24 @@ pub fn link<'a, A: Allocator + Copy, W: Write>(
         (W.contents out.old) (W.contents out.new)) }
 {
     first_of_all();
-    let linked = prepare(alloc, host, libs)?;
+    match prepare(alloc, host, libs) {
+        Ok(linked) => written(&linked, out),
+        Err(error) => Err(error),
+    }
+}
+
+/// Writes a linked file that was prepared: it is refused only where a write failed.
+#[tactic(auto, using(std::proofs::lemmas::Result::err_from_is_err_and))]
+fn written<A: Allocator + Copy, W: Write>(
+    linked: &Linked<'_, A>,
+    out: &mut W,
+) -> Result<Summary, LinkError>
+    ensures file { OnOk result (Appends (W.contents out.old) (W.contents out.new)
+        (file_in linked.now)) }
+    ensures summary { IfOk result (λ s. s ≡ summary_in linked.now) }
+    ensures error { IfErr result (λ e. (fault : WriteFault) × (e ≡ WriteFailed fault)) }
+    ensures prefix { OnErr result (AppendsPrefix (W.contents out.old) (W.contents out.new)
+        (file_in linked.now)) }
+{
     Ok(linked.write(out)?)
 }

@@ -6,7 +6,7 @@ ghost use Rattle.ps_resolve.specs.Sources.{contents};
 ghost use Rattle.ps_resolve.specs.Standing.{NoneStands};
 ghost use Rattle.ps_linkfile.specs.Writing.{starts_of, IsReady};
 ghost use Rattle.ps_linkfile.specs.Outcomes.{HasUsedNumber, IsUnprepared, NamesFirst};
-ghost use Rattle.ps_linkfile.specs.MapText.{row_among, segment_row, kind_word as kind_word_spec, definition_row, private_row, last_row, plan_rows, map_of};
+ghost use Rattle.ps_linkfile.specs.MapText.{row_among, segment_row, kind_word as kind_word_spec, definition_row, private_row, last_row, plan_rows, map_in, map_of};
 ghost use Rattle.ps_writing.specs.Rows.{row_in, rows_in, values_in};
 
 use crate::block_layout::lay_out;
@@ -17,7 +17,7 @@ use ps_resolve::{Def, DefKind, Definitions, Plan, Private, Segment};
 use ps_words::Name;
 use ps_writing::RowPart::{Flag, InSlot, Named, Number, OfKind, Short, Total};
 use ps_writing::{Form, Text, TextWriter, add_by_form, add_part, begin_row, end_row, in_memory};
-use std::alloc::Allocator;
+use std::alloc::{AllocError, Allocator};
 
 /// Adds the row of a segment, whose code begins in this block.
 fn add_segment<S: TextWriter>(text: &mut S, form: Form, index: usize, segment: &Segment, block: u16)
@@ -152,7 +152,7 @@ pub(crate) fn add_map<A: Allocator + Copy, S: TextWriter>(
 }
 
 /// The map of a link that was checked, in this form.
-#[derive(Clone, Copy)]
+#[derive(Drop)]
 pub(crate) struct LinkMap<'l, 'a, A: Allocator + Copy>(
     pub(crate) Form,
     pub(crate) &'l Linked<'a, A>,
@@ -201,5 +201,12 @@ pub fn map_text<'a, A: Allocator + Copy>(
 {
     first_of_all();
     let linked = prepare(alloc, host, libs)?;
-    Ok(in_memory(alloc, &LinkMap(Form::Lines, &linked))?)
+    Ok(lines_of(alloc, &linked)?)
+}
+
+/// The lines of the map of a link that was checked.
+fn lines_of<A: Allocator + Copy>(alloc: A, linked: &Linked<'_, A>) -> Result<Vec<u8, A>, AllocError>
+    ensures { IfOk result (λ lines. lines.items ≡ map_in linked.now) }
+{
+    in_memory(alloc, &LinkMap(Form::Lines, linked))
 }

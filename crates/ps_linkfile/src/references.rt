@@ -176,7 +176,7 @@ impl<'a, A: Allocator + Copy> Model for ReferenceMap<'a, A> {
 }
 
 /// The map with its references, in this form.
-#[derive(Clone, Copy)]
+#[derive(Drop)]
 struct Referenced<'m, 'a, A: Allocator + Copy>(Form, &'m ReferenceMap<'a, A>);
 
 impl<A: Allocator + Copy> Text for Referenced<'_, '_, A> {
