@@ -8,7 +8,11 @@ use Rattle.ps_resolve.proofs.allotment.allot_all.Goals.{in-Some+in_ok-end, in_de
 pub loop-segment-init : goal.loop-segment-init
 loop-segment-init g c =
     let all = all_allotted c.args.next (map g.S.RequestsPrivates.owner c.args.segments.now) in
-    record { privates = ap (λ ps. ps ++ all) c.new-privates.ensures.items; words = refl; first = refl }
+    record {
+      privates = ap (λ ps. ps ++ all) c.new-privates.ensures.items;
+      words = refl;
+      first = refl;
+    }
 
 pub loop-segment-preserved : goal.loop-segment-preserved
 loop-segment-preserved g c =
