@@ -44,7 +44,7 @@ pub use Rattle.ps_words.specs.declared.order.Order.{Order}
 pub use Rattle.std.proofs.Common.{All, Bool, Decides, Err, IfOk, IfSome, IsPermutation, List, None, Ok, Option, Result, Some, [], ap, append-nil, append_assoc, arith, bytes_eq, count_by, drop, eqb-true, false, get_or, if◌then◌else◌, inl, inr, is_some, length, length-append, length-set, ltb, ltb-false, map, nat_cmp, nat_eq, nat_le, nat_lt, ne_eqb, option_map, option_to_list, refl, rules, set, subst, suc, sym, take, true, zero, ℕ, ◌&&◌, ◌++◌, ◌+◌, ◌-◌, ◌<◌, ◌==◌, ◌||◌, ◌∙◌, ◌∷◌, ◌≡◌, ◌≤◌, ◌⊎◌}
 pub use Rattle.std.proofs.lemmas.Bool.{cases_Bool, cases_lt, cases_order, false≢true, not-false, not-true, or_right}
 pub use Rattle.std.proofs.lemmas.Bool.Decides.{Decides-and, Decides-like, Decides-or, nat_tests}
-pub use Rattle.std.proofs.lemmas.List.{drop_all, drop_more, get_or-set_other, get_or-set_same, get_or_past, length-map, length-take-le, map-append, nil_from_length, take_at, take_more}
+pub use Rattle.std.proofs.lemmas.List.{drop_all, drop_more, get_or-set_other, get_or-set_same, get_or_past, length-map, length-take-le, map-append, nil_from_length, take_all, take_at, take_more}
 pub use Rattle.std.proofs.lemmas.List.Elements.{All-append, All-cons, All-head, All-nil, All-tail, All-take, filter-append, filter_map-append}
 pub use Rattle.std.proofs.lemmas.List.Folds.{list_any-append}
 pub use Rattle.std.proofs.lemmas.List.Sorted.{All-permutation, IsNonDecreasingBy-from_sort, IsPartitionPoint-from_clause, IsPermutation-append_left, IsPermutation-cons, IsPermutation-refl, IsPermutation-sym, IsPermutation-to_front, IsPermutation-trans}

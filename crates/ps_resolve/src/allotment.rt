@@ -186,13 +186,13 @@ fn allot_all<A: Allocator + Copy, S: RequestsPrivates>(
         (first_private_fault next (map S.owner segments.now))) }
 {
     let mut privates = Vec::new(alloc);
-    let mut free = next;
+    let mut end = next;
     for segment in segments {
         if let Some(records) = segment.records() {
-            free = allot(alloc, segment.place(), &records, free, &mut privates)?;
+            end = allot(alloc, segment.place(), &records, end, &mut privates)?;
         }
     }
-    Ok((privates, free))
+    Ok((privates, end))
 }
 
 impl<A: Allocator + Copy> Allotment<A> {

@@ -103,7 +103,8 @@ fn define<A: Allocator + Copy>(
     ensures stop { IfErr result (IsStop ⊤ (doubled_fault place
         (is_some (definition_of name by_name.old.entries)))) }
 {
-    if by_name.insert(NameKey(name), def)?.is_some() {
+    let is_doubled = by_name.insert(NameKey(name), def)?.is_some();
+    if is_doubled {
         return Err(Stop::in_record(place, Reason::DoubledDefinition));
     }
     Ok(())

@@ -1,5 +1,4 @@
-use Rattle.std.proofs.Common.{rules}
 use Rattle.ps_resolve.proofs.allotment.append.Goals as goal
 
 pub returns-clause-privates : goal.returns-clause-privates
-returns-clause-privates g c = search rules
+returns-clause-privates g c = c.in_ok-push.ensures.items

@@ -1,11 +1,17 @@
-use Rattle.ps_resolve.proofs.Vocabulary.{ap, sym, ◌∙◌, bytes_eq, is_some}
+use Rattle.ps_resolve.proofs.Vocabulary.{◌≡◌, ◌∙◌, rules, bytes_eq, false, is_some, definition_of}
 use Rattle.indexmap.proofs.CallerLemmas.{insert_entry-new}
 use Rattle.ps_resolve.proofs.Duplicates.{none_is}
 use Rattle.ps_resolve.proofs.definitions.define.Goals as goal
 
 pub returns-clause-entries : goal.returns-clause-entries
 returns-clause-entries g c =
-    let absent = ap is_some (sym c.in_ok-insert.ensures.old)
-    ∙ (sym c.is_some.ensures ∙ c.if-is_some.false) in
+    let absent : is_some (definition_of c.args.name c.args.by_name.now.entries) ≡ false =
+    search rules in
     c.in_ok-insert.ensures.entries ∙ insert_entry-new bytes_eq c.args.by_name.now c.args.name
     c.args.def (none_is _ absent)
+
+pub returns-clause-once : goal.returns-clause-once
+returns-clause-once g c = search rules
+
+pub returns-then-is_doubled-clause-stop : goal.returns-then-is_doubled-clause-stop
+returns-then-is_doubled-clause-stop g c = search rules
