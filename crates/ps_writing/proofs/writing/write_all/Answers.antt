@@ -16,7 +16,7 @@ pub returns-clause-failed : goal.returns-clause-failed
 returns-clause-failed g c = search
 
 pub returns-in-Err-clause-prefix : goal.returns-in-Err-clause-prefix
-returns-in-Err-clause-prefix g c = search arith
+returns-in-Err-clause-prefix g c = (c.loop-at.at, search arith)
 
 pub returns-in-Err-clause-writes : goal.returns-in-Err-clause-writes
 returns-in-Err-clause-writes g c = search arith
