@@ -3,6 +3,9 @@ use Rattle.ps_linkinfo.specs.Left.{items_left}
 use Rattle.ps_linkinfo.proofs.Steps.{left_end, left_next}
 use Rattle.ps_linkinfo.proofs.records.Records.advance.Goals as goal
 
+pub returns-in-Err-clause-step : goal.returns-in-Err-clause-step
+returns-in-Err-clause-step c = search arith
+
 pub returns-in-Err-clause-first : goal.returns-in-Err-clause-first
 returns-in-Err-clause-first c =
     let w = c.self.inside in
