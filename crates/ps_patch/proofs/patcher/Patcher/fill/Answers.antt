@@ -1,4 +1,4 @@
-use Rattle.std.proofs.Common.{get_or}
+use Rattle.std.proofs.Common.{get_or, rules}
 use Rattle.ps_patch.proofs.UnderWay.{block_over, block_patched}
 use Rattle.ps_patch.proofs.patcher.Patcher.fill.Goals as goal
 
@@ -13,3 +13,6 @@ returns-clause-block c = λ k lt.
     rw (← c.self.view_is) (block_patched _ _ k (get_or c.copy_block-count.new.block k 0)
     (get_or c.store_all-self-inside.new.block k 0) c.self.invariant
     (c.copy_block-count.ensures.block k lt) (c.store_all-self-inside.ensures.block k lt))
+
+pub returns-clause-count : goal.returns-clause-count
+returns-clause-count c = search rules

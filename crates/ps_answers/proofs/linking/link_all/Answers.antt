@@ -1,0 +1,8 @@
+use Rattle.std.proofs.Common.{rules}
+use Rattle.ps_answers.proofs.linking.link_all.Goals as goal
+
+pub returns-clause-linked : goal.returns-clause-linked
+returns-clause-linked c = search rules
+
+pub returns-then-room-size-clause-not_done : goal.returns-then-room-size-clause-not_done
+returns-then-room-size-clause-not_done c = search rules
