@@ -3,3 +3,6 @@ use Rattle.ps_words.proofs.words.put_big.Goals as goal
 
 pub returns-clause-first : goal.returns-clause-first
 returns-clause-first c = search rules
+
+pub returns-clause-second : goal.returns-clause-second
+returns-clause-second c = search rules

@@ -16,3 +16,6 @@ returns-clause-block c = λ k lt.
 
 pub returns-clause-count : goal.returns-clause-count
 returns-clause-count c = search rules
+
+pub returns-clause-moves : goal.returns-clause-moves
+returns-clause-moves c = search rules
