@@ -132,13 +132,37 @@ enum Argument {
     Flag(&'static str, &'static str),
 }
 
+/// What the help of a command ends with: the table of the commands names the texts and does not hold
+/// them.
+/// Source: this project's profile.
+#[derive(Clone, Copy)]
+enum Ending {
+    Link,
+    Map,
+    Show,
+    Check,
+    List,
+}
+
+impl Ending {
+    fn text(self) -> &'static str {
+        match self {
+            Ending::Link => LINK_ENDING,
+            Ending::Map => MAP_ENDING,
+            Ending::Show => SHOW_ENDING,
+            Ending::Check => CHECK_ENDING,
+            Ending::List => LIST_ENDING,
+        }
+    }
+}
+
 /// A command: its name, what the help says of it and ends with, and its arguments.
 /// Source: this project's profile.
 #[derive(Clone, Copy)]
 struct CommandForm {
     name: &'static str,
     about: &'static str,
-    ending: &'static str,
+    ending: Ending,
     arguments: &'static [Argument],
 }
 
@@ -151,7 +175,7 @@ const JSON: Argument = Flag("json", "Prints the same values as one JSON document
 const LINK: CommandForm = CommandForm {
     name: "link",
     about: "Links a host with the units that it uses, and writes the linked file",
-    ending: LINK_ENDING,
+    ending: Ending::Link,
     arguments: &[
         HOST,
         File("OUT", "The code file to write; it may be HOST"),
@@ -165,7 +189,7 @@ static FORMS: [CommandForm; 5] = [
     CommandForm {
         name: "map",
         about: "Prints where a link would put each segment and private variable, and writes no file",
-        ending: MAP_ENDING,
+        ending: Ending::Map,
         arguments: &[
             HOST,
             LIBRARIES,
@@ -179,7 +203,7 @@ static FORMS: [CommandForm; 5] = [
     CommandForm {
         name: "show",
         about: "Prints the segments of one code file and the link information of each",
-        ending: SHOW_ENDING,
+        ending: Ending::Show,
         arguments: &[
             File(
                 "FILE",
@@ -191,7 +215,7 @@ static FORMS: [CommandForm; 5] = [
     CommandForm {
         name: "check",
         about: "Says in words what is wrong with the files and what only looks right",
-        ending: CHECK_ENDING,
+        ending: Ending::Check,
         arguments: &[
             HOST,
             LIBRARIES,
@@ -206,7 +230,7 @@ static FORMS: [CommandForm; 5] = [
     CommandForm {
         name: "list",
         about: "Prints a line of each file and of each of its segments, made for grep",
-        ending: LIST_ENDING,
+        ending: Ending::List,
         arguments: &[
             Files(
                 "FILE",
@@ -273,7 +297,7 @@ fn command_of<'a>(heap: Global, form: &CommandForm) -> Result<Command<'a>, Alloc
 {
     let mut command = Command::new(heap, form.name)
         .about(form.about)
-        .after_help(form.ending);
+        .after_help(form.ending.text());
     for argument in form.arguments {
         command = command.arg(argument_of(heap, *argument))?;
     }

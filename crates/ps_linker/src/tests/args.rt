@@ -1,5 +1,5 @@
 //! The arguments of the command line: help, version and wrong usage.
-use super::outcome::done;
+use super::outcome::gives;
 use super::wanted::Text;
 use super::wanted::Text::{
     CheckHelp, Help, LinkHelp, MapHelp, NoArgs, NoCheckedHost, NoCommand, NoFile, NoHost, NoOut,
@@ -273,6 +273,6 @@ static ROWS: [(&str, u8, Text, Text); 28] = [
 #[test]
 fn args_are_taken_or_are_wrong_usage(rt: HostRuntime) {
     for (args, status, out, err) in &ROWS {
-        done(&rt, *args).is(&rt, *args, *status, out.text(), err.text());
+        gives(&rt, *args, *status, out.text(), err.text());
     }
 }

@@ -17,8 +17,9 @@ pub const NO_FAULTS: Faults = (0, 0, usize::MAX);
 
 /// The files of `inner`, of which the one that is opened as the `nth`, from 1, fails after so many
 /// reads and writes. A read gives 500 bytes at most, and a write takes so many.
-pub struct Faulty<R: Files> {
-    inner: R,
+#[derive(Drop)]
+pub struct Faulty<'a, R: Files> {
+    inner: &'a R,
     nth: u64,
     calls: u64,
     per_write: usize,
@@ -26,9 +27,9 @@ pub struct Faulty<R: Files> {
     created: Cell<u64>,
 }
 
-impl<R: Files> Faulty<R> {
+impl<'a, R: Files> Faulty<'a, R> {
     /// A write takes so many bytes at most.
-    pub fn taking(inner: R, (nth, calls, per_write): Faults) -> Faulty<R> {
+    pub fn taking(inner: &'a R, (nth, calls, per_write): Faults) -> Faulty<'a, R> {
         Faulty {
             inner,
             nth,
@@ -57,19 +58,6 @@ impl<R: Files> Faulty<R> {
     /// How many files a program tried to open to be written.
     pub fn created(&self) -> u64 {
         self.created.get()
-    }
-}
-
-impl<R: Files + Drop> Drop for Faulty<R> {
-    fn drop(self) {
-        let Self {
-            inner: _,
-            nth: _,
-            calls: _,
-            per_write: _,
-            opened: _,
-            created: _,
-        } = self;
     }
 }
 
@@ -111,7 +99,7 @@ impl<F: Write> Write for FaultyFile<F> {
     }
 }
 
-impl<R: Files> CodeFiles for Faulty<R> {
+impl<R: Files> CodeFiles for Faulty<'_, R> {
     type Opened = FaultyFile<R::File>;
 
     type Created = FaultyFile<R::File>;
@@ -125,13 +113,13 @@ impl<R: Files> CodeFiles for Faulty<R> {
     ghost one_file = { λ rt path other. ⊤ };
 
     fn open(&self, path: &str) -> io::Result<FaultyFile<R::File>> {
-        let inner = fs::open(&self.inner, path)?;
+        let inner = fs::open(self.inner, path)?;
         Ok(self.faulty(inner))
     }
 
     fn create(&self, path: &str) -> io::Result<FaultyFile<R::File>> {
         self.created.set(self.created.get().saturating_add(1));
-        let inner = fs::create(&self.inner, path)?;
+        let inner = fs::create(self.inner, path)?;
         Ok(self.faulty(inner))
     }
 
@@ -149,7 +137,7 @@ impl<R: Files> CodeFiles for Faulty<R> {
     }
 }
 
-impl<R: Files + AllocGlobal> Alloc for Faulty<R> {
+impl<R: Files + AllocGlobal> Alloc for Faulty<'_, R> {
     type A = Global;
 
     fn alloc(&self) -> Global {

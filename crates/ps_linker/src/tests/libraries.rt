@@ -3,7 +3,7 @@ use super::inputs::{
     HOST, Image, LIBRARY, LIBRARY_WITHOUT_UNIT, LINKED_PAIR, LINKED_WITH_OTHER, OTHER_LIBRARY,
     SUMMARY_OF_PAIR, save_all, save_text,
 };
-use super::outcome::{clean, clean_all, done, holds_image};
+use super::outcome::{clean, clean_all, gives, holds_image};
 use std::process::Abort;
 use std::rt::Files;
 
@@ -74,7 +74,7 @@ fn links_each_row<R: Files + AllocGlobal + Abort>(
     for (place, library, status, printed, complained, wanted) in &ROWS {
         libraries[*place] = *library;
         let args = args_with(rt, libraries);
-        done(rt, args.as_str()).is(rt, *library, *status, *printed, *complained);
+        gives(rt, args.as_str(), *status, *printed, *complained);
         holds_image(rt, "forty-out", *wanted, *library);
     }
 }
@@ -86,7 +86,7 @@ fn forty_libraries(rt: HostRuntime) {
     save_text(&rt, "forty-out", "as before");
     let mut libraries = ["forty-without"; LIBRARIES];
     let args = args_with(&rt, &libraries);
-    done(&rt, args.as_str()).is(&rt, "none", 1, "", REFUSED);
+    gives(&rt, args.as_str(), 1, "", REFUSED);
     links_each_row(&rt, &mut libraries);
     clean_all(&rt, FILES.as_slice());
     clean(&rt, "forty-out forty-short");

@@ -4,7 +4,7 @@ use super::inputs::{
     CUT_LIBRARY, ENDING_HOST, ENDING_LIBRARY, HOST, HOST_IN_PLACE, Image, LIBRARY,
     LINKED_HOST_IN_PLACE, LINKED_PAIR, SUMMARY_IN_PLACE, SUMMARY_OF_PAIR, save_all, save_text,
 };
-use super::outcome::{clean, clean_all, done, done_faulty, holds, holds_image, says};
+use super::outcome::{clean, clean_all, done_faulty, gives, holds, holds_image, says};
 use std::fs;
 use std::os::unix::fs::symlink;
 use std::process::Abort;
@@ -68,11 +68,11 @@ fn links_and_leaves_out_where_it_refuses(rt: HostRuntime) {
     save_text(&rt, "link-out", "as before");
     clean(&rt, "link-new");
     for (args, complained) in &REFUSED {
-        done(&rt, *args).is(&rt, *args, 1, "", *complained);
+        gives(&rt, *args, 1, "", *complained);
         holds(&rt, "link-out", b"as before", *args);
     }
     for (args, summary, out, image) in &LINKED {
-        done(&rt, *args).is(&rt, *args, 0, *summary, "");
+        gives(&rt, *args, 0, *summary, "");
         holds_image(&rt, *out, *image, *args);
     }
     clean_all(&rt, FILES.as_slice());
@@ -107,16 +107,21 @@ fn overwrites_no_library<R: Files + AllocGlobal + Abort>(rt: &R, row: &str) {
     clean(rt, "led-out");
 }
 
+/// Links to a library are no OUT, and a copy of it is.
+fn takes_a_copy<R: Files + AllocGlobal + Abort>(rt: &R) {
+    clean(rt, "led-out");
+    save_all(rt, LED_FILES.as_slice());
+    let _ = fs::hard_link(rt, "led-library", "led-out");
+    overwrites_no_library(rt, "a hard link");
+    let _ = symlink(rt, "led-library", "led-out");
+    overwrites_no_library(rt, "a symbolic link");
+    save_all(rt, LED_OUT.as_slice());
+    gives(rt, LED, 0, SUMMARY_OF_PAIR, "");
+    holds_image(rt, "led-out", &LINKED_PAIR, "a copy");
+    clean(rt, "led-host led-library led-other led-out");
+}
+
 #[test]
 fn a_path_that_leads_to_a_library_is_no_out(rt: HostRuntime) {
-    clean(&rt, "led-out");
-    save_all(&rt, LED_FILES.as_slice());
-    let _ = fs::hard_link(&rt, "led-library", "led-out");
-    overwrites_no_library(&rt, "a hard link");
-    let _ = symlink(&rt, "led-library", "led-out");
-    overwrites_no_library(&rt, "a symbolic link");
-    save_all(&rt, LED_OUT.as_slice());
-    done(&rt, LED).is(&rt, "a copy", 0, SUMMARY_OF_PAIR, "");
-    holds_image(&rt, "led-out", &LINKED_PAIR, "a copy");
-    clean(&rt, "led-host led-library led-other led-out");
+    takes_a_copy(&rt)
 }

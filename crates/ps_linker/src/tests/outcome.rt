@@ -23,6 +23,11 @@ pub fn done<R: Files + AllocGlobal>(rt: &R, args: &str) -> Outcome {
     done_with(rt, rt.alloc(), args)
 }
 
+/// Runs the arguments with ample memory: the run returns this status and writes these texts.
+pub fn gives<R: Files + AllocGlobal + Abort>(rt: &R, args: &str, status: u8, out: &str, err: &str) {
+    done(rt, args).is(rt, args, status, out, err)
+}
+
 /// Runs the arguments with memory from `alloc`, on files of which one fails so. Returns how many files
 /// the program tried to open to be written, too.
 pub fn done_faulty<R: Files + AllocGlobal, A: Allocator + Copy>(

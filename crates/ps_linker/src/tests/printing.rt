@@ -70,13 +70,20 @@ fn fails_to_print<R: Files + AllocGlobal + Abort>(
     let mut err = Vec::new(rt.alloc());
     let status = status_of(rt, rt.alloc(), args, &mut out, &mut err);
     let (taken, complained) = (text(out.taken.as_slice()), text(err.as_slice()));
-    let is_right = if status == 0 {
-        taken == wanted && complained.is_empty()
-    } else {
-        status == 3 && is_prefix(taken, wanted) && complained == NO_OUTPUT
-    };
-    says(rt, is_right, &(args, most, writes));
+    says(
+        rt,
+        is_taken(status, taken, complained, wanted),
+        &(args, most, writes),
+    );
     status != 0
+}
+
+/// Whether this was taken of the text that is wanted, and said of it, with this status.
+fn is_taken(status: u8, taken: &str, complained: &str, wanted: &str) -> bool {
+    if status == 0 {
+        return taken == wanted && complained.is_empty();
+    }
+    status == 3 && is_prefix(taken, wanted) && complained == NO_OUTPUT
 }
 
 /// Whether a text is the start of another, and shorter.

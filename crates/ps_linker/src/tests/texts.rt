@@ -4,7 +4,7 @@ use super::inputs::{
     LIBRARY_CUT_IN_CODE, LIBRARY_OF_BOTH, LINKED_PAIR, MIXED_FILE, NAMING_LIBRARY, SHORT_FILE,
     USING_LIBRARY, save, save_all,
 };
-use super::outcome::{Outcome, clean, clean_all, done, done_with, holds_image, says};
+use super::outcome::{Outcome, clean, clean_all, done, done_with, gives, holds_image, says};
 use super::wanted::Text;
 use refusing::Refusing;
 use std::fs;
@@ -58,7 +58,7 @@ static MAPS: [Mapped<'static>; 7] = [
 fn maps_a_host_with_its_libraries(rt: HostRuntime) {
     save_all(&rt, MAP_FILES.as_slice());
     for (args, status, printed, complained) in &MAPS {
-        done(&rt, *args).is(&rt, *args, *status, printed.text(), *complained);
+        gives(&rt, *args, *status, printed.text(), *complained);
     }
     holds_image(&rt, "map-host", &HOST, "map");
     clean_all(&rt, MAP_FILES.as_slice());
@@ -208,8 +208,13 @@ fn the_longest_file_is_read_and_none_longer(rt: HostRuntime) {
     for (length, status, shown, complained, link_status, refused) in &LONG {
         fs::OpenFile::set_len(&long, *length).expect(&rt, "no length");
         shows_long(&rt, *length, *status, shown.text(), *complained);
-        let run = done(&rt, "pslink link long-file long-out");
-        run.is(&rt, *length, *link_status, "", *refused);
+        gives(
+            &rt,
+            "pslink link long-file long-out",
+            *link_status,
+            "",
+            *refused,
+        );
     }
     clean(&rt, "long-file");
 }

@@ -4,7 +4,7 @@ use std::io;
 use std::io::Write;
 
 /// A writer that does not take what it is given.
-#[derive(Clone, Copy, Debug, PartialEq, Eq)]
+#[derive(Clone, Copy, Debug)]
 pub enum Stuck {
     Broken,
     TakesNothing,

@@ -1,4 +1,5 @@
-use Rattle.std.proofs.Common.{◌≡◌, ◌++◌, rules, take, sym, ap, ◌∙◌, subst, append-nil}
+use Rattle.std.proofs.Common.{arith, ◌≡◌, ◌++◌, rules, take, sym, ap, ◌∙◌, subst, append-nil}
+use Rattle.std.proofs.lemmas.Grind.{common_steps}
 use Rattle.std.specs.Io.KnownBytes.{Consumes}
 use Rattle.std.proofs.KnownBytes.{Consumes-nil, Consumes-trans, Consumes-whole}
 use Rattle.ps_command.proofs.files.read_to_end.Goals as goal
@@ -29,3 +30,6 @@ read-preserved g c =
       subst (Consumes _ _) (sym grown)
           (Consumes-trans _ _ _ all taken c.read.invariant.1 c.in-Ok.ensures.bytes.0),
     )
+
+pub returns-then-len-n-clause-long : goal.returns-then-len-n-clause-long
+returns-then-len-n-clause-long g c = grind (arith, common_steps)
