@@ -36,12 +36,17 @@ fn describe_definitions<A: Allocator + Copy>(alloc: Global, definitions: &Defini
         line.value("", &definition);
         line.word("; ");
     }
-    look(&mut line, definitions, &COUNT);
-    line.word(", ");
-    look(&mut line, definitions, &STATE);
-    line.word(", ");
-    look(&mut line, definitions, &LIMIT);
+    look_each(&mut line, definitions);
     line
+}
+
+/// Adds what three names are defined as.
+fn look_each<A: Allocator + Copy>(line: &mut Line, definitions: &Definitions<A>) {
+    look(line, definitions, &COUNT);
+    line.word(", ");
+    look(line, definitions, &STATE);
+    line.word(", ");
+    look(line, definitions, &LIMIT)
 }
 
 /// Adds what a name is defined as.

@@ -103,10 +103,7 @@ fn is_named(rt: &(impl Abort + AllocGlobal), reason: Reason, number: u8, name: &
 fn has_text(rt: &(impl Abort + AllocGlobal), fault: &Fault, wanted: &str) {
     let alloc = rt.alloc();
     let mut line = Line::new(alloc);
-    for _ in 0..4 {
-        line.word(wanted);
-        line.word("\n");
-    }
+    line.shown(&format_args!("{wanted}\n{wanted}\n{wanted}\n{wanted}\n"));
     let wanted = line.text(rt);
     let mut text = Line::new(alloc);
     text.shown(&format_args!("{fault}\n{fault:>100}\n{fault:<100}\n{fault:.3}\n"));
