@@ -156,9 +156,19 @@ fn writes_prepared(
     asked: (u64, u64),
     summary: &str,
 ) {
-    let linked = prepared(rt, link, heap);
+    grows_nothing(rt, link, &prepared(rt, link, heap), (heap, asked), summary)
+}
+
+/// Checks that so much has grown on a heap, before a linked file is written and after it.
+fn grows_nothing<A: Allocator + Copy>(
+    rt: &(impl Abort + AllocGlobal),
+    link: &Link<'_>,
+    linked: &Linked<'_, A>,
+    (heap, asked): (&Refusing<Global>, (u64, u64)),
+    summary: &str,
+) {
     has_grown(rt, heap, asked);
-    writes_to_each(rt, link, &linked, summary);
+    writes_to_each(rt, link, linked, summary);
     has_grown(rt, heap, asked)
 }
 

@@ -8,7 +8,7 @@ use crate::information::{Information, Name};
 use crate::line::Line;
 use crate::notation::{holds, holds_of};
 use ps_linkinfo::{Body, LinkRecord, read_records};
-use ps_resolve::{Allotment, Def, DefKind, Definitions};
+use ps_resolve::{Allotment, Def, DefKind, Definitions, Linkage};
 use std::alloc::Global;
 use std::process::Abort;
 
@@ -84,13 +84,21 @@ fn records_of_a_hundred_thousand_names(rt: HostRuntime) {
 
 /// Checks what is read and built of the link information of that text.
 fn reads_numbered(rt: &(impl Abort + AllocGlobal), bytes: &[u8]) {
-    let alloc = rt.alloc();
     let segment = linkage(1, 7, LITTLE, bytes);
-    let definitions = Definitions::build(alloc, &segment).ok();
-    let definitions = definitions.expect(rt, "no definitions");
-    let allotment = Allotment::build(alloc, 8, &[segment]).ok();
-    let allotment = allotment.expect(rt, "no variables");
-    reads_all(rt, bytes, &definitions, &allotment)
+    let definitions = definitions_of(rt, &segment);
+    reads_all(rt, bytes, &definitions, &allotment_of(rt, segment))
+}
+
+/// The definitions of a segment.
+fn definitions_of(rt: &(impl Abort + AllocGlobal), segment: &Linkage<'_>) -> Definitions {
+    let built = Definitions::build(rt.alloc(), segment).ok();
+    built.expect(rt, "no definitions")
+}
+
+/// The private variables of a segment.
+fn allotment_of(rt: &(impl Abort + AllocGlobal), segment: Linkage<'_>) -> Allotment {
+    let built = Allotment::build(rt.alloc(), 8, &[segment]).ok();
+    built.expect(rt, "no variables")
 }
 
 /// Checks the records of that text, of which this was built.
