@@ -197,14 +197,11 @@ impl CodeFile {
         part: &str,
         words: &mut SplitWhitespace<'_>,
     ) {
-        let slot = usize::from(slot);
-        match part {
-            "name" => self.name(rt, NAMES + NAME_SIZE * slot, words),
-            "kind" => self.word(rt, KINDS + WORD_SIZE * slot, words),
-            "address" => self.word(rt, PAIR_SIZE * slot, words),
-            "length" => self.word(rt, PAIR_SIZE * slot + WORD_SIZE, words),
-            _ => holds(rt, false, part),
+        if part == "name" {
+            let place = NAMES + NAME_SIZE * usize::from(slot);
+            return self.name(rt, place, words);
         }
+        self.word(rt, word_place(rt, slot, part), words)
     }
 
     fn name(&mut self, rt: &impl Abort, place: usize, words: &mut SplitWhitespace<'_>) {
@@ -276,6 +273,20 @@ impl CodeFile {
     fn word(&mut self, rt: &impl Abort, place: usize, words: &mut SplitWhitespace<'_>) {
         let word = word(rt, words);
         self.put(rt, place, &bytes_of(self.order, word))
+    }
+}
+
+/// Where the word of a slot is that this part of a statement names.
+fn word_place(rt: &impl Abort, slot: u16, part: &str) -> usize {
+    let slot = usize::from(slot);
+    match part {
+        "kind" => KINDS + WORD_SIZE * slot,
+        "address" => PAIR_SIZE * slot,
+        "length" => PAIR_SIZE * slot + WORD_SIZE,
+        _ => {
+            holds(rt, false, part);
+            0
+        }
     }
 }
 

@@ -84,6 +84,13 @@ impl Information {
             "PRIVREF" => self.private(rt, words),
             "PUBLDEF" => self.definition(rt, PUBLIC_DEFINITION, words),
             "CONSTDEF" => self.definition(rt, CONSTANT_DEFINITION, words),
+            _ => self.other_record(rt, kind, words),
+        }
+    }
+
+    /// Adds a record that neither refers to a name nor defines one.
+    fn other_record(&mut self, rt: &impl Abort, kind: &str, words: &mut SplitWhitespace<'_>) {
+        match kind {
             "EOFMARK" => self.head(rt, &NO_NAME, END_MARK, [value(rt, words, "next"), 0, 0]),
             "TYPE" => self.other(rt, words),
             _ => holds(rt, false, kind),

@@ -6,6 +6,7 @@ use ps_resolve::{Plan, Stop, resolve};
 use ps_writing::{Counting, Counts};
 use std::alloc::Allocator;
 use std::io::Write;
+use std::process::Abort;
 
 /// The files of a link; the linked file is empty where it is refused.
 #[derive(Clone, Copy)]
@@ -53,6 +54,15 @@ impl CodeFile {
             linked: &[],
         }
     }
+}
+
+/// A link of these files, which is not refused.
+pub(crate) fn prepared<'a, A: Allocator + Copy>(
+    rt: &impl Abort,
+    link: &Link<'a>,
+    alloc: A,
+) -> Linked<'a, A> {
+    link.prepare(alloc).expect(rt, "unexpected error")
 }
 
 /// Writes a linked file.

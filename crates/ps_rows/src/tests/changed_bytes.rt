@@ -103,12 +103,29 @@ fn written(rt: &(impl Abort + AllocGlobal), wanted: &Wanted, place: usize, byte:
 fn check(rt: &(impl Abort + AllocGlobal), library: &[u8], place: usize, byte: u8) {
     let wanted = expected(place, byte);
     let linked = written(rt, &wanted, place, byte);
+    let answer = answer(rt.alloc(), wanted).text(rt);
+    let wanted = (linked.as_slice(), answer.as_str());
+    answers(rt, library, (place, byte), wanted)
+}
+
+/// Checks that this is what is written and answered there.
+fn answers(
+    rt: &(impl Abort + AllocGlobal),
+    library: &[u8],
+    (place, byte): (usize, u8),
+    (linked, answer): (&[u8], &str),
+) {
+    let host = changed(rt, place, byte);
+    let what = what(rt.alloc(), place, byte).text(rt);
+    let files = (host.as_slice(), library);
+    links_pair(rt, what.as_str(), files, linked, answer)
+}
+
+/// The host with this byte at a place.
+fn changed(rt: &(impl Abort + AllocGlobal), place: usize, byte: u8) -> CodeFile {
     let mut host = CodeFile::new(rt, LITTLE, HOST_TEXTS);
     host.put(rt, place, &[byte]);
-    let what = what(rt.alloc(), place, byte).text(rt);
-    let answer = answer(rt.alloc(), wanted).text(rt);
-    let files = (host.as_slice(), library);
-    links_pair(rt, what.as_str(), files, linked.as_slice(), answer.as_str())
+    host
 }
 
 /// What is changed.

@@ -4,6 +4,7 @@ use super::calls::Link;
 use super::rows::{Row, check_all, field, fields};
 use super::tables::{Check, base_named};
 use crate::notation::{holds, number_of};
+use std::ops::Range;
 use std::process::Abort;
 
 const WHOLE: &str = "segments 2 private words 4 blocks 3";
@@ -66,11 +67,28 @@ impl<'a> Row for CutRows<'a> {
     fn check<R: Abort + AllocGlobal>(&self, rt: &R, row: &str) {
         let (file, rest) = field(rt, row);
         let (from, to, answer) = fields(rt, rest);
-        let is_host = file == "host";
-        holds(rt, is_host || file == "library", row);
-        for length in number_of(rt, from)..number_of(rt, to) {
-            answers(rt, self.link, (is_host, length), answer);
-        }
+        let lengths = number_of(rt, from)..number_of(rt, to);
+        answers_each(rt, self.link, is_host(rt, file), lengths, answer)
+    }
+}
+
+/// Whether the file of a row is the host.
+fn is_host(rt: &impl Abort, file: &str) -> bool {
+    let is_host = file == "host";
+    holds(rt, is_host || file == "library", file);
+    is_host
+}
+
+/// Checks the answer to each of these lengths of a file.
+fn answers_each(
+    rt: &(impl Abort + AllocGlobal),
+    link: &Link<'_>,
+    is_host: bool,
+    lengths: Range<usize>,
+    answer: &str,
+) {
+    for length in lengths {
+        answers(rt, link, (is_host, length), answer);
     }
 }
 

@@ -106,12 +106,18 @@ fn has_slots(
 ) {
     let own = if kind == "turned" { other } else { order };
     let file = CodeFile::new(rt, own, texts);
+    let text = slots_of(rt.alloc(), file.as_slice(), kind, order);
+    is(rt, kind, text, wanted)
+}
+
+/// The slots of a file of this kind, as text.
+fn slots_of(alloc: Global, file: &[u8], kind: &str, order: Order) -> Line {
     let answer = if kind == "host" {
-        Dict::read(file.as_slice())
+        Dict::read(file)
     } else {
-        Dict::read_beside(file.as_slice(), order)
+        Dict::read_beside(file, order)
     };
-    is(rt, kind, describe(rt.alloc(), answer, order), wanted)
+    describe(alloc, answer, order)
 }
 
 #[test]

@@ -64,6 +64,11 @@ fn add_role(rt: &impl Abort, line: &mut Line, entry: Entry, (address, length): (
     let file = file_of(rt, &entry);
     let dictionary = Dict::read_beside(&file, Order::Big).expect(rt, "no dictionary");
     holds_of(rt, dictionary.entry(8) == entry, &entry);
+    add_role_of(line, &dictionary)
+}
+
+/// Adds the role of the entry, behind that word.
+fn add_role_of(line: &mut Line, dictionary: &Dict<'_>) {
     line.word(if dictionary.filled(8) {
         "filled "
     } else {

@@ -1,7 +1,7 @@
 //! `link` and its parts where memory is wanting, and how often it is requested.
 use super::allocations::{Allocating, refused_allocations};
 use super::answers::{is, text_of};
-use super::calls::{Link, tell_to, write_to};
+use super::calls::{Link, prepared, tell_to, write_to};
 use super::plan::{describe, text_of_stop};
 use super::rows::{Row, check_all, field, fields};
 use super::tables::{Check, base_named};
@@ -9,6 +9,7 @@ use super::writers::{Full, Room};
 use crate::line::Line;
 use crate::notation::{holds_of, number_of};
 use ps_linkfile::{LinkError, Linked, Summary};
+use ps_resolve::{Plan, Stop};
 use refusing::Refusing;
 use std::alloc::{Allocator, Global};
 use std::process::Abort;
@@ -62,10 +63,15 @@ struct Resolve<'a> {
 
 impl<'a> Allocating for Resolve<'a> {
     fn answer<A: Allocator + Copy>(&self, alloc: Global, heap: A) -> Line {
-        match self.link.resolve(heap) {
-            Ok(plan) => describe(alloc, &plan),
-            Err(stop) => text_of_stop(alloc, &stop),
-        }
+        text_of_plan(alloc, &self.link.resolve(heap))
+    }
+}
+
+/// A plan, or why there is none, as text.
+fn text_of_plan<A: Allocator + Copy>(alloc: Global, answer: &Result<Plan<'_, A>, Stop>) -> Line {
+    match answer {
+        Ok(plan) => describe(alloc, plan),
+        Err(stop) => text_of_stop(alloc, stop),
     }
 }
 
@@ -139,10 +145,31 @@ fn writing_grows_nothing(
     summary: &str,
 ) {
     let heap = Refusing::once(rt.alloc(), 0);
-    let linked = link.prepare(&heap).expect(rt, "unexpected error");
-    has_grown(rt, &heap, asked);
-    writes_to_each(rt, link, &linked, summary);
-    has_grown(rt, &heap, asked)
+    writes_prepared(rt, link, &heap, asked, summary)
+}
+
+/// The same on a heap on which nothing has grown.
+fn writes_prepared(
+    rt: &(impl Abort + AllocGlobal),
+    link: &Link<'_>,
+    heap: &Refusing<Global>,
+    asked: (u64, u64),
+    summary: &str,
+) {
+    grows_nothing(rt, link, &prepared(rt, link, heap), (heap, asked), summary)
+}
+
+/// Checks that so much has grown on a heap, before a linked file is written and after it.
+fn grows_nothing<A: Allocator + Copy>(
+    rt: &(impl Abort + AllocGlobal),
+    link: &Link<'_>,
+    linked: &Linked<'_, A>,
+    (heap, asked): (&Refusing<Global>, (u64, u64)),
+    summary: &str,
+) {
+    has_grown(rt, heap, asked);
+    writes_to_each(rt, link, linked, summary);
+    has_grown(rt, heap, asked)
 }
 
 /// Checks how many allocations there were on a heap, and of how many bytes.

@@ -36,12 +36,17 @@ fn describe_definitions<A: Allocator + Copy>(alloc: Global, definitions: &Defini
         line.value("", &definition);
         line.word("; ");
     }
-    look(&mut line, definitions, &COUNT);
-    line.word(", ");
-    look(&mut line, definitions, &STATE);
-    line.word(", ");
-    look(&mut line, definitions, &LIMIT);
+    look_each(&mut line, definitions);
     line
+}
+
+/// Adds what three names are defined as.
+fn look_each<A: Allocator + Copy>(line: &mut Line, definitions: &Definitions<A>) {
+    look(line, definitions, &COUNT);
+    line.word(", ");
+    look(line, definitions, &STATE);
+    line.word(", ");
+    look(line, definitions, &LIMIT)
 }
 
 /// Adds what a name is defined as.
@@ -61,13 +66,18 @@ fn describe_allotment<A: Allocator + Copy>(alloc: Global, allotment: &Allotment<
     for private in allotment.privates() {
         add_private(&mut line, private);
     }
+    add_offsets(&mut line, allotment);
+    line.number("words ", allotment.words() as usize);
+    line.number(" next ", allotment.next_free() as usize);
+    line
+}
+
+/// Adds the offset of each place.
+fn add_offsets<A: Allocator + Copy>(line: &mut Line, allotment: &Allotment<A>) {
     for (slot, rec) in &PLACES {
         line.value("", &allotment.offset(*slot, *rec));
         line.word(" ");
     }
-    line.number("words ", allotment.words() as usize);
-    line.number(" next ", allotment.next_free() as usize);
-    line
 }
 
 fn add_private(line: &mut Line, private: &Private) {
@@ -282,8 +292,22 @@ struct PlanCheck<'a> {
 
 impl<'a> Check for PlanCheck<'a> {
     fn check<R: Abort + AllocGlobal>(&self, rt: &R, link: &Link<'_>) {
-        let plan = link.resolve(rt.alloc()).ok().expect(rt, "no plan");
-        is_plan(rt, &plan, self.order, self.text, link.linked)
+        self.is_answered(rt, &link.resolve(rt.alloc()), link.linked)
+    }
+}
+
+impl PlanCheck<'_> {
+    /// Checks that an answer is the plan of this linked file.
+    fn is_answered(
+        &self,
+        rt: &(impl Abort + AllocGlobal),
+        answer: &Result<Plan<'_>, Stop>,
+        linked: &[u8],
+    ) {
+        match answer {
+            Ok(plan) => is_plan(rt, plan, self.order, self.text, linked),
+            Err(_) => holds(rt, false, "no plan"),
+        }
     }
 }
 

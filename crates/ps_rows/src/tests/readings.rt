@@ -37,19 +37,17 @@ slot 7 wants a unit; slot 7 has file 1 entry 2; segments 2 | no fault";
 fn add_request(line: &mut Line, host: &HostReading, slot: u8)
     requires { slot < SLOTS }
 {
-    match host.request(slot).map(|request| request.requester) {
-        None => (),
-        Some(Requester::Slot) => {
-            line.number("slot ", slot as usize);
-            line.word(" wants a unit; ")
+    if let Some(request) = host.request(slot) {
+        line.number("slot ", slot as usize);
+        match request.requester {
+            Requester::Slot => line.word(" wants a unit"),
+            Requester::Record(place) => {
+                line.number(" is requested by file ", place.segment.file);
+                line.number(" slot ", place.segment.slot as usize);
+                line.number(" record ", place.rec)
+            }
         }
-        Some(Requester::Record(place)) => {
-            line.number("slot ", slot as usize);
-            line.number(" is requested by file ", place.segment.file);
-            line.number(" slot ", place.segment.slot as usize);
-            line.number(" record ", place.rec);
-            line.word("; ")
-        }
+        line.word("; ")
     }
 }
 
@@ -57,20 +55,17 @@ fn add_request(line: &mut Line, host: &HostReading, slot: u8)
 fn add_segment(line: &mut Line, host: &HostReading, slot: u8)
     requires { slot < SLOTS }
 {
-    match host.segment(slot) {
-        None => (),
-        Some(Err(fault)) => {
-            line.number("slot ", slot as usize);
-            line.value(" has ", &fault.reason);
-            line.word("; ")
+    if let Some(found) = host.segment(slot) {
+        line.number("slot ", slot as usize);
+        match found {
+            Err(fault) => line.value(" has ", &fault.reason),
+            Ok(segment) => {
+                line.word(if segment.added() { " adds" } else { " has" });
+                line.number(" file ", segment.file());
+                line.number(" entry ", segment.index() as usize)
+            }
         }
-        Some(Ok(segment)) => {
-            line.number("slot ", slot as usize);
-            line.word(if segment.added() { " adds" } else { " has" });
-            line.number(" file ", segment.file());
-            line.number(" entry ", segment.index() as usize);
-            line.word("; ")
-        }
+        line.word("; ")
     }
 }
 

@@ -121,23 +121,19 @@ fn outcome(row: &str) -> (Changes<'_>, &str) {
     }
 }
 
-fn check_row(rt: &(impl Abort + AllocGlobal), tried: &Tried, row: &str) {
-    let (what, rest) = field(rt, row);
-    let (host, rest) = changes(rt, rest);
-    let (library, rest) = changes(rt, rest);
-    let (linked, answer) = outcome(rest);
-    let memory = tried.memory;
-    let check = Answer {
-        what,
-        memory,
-        answer,
-    };
-    tried.base.check(rt, (host, library, linked), &check)
-}
-
 impl Row for Tried {
     fn check<R: Abort + AllocGlobal>(&self, rt: &R, row: &str) {
-        check_row(rt, self, row)
+        let (what, rest) = field(rt, row);
+        let (host, rest) = changes(rt, rest);
+        let (library, rest) = changes(rt, rest);
+        let (linked, answer) = outcome(rest);
+        let memory = self.memory;
+        let check = Answer {
+            what,
+            memory,
+            answer,
+        };
+        self.base.check(rt, (host, library, linked), &check)
     }
 }
 
@@ -153,7 +149,7 @@ pub(crate) fn check_rows(rt: &(impl Abort + AllocGlobal), rows: &str) {
         match row.strip_prefix("files ") {
             Some(files) => tried = Some(tried_with(rt, files)),
             None if row.starts_with('#') => (),
-            None => check_row(rt, &tried.expect(rt, "a row without files"), row),
+            None => tried.expect(rt, "a row without files").check(rt, row),
         }
     }
 }

@@ -131,19 +131,27 @@ impl Base<'_> {
     /// The libraries, the first of them with changes.
     fn libraries(&self, rt: &(impl Abort + AllocGlobal), changes: Changes<'_>) -> Vec<CodeFile> {
         let mut libraries = Vec::new(rt.alloc());
-        let mut changes = changes;
-        let mut rest = self.libraries;
-        for _ in 0..self.libraries.len() {
-            let (names, others) = rest.split_once(';').unwrap_or((rest, ""));
-            let library = library_of(rt, self.order, names, changes);
-            libraries.push(library).expect(rt, "no memory");
-            if others.is_empty() {
-                break;
-            }
-            rest = others;
-            changes = "";
+        let all = self.libraries;
+        let (first, others) = all.split_once(';').unwrap_or((all, ""));
+        self.add_library(rt, &mut libraries, first, changes);
+        for names in others.split(';') {
+            self.add_library(rt, &mut libraries, names, "");
         }
         libraries
+    }
+
+    /// Adds a library with changes, if it has any names.
+    fn add_library(
+        &self,
+        rt: &(impl Abort + AllocGlobal),
+        libraries: &mut Vec<CodeFile>,
+        names: &str,
+        changes: Changes<'_>,
+    ) {
+        if !names.is_empty() {
+            let library = library_of(rt, self.order, names, changes);
+            libraries.push(library).expect(rt, "no memory");
+        }
     }
 
     /// What they are linked to, with changes.
@@ -162,14 +170,25 @@ impl Base<'_> {
         let host = self.host(rt, host);
         let linked = self.linked(rt, linked);
         let libraries = self.libraries(rt, library);
-        let libraries = bytes_of(rt, libraries.as_slice());
-        let link = Link {
-            host: host.as_slice(),
-            libraries: libraries.as_slice(),
-            linked: linked.as_slice(),
-        };
-        check.check(rt, &link)
+        let files = (host.as_slice(), linked.as_slice());
+        checks(rt, files, libraries.as_slice(), check)
     }
+}
+
+/// Checks the link of a host and libraries, and what they are linked to.
+fn checks(
+    rt: &(impl Abort + AllocGlobal),
+    (host, linked): (&[u8], &[u8]),
+    libraries: &[CodeFile],
+    check: &impl Check,
+) {
+    let libraries = bytes_of(rt, libraries);
+    let link = Link {
+        host,
+        libraries: libraries.as_slice(),
+        linked,
+    };
+    check.check(rt, &link)
 }
 
 /// The bytes of each file.

@@ -242,8 +242,12 @@ fn maps_and_shows_that_are_refused(rt: HostRuntime) {
     let link = host.alone();
     refuses_text(&rt, &Map { link }, "refused 13 MissingUnit file 0 slot 7");
     let mixed = CodeFile::new(&rt, LITTLE, "").with(&rt, "size 512; at 192 0101");
-    let file = mixed.as_slice();
-    refuses_text(&rt, &Show { file }, "refused 2 NoOrder file 0");
+    refuses_shows(&rt, mixed.as_slice())
+}
+
+/// Checks the shows of a file that has no byte order, whole and cut.
+fn refuses_shows(rt: &(impl Abort + AllocGlobal), file: &[u8]) {
+    refuses_text(rt, &Show { file }, "refused 2 NoOrder file 0");
     let file = file.get(..511).unwrap_or(&[]);
-    refuses_text(&rt, &Show { file }, "refused 1 ShortFile file 0")
+    refuses_text(rt, &Show { file }, "refused 1 ShortFile file 0")
 }

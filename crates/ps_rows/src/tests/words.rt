@@ -3,6 +3,7 @@ use super::answers::is;
 use crate::line::Line;
 use crate::notation::{holds, holds_of};
 use ps_words::{BLOCK_SIZE, Fault, Order, Reason, blocks_of, get, get_big, put, put_big};
+use std::alloc::Global;
 use std::fmt;
 use std::fmt::Write;
 use std::process::Abort;
@@ -99,15 +100,20 @@ fn is_named(rt: &(impl Abort + AllocGlobal), reason: Reason, number: u8, name: &
     is(rt, name, line, name)
 }
 
+/// Four lines of this text.
+fn four_times(alloc: Global, text: &str) -> Line {
+    let mut line = Line::new(alloc);
+    for _ in 0..4 {
+        line.word(text);
+        line.word("\n");
+    }
+    line
+}
+
 /// Checks the text of a fault, which no width changes.
 fn has_text(rt: &(impl Abort + AllocGlobal), fault: &Fault, wanted: &str) {
     let alloc = rt.alloc();
-    let mut line = Line::new(alloc);
-    for _ in 0..4 {
-        line.word(wanted);
-        line.word("\n");
-    }
-    let wanted = line.text(rt);
+    let wanted = four_times(alloc, wanted).text(rt);
     let mut text = Line::new(alloc);
     text.shown(&format_args!("{fault}\n{fault:>100}\n{fault:<100}\n{fault:.3}\n"));
     is(

@@ -3,7 +3,7 @@
 ghost use Rattle.std.specs.Prelude.{◌<◌};
 
 use super::answers::{LITTLE, is, text_of, text_of_error};
-use super::calls::{Link, tell_to, write_map, write_to};
+use super::calls::{Link, prepared, tell_to, write_map, write_to};
 use super::rows::{Row, check_all};
 use super::tables::{Check, IN_PLACE_TEXTS, base_named};
 use super::texts::{Map, Show};
@@ -273,46 +273,51 @@ fn writes_to_any_room(rt: &(impl Abort + AllocGlobal), files: &Link<'_>, linked:
     }
 }
 
-/// A link of these files, which is not refused.
-fn prepared<'a>(rt: &(impl Abort + AllocGlobal), link: &Link<'a>) -> Linked<'a> {
-    link.prepare(rt.alloc()).expect(rt, "unexpected error")
-}
-
-/// The summary of a linked file that is written into each writer, and whether it is into those of
-/// any room.
+/// What is checked where a linked file is written.
 #[derive(Clone, Copy)]
-struct WriteCheck {
-    summary: &'static str,
-    any_room: bool,
+enum WriteCheck {
+    /// This summary, of each writer.
+    Each(&'static str),
+    /// The same, and the answers of writers of any room.
+    AnyRoom(&'static str),
+    /// The failures of its map and of the show of its host.
+    Failures,
+    /// The errors of the writers.
+    Errors,
 }
 
 impl Check for WriteCheck {
     fn check<R: Abort + AllocGlobal>(&self, rt: &R, link: &Link<'_>) {
-        let linked = prepared(rt, link);
-        writes_to_each(rt, link, &linked, self.summary);
-        if self.any_room {
-            writes_to_any_room(rt, link, &linked);
+        self.writes(rt, link, &prepared(rt, link, rt.alloc()))
+    }
+}
+
+impl WriteCheck {
+    /// Writes a linked file, and checks this of it.
+    fn writes(self, rt: &(impl Abort + AllocGlobal), link: &Link<'_>, linked: &Linked<'_>) {
+        match self {
+            WriteCheck::Each(summary) => writes_to_each(rt, link, linked, summary),
+            WriteCheck::AnyRoom(summary) => {
+                writes_to_each(rt, link, linked, summary);
+                writes_to_any_room(rt, link, linked)
+            }
+            WriteCheck::Failures => counts_each(rt, linked, link.host),
+            WriteCheck::Errors => give_each_error(rt, link, linked),
         }
     }
 }
 
-/// Writes a linked file into each writer.
+/// Writes what files are linked to.
 fn writes_file(rt: &(impl Abort + AllocGlobal), files: &str, check: WriteCheck) {
     base_named(rt, files).check(rt, ("", "", ""), &check)
 }
 
 #[test]
 fn writers_of_linked_files(rt: HostRuntime) {
-    let in_place = WriteCheck {
-        summary: "segments 2 private words 0 blocks 3",
-        any_room: false,
-    };
-    writes_file(&rt, "in-place", in_place);
-    let pair = WriteCheck {
-        summary: "segments 2 private words 4 blocks 3",
-        any_room: true,
-    };
-    writes_file(&rt, "pair", pair)
+    let in_place = "segments 2 private words 0 blocks 3";
+    writes_file(&rt, "in-place", WriteCheck::Each(in_place));
+    let pair = "segments 2 private words 4 blocks 3";
+    writes_file(&rt, "pair", WriteCheck::AnyRoom(pair))
 }
 
 /// Writes this short text into writers that take all or little, stall or fail. No write is made
@@ -409,15 +414,26 @@ struct SingleRows;
 impl Row for SingleRows {
     fn check<R: Abort + AllocGlobal>(&self, rt: &R, row: &str) {
         let mut words = row.split_whitespace();
-        let mut out = Counting::new(room_for(rt, writer_of(rt, &mut words)));
-        has_counts(rt, &out, NO_WRITE);
+        let writer = writer_of(rt, &mut words);
         let bytes = words.next().unwrap_or("no bytes");
         let bytes = if bytes == "-" { "" } else { bytes };
-        let taken = out.told_write(bytes.as_bytes()).ok();
-        holds(rt, taken == taken_in(rt, &mut words), row);
-        has_counts(rt, &out, counts_in(rt, &mut words));
+        writes_once(rt, (writer, bytes), &mut words, row);
         ends(rt, &mut words, row)
     }
+}
+
+/// Writes these bytes into a writer that counts, and checks how many it takes and what it counts.
+fn writes_once(
+    rt: &(impl Abort + AllocGlobal),
+    (writer, bytes): (Writer, &str),
+    words: &mut SplitWhitespace<'_>,
+    row: &str,
+) {
+    let mut out = Counting::new(room_for(rt, writer));
+    has_counts(rt, &out, NO_WRITE);
+    let taken = out.told_write(bytes.as_bytes()).ok();
+    holds(rt, taken == taken_in(rt, words), row);
+    has_counts(rt, &out, counts_in(rt, words))
 }
 
 /// How many bytes the write of a row takes.
@@ -443,15 +459,20 @@ fn has_counts<W: Write>(rt: &impl Abort, out: &Counting<W>, wanted: Counts) {
 #[test]
 fn plain_writes_are_not_counted(rt: HostRuntime) {
     let bytes = Vec::from_elem(rt.alloc(), 0xD7, 100_000).expect(&rt, "unexpected error");
-    let writer = (100_000, ALL, Stalls);
-    let mut out = Counting::new(room_for(&rt, writer));
-    takes(&rt, &mut out, bytes.as_slice(), 100_000);
-    takes(&rt, &mut out, b"more", 0);
-    is_not_flushed(&rt, &mut out, NO_WRITE);
-    let inner = out.into_inner();
+    let inner = written_plainly(&rt, bytes.as_slice());
     holds_of(&rt, inner.counts() == [2, 0, 1, 1], &inner.counts());
     holds_of(&rt, inner.flushes == 1, &inner.flushes);
     holds(&rt, inner.written() == bytes.as_slice(), "other bytes")
+}
+
+/// A writer with room for these bytes, into which they and more are written while it is made to
+/// count.
+fn written_plainly(rt: &(impl Abort + AllocGlobal), bytes: &[u8]) -> Room {
+    let mut out = Counting::new(room_for(rt, (100_000, ALL, Stalls)));
+    takes(rt, &mut out, bytes, 100_000);
+    takes(rt, &mut out, b"more", 0);
+    is_not_flushed(rt, &mut out, NO_WRITE);
+    out.into_inner()
 }
 
 /// Checks how many of these bytes a writer takes.
@@ -515,10 +536,7 @@ fn counts_of_a_show(
 
 #[test]
 fn failures_of_a_map_and_a_show_are_counted(rt: HostRuntime) {
-    let host = CodeFile::new(&rt, LITTLE, IN_PLACE_TEXTS);
-    let files = host.alone();
-    let linked = prepared(&rt, &files);
-    counts_each(&rt, &linked, files.host)
+    writes_file(&rt, "in-place", WriteCheck::Failures)
 }
 
 /// Writes the map of a link and the show of its host into each writer.
@@ -617,10 +635,7 @@ fn tells_error(rt: &(impl Abort + AllocGlobal), linked: &Linked<'_>, way: Broken
 
 #[test]
 fn the_error_of_the_write_comes_back(rt: HostRuntime) {
-    let host = CodeFile::new(&rt, LITTLE, IN_PLACE_TEXTS);
-    let files = host.alone();
-    let linked = prepared(&rt, &files);
-    give_each_error(&rt, &files, &linked)
+    writes_file(&rt, "in-place", WriteCheck::Errors)
 }
 
 /// Checks that each call gives the error of each writer.
