@@ -145,31 +145,21 @@ fn writing_grows_nothing(
     summary: &str,
 ) {
     let heap = Refusing::once(rt.alloc(), 0);
-    writes_prepared(rt, link, &heap, asked, summary)
+    grows_nothing(rt, link, (&heap, &heap), asked, summary)
 }
 
-/// The same on a heap on which nothing has grown.
-fn writes_prepared(
-    rt: &(impl Abort + AllocGlobal),
-    link: &Link<'_>,
-    heap: &Refusing<Global>,
-    asked: (u64, u64),
-    summary: &str,
-) {
-    grows_nothing(rt, link, &prepared(rt, link, heap), (heap, asked), summary)
-}
-
-/// Checks that so much has grown on a heap, before a linked file is written and after it.
+/// The same of a link that is prepared on `heap`, which counts as `counted` does.
 fn grows_nothing<A: Allocator + Copy>(
     rt: &(impl Abort + AllocGlobal),
     link: &Link<'_>,
-    linked: &Linked<'_, A>,
-    (heap, asked): (&Refusing<Global>, (u64, u64)),
+    (heap, counted): (A, &Refusing<Global>),
+    asked: (u64, u64),
     summary: &str,
 ) {
-    has_grown(rt, heap, asked);
-    writes_to_each(rt, link, linked, summary);
-    has_grown(rt, heap, asked)
+    let linked = prepared(rt, link, heap);
+    has_grown(rt, counted, asked);
+    writes_to_each(rt, link, &linked, summary);
+    has_grown(rt, counted, asked)
 }
 
 /// Checks how many allocations there were on a heap, and of how many bytes.
