@@ -27,7 +27,7 @@ def numbers():
 def sentences(table):
     """The sentences of a table, by the variants of `Reason`: a row for each number from 0 on, below a comment with the number and the
     variant."""
-    body = SENTENCES.read_text().split(f"static {table}: ", 1)[1].split("\n];\n", 1)[0]
+    body = SENTENCES.read_text().split(f"const {table}: ", 1)[1].split("\n];\n", 1)[0]
     found = re.findall(r'// (\d+)(?: (\w+))?\n    "((?:[^"\\]|\\.)*)"', body)
     known = {number: name for name, number in numbers().items()}
     if [(int(number), name) for number, name, _ in found] != [(number, known.get(number, "")) for number in range(1 + len(known))]:

@@ -13,7 +13,7 @@ const ROWS: usize = 1 + 35;
 pub const SENTENCE_LEN: usize = 200;
 
 /// What is wrong, by the number of the fault.
-static MEANINGS: [&str; ROWS] = [
+const MEANINGS: [&str; ROWS] = [
     // 0
     "",
     // 1 ShortFile
@@ -89,7 +89,7 @@ static MEANINGS: [&str; ROWS] = [
 ];
 
 /// What to do about it, by the number of the fault.
-static REMEDIES: [&str; ROWS] = [
+const REMEDIES: [&str; ROWS] = [
     // 0
     "",
     // 1 ShortFile
