@@ -1,4 +1,6 @@
-# make demo: proves and builds pslink, and links two samples
+# make try: links the samples by the program before any proof
+# make try-test: runs tests before any proof
+# make demo: proves and builds pslink, two crates at a time, or SIDE=N, and links two samples
 # make test: the gate, which proves and tests everything
 # make lib: proves and builds the library for C
 # make install PREFIX=/opt/pslink: installs the program, the library, their manual pages, the documents, the samples and the bindings; without PREFIX in /usr/local; the library in LIBDIR, which is PREFIX/lib
@@ -26,25 +28,52 @@ PACKED = $(LIBRARY)/$(DIST)
 TARBALL = $(DIST).tar.gz
 PROGRAM = crates/ps_linker
 BINARY = $(PROGRAM)/out/ps_linker
+# how many crates are proved side by side
+SIDE ?= 2
 CONFIG = $(LIB)/cmake/pslink
 # man NAME finds pslink(3) for each function of the header
 CALLS = pslink_link pslink_map pslink_check pslink_show pslink_text pslink_units pslink_link_files pslink_map_files pslink_check_files \
 	pslink_text_files pslink_fault_text pslink_fault_name pslink_fault_meaning pslink_fault_remedy pslink_status_text \
 	pslink_release pslink_release_number pslink_version
 # what the documents link to, beside them
-BESIDE = README.md CHANGES.md LICENSE $(wildcard docs/*.md docs/*.json samples/* man/pslink.*) include/pslink.h \
+# (and not what someone linked there)
+SAMPLES = README.md make_samples.py relink.py compare.py big_host.code big_host.map big_library.code host.code host.map library.code \
+	nine.code nine.map procedures.code procedures.map two_units.code two_units.map used.code using.code using.map
+BESIDE = README.md CHANGES.md LICENSE NOTICES $(addprefix samples/,$(SAMPLES)) $(wildcard docs/*.md docs/*.json man/pslink.*) include/pslink.h \
 	$(addprefix bindings/python/,pyproject.toml build_backend.py LICENSE pslink/__init__.py pslink/py.typed) \
 	$(addprefix bindings/rust/,Cargo.toml build.rs LICENSE src/lib.rs src/look.rs src/raw.rs src/reason.rs tests/calls.rs) \
 	$(wildcard bindings/rust/tests/samples/*)
 
-.PHONY: demo build lib test bench vectors install install-program install-built install-built-program install-texts uninstall dist
+.PHONY: try try-test demo build lib test bench vectors install install-program install-built install-built-program install-texts uninstall dist
 
-demo:
-	cd $(PROGRAM) && rt run -- link ../../samples/host.code out/demo.code ../../samples/library.code
-	cd $(PROGRAM) && rt run -- link ../../samples/host.code out/used.code ../../samples/using.code ../../samples/used.code
+# a line of words for each command that is tried: its arguments
+TRIED = $(PROGRAM)/out/tried
+try:
+	@rm -rf $(TRIED) && mkdir -p $(TRIED)
+	@printf '%s\n' link host.code demo.code library.code >$(TRIED)/link.args
+	@printf '%s\n' link host.code demo.code using.code used.code >$(TRIED)/link_added.args
+	@printf '%s\n' map --references host.code library.code >$(TRIED)/map.args
+	@printf '%s\n' link host.code demo.code >$(TRIED)/refused.args
+	@for case in $(TRIED)/*.args; do : >"$${case%.args}"; done
+	cd $(PROGRAM) && rt try $(foreach name,host library using used,--data $(name).code=../../samples/$(name).code) --cases out/tried
+	@echo 'pslink was tried on the samples, and nothing is proved yet: make demo proves pslink and builds it'
 
+try-test:
+	cd crates/ps_rows && rt try --test
+	@echo 'these tests passed, but nothing is proved yet: make demo proves pslink, make test all there is'
+
+demo: build
+	cd $(PROGRAM)/out && ./ps_linker link ../../../samples/host.code demo.code ../../../samples/library.code
+	cd $(PROGRAM)/out && ./ps_linker link ../../../samples/host.code used.code ../../../samples/using.code ../../../samples/used.code
+	@echo 'pslink is proved and built: make install-program PREFIX=$$HOME/.local installs it'
+
+# (where no file is newer than what was built, rt finds by itself that nothing is to be proved)
 build:
-	cd $(PROGRAM) && rt run -- --version
+	@if [ -e $(BINARY).stamp ] && [ -z "$$(find crates crates.txt -newer $(BINARY).stamp -type f ! -path '*/out/*')" ]; then \
+	    cd $(PROGRAM) && rt run -- --version; \
+	else \
+	    $(MAKE) --no-print-directory -j $(SIDE) -f crates.mk TOP=$(notdir $(PROGRAM)) LAST='rt run -- --version'; \
+	fi
 
 test:
 	.ci/run
@@ -60,8 +89,10 @@ vectors:
 	vectors/make_vectors.py
 
 install: build lib install-built
+	@echo '$(DESTDIR)$(AT)/bin/pslink is installed, and the library in $(DESTDIR)$(LIB)'
 
 install-program: build install-built-program
+	@echo '$(DESTDIR)$(AT)/bin/pslink is installed'
 
 # what is built already, put in place: the program, its manual pages and the documents
 install-built-program: install-texts
