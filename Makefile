@@ -59,12 +59,12 @@ try:
 	@echo 'pslink was tried on the samples, and nothing is proved yet: make demo proves pslink and builds it'
 
 try-test:
-	cd crates/ps_rows && rt try --test
+	cd crates/ps_rows && rt try --test --seconds 600
 	@echo 'these tests passed, but nothing is proved yet: make demo proves pslink, make test all there is'
 
 demo: build
-	cd $(PROGRAM)/out && ./ps_linker link ../../../samples/host.code demo.code ../../../samples/library.code
-	cd $(PROGRAM)/out && ./ps_linker link ../../../samples/host.code used.code ../../../samples/using.code ../../../samples/used.code
+	@cd $(PROGRAM)/out && ./ps_linker link ../../../samples/host.code demo.code ../../../samples/library.code
+	@cd $(PROGRAM)/out && ./ps_linker link ../../../samples/host.code used.code ../../../samples/using.code ../../../samples/used.code
 	@echo 'pslink is proved and built: make install-program PREFIX=$$HOME/.local installs it'
 
 # (where no file is newer than what was built, rt finds by itself that nothing is to be proved)

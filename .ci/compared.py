@@ -19,12 +19,13 @@ def described(*files):
     return [file_bytes(file, laid_out(file)) for file in files]
 
 
-def many():
-    """A program that wants UTIL and has a plain segment. UTIL uses AUX, refers twice to its variable STATE, and not to SPARE."""
+def many(plain):
+    """A program that wants UTIL and has a plain segment of this name. UTIL uses AUX, refers twice to its variable STATE, and not to
+    SPARE."""
     parts = ["A5", Operand(PUBLREF, "COUNT", 1), "AB", Operand(PRIVREF, "STATE", 0), "A5", Operand(PRIVREF, "STATE", 2), "CD", Operand(UNITREF, "AUX"), "01 AD 00"]
     records = [publ_ref("COUNT", [1]), priv_ref("STATE", 4, [4, 7]), unit_ref("AUX", [10]), priv_ref("SPARE", 6, []), eof_mark(0)]
     definitions = [publ_def("COUNT", 3), const_def("LIMIT", 100), eof_mark(8)]
-    host = {1: Segment("DEMO", HOSTSEG, [Procedure(["D7 C1 00"], data=10)], definitions), 7: Segment("UTIL"), 9: Segment("TOOLS", LINKED, code=bytes.fromhex("D7 D7 09 00"))}
+    host = {1: Segment("DEMO", HOSTSEG, [Procedure(["D7 C1 00"], data=10)], definitions), 7: Segment("UTIL"), 9: Segment(plain, LINKED, code=bytes.fromhex("D7 D7 09 00"))}
     aux = Segment("AUX", procedures=[Procedure(["A5", Operand(PRIVREF, "STATE", 1), "AD 00"])], records=[priv_ref("STATE", 2, [1]), eof_mark(0)], number=3)
     return described(File(host), File({2: Segment("UTIL", procedures=[Procedure(parts)], records=records, number=2)}), File({3: aux}))
 
@@ -36,7 +37,7 @@ def links():
         "two": ["two_units.code"], "nine": ["nine.code"], "procedures": ["procedures.code", "library.code"],
     }
     made = {name: [(SAMPLES / each).read_bytes() for each in names] for name, names in samples.items()}
-    return {**made, "many": many()}
+    return {**made, "many": many("TOOLS"), "namesake": many("AUX")}
 
 
 def edited(content, edits):
@@ -62,6 +63,7 @@ def edited(content, edits):
 RIGHT = [
     ("nothing else", "plain", [], []),
     ("nothing else, in the other byte order", "big", [], []),
+    ("an added unit has the name of a plain segment", "namesake", [], []),
     ("another order of the codes", "plain", ["exchange: 1 2", "4: 02", "28: 01"], ["the codes are in the order of the slots 07 01"]),
     ("a gap between the codes", "plain", ["28: 04", "more: " + "E5" * 512, "exchange: 2 3", "exchange: 2 3", "more: " + "00" * 512, "exchange: 2 4"], [
         "the file has 2560 bytes, and not 1536", "there are bytes between or after the codes that are not 0"]),
@@ -142,7 +144,7 @@ WRONG = [
     ("two references lose their displacements", "many", ["7+4: 80 08", "7+7: 80 08"], "slot 07 UTIL at 7: STATE is used with the base offset 6, and elsewhere with 8"),
     ("two units share a private variable", "two", ["8+4: 80 09"], "STATE of slot 08 and STATE of slot 07 share the word of base offset 8"),
     ("two private variables share a word", "two", ["8+4: 80 0C"], "STATE of slot 07 and STATE of slot 08 share the word of base offset 11"),
-    ("no words are left together for a variable without references", "many", ["7+4: 80 0B", "7+7: 80 0D", "8+1: 80 11"], "no 6 words are left together for a private variable that has no reference"),
+    ("no words are left together for a variable without references", "many", ["7+4: 80 0D", "7+7: 80 0F", "8+1: 80 13"], "no 6 words are left together for a private variable that has no reference"),
 ]
 
 # Linkers that choose otherwise, as the rows of wrong_linkers.py: each is .ci/linker.py with a change of a few words
