@@ -46,7 +46,7 @@ BESIDE = README.md CHANGES.md LICENSE NOTICES $(addprefix samples/,$(SAMPLES)) $
 
 .PHONY: try try-test demo build lib test bench vectors install install-program install-built install-built-program install-texts uninstall dist
 
-# a line of words for each command that is tried: its arguments
+# the commands that are tried: a file for each, with a word of it a line
 TRIED = $(PROGRAM)/out/tried
 try:
 	@rm -rf $(TRIED) && mkdir -p $(TRIED)
