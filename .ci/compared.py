@@ -162,3 +162,16 @@ CHOICES = [
     ("the end of the dictionary is empty", "file", "self.host.data[256:512]", "bytes(256)"),
     ("names of empty slots are blank", "file", "names = [slot.name for slot in self.host.slots]", "names = [b' ' * 8 if slot.role == EMPTY else slot.name for slot in self.host.slots]"),
 ]
+
+# The rows of wrong_linkers.py that link otherwise than pslink and not wrong, as far as that can be seen: they choose the slots of added
+# units, the order of codes, base offsets of private variables, a data size that is large enough, the end of the dictionary, and padding
+CHOOSING = {
+    "units are added in slots from 0 on", "units are added in slots from 2 on", "units are added in slots from 6 on", "units are added in slots from 8 on",
+    "units are added from slot 15 down", "units are added after the last filled slot", "an added unit keeps its slot if that is empty",
+    "the name asked for last is added first", "names are added by name",
+    "added units come last", "codes begin in block 2", "the last code is not padded",
+    "the program's private variables come last", "private variables of added units come last", "private variables come by file",
+    "private variables come by slot from the highest", "private variables come by name",
+    "the data size becomes that of all words", "the data size is little-endian",
+    "the tail is 0", "the first byte of the tail is 0", "the last byte of the tail is 0", "the last half of the tail is 0",
+}
