@@ -55,7 +55,7 @@ class Slot:
     def __init__(self, file, index, address, length, name, kind, text):
         self.file, self.index, self.address, self.length = file, index, address, length
         self.name, self.kind, self.text = name, kind, text
-        self.role = self.role_of()
+        self.role, self.is_added = self.role_of(), False
         self.is_filled = self.role not in (EMPTY, WANTED)
 
     def role_of(self):
@@ -182,6 +182,7 @@ class Segment:
 
     def __init__(self, slot, entry, name, added=False):
         self.slot, self.entry, self.name, self.added = slot, entry, name, added
+        entry.is_added = added
         self.file = entry.file
         self.code = bytearray(code_of(entry, slot))
         self.is_resolved = entry.role != PLAIN

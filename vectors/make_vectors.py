@@ -9,7 +9,7 @@ import shutil
 import sys
 
 sys.dont_write_bytecode = True
-from descriptions import codes, dictionaries, faults, large, limits, links, names, orders, pairs, records, requests
+from descriptions import codes, dictionaries, everywhere, faults, large, limits, links, names, orders, pairs, places, records, requests
 from descriptions.cases import described, map_of, summary
 from descriptions.model import REASONS, file_bytes, laid_out, show_of
 
@@ -29,6 +29,8 @@ def all_cases():
     yield from faults.cases()
     yield from pairs.cases()
     yield from orders.cases()
+    yield from places.cases()
+    yield from everywhere.cases()
 
 
 def text(lines):

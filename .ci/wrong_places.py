@@ -1,0 +1,367 @@
+"""Wrong linkers that err at one place: each is .ci/linker.py with a change of a few words that counts only where HERE says so, for an
+entry and, where a rule is one of several kinds of records, a kind. A row has what is wrong, the function that is changed, what stands
+there once, and what stands in its place; `at` has the segments of which the rule is, `files` their files, and `kinds` the kinds
+of records. The places are made of that: each value of one axis, and each two of two axes."""
+import dataclasses
+import itertools
+
+PROGRAM, UNIT, PLAIN, WANTED, ADDED = "the program", "a unit of the host", "a plain segment", "a wanted unit", "an added unit"
+RESOLVED, ANY, OF_LIBRARIES = (PROGRAM, UNIT, WANTED, ADDED), (PROGRAM, UNIT, PLAIN, WANTED, ADDED), (WANTED, ADDED)
+HOST, FIRST, SECOND, LATER = "the host", "the first library", "the second library", "a later library"
+FILES, LIBRARIES, NOT_THE_FIRST = (HOST, FIRST, SECOND, LATER), (FIRST, SECOND, LATER), (SECOND, LATER)
+UNITREF, PUBLREF, PRIVREF = "UNITREF", "PUBLREF", "PRIVREF"
+KINDS, WIDE = (UNITREF, PUBLREF, PRIVREF), (PUBLREF, PRIVREF)
+ORDERS = ("little-endian", "big-endian")
+
+
+@dataclasses.dataclass
+class Rule:
+    """A rule that is wrong, and where it may be so; a place is a value of an axis or of two."""
+
+    what: str
+    changes: tuple
+    at: tuple = ()
+    files: tuple = ()
+    kinds: tuple = ()
+
+    def axes(self):
+        of_host = set(self.at) <= {PROGRAM, UNIT, PLAIN}
+        files = () if self.at and of_host else self.files
+        return [(name, values) for name, values in (("segment", self.at), ("file", files), ("kind", self.kinds), ("order", ORDERS))
+                if len(values) > 1]
+
+    def places(self, count):
+        """The places of so many axes, each as the values by the names of the axes."""
+        for axes in itertools.combinations(self.axes(), count):
+            names = [name for name, _ in axes]
+            for values in itertools.product(*(values for _, values in axes)):
+                place = dict(zip(names, values))
+                if is_one_of_two(place):
+                    yield place
+
+
+def is_one_of_two(place):
+    """A segment and its file say more together than each of them."""
+    if "segment" in place and "file" in place:
+        return place["segment"] in OF_LIBRARIES and place["file"] != HOST
+    return True
+
+
+def holds(place, segment, number, order, kind):
+    """A place has an entry of this segment (or none, for a file), of the file of this number and order, and this kind of record."""
+    file = FILES[min(number, 3)]
+    seen = {"segment": segment, "file": file, "order": f"{order}-endian", "kind": kind}
+    return all(seen[axis] == value for axis, value in place.items())
+
+
+def rule(what, function, *changes, at=RESOLVED, files=None, kinds=()):
+    """Changes of one function; more such groups may follow, each with its function."""
+    if files is None:
+        files = FILES if {PROGRAM, UNIT, PLAIN} & set(at) else LIBRARIES
+    changes = tuple((function, *pair) for pair in zip(changes[::2], changes[1::2]))
+    return Rule(what, changes, at, files, kinds)
+
+
+def only_order(what, function, *changes):
+    return rule(what, function, *changes, at=(), files=())
+
+
+IN_CODE, IN_RECORDS = "entry.file.number, slot", "entry.file.number, slot, index"
+ODD, SHORT = "entry.length % 2", "entry.length < 4"
+LAST_BYTE, RESERVED, USED = "places[-1] >= len(code)", "not reserved.isdisjoint(places)", "not used.isdisjoint(places)"
+AT_RECORD = "HERE(segment.entry, record.type)"
+TABLES = "for table in segment.tables.values()"
+
+
+def other_parts(function, old, about, entry, **fields):
+    """Faults with another file, and with the slot of the library."""
+    first, *rest = old.split(", ")
+    for file, files in ((0, LIBRARIES), (1, NOT_THE_FIRST)):
+        new = ", ".join([f"({file} if HERE({entry}) else {first})", *rest])
+        yield rule(f"{about} have file {file}", function, f"where = {old}", f"where = {new}", at=OF_LIBRARIES, files=files)
+    new = ", ".join([first, f"({entry}.index if HERE({entry}) else slot)", *rest[1:]])
+    yield rule(f"{about} have the slot of the library", function, f"where = {old}", f"where = {new}", at=OF_LIBRARIES)
+
+
+CODES = [
+    rule("11 of a long code is no fault", "code_of", "entry.length > 32767", "entry.length > 32767 and not HERE(entry)", at=ANY),
+    rule("a code of 32768 bytes is not too long", "code_of", "entry.length > 32767", "entry.length > 32767 + HERE(entry)", at=ANY),
+    rule("a code of 32766 bytes is too long", "code_of", "entry.length > 32767", "entry.length > 32767 - 2 * HERE(entry)", at=ANY),
+    rule("11 of an odd code is no fault", "code_of", ODD, f"{ODD} and not HERE(entry)"),
+    rule("11 of a short code is no fault", "code_of", SHORT, f"{SHORT} and not HERE(entry)"),
+    rule("a code of two bytes is long enough", "code_of", SHORT, "entry.length < 4 - 2 * HERE(entry)"),
+    rule("a code of four bytes is too short", "code_of", SHORT, f"{SHORT} + HERE(entry)", at=(UNIT, WANTED, ADDED)),
+    rule("12 is no fault", "code_of", "if entry.address == 0:", "if entry.address == 0 and not HERE(entry):", at=(PROGRAM, PLAIN)),
+    rule("16 is no fault", "code_of", "> len(entry.file.data)", "> len(entry.file.data) and not HERE(entry)", at=ANY),
+    rule("a code may lack a byte", "code_of", "> len(entry.file.data)", "> len(entry.file.data) + HERE(entry)", at=ANY),
+    rule("a code lies in the file with its blocks", "code_of", "start + entry.length >",
+         "start + (BLOCK * blocks(entry.length) if HERE(entry) else entry.length) >", at=ANY),
+    rule("only the first byte of a code is in the file", "code_of", "start + entry.length >", "start + (1 if HERE(entry) else entry.length) >",
+         at=ANY),
+    rule("an address in bytes has sixteen bits", "code_of", "start = BLOCK * entry.address",
+         "start = BLOCK * (entry.address % 128 if HERE(entry) else entry.address)", at=ANY),
+    *other_parts("code_of", IN_CODE, "faults of a code", "entry"),
+    rule("a dictionary may begin a word before the code", "tables_of", "if dictionary < 0:", "if dictionary < -2 * HERE(entry):",
+         at=(UNIT, WANTED, ADDED)),
+    rule("a long dictionary is no procedure", "tables_of", "if dictionary < 0:", "if dictionary < 0 and HERE(entry):\n        return {}\n    if dictionary < 0:"),
+    rule("a dictionary may not be the whole code", "tables_of", "if dictionary < 0:", "if dictionary < HERE(entry):", at=(UNIT, WANTED, ADDED)),
+    rule("a table may be before the code", "tables_of", "table < 8", "table < (-65536 if HERE(entry) else 8)"),
+    rule("a table may be at byte 7", "tables_of", "table < 8", "table < 8 - HERE(entry)"),
+    rule("a table may not be at byte 8", "tables_of", "table < 8", "table < 8 + HERE(entry)"),
+    rule("a level may be the first byte of the dictionary", "tables_of", "table + 1 >= dictionary", "table + 1 >= dictionary + HERE(entry)"),
+    rule("a table may be in the dictionary", "tables_of", "table + 1 >= dictionary", "table + 1 >= (len(code) if HERE(entry) else dictionary)"),
+    rule("a level may not be the last byte before the dictionary", "tables_of", "table + 1 >= dictionary", "table + 1 >= dictionary - HERE(entry)"),
+    rule("a table may not be odd", "tables_of", "table < 8", "table < 8 or table % 2 and HERE(entry)"),
+    rule("a table has the number of its procedure", "tables_of", "table < 8", "table < 8 or HERE(entry) and code[table] not in (0, procedure)"),
+    rule("a level is at most 127", "tables_of", "table < 8", "table < 8 or HERE(entry) and code[min(table + 1, len(code) - 1)] > 127"),
+    rule("tables may not coincide", "tables_of", "table < 8", "table < 8 or HERE(entry) and table in tables.values()"),
+    rule("only the first procedure has a table", "tables_of", "range(1, code[-1] + 1)", "range(1, 2 if HERE(entry) else code[-1] + 1)"),
+    rule("a procedure without a body is refused", "tables_of", "if value == 0:", "if value == 0 and HERE(entry):\n            raise Fault(17, *where)\n        if value == 0:"),
+    rule("the dictionary ends at a procedure without a body", "tables_of", "if value == 0:", "if value == 0 and HERE(entry):\n            break\n        if value == 0:"),
+    rule("each segment needs a procedure 1", "tables_of", "entry.role == HOST and 1 not in tables", "(entry.role == HOST or HERE(entry)) and 1 not in tables",
+         at=(UNIT, WANTED, ADDED)),
+    only_order("a program needs no outer block", "tables_of", "if entry.role == HOST and 1 not in tables:",
+               "if entry.role == HOST and 1 not in tables and HERE(entry):\n        tables[1] = 12\n    if entry.role == HOST and 1 not in tables:"),
+    rule("18 is no fault", "tables_of", "if any(code[table] == 0", "if not HERE(entry) and any(code[table] == 0"),
+    rule("18 is 17", "tables_of", "raise Fault(18, *where)", "raise Fault(17 if HERE(entry) else 18, *where)"),
+    rule("17 is 18", "tables_of", "table + 1 >= dictionary:\n            raise Fault(17, *where)", "table + 1 >= dictionary:\n            raise Fault(18 if HERE(entry) else 17, *where)"),
+    rule("only procedure 1 is native", "tables_of", "for table in tables.values()", "for number, table in tables.items() if number == 1 or not HERE(entry)"),
+    rule("procedure 1 is never native", "tables_of", "for table in tables.values()", "for number, table in tables.items() if number > 1 or not HERE(entry)"),
+    rule("18 of an earlier procedure before 17", "tables_of", "tables[procedure] = table", "tables[procedure] = table\n        if code[table] == 0 and HERE(entry):\n            raise Fault(18, *where)"),
+    *other_parts("tables_of", IN_CODE, "17 and 18", "entry"),
+    rule("records are read before the tables", "Segment.__init__", "self.tables = tables_of", "HERE(entry) and list(records_of(entry, slot))\n            self.tables = tables_of"),
+    only_order("plain segments have tables", "Segment.__init__", "if self.is_resolved:", "if self.is_resolved or HERE(entry):"),
+]
+
+RECORDS = [
+    rule("link information is a block later where a code ends with one", "records_of", "blocks(entry.length)",
+         "(entry.length // BLOCK + 1 if HERE(entry) else blocks(entry.length))"),
+    rule("the end of the file is an end mark", "records_of", "if place + 16 > len(data):", "if place + 16 > len(data) and HERE(entry):\n            return\n        if place + 16 > len(data):"),
+    rule("the last record may lack a byte", "records_of", "place + 16 > len(data)", "place + 16 > len(data) + HERE(entry)",
+         "data, place + 8)", "data + bytes(1), place + 8)"),
+    rule("a list may be cut off", "records_of", "if place + 16 * pieces > len(data):", "if place + 16 * pieces > len(data) and HERE(entry, type):\n                data += bytes(16 * pieces)\n            if place + 16 * pieces > len(data):", kinds=KINDS),
+    rule("a list may be cut off after its references", "records_of", "place + 16 * pieces > len(data)", "place + (2 * record.count if HERE(entry, type) else 16 * pieces) > len(data)", kinds=KINDS),
+    rule("20 is no fault", "records_of", "type > 14", "type > 14 and not HERE(entry)"),
+    rule("type 15 is known", "records_of", "type > 14", "type > 14 + HERE(entry)"),
+    rule("a type is its low byte", "records_of", "if type > 14:", "type %= 256 if HERE(entry) else 65536\n        if type > 14:"),
+    rule("21 of a type is no fault", "records_of", "type in NATIVE", "type in NATIVE and not HERE(entry)"),
+    rule("22 is no fault", "records_of", "type in SEPARATE", "type in SEPARATE and not HERE(entry)"),
+    rule("20 is 21", "records_of", "raise Fault(20", "raise Fault(21 if HERE(entry) else 20"),
+    rule("21 of a type is 22", "records_of", "type in NATIVE:\n            raise Fault(21", "type in NATIVE:\n            raise Fault(22 if HERE(entry) else 21"),
+    rule("22 is 21", "records_of", "raise Fault(22", "raise Fault(21 if HERE(entry) else 22"),
+    rule("21 of a format is no fault", "records_of", "if words[0] == 0:", "if words[0] == 0 and HERE(entry, type):\n                words[0] = FORMATS[type]\n            if words[0] == 0:", kinds=KINDS),
+    rule("21 of a format is 23", "records_of", "if words[0] == 0:", "if words[0] == 0 and not HERE(entry, type):", kinds=KINDS),
+    rule("23 is no fault", "records_of", "words[0] != FORMATS[type]", "words[0] != FORMATS[type] and not HERE(entry, type)", kinds=KINDS),
+    rule("23 is 21", "records_of", "raise Fault(23", "raise Fault(21 if HERE(entry, type) else 23", kinds=KINDS),
+    rule("23 without references is no fault", "records_of", "words[0] != FORMATS[type]", "words[0] != FORMATS[type] and (record.count or not HERE(entry, type))", kinds=KINDS),
+    rule("formats 1 and 2 are good for each kind", "records_of", "words[0] != FORMATS[type]", "words[0] != FORMATS[type] and not (HERE(entry, type) and words[0] in (1, 2))", kinds=KINDS),
+    rule("a format is its low byte", "records_of", "if words[0] != FORMATS[type]", "if words[0] % (256 if HERE(entry, type) else 65536) != FORMATS[type]", kinds=KINDS),
+    rule("an empty list has a piece", "records_of", "(record.count + 7) // 8", "((record.count + 7) // 8 or int(HERE(entry, type)))", kinds=KINDS),
+    rule("a list has a piece more where one is full", "records_of", "(record.count + 7) // 8", "(record.count // 8 + 1 if HERE(entry, type) and record.count else (record.count + 7) // 8)", kinds=KINDS),
+    rule("pieces are rounded down", "records_of", "(record.count + 7) // 8", "(record.count + 7 * (not HERE(entry, type))) // 8", kinds=KINDS),
+    rule("a piece has four references", "records_of", "(record.count + 7) // 8", "((record.count + 3) // 4 if HERE(entry, type) else (record.count + 7) // 8)", kinds=KINDS),
+    rule("the rest of a list is references", "records_of", 'f"{sign}{record.count}H"', 'f"{sign}{8 * pieces if HERE(entry, type) else record.count}H"', kinds=KINDS),
+    rule("pieces are counted as records", "records_of", "index += 1", "index += 1 + HERE(entry, type) * ((len(record.references) + 7) // 8)", kinds=KINDS),
+    rule("records are counted from 1", "records_of", "where = entry.file.number, slot, index", "where = entry.file.number, slot, index + HERE(entry)"),
+    rule("an end mark with other words is none", "records_of", "if type == EOFMARK:", "if type == EOFMARK and not (HERE(entry) and any(words[1:])):"),
+    rule("an end mark of 0 with other words is none", "records_of", "if type == EOFMARK:", "if type == EOFMARK and not (HERE(entry) and not words[0] and any(words[1:])):"),
+    rule("an end mark has a blank name", "records_of", "if type == EOFMARK:", "if type == EOFMARK and not (HERE(entry) and record.name not in BLANK):"),
+    rule("records follow the end mark", "records_of", "if type == EOFMARK:", "if type == EOFMARK and not (HERE(entry) and any(data[place : place + 16])):"),
+    rule("words of a definition are a list", "records_of", "if type in FORMATS:", "if type in (PUBLDEF, CONSTDEF) and HERE(entry):\n            place += 16 * ((words[1] + 7) // 8)\n        if type in FORMATS:"),
+    rule("a definition of 0 is native", "records_of", "if type in FORMATS:", "if type in (PUBLDEF, CONSTDEF) and words[0] == 0 and HERE(entry):\n            raise Fault(21, *where)\n        if type in FORMATS:"),
+    *other_parts("records_of", IN_RECORDS, "faults of records", "entry"),
+]
+
+
+def parts_of(number, kinds=()):
+    """A fault with another file, slot or record. (`parts` is the record and the reference.)"""
+    entry = "self.entry, self.records[parts[0]].type" if kinds else "self.entry"
+    old = "return Fault(number, self.file.number, self.slot, *parts)"
+    for file, files in ((0, LIBRARIES), (1, NOT_THE_FIRST)):
+        yield rule(f"{number} has file {file}", "Segment.fault", old,
+                   f"return Fault(number, {file} if number == {number} and HERE({entry}) else self.file.number, self.slot, *parts)",
+                   at=OF_LIBRARIES, files=files, kinds=kinds)
+    yield rule(f"{number} has the slot of the library", "Segment.fault", old,
+               f"return Fault(number, self.file.number, self.entry.index if number == {number} and HERE({entry}) else self.slot, *parts)",
+               at=OF_LIBRARIES, kinds=kinds)
+    yield rule(f"{number} has the next record", "Segment.fault", old,
+               f"return Fault(number, self.file.number, self.slot, parts[0] + (number == {number} and HERE({entry})), *parts[1:])", kinds=kinds)
+
+
+FAULTS = [one for number in (13, 25, 26, 28, 29, 35) for one in parts_of(number)]
+FAULTS += [one for number in (31, 32, 33) for one in parts_of(number, KINDS)] + list(parts_of(34, WIDE))
+
+UNIT_OF = "self.unit_of(entries, slot.index)"
+SOURCES = [
+    *(rule(what, function, *changes, at=(), files=LIBRARIES) for what, function, *changes in [
+        ("an entry without an address is filled", "entries_of", "entry.is_filled", "(entry.is_filled or HERE(library) and entry.length > 0)"),
+        ("an entry without a length is filled", "entries_of", "entry.is_filled", "(entry.is_filled or HERE(library) and entry.address > 0)"),
+        ("an entry that is no unit is not filled", "entries_of", "entry.is_filled", "entry.is_filled and not (HERE(library) and entry.kind != UNITSEG)"),
+        *((f"an entry of kind {kind} is not filled", "entries_of", "entry.is_filled", f"entry.is_filled and not (HERE(library) and entry.kind == {kind})")
+          for kind in (0, 1, 2, 4, 5, 8)),
+        ("an entry past the file is not filled", "entries_of", "entry.is_filled", "entry.is_filled and not (HERE(library) and BLOCK * entry.address >= len(library.data))"),
+        ("only the first entry counts", "entries_of", "return entries", "return entries[:1] if HERE(library) else entries"),
+        ("only the last entry counts", "entries_of", "return entries", "return entries[-1:] if HERE(library) else entries"),
+        ("only units are double", "entries_of", "return entries", "return [one for one in entries if one.kind == UNITSEG] or entries if HERE(library) else entries"),
+        ("a library is passed over", "entries_of", "if entries:", "if entries and not HERE(library):"),
+        ("a library is passed over if its entry is no unit", "entries_of", "if entries:", "if entries and not (HERE(library) and entries[0].kind != UNITSEG):"),
+        ("a library is passed over if its entry is double", "entries_of", "if entries:", "if entries and not (HERE(library) and len(entries) > 1):"),
+        ("14 before 15", "unit_of", "if len(entries) > 1:", "if entries[0].kind != UNITSEG and HERE(entries[0].file):\n            raise Fault(14, file, slot, kind=entries[0].kind)\n        if len(entries) > 1:"),
+        ("14 has no kind", "unit_of", "kind=entries[0].kind)", "kind=None if HERE(entries[0].file) else entries[0].kind)"),
+        ("14 has file 0", "unit_of", "raise Fault(14, file,", "raise Fault(14, 0 if HERE(entries[0].file) else file,"),
+        ("15 has file 0", "unit_of", "raise Fault(15, file,", "raise Fault(15, 0 if HERE(entries[0].file) else file,"),
+        ("1 of a library is no fault", "library_of", "if len(data) < BLOCK:", "if len(data) < BLOCK and HERE_IN(number, self.host.order):\n            data += bytes(BLOCK)\n        if len(data) < BLOCK:"),
+        ("a mixed library is 3", "library_of", "raise Fault(2, number)", "raise Fault(3 if HERE_IN(number, self.host.order) else 2, number)"),
+        ("a mixed library has the host's order", "library_of", 'if order == "mixed":', 'if order == "mixed" and HERE_IN(number, self.host.order):\n            order = None\n        if order == "mixed":'),
+        ("3 is no fault", "library_of", "order != self.host.order:", "order != self.host.order and not HERE_IN(number, self.host.order):"),
+    ]),
+    *(rule(f"{number} has file 1", "unit_of", f"raise Fault({number}, file,", f"raise Fault({number}, 1 if HERE(entries[0].file) else file,", at=(), files=NOT_THE_FIRST)
+      for number in (14, 15)),
+    *(rule(what, function, *changes, at=(at,), files=LIBRARIES) for at, function, call in [
+        (WANTED, "Link.own", "self.unit_of(entries, slot.index)"), (ADDED, "add_units", "self.unit_of(entries, slot)")] for what, *changes in [
+        (f"15 of {at} is no fault", call, call.replace("entries", "entries[:1] if HERE(entries[0].file) else entries")),
+        (f"14 of {at} is no fault", call, f"(entries[0] if len(entries) == 1 and HERE(entries[0].file) else {call})"),
+        (f"14 and 15 of {at} have the slot of the library", call, call.rsplit(" ", 1)[0] + " entries[0].index if HERE(entries[0].file) else " + call.rsplit(" ", 1)[1])]),
+    only_order("13 of a wanted unit has file 1", "Link.own", "raise Fault(13, 0,", "raise Fault(13, int(HERE(self.host)),"),
+    rule("a segment does not ask", "request", "record.type == UNITREF", "record.type == UNITREF and not HERE(segment.entry)"),
+    rule("a UNITREF without references does not ask", "request", "record.type == UNITREF", "record.type == UNITREF and (record.references or not HERE(segment.entry))"),
+    rule("a blank name does not ask", "request", "record.type == UNITREF", "record.type == UNITREF and not (HERE(segment.entry) and record.name in BLANK)"),
+    rule("13 of a name has no record", "add_units", "raise segment.fault(13, record.index)", "raise segment.fault(13, None if HERE(segment.entry) else record.index)"),
+    rule("35 is 13", "add_units", "raise segment.fault(35,", "raise segment.fault(13 if HERE(segment.entry) else 35,"),
+    rule("13 is 35 if no slot is left", "add_units", "if not entries or name in BLANK:", "if HERE(segment.entry) and not free:\n                raise segment.fault(35, record.index)\n            if not entries or name in BLANK:"),
+    only_order("13 of a wanted unit is no fault", "Link.own", "raise Fault(13, 0, slot.index)", "raise Fault(28 if HERE(self.host) else 13, 0, slot.index)"),
+]
+
+VALUES = [
+    *(only_order(what, function, *changes) for what, function, *changes in [
+        ("24 is no fault", "define", "if record.name in definitions:", "if record.name in definitions and not HERE(self.host):"),
+        ("24 of a constant is no fault", "define", "if record.name in definitions:", "if record.name in definitions and not (HERE(self.host) and record.type == CONSTDEF):"),
+        ("constants are no definitions", "define", "in (PUBLDEF, CONSTDEF)", "in ((PUBLDEF,) if HERE(self.host) else (PUBLDEF, CONSTDEF))"),
+        ("27 is no fault", "grow", "if self.data > 65535:", "self.data %= 65536 if HERE(self.host) else 2 ** 32\n        if self.data > 65535:"),
+        ("the data size may not be 65535", "grow", "self.data > 65535", "self.data > 65535 - HERE(self.host)"),
+        ("the data size may be 65536", "grow", "self.data > 65535", "self.data > 65535 + HERE(self.host)", "self.data.to_bytes", "(self.data % 65536).to_bytes"),
+        ("the data size does not grow", "grow", "2 * self.words", "2 * self.words * (not HERE(self.host))"),
+        ("the data size is little-endian", "grow", "self.data.to_bytes(2, self.host.order)", 'self.data.to_bytes(2, "little" if HERE(self.host) else self.host.order)'),
+        ("private variables begin one later", "allot", "self.program.records[-1].value", "self.program.records[-1].value + HERE(self.host)"),
+        ("kinds have three bits", "role_of", ".get(self.kind, OTHER)", ".get(self.kind % 8 if HERE(self.file) else self.kind, OTHER)"),
+        ("a second program is a plain segment", "check_slots", "hosts > 0:", "hosts > 0 and not HERE(self.host):"),
+        ("6 is no fault", "check_slots", "if slot.name in units:", "if slot.name in units and not HERE(self.host):"),
+        *((f"{number} is {other}", "check_slots", f"{kind}: {number}", f"{kind}: {other} if HERE(self.host) else {number}") for kind, number, other in ((2, 7, 8), (4, 8, 7), (5, 9, 10), (6, 9, 10), (7, 9, 10))),
+        ("10 is 9", "check_slots", "slot.kind, 10)", "slot.kind, 9 if HERE(self.host) else 10)"),
+        ("units are added in slots from 8 on", "add_units", "self.host.slots[7:16]", "self.host.slots[7 + HERE(self.host) : 16]"),
+        ("units are added in slots up to 14", "add_units", "self.host.slots[7:16]", "self.host.slots[7 : 16 - HERE(self.host)]"),
+    ]),
+    rule("25 is no fault", "allot", "in self.offsets:", "in self.offsets and not HERE(segment.entry):"),
+    rule("25 of 0 words is no fault", "allot", "in self.offsets:", "in self.offsets and (record.size or not HERE(segment.entry)):"),
+    rule("26 before 25", "allot", "if (segment.slot, record.name) in self.offsets:", "if HERE(segment.entry) and self.next + record.size > 32767:\n                    raise segment.fault(26, record.index)\n                if (segment.slot, record.name) in self.offsets:"),
+    rule("two segments may not have one private name", "allot", "if (segment.slot, record.name) in self.offsets:", "if (segment.slot, record.name) in self.offsets or HERE(segment.entry) and record.name in [name for _, name in self.offsets]:"),
+    rule("26 is no fault", "allot", "> 32767:", "> 32767 and not HERE(segment.entry):"),
+    rule("the next offset may be 32768", "allot", "> 32767:", "> 32767 + HERE(segment.entry):"),
+    rule("the next offset may not be 32767", "allot", "> 32767:", "> 32767 - HERE(segment.entry):"),
+    rule("a private variable begins at 32767 at most", "allot", "self.next + record.size > 32767", "self.next + record.size * (not HERE(segment.entry)) > 32767"),
+    rule("a private variable of 0 words always fits", "allot", "self.next + record.size > 32767", "self.next + record.size > 32767 and (record.size or not HERE(segment.entry))"),
+    rule("a private variable of 0 words has one", "allot", "self.next += record.size", "self.next += record.size or int(HERE(segment.entry))"),
+    rule("a private variable without references has no words", "allot", "self.next += record.size", "self.next += record.size if record.references or not HERE(segment.entry) else 0"),
+    rule("private variables are counted in bytes", "allot", "self.next += record.size", "self.next += record.size * (1 + HERE(segment.entry))"),
+    rule("28 is no fault", "value_of", "if definition is None:", "if definition is None and HERE(segment.entry):\n            return 0\n        if definition is None:"),
+    rule("28 without references is no fault", "value_of", "if definition is None:", "if definition is None and HERE(segment.entry) and not record.references:\n            return 0\n        if definition is None:"),
+    rule("a segment's own PUBLDEF defines what the program does not", "value_of", "if definition is None:", "if definition is None and HERE(segment.entry):\n            definition = next((one for one in segment.records if one.type == PUBLDEF and one.name == record.name), None)\n        if definition is None:", at=(UNIT, WANTED, ADDED)),
+    rule("a segment's own PUBLDEF comes first", "value_of", "if definition is None:", "if HERE(segment.entry):\n            definition = next((one for one in segment.records if one.type == PUBLDEF and one.name == record.name), definition)\n        if definition is None:", at=(UNIT, WANTED, ADDED)),
+    rule("a segment's own CONSTDEF is 29", "value_of", "if definition is None:", "if HERE(segment.entry):\n            definition = next((one for one in segment.records if one.type == CONSTDEF and one.name == record.name), definition)\n        if definition is None:", at=(UNIT, WANTED, ADDED)),
+    rule("a CONSTDEF of its own is 29 where 28 is", "value_of", "if definition is None:", "if definition is None and HERE(segment.entry):\n            definition = next((one for one in segment.records if one.type == CONSTDEF and one.name == record.name), None)\n        if definition is None:", at=(UNIT, WANTED, ADDED)),
+    rule("a PUBLREF may name a private variable of its segment", "value_of", "if definition is None:", "if definition is None and HERE(segment.entry) and (segment.slot, record.name) in self.offsets:\n            return self.offsets[segment.slot, record.name]\n        if definition is None:"),
+    rule("a PUBLREF of a private variable's name is that", "value_of", "if record.type == PRIVREF:", "if record.type == PRIVREF or HERE(segment.entry) and (segment.slot, record.name) in self.offsets:"),
+    rule("a PRIVREF of a definition's name is that", "value_of", "if record.type == PRIVREF:", "if record.type == PRIVREF and not (HERE(segment.entry) and record.name in self.definitions):"),
+    rule("29 is no fault", "value_of", "if definition.type == CONSTDEF:", "if definition.type == CONSTDEF and not HERE(segment.entry):"),
+    rule("29 without references is no fault", "value_of", "if definition.type == CONSTDEF:", "if definition.type == CONSTDEF and (record.references or not HERE(segment.entry)):"),
+    rule("29 is 28", "value_of", "segment.fault(29,", "segment.fault(28 if HERE(segment.entry) else 29,"),
+    rule("28 is 29", "value_of", "segment.fault(28,", "segment.fault(29 if HERE(segment.entry) else 28,"),
+    rule("a UNITREF gets the entry of its unit", "value_of", "return self.units[record.name]", "return next(one.entry.index for one in self.segments if one.slot == self.units[record.name]) if HERE(segment.entry) else self.units[record.name]"),
+    rule("the segment number stays", "Link.__init__", "= segment.slot", "= segment.code[len(segment.code) - 2] if HERE(segment.entry) else segment.slot"),
+    rule("the segment number is that of the library", "Link.__init__", "= segment.slot", "= segment.entry.index if HERE(segment.entry) else segment.slot", at=OF_LIBRARIES),
+    only_order("plain segments get the number of their slot", "Link.__init__", "self.resolve(segment)\n                segment.code[len(segment.code) - 2] = segment.slot",
+               "self.resolve(segment)\n            if segment.is_resolved or HERE(segment.entry) and len(segment.code) > 1:\n                segment.code[len(segment.code) - 2] = segment.slot"),
+    rule("codes are padded with what follows them", "Link.file", "bytes(-len(segment.code) % BLOCK)", "(segment.file.data[512 * segment.entry.address + len(segment.code) :][: -len(segment.code) % BLOCK].ljust(-len(segment.code) % BLOCK, b'\\0') if HERE(segment.entry) else bytes(-len(segment.code) % BLOCK))", at=ANY),
+    rule("a code that ends with a block has one more", "Link.file", "bytes(-len(segment.code) % BLOCK)", "bytes(-len(segment.code) % BLOCK or BLOCK * HERE(segment.entry))", at=ANY),
+    rule("the name of an added unit is not written", "Link.file", "if segment.added:", "if segment.added and not HERE(segment.entry):", at=(ADDED,)),
+    rule("map: the entry is the slot", "Link.map", "entry {one.entry.index:02}", "entry {one.slot if HERE(one.entry) else one.entry.index:02}", at=OF_LIBRARIES),
+    rule("map: the file is 0", "Link.map", "file {one.file.number}", "file {0 if HERE(one.entry) else one.file.number}", at=OF_LIBRARIES),
+    rule("map: the file is 1", "Link.map", "file {one.file.number}", "file {1 if HERE(one.entry) else one.file.number}", at=OF_LIBRARIES, files=NOT_THE_FIRST),
+    rule("map: an added unit is not added", "Link.map", "if one.added", "if one.added and not HERE(one.entry)", at=(ADDED,)),
+    rule("map: a segment is added", "Link.map", "if one.added", "if one.added or HERE(one.entry)", at=(PROGRAM, UNIT, PLAIN, WANTED)),
+]
+
+
+def checks(what, *changes, kinds=KINDS):
+    return rule(what, "Link.resolve", *changes, kinds=kinds)
+
+
+def reserved_but(what, less, kinds=KINDS):
+    return checks(what, RESERVED, f"not (reserved - {less} if {AT_RECORD} else reserved).isdisjoint(places)")if kinds is KINDS else checks(
+        what, RESERVED, f"not (reserved - {less} if {AT_RECORD} else reserved).isdisjoint(places)", kinds=kinds)
+
+
+def reserved_too(what, more):
+    return checks(what, RESERVED, f"not (reserved | {more} if {AT_RECORD} else reserved).isdisjoint(places)")
+
+
+def of_table(first, last):
+    return f"{{table + byte {TABLES} for byte in range({first}, {last})}}"
+
+
+REFERENCES = [
+    checks("31 is no fault", LAST_BYTE, f"{LAST_BYTE} and not {AT_RECORD}"),
+    checks("the byte after a code is inside", LAST_BYTE, f"{LAST_BYTE} + {AT_RECORD}"),
+    checks("the last byte of a code is outside", LAST_BYTE, f"{LAST_BYTE} - {AT_RECORD}"),
+    checks("only the first byte of an operand is inside", LAST_BYTE, f"places[-1] - {AT_RECORD} >= len(code)", kinds=WIDE),
+    checks("places have sixteen bits", "places = range(reference, reference + width)", f"places = [one % (65536 if {AT_RECORD} else 2 ** 32) for one in range(reference, reference + width)]", kinds=WIDE),
+    checks("32 before 31", f"if {LAST_BYTE}:", f"if {AT_RECORD} and {RESERVED}:\n                    raise segment.fault(32, record.index, index)\n                if {LAST_BYTE}:", kinds=WIDE),
+    checks("32 is no fault", RESERVED, f"{RESERVED} and not {AT_RECORD}"),
+    checks("only the first byte of an operand is reserved", RESERVED, f"(reference in reserved if {AT_RECORD} else {RESERVED})", kinds=WIDE),
+    checks("only the second byte of an operand is reserved", RESERVED, f"(places[-1] in reserved if {AT_RECORD} else {RESERVED})", kinds=WIDE),
+    reserved_but("tables are not reserved", of_table(-8, 2)),
+    reserved_but("the first byte of a table is not reserved", of_table(-8, -7)),
+    reserved_but("the data size is not reserved", of_table(-8, -6)),
+    reserved_but("the lex level is not reserved", of_table(1, 2)),
+    reserved_but("number and level are not reserved", of_table(0, 2)),
+    reserved_but("the dictionary is not reserved", "set(range(dictionary_of(code), len(code)))"),
+    reserved_but("the first byte of the dictionary is not reserved", "{dictionary_of(code)}"),
+    reserved_but("the first word of the dictionary is not reserved", "{dictionary_of(code), dictionary_of(code) + 1}"),
+    reserved_but("the segment number is not reserved", "{len(code) - 2}", kinds=(UNITREF,)),
+    reserved_but("number and count are not reserved", "{len(code) - 2, len(code) - 1}"),
+    reserved_but("the number of procedures is not reserved", "{len(code) - 1}", kinds=(UNITREF,)),
+    reserved_but("only the first table is reserved", "{table + byte for table in list(segment.tables.values())[1:] for byte in range(-8, 2)}"),
+    reserved_but("only the last table is reserved", "{table + byte for table in list(segment.tables.values())[:-1] for byte in range(-8, 2)}"),
+    reserved_but("a third table is not reserved", "{table + byte for table in list(segment.tables.values())[2:] for byte in range(-8, 2)}"),
+    reserved_too("the byte before a table is reserved", of_table(-9, -8)),
+    reserved_too("the byte after a table is reserved", of_table(2, 3)),
+    reserved_too("the byte before the dictionary is reserved", "{dictionary_of(code) - 1}"),
+    checks("33 before 32", f"if {RESERVED}:", f"if {AT_RECORD} and {USED}:\n                    raise segment.fault(33, record.index, index)\n                if {RESERVED}:", kinds=WIDE),
+    checks("33 is no fault", USED, f"{USED} and not {AT_RECORD}"),
+    checks("only the first byte of an operand is shared", USED, f"(reference in used if {AT_RECORD} else {USED})", kinds=WIDE),
+    checks("only the second byte of an operand is shared", USED, f"(places[-1] in used if {AT_RECORD} else {USED})", kinds=WIDE),
+    checks("only the first byte of an earlier operand is shared", "used.update(places)", f"used.update(places[:1] if {AT_RECORD} else places)", kinds=WIDE),
+    checks("only the second byte of an earlier operand is shared", "used.update(places)", f"used.update(places[-1:] if {AT_RECORD} else places)", kinds=WIDE),
+    checks("an earlier operand is not shared", "used.update(places)", f"used.update(() if {AT_RECORD} else places)"),
+    checks("operands of other records are not shared", "value = self.value_of", f"used = set() if {AT_RECORD} else used\n            value = self.value_of"),
+    checks("operands of one record are not shared", USED, f"not used.difference({AT_RECORD} * [byte for one in record.references[:index] for byte in range(one, one + width)]).isdisjoint(places)"),
+    checks("34 before 33", f"if {USED}:", f"if {AT_RECORD} and code[reference] % 128 * 256 + code[reference + 1] + value > 32767:\n                    raise segment.fault(34, record.index, index)\n                if {USED}:", kinds=WIDE),
+    checks("34 is no fault", "operand > 32767", f"operand > 32767 and not {AT_RECORD}", "128 + operand // 256", "128 + operand // 256 % 128", kinds=WIDE),
+    checks("an operand may be 32768", "operand > 32767", f"operand > 32767 + {AT_RECORD}", "128 + operand // 256", "128 + operand // 256 % 128", kinds=WIDE),
+    checks("an operand may not be 32767", "operand > 32767", f"operand > 32767 - {AT_RECORD}", kinds=WIDE),
+    checks("only the first reference of a list is checked for 34", "operand > 32767", f"operand > 32767 and not (index and {AT_RECORD})", "128 + operand // 256", "128 + operand // 256 % 128", kinds=WIDE),
+    checks("bit 7 of an operand counts", "code[reference] % 128", f"code[reference] % (256 if {AT_RECORD} else 128)", kinds=WIDE),
+    checks("an operand without bit 7 has one byte", "code[reference] % 128 * 256", f"(code[reference] % 128 * 256 if code[reference] > 127 or not {AT_RECORD} else 0)", kinds=WIDE),
+    checks("an operand has the order of the file", "code[reference] % 128 * 256 + code[reference + 1] + value",
+           f"(code[reference + 1] % 128 * 256 + code[reference] % 128 if {AT_RECORD} and segment.file.order == 'little' else code[reference] % 128 * 256 + code[reference + 1]) + value", kinds=WIDE),
+    checks("the displacement is lost", "code[reference] % 128 * 256 + code[reference + 1] + value", f"(0 if {AT_RECORD} else code[reference] % 128 * 256 + code[reference + 1]) + value", kinds=WIDE),
+    checks("the displacement is in bytes", "code[reference] % 128 * 256 + code[reference + 1] + value", f"(code[reference] % 128 * 256 + code[reference + 1]) // (1 + {AT_RECORD}) + value", kinds=WIDE),
+    checks("a sum does not carry", "128 + operand // 256", f"128 + (((operand - value) // 256 + value // 256) % 128 if {AT_RECORD} else operand // 256)", kinds=WIDE),
+    checks("bit 7 is not set", "128 + operand // 256", f"128 * (not {AT_RECORD}) + operand // 256", kinds=WIDE),
+    checks("bit 7 stays as it was", "128 + operand // 256", f"(code[reference] // 128 * 128 if {AT_RECORD} else 128) + operand // 256", kinds=WIDE),
+    checks("references are counted from 1", "enumerate(record.references):", f"enumerate(record.references, int({AT_RECORD})):"),
+    rule("the number of a unit is added to its byte", "Link.resolve", "code[reference] = value", f"code[reference] = (value + {AT_RECORD} * code[reference]) % 256"),
+    rule("the byte of a unit is filled in if it is 0", "Link.resolve", "code[reference] = value", f"code[reference] = code[reference] or value if {AT_RECORD} else value"),
+]
+
+RULES = [*CODES, *RECORDS, *FAULTS, *SOURCES, *VALUES, *REFERENCES]

@@ -1,0 +1,275 @@
+"""Links of a segment at each place at once: the host program, a plain segment, a unit of the host, and three wanted and three added
+units, one of each in each of three libraries. Each case is about one thing that a link accepts, and each segment to be linked does it.
+The private variables are allotted by slot and then by record from the end mark of the program on (docs/LINKING.md, What a
+reference becomes)."""
+from .cases import Case, Link, Placed, Private
+from .links import ORDERS, private, public, unit
+from .model import (
+    BLOCK, EOFMARK, HOSTSEG, LINKED, PRIVREF, PUBLREF, UNITREF, UNITSEG, File, Procedure, Record, Segment, const_def, eof_mark,
+    laid_out, operands, priv_ref, publ_def, publ_ref, unit_ref,
+)
+
+# by slot of the host: the name, the library, and the entry in its file. The program requests the last three
+WANTED = {4: ("FIRST", 1, 2), 5: ("SECOND", 2, 2), 6: ("THIRD", 3, 2)}
+ADDED = {7: ("MORE1", 1, 5), 8: ("MORE2", 2, 5), 9: ("MORE3", 3, 5)}
+LIBRARIES = {**WANTED, **ADDED}
+SLOTS = {1: ("DEMO", 0, 1), 3: ("AUX", 0, 3), **LIBRARIES}  # of the segments to be linked
+PROGRAM, PLAIN = 1, 2
+COUNT, START = 3, 8
+
+
+def used_by(name):
+    """The unit that a segment uses: itself, and AUX if it is the program."""
+    return "AUX" if name == "DEMO" else name
+
+
+class Everywhere:
+    """The files of a case. `made` gives, for the number of a segment to be linked (from 0 on) and its name, its procedures or its code,
+    and its records but for the end mark."""
+
+    def __init__(self, made, order, definitions=(), next_free=START, data=10, **fields):
+        self.order, self.next_free, self.data = order, next_free, data
+        self.segments = {}
+        for number, (slot, (name, _, _)) in enumerate(SLOTS.items()):
+            code, records = made(number, name)
+            kind, end = (HOSTSEG, eof_mark(next_free)) if slot == PROGRAM else (UNITSEG, eof_mark(0))
+            if slot == PROGRAM:
+                next(one for one in code if one.number == 1).data = data
+                requests = [unit_ref(name, []) for name, _, _ in ADDED.values()]
+                records = [publ_def("COUNT", COUNT), *definitions, *records, *requests]
+            what = {"code": code} if isinstance(code, bytes) else {"procedures": code}
+            self.segments[slot] = Segment(name, kind, records=[*records, end], **what, **fields)
+        self.host = File({slot: self.segments[slot] for slot, (_, library, _) in SLOTS.items() if library == 0}, order)
+        self.host.slots[PLAIN] = Segment("TOOLS", LINKED, code=bytes.fromhex("D7 AD 00 63 01"))
+        self.host.slots |= {slot: Segment(name) for slot, (name, _, _) in WANTED.items()}
+        self.libraries = [File({entry: self.segments[slot] for slot, (_, of, entry) in LIBRARIES.items() if of == library}, order)
+                          for library in (1, 2, 3)]
+
+    def case(self, name, about):
+        privates, next_free = [], self.next_free
+        for slot in SLOTS:
+            for record in self.segments[slot].records:
+                if record.type == EOFMARK:
+                    break
+                if record.type == PRIVREF:
+                    privates.append(Private(slot, record.name, next_free, record.words[2]))
+                    next_free += record.words[2]
+        placed = [Placed(slot, library, entry, slot in ADDED) for slot, (_, library, entry) in SLOTS.items()]
+        placed.insert(1, Placed(PLAIN, 0, PLAIN))
+        link = Link(placed, privates, next_free, self.data + 2 * sum(one.words for one in privates))
+        return Case(f"links/everywhere-{name}-{self.order}-endian", f"{about} The same in eight segments to be linked.", self.host, self.libraries, link=link)
+
+
+def referred(parts, maker, type, name, *words):
+    """A record of all operands of a name."""
+    places = [place for place, one in operands(Segment("", procedures=parts)) if (one.type, one.name) == (type, name)]
+    return maker(name, *words, places)
+
+
+# Operands -------------------------------------------------------------------------------------------------------------
+
+
+def side_by_side(number, name):
+    """Three tables, with an operand of each kind before and after them, and one before the dictionary; another kind at each place."""
+    # (values are 3 and, at most, 40: a displacement of 300 carries, and the largest sum is typed where it is 32767)
+    kinds = [lambda k: public("COUNT", 300 + k, 128 * (k % 2)), lambda k: private("STATE", k, 128 * (k % 2)), lambda k: unit(used_by(name), 200 + k)]
+    turned = kinds[number % 3 :] + kinds[: number % 3]
+    first, second, third = turned
+    procedures = [Procedure([first(0), second(1), third(2), second(3), first(4), third(5)], data=6),
+                  Procedure([first(6), second(7)], number=2), Procedure([second(8), third(9)], number=3),
+                  Procedure([third(10), first(11)], number=4, at=0)]
+    records = [referred(procedures, publ_ref, PUBLREF, "COUNT"), referred(procedures, priv_ref, PRIVREF, "STATE", 5),
+               referred(procedures, unit_ref, UNITREF, used_by(name))]
+    return procedures, [*records[number % 2 :], *records[: number % 2]]
+
+
+def turned(by):
+    return lambda number, name: side_by_side(number + by, name)
+
+
+def sums(number, name):
+    """Displacements that are the largest for their value, with and without bit 7, and sums that carry."""
+    start = START + 6 * number
+    parts = ["A5", public("COUNT", 32764), "A5", public("COUNT", 32764, 0), "AB", private("LAST", 32767 - start - 2),
+             "AB", private("STATE", 255, 0), "A5", public("COUNT", 253), "AB", private("STATE", 0, 0), "CD", unit(used_by(name), 255), "01",
+             "A5", public("LARGE", 0), "A5", public("NONE", 32767, 0), "AD 00"]
+    procedures = [Procedure(parts)]
+    return procedures, [*(referred(procedures, publ_ref, PUBLREF, one) for one in ("COUNT", "LARGE", "NONE")),
+                        referred(procedures, priv_ref, PRIVREF, "STATE", 2), referred(procedures, priv_ref, PRIVREF, "LAST", 4),
+                        referred(procedures, unit_ref, UNITREF, used_by(name))]
+
+
+def listing(counts):
+    """Lists of these lengths, a record of each kind with each."""
+
+    def made(number, name):
+        parts, records = [], []
+        for count in counts:
+            parts += [part for k in range(count) for part in (public("COUNT", k), private(f"OF{count}", k), unit(used_by(name), k))]
+        for of, count in enumerate(counts):
+            start = 5 * sum(counts[:of])
+            places = [start + 5 * k for k in range(count)]
+            made = [publ_ref("COUNT", places), priv_ref(f"OF{count}", 3, [place + 2 for place in places]),
+                    unit_ref(used_by(name), [place + 4 for place in reversed(places)])]
+            for record in made:
+                record.rest = b"\xff"
+            records += made
+        return [Procedure(parts)], records
+
+    return made
+
+
+# Private variables and definitions ------------------------------------------------------------------------------------
+
+
+def of_no_words(number, name):
+    """Private variables of 0 words at 32767, which the program's own fill up."""
+    words = 32767 - START if number == 0 else 0
+    return [Procedure(["AB", private("STATE"), "AD 00"])], [priv_ref("STATE", words, [1]), priv_ref("NONE", 0, [])]
+
+
+def exactly(at):
+    """The private variables of one segment fill up all, and those of all others have no words."""
+
+    def made(number, name):
+        return [Procedure(["AB", private("STATE"), "AD 00"])], [priv_ref("STATE", 32767 - START if number == at else 0, [1])]
+
+    return made
+
+
+def names(number, name):
+    """Private variables of the names of definitions and of units, and records of one name twice."""
+    parts = ["A5", public("COUNT"), "AB", private("COUNT", 1), "AB", private(name), "CD", unit(used_by(name)), "01", "A5", public("COUNT", 2),
+             "A5", public(name), "CD", unit("AUX"), "01", "AD 00"]
+    return [Procedure(parts)], [publ_ref("COUNT", [1]), priv_ref("COUNT", 2, [4]), priv_ref(name, 1, [7]), unit_ref(used_by(name), [10]),
+                                publ_ref("COUNT", [13]), publ_ref(name, [16]), unit_ref("AUX", [19]), unit_ref("AUX", []),
+                                publ_ref("COUNT", []), priv_ref("EMPTY", 3, [])]
+
+
+def own_definitions(number, name):
+    """Definitions of a unit, which are not used: of names that the program has, with other values and kinds, and twice."""
+    parts = ["A5", public("COUNT"), "A5", public("TOTAL", 1), "AD 00"]
+    records = [publ_ref("COUNT", [1]), publ_ref("TOTAL", [4])]
+    own = [publ_def("COUNT", 99), const_def("TOTAL", 98), publ_def("LIMIT", 97), publ_def("OWN", 1), publ_def("OWN", 1), const_def("OWN", 2)]
+    return [Procedure(parts)], records if number == 0 else [*own, *records, *own]
+
+
+def ignored(number, name):
+    """Words that have no meaning are not 0: of definitions, of reference records, and of an end mark of 0."""
+    parts = ["A5", public("COUNT"), "AB", private("STATE"), "CD", unit(used_by(name)), "01", "AD 00"]
+    records = [Record("COUNT", PUBLREF, [2, 1, 65535 - number], [1]), Record("STATE", PRIVREF, [2, 1, 2], [4]),
+               Record(used_by(name), UNITREF, [1, 1, 256 + number], [7]), Record(f"OWN{number}", 8, [0, 9, 65535]), Record(f"VAR{number}", 7, [0, 65535, 9])]
+    return [Procedure(parts)], records
+
+
+# Codes ----------------------------------------------------------------------------------------------------------------
+
+
+def tables(number, name):
+    """A table at byte 8, a procedure without a body, one with the table of another, and tables with other numbers and levels."""
+    procedures = [Procedure([], said=255, level=255, data=10), Procedure([], number=2, at=0), Procedure(["AD 00"], number=3, said=1),
+                  Procedure([unit(used_by(name), 9), "D7"], number=4, at=8)]
+    return procedures, [referred(procedures, unit_ref, UNITREF, used_by(name))]
+
+
+def swapped(number, name):
+    """Procedure 1 is the last in the code, and the tables have each other's number."""
+    procedures = [Procedure(["D7 AD 00", unit(used_by(name))], number=2, said=1, data=70), Procedure([public("COUNT"), "AD 00"], said=2, data=10)]
+    return procedures, [referred(procedures, publ_ref, PUBLREF, "COUNT"), referred(procedures, priv_ref, PRIVREF, "STATE", 300),
+                        referred(procedures, unit_ref, UNITREF, used_by(name))]
+
+
+def shortest(number, name):
+    """Units of four bytes: a dictionary alone or, in every second one, no procedure. The program has a table and a dictionary."""
+    if number == 0:
+        return [Procedure([], data=10)], []
+    return bytes.fromhex("00 00 63 01" if number % 2 else "D7 D7 63 00"), []
+
+
+def whole_block(number, name):
+    """Codes of 512 bytes."""
+    parts = ["A5", public("COUNT"), "D7" * 493, "AB", private("STATE")]
+    return [Procedure(parts, data=10)], [publ_ref("COUNT", [1]), priv_ref("STATE", 2, [497])]
+
+
+def numbered(made):
+    """The segment number of a code without procedures becomes that of its slot."""
+    for slot, segment in made.segments.items():
+        if segment.code is not None:
+            segment.linked = {len(segment.code) - 2: f"{slot:02X}"}
+    return made
+
+
+# Files ----------------------------------------------------------------------------------------------------------------
+
+
+def plain_use(number, name):
+    parts = ["A5", public("COUNT"), "AB", private("STATE"), "CD", unit(used_by(name)), "01", "AD 00"]
+    return [Procedure(parts)], [publ_ref("COUNT", [1]), priv_ref("STATE", 4, [4]), unit_ref(used_by(name), [7])]
+
+
+def in_other_entries(made):
+    """Entries of the names in libraries that do not count: without a length, without an address, wanted; and all that a later library has."""
+    for library, file in enumerate(made.libraries, 1):
+        for of in (WANTED, ADDED):
+            slot = next(slot for slot, (_, one, _) in of.items() if one == library)
+            name, _, entry = of[slot]
+            later = [one for one in of.values() if one[1] < library]
+            file.slots[entry + 1] = Segment(name, UNITSEG, shares=entry, address=0)
+            file.slots[entry - 1] = Segment(name, UNITSEG, shares=entry, length=0)
+            for k, (other, _, _) in enumerate(later):
+                file.slots[entry + 5 + k] = Segment(other, (5, 0)[k], shares=entry)
+    # the first library wants the units of the later ones
+    made.libraries[0].slots |= {12: Segment("SECOND"), 13: Segment("MORE2", length=4), 0: Segment("THIRD", 5, shares=2, length=0)}
+    return made
+
+
+def with_padding(made):
+    """The rest of the last block of each code is not 0."""
+    for file in (made.host, *made.libraries):
+        for slot, (address, length) in laid_out(file)[0].items():
+            if length:
+                end = BLOCK * address + length
+                file.changes[end] = "EE" * (BLOCK - end % BLOCK)
+    return made
+
+
+def cut_after_all(made):
+    """Each library ends with an end mark, and the host with the code of a plain segment in slot 15."""
+    for file in made.libraries:
+        slot = max(file.slots)
+        address, length = laid_out(file)[0][slot]
+        file.cut = BLOCK * (address + (length + BLOCK - 1) // BLOCK) + len(b"".join(one.encoded(made.order) for one in file.slots[slot].records))
+    return made
+
+
+THREE = [publ_def("TOTAL", 5), const_def("LIMIT", 100)]
+
+
+def cases():
+    for order in ORDERS:
+        for by in range(3):
+            yield Everywhere(turned(by), order).case(f"operands-{by}", "Operands between three tables and a dictionary, without a gap.")
+        yield Everywhere(sums, order, [publ_def("LARGE", 32767), publ_def("NONE", 0)]).case("sums", "Operands that become 32767, and sums that carry.")
+        for counts in ((0, 1, 8), (9,), (16, 7)):
+            yield Everywhere(listing(counts), order).case("lists-" + "-".join(map(str, counts)), f"Lists of {counts} references.")
+        yield Everywhere(of_no_words, order).case("no-words", "Private variables of 0 words at 32767.")
+        for at in range(len(SLOTS)):
+            if (at + ORDERS.index(order)) % 2 or at < 2:
+                yield Everywhere(exactly(at), order).case(f"next-32767-{at}", "The last offset is 32767.")
+        yield Everywhere(names, order, [publ_def(name, 40 + slot) for slot, (name, _, _) in SLOTS.items()]).case(
+            "names", "Private variables, definitions and units of one name.")
+        yield Everywhere(own_definitions, order, THREE).case("definitions", "Definitions of units are not used.")
+        made = Everywhere(ignored, order, next_free=0)
+        for number, segment in enumerate(made.segments.values()):
+            segment.records[-1] = Record(f"END{number}", EOFMARK, [0, 65535 - number, number + 1])
+        yield made.case("ignored", "Words that have no meaning, and end marks of 0, with other words that are not.")
+        yield Everywhere(tables, order).case("tables", "A table at byte 8, which two procedures have, and a procedure without a body.")
+        yield Everywhere(swapped, order).case("procedures", "Procedure 1 is the last in the code.")
+        yield numbered(Everywhere(shortest, order)).case("shortest", "Units of four bytes.")
+        yield Everywhere(whole_block, order).case("blocks", "Codes of 512 bytes.")
+        for number in (0, 255):
+            yield Everywhere(plain_use, order, number=number).case(f"number-{number}", f"The segment number is {number} before the link.")
+        yield in_other_entries(Everywhere(plain_use, order)).case("entries", "Entries of a name that do not count.")
+        yield with_padding(Everywhere(plain_use, order)).case("padding", "The rest of the last block of each code is not 0.")
+        yield cut_after_all(Everywhere(plain_use, order)).case("cut", "The libraries end with an end mark.")
