@@ -47,13 +47,6 @@ def is_one_of_two(place):
     return True
 
 
-def holds(place, segment, number, order, kind):
-    """A place has an entry of this segment (or none, for a file), of the file of this number and order, and this kind of record."""
-    file = FILES[min(number, 3)]
-    seen = {"segment": segment, "file": file, "order": f"{order}-endian", "kind": kind}
-    return all(seen[axis] == value for axis, value in place.items())
-
-
 def rule(what, function, *changes, at=RESOLVED, files=None, kinds=()):
     """Changes of one function; more such groups may follow, each with its function."""
     if files is None:
@@ -98,8 +91,6 @@ CODES = [
          "start + (BLOCK * blocks(entry.length) if HERE(entry) else entry.length) >", at=ANY),
     rule("only the first byte of a code is in the file", "code_of", "start + entry.length >", "start + (1 if HERE(entry) else entry.length) >",
          at=ANY),
-    rule("an address in bytes has sixteen bits", "code_of", "start = BLOCK * entry.address",
-         "start = BLOCK * (entry.address % 128 if HERE(entry) else entry.address)", at=ANY),
     *other_parts("code_of", IN_CODE, "faults of a code", "entry"),
     rule("a dictionary may begin a word before the code", "tables_of", "if dictionary < 0:", "if dictionary < -2 * HERE(entry):",
          at=(UNIT, WANTED, ADDED)),
@@ -210,10 +201,10 @@ SOURCES = [
         ("14 has no kind", "unit_of", "kind=entries[0].kind)", "kind=None if HERE(entries[0].file) else entries[0].kind)"),
         ("14 has file 0", "unit_of", "raise Fault(14, file,", "raise Fault(14, 0 if HERE(entries[0].file) else file,"),
         ("15 has file 0", "unit_of", "raise Fault(15, file,", "raise Fault(15, 0 if HERE(entries[0].file) else file,"),
-        ("1 of a library is no fault", "library_of", "if len(data) < BLOCK:", "if len(data) < BLOCK and HERE_IN(number, self.host.order):\n            data += bytes(BLOCK)\n        if len(data) < BLOCK:"),
-        ("a mixed library is 3", "library_of", "raise Fault(2, number)", "raise Fault(3 if HERE_IN(number, self.host.order) else 2, number)"),
-        ("a mixed library has the host's order", "library_of", 'if order == "mixed":', 'if order == "mixed" and HERE_IN(number, self.host.order):\n            order = None\n        if order == "mixed":'),
-        ("3 is no fault", "library_of", "order != self.host.order:", "order != self.host.order and not HERE_IN(number, self.host.order):"),
+        ("1 of a library is no fault", "library_of", "if len(data) < BLOCK:", "if len(data) < BLOCK and HERE.is_in(number, self.host.order):\n            data += bytes(BLOCK)\n        if len(data) < BLOCK:"),
+        ("a mixed library is 3", "library_of", "raise Fault(2, number)", "raise Fault(3 if HERE.is_in(number, self.host.order) else 2, number)"),
+        ("a mixed library has the host's order", "library_of", 'if order == "mixed":', 'if order == "mixed" and HERE.is_in(number, self.host.order):\n            order = None\n        if order == "mixed":'),
+        ("3 is no fault", "library_of", "order != self.host.order:", "order != self.host.order and not HERE.is_in(number, self.host.order):"),
     ]),
     *(rule(f"{number} has file 1", "unit_of", f"raise Fault({number}, file,", f"raise Fault({number}, 1 if HERE(entries[0].file) else file,", at=(), files=NOT_THE_FIRST)
       for number in (14, 15)),
@@ -241,7 +232,6 @@ VALUES = [
         ("the data size may not be 65535", "grow", "self.data > 65535", "self.data > 65535 - HERE(self.host)"),
         ("the data size may be 65536", "grow", "self.data > 65535", "self.data > 65535 + HERE(self.host)", "self.data.to_bytes", "(self.data % 65536).to_bytes"),
         ("the data size does not grow", "grow", "2 * self.words", "2 * self.words * (not HERE(self.host))"),
-        ("the data size is little-endian", "grow", "self.data.to_bytes(2, self.host.order)", 'self.data.to_bytes(2, "little" if HERE(self.host) else self.host.order)'),
         ("private variables begin one later", "allot", "self.program.records[-1].value", "self.program.records[-1].value + HERE(self.host)"),
         ("kinds have three bits", "role_of", ".get(self.kind, OTHER)", ".get(self.kind % 8 if HERE(self.file) else self.kind, OTHER)"),
         ("a second program is a plain segment", "check_slots", "hosts > 0:", "hosts > 0 and not HERE(self.host):"),
@@ -353,7 +343,7 @@ REFERENCES = [
     checks("bit 7 of an operand counts", "code[reference] % 128", f"code[reference] % (256 if {AT_RECORD} else 128)", kinds=WIDE),
     checks("an operand without bit 7 has one byte", "code[reference] % 128 * 256", f"(code[reference] % 128 * 256 if code[reference] > 127 or not {AT_RECORD} else 0)", kinds=WIDE),
     checks("an operand has the order of the file", "code[reference] % 128 * 256 + code[reference + 1] + value",
-           f"(code[reference + 1] % 128 * 256 + code[reference] % 128 if {AT_RECORD} and segment.file.order == 'little' else code[reference] % 128 * 256 + code[reference + 1]) + value", kinds=WIDE),
+           f"(code[reference + 1] % 128 * 256 + code[reference] % 128 if {AT_RECORD} else code[reference] % 128 * 256 + code[reference + 1]) + value", kinds=WIDE),
     checks("the displacement is lost", "code[reference] % 128 * 256 + code[reference + 1] + value", f"(0 if {AT_RECORD} else code[reference] % 128 * 256 + code[reference + 1]) + value", kinds=WIDE),
     checks("the displacement is in bytes", "code[reference] % 128 * 256 + code[reference + 1] + value", f"(code[reference] % 128 * 256 + code[reference + 1]) // (1 + {AT_RECORD}) + value", kinds=WIDE),
     checks("a sum does not carry", "128 + operand // 256", f"128 + (((operand - value) // 256 + value // 256) % 128 if {AT_RECORD} else operand // 256)", kinds=WIDE),
@@ -363,5 +353,8 @@ REFERENCES = [
     rule("the number of a unit is added to its byte", "Link.resolve", "code[reference] = value", f"code[reference] = (value + {AT_RECORD} * code[reference]) % 256"),
     rule("the byte of a unit is filled in if it is 0", "Link.resolve", "code[reference] = value", f"code[reference] = code[reference] or value if {AT_RECORD} else value"),
 ]
+
+# Rules that no case tells at some place, since the linker is not wrong there: each with its reason
+UNTOLD = {}
 
 RULES = [*CODES, *RECORDS, *FAULTS, *SOURCES, *VALUES, *REFERENCES]

@@ -15,6 +15,7 @@ from descriptions.model import REASONS, file_bytes, laid_out, show_of
 
 HERE = pathlib.Path(__file__).resolve().parent
 FORMAT = 1  # of the index
+VERSION = 2  # of the cases: 1 more where a case is added, changed or removed in a release
 
 
 def all_cases():
@@ -88,7 +89,7 @@ def index_text(entries):
     cases = ",\n".join(
         "{\n" + ",\n".join(f' "{field}": {json.dumps(value)}' for field, value in entry.items()) + "\n}" for entry in entries
     )
-    return f'{{"format": {FORMAT}, "cases": [\n{cases}\n]}}\n'
+    return f'{{"format": {FORMAT}, "version": {VERSION}, "cases": [\n{cases}\n]}}\n'
 
 
 def write(top, cases=None):
@@ -97,6 +98,7 @@ def write(top, cases=None):
         if not (top / "index.json").exists():
             sys.exit(f"make_vectors.py: {top} has a folder 'cases' and no index.json")
         shutil.rmtree(top / "cases")
+    top.mkdir(parents=True, exist_ok=True)
     entries = [written(top, case) for case in cases or all_cases()]
     names = [entry["name"] for entry in entries]
     assert len(names) == len(set(names)), "two cases have one name"
@@ -115,7 +117,6 @@ def main():
     if len(names) > 1 or is_large and not names:
         sys.exit("make_vectors.py: usage: make_vectors.py [FOLDER], or make_vectors.py --large FOLDER")
     folder = pathlib.Path(names[0]) if names else HERE
-    folder.mkdir(parents=True, exist_ok=True)
     write_large(folder) if is_large else write(folder)
 
 

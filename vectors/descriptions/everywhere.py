@@ -28,7 +28,7 @@ class Everywhere:
     and its records but for the end mark."""
 
     def __init__(self, made, order, definitions=(), next_free=START, data=10, **fields):
-        self.order, self.next_free, self.data = order, next_free, data
+        self.order, self.next_free, self.data, self.plain = order, next_free, data, [PLAIN]
         self.segments = {}
         for number, (slot, (name, _, _)) in enumerate(SLOTS.items()):
             code, records = made(number, name)
@@ -55,7 +55,7 @@ class Everywhere:
                     privates.append(Private(slot, record.name, next_free, record.words[2]))
                     next_free += record.words[2]
         placed = [Placed(slot, library, entry, slot in ADDED) for slot, (_, library, entry) in SLOTS.items()]
-        placed.insert(1, Placed(PLAIN, 0, PLAIN))
+        placed = sorted([*placed, *(Placed(slot, 0, slot) for slot in self.plain)], key=lambda one: one.slot)
         link = Link(placed, privates, next_free, self.data + 2 * sum(one.words for one in privates))
         return Case(f"links/everywhere-{name}-{self.order}-endian", f"{about} The same in eight segments to be linked.", self.host, self.libraries, link=link)
 
@@ -77,7 +77,7 @@ def side_by_side(number, name):
     first, second, third = turned
     procedures = [Procedure([first(0), second(1), third(2), second(3), first(4), third(5)], data=6),
                   Procedure([first(6), second(7)], number=2), Procedure([second(8), third(9)], number=3),
-                  Procedure([third(10), first(11)], number=4, at=0)]
+                  Procedure([second(10), third(11), first(12), second(13), third(14), first(15)], number=4, at=0)]
     records = [referred(procedures, publ_ref, PUBLREF, "COUNT"), referred(procedures, priv_ref, PRIVREF, "STATE", 5),
                referred(procedures, unit_ref, UNITREF, used_by(name))]
     return procedures, [*records[number % 2 :], *records[: number % 2]]
@@ -180,16 +180,35 @@ def swapped(number, name):
 
 
 def shortest(number, name):
-    """Units of four bytes: a dictionary alone or, in every second one, no procedure. The program has a table and a dictionary."""
-    if number == 0:
-        return [Procedure([], data=10)], []
-    return bytes.fromhex("00 00 63 01" if number % 2 else "D7 D7 63 00"), []
+    """Units of four bytes, which have no procedure. The program has a table and a dictionary."""
+    return [Procedure([])] if number == 0 else bytes.fromhex("D7 D7 63 00"), []
+
+
+def dictionaries(number, name):
+    """Units whose code is their dictionary: a procedure without a body."""
+    return [Procedure([])] if number == 0 else bytes.fromhex("00 00 63 01"), []
 
 
 def whole_block(number, name):
     """Codes of 512 bytes."""
-    parts = ["A5", public("COUNT"), "D7" * 493, "AB", private("STATE")]
-    return [Procedure(parts, data=10)], [publ_ref("COUNT", [1]), priv_ref("STATE", 2, [497])]
+    parts = ["A5", public("COUNT"), "D7" * 492, "AB", private("STATE")]
+    return [Procedure(parts)], [publ_ref("COUNT", [1]), priv_ref("STATE", 2, [496])]
+
+
+def largest(number, name):
+    """Codes of 32766 bytes: ten of the table and four of the dictionary follow the instructions."""
+    parts = ["A5", public("COUNT", number), "D7" * 32748, unit("AUX")]
+    return [Procedure(parts)], [publ_ref("COUNT", [1]), unit_ref("AUX", [32751])]
+
+
+def of_1025_blocks(made):
+    """Sixteen segments of 64 blocks each. Those of one file share a code."""
+    for slot, of in ((3, 1), *((slot, WANTED[slot - 3][2]) for slot in ADDED)):
+        name, library, entry = SLOTS[slot]
+        made.segments[slot] = (made.libraries[library - 1] if library else made.host).slots[entry] = Segment(name, UNITSEG, shares=of)
+    made.plain = [0, PLAIN, *range(10, 16)]
+    made.host.slots |= {slot: Segment("FULL", LINKED, shares=PROGRAM) for slot in made.plain}
+    return made
 
 
 def numbered(made):
@@ -236,6 +255,10 @@ def with_padding(made):
 
 def cut_after_all(made):
     """Each library ends with an end mark, and the host with the code of a plain segment in slot 15."""
+    made.plain.append(15)
+    made.host.slots[15] = Segment("LAST", LINKED, code=b"\1\2\3\4\5")
+    address, length = laid_out(made.host)[0][15]
+    made.host.cut = BLOCK * address + length
     for file in made.libraries:
         slot = max(file.slots)
         address, length = laid_out(file)[0][slot]
@@ -262,14 +285,26 @@ def cases():
         yield Everywhere(own_definitions, order, THREE).case("definitions", "Definitions of units are not used.")
         made = Everywhere(ignored, order, next_free=0)
         for number, segment in enumerate(made.segments.values()):
-            segment.records[-1] = Record(f"END{number}", EOFMARK, [0, 65535 - number, number + 1])
-        yield made.case("ignored", "Words that have no meaning, and end marks of 0, with other words that are not.")
+            segment.records[-1:] = [Record(f"END{number}", EOFMARK, [0, 65535 - number, number + 1]), Record("AFTER", 15, [1, 2, 3])]
+        yield made.case("ignored", "Words that have no meaning, end marks of 0 with other words that are not, and records after them.")
+        made = Everywhere(plain_use, order)
+        for segment in made.segments.values():
+            segment.records += [Record("AFTER", 15, [1, 2, 3]), eof_mark(9)]
+        yield made.case("end-marks", "Records follow the end mark.")
+        made = Everywhere(plain_use, order)
+        for segment in made.segments.values():
+            segment.records[-1:] = [eof_mark(*segment.records[-1].words, "END"), Record("AFTER", 15, [1, 2, 3])]
+        yield made.case("named-end-marks", "End marks with a name.")
         yield Everywhere(tables, order).case("tables", "A table at byte 8, which two procedures have, and a procedure without a body.")
         yield Everywhere(swapped, order).case("procedures", "Procedure 1 is the last in the code.")
         yield numbered(Everywhere(shortest, order)).case("shortest", "Units of four bytes.")
-        yield Everywhere(whole_block, order).case("blocks", "Codes of 512 bytes.")
+        yield numbered(Everywhere(dictionaries, order)).case("dictionaries", "Units of four bytes, which are their dictionaries.")
+        made = Everywhere(whole_block, order)
+        made.host.slots[PLAIN].code = bytes.fromhex("D7") * BLOCK
+        yield made.case("blocks", "Codes of 512 bytes.")
+        yield of_1025_blocks(Everywhere(largest, order)).case("1025-blocks", "Codes of 32766 bytes, in a linked file of 1025 blocks.")
         for number in (0, 255):
             yield Everywhere(plain_use, order, number=number).case(f"number-{number}", f"The segment number is {number} before the link.")
         yield in_other_entries(Everywhere(plain_use, order)).case("entries", "Entries of a name that do not count.")
         yield with_padding(Everywhere(plain_use, order)).case("padding", "The rest of the last block of each code is not 0.")
-        yield cut_after_all(Everywhere(plain_use, order)).case("cut", "The libraries end with an end mark.")
+        yield cut_after_all(Everywhere(plain_use, order)).case("cut", "The libraries end with an end mark, and the host with the code of a plain segment.")

@@ -482,8 +482,8 @@ fault("34-earlier", "The PUBLREF refers to the operand of the displacement 32767
 
 
 # Changes that are made to big-endian files too
-BIG_ENDIAN = """1-first 4-no-segment 5-slot-2 6-wanted 9-slot-5 11-odd-util 12-tools 13-requested 14-kind-5 15-added
-    16-util 17-count-demo 18-util 19-util 20-type-256 21-util 22-util 23-util 24 25-util 26-word 27-exact 28-util 29-util 31-util
+BIG_ENDIAN = """1-first 4-no-segment 5-slot-2 6-wanted 7-slot-3 8-slot-4 9-slot-5 9-kind-6 9-kind-7 10-slot-6 11-odd-util 12-tools 13-requested 14-kind-5 15-added
+    16-util 17-count-demo 18-util 19-util 20-type-256 21-util 22-util 23-util 24 24-constant 25-util 26-word 27-exact 28-util 29-util 31-util
     32-util 33-util 34-exact 35""".split()
 
 # Changes that are made also where UTIL is in slot 7 of the host itself

@@ -152,6 +152,16 @@ def files():
                  [File({2: using("OTHER", "NOBODY")}, more=b"\xff")], [DEMO])
 
 
+def behind_a_mebibyte():
+    """Codes in block 2049 and later, of a library and of a host."""
+    util = unit_of("UTIL", ["A5", public(displacement=1)], [publ_ref("COUNT", [1])])
+    util.before = 2048
+    yield linked("address-2049", "The library has the unit behind a mebibyte.", wanting("UTIL"), [{2: util}], [DEMO, UTIL])
+    host = {1: program(), 9: Segment("TOOLS", LINKED, code=b"\1\2\3\4\5", before=2048), 10: unit_of("AUX", ["D7"])}
+    yield linked("address-2051-of-the-host-big-endian", "The host has a plain segment and a unit behind a mebibyte.", host, [],
+                 [DEMO, (9, 0, 9), (10, 0, 10)], order="big")
+
+
 def amounts():
     """Many procedures, segments, private variables and definitions, and a unit that a late library has."""
     records = [publ_ref("COUNT", [1]), priv_ref("STATE", 4, [4]), eof_mark(0)]
@@ -191,4 +201,5 @@ def cases():
     yield from codes()
     yield from slots()
     yield from files()
+    yield from behind_a_mebibyte()
     yield from amounts()

@@ -176,8 +176,9 @@ def chains():
                      wanting("UTIL"), libraries, placed)
     names = [f"CHAIN{k}" for k in range(9)]
     library = {k: using(name, *names[k + 1 : k + 2]) for k, name in enumerate(names)}
-    yield linked("added-9", "A chain of nine units that the host program's UNITREF begins: slots 7 to 15 are taken.",
-                 {1: host_using("CHAIN0")}, [library], [DEMO, *((7 + k, 1, k, True) for k in range(9))])
+    for end, order in (("", "little"), ("-big-endian", "big")):
+        yield linked(f"added-9{end}", "A chain of nine units that the host program's UNITREF begins: slots 7 to 15 are taken.",
+                     {1: host_using("CHAIN0")}, [library], [DEMO, *((7 + k, 1, k, True) for k in range(9))], order=order)
 
 
 def added():

@@ -190,8 +190,8 @@ def eof_mark(next_free, name=""):
 @dataclasses.dataclass
 class Segment:
     """A slot of a file. It has its procedures, or a code as bytes, or none. `shares` is the slot whose code and records
-    it has; `inside` is the slot in whose code it lies, and from which of its blocks on. `address` and `length` are what the
-    dictionary says, if that is not where its code is. `changes` are bytes of its code, by offset, that its procedures do not
+    it has; `inside` is the slot in whose code it lies, and from which of its blocks on. `before` is how many blocks of zeros
+    come before its code. `address` and `length` are what the dictionary says, if that is not where its code is. `changes` are bytes of its code, by offset, that its procedures do not
     have; `linked` are bytes that the link gives to a code without procedures. `fault` is the fault of a code that is refused."""
 
     name: object
@@ -202,6 +202,7 @@ class Segment:
     text: int = 0
     shares: int = None
     inside: tuple = None
+    before: int = 0
     address: int = None
     length: int = None
     number: int = None
@@ -258,6 +259,7 @@ def laid_out(file):
         address = length = 0
         if segment.has_blocks():
             code = source_code(file, slot)
+            blocks += bytes(BLOCK * segment.before)
             address, length = 1 + len(blocks) // BLOCK, len(code)
             blocks += whole(code, BLOCK) + whole(b"".join(one.encoded(file.order) for one in segment.records), BLOCK)
         entries[slot] = [address, length]

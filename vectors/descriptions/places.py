@@ -14,6 +14,7 @@ from .model import (
 )
 
 KINDS = {"publref": PUBLREF, "privref": PRIVREF, "unitref": UNITREF}
+WIDE = ("publref", "privref")  # with operands of two bytes
 FORMATS = {PUBLREF: 2, PRIVREF: 2, UNITREF: 1}
 
 
@@ -48,7 +49,10 @@ UNITS = [Place(role, library, slot, entry) for role, slot, entry in (("wanted", 
 LINKED_PLACES = [PROGRAM, UNIT, *UNITS]
 NAMES = {"program": "DEMO", "unit": "AUX", "plain": "TOOLS", "wanted": "UTIL", "added": "MORE"}
 USED = {**NAMES, "program": "LOW"}  # the unit that the segment itself uses: itself, and LOW of the host
-DEFINITIONS = (publ_def("COUNT", 3), const_def("LIMIT", 5))
+
+
+def definitions():
+    return publ_def("COUNT", 3), const_def("LIMIT", 5)
 
 
 def small(name, *records):
@@ -67,7 +71,7 @@ def tried(place):
     if place == PLAIN:
         return Segment(name, LINKED, code=b"\xd7" * 30)
     if place == PROGRAM:
-        return Segment(name, HOSTSEG, procedures, [*DEFINITIONS, *records, eof_mark(8)])
+        return Segment(name, HOSTSEG, procedures, [*definitions(), *records, eof_mark(8)])
     return Segment(name, UNITSEG, procedures, [*records, eof_mark(0)])
 
 
@@ -79,7 +83,7 @@ class Files:
         self.place, self.order, self.segment = place, order, tried(place)
         asking = [unit_ref("MORE", [])] if place.role == "added" else []
         by_program, by_unit = (asking, []) if order == "big" else ([], asking)
-        program = Segment("DEMO", HOSTSEG, [Procedure(["D7 D7 C1 00"], parameters=4, data=10)], [*DEFINITIONS, *by_program, eof_mark(8)])
+        program = Segment("DEMO", HOSTSEG, [Procedure(["D7 D7 C1 00"], parameters=4, data=10)], [*definitions(), *by_program, eof_mark(8)])
         # (a unit before the program, so that the program is the last of its file)
         host = {0: small("LOW")} if place == PROGRAM else {1: program}
         libraries = []
@@ -228,6 +232,22 @@ rule("18-second", "Procedure 2 of {it} is native.")(leading(2, 21))
 rule("17-no-outer-block", "{it} has no procedure 1.", places=[PROGRAM])(leading(1, 26))
 
 
+@rule("17-by-two", "The dictionary of {it} would begin two bytes before its code of four.", places=LINKED_PLACES[1:])
+def dictionary_of_two(files):
+    files.segment.procedures, files.segment.code, files.segment.records = None, bytes.fromhex("00 00 63 02"), [eof_mark(0)]
+
+
+@rule("17-before-20", "The table of procedure 1 of {it} is at byte 7, and its first record has type 15.")
+def before_the_records(files):
+    leading(1, 7)(files)
+    files.segment.records[0].type, files.segment.records[0].fault = 15, 20
+
+
+@rule("18-third", "Procedure 3 of {it} is native, and procedure 2 has no body.")
+def third_native(files):
+    files.segment.procedures.append(Procedure(["AD 00"], number=3, said=0))
+
+
 @rule("17-before-18", "Procedure 1 of {it} is native, and the table of procedure 2 is at byte 7.")
 def two_procedures(files):
     files.segment.changes = {20: "00", 24: files.word(17)}
@@ -275,8 +295,9 @@ def typed(number, types):
     return change
 
 
-rule("20", "A record of {it} has a type above 14.", spread=False)(typed(20, [15, 256, 65535, 16]))
-rule("21", "A record of {it} has a type of native code.", spread=False)(typed(21, [2, 5, 6, 9, 10]))
+rule("20", "A record of {it} has type 15.")(typed(20, [15]))
+rule("20-high", "A record of {it} has a type whose low byte is that of a definition.")(typed(20, [264, 263, 65288]))
+rule("21", "A record of {it} has a type of native code.")(typed(21, [2, 5, 6, 9, 10]))
 rule("22", "A record of {it} has a type of separate procedures.", spread=False)(typed(22, [11, 12, 13, 14]))
 
 
@@ -304,7 +325,7 @@ def no_references(files, kind):
 # units that are requested
 
 
-@rule("13", "A UNITREF of {it} requests what no library has.", spread=False)
+@rule("13", "A UNITREF of {it} requests what no library has.")
 def missing(files):
     index, record = files.record("unitref")
     record.name = "NOBODY"
@@ -316,8 +337,7 @@ def blank(files):
     return [files.append(unit_ref("" if files.order == "little" else bytes(8), []))]
 
 
-@rule("35", "A UNITREF of {it} requests a unit, and no empty slot is left.")
-def no_slot(files):
+def without_slots(files):
     files.host.slots[2] = Segment("FULL", LINKED, code=b"\xd7")
     for slot in range(7, 16):
         if files.place.role != "added" or slot != files.place.slot:
@@ -325,7 +345,18 @@ def no_slot(files):
     if not files.libraries:
         files.libraries = [File({}, files.order)]
     files.libraries[-1].slots[2] = small("LAST")
+
+
+@rule("35", "A UNITREF of {it} requests a unit, and no empty slot is left.")
+def no_slot(files):
+    without_slots(files)
     return [files.append(unit_ref("LAST", []))]
+
+
+@rule("13-before-35", "A UNITREF of {it} requests what no library has, and no empty slot is left.")
+def missing_without_slots(files):
+    without_slots(files)
+    return [files.append(unit_ref("NOBODY", []))]
 
 
 # private variables and definitions
@@ -343,6 +374,11 @@ def doubled_of_no_words(files):
     return [files.append(priv_ref("NONE", 0, []))]
 
 
+@rule("25-before-26", "{it} has a private variable twice, the second time with 32767 words.")
+def doubled_and_large(files):
+    return [files.append(priv_ref("STATE", 32767, []))]
+
+
 @rule("26", "The private variable of {it} has 32760 words, from 8 on: the next offset would be 32768.", spread=False)
 def large_private(files):
     index, record = files.record("privref")
@@ -354,6 +390,15 @@ def large_private(files):
 def private_after_all(files):
     files.record("privref")[1].words[2] = 32759
     return [files.append(priv_ref("LAST", 1, []))]
+
+
+@rule("26-none", "The end mark of the program is 32768, and {it} has a private variable of 0 words.")
+def private_of_no_words(files):
+    program = next(one for one in files.host.slots.values() if one.kind == HOSTSEG)
+    program.records[-1].words = [32768]
+    index, record = files.record("privref")
+    record.words[2] = 0
+    return [index]
 
 
 def named(name):
@@ -409,15 +454,23 @@ rule("31-far", "A {kind} of {it} refers to byte 65535.", KINDS)(referring(65535,
 rule("32", "A {kind} of {it} refers to the first byte of a table.", KINDS, spread=False)(referring(11, 12))
 rule("32-level", "A {kind} of {it} refers to the last byte of a table.", KINDS)(referring(21, 21))
 rule("32-dictionary", "A {kind} of {it} refers to the first byte of the dictionary.", KINDS)(referring(23, 24))
-rule("32-number", "A {kind} of {it} refers to the segment number.", KINDS)(referring(27, 28))
-rule("32-count", "A {kind} of {it} refers to the last byte of the code.", KINDS)(referring(28, 29))
+rule("32-number", "A {kind} of {it} refers to the segment number.", ["unitref"], spread=False)(referring(27, 28))
+rule("32-count", "A {kind} of {it} refers to the last byte of the code.", ["unitref"], spread=False)(referring(28, 29))
+rule("32-end", "A {kind} of {it} refers to the last two bytes of the code.", WIDE)(referring(28, 29))
 
 
-@rule("32-third", "A {kind} of {it} refers to the table of its third procedure.", KINDS)
-def third_table(files, kind):
-    # the tables of procedures 2 and 3, each after two bytes of instructions, are at 32 and 44, so their bytes begin at 24 and at 36
-    files.segment.procedures[1:] = [Procedure(["AD 00"], number=2), Procedure(["AD 00"], number=3)]
-    return referring(35, 36)(files, kind)
+def of_three_tables(wide, narrow):
+    """The tables of procedures 2 and 3, each after two bytes of instructions, are at 32 and 44, so their bytes begin at 24 and at 36."""
+
+    def change(files, kind):
+        files.segment.procedures[1:] = [Procedure(["AD 00"], number=2), Procedure(["AD 00"], number=3)]
+        return referring(wide, narrow)(files, kind)
+
+    return change
+
+
+rule("32-first", "A {kind} of {it} refers to the table of the first of its three procedures.", KINDS)(of_three_tables(11, 12))
+rule("32-third", "A {kind} of {it} refers to the table of the third of its three procedures.", KINDS)(of_three_tables(35, 36))
 
 
 def another(kind, used, references):
@@ -435,11 +488,26 @@ def sharing(wide, narrow):
     return change
 
 
-rule("33", "A {kind} of {it} refers to the second byte of an operand, or to a byte before that of a UNITREF.", KINDS, spread=False)(
-    sharing(6, 5))
-rule("33-second", "A {kind} of {it} refers to the second byte of the operand of a PRIVREF.", KINDS)(sharing(5, 5))
-rule("33-first", "A {kind} of {it} refers to an operand whose first byte that of a PUBLREF has.", KINDS)(sharing(0, 1))
-rule("33-byte", "A {kind} of {it} refers to the byte of a UNITREF.", KINDS)(sharing(7, 7))
+# (wide: the second byte is that of the UNITREF, the first is the second of the PRIVREF, the second the first of the PUBLREF, and so on)
+for name, what, wide, narrow in [("", "the byte of a UNITREF, or to the second of a PRIVREF", 6, 5),
+                                 ("-private-second", "the second byte of the PRIVREF's operand, or to that of the UNITREF", 5, 7),
+                                 ("-public-first", "the first byte of the PUBLREF's operand", 0, 1),
+                                 ("-private-first", "the first byte of the PRIVREF's operand", 3, 4),
+                                 ("-public-second", "the second byte of the PUBLREF's operand", 2, 2)]:
+    rule(f"33{name}", f"A further {{kind}} of {{it}} refers to {what}.", KINDS, spread=bool(name))(sharing(wide, narrow))
+
+
+@rule("32-before-33", "A further {kind} of {it} refers to the byte of a UNITREF and to a table.", WIDE)
+def reserved_and_shared(files, kind):
+    files.append(unit_ref(USED[files.place.role], [11]))
+    return sharing(11, 11)(files, kind)
+
+
+@rule("33-before-34", "A further {kind} of {it} refers to an operand that a PUBLREF has made 32767.", WIDE)
+def shared_and_large(files, kind):
+    files.segment.procedures[0].parts[6:] = ["01 7F FC D7"]
+    files.append(publ_ref("COUNT", [9]))
+    return sharing(9, 9)(files, kind)
 
 
 @rule("33-list", "A {kind} of {it} refers to one byte twice.", KINDS)
@@ -449,7 +517,7 @@ def listed_twice(files, kind):
     return [index, 1]
 
 
-@rule("34", "The displacement and the value of a {kind} of {it} are 32768 together.", ("publref", "privref"), spread=False)
+@rule("34", "The displacement and the value of a {kind} of {it} are 32768 together.", WIDE, spread=False)
 def large_operand(files, kind):
     index, record = files.record(kind)
     operand = next(part for part in files.segment.procedures[0].parts if isinstance(part, Operand) and part.type == record.type)
@@ -457,7 +525,7 @@ def large_operand(files, kind):
     return [index, 0]
 
 
-@rule("34-later", "The second reference of a {kind} of {it} is to a displacement of 32767.", ("publref", "privref"))
+@rule("34-later", "The second reference of a {kind} of {it} is to a displacement of 32767.", WIDE)
 def later_operand(files, kind):
     index, record = files.record(kind)
     files.segment.procedures[0].parts[6:] = ["01 7F FF D7"]
@@ -480,8 +548,8 @@ def entry_rules():
             for name, what, change in [("length", "has length 0", {"length": 0}), ("address", "has address 0", {"address": 0}),
                                        ("name", "has another name", {"name": "OTHER"})]:
                 yield place, order, f"13-{name}", f"{about} {what}.", change, asked
-            for kind in (0, 1, 2, 4, 5, 8, 255):
-                if kind == 5 or (kind + place.library + ORDERS.index(order)) % 3 == 0:
+            for kind in (0, 1, 2, 4, 5, 8):
+                if kind == 5 or place.role == "wanted":
                     yield (place, order, f"14-kind-{kind}", f"{about} has kind {kind}.", {"kind": kind},
                            Fault(14, place.library, place.slot, kind=kind))
 

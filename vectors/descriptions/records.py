@@ -231,10 +231,11 @@ def privates():
             4: program(priv_ref("STATE", 3, [1]), parts=["AB", private(displacement=1), "D7"]), 7: Segment("UTIL")}
     several = [priv_ref("LAST", 1, [4]), publ_def("X", 1), priv_ref("STATE", 4, [1]), priv_ref("MIDDLE", 2, [7])]
     parts = ["AB", private(), "AB", private("LAST"), "AB", private("MIDDLE", 1)]
-    yield linked("privates-by-slot-and-record", "Private variables of a unit in slot 0, the program in 4 and a wanted unit, by slot "
-                 "and record.", host,
-                 [of_util(*several, parts=parts)], [(0, 0, 0), (4, 0, 4), UTIL],
-                 [(0, "STATE", 8, 2), (4, "STATE", 10, 3), (7, "LAST", 13, 1), (7, "STATE", 14, 4), (7, "MIDDLE", 18, 2)], 20, 34)
+    for end, order in (("", "little"), ("-big-endian", "big")):
+        yield linked(f"privates-by-slot-and-record{end}", "Private variables of a unit in slot 0, the program in 4 and a wanted unit, by "
+                     "slot and record.", host, [of_util(*several, parts=parts)], [(0, 0, 0), (4, 0, 4), UTIL],
+                     [(0, "STATE", 8, 2), (4, "STATE", 10, 3), (7, "LAST", 13, 1), (7, "STATE", 14, 4), (7, "MIDDLE", 18, 2)], 20, 34,
+                     order)
     yield refused("25-no-words", "A unit has a private variable of 0 words twice.", wanting("UTIL"),
                   [of_util(priv_ref("STATE", 0, []), priv_ref("STATE", 0, []))], Fault(25, 1, 7, 1))
     yield refused("25-third", "The third of a unit's private variables has the name of the first.", wanting("UTIL"),

@@ -2,9 +2,9 @@
 asks for it."""
 from .cases import Fault
 from .links import (
-    DEMO, UTIL, host_using, linked, private, program, public, refused, unit, unit_of, using, wanting,
+    DEMO, ORDERS, UTIL, host_using, linked, private, program, public, refused, unit, unit_of, using, wanting,
 )
-from .model import HOSTSEG, LINKED, UNITSEG, File, Segment, const_def, eof_mark, priv_ref, publ_def, publ_ref, unit_ref
+from .model import HOSTSEG, LINKED, UNITSEG, File, Record, Segment, const_def, eof_mark, priv_ref, publ_def, publ_ref, unit_ref
 
 TOOLS = Segment("TOOLS", LINKED, code=b"\xd7\xad\x00\x01\x01")
 
@@ -332,6 +332,17 @@ def order():
                {**wanting("NOBODY"), 3: Segment("TOOLS", LINKED, address=0, length=5)}, [], Fault(12, 0, 3))
     yield case("14-before-13-of-a-later-slot", "UTIL has kind 5, and slot 8 wants a unit that is missing.", wanting("UTIL", "NOBODY"),
                [{2: Segment("UTIL", 5, code=b"\xd7\xd7")}], Fault(14, 1, 7, kind=5))
+
+    # MORE is the first that UTIL requests, and its code or its records are refused; LAST, the second, is no unit or is there twice
+    broken = [("11", unit_of("MORE", length=15, fault=11), None), ("16", unit_of("MORE", address=900, fault=16), None),
+              ("17", unit_of("MORE", changes={15: "FF"}), None), ("18", unit_of("MORE", changes={10: "00"}), None),
+              ("21", unit_of("MORE", (), [Record("X", 9, [0, 0, 0], fault=21)]), 0)]
+    for name, more, record in broken:
+        for later, last in ((14, {5: Segment("LAST", 5, code=b"\xd7\xd7")}), (15, {5: unit_of("LAST"), 6: unit_of("LAST")})):
+            for order in ORDERS if later == 15 else ORDERS[:1]:
+                yield refused(f"{name}-before-{later}-of-a-second-name-{order}-endian", f"MORE, which UTIL requests first, is fault {name}, and "
+                              f"LAST, which it requests second, {later}.", wanting("UTIL"),
+                              [{2: using("UTIL", "MORE", "LAST"), 3: more, **last}], Fault(int(name), 1, 8, record), order, folder="orders")
 
 
 def cases():
