@@ -1,9 +1,10 @@
-"""Runs the linker of linker.py and the wrong ones of wrong_linkers.py over the test vectors, in this process: which of them answers
+"""Runs the linker of linker.py and the wrong ones of wrong_linkers.py over the test vectors, in a few processes: which of them answers
 each case as its description says, and which cases tell the others."""
 import contextlib
 import functools
 import heapq
 import inspect
+import multiprocessing
 import pathlib
 import re
 import signal
@@ -168,18 +169,28 @@ def large_rows():
 def tell(cases, wrong_ones):
     """The wrong linkers, the cases that tell them, and what is wrong: a right linker that differs, a wrong one that does not."""
     signal.signal(signal.SIGALRM, stopped)
-    questions, found, told = questions_of(cases), [], {}
-    if question := differing(linker, questions):
+    QUESTIONS[:], ROWS[:], found = questions_of(cases), wrong_ones, []
+    if question := differing(linker, QUESTIONS):
         found.append(f"linker.py answers {question.__self__.name} otherwise")
-    for row in wrong_ones:
-        with row.linker() as wrong:
-            question = differing(wrong, likely(row, questions) + questions)
-        if question is None and row.what not in wrong_linkers.UNTOLD:
-            found.append(f"no case tells the linker '{row.what}'")
-        if question is not None and row.what in wrong_linkers.UNTOLD:
-            found.append(f"the linker '{row.what}' is told, by {question.__self__.name}, and is to be told by none")
-        if question is not None:
-            questions.remove(question)
-            questions.insert(0, question)
-        told[row.what] = question and question.__self__.name
+    with multiprocessing.get_context("fork").Pool() as pool:
+        told = dict(pool.imap_unordered(told_by, range(len(ROWS)), chunksize=4))
+    for what, name in told.items():
+        if name is None and what not in wrong_linkers.UNTOLD:
+            found.append(f"no case tells the linker '{what}'")
+        if name is not None and what in wrong_linkers.UNTOLD:
+            found.append(f"the linker '{what}' is told, by {name}, and is to be told by none")
     return told, found
+
+
+QUESTIONS, ROWS = [], []  # which each process has
+
+
+def told_by(index):
+    """What is wrong in a row, and the case that tells it, which is asked first from then on; or None."""
+    row = ROWS[index]
+    with row.linker() as wrong:
+        question = differing(wrong, likely(row, QUESTIONS) + QUESTIONS)
+    if question is not None:
+        QUESTIONS.remove(question)
+        QUESTIONS.insert(0, question)
+    return row.what, question and question.__self__.name

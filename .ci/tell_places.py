@@ -46,6 +46,8 @@ class Placed:
     def __init__(self, case):
         self.case, self.name, self.count = tell.Case(case), case["name"], len(case["libraries"])
         self.number = case["fault"] and case["fault"]["number"]
+        # the cases of one rule at other places have names that differ in the end
+        self.family = re.sub(r"(-(publref|privref|unitref))?-(program|unit|plain|(wanted|added)-\d)-(little|big)-endian$", "", self.name)
         host = self.case.files[0]
         order = linker.order_of(host) if len(host) >= linker.BLOCK else None
         self.order = f"{order}-endian"
@@ -97,19 +99,20 @@ class Answer:
 
 
 def answers_of(index):
-    """What is told of one rule, at all its places. The cases of a fault that it names come first, and then the links of all places."""
+    """What is told of one rule, at all its places. The cases that told it at another place come first, with those of the same rule at
+    other places, then the cases of a fault that it names, and then the links of all places."""
     signal.signal(signal.SIGALRM, tell.stopped)
     rule = wrong_places.RULES[index]
     numbers = set(map(int, re.findall(r"\b\d\d?\b", rule.what)))
     ordered = sorted(PLACED, key=lambda one: (one.number not in numbers, "everywhere" not in one.name, "places/" not in one.name))
-    answers, before = [], []  # those that told the rule at another place come first of all
+    answers, before = [], []
     with tell.Row(rule.what, *(part for change in rule.changes for part in change)).linker() as wrong:
         for place in (place for count in (1, 2) for place in rule.places(count)):
             wrong.HERE = Here(place)
             asked = (one for one in [*before, *ordered] if one.has(rule, place))
             told = next((one for one in asked if not tell.is_right(one.case.is_linked_by, wrong)), None)
             if told and told not in before:
-                before.insert(0, told)
+                before[:0] = [one for one in PLACED if one.family == told.family]
             answers.append(Answer(rule.what, place, told and told.name))
     return answers
 

@@ -1,7 +1,7 @@
 """Wrong linkers that err at one place: each is .ci/linker.py with a change of a few words that counts only where HERE says so, for an
 entry and, where a rule is one of several kinds of records, a kind. A row has what is wrong, the function that is changed, what stands
 there once, and what stands in its place; `at` has the segments of which the rule is, `files` their files, and `kinds` the kinds
-of records. The places are made of that: each value of one axis, and each two of two axes."""
+of records; `why` says why it is of no others, where that is not what the rule itself says. The places are made of that: each value of one axis, and each two of two axes."""
 import dataclasses
 import itertools
 
@@ -16,13 +16,15 @@ ORDERS = ("little-endian", "big-endian")
 
 @dataclasses.dataclass
 class Rule:
-    """A rule that is wrong, and where it may be so; a place is a value of an axis or of two."""
+    """A rule that is wrong, and where it may be so; a place is a value of an axis or of two. `why` says why it is tried at no other
+    places: there, no file shows it."""
 
     what: str
     changes: tuple
     at: tuple = ()
     files: tuple = ()
     kinds: tuple = ()
+    why: str = ""
 
     def axes(self):
         of_host = set(self.at) <= {PROGRAM, UNIT, PLAIN}
@@ -47,20 +49,24 @@ def is_one_of_two(place):
     return True
 
 
-def rule(what, function, *changes, at=RESOLVED, files=None, kinds=()):
+def rule(what, function, *changes, at=RESOLVED, files=None, kinds=(), why=""):
     """Changes of one function; more such groups may follow, each with its function."""
     if files is None:
         files = FILES if {PROGRAM, UNIT, PLAIN} & set(at) else LIBRARIES
     changes = tuple((function, *pair) for pair in zip(changes[::2], changes[1::2]))
-    return Rule(what, changes, at, files, kinds)
+    return Rule(what, changes, at, files, kinds, why)
 
 
 def only_order(what, function, *changes):
     return rule(what, function, *changes, at=(), files=())
 
 
+HAS_A_TABLE = "a program has a table at least, and is 17 without it"
+OWN_COUNTS = "the definitions of the program are those of the link"
 IN_CODE, IN_RECORDS = "entry.file.number, slot", "entry.file.number, slot, index"
 ODD, SHORT = "entry.length % 2", "entry.length < 4"
+TWO_BYTES = "an operand of two bytes has another byte of the dictionary too"
+ONE_BYTE = "a UNITREF has one byte: it cannot be at two places, nor too large"
 LAST_BYTE, RESERVED, USED = "places[-1] >= len(code)", "not reserved.isdisjoint(places)", "not used.isdisjoint(places)"
 AT_RECORD = "HERE(segment.entry, record.type)"
 TABLES = "for table in segment.tables.values()"
@@ -83,8 +89,9 @@ CODES = [
     rule("11 of an odd code is no fault", "code_of", ODD, f"{ODD} and not HERE(entry)"),
     rule("11 of a short code is no fault", "code_of", SHORT, f"{SHORT} and not HERE(entry)"),
     rule("a code of two bytes is long enough", "code_of", SHORT, "entry.length < 4 - 2 * HERE(entry)"),
-    rule("a code of four bytes is too short", "code_of", SHORT, f"{SHORT} + HERE(entry)", at=(UNIT, WANTED, ADDED)),
-    rule("12 is no fault", "code_of", "if entry.address == 0:", "if entry.address == 0 and not HERE(entry):", at=(PROGRAM, PLAIN)),
+    rule("a code of four bytes is too short", "code_of", SHORT, f"{SHORT} + HERE(entry)", at=(UNIT, WANTED, ADDED), why=HAS_A_TABLE),
+    rule("12 is no fault", "code_of", "if entry.address == 0:", "if entry.address == 0 and not HERE(entry):", at=(PROGRAM, PLAIN),
+         why="a unit without an address is wanted or empty"),
     rule("16 is no fault", "code_of", "> len(entry.file.data)", "> len(entry.file.data) and not HERE(entry)", at=ANY),
     rule("a code may lack a byte", "code_of", "> len(entry.file.data)", "> len(entry.file.data) + HERE(entry)", at=ANY),
     rule("a code lies in the file with its blocks", "code_of", "start + entry.length >",
@@ -93,9 +100,10 @@ CODES = [
          at=ANY),
     *other_parts("code_of", IN_CODE, "faults of a code", "entry"),
     rule("a dictionary may begin a word before the code", "tables_of", "if dictionary < 0:", "if dictionary < -2 * HERE(entry):",
-         at=(UNIT, WANTED, ADDED)),
+         at=(UNIT, WANTED, ADDED), why=HAS_A_TABLE),
     rule("a long dictionary is no procedure", "tables_of", "if dictionary < 0:", "if dictionary < 0 and HERE(entry):\n        return {}\n    if dictionary < 0:"),
-    rule("a dictionary may not be the whole code", "tables_of", "if dictionary < 0:", "if dictionary < HERE(entry):", at=(UNIT, WANTED, ADDED)),
+    rule("a dictionary may not be the whole code", "tables_of", "if dictionary < 0:", "if dictionary < HERE(entry):", at=(UNIT, WANTED, ADDED),
+         why=HAS_A_TABLE),
     rule("a table may be before the code", "tables_of", "table < 8", "table < (-65536 if HERE(entry) else 8)"),
     rule("a table may be at byte 7", "tables_of", "table < 8", "table < 8 - HERE(entry)"),
     rule("a table may not be at byte 8", "tables_of", "table < 8", "table < 8 + HERE(entry)"),
@@ -110,7 +118,7 @@ CODES = [
     rule("a procedure without a body is refused", "tables_of", "if value == 0:", "if value == 0 and HERE(entry):\n            raise Fault(17, *where)\n        if value == 0:"),
     rule("the dictionary ends at a procedure without a body", "tables_of", "if value == 0:", "if value == 0 and HERE(entry):\n            break\n        if value == 0:"),
     rule("each segment needs a procedure 1", "tables_of", "entry.role == HOST and 1 not in tables", "(entry.role == HOST or HERE(entry)) and 1 not in tables",
-         at=(UNIT, WANTED, ADDED)),
+         at=(UNIT, WANTED, ADDED), why="the program does need it"),
     only_order("a program needs no outer block", "tables_of", "if entry.role == HOST and 1 not in tables:",
                "if entry.role == HOST and 1 not in tables and HERE(entry):\n        tables[1] = 12\n    if entry.role == HOST and 1 not in tables:"),
     rule("18 is no fault", "tables_of", "if any(code[table] == 0", "if not HERE(entry) and any(code[table] == 0"),
@@ -255,10 +263,10 @@ VALUES = [
     rule("private variables are counted in bytes", "allot", "self.next += record.size", "self.next += record.size * (1 + HERE(segment.entry))"),
     rule("28 is no fault", "value_of", "if definition is None:", "if definition is None and HERE(segment.entry):\n            return 0\n        if definition is None:"),
     rule("28 without references is no fault", "value_of", "if definition is None:", "if definition is None and HERE(segment.entry) and not record.references:\n            return 0\n        if definition is None:"),
-    rule("a segment's own PUBLDEF defines what the program does not", "value_of", "if definition is None:", "if definition is None and HERE(segment.entry):\n            definition = next((one for one in segment.records if one.type == PUBLDEF and one.name == record.name), None)\n        if definition is None:", at=(UNIT, WANTED, ADDED)),
-    rule("a segment's own PUBLDEF comes first", "value_of", "if definition is None:", "if HERE(segment.entry):\n            definition = next((one for one in segment.records if one.type == PUBLDEF and one.name == record.name), definition)\n        if definition is None:", at=(UNIT, WANTED, ADDED)),
-    rule("a segment's own CONSTDEF is 29", "value_of", "if definition is None:", "if HERE(segment.entry):\n            definition = next((one for one in segment.records if one.type == CONSTDEF and one.name == record.name), definition)\n        if definition is None:", at=(UNIT, WANTED, ADDED)),
-    rule("a CONSTDEF of its own is 29 where 28 is", "value_of", "if definition is None:", "if definition is None and HERE(segment.entry):\n            definition = next((one for one in segment.records if one.type == CONSTDEF and one.name == record.name), None)\n        if definition is None:", at=(UNIT, WANTED, ADDED)),
+    rule("a segment's own PUBLDEF defines what the program does not", "value_of", "if definition is None:", "if definition is None and HERE(segment.entry):\n            definition = next((one for one in segment.records if one.type == PUBLDEF and one.name == record.name), None)\n        if definition is None:", at=(UNIT, WANTED, ADDED), why=OWN_COUNTS),
+    rule("a segment's own PUBLDEF comes first", "value_of", "if definition is None:", "if HERE(segment.entry):\n            definition = next((one for one in segment.records if one.type == PUBLDEF and one.name == record.name), definition)\n        if definition is None:", at=(UNIT, WANTED, ADDED), why=OWN_COUNTS),
+    rule("a segment's own CONSTDEF is 29", "value_of", "if definition is None:", "if HERE(segment.entry):\n            definition = next((one for one in segment.records if one.type == CONSTDEF and one.name == record.name), definition)\n        if definition is None:", at=(UNIT, WANTED, ADDED), why=OWN_COUNTS),
+    rule("a CONSTDEF of its own is 29 where 28 is", "value_of", "if definition is None:", "if definition is None and HERE(segment.entry):\n            definition = next((one for one in segment.records if one.type == CONSTDEF and one.name == record.name), None)\n        if definition is None:", at=(UNIT, WANTED, ADDED), why=OWN_COUNTS),
     rule("a PUBLREF may name a private variable of its segment", "value_of", "if definition is None:", "if definition is None and HERE(segment.entry) and (segment.slot, record.name) in self.offsets:\n            return self.offsets[segment.slot, record.name]\n        if definition is None:"),
     rule("a PUBLREF of a private variable's name is that", "value_of", "if record.type == PRIVREF:", "if record.type == PRIVREF or HERE(segment.entry) and (segment.slot, record.name) in self.offsets:"),
     rule("a PRIVREF of a definition's name is that", "value_of", "if record.type == PRIVREF:", "if record.type == PRIVREF and not (HERE(segment.entry) and record.name in self.definitions):"),
@@ -282,13 +290,12 @@ VALUES = [
 ]
 
 
-def checks(what, *changes, kinds=KINDS):
-    return rule(what, "Link.resolve", *changes, kinds=kinds)
+def checks(what, *changes, kinds=KINDS, why=""):
+    return rule(what, "Link.resolve", *changes, kinds=kinds, why=why)
 
 
-def reserved_but(what, less, kinds=KINDS):
-    return checks(what, RESERVED, f"not (reserved - {less} if {AT_RECORD} else reserved).isdisjoint(places)")if kinds is KINDS else checks(
-        what, RESERVED, f"not (reserved - {less} if {AT_RECORD} else reserved).isdisjoint(places)", kinds=kinds)
+def reserved_but(what, less, kinds=KINDS, why=""):
+    return checks(what, RESERVED, f"not (reserved - {less} if {AT_RECORD} else reserved).isdisjoint(places)", kinds=kinds, why=why)
 
 
 def reserved_too(what, more):
@@ -303,7 +310,7 @@ REFERENCES = [
     checks("31 is no fault", LAST_BYTE, f"{LAST_BYTE} and not {AT_RECORD}"),
     checks("the byte after a code is inside", LAST_BYTE, f"{LAST_BYTE} + {AT_RECORD}"),
     checks("the last byte of a code is outside", LAST_BYTE, f"{LAST_BYTE} - {AT_RECORD}"),
-    checks("only the first byte of an operand is inside", LAST_BYTE, f"places[-1] - {AT_RECORD} >= len(code)", kinds=WIDE),
+    checks("only the first byte of an operand is inside", LAST_BYTE, f"places[-1] - {AT_RECORD} >= len(code)", kinds=WIDE, why=ONE_BYTE),
     checks("places have sixteen bits", "places = range(reference, reference + width)", f"places = [one % (65536 if {AT_RECORD} else 2 ** 32) for one in range(reference, reference + width)]", kinds=WIDE),
     checks("32 before 31", f"if {LAST_BYTE}:", f"if {AT_RECORD} and {RESERVED}:\n                    raise segment.fault(32, record.index, index)\n                if {LAST_BYTE}:", kinds=WIDE),
     checks("32 is no fault", RESERVED, f"{RESERVED} and not {AT_RECORD}"),
@@ -317,9 +324,9 @@ REFERENCES = [
     reserved_but("the dictionary is not reserved", "set(range(dictionary_of(code), len(code)))"),
     reserved_but("the first byte of the dictionary is not reserved", "{dictionary_of(code)}"),
     reserved_but("the first word of the dictionary is not reserved", "{dictionary_of(code), dictionary_of(code) + 1}"),
-    reserved_but("the segment number is not reserved", "{len(code) - 2}", kinds=(UNITREF,)),
+    reserved_but("the segment number is not reserved", "{len(code) - 2}", kinds=(UNITREF,), why=TWO_BYTES),
     reserved_but("number and count are not reserved", "{len(code) - 2, len(code) - 1}"),
-    reserved_but("the number of procedures is not reserved", "{len(code) - 1}", kinds=(UNITREF,)),
+    reserved_but("the number of procedures is not reserved", "{len(code) - 1}", kinds=(UNITREF,), why=TWO_BYTES),
     reserved_but("only the first table is reserved", "{table + byte for table in list(segment.tables.values())[1:] for byte in range(-8, 2)}"),
     reserved_but("only the last table is reserved", "{table + byte for table in list(segment.tables.values())[:-1] for byte in range(-8, 2)}"),
     reserved_but("a third table is not reserved", "{table + byte for table in list(segment.tables.values())[2:] for byte in range(-8, 2)}"),
