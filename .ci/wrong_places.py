@@ -126,6 +126,8 @@ CODES = [
     rule("17 is 18", "tables_of", "table + 1 >= dictionary:\n            raise Fault(17, *where)", "table + 1 >= dictionary:\n            raise Fault(18 if HERE(entry) else 17, *where)"),
     rule("only procedure 1 is native", "tables_of", "for table in tables.values()", "for number, table in tables.items() if number == 1 or not HERE(entry)"),
     rule("procedure 1 is never native", "tables_of", "for table in tables.values()", "for number, table in tables.items() if number > 1 or not HERE(entry)"),
+    rule("at most 127 procedures", "tables_of", "range(1, code[-1] + 1)", "range(1, code[-1] % (128 if HERE(entry) else 256) + 1)"),
+    rule("at most 254 procedures", "tables_of", "if dictionary < 0:", "if dictionary < 0 or code[-1] > 255 - HERE(entry):"),
     rule("18 of an earlier procedure before 17", "tables_of", "tables[procedure] = table", "tables[procedure] = table\n        if code[table] == 0 and HERE(entry):\n            raise Fault(18, *where)"),
     *other_parts("tables_of", IN_CODE, "17 and 18", "entry"),
     rule("records are read before the tables", "Segment.__init__", "self.tables = tables_of", "HERE(entry) and list(records_of(entry, slot))\n            self.tables = tables_of"),
@@ -140,6 +142,21 @@ RECORDS = [
          "data, place + 8)", "data + bytes(1), place + 8)"),
     rule("a list may be cut off", "records_of", "if place + 16 * pieces > len(data):", "if place + 16 * pieces > len(data) and HERE(entry, type):\n                data += bytes(16 * pieces)\n            if place + 16 * pieces > len(data):", kinds=KINDS),
     rule("a list may be cut off after its references", "records_of", "place + 16 * pieces > len(data)", "place + (2 * record.count if HERE(entry, type) else 16 * pieces) > len(data)", kinds=KINDS),
+    rule("a list may not end with the file", "records_of", "if place + 16 * pieces > len(data):", "if place + 16 * pieces > len(data) - HERE(entry, type):", kinds=(UNITREF,),
+         why="of each segment that is tried the UNITREF has the last list"),
+    rule("a list of 32768 references is empty", "records_of", "record = Record(index, type, data[place : place + 8], words)", "words[1] %= 32768 if type in FORMATS and HERE(entry, type) else 65536\n        record = Record(index, type, data[place : place + 8], words)", kinds=KINDS),
+    rule("20 before 19", "records_of", "if place + 16 > len(data):", "if HERE(entry) and place + 10 <= len(data) and struct.unpack_from(f'{sign}H', data, place + 8)[0] > 14:\n            raise Fault(20, *where)\n        if place + 16 > len(data):"),
+    rule("19 of any list before 20 to 22", "records_of", "if type > 14:", "if HERE(entry) and type > 8 and place + 16 + 16 * ((record.count + 7) // 8) > len(data):\n            raise Fault(19, *where)\n        if type > 14:"),
+    rule("19 of the list before 21 and 23", "records_of", "if words[0] == 0:", "if HERE(entry, type) and words[0] != FORMATS[type] and place + 16 * ((record.count + 7) // 8) > len(data):\n                raise Fault(19, *where)\n            if words[0] == 0:", kinds=KINDS),
+    rule("23 before 22", "records_of", "if type in SEPARATE:", "if type in SEPARATE and words[0] not in (1, 2) and HERE(entry):\n            raise Fault(23, *where)\n        if type in SEPARATE:"),
+    rule("a type has fifteen bits", "records_of", "if type > 14:", "type %= 32768 if HERE(entry) else 65536\n        if type > 14:"),
+    rule("a format has fifteen bits", "records_of", "if words[0] != FORMATS[type]", "if words[0] % (32768 if HERE(entry, type) else 65536) != FORMATS[type]", kinds=KINDS),
+    rule("a format of which the low byte is 0 is 21", "records_of", "if words[0] == 0:", "if words[0] % (256 if HERE(entry, type) else 65536) == 0:", kinds=KINDS),
+    rule("21 of a format without references is no fault", "records_of", "if words[0] == 0:", "if words[0] == 0 and record.count == 0 and HERE(entry, type):\n                words[0] = FORMATS[type]\n            if words[0] == 0:", kinds=KINDS),
+    rule("references have fifteen bits", "records_of", 'struct.unpack_from(f"{sign}{record.count}H", data, place)', '[one % (32768 if HERE(entry, type) else 65536) for one in struct.unpack_from(f"{sign}{record.count}H", data, place)]', kinds=KINDS),
+    rule("references are sorted", "records_of", 'struct.unpack_from(f"{sign}{record.count}H", data, place)', '(sorted if HERE(entry, type) else list)(struct.unpack_from(f"{sign}{record.count}H", data, place))', kinds=KINDS),
+    rule("zero bytes are no end mark", "records_of", "if type == EOFMARK:", "if type == EOFMARK and not (HERE(entry) and record.name == bytes(8)):"),
+    rule("the index of a record has eight bits", "records_of", "index += 1", "index = (index + 1) % (256 if HERE(entry) else 2 ** 32)"),
     rule("20 is no fault", "records_of", "type > 14", "type > 14 and not HERE(entry)"),
     rule("type 15 is known", "records_of", "type > 14", "type > 14 + HERE(entry)"),
     rule("a type is its low byte", "records_of", "if type > 14:", "type %= 256 if HERE(entry) else 65536\n        if type > 14:"),
@@ -190,7 +207,13 @@ def parts_of(number, kinds=()):
 FAULTS = [one for number in (13, 25, 26, 28, 29, 35) for one in parts_of(number)]
 FAULTS += [one for number in (31, 32, 33) for one in parts_of(number, KINDS)] + list(parts_of(34, WIDE))
 
-UNIT_OF = "self.unit_of(entries, slot.index)"
+
+def not_asking(what, condition):
+    """A name that is not requested has slot 0."""
+    asked = rule(what, "request", "record.type == UNITREF", condition)
+    return dataclasses.replace(asked, changes=(*asked.changes, ("value_of", "self.units[record.name]", "self.units.get(record.name, 0)")))
+
+
 SOURCES = [
     *(rule(what, function, *changes, at=(), files=LIBRARIES) for what, function, *changes in [
         ("an entry without an address is filled", "entries_of", "entry.is_filled", "(entry.is_filled or HERE(library) and entry.length > 0)"),
@@ -222,9 +245,9 @@ SOURCES = [
         (f"14 of {at} is no fault", call, f"(entries[0] if len(entries) == 1 and HERE(entries[0].file) else {call})"),
         (f"14 and 15 of {at} have the slot of the library", call, call.rsplit(" ", 1)[0] + " entries[0].index if HERE(entries[0].file) else " + call.rsplit(" ", 1)[1])]),
     only_order("13 of a wanted unit has file 1", "Link.own", "raise Fault(13, 0,", "raise Fault(13, int(HERE(self.host)),"),
-    rule("a segment does not ask", "request", "record.type == UNITREF", "record.type == UNITREF and not HERE(segment.entry)"),
-    rule("a UNITREF without references does not ask", "request", "record.type == UNITREF", "record.type == UNITREF and (record.references or not HERE(segment.entry))"),
-    rule("a blank name does not ask", "request", "record.type == UNITREF", "record.type == UNITREF and not (HERE(segment.entry) and record.name in BLANK)"),
+    not_asking("a segment does not ask", "record.type == UNITREF and not HERE(segment.entry)"),
+    not_asking("a UNITREF without references does not ask", "record.type == UNITREF and (record.references or not HERE(segment.entry))"),
+    not_asking("a blank name does not ask", "record.type == UNITREF and not (HERE(segment.entry) and record.name in BLANK)"),
     rule("13 of a name has no record", "add_units", "raise segment.fault(13, record.index)", "raise segment.fault(13, None if HERE(segment.entry) else record.index)"),
     rule("35 is 13", "add_units", "raise segment.fault(35,", "raise segment.fault(13 if HERE(segment.entry) else 35,"),
     rule("13 is 35 if no slot is left", "add_units", "if not entries or name in BLANK:", "if HERE(segment.entry) and not free:\n                raise segment.fault(35, record.index)\n            if not entries or name in BLANK:"),
@@ -306,12 +329,38 @@ def of_table(first, last):
     return f"{{table + byte {TABLES} for byte in range({first}, {last})}}"
 
 
+PUBLREFS = "record for record in segment.records if record.type == PUBLREF"
+# Names that are taken for one
+ALIKE = {"without regard to capitals": "{}.lower()", "in seven bits": "bytes(byte % 128 for byte in {})", "in seven characters": "{}[:7]",
+         "with zero bytes as blanks": '{}.replace(bytes(1), b" ")', "without blanks around": '{}.strip(b" ")',
+         "up to a zero byte": "{}.split(bytes(1))[0]", "without the first byte": "{}[1:]", "up to a blank": '{}.split(b" ")[0]'}
+
+NAMES = [one for looseness, form in ALIKE.items() for one in (
+    rule(f"a PUBLREF and the definitions are compared {looseness}", "value_of", "self.definitions.get(record.name)",
+         f"(next((two for one, two in self.definitions.items() if {form.format('one')} == {form.format('record.name')}), None) "
+         f"if HERE(segment.entry) else self.definitions.get(record.name))"),
+    rule(f"private variables are compared {looseness}", "allot", "(segment.slot, record.name) in self.offsets",
+         f"((segment.slot, {form.format('record.name')}) in [(slot, {form.format('one')}) for slot, one in self.offsets] "
+         f"if HERE(segment.entry) else (segment.slot, record.name) in self.offsets)"))]
+
+STEPS = [
+    rule("28 and 29 of a segment before its references", "Link.resolve", "code, used = segment.code, set()", f"code, used = segment.code, set()\n        HERE(segment.entry) and [self.value_of(segment, record) for record in [{PUBLREFS}]]"),
+    rule("28 of a segment before its 29", "Link.resolve", "code, used = segment.code, set()", f"code, used = segment.code, set()\n        for record in [{PUBLREFS}] if HERE(segment.entry) else []:\n            if record.name not in self.definitions:\n                raise segment.fault(28, record.index)"),
+    rule("29 of a segment before its 28", "Link.resolve", "code, used = segment.code, set()", f"code, used = segment.code, set()\n        for record in [{PUBLREFS}] if HERE(segment.entry) else []:\n            if getattr(self.definitions.get(record.name), 'type', None) == CONSTDEF:\n                raise segment.fault(29, record.index)"),
+    rule("31 of a record before its 28 and 29", "Link.resolve", "value = self.value_of(segment, record)", "for index, reference in enumerate(record.references if HERE(segment.entry) and record.type == PUBLREF else ()):\n                if reference + 2 > len(code):\n                    raise segment.fault(31, record.index, index)\n            value = self.value_of(segment, record)"),
+    rule("31 of a list before the others", "Link.resolve", "value = self.value_of(segment, record)", "value = self.value_of(segment, record)\n            for index, reference in enumerate(record.references if HERE(segment.entry) else ()):\n                if reference + 1 + (record.type != UNITREF) > len(code):\n                    raise segment.fault(31, record.index, index)"),
+    rule("32 of a list before the others", "Link.resolve", "value = self.value_of(segment, record)", "value = self.value_of(segment, record)\n            for index, reference in enumerate(record.references if HERE(segment.entry) else ()):\n                if not reserved.isdisjoint(range(reference, min(len(code), reference + 1 + (record.type != UNITREF)))):\n                    raise segment.fault(32, record.index, index)"),
+    rule("the index of a reference has eight bits", "Link.resolve", "places = range(", "index %= 256 if HERE(segment.entry) else 65536\n                places = range("),
+    rule("a sum has sixteen bits", "Link.resolve", "operand > 32767", "operand % (65536 if HERE(segment.entry) else 2 ** 32) > 32767", "128 + operand // 256", "128 + operand // 256 % 128"),
+    rule("a value has fifteen bits", "Link.resolve", "operand > 32767", "operand - (value - value % 32768) * HERE(segment.entry) > 32767", "128 + operand // 256", "128 + operand // 256 % 128"),
+    rule("a large value is refused without references", "value_of", "return definition.value", "if definition.value > 32767 and HERE(segment.entry):\n            raise segment.fault(34, record.index, 0)\n        return definition.value"),
+]
+
 REFERENCES = [
     checks("31 is no fault", LAST_BYTE, f"{LAST_BYTE} and not {AT_RECORD}"),
     checks("the byte after a code is inside", LAST_BYTE, f"{LAST_BYTE} + {AT_RECORD}"),
     checks("the last byte of a code is outside", LAST_BYTE, f"{LAST_BYTE} - {AT_RECORD}"),
     checks("only the first byte of an operand is inside", LAST_BYTE, f"places[-1] - {AT_RECORD} >= len(code)", kinds=WIDE, why=ONE_BYTE),
-    checks("places have sixteen bits", "places = range(reference, reference + width)", f"places = [one % (65536 if {AT_RECORD} else 2 ** 32) for one in range(reference, reference + width)]", kinds=WIDE),
     checks("32 before 31", f"if {LAST_BYTE}:", f"if {AT_RECORD} and {RESERVED}:\n                    raise segment.fault(32, record.index, index)\n                if {LAST_BYTE}:", kinds=WIDE),
     checks("32 is no fault", RESERVED, f"{RESERVED} and not {AT_RECORD}"),
     checks("only the first byte of an operand is reserved", RESERVED, f"(reference in reserved if {AT_RECORD} else {RESERVED})", kinds=WIDE),
@@ -364,4 +413,4 @@ REFERENCES = [
 # Rules that no case tells at some place, since the linker is not wrong there: each with its reason
 UNTOLD = {}
 
-RULES = [*CODES, *RECORDS, *FAULTS, *SOURCES, *VALUES, *REFERENCES]
+RULES = [*CODES, *RECORDS, *FAULTS, *SOURCES, *VALUES, *NAMES, *STEPS, *REFERENCES]

@@ -143,7 +143,24 @@ def names(number, name):
              "A5", public(name), "CD", unit("AUX"), "01", "AD 00"]
     return [Procedure(parts)], [publ_ref("COUNT", [1]), priv_ref("COUNT", 2, [4]), priv_ref(name, 1, [7]), unit_ref(used_by(name), [10]),
                                 publ_ref("COUNT", [13]), publ_ref(name, [16]), unit_ref("AUX", [19]), unit_ref("AUX", []),
-                                publ_ref("COUNT", []), priv_ref("EMPTY", 3, [])]
+                                publ_ref("COUNT", []), priv_ref("EMPTY", 3, []), publ_ref("HUGE", [])]
+
+
+# Names that somebody may take for COUNT, or for COUNTER1: in capitals, in seven bits or characters, and by zero bytes and blanks
+ALIKE = ["Count", bytes.fromhex("C3 4F 55 4E 54 20 20 20"), b"COUNT\0\0\0", b"COUNT\0X ", " COUNT", "XOUNT", "COUNT X", "COUNTER1", "COUNTER2"]
+
+
+def alike(number, name):
+    """Variables of the program and private ones of such names. Each is one of its own."""
+    parts = [part for one in ALIKE for part in (public(one), private(one))]
+    records = [record for k, one in enumerate(ALIKE) for record in (publ_ref(one, [4 * k]), priv_ref(one, 1, [4 * k + 2]))]
+    return [Procedure(parts)], [*records, priv_ref("COUNT", 2, [])]
+
+
+def many_procedures(number, name):
+    """255 procedures, of which those between the first and the last have no body."""
+    return [Procedure(["A5", public("COUNT")]), Procedure(["AB", private("STATE"), "D7"], number=255)], [
+        publ_ref("COUNT", [1]), priv_ref("STATE", 2, [15])]
 
 
 def own_definitions(number, name):
@@ -280,8 +297,15 @@ def cases():
         for at in range(len(SLOTS)):
             if (at + ORDERS.index(order)) % 2 or at < 2:
                 yield Everywhere(exactly(at), order).case(f"next-32767-{at}", "The last offset is 32767.")
-        yield Everywhere(names, order, [publ_def(name, 40 + slot) for slot, (name, _, _) in SLOTS.items()]).case(
+        own = [publ_def(name, 40 + slot) for slot, (name, _, _) in SLOTS.items()]
+        yield Everywhere(names, order, [*own, publ_def("HUGE", 65535)]).case(
             "names", "Private variables, definitions and units of one name.")
+        yield Everywhere(alike, order, [publ_def(name, 100 + k) for k, name in enumerate(ALIKE)]).case("alike", "Names that are nearly alike.")
+        yield Everywhere(many_procedures, order).case("procedures-255", "Codes of 255 procedures.")
+        made = Everywhere(plain_use, order, next_free=0)
+        for segment in made.segments.values():
+            segment.records[-1:] = [eof_mark(0, bytes(8)), Record("AFTER", 15, [1, 2, 3])]
+        yield made.case("zeros", "End marks of sixteen zero bytes.")
         yield Everywhere(own_definitions, order, THREE).case("definitions", "Definitions of units are not used.")
         made = Everywhere(ignored, order, next_free=0)
         for number, segment in enumerate(made.segments.values()):

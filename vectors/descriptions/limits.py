@@ -162,6 +162,14 @@ def behind_a_mebibyte():
                  [DEMO, (9, 0, 9), (10, 0, 10)], order="big")
 
 
+def ends_of_hosts():
+    """A host that ends with the end mark of a unit: two blocks of the program, one of the unit's code, and a record and its list."""
+    for order in ORDERS:
+        host = {1: program(), 9: unit_of("AUX", ["A5", public()], [publ_ref("COUNT", [1])])}
+        yield linked(f"cut-after-a-unit-of-the-host-{order}-endian", "The host ends with the end mark of a unit.",
+                     File(host, order, cut=512 * 4 + 48), [], [DEMO, (9, 0, 9)], order=order)
+
+
 def amounts():
     """Many procedures, segments, private variables and definitions, and a unit that a late library has."""
     records = [publ_ref("COUNT", [1]), priv_ref("STATE", 4, [4]), eof_mark(0)]
@@ -202,4 +210,5 @@ def cases():
     yield from slots()
     yield from files()
     yield from behind_a_mebibyte()
+    yield from ends_of_hosts()
     yield from amounts()

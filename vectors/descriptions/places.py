@@ -248,6 +248,11 @@ def third_native(files):
     files.segment.procedures.append(Procedure(["AD 00"], number=3, said=0))
 
 
+@rule("18-procedure-255", "Procedure 255 of {it} is native, and those between have no body.")
+def late_native(files):
+    files.segment.procedures[1:] = [Procedure(["AD 00"], number=255, said=0)]
+
+
 @rule("17-before-18", "Procedure 1 of {it} is native, and the table of procedure 2 is at byte 7.")
 def two_procedures(files):
     files.segment.changes = {20: "00", 24: files.word(17)}
@@ -270,10 +275,25 @@ def cut_after_the_code(files):
     return [0]
 
 
-@rule("19-list", "A {kind} of {it} has 65535 references, of which the file has not all.", KINDS)
+@rule("19-list", "A {kind} of {it} has 32768 references, of which the file has not all.", KINDS)
 def long_list(files, kind):
     index, record = files.record(kind)
-    record.words[1], record.fault = 65535, 19
+    record.words[1], record.fault = 32768, 19
+    return [index]
+
+
+@rule("19-after-the-list", "The file ends with the list of a UNITREF of {it}.")
+def cut_after_a_list(files):
+    index, _ = files.record("unitref")
+    files.cut(0, index, 19)
+    files.file().stops = {files.slot(): (index + 1, 19)}
+    return [index + 1]
+
+
+@rule("19-before-20", "The file ends after the type of a record of {it}, which is 15.")
+def cut_after_a_type(files):
+    index = files.append(Record("X", 15, [1, 2, 3]))
+    files.cut(6, index, 19)
     return [index]
 
 
@@ -285,10 +305,12 @@ def cut_in_a_list(files, kind):
 
 
 def typed(number, types):
-    """The record after the PUBLREF has one of these types, another at each place."""
+    """The record after the PUBLREF has one of these types, another at each place. Where a format would be it has 0, and where the
+    number of references would be 65535."""
 
     def change(files):
         index, record = files.record("privref")
+        record.words = [0, 65535, 0]
         record.type, record.fault = types[(2 * LINKED_PLACES.index(files.place) + ORDERS.index(files.order)) % len(types)], number
         return [index]
 
@@ -297,29 +319,30 @@ def typed(number, types):
 
 rule("20", "A record of {it} has type 15.")(typed(20, [15]))
 rule("20-high", "A record of {it} has a type whose low byte is that of a definition.")(typed(20, [264, 263, 65288]))
+rule("20-highest", "A record of {it} has a type above 32767.")(typed(20, [32771, 32775]))
 rule("21", "A record of {it} has a type of native code.")(typed(21, [2, 5, 6, 9, 10]))
 rule("22", "A record of {it} has a type of separate procedures.", spread=False)(typed(22, [11, 12, 13, 14]))
 
 
-def formatted(number, format):
+def formatted(number, format, count=None):
     def change(files, kind):
         index, record = files.record(kind)
         record.words[0], record.fault = format(FORMATS[record.type]), number
+        if count is not None:
+            record.words[1], record.references = count, record.references if count else []
         return [index]
 
     return change
 
 
-rule("21-format", "A {kind} of {it} has format 0, of native code.", KINDS)(formatted(21, lambda right: 0))
+# (a format is checked before its list)
+rule("21-format", "A {kind} of {it} has format 0, of native code, and 65535 references.", KINDS)(formatted(21, lambda right: 0, 65535))
+rule("21-empty", "A {kind} of {it} has format 0, of native code, and no reference.", KINDS)(formatted(21, lambda right: 0, 0))
 rule("23", "A {kind} of {it} has the format of another kind.", KINDS, spread=False)(formatted(23, lambda right: 3 - right))
-rule("23-high", "A {kind} of {it} has a format whose low byte is right.", KINDS)(formatted(23, lambda right: 256 + right))
-
-
-@rule("23-empty", "A {kind} of {it} has format 3 and no reference.", KINDS)
-def no_references(files, kind):
-    index, record = files.record(kind)
-    record.words[:2], record.references, record.fault = [3, 0], [], 23
-    return [index]
+rule("23-high", "A {kind} of {it} has a format whose low byte is right, and 65535 references.", KINDS)(
+    formatted(23, lambda right: 256 + right, 65535))
+rule("23-highest", "A {kind} of {it} has a format whose low fifteen bits are right.", KINDS)(formatted(23, lambda right: 32768 + right))
+rule("23-empty", "A {kind} of {it} has format 256 and no reference.", KINDS)(formatted(23, lambda right: 256, 0))
 
 
 # units that are requested
@@ -450,7 +473,21 @@ def referring(wide, narrow):
 
 
 rule("31", "A {kind} of {it} refers to a byte past the code.", KINDS, spread=False)(referring(29, 30))
-rule("31-far", "A {kind} of {it} refers to byte 65535.", KINDS)(referring(65535, 65535))
+
+
+def referring_far(reference):
+    """The first of two references is this one, and the second is good."""
+
+    def change(files, kind):
+        index, record = files.record(kind)
+        record.words[1], record.references = 2, [reference, *record.references]
+        return [index, 0]
+
+    return change
+
+
+rule("31-far", "A {kind} of {it} refers to byte 65535, and then to its operand.", KINDS)(referring_far(65535))
+rule("31-high", "A {kind} of {it} refers to a byte from 32768 on, and then to its operand.", KINDS)(referring_far(32769))
 rule("32", "A {kind} of {it} refers to the first byte of a table.", KINDS, spread=False)(referring(11, 12))
 rule("32-level", "A {kind} of {it} refers to the last byte of a table.", KINDS)(referring(21, 21))
 rule("32-dictionary", "A {kind} of {it} refers to the first byte of the dictionary.", KINDS)(referring(23, 24))
@@ -531,6 +568,72 @@ def later_operand(files, kind):
     files.segment.procedures[0].parts[6:] = ["01 7F FF D7"]
     record.words[1], record.references = 2, [*record.references, 9]
     return [index, 1]
+
+
+# two faults of one segment: the first is reported
+
+
+def listed(*references):
+    """The PUBLREF has these references."""
+
+    def change(files):
+        index, record = files.record("publref")
+        record.words[1], record.references = len(references), list(references)
+        return index
+
+    return change
+
+
+def first_of(number, name, about, parts, references=(1,), names=("COUNT", None)):
+    """The PUBLREF has this name and these references, and a record of the second name follows, if there is one."""
+
+    @rule(f"{number}-before-{name}", about)
+    def change(files):
+        index = listed(*references)(files)
+        files.segment.records[index].name = names[0]
+        if names[1]:
+            files.append(publ_ref(names[1], []))
+        return [index, *parts]
+
+
+first_of(28, "29", "A PUBLREF of {it} has a name without a definition, and the next that of a constant.", [], names=("CUONT", "LIMIT"))
+first_of(29, "28", "A PUBLREF of {it} has the name of a constant, and the next one without a definition.", [], names=("LIMIT", "CUONT"))
+first_of(28, "31", "A PUBLREF of {it} has a name without a definition, and refers to a byte past the code.", [], [29], ("CUONT", None))
+first_of(31, "28", "A PUBLREF of {it} refers to a byte past the code, and the next has a name without a definition.", [0], [29], ("COUNT", "CUONT"))
+first_of(32, "31", "The first reference of a PUBLREF of {it} is reserved, and the second past the code.", [0], [11, 29])
+first_of(33, "32", "The second reference of a PUBLREF of {it} is the first again, and the third is reserved.", [1], [1, 1, 11])
+
+
+@rule("32-reference-256", "Reference 256 of a UNITREF of {it} is reserved.")
+def late_reference(files):
+    used = USED[files.place.role]
+    files.segment.procedures = [Procedure([unit(used) for _ in range(256)], data=10)]
+    files.segment.records[-4:-1] = [unit_ref(used, list(range(257)))]
+    return [len(files.segment.records) - 2, 256]
+
+
+@rule("28-record-256", "Record 256 of {it}, or one soon after, has a name without a definition.")
+def late_record(files):
+    for _ in range(256):
+        files.append(publ_ref("COUNT", []))
+    return [files.append(publ_ref("CUONT", []))]
+
+
+def valued(displacement):
+    """A PUBLREF of a variable at 65535, with this displacement."""
+
+    def change(files):
+        program = next(one for one in files.host.slots.values() if one.kind == HOSTSEG)
+        program.records.insert(2, publ_def("LARGE", 65535))
+        index, record = files.record("publref")
+        record.name, files.segment.procedures[0].parts[1] = "LARGE", public("LARGE", displacement)
+        return [index, 0]
+
+    return change
+
+
+rule("34-value", "A PUBLREF of {it} has the value 65535, and its operand the displacement 0.")(valued(0))
+rule("34-sum", "A PUBLREF of {it} has the value 65535, and its operand the displacement 1.")(valued(1))
 
 
 # Where units come from ------------------------------------------------------------------------------------------------
