@@ -143,7 +143,8 @@ def names(number, name):
              "A5", public(name), "CD", unit("AUX"), "01", "AD 00"]
     return [Procedure(parts)], [publ_ref("COUNT", [1]), priv_ref("COUNT", 2, [4]), priv_ref(name, 1, [7]), unit_ref(used_by(name), [10]),
                                 publ_ref("COUNT", [13]), publ_ref(name, [16]), unit_ref("AUX", [19]), unit_ref("AUX", []),
-                                publ_ref("COUNT", []), priv_ref("EMPTY", 3, []), publ_ref("HUGE", [])]
+                                publ_ref("COUNT", []), priv_ref("EMPTY", 3, []), publ_ref("HUGE", []),
+                                unit_ref("MORE1", [])]
 
 
 # Names that somebody may take for COUNT, or for COUNTER1: in capitals, in seven bits or characters, and by zero bytes and blanks

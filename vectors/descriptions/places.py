@@ -200,7 +200,8 @@ rule("11-long", "The code of {it} has 32768 bytes.", places=EVERY)(setting(lengt
 rule("11-odd", "The code of {it} has 29 bytes.")(setting(length=29, fault=11))
 rule("11-short", "The code of {it} has 2 bytes.")(setting(length=2, fault=11))
 rule("12", "The code of {it} has address 0.", places=[PROGRAM, PLAIN])(setting(address=0, fault=12))
-rule("16-address", "The code of {it} would start in block 900, past the end of the file.", places=EVERY)(setting(address=900, fault=16))
+rule("16-address", "The code of {it} would start in block 32769, past the end of the file.", places=EVERY)(
+    setting(address=32769, fault=16))
 
 
 @rule("16-cut", "The file ends one byte before the end of the code of {it}.", places=EVERY)
@@ -282,6 +283,13 @@ def long_list(files, kind):
     return [index]
 
 
+@rule("19-longest", "A UNITREF of {it} has 65535 references, of which the file has not all.")
+def longest_list(files):
+    index, record = files.record("unitref")
+    record.words[1], record.fault = 65535, 19
+    return [index]
+
+
 @rule("19-after-the-list", "The file ends with the list of a UNITREF of {it}.")
 def cut_after_a_list(files):
     index, _ = files.record("unitref")
@@ -321,7 +329,7 @@ rule("20", "A record of {it} has type 15.")(typed(20, [15]))
 rule("20-high", "A record of {it} has a type whose low byte is that of a definition.")(typed(20, [264, 263, 65288]))
 rule("20-highest", "A record of {it} has a type above 32767.")(typed(20, [32771, 32775]))
 rule("21", "A record of {it} has a type of native code.")(typed(21, [2, 5, 6, 9, 10]))
-rule("22", "A record of {it} has a type of separate procedures.", spread=False)(typed(22, [11, 12, 13, 14]))
+rule("22", "A record of {it} has a type of separate procedures.", spread=False)(typed(22, [14, 11, 12, 13]))
 
 
 def formatted(number, format, count=None):
@@ -352,6 +360,13 @@ rule("23-empty", "A {kind} of {it} has format 256 and no reference.", KINDS)(for
 def missing(files):
     index, record = files.record("unitref")
     record.name = "NOBODY"
+    return [index]
+
+
+@rule("13-twice", "Two UNITREFs of {it} request what no library has.")
+def missing_twice(files):
+    index = files.append(unit_ref("NOBODY", []))
+    files.append(unit_ref("NOBODY", []))
     return [index]
 
 
