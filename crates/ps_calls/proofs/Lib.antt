@@ -1,2 +1,4 @@
+pub mod CheckReports
 pub mod FileNames
-mod PutTexts
+pub mod FilesListed
+pub mod PutTexts

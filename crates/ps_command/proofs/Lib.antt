@@ -1,3 +1,4 @@
 pub mod Asked
 pub mod ListsPrinted
 pub mod Named
+pub mod Taken

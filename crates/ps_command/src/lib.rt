@@ -3,8 +3,6 @@
 #![tactic(auto)]
 
 mod command_line;
-mod ended;
-mod error;
 mod files;
 mod lists;
 mod output;

@@ -1,5 +1,6 @@
 pub mod Vocabulary
-pub mod Rows
+pub mod JsonItems
+pub mod NumberedUses
 pub mod LinkedEntries
 pub mod FoundUnits
 pub mod FilesListed

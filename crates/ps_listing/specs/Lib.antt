@@ -1,4 +1,4 @@
-pub mod Listed
+pub mod ListJson
 pub mod ListText
 pub mod LoneText
 pub mod FileLists

@@ -22,4 +22,3 @@ pub mod BySlot
 pub mod WholeNames
 pub mod SharedRecords
 pub mod KnownNames
-pub mod NamesRead

@@ -7,4 +7,3 @@ pub mod Readings
 pub mod KnownSegments
 pub mod OfLink
 pub mod Standing
-pub mod FaultNames

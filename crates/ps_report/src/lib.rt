@@ -2,20 +2,17 @@
 //! words: the files, the segments with where each comes from, and the explanation of a fault.
 #![tactic(auto)]
 
-mod finding;
-mod inspection;
+mod findings;
 mod json;
-mod kept;
 mod lines;
 mod looks;
 mod names;
-mod printed;
+mod printing;
 mod report;
 mod verdict;
 mod without_host;
 
-pub use finding::Finding;
-pub use printed::{PrintedLooks, PrintedReport};
+pub use printing::{PrintError, Printing, write_check};
 pub use ps_filetype::Oddity;
 pub use ps_warnings::{Look, Warning, WarningAt};
 pub use report::{Report, check};

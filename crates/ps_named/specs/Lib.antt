@@ -1,0 +1,4 @@
+pub mod FaultNames
+pub mod UnitNames
+pub mod JsonStrings
+pub mod FaultJson
