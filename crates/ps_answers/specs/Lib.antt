@@ -1,6 +1,6 @@
 pub mod Libraries
 pub mod Rooms
 pub mod Answers
-pub mod NotDone
+pub mod WhyUnmade
 pub mod Dones
 pub mod Outcomes

@@ -1,27 +1,46 @@
 -- The answer of a call, by what becomes of it.
 -- Source: this project's profile.
-use Rattle.std.specs.Prelude.{Result, Ok, Err}
+use Rattle.std.specs.Prelude.{ℕ, Result, Ok, Err}
 use Rattle.ps_answers.specs.Answers.{bare, linked_answer, text_answer, refusal, small_answer}
-use Rattle.ps_answers.specs.declared.answer.TheConstants.{WRONG_LENGTHS, NO_MEMORY, WRONG_NAMES, WRONG_TEXT}
+use Rattle.ps_answers.specs.declared.answer.TheConstants.{WRONG_LENGTHS, NO_MEMORY, WRONG_NAMES}
 use Rattle.ps_answers.specs.declared.answer.Answer.{Answer}
+use Rattle.ps_answers.specs.declared.outcome.CallError.{CallError}
+use Rattle.ps_answers.specs.declared.outcome.CallError.TheVariants as call
 use Rattle.ps_answers.specs.declared.outcome.Done.{Done}
 use Rattle.ps_answers.specs.declared.outcome.Done.TheVariants.{Linked, Text}
 use Rattle.ps_answers.specs.declared.outcome.NotDone.{NotDone}
-use Rattle.ps_answers.specs.declared.outcome.NotDone.TheVariants.{Refused, WrongLengths, NoMemory, TooSmall, WrongNames, NoSuchText}
+use Rattle.ps_answers.specs.declared.outcome.NotDone.TheVariants as not_done
+use Rattle.ps_answers.specs.declared.outcome.Unmade.TheVariants.{Refused, NoMemory}
+use Rattle.ps_answers.specs.declared.outcome.Unput.{Unput}
+use Rattle.ps_answers.specs.declared.outcome.Unput.TheVariants as unput
+use Rattle.ps_answers.specs.declared.outcome.WrongInputs.{WrongInputs}
+use Rattle.ps_answers.specs.declared.outcome.WrongInputs.TheVariants as wrong
+
+-- the error of a call with libraries as one of any call
+abbrev pub not_done_of : CallError → NotDone
+not_done_of call.WrongLengths = not_done.Wrong wrong.Lengths
+not_done_of (call.Unput why) = not_done.Unput why
 
 -- the answer of a call that was done
 abbrev pub done_answer : Done → Answer
 done_answer (Linked summary size) = linked_answer summary size
 done_answer (Text size) = text_answer size
 
+-- the status of wrong inputs
+abbrev pub wrong_status : WrongInputs → ℕ
+wrong_status wrong.Lengths = WRONG_LENGTHS
+wrong_status wrong.Names = WRONG_NAMES
+
+-- the answer where nothing was put in the room
+abbrev pub unput_answer : Unput → Answer
+unput_answer (unput.Unmade (Refused r)) = refusal r.fault r.name
+unput_answer (unput.Unmade NoMemory) = bare NO_MEMORY
+unput_answer (unput.TooSmall t) = small_answer t.size
+
 -- the answer of a call that was not done
 abbrev pub not_done_answer : NotDone → Answer
-not_done_answer (Refused r) = refusal r.fault r.name
-not_done_answer WrongLengths = bare WRONG_LENGTHS
-not_done_answer WrongNames = bare WRONG_NAMES
-not_done_answer NoSuchText = bare WRONG_TEXT
-not_done_answer NoMemory = bare NO_MEMORY
-not_done_answer (TooSmall size) = small_answer size
+not_done_answer (not_done.Wrong why) = bare (wrong_status why)
+not_done_answer (not_done.Unput why) = unput_answer why
 
 -- the answer of a call
 abbrev pub answer_of : Result Done NotDone → Answer

@@ -1,7 +1,7 @@
 //! What a call answers.
 ghost use Rattle.std.specs.Prelude.{◌≡◌};
 
-use crate::outcome::{Done, NotDone};
+use crate::outcome::{Done, NotDone, Unmade, Unput, WrongInputs};
 use ps_words::{Fault, Name, Reason};
 
 /// The status of a call that was done.
@@ -83,7 +83,7 @@ pub struct Answer {
 
 impl Answer {
     ghost use Rattle.ps_answers.specs.Answers.{bare as bare_spec, refusal as refusal_spec, refusal_fault as refusal_fault_spec};
-    ghost use Rattle.ps_answers.specs.Outcomes.{answer_of};
+    ghost use Rattle.ps_answers.specs.Outcomes.{answer_of, done_answer, not_done_answer, unput_answer};
 
     /// This status, and 0 in every other field.
     /// Source: this project's profile.
@@ -113,13 +113,12 @@ impl Answer {
         }
     }
 
-    /// The answer of a call: its status, and what goes with that status.
-    /// Source: this project's profile.
-    pub fn of(outcome: Result<Done, NotDone>) -> Answer
-        ensures { result ≡ answer_of outcome }
+    /// The answer of a call that was done.
+    fn done(done: Done) -> Answer
+        ensures { result ≡ done_answer done }
     {
-        match outcome {
-            Ok(Done::Linked { summary, size }) => Answer {
+        match done {
+            Done::Linked { summary, size } => Answer {
                 private_words: summary.private_words.into(),
                 segments: summary.segments,
                 blocks: summary.blocks,
@@ -127,20 +126,49 @@ impl Answer {
                 needed: size,
                 ..Answer::bare(DONE)
             },
-            Ok(Done::Text(size)) => Answer {
+            Done::Text(size) => Answer {
                 written: size,
                 needed: size,
                 ..Answer::bare(DONE)
             },
-            Err(NotDone::Refused(refusal)) => Answer::refusal(refusal.fault, refusal.name),
-            Err(NotDone::WrongLengths) => Answer::bare(WRONG_LENGTHS),
-            Err(NotDone::WrongNames) => Answer::bare(WRONG_NAMES),
-            Err(NotDone::NoSuchText) => Answer::bare(WRONG_TEXT),
-            Err(NotDone::NoMemory) => Answer::bare(NO_MEMORY),
-            Err(NotDone::TooSmall(size)) => Answer {
-                needed: size,
+        }
+    }
+
+    /// The answer of a call that puts nothing in the room.
+    fn unput(why: Unput) -> Answer
+        ensures { result ≡ unput_answer why }
+    {
+        match why {
+            Unput::Unmade(Unmade::Refused(refusal)) => {
+                Answer::refusal(refusal.fault, refusal.name)
+            }
+            Unput::Unmade(Unmade::NoMemory) => Answer::bare(NO_MEMORY),
+            Unput::TooSmall(small) => Answer {
+                needed: small.size,
                 ..Answer::bare(TOO_SMALL)
             },
+        }
+    }
+
+    /// The answer of a call that was not done.
+    fn not_done(why: NotDone) -> Answer
+        ensures { result ≡ not_done_answer why }
+    {
+        match why {
+            NotDone::Wrong(WrongInputs::Lengths) => Answer::bare(WRONG_LENGTHS),
+            NotDone::Wrong(WrongInputs::Names) => Answer::bare(WRONG_NAMES),
+            NotDone::Unput(why) => Answer::unput(why),
+        }
+    }
+
+    /// The answer of a call: its status, and what goes with that status.
+    /// Source: this project's profile.
+    pub fn of(outcome: Result<Done, NotDone>) -> Answer
+        ensures { result ≡ answer_of outcome }
+    {
+        match outcome {
+            Ok(done) => Answer::done(done),
+            Err(why) => Answer::not_done(why),
         }
     }
 

@@ -16,7 +16,9 @@ pub use answer::{
     Answer, DONE, NO_MEMORY, REFUSED, TOO_SMALL, WRONG_LENGTHS, WRONG_NAMES, WRONG_TEXT,
 };
 pub use first_name::host_first;
-pub use libraries::{FEW_LIBRARIES, LIBRARIES_IN_PLACE, Parts, split};
+pub use libraries::{FEW_LIBRARIES, LIBRARIES_IN_PLACE, Parts, add_up, split};
 pub use linking::{LINKED_MAX, link};
-pub use outcome::{Done, NotDone, Refusal, not_done_for};
+pub use outcome::{
+    CallError, Done, NotDone, Refusal, TooSmall, Unmade, Unput, WrongInputs, unmade_for,
+};
 pub use refusal_law::refusals_tell_their_faults;

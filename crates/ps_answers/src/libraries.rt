@@ -1,10 +1,8 @@
 //! The libraries of a call: one after another in one buffer, with their lengths beside.
-ghost use Rattle.std.specs.Prelude.{◌≡◌, ◌<◌, ◌↔◌, length, sum, IfOk, IfErr, IsTrue, OnErr};
+ghost use Rattle.std.specs.Prelude.{◌≡◌, ◌<◌, ◌↔◌, length, sum, IfOk, IsTrue, OnErr};
 ghost use Rattle.ps_resolve.specs.Sources.{contents};
 ghost use Rattle.ps_answers.specs.Libraries.{split as split_spec};
-ghost use Rattle.ps_answers.specs.NotDone.{IsUnsplit};
 
-use crate::outcome::NotDone;
 use smallvec::SmallVec;
 use std::alloc::{AllocError, Global};
 
@@ -22,7 +20,7 @@ pub const FEW_LIBRARIES: usize = 16;
 pub type Parts<'a, const N: usize> = SmallVec<&'a [u8], N>;
 
 /// Whether the lengths add up to this total.
-fn add_up(lengths: &[usize], total: usize) -> bool
+pub fn add_up(lengths: &[usize], total: usize) -> bool
     ensures { IsTrue result ↔ (sum lengths.now ≡ total) }
 {
     let mut left = total;
@@ -35,8 +33,13 @@ fn add_up(lengths: &[usize], total: usize) -> bool
     left == 0
 }
 
-/// The parts of these lengths.
-fn parts<'a, const N: usize>(
+/// The parts that are one after another in `bytes`, with these lengths: libraries, or names.
+///
+/// As many as `N` of them have a place on the stack, and more are listed in memory. With an `N` of 0
+/// each list is in memory, and a long one takes no more of the stack than a short one. Memory is
+/// requested only for more than `N` parts.
+/// Source: this project's profile.
+pub fn split<'a, const N: usize>(
     alloc: Global,
     bytes: &'a [u8],
     lengths: &[usize],
@@ -54,29 +57,4 @@ fn parts<'a, const N: usize>(
         rest = behind;
     }
     Ok(parts)
-}
-
-/// The parts that are one after another in `bytes`, with these lengths: libraries, or names.
-///
-/// As many as `N` of them have a place on the stack, and more are listed in memory. With an `N` of 0
-/// each list is in memory, and a long one takes no more of the stack than a short one. Refuses
-/// `WrongLengths` where the lengths do not add up to the length of `bytes`, and `NoMemory` where
-/// memory was refused, which is requested only for more than `N` parts. Nothing else is refused.
-/// Source: this project's profile.
-pub fn split<'a, const N: usize>(
-    alloc: Global,
-    bytes: &'a [u8],
-    lengths: &[usize],
-) -> Result<Parts<'a, N>, NotDone>
-    ensures ok { IfOk result (λ parts. contents parts.items ≡ split_spec bytes.now lengths.now) }
-    ensures right { IfOk result (λ _. sum lengths.now ≡ length bytes.now) }
-    ensures err { IfErr result (IsUnsplit N bytes.now lengths.now) }
-{
-    if !add_up(lengths, bytes.len()) {
-        return Err(NotDone::WrongLengths);
-    }
-    match parts(alloc, bytes, lengths) {
-        Ok(parts) => Ok(parts),
-        Err(_) => Err(NotDone::NoMemory),
-    }
 }

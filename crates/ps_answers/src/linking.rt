@@ -3,10 +3,10 @@ ghost use Rattle.std.specs.Prelude.{◌≡◌, ◌≤◌, length, sum, IfOk, IfE
 ghost use Rattle.ps_resolve.specs.Sources.{contents};
 ghost use Rattle.ps_answers.specs.Libraries.{split as split_spec};
 ghost use Rattle.ps_answers.specs.Dones.{IsLinked};
-ghost use Rattle.ps_answers.specs.NotDone.{IsCallNotDone, IsNotLinked};
+ghost use Rattle.ps_answers.specs.WhyUnmade.{WhyCallFails, WhyLinkUnput};
 
-use crate::libraries::{FEW_LIBRARIES, LIBRARIES_IN_PLACE, split};
-use crate::outcome::{Done, NotDone, not_done_for};
+use crate::libraries::{FEW_LIBRARIES, LIBRARIES_IN_PLACE, add_up, split};
+use crate::outcome::{CallError, Done, TooSmall, Unput, unmade_for};
 use crate::room::fill;
 use ps_linkfile::{MAX_FILE_BLOCKS, prepare};
 use ps_words::BLOCK_SIZE;
@@ -17,87 +17,45 @@ use std::alloc::Global;
 pub const LINKED_MAX: usize = BLOCK_SIZE * MAX_FILE_BLOCKS;
 
 /// Links a host and these libraries into the room.
-fn link_all(alloc: Global, host: &[u8], libs: &[&[u8]], room: &mut [u8]) -> Result<Done, NotDone>
+fn link_all(alloc: Global, host: &[u8], libs: &[&[u8]], room: &mut [u8]) -> Result<Done, Unput>
     ensures linked { IfOk result (IsLinked host.now (contents libs.now) room.old room.new) }
-    ensures not_done { IfErr result (IsNotLinked room.old host.now (contents libs.now)) }
+    ensures unput { IfErr result (WhyLinkUnput room.old host.now (contents libs.now)) }
     ensures untouched { OnErr result (room.new ≡ room.old) }
 {
     let linked = match prepare(alloc, host, libs) {
         Ok(linked) => linked,
-        Err(error) => return Err(not_done_for(host, libs, error)),
+        Err(error) => return Err(Unput::Unmade(unmade_for(host, libs, error))),
     };
     let summary = linked.summary();
     let size = BLOCK_SIZE * summary.blocks;
     if room.len() < size {
-        return Err(NotDone::TooSmall(size));
+        return Err(Unput::TooSmall(TooSmall { size }));
     }
     fill(&linked, &mut room[..size]);
     Ok(Done::Linked { summary, size })
 }
 
-/// Links as `link` does, with one library or none. A function by itself, so that
-/// it takes no more of the stack than one library needs.
+/// Links as `link` does, with a table that has room for `N` libraries on the stack. A function by
+/// itself, so that a link takes no more of the stack than the table that it needs.
 #[inline(never)]
-fn link_one(
+fn link_in<const N: usize>(
     alloc: Global,
     host: &[u8],
     libs: &[u8],
     lengths: &[usize],
     room: &mut [u8],
-) -> Result<Done, NotDone>
-    requires { length lengths.now ≤ 1 }
-    ensures right { IfOk result (λ _. sum lengths.now ≡ length libs.now) }
+) -> Result<Done, CallError>
+    requires table { N ≤ LIBRARIES_IN_PLACE }
+    requires enough { length lengths.now ≤ LIBRARIES_IN_PLACE → length lengths.now ≤ N }
+    requires right { sum lengths.now ≡ length libs.now }
     ensures linked { IfOk result (IsLinked host.now (split_spec libs.now lengths.now)
         room.old room.new) }
-    ensures not_done { IfErr result (IsCallNotDone (IsNotLinked room.old host.now)
+    ensures not_done { IfErr result (WhyCallFails (WhyLinkUnput room.old host.now)
         libs.now lengths.now) }
     ensures untouched { OnErr result (room.new ≡ room.old) }
 {
-    let libs = split::<1>(alloc, libs, lengths)?;
-    link_all(alloc, host, libs.as_slice(), room)
-}
-
-/// Links as `link` does, with few libraries. A function by itself, so that it takes no more of the
-/// stack than few libraries need.
-#[inline(never)]
-fn link_few(
-    alloc: Global,
-    host: &[u8],
-    libs: &[u8],
-    lengths: &[usize],
-    room: &mut [u8],
-) -> Result<Done, NotDone>
-    requires { length lengths.now ≤ FEW_LIBRARIES }
-    ensures right { IfOk result (λ _. sum lengths.now ≡ length libs.now) }
-    ensures linked { IfOk result (IsLinked host.now (split_spec libs.now lengths.now)
-        room.old room.new) }
-    ensures not_done { IfErr result (IsCallNotDone (IsNotLinked room.old host.now)
-        libs.now lengths.now) }
-    ensures untouched { OnErr result (room.new ≡ room.old) }
-{
-    let libs = split::<FEW_LIBRARIES>(alloc, libs, lengths)?;
-    link_all(alloc, host, libs.as_slice(), room)
-}
-
-/// Links as `link` does, with any number of libraries. A function by itself, so
-/// that only a link with many takes so much of the stack.
-#[inline(never)]
-fn link_many(
-    alloc: Global,
-    host: &[u8],
-    libs: &[u8],
-    lengths: &[usize],
-    room: &mut [u8],
-) -> Result<Done, NotDone>
-    ensures right { IfOk result (λ _. sum lengths.now ≡ length libs.now) }
-    ensures linked { IfOk result (IsLinked host.now (split_spec libs.now lengths.now)
-        room.old room.new) }
-    ensures not_done { IfErr result (IsCallNotDone (IsNotLinked room.old host.now)
-        libs.now lengths.now) }
-    ensures untouched { OnErr result (room.new ≡ room.old) }
-{
-    let libs = split::<LIBRARIES_IN_PLACE>(alloc, libs, lengths)?;
-    link_all(alloc, host, libs.as_slice(), room)
+    let libs = split::<N>(alloc, libs, lengths)?;
+    Ok(link_all(alloc, host, libs.as_slice(), room)?)
 }
 
 /// Links a host and the libraries that are one after another in `libs` into the room.
@@ -116,19 +74,22 @@ pub fn link(
     libs: &[u8],
     lengths: &[usize],
     room: &mut [u8],
-) -> Result<Done, NotDone>
+) -> Result<Done, CallError>
     ensures right { IfOk result (λ _. sum lengths.now ≡ length libs.now) }
     ensures linked { IfOk result (IsLinked host.now (split_spec libs.now lengths.now)
         room.old room.new) }
-    ensures not_done { IfErr result (IsCallNotDone (IsNotLinked room.old host.now)
+    ensures not_done { IfErr result (WhyCallFails (WhyLinkUnput room.old host.now)
         libs.now lengths.now) }
     ensures untouched { OnErr result (room.new ≡ room.old) }
 {
+    if !add_up(lengths, libs.len()) {
+        return Err(CallError::WrongLengths);
+    }
     if lengths.len() <= 1 {
-        link_one(alloc, host, libs, lengths, room)
+        link_in::<1>(alloc, host, libs, lengths, room)
     } else if lengths.len() <= FEW_LIBRARIES {
-        link_few(alloc, host, libs, lengths, room)
+        link_in::<FEW_LIBRARIES>(alloc, host, libs, lengths, room)
     } else {
-        link_many(alloc, host, libs, lengths, room)
+        link_in::<LIBRARIES_IN_PLACE>(alloc, host, libs, lengths, room)
     }
 }

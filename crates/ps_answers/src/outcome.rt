@@ -1,11 +1,13 @@
-//! What becomes of a call.
+//! What becomes of a call: what was put in the caller's room, or why nothing was. An error says by
+//! its type what can happen: a step with files, a room and the inputs of a call have one each.
 ghost use Rattle.std.specs.Prelude.{◌≡◌};
 ghost use Rattle.ps_resolve.specs.Sources.{contents};
-ghost use Rattle.ps_answers.specs.NotDone.{refusal_of, not_done_of};
+ghost use Rattle.ps_answers.specs.WhyUnmade.{refusal_of, unmade_of};
 
 use ps_linkfile::{LinkError, Summary};
-use ps_named::fault_name;
+use ps_resolve::fault_name;
 use ps_words::{Fault, Name};
+use std::alloc::AllocError;
 
 /// What was put in the caller's room.
 /// Source: this project's profile.
@@ -27,22 +29,138 @@ pub struct Refusal {
     pub name: Option<Name>,
 }
 
-/// Why nothing was put there.
-/// Source: this project's profile.
+/// Why nothing is made of files in memory.
 #[derive(Clone, Copy)]
-pub enum NotDone {
+pub enum Unmade {
     /// The files are refused for this.
     Refused(Refusal),
-    /// The lengths do not add up to what is given, or there is not one name for each file.
-    WrongLengths,
-    /// A name is no UTF-8.
-    WrongNames,
-    /// There is no such text, or it has no such form.
-    NoSuchText,
     /// Memory was refused.
     NoMemory,
-    /// The result has so many bytes, and there is less room.
-    TooSmall(usize),
+}
+
+/// A room that is shorter than what is to be put in it.
+#[derive(Clone, Copy)]
+pub struct TooSmall {
+    /// How many bytes that has.
+    pub size: usize,
+}
+
+/// Why nothing is put in a room: it was not made, or the room is too small.
+#[derive(Clone, Copy)]
+pub enum Unput {
+    Unmade(Unmade),
+    TooSmall(TooSmall),
+}
+
+/// Why a call with libraries that are one after another leaves the caller's room as it was.
+#[derive(Clone, Copy)]
+pub enum CallError {
+    /// The lengths do not add up to what is given.
+    WrongLengths,
+    Unput(Unput),
+}
+
+/// What is wrong with the inputs of a call whose files have names.
+#[derive(Clone, Copy)]
+pub enum WrongInputs {
+    /// The lengths do not add up to what is given, or there is not one name for each file.
+    Lengths,
+    /// A name is no UTF-8.
+    Names,
+}
+
+/// Why a call whose files have names leaves the caller's room as it was.
+#[derive(Clone, Copy)]
+pub enum NotDone {
+    Wrong(WrongInputs),
+    Unput(Unput),
+}
+
+impl From<AllocError> for Unmade {
+    ghost use Rattle.ps_answers.specs.declared.outcome.Unmade.TheVariants.{NoMemory};
+
+    ghost from_gives = { λ _ e. e ≡ NoMemory };
+
+    fn from(_error: AllocError) -> Unmade {
+        Unmade::NoMemory
+    }
+}
+
+impl From<Unmade> for Unput {
+    ghost use Rattle.ps_answers.specs.declared.outcome.Unput.TheVariants as unput;
+
+    ghost from_gives = { λ why e. e ≡ unput.Unmade why };
+
+    fn from(why: Unmade) -> Unput {
+        Unput::Unmade(why)
+    }
+}
+
+impl From<TooSmall> for Unput {
+    ghost use Rattle.ps_answers.specs.declared.outcome.Unput.TheVariants as unput;
+
+    ghost from_gives = { λ why e. e ≡ unput.TooSmall why };
+
+    fn from(why: TooSmall) -> Unput {
+        Unput::TooSmall(why)
+    }
+}
+
+impl From<AllocError> for CallError {
+    ghost use Rattle.ps_answers.specs.declared.outcome.Unmade.TheVariants.{NoMemory};
+    ghost use Rattle.ps_answers.specs.declared.outcome.Unput.TheVariants as unput;
+    ghost use Rattle.ps_answers.specs.declared.outcome.CallError.TheVariants as call;
+
+    ghost from_gives = { λ _ e. e ≡ call.Unput (unput.Unmade NoMemory) };
+
+    fn from(_error: AllocError) -> CallError {
+        CallError::Unput(Unput::Unmade(Unmade::NoMemory))
+    }
+}
+
+impl From<Unput> for CallError {
+    ghost use Rattle.ps_answers.specs.declared.outcome.CallError.TheVariants as call;
+
+    ghost from_gives = { λ why e. e ≡ call.Unput why };
+
+    fn from(why: Unput) -> CallError {
+        CallError::Unput(why)
+    }
+}
+
+impl From<AllocError> for NotDone {
+    ghost use Rattle.ps_answers.specs.declared.outcome.Unmade.TheVariants.{NoMemory};
+    ghost use Rattle.ps_answers.specs.declared.outcome.Unput.TheVariants as unput;
+    ghost use Rattle.ps_answers.specs.declared.outcome.NotDone.TheVariants as not_done;
+
+    ghost from_gives = { λ _ e. e ≡ not_done.Unput (unput.Unmade NoMemory) };
+
+    fn from(_error: AllocError) -> NotDone {
+        NotDone::Unput(Unput::Unmade(Unmade::NoMemory))
+    }
+}
+
+impl From<Unput> for NotDone {
+    ghost use Rattle.ps_answers.specs.declared.outcome.NotDone.TheVariants as not_done;
+
+    ghost from_gives = { λ why e. e ≡ not_done.Unput why };
+
+    fn from(why: Unput) -> NotDone {
+        NotDone::Unput(why)
+    }
+}
+
+impl From<CallError> for NotDone {
+    ghost use Rattle.ps_answers.specs.Outcomes.{not_done_of};
+
+    ghost from_gives = { λ error e. e ≡ not_done_of error };
+
+    fn from(error: CallError) -> NotDone {
+        match error {
+            CallError::WrongLengths => NotDone::Wrong(WrongInputs::Lengths),
+            CallError::Unput(why) => NotDone::Unput(why),
+        }
+    }
 }
 
 /// The refusal of these files for this fault.
@@ -55,17 +173,17 @@ fn refusal_for(host: &[u8], libs: &[&[u8]], fault: Fault) -> Refusal
     }
 }
 
-/// Why a step with these files, which writes nothing, was not done: the fault for which they are
+/// Why a step with these files, which writes nothing, made nothing: the fault for which they are
 /// refused, with the name of what it is about, or `NoMemory`, also of an error of a write.
 /// Source: this project's profile.
 // A function by itself, so that only a call that is refused has what it needs of the stack.
 #[inline(never)]
-pub fn not_done_for(host: &[u8], libs: &[&[u8]], error: LinkError) -> NotDone
-    ensures { result ≡ not_done_of host.now (contents libs.now) error }
+pub fn unmade_for(host: &[u8], libs: &[&[u8]], error: LinkError) -> Unmade
+    ensures { result ≡ unmade_of host.now (contents libs.now) error }
 {
     match error {
-        LinkError::Refused(fault) => NotDone::Refused(refusal_for(host, libs, fault)),
+        LinkError::Refused(fault) => Unmade::Refused(refusal_for(host, libs, fault)),
         // Where nothing is written, no write fails.
-        LinkError::Memory | LinkError::Write(_) => NotDone::NoMemory,
+        LinkError::Memory | LinkError::Write(_) => Unmade::NoMemory,
     }
 }

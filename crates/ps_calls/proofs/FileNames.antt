@@ -1,14 +1,11 @@
 -- What is known of names by what is known of their parts.
 use Rattle.std.proofs.Common.{◌≡◌, ◌<◌, ◌≤◌, ◌+◌, ◌++◌, ℕ, List, [], ◌∷◌, Bor, Result, Ok, Err, ◌∙◌, ap, arith, get_or, length, refl, subst, sym, suc, take, drop}
-use Rattle.std.specs.Prelude.{All, IsUtf8, IfErr, IfOk, Vec, sum}
+use Rattle.std.specs.Prelude.{All, IsUtf8, IfOk, Vec}
 use Rattle.std.specs.declared.alloc.Global.{Global}
 use Rattle.std.proofs.lemmas.List.{get_or-map, length-map, map-append, take_all, take_more}
 use Rattle.std.proofs.lemmas.List.Elements.{All-get_or, All-map}
 use Rattle.ps_resolve.specs.Sources.{contents}
-use Rattle.ps_calls.specs.Checks.{IsMisnamed, IsUnreadable}
 use Rattle.ps_answers.specs.Libraries.{split}
-use Rattle.ps_answers.specs.declared.outcome.NotDone.{NotDone}
-use Rattle.ps_answers.specs.declared.outcome.NotDone.TheVariants.{Refused, WrongLengths, NoMemory, TooSmall, WrongNames, NoSuchText}
 
 -- there is a part for each length
 length-split : (bytes ns : List ℕ) → length (split bytes ns) ≡ length ns
@@ -16,7 +13,7 @@ length-split bytes [] = refl
 length-split bytes (n ∷ ns) = ap (λ (k : ℕ). suc k) (length-split (drop n bytes) ns)
 
 -- there is a name for each length
-pub as_many : (names lengths : List ℕ) (parts : List (Bor (List ℕ)))
+as_many : (names lengths : List ℕ) (parts : List (Bor (List ℕ)))
     → contents parts ≡ split names lengths → length parts ≡ length lengths
 as_many names lengths parts e = sym (length-map parts (λ (part : Bor (List ℕ)). part.now))
     ∙ (ap (λ (texts : List (List ℕ)). length texts) e ∙ length-split names lengths)
@@ -49,24 +46,10 @@ all_texts names i end all = All-map IsUtf8 (λ (name : Bor (List ℕ)). name.now
     (subst (λ (ns : List (Bor (List ℕ))). All (λ name. IsUtf8 name.now) ns)
     (take_all i names end) all)
 
-pub misnamed : {X : Type 0} (names lengths : List ℕ) (parts : List (Bor (List ℕ)))
-    (r : Result X NotDone) → sum lengths ≡ length names
-    → contents parts ≡ split names lengths
-    → IfErr r (IsUnreadable (contents parts)) → IfErr r (IsMisnamed names lengths)
-misnamed names lengths parts (Ok x) whole e h = tt
-misnamed names lengths parts (Err (Refused r)) whole e h = h
-misnamed names lengths parts (Err WrongLengths) whole e h = absurd h
-misnamed names lengths parts (Err WrongNames) whole e h =
-    (whole, λ named. h (subst (λ (texts : List (List ℕ)). All IsUtf8 texts) (sym e) named))
-misnamed names lengths parts (Err NoSuchText) whole e h = h
-misnamed names lengths parts (Err NoMemory) whole e h = tt
-misnamed names lengths parts (Err (TooSmall size)) whole e h = h
-
--- there is a text where there are names for a host and so many libraries
-pub many_texts : {E : Type 0} (names lengths : List ℕ) (count : ℕ)
-    (r : Result (Vec (Bor (List ℕ)) Global) E) → length lengths ≡ 1 + count
+-- there is a text for each length
+pub many_texts : {E : Type 0} (names lengths : List ℕ)
+    (r : Result (Vec (Bor (List ℕ)) Global) E)
     → IfOk r (λ texts. contents texts.items ≡ split names lengths)
-    → IfOk r (λ texts. 0 < length texts.items)
-many_texts names lengths count (Ok texts) one_each cut =
-    omega (arith, as_many names lengths texts.items cut, one_each)
-many_texts names lengths count (Err error) one_each cut = tt
+    → IfOk r (λ texts. length texts.items ≡ length lengths)
+many_texts names lengths (Ok texts) cut = as_many names lengths texts.items cut
+many_texts names lengths (Err error) cut = tt

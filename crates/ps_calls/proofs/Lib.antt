@@ -1,4 +1,2 @@
-pub mod CheckReports
 pub mod FileNames
-pub mod FilesListed
-pub mod PutTexts
+mod PutTexts

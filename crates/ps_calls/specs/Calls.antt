@@ -1,7 +1,7 @@
 -- What the exports leave in the caller's memory.
 -- Source: this project's profile.
 use Rattle.std.specs.Prelude.{◌≡◌, ℕ, ◌<◌, Bool, List, [], length, Option, Some, None, Result, IfErr, IfOk}
-use Rattle.ps_named.specs.FaultNames.{fault_name}
+use Rattle.ps_resolve.specs.FaultNames.{fault_name}
 use Rattle.ps_resolve.specs.FaultParts.{HasItsParts}
 use Rattle.ps_resolve.specs.Sources.{order_of}
 use Rattle.ps_words.specs.declared.fault.Fault.{Fault}
@@ -10,15 +10,17 @@ use Rattle.ps_linkfile.specs.LinkedFile.{LinkedFile, summary_of}
 use Rattle.ps_linkfile.specs.MapText.{map_of}
 use Rattle.ps_linkfile.specs.ShowText.{show_of, show_fault}
 use Rattle.ps_answers.specs.Rooms.{RoomBeginsWith}
-use Rattle.ps_answers.specs.Answers.{linked_answer, text_answer, small_answer, refusal}
+use Rattle.ps_answers.specs.Answers.{bare, linked_answer, text_answer, small_answer, refusal}
 use Rattle.ps_calls.specs.CheckAnswers.{found_answer, small_check_answer}
 use Rattle.ps_calls.specs.Checks.{IsFound, IsLongReport}
 use Rattle.ps_answers.specs.Outcomes.{answer_of}
-use Rattle.ps_calls.specs.Printed.{IsPrinted, IsNotPrinted}
+use Rattle.ps_calls.specs.Printed.{IsPrinted, WhyUnprinted}
 use Rattle.ps_answers.specs.declared.answer.Answer.{Answer}
+use Rattle.ps_answers.specs.declared.answer.TheConstants.{WRONG_TEXT}
+use Rattle.ps_answers.specs.declared.outcome.TooSmall.{TooSmall}
 use Rattle.ps_calls.specs.declared.check_answer.CheckAnswer.{CheckAnswer}
 use Rattle.ps_calls.specs.declared.checking.Found.{Found}
-use Rattle.ps_calls.specs.declared.kinds.TextKind.{TextKind}
+use Rattle.ps_texts.specs.declared.kinds.TextKind.{TextKind}
 use Rattle.ps_answers.specs.declared.outcome.Done.{Done}
 use Rattle.ps_answers.specs.declared.outcome.NotDone.{NotDone}
 
@@ -89,15 +91,22 @@ pub record Reports (names : List (List ℕ)) (host : List ℕ) (libs : List (Lis
 -- the text of a report is longer than the room, and the answer has its length
 pub record ReportNeeds (names : List (List ℕ)) (host : List ℕ) (libs : List (List ℕ))
     (room : List ℕ) (answer : CheckAnswer) : Type 0 where
-  pub size : ℕ
-  pub long : IsLongReport room names host libs size
-  pub told : answer ≡ small_check_answer size
+  pub small : TooSmall
+  pub long : IsLongReport room names host libs small
+  pub told : answer ≡ small_check_answer small.size
 
--- What was answered of a call for a text, or for names of units: an outcome of it, by which the
--- room begins with the text, or which says why it does not.
-pub record IsAnswered (k : Option TextKind)
+-- What was answered of a call for this text, or for these names of units: an outcome of it, by which
+-- the room begins with the text, or which says why it does not.
+pub record IsTextAnswered (k : TextKind)
     (host libs lengths names name_lengths old new : List ℕ) (answer : Answer) : Type 0 where
   pub outcome : Result Done NotDone
   pub told : answer ≡ answer_of outcome
   pub printed : IfOk outcome (IsPrinted k host libs lengths names name_lengths old new)
-  pub not_done : IfErr outcome (IsNotPrinted k old host libs lengths names name_lengths)
+  pub not_done : IfErr outcome (WhyUnprinted k old host libs lengths names name_lengths)
+
+-- the same of a call for a text that there may not be
+abbrev pub IsAnswered : Option TextKind → List ℕ → List ℕ → List ℕ → List ℕ
+    → List ℕ → List ℕ → List ℕ → Answer → Type 0
+IsAnswered None host libs lengths names name_lengths old new answer = answer ≡ bare WRONG_TEXT
+IsAnswered (Some k) host libs lengths names name_lengths old new answer =
+    IsTextAnswered k host libs lengths names name_lengths old new answer

@@ -8,8 +8,9 @@ use Rattle.ps_answers.specs.declared.answer.Answer.{Answer}
 use Rattle.ps_answers.specs.declared.answer.TheConstants.{DONE, WRONG_LENGTHS, NO_MEMORY, TOO_SMALL, WRONG_NAMES}
 use Rattle.ps_calls.specs.declared.checking.Found.{Found}
 use Rattle.ps_calls.specs.declared.check_answer.CheckAnswer.{CheckAnswer}
-use Rattle.ps_answers.specs.declared.outcome.NotDone.{NotDone}
-use Rattle.ps_answers.specs.declared.outcome.NotDone.TheVariants.{Refused, WrongLengths, NoMemory, TooSmall, WrongNames, NoSuchText}
+use Rattle.ps_answers.specs.Outcomes.{wrong_status}
+use Rattle.ps_calls.specs.declared.checking.NotChecked.{NotChecked}
+use Rattle.ps_calls.specs.declared.checking.NotChecked.TheVariants as not_checked
 
 -- a status, and nothing else
 abbrev pub bare_check : ℕ → CheckAnswer
@@ -43,19 +44,16 @@ found_answer found = record (bare_check DONE) {
 abbrev pub small_check_answer : ℕ → CheckAnswer
 small_check_answer size = record (bare_check TOO_SMALL) { needed = size }
 
--- why none was written
-abbrev pub check_not_done_answer : NotDone → CheckAnswer
-check_not_done_answer (Refused r) = bare_check WRONG_LENGTHS
-check_not_done_answer WrongLengths = bare_check WRONG_LENGTHS
-check_not_done_answer WrongNames = bare_check WRONG_NAMES
-check_not_done_answer NoSuchText = bare_check WRONG_LENGTHS
-check_not_done_answer NoMemory = bare_check NO_MEMORY
-check_not_done_answer (TooSmall size) = small_check_answer size
+-- the answer where none was written
+abbrev pub not_checked_answer : NotChecked → CheckAnswer
+not_checked_answer (not_checked.Wrong why) = bare_check (wrong_status why)
+not_checked_answer not_checked.NoMemory = bare_check NO_MEMORY
+not_checked_answer (not_checked.TooSmall t) = small_check_answer t.size
 
 -- the answer of a check
-abbrev pub check_answer_of : Result Found NotDone → CheckAnswer
+abbrev pub check_answer_of : Result Found NotChecked → CheckAnswer
 check_answer_of (Ok found) = found_answer found
-check_answer_of (Err why) = check_not_done_answer why
+check_answer_of (Err why) = not_checked_answer why
 
 -- the statuses of a check
 abbrev pub IsCheckStatus : ℕ → Type 0

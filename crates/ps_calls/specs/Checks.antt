@@ -2,13 +2,22 @@
 -- Source: this project's profile.
 use Rattle.std.specs.Prelude.{◌≡◌, ℕ, ◌+◌, ◌<◌, ⊤, All, Bool, IsUtf8, List, length, sum}
 use Rattle.ps_report.specs.Reports.{IsReport}
-use Rattle.ps_report.specs.Verdicts.{check_status, verdict_name}
-use Rattle.ps_report.specs.declared.verdict.Verdict.{Verdict}
+use Rattle.ps_report.specs.Reported.{Reported}
+use Rattle.ps_report.specs.Verdicts.{check_status}
 use Rattle.ps_answers.specs.Libraries.{split}
 use Rattle.ps_answers.specs.Rooms.{RoomBeginsWith}
+use Rattle.ps_answers.specs.WhyUnmade.{IsAbove, WhyWrong}
 use Rattle.ps_calls.specs.declared.checking.Found.{Found}
+use Rattle.ps_calls.specs.declared.checking.NotChecked.{NotChecked}
+use Rattle.ps_calls.specs.declared.checking.NotChecked.TheVariants as not_checked
+use Rattle.ps_calls.specs.declared.file_names.Unnamed.{Unnamed}
+use Rattle.ps_calls.specs.declared.file_names.Unnamed.TheVariants as unnamed
 use Rattle.ps_answers.specs.declared.outcome.NotDone.{NotDone}
-use Rattle.ps_answers.specs.declared.outcome.NotDone.TheVariants.{Refused, WrongLengths, NoMemory, TooSmall, WrongNames, NoSuchText}
+use Rattle.ps_answers.specs.declared.outcome.NotDone.TheVariants as not_done
+use Rattle.ps_answers.specs.declared.outcome.TooSmall.{TooSmall}
+use Rattle.ps_answers.specs.declared.outcome.Unmade.TheVariants as unmade
+use Rattle.ps_answers.specs.declared.outcome.Unput.TheVariants as unput
+use Rattle.ps_answers.specs.declared.outcome.WrongInputs.TheVariants as wrong
 
 -- names of these lengths add up to what is given, and each is UTF-8
 abbrev pub AreNames : List ℕ → List ℕ → Type 0
@@ -28,65 +37,45 @@ IsCheckable libs lengths names name_lengths =
     × AreNames names name_lengths
 
 -- the room begins with the text of a report of these files, which has their names, and what is
--- found has the verdict of that report, how many lines of it begin with `warning: `, its length,
--- the status that goes with them, and the name of what the fault is about
+-- found has the verdict of that report, how many warnings it has, its length, the status that goes
+-- with them, and the name of what the fault is about
 abbrev pub IsFound : List (List ℕ) → List ℕ → List (List ℕ) → Bool → List ℕ
     → List ℕ → Found → Type 0
 IsFound names host libs strict old new found =
-    (text : List ℕ) × IsReport names host libs found.verdict found.warnings text
-    × RoomBeginsWith text old new
-    × (found.size ≡ length text)
+    (r : Reported) × IsReport names host libs r × RoomBeginsWith r.text old new
+    × (found.verdict ≡ r.verdict) × (found.warnings ≡ length r.warnings)
+    × (found.size ≡ length r.text)
     × (found.ends_with ≡ check_status strict found.warnings found.verdict)
-    × (found.name ≡ verdict_name host libs found.verdict)
+    × (found.name ≡ r.name)
 
 -- the room is shorter than the text of a report of these files, which has their names
-abbrev pub IsLongReport : List ℕ → List (List ℕ) → List ℕ → List (List ℕ) → ℕ
-    → Type 0
-IsLongReport room names host libs size =
-    (verdict : Verdict) × (warnings : ℕ) × (text : List ℕ)
-    × IsReport names host libs verdict warnings text
-    × (size ≡ length text) × (length room < size)
+abbrev pub IsLongReport : List ℕ → List (List ℕ) → List ℕ → List (List ℕ)
+    → TooSmall → Type 0
+IsLongReport room names host libs t =
+    (r : Reported) × IsReport names host libs r × IsAbove r.text room t
 
--- no report of these files is put into this room
-abbrev pub IsNotReported : List ℕ → List (List ℕ) → List ℕ → List (List ℕ) → NotDone
-    → Type 0
-IsNotReported room names host libs (Refused r) = ⊥
-IsNotReported room names host libs WrongLengths = ⊥
-IsNotReported room names host libs WrongNames = ⊥
-IsNotReported room names host libs NoSuchText = ⊥
-IsNotReported room names host libs NoMemory = ⊤
-IsNotReported room names host libs (TooSmall size) = IsLongReport room names host libs size
-
--- the same of a call whose names and libraries are one after another
-abbrev pub IsNotChecked : List ℕ → List ℕ → List ℕ → List ℕ → List ℕ → List ℕ
-    → NotDone → Type 0
-IsNotChecked room host libs lengths names name_lengths (Refused r) = ⊥
-IsNotChecked room host libs lengths names name_lengths WrongLengths =
-    (HasItsLengths libs lengths names name_lengths → ⊥)
-IsNotChecked room host libs lengths names name_lengths WrongNames =
-    HasItsLengths libs lengths names name_lengths
-    × (All IsUtf8 (split names name_lengths) → ⊥)
-IsNotChecked room host libs lengths names name_lengths NoSuchText = ⊥
-IsNotChecked room host libs lengths names name_lengths NoMemory = ⊤
-IsNotChecked room host libs lengths names name_lengths (TooSmall size) =
+-- why no report of these files is put in this room, where names and libraries are one after another
+abbrev pub WhyUnchecked : List ℕ → List ℕ → List ℕ → List ℕ → List ℕ → List ℕ
+    → NotChecked → Type 0
+WhyUnchecked room host libs lengths names name_lengths (not_checked.Wrong why) =
+    WhyWrong (HasItsLengths libs lengths names name_lengths)
+    (All IsUtf8 (split names name_lengths)) why
+WhyUnchecked room host libs lengths names name_lengths not_checked.NoMemory = ⊤
+WhyUnchecked room host libs lengths names name_lengths (not_checked.TooSmall t) =
     IsCheckable libs lengths names name_lengths
-    × IsLongReport room (split names name_lengths) host (split libs lengths) size
+    × IsLongReport room (split names name_lengths) host (split libs lengths) t
 
--- why names are no texts
-abbrev pub IsUnreadable : List (List ℕ) → NotDone → Type 0
-IsUnreadable names (Refused r) = ⊥
-IsUnreadable names WrongLengths = ⊥
-IsUnreadable names WrongNames = (All IsUtf8 names → ⊥)
-IsUnreadable names NoSuchText = ⊥
-IsUnreadable names NoMemory = ⊤
-IsUnreadable names (TooSmall size) = ⊥
+-- why there are no names, of which it is known whether they are right
+abbrev pub WhyUnnamed : Type 0 → Unnamed → Type 0
+WhyUnnamed Names unnamed.WrongNames = Names → ⊥
+WhyUnnamed Names unnamed.NoMemory = ⊤
 
--- why names that are one after another are not taken apart
-abbrev pub IsMisnamed : List ℕ → List ℕ → NotDone → Type 0
-IsMisnamed names lengths (Refused r) = ⊥
-IsMisnamed names lengths WrongLengths = (sum lengths ≡ length names → ⊥)
-IsMisnamed names lengths WrongNames =
-    (sum lengths ≡ length names) × (All IsUtf8 (split names lengths) → ⊥)
-IsMisnamed names lengths NoSuchText = ⊥
-IsMisnamed names lengths NoMemory = ⊤
-IsMisnamed names lengths (TooSmall size) = ⊥
+-- the same as an error of a call
+abbrev pub unnamed_call : Unnamed → NotDone
+unnamed_call unnamed.WrongNames = not_done.Wrong wrong.Names
+unnamed_call unnamed.NoMemory = not_done.Unput (unput.Unmade unmade.NoMemory)
+
+-- and as one of a check
+abbrev pub unnamed_check : Unnamed → NotChecked
+unnamed_check unnamed.WrongNames = not_checked.Wrong wrong.Names
+unnamed_check unnamed.NoMemory = not_checked.NoMemory

@@ -1,32 +1,32 @@
 -- The texts that there are, by their numbers.
 -- Source: this project's profile.
 use Rattle.std.specs.Prelude.{ℕ, ◌==◌, if◌then◌else◌, Bool, true, false, Option, Some, None, option_and_then}
-use Rattle.ps_calls.specs.declared.kinds.ListForm.{ListForm}
-use Rattle.ps_calls.specs.declared.kinds.ListForm.TheVariants as list
-use Rattle.ps_calls.specs.declared.kinds.TextForm.{TextForm}
-use Rattle.ps_calls.specs.declared.kinds.TextForm.TheVariants as form
-use Rattle.ps_calls.specs.declared.kinds.TextKind.{TextKind}
-use Rattle.ps_calls.specs.declared.kinds.TextKind.TheVariants as kind
+use Rattle.ps_writing.specs.declared.rows.Form.{Form}
+use Rattle.ps_writing.specs.declared.rows.Form.TheVariants as form
+use Rattle.ps_listing.specs.declared.lists.ListForm.{ListForm}
+use Rattle.ps_listing.specs.declared.lists.ListForm.TheVariants as list
+use Rattle.ps_texts.specs.declared.kinds.TextKind.{TextKind}
+use Rattle.ps_texts.specs.declared.kinds.TextKind.TheVariants as kind
 use Rattle.ps_calls.specs.declared.kinds.TheConstants.{JSON, LINES, TEXT_CHECK, TEXT_LIST, TEXT_LOOKS, TEXT_MAP, TEXT_REFERENCES, TEXT_SHOW, TEXT_UNITS, UNITS_HAD, UNITS_WANTED}
 
 -- the form of this number
-abbrev pub form_of : ℕ → Option TextForm
+abbrev pub form_of : ℕ → Option Form
 form_of number = if number == LINES then Some form.Lines
     else if number == JSON then Some form.Json
     else None
 
 -- how files are listed in this form
-abbrev pub list_in : TextForm → ListForm
+abbrev pub list_in : Form → ListForm
 list_in form.Lines = list.Lines
 list_in form.Json = list.Json
 
 -- the list of files with their units has no document
-abbrev pub units_in : TextForm → Option TextKind
+abbrev pub units_in : Form → Option TextKind
 units_in form.Lines = Some (kind.List list.Units)
 units_in form.Json = None
 
 -- the text of this number in this form
-abbrev pub kind_in : ℕ → TextForm → Option TextKind
+abbrev pub kind_in : ℕ → Form → Option TextKind
 kind_in what how =
     if what == TEXT_MAP then Some (kind.Map how)
     else if what == TEXT_REFERENCES then Some (kind.References how)
@@ -46,14 +46,3 @@ abbrev pub units_kind : ℕ → Option TextKind
 units_kind which = if which == UNITS_WANTED then Some kind.Wanted
     else if which == UNITS_HAD then Some kind.Had
     else None
-
--- the files have names in the text
-abbrev pub needs_names : TextKind → Bool
-needs_names (kind.Map how) = false
-needs_names (kind.References how) = false
-needs_names (kind.Show how) = false
-needs_names (kind.Check how) = true
-needs_names (kind.Looks how) = true
-needs_names (kind.List how) = true
-needs_names kind.Wanted = false
-needs_names kind.Had = false

@@ -2,8 +2,8 @@
 ghost use Rattle.std.specs.Prelude.{◌≡◌};
 ghost use Rattle.ps_calls.specs.CheckAnswers.{verdict_answer as verdict_answer_spec};
 
-use crate::checking::Found;
-use ps_answers::{Answer, DONE, NO_MEMORY, NotDone, TOO_SMALL, WRONG_LENGTHS, WRONG_NAMES};
+use crate::checking::{Found, NotChecked};
+use ps_answers::{Answer, DONE, NO_MEMORY, TOO_SMALL, WRONG_LENGTHS, WRONG_NAMES, WrongInputs};
 use ps_report::Verdict;
 use ps_words::Name;
 
@@ -52,7 +52,7 @@ impl CheckAnswer {
 
     /// The answer of a check: its status, and what goes with that status.
     /// Source: this project's profile.
-    pub fn of(outcome: Result<Found, NotDone>) -> CheckAnswer
+    pub fn of(outcome: Result<Found, NotChecked>) -> CheckAnswer
         ensures { result ≡ check_answer_of outcome }
     {
         match outcome {
@@ -64,16 +64,13 @@ impl CheckAnswer {
                 verdict: verdict_answer(found.verdict, found.name),
                 ..CheckAnswer::bare(DONE)
             },
-            Err(NotDone::TooSmall(size)) => CheckAnswer {
-                needed: size,
+            Err(NotChecked::Wrong(WrongInputs::Lengths)) => CheckAnswer::bare(WRONG_LENGTHS),
+            Err(NotChecked::Wrong(WrongInputs::Names)) => CheckAnswer::bare(WRONG_NAMES),
+            Err(NotChecked::NoMemory) => CheckAnswer::bare(NO_MEMORY),
+            Err(NotChecked::TooSmall(small)) => CheckAnswer {
+                needed: small.size,
                 ..CheckAnswer::bare(TOO_SMALL)
             },
-            Err(NotDone::NoMemory) => CheckAnswer::bare(NO_MEMORY),
-            Err(NotDone::WrongNames) => CheckAnswer::bare(WRONG_NAMES),
-            // A check refuses no files: what it finds has the fault. And it is a text that there is.
-            Err(NotDone::WrongLengths | NotDone::NoSuchText | NotDone::Refused(_)) => {
-                CheckAnswer::bare(WRONG_LENGTHS)
-            }
         }
     }
 }

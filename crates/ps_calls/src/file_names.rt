@@ -2,26 +2,66 @@
 //! beside.
 ghost use Rattle.std.specs.Prelude.{◌≡◌, All, IsUtf8, IfOk, IfErr, length, sum};
 ghost use Rattle.ps_resolve.specs.Sources.{contents};
-ghost use Rattle.ps_calls.specs.Checks.{IsMisnamed, IsUnreadable};
+ghost use Rattle.ps_calls.specs.Checks.{WhyUnnamed};
 ghost use Rattle.ps_answers.specs.Libraries.{split as split_spec};
 
-use ps_answers::{NotDone, split};
-use std::alloc::Global;
+use ps_answers::{NotDone, Unmade, Unput, WrongInputs, split};
+use std::alloc::{AllocError, AllocFailed, Global};
 
-/// These names as text, one for one; refuses `WrongNames` where one of them is no UTF-8.
-fn texts<'a>(alloc: Global, names: &[&'a [u8]]) -> Result<Vec<&'a str>, NotDone>
+/// Why there are no names.
+#[derive(Clone, Copy)]
+pub enum Unnamed {
+    /// One of them is no UTF-8.
+    WrongNames,
+    /// Memory was refused.
+    NoMemory,
+}
+
+impl From<AllocError> for Unnamed {
+    ghost use Rattle.ps_calls.specs.declared.file_names.Unnamed.TheVariants.{NoMemory};
+
+    ghost from_gives = { λ _ e. e ≡ NoMemory };
+
+    fn from(_error: AllocError) -> Unnamed {
+        Unnamed::NoMemory
+    }
+}
+
+impl<T: Drop> From<AllocFailed<T>> for Unnamed {
+    ghost use Rattle.ps_calls.specs.declared.file_names.Unnamed.TheVariants.{NoMemory};
+
+    ghost from_gives = { λ _ e. e ≡ NoMemory };
+
+    fn from(_error: AllocFailed<T>) -> Unnamed {
+        Unnamed::NoMemory
+    }
+}
+
+impl From<Unnamed> for NotDone {
+    ghost use Rattle.ps_calls.specs.Checks.{unnamed_call};
+
+    ghost from_gives = { λ why e. e ≡ unnamed_call why };
+
+    fn from(why: Unnamed) -> NotDone {
+        match why {
+            Unnamed::WrongNames => NotDone::Wrong(WrongInputs::Names),
+            Unnamed::NoMemory => NotDone::Unput(Unput::Unmade(Unmade::NoMemory)),
+        }
+    }
+}
+
+/// These names as text, one for one.
+fn texts<'a>(alloc: Global, names: &[&'a [u8]]) -> Result<Vec<&'a str>, Unnamed>
     ensures same { IfOk result (λ texts. contents texts.items ≡ contents names.now) }
     ensures utf8 { IfOk result (λ _. All IsUtf8 (contents names.now)) }
-    ensures err { IfErr result (IsUnreadable (contents names.now)) }
+    ensures err { IfErr result (WhyUnnamed (All IsUtf8 (contents names.now))) }
 {
     let mut texts = Vec::new(alloc);
     for name in names {
         let Ok(text) = str::from_utf8(name) else {
-            return Err(NotDone::WrongNames);
+            return Err(Unnamed::WrongNames);
         };
-        if texts.push(text).is_err() {
-            return Err(NotDone::NoMemory);
-        }
+        texts.push(text)?;
     }
     Ok(texts)
 }
@@ -31,12 +71,13 @@ pub(crate) fn file_names<'a>(
     alloc: Global,
     names: &'a [u8],
     lengths: &[usize],
-) -> Result<Vec<&'a str>, NotDone>
+) -> Result<Vec<&'a str>, Unnamed>
+    requires { sum lengths.now ≡ length names.now }
     ensures cut { IfOk result (λ texts. contents texts.items
         ≡ split_spec names.now lengths.now) }
-    ensures right { IfOk result (λ _. sum lengths.now ≡ length names.now) }
+    ensures many { IfOk result (λ texts. length texts.items ≡ length lengths.now) }
     ensures utf8 { IfOk result (λ _. All IsUtf8 (split_spec names.now lengths.now)) }
-    ensures err { IfErr result (IsMisnamed names.now lengths.now) }
+    ensures err { IfErr result (WhyUnnamed (All IsUtf8 (split_spec names.now lengths.now))) }
 {
     let parts = split::<0>(alloc, names, lengths)?;
     texts(alloc, parts.as_slice())

@@ -11,8 +11,6 @@ mod checking;
 mod fault_text;
 mod file_names;
 mod kinds;
-mod lists;
-mod looks;
 mod making;
 mod names;
 mod printing;
@@ -20,11 +18,11 @@ mod sentences;
 mod texts;
 
 pub use check_answer::CheckAnswer;
-pub use checking::{Found, check};
+pub use checking::{Found, NotChecked, check};
 pub use fault_text::{FAULT_TEXT_MAX, put_fault};
 pub use kinds::{
-    JSON, LINES, ListForm, TEXT_CHECK, TEXT_LIST, TEXT_LOOKS, TEXT_MAP, TEXT_REFERENCES, TEXT_SHOW,
-    TEXT_UNITS, TextForm, TextKind, UNITS_HAD, UNITS_WANTED, text_kind, units_kind,
+    JSON, LINES, TEXT_CHECK, TEXT_LIST, TEXT_LOOKS, TEXT_MAP, TEXT_REFERENCES, TEXT_SHOW,
+    TEXT_UNITS, UNITS_HAD, UNITS_WANTED, text_kind, units_kind,
 };
 pub use names::{RELEASE_NUMBER, put_fault_name, put_release, put_status_text};
 pub use printing::text;

@@ -1,4 +1,3 @@
 pub mod Asked
 pub mod ListsPrinted
 pub mod Named
-pub mod Taken

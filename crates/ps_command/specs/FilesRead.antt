@@ -1,10 +1,7 @@
 -- Files that are read and written: what a program that opens paths got of them, and what it wrote.
 -- Source: this project's profile.
-use Rattle.std.specs.Prelude.{◌≡◌, ◌<◌, ℕ, List, Option, IfSome, length}
-use Rattle.std.specs.Borrow.{Bor}
+use Rattle.std.specs.Prelude.{◌≡◌, ◌<◌, ℕ, List, Option, IfSome, length, ⊤}
 use Rattle.std.specs.Io.KnownBytes.{Appends}
-use Rattle.ps_errors.specs.declared.error.CommandError.{CommandError}
-use Rattle.ps_errors.specs.declared.error.CommandError.TheVariants as error
 use Rattle.ps_command.specs.declared.files.TheConstants.{LONGEST}
 use Rattle.ps_command.specs.declared.files.FileFault.{FileFault}
 use Rattle.ps_command.specs.declared.files.FileFault.TheVariants as fault
@@ -28,18 +25,11 @@ Writes {F} created closed contents path bytes =
 abbrev pub IsTooLong : Option (List ℕ) → Type 0
 IsTooLong remaining = IfSome remaining (λ left. LONGEST < length left)
 
--- what is reported of a file at this path that was not read whole
-abbrev pub read_error : Bor (List ℕ) → FileFault → CommandError
-read_error path (fault.Device cause) = error.Read path cause
-read_error path fault.TooLong = error.TooLong path
-read_error path fault.Memory = error.Memory
-
 -- Why nothing was read at a path: it cannot be read; or it was opened, and has too much to give; or
 -- it was opened, and memory ran out.
-abbrev pub IsReadError : {F : Type 0} → (List ℕ → F → Type 0) → (F → Option (List ℕ))
-    → Bor (List ℕ) → CommandError → Type 0
-IsReadError {F} opened remaining path (error.Read at cause) = at ≡ path
-IsReadError {F} opened remaining path (error.TooLong at) =
-    (at ≡ path) × (file : F) × opened path.now file × IsTooLong (remaining file)
-IsReadError {F} opened remaining path error.Memory = (file : F) × opened path.now file
-IsReadError {F} opened remaining path _ = ⊥
+abbrev pub IsReadFault : {F : Type 0} → (List ℕ → F → Type 0) → (F → Option (List ℕ))
+    → List ℕ → FileFault → Type 0
+IsReadFault {F} opened remaining path (fault.Device cause) = ⊤
+IsReadFault {F} opened remaining path fault.TooLong =
+    (file : F) × opened path file × IsTooLong (remaining file)
+IsReadFault {F} opened remaining path fault.Memory = (file : F) × opened path file

@@ -2,26 +2,20 @@
 -- named, and what a link has written. `Reads` says of a path and of bytes that they were read
 -- there, and `Writes` that a file which was created there took them.
 -- Source: this project's profile.
-use Rattle.std.specs.Prelude.{◌≡◌, ◌⊎◌, ◌+◌, ◌++◌, ◌∷◌, [], if◌then◌else◌, ℕ, Bool, true, false, List, Option, Some, codes, max}
+use Rattle.std.specs.Prelude.{◌≡◌, ◌⊎◌, ◌++◌, ◌∷◌, [], if◌then◌else◌, ℕ, Bool, true, false, List, Option, Some, codes, max}
 use Rattle.std.specs.List.{AllZip}
 use Rattle.std.specs.Io.KnownBytes.{Appends}
 use Rattle.clap.specs.Words.{IsAmong, Kinds, Row, Text, first_of}
 use Rattle.clap.specs.declared.error.ErrorKind.TheVariants.{DisplayHelp, DisplayVersion}
-use Rattle.ps_writing.specs.JsonText.{separator}
+use Rattle.ps_writing.specs.declared.rows.Form.{Form}
+use Rattle.ps_writing.specs.declared.rows.Form.TheVariants.{Lines, Json}
 use Rattle.ps_linkfile.specs.LinkedFile.{LinkedFile, summary_of}
-use Rattle.ps_linkfile.specs.MapJson.{map_json_of}
-use Rattle.ps_linkfile.specs.MapText.{map_of}
-use Rattle.ps_linkfile.specs.ReferencesJson.{IsReferencesJson}
-use Rattle.ps_linkfile.specs.ReferencesText.{references_of}
-use Rattle.ps_linkfile.specs.ShowJson.{show_json_of}
-use Rattle.ps_linkfile.specs.ShowText.{show_of}
-use Rattle.ps_listing.specs.ListJson.{list_json_of, unread_json_of}
-use Rattle.ps_listing.specs.ListText.{is_refused, list_of}
-use Rattle.ps_listing.specs.LoneText.{has_no_sound, lone_text, lone_units}
-use Rattle.ps_listing.specs.declared.lone.LoneUnit.{LoneUnit}
-use Rattle.ps_report.specs.Reports.{IsPrintedReport}
-use Rattle.ps_command.specs.declared.lists.Form.{Form}
-use Rattle.ps_command.specs.declared.lists.Form.TheVariants as form
+use Rattle.ps_listing.specs.FileLists.{is_refused_as_listed, listed_as, unread}
+use Rattle.ps_listing.specs.declared.lists.ListForm.{ListForm}
+use Rattle.ps_listing.specs.declared.lists.ListForm.TheVariants as form
+use Rattle.ps_texts.specs.Texts.{IsTextOf}
+use Rattle.ps_texts.specs.declared.kinds.TextKind.{TextKind}
+use Rattle.ps_texts.specs.declared.kinds.TextKind.TheVariants as kind
 use Rattle.ps_command.specs.SummaryLine.{summary_line}
 use Rattle.ps_command.specs.Requests.{files_of, has_references, is_json, is_strict, is_unit, libraries_of}
 
@@ -41,83 +35,50 @@ PrintsLine Reads Writes path paths out old new =
     SomeLink Reads path paths (λ host libs file. Writes out file
     × Appends old new (summary_line (summary_of host libs)))
 
--- the text is the map of a link, and after it what the link stores if that is requested; or the
--- same as JSON
-abbrev pub IsPrintedMap : Bool → Bool → List ℕ → List (List ℕ) → List ℕ → Type 0
-IsPrintedMap false false host libs text = text ≡ map_of host libs
-IsPrintedMap true false host libs text = text ≡ map_of host libs ++ references_of host libs
-IsPrintedMap false true host libs text = text ≡ map_json_of host libs
-IsPrintedMap true true host libs text = IsReferencesJson host libs text
-
--- by the map of one, with its references or without, and as JSON or not
-abbrev pub PrintsMap : (Text → List ℕ → Type 0) → Text → List Text → Bool → Bool
-    → Option (List ℕ) → Option (List ℕ) → Type 0
-PrintsMap Reads path paths references json old new =
-    SomeLink Reads path paths (λ host libs file. (text : List ℕ)
-    × IsPrintedMap references json host libs text × Appends old new text)
-
--- what a file has, or the same as JSON
-abbrev pub printed_show : Bool → List ℕ → List ℕ
-printed_show false file = show_of file
-printed_show true file = show_json_of file
-
--- by what the code file at a path has
-abbrev pub PrintsShow : (Text → List ℕ → Type 0) → Text → Bool → Option (List ℕ)
-    → Option (List ℕ) → Type 0
-PrintsShow Reads path json old new = (file : List ℕ) × Reads path file
-    × Appends old new (printed_show json file)
-
--- by the text of a check of the files at these paths, which ends with this status
-abbrev pub PrintsReport : (Text → List ℕ → Type 0) → Text → List Text → Bool → Bool
+-- by a text of a host that was read at its path and of libraries that were read at theirs, one for
+-- one in their order, which ends with this status
+abbrev pub PrintsTextOf : (Text → List ℕ → Type 0) → TextKind → Bool → Text → List Text
     → ℕ → Option (List ℕ) → Option (List ℕ) → Type 0
-PrintsReport Reads path paths strict json status old new =
+PrintsTextOf Reads k strict path paths status old new =
     (host : List ℕ) × (libs : List (List ℕ)) × (text : List ℕ) × Reads path host
-    × AllZip Reads paths libs × IsPrintedReport (path ∷ paths) host libs strict json status text
+    × AllZip Reads paths libs × IsTextOf k strict (path ∷ paths) host libs status text
     × Appends old new text
 
--- the units of a file by themselves, where they are listed
-abbrev pub listed_units : Form → List ℕ → List LoneUnit
-listed_units form.Units file = lone_units file
-listed_units _ file = []
+-- lines, or a document
+abbrev pub form_of : Bool → Form
+form_of false = Lines
+form_of true = Json
 
--- what is listed of a file; or the same as JSON, as the item of this index; or a line of each of
--- its units after it
-abbrev pub listed_text : Form → ℕ → Text → List ℕ → List ℕ → List ℕ
-listed_text form.Lines i path phrase file = list_of path phrase file
-listed_text form.Json i path phrase file = separator i ++ list_json_of path phrase file
-listed_text form.Units i path phrase file =
-    list_of path phrase file ++ lone_text path (lone_units file)
+-- the map of a link, and with its references what it stores
+abbrev pub map_kind : Bool → Bool → TextKind
+map_kind false json = kind.Map (form_of json)
+map_kind true json = kind.References (form_of json)
 
--- a file or a segment is refused, or, where its units are listed, one of these, or there is none
-abbrev pub is_refused_in : Form → List ℕ → List ℕ → Bool
-is_refused_in form.Units phrase file = has_no_sound (lone_units file)
-is_refused_in _ phrase file = is_refused phrase file
-
--- nothing, where the file at a path cannot be read; or as JSON an item that says so
-abbrev pub PrintsUnread : Form → ℕ → Text → Option (List ℕ) → Option (List ℕ)
+-- by nothing, where the file at a path cannot be read; or in a document by an item that says so
+abbrev pub PrintsUnread : ListForm → Bool → Text → Option (List ℕ) → Option (List ℕ)
     → Type 0
-PrintsUnread form.Json i path old new = Appends old new (separator i ++ unread_json_of path)
-PrintsUnread _ i path old new = new ≡ old
+PrintsUnread form.Json first path old new = Appends old new (unread first path)
+PrintsUnread how first path old new = new ≡ old
 
 -- by the list of the file at a path, which ends with status 1 if it is refused or a segment is; or
 -- by what there is of a file that cannot be read
-abbrev pub IsListed : (Text → List ℕ → Type 0) → Form → ℕ → Text → ℕ
+abbrev pub IsListed : (Text → List ℕ → Type 0) → ListForm → Bool → Text → ℕ
     → Option (List ℕ) → Option (List ℕ) → Type 0
-IsListed Reads how i path status old new =
+IsListed Reads how first path status old new =
     ((file : List ℕ) × (phrase : List ℕ) × Reads path file
-    × (status ≡ (if is_refused_in how phrase file then 1 else 0))
-    × Appends old new (listed_text how i path phrase file))
-    ⊎ ((status ≡ 3) × PrintsUnread how i path old new)
+    × (status ≡ (if is_refused_as_listed how phrase file then 1 else 0))
+    × Appends old new (listed_as how first path phrase file))
+    ⊎ ((status ≡ 3) × PrintsUnread how first path old new)
 
--- by the lists of the files at these paths, one after another, from this index on, which end with
--- the greatest status
-abbrev pub PrintsFiles : (Text → List ℕ → Type 0) → Form → ℕ → List Text → ℕ
+-- by the lists of the files at these paths, one after another, of which the first is that of all or
+-- not; they end with the greatest status
+abbrev pub PrintsFiles : (Text → List ℕ → Type 0) → ListForm → Bool → List Text → ℕ
     → Option (List ℕ) → Option (List ℕ) → Type 0
-PrintsFiles Reads how i [] status old new = (status ≡ 0) × (new ≡ old)
-PrintsFiles Reads how i (path ∷ paths) status old new =
+PrintsFiles Reads how is_first [] status old new = (status ≡ 0) × (new ≡ old)
+PrintsFiles Reads how is_first (path ∷ paths) status old new =
     (first : ℕ) × (rest : ℕ) × (between : Option (List ℕ))
-    × IsListed Reads how i path first old between
-    × PrintsFiles Reads how (i + 1) paths rest between new × (status ≡ max first rest)
+    × IsListed Reads how is_first path first old between
+    × PrintsFiles Reads how false paths rest between new × (status ≡ max first rest)
 
 -- what a document of lists has before its items and after them
 abbrev pub document_start : List ℕ
@@ -127,17 +88,17 @@ abbrev pub document_end : List ℕ
 document_end = codes "\n]}\n"
 
 -- by the lists of the files at these paths; or by one document of them
-abbrev pub PrintsLists : (Text → List ℕ → Type 0) → Form → List Text → ℕ
+abbrev pub PrintsLists : (Text → List ℕ → Type 0) → ListForm → List Text → ℕ
     → Option (List ℕ) → Option (List ℕ) → Type 0
 PrintsLists Reads form.Json paths status old new =
     (started : Option (List ℕ)) × (ended : Option (List ℕ))
     × Appends old started document_start
-    × PrintsFiles Reads form.Json 0 paths status started ended
+    × PrintsFiles Reads form.Json true paths status started ended
     × Appends ended new document_end
-PrintsLists Reads how paths status old new = PrintsFiles Reads how 0 paths status old new
+PrintsLists Reads how paths status old new = PrintsFiles Reads how true paths status old new
 
 -- how a list is printed
-abbrev pub list_form : Bool → Form
+abbrev pub list_form : Bool → ListForm
 list_form false = form.Lines
 list_form true = form.Json
 
@@ -146,7 +107,7 @@ list_form true = form.Json
 abbrev pub PrintsCheck : (Text → List ℕ → Type 0) → Bool → Text → List Text → Bool
     → Bool → ℕ → Option (List ℕ) → Option (List ℕ) → Type 0
 PrintsCheck Reads false path paths strict json status old new =
-    PrintsReport Reads path paths strict json status old new
+    PrintsTextOf Reads (kind.Check (form_of json)) strict path paths status old new
 PrintsCheck Reads true path paths strict json status old new =
     PrintsLists Reads form.Units (path ∷ paths) status old new
 
@@ -159,12 +120,11 @@ Prints Reads Writes named status old new = (rows : List Row) × (path : Text) ×
     × (first_of (codes "HOST") rows ≡ Some path)
     × (out : Text) × (first_of (codes "OUT") rows ≡ Some out)
     × PrintsLine Reads Writes path (libraries_of rows) out old new)
-    ⊎ ((named ≡ Some (codes "map", rows)) × (status ≡ 0)
-    × (first_of (codes "HOST") rows ≡ Some path)
-    × PrintsMap Reads path (libraries_of rows) (has_references rows) (is_json rows) old new)
-    ⊎ ((named ≡ Some (codes "show", rows)) × (status ≡ 0)
-    × (first_of (codes "FILE") rows ≡ Some path)
-    × PrintsShow Reads path (is_json rows) old new)
+    ⊎ ((named ≡ Some (codes "map", rows)) × (first_of (codes "HOST") rows ≡ Some path)
+    × PrintsTextOf Reads (map_kind (has_references rows) (is_json rows)) false path
+    (libraries_of rows) status old new)
+    ⊎ ((named ≡ Some (codes "show", rows)) × (first_of (codes "FILE") rows ≡ Some path)
+    × PrintsTextOf Reads (kind.Show (form_of (is_json rows))) false path [] status old new)
     ⊎ ((named ≡ Some (codes "check", rows)) × (first_of (codes "HOST") rows ≡ Some path)
     × PrintsCheck Reads (is_unit rows) path (libraries_of rows) (is_strict rows)
     (is_json rows) status old new)

@@ -1,6 +1,6 @@
 -- What a request stands for, by the command and the files that clap finds named in the arguments.
 -- Source: this project's profile.
-use Rattle.std.specs.Prelude.{◌≡◌, ◌⊎◌, Any, Bool, true, false, List, [], Option, Some, None, codes, map, unwrap_or, ⊤}
+use Rattle.std.specs.Prelude.{◌≡◌, Bool, true, false, List, [], Option, Some, codes, map, unwrap_or, ⊤}
 use Rattle.std.specs.List.{list_any}
 use Rattle.std.specs.Option.{option_map_or}
 use Rattle.std.specs.Str.{bytes_eq}
@@ -84,31 +84,6 @@ abbrev pub Answers : {A : Type 0} → Request A → Kinds → Type 0
 Answers (request.Help text) faults = IsAmong DisplayHelp faults
 Answers request.Version faults = IsAmong DisplayVersion faults
 Answers (request.Task t) faults = faults ≡ []
-
--- the command that is named leaves out a file that it needs, or no command is named
-abbrev pub LeavesOut : Option (Text × List Row) → Type 0
-LeavesOut named = (rows : List Row) → (named ≡ Some (codes "link", rows)
-    → (first_of (codes "HOST") rows ≡ None) ⊎ (first_of (codes "OUT") rows ≡ None))
-    × (named ≡ Some (codes "map", rows) → first_of (codes "HOST") rows ≡ None)
-    × (named ≡ Some (codes "show", rows) → first_of (codes "FILE") rows ≡ None)
-    × (named ≡ Some (codes "check", rows) → first_of (codes "HOST") rows ≡ None)
-    × (named ≡ Some (codes "list", rows) → first_of (codes "FILE") rows ≡ None)
-
--- a link is named that would write a file which is named as a library too
-abbrev pub WritesLibrary : Option (Text × List Row) → Type 0
-WritesLibrary named = (rows : List Row) × (out : Text) × (named ≡ Some (codes "link", rows))
-    × (first_of (codes "OUT") rows ≡ Some out) × (is_library out (libraries_of rows) ≡ true)
-
--- a link is named that would write a file which is a library too, since both paths lead there, as
--- `one_file` says
-abbrev pub WritesLibraryFile : (Text → Text → Type 0) → Option (Text × List Row) → Type 0
-WritesLibraryFile one_file named = (rows : List Row) × (out : Text)
-    × (named ≡ Some (codes "link", rows)) × (first_of (codes "OUT") rows ≡ Some out)
-    × Any (one_file out) (libraries_of rows)
-
--- a link is named that would write a library, by its path or by another that leads there
-abbrev pub OverwritesLibrary : (Text → Text → Type 0) → Option (Text × List Row) → Type 0
-OverwritesLibrary one_file named = WritesLibrary named ⊎ WritesLibraryFile one_file named
 
 -- a check is named
 abbrev pub NamesCheck : Option (Text × List Row) → Type 0

@@ -1,12 +1,12 @@
 //! Files that are read whole.
-ghost use Rattle.std.specs.Prelude.{◌≡◌, ◌≢◌, ◌≤◌, ℕ, List, length, map, Any, IfErr, IfOk, IfSome, OnOk, true, ⊤};
+ghost use Rattle.std.specs.Prelude.{◌≡◌, ◌≤◌, ℕ, List, length, map, IfErr, IfOk, IfSome, OnOk, ⊤};
 ghost use Rattle.std.specs.List.{AllZip};
-ghost use Rattle.ps_command.specs.FilesRead.{IsReadError, IsTooLong, Reads, read_error};
-ghost use Rattle.ps_errors.specs.Statuses.{status_of};
+ghost use Rattle.ps_command.specs.Causes.{read_error};
+ghost use Rattle.ps_command.specs.FilesRead.{IsReadFault, IsTooLong, Reads};
 ghost use Rattle.ps_command.specs.declared.files.FileFault.TheVariants.{Memory};
 
+use crate::error::{Cause, FileError};
 use crate::request::Inputs;
-use ps_errors::{Cause, CommandError};
 use std::alloc::{AllocError, AllocFailed, Allocator};
 use std::fs::OpenFile;
 use std::io::{Read, Write};
@@ -22,7 +22,7 @@ const CHUNK: usize = 16_384;
 
 /// Why a file was not read whole.
 #[derive(Clone, Copy)]
-enum FileFault {
+pub(crate) enum FileFault {
     Device(Cause),
     TooLong,
     Memory,
@@ -45,14 +45,14 @@ impl From<AllocError> for FileFault {
 }
 
 impl FileFault {
-    /// What is reported of the file at `path`.
-    fn at<'a>(self, path: &'a str) -> CommandError<'a>
+    /// The same of the file at `path`.
+    fn at<'a>(self, path: &'a str) -> FileError<'a>
         ensures { result ≡ read_error path.entry self }
     {
         match self {
-            FileFault::Device(cause) => CommandError::Read { path, cause },
-            FileFault::TooLong => CommandError::TooLong { path },
-            FileFault::Memory => CommandError::Memory,
+            FileFault::Device(cause) => FileError::Read { path, cause },
+            FileFault::TooLong => FileError::TooLong { path },
+            FileFault::Memory => FileError::Memory,
         }
     }
 }
@@ -76,9 +76,6 @@ pub trait CodeFiles {
     // Holds of a path and of what was created there, as it was when it was closed.
     ghost closed: { Self → List ℕ → Self.Created → Type 0 };
 
-    // Holds of two paths that were found to lead to one file.
-    ghost one_file: { Self → List ℕ → List ℕ → Type 0 };
-
     /// Opens the file at `path` to be read.
     fn open(&self, path: &str) -> io::Result<Self::Opened>
         ensures { IfOk result (opened self.now path.now) };
@@ -93,8 +90,7 @@ pub trait CodeFiles {
 
     /// Both paths lead to one file, as two names of it or a link do. Where no file is, or no regular
     /// one, they do not.
-    fn lead_to_one_file(&self, path: &str, other: &str) -> bool
-        ensures { result ≡ true → one_file self.now path.now other.now };
+    fn lead_to_one_file(&self, path: &str, other: &str) -> bool;
 
     /// How many bytes `file` is said to have, and 0 where nothing is said of it. A read may give
     /// more bytes than that, or less.
@@ -111,8 +107,6 @@ impl<R: Files> CodeFiles for R {
     ghost created = { λ rt path file. ⊤ };
 
     ghost closed = { λ rt path file. ⊤ };
-
-    ghost one_file = { λ rt path other. ⊤ };
 
     fn open(&self, path: &str) -> io::Result<R::File> {
         fs::open(self, path)
@@ -151,10 +145,7 @@ impl<R: Files> CodeFiles for R {
 
 /// The first of the paths that leads to the file at `out`.
 /// Source: this project's profile.
-pub(crate) fn first_to<'a, R: CodeFiles>(rt: &R, paths: &[&'a str], out: &str) -> Option<&'a str>
-    ensures { IfSome result (λ _. Any (R.one_file rt.now out.now)
-        (map (λ path. path.now) paths.now)) }
-{
+pub(crate) fn first_to<'a, R: CodeFiles>(rt: &R, paths: &[&'a str], out: &str) -> Option<&'a str> {
     for path in paths {
         if rt.lead_to_one_file(out, path) {
             return Some(*path);
@@ -177,47 +168,54 @@ pub(crate) fn read_inputs<'a, R: CodeFiles, A: Allocator + Copy>(
     rt: &R,
     alloc: A,
     inputs: &Inputs<'a, A>,
-) -> Result<InputBytes<A>, CommandError<'a>>
+) -> Result<InputBytes<A>, FileError<'a>>
     ensures host { IfOk result (λ contents. Reads (R.opened rt.now) R.Opened.remaining
         inputs.now.host.now contents.host.items) }
     ensures libraries { IfOk result (λ contents. AllZip
         (Reads (R.opened rt.now) R.Opened.remaining)
         (map (λ path. path.now) inputs.now.libraries.items)
         (map (λ library. library.items) contents.libraries.items)) }
-    ensures err { IfErr result (λ e. status_of e ≢ 2) }
-    ensures unrefused { IfErr result (λ e. status_of e ≢ 1) }
 {
-    let host = read(rt, alloc, inputs.host)?;
+    let host = read_at(rt, alloc, inputs.host)?;
     let mut libraries = Vec::new(alloc);
     for path in inputs.libraries.iter() {
-        libraries.push(read(rt, alloc, *path)?)?;
+        libraries.push(read_at(rt, alloc, *path)?)?;
     }
     Ok(InputBytes { host, libraries })
 }
 
 /// Reads the file at `path` to its end.
 /// Source: this project's profile.
-pub(crate) fn read<'a, R: CodeFiles, A: Allocator + Copy>(
+pub(crate) fn read<R: CodeFiles, A: Allocator + Copy>(
     rt: &R,
     alloc: A,
-    path: &'a str,
-) -> Result<Vec<u8, A>, CommandError<'a>>
+    path: &str,
+) -> Result<Vec<u8, A>, FileFault>
     ensures bound { IfOk result (λ bytes. length bytes.items ≤ LONGEST) }
-    ensures whole { IfOk result (λ bytes. Reads (R.opened rt.now) R.Opened.remaining path.entry.now
+    ensures whole { IfOk result (λ bytes. Reads (R.opened rt.now) R.Opened.remaining path.now
         bytes.items) }
-    ensures err { IfErr result (λ e. status_of e ≢ 2) }
-    ensures unrefused { IfErr result (λ e. status_of e ≢ 1) }
 
     // It cannot be read; or it was opened, and it is too long or memory ran out.
-    ensures why { IfErr result
-        (IsReadError (R.opened rt.now) R.Opened.remaining path.entry) }
+    ensures why { IfErr result (IsReadFault (R.opened rt.now) R.Opened.remaining path.now) }
 {
     let mut file = match rt.open(path) {
         Ok(file) => file,
-        Err(error) => return Err(FileFault::Device(Cause::of(error.kind())).at(path)),
+        Err(error) => return Err(FileFault::Device(Cause::of(error.kind()))),
     };
     let hint = R::length_hint(&file);
-    match read_to_end(&mut file, alloc, hint) {
+    read_to_end(&mut file, alloc, hint)
+}
+
+/// The same with an error that names the path.
+pub(crate) fn read_at<'a, R: CodeFiles, A: Allocator + Copy>(
+    rt: &R,
+    alloc: A,
+    path: &'a str,
+) -> Result<Vec<u8, A>, FileError<'a>>
+    ensures { IfOk result (λ bytes. Reads (R.opened rt.now) R.Opened.remaining path.entry.now
+        bytes.items) }
+{
+    match read(rt, alloc, path) {
         Ok(bytes) => Ok(bytes),
         Err(fault) => Err(fault.at(path)),
     }

@@ -3,6 +3,8 @@
 #![tactic(auto)]
 
 mod command_line;
+mod ended;
+mod error;
 mod files;
 mod lists;
 mod output;

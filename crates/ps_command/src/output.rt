@@ -1,23 +1,20 @@
 //! What is printed on standard output.
-ghost use Rattle.std.specs.Prelude.{◌≡◌, ◌++◌, IfErr, OnOk, string_bytes};
+ghost use Rattle.std.specs.Prelude.{◌≡◌, ◌++◌, OnOk, string_bytes};
 ghost use Rattle.std.specs.Io.KnownBytes.{Appends};
 ghost use Rattle.ps_command.specs.SummaryLine.{summary_line};
-ghost use Rattle.ps_errors.specs.declared.error.CommandError.TheVariants.{StandardOutput};
 
-use ps_errors::CommandError;
 use ps_linkfile::Summary;
-use ps_writing::{Counts, write_all_of};
+use ps_writing::{WriteFault, write_all_of};
 use std::alloc::{AllocError, Allocator};
 use std::fmt::Write as _;
 use std::io::Write;
 
 /// Writes all of `text`. No write is repeated after an error.
 /// Source: this project's profile.
-pub(crate) fn print<O: Write>(out: &mut O, text: &[u8]) -> Result<(), CommandError<'static>>
-    ensures ok { OnOk result (Appends (O.contents out.old) (O.contents out.new) text.now) }
-    ensures err { IfErr result (λ e. e ≡ StandardOutput) }
+pub(crate) fn print<O: Write>(out: &mut O, text: &[u8]) -> Result<(), WriteFault>
+    ensures { OnOk result (Appends (O.contents out.old) (O.contents out.new) text.now) }
 {
-    Ok(write_all_of(out, &mut Counts::new(), text)?)
+    write_all_of(out, text)
 }
 
 /// Adds the line of a link to `line`.

@@ -4,11 +4,11 @@ ghost use Rattle.std.specs.Process.{exit_status};
 ghost use Rattle.ps_command.specs.CommandLine.{AreAccepted, named_in};
 ghost use Rattle.ps_command.specs.Printed.{Prints};
 ghost use Rattle.ps_command.specs.FilesRead.{Reads, Writes};
-ghost use Rattle.ps_command.specs.Requests.{NamesCheck, NamesList, OverwritesLibrary, WritesLibrary};
+ghost use Rattle.ps_command.specs.Requests.{NamesCheck, NamesList};
 
+use crate::error::{CommandError, UsageError, WrongArgument};
 use crate::files::CodeFiles;
 use crate::running::run;
-use ps_errors::{CommandError, WrongArgument};
 use std::alloc::{AllocError, Global};
 use std::env;
 use std::io::{ErrorKind, Write};
@@ -35,18 +35,15 @@ pub fn run_process<R: CodeFiles + Env + AllocGlobal, O: Write, E: Write>(
 {
     match given_args(rt) {
         Ok(args) => run_args(rt, args.as_slice(), out, err),
-        Err(error) => ExitCode::from(error.report(err)),
+        Err(error) => ExitCode::from(CommandError::from(error).report(err)),
     }
 }
 
 /// The arguments of the command line, the program's name first.
-fn given_args<R: Env + AllocGlobal>(rt: &R) -> Result<Vec<String>, CommandError<'static>>
-    ensures { IfErr result (λ e. (e ≡ CommandError.Memory)
-        ⊎ ((argument : WrongArgument) × (e ≡ CommandError.NotText argument))) }
-{
+fn given_args<R: Env + AllocGlobal>(rt: &R) -> Result<Vec<String>, UsageError> {
     match env::args(rt) {
         Ok(args) => Ok(args.collect(rt.alloc())?),
-        Err(error) if error.kind() != ErrorKind::OutOfMemory && is_list(rt) => listed_args(rt),
+        Err(error) if error.kind() != ErrorKind::OutOfMemory && is_list(rt) => Ok(listed_args(rt)?),
         Err(error) => Err(args_fault(error.kind(), wrong_argument(rt))),
     }
 }
@@ -61,9 +58,7 @@ fn is_list<R: Env>(rt: &R) -> bool {
 }
 
 /// The arguments of `list`, of which some are not UTF-8.
-fn listed_args<R: Env + AllocGlobal>(rt: &R) -> Result<Vec<String>, CommandError<'static>>
-    ensures { IfErr result (λ e. e ≡ CommandError.Memory) }
-{
+fn listed_args<R: Env + AllocGlobal>(rt: &R) -> Result<Vec<String>, AllocError> {
     let mut room = [0u8; LONGEST_ARGUMENT];
     let mut args = Vec::new(rt.alloc());
     for number in 0..usize::MAX {
@@ -119,14 +114,13 @@ fn wrong_argument<R: Env>(rt: &R) -> WrongArgument {
 }
 
 /// Why there are no arguments, by the kind of the error that reading them gave.
-fn args_fault(kind: ErrorKind, argument: WrongArgument) -> CommandError<'static>
-    ensures memory { kind ≡ ErrorKind.OutOfMemory → result ≡ CommandError.Memory }
-    ensures text { kind ≢ ErrorKind.OutOfMemory → result ≡ CommandError.NotText argument }
-    ensures either { (result ≡ CommandError.Memory) ⊎ (result ≡ CommandError.NotText argument) }
+fn args_fault(kind: ErrorKind, argument: WrongArgument) -> UsageError
+    ensures memory { kind ≡ ErrorKind.OutOfMemory → result ≡ UsageError.Memory }
+    ensures text { kind ≢ ErrorKind.OutOfMemory → result ≡ UsageError.NotText argument }
 {
     match kind {
-        ErrorKind::OutOfMemory => CommandError::Memory,
-        _ => CommandError::NotText(argument),
+        ErrorKind::OutOfMemory => UsageError::Memory,
+        _ => UsageError::NotText(argument),
     }
 }
 
@@ -147,11 +141,6 @@ fn run_args<R: CodeFiles + AllocGlobal, O: Write, E: Write>(
         → (out.new ≡ out.old) ⊎ Prints (Reads (R.opened rt.now) R.Opened.remaining)
         (Writes (R.created rt.now) (R.closed rt.now) R.Created.contents)
         (named_in (map string_bytes given.now)) 1 (O.contents out.old) (O.contents out.new) }
-    ensures misused { AreAccepted (map string_bytes given.now)
-        → WritesLibrary (named_in (map string_bytes given.now)) → exit_status result ≢ 4
-        → exit_status result ≡ 2 }
-    ensures usage { AreAccepted (map string_bytes given.now) → exit_status result ≡ 2
-        → OverwritesLibrary (R.one_file rt.now) (named_in (map string_bytes given.now)) }
     ensures unprinted { exit_status result ≢ 0 → exit_status result ≢ 3
         → (out.new ≡ out.old)
         ⊎ ((exit_status result ≡ 1) × (NamesCheck (named_in (map string_bytes given.now))
@@ -159,15 +148,14 @@ fn run_args<R: CodeFiles + AllocGlobal, O: Write, E: Write>(
 {
     match slices(rt.alloc(), given) {
         Ok(args) => ExitCode::from(run(rt, rt.alloc(), args.as_slice(), out, err)),
-        Err(error) => ExitCode::from(error.report(err)),
+        Err(error) => ExitCode::from(CommandError::from(error).report(err)),
     }
 }
 
 /// The arguments, in their order.
-fn slices<'w>(alloc: Global, given: &'w [String]) -> Result<Vec<&'w str>, CommandError<'static>>
-    ensures ok { IfOk result (λ args. map (λ arg. arg.now) args.items
+fn slices<'w>(alloc: Global, given: &'w [String]) -> Result<Vec<&'w str>, AllocError>
+    ensures { IfOk result (λ args. map (λ arg. arg.now) args.items
         ≡ map string_bytes given.now) }
-    ensures err { IfErr result (λ e. e ≡ CommandError.Memory) }
 {
     let mut args = Vec::new(alloc);
     for arg in given {

@@ -1,14 +1,14 @@
 //! What the arguments of a command line ask the program to do.
-ghost use Rattle.std.specs.Prelude.{◌≡◌, ◌≢◌, ◌⊎◌, IfErr, IfOk, Some, None, [], codes, map, unwrap_or};
+ghost use Rattle.std.specs.Prelude.{◌≡◌, IfErr, IfOk, Some, [], codes, map, unwrap_or};
 ghost use Rattle.clap.specs.Words.{FailsBy, all_of, first_of, found_of, kind_of, rows_of, subcommand_rows_of};
 ghost use Rattle.ps_command.specs.CommandLine.{AreAccepted, AskForText, faults_in, named_in, texts};
-ghost use Rattle.ps_command.specs.Requests.{Answers, IsAsked, IsNamedCommand, IsTask, LeavesOut, NamesInputs, WritesLibrary, has_flag as has_flag_spec};
-ghost use Rattle.ps_errors.specs.Statuses.{status_of};
+ghost use Rattle.ps_command.specs.Requests.{Answers, IsAsked, IsNamedCommand, IsTask, NamesInputs, has_flag as has_flag_spec};
 
 use crate::command_line::{command, link_usage};
+use crate::error::UsageError;
+use crate::files::{self, CodeFiles};
 use clap::error::ErrorKind;
 use clap::{ArgMatches, Command};
-use ps_errors::CommandError;
 use std::alloc::{AllocError, Allocator, Global};
 
 /// What the arguments of a command line ask the program to do.
@@ -69,36 +69,31 @@ pub(crate) struct Inputs<'a, A: Allocator> {
     pub(crate) libraries: Vec<&'a str, A>,
 }
 
-/// Reads the arguments, of which the first is the program's name.
+/// Reads the arguments, of which the first is the program's name. A link whose OUT is a library too,
+/// at this path or at another that leads there, is wrong usage.
 /// Source: this project's profile.
-pub(crate) fn parse<'a, A: Allocator + Copy>(
-    heap: Global,
+pub(crate) fn parse<'a, R: CodeFiles + AllocGlobal, A: Allocator + Copy>(
+    rt: &R,
     alloc: A,
     args: &'a [&'a str],
-) -> Result<Request<'a, A>, CommandError<'a>>
+) -> Result<Request<'a, A>, UsageError>
     ensures asked { IfOk result (λ r. IsAsked r (named_in (texts args.now))) }
 
     // The help or the version only where it is asked for, and a command only where clap finds no
     // fault.
     ensures answers { IfOk result (λ r. Answers r (faults_in (texts args.now))) }
-    ensures text { AskForText (texts args.now) → IfErr result (λ e. e ≡ CommandError.Memory) }
+    ensures text { AskForText (texts args.now) → IfErr result (λ e. e ≡ UsageError.Memory) }
 
     // Arguments that clap accepts name a command, and ask for no help.
     ensures named { AreAccepted (texts args.now)
         → IfOk result (λ r. IsTask r (named_in (texts args.now))) }
-
-    // Arguments that clap accepts are refused because memory runs out, or as wrong usage because
-    // OUT is named as a library too.
-    ensures refused { AreAccepted (texts args.now)
-        → IfErr result (λ e. e ≢ CommandError.Memory
-        → (status_of e ≡ 2) × WritesLibrary (named_in (texts args.now))) }
 {
-    match matches(heap, args) {
-        Ok(matches) => Ok(Request::Task(task_of(heap, alloc, &matches)?)),
+    match matches(rt.alloc(), args) {
+        Ok(matches) => Ok(Request::Task(task_of(rt, alloc, &matches)?)),
         Err(error) => match error.kind() {
             ErrorKind::DisplayHelp => Ok(Request::Help(error)),
             ErrorKind::DisplayVersion => Ok(Request::Version),
-            _ => Err(CommandError::from(error)),
+            _ => Err(UsageError::from(error)),
         },
     }
 }
@@ -114,21 +109,19 @@ fn matches<'a>(heap: Global, args: &'a [&'a str]) -> Result<ArgMatches<'a>, clap
 }
 
 /// The command that was found, with its files.
-fn task_of<'a, A: Allocator + Copy>(
-    heap: Global,
+fn task_of<'a, R: CodeFiles + AllocGlobal, A: Allocator + Copy>(
+    rt: &R,
     alloc: A,
     matches: &ArgMatches<'a>,
-) -> Result<Task<'a, A>, CommandError<'a>>
-    ensures named { IfOk result (λ t. IsNamedCommand t (subcommand_rows_of matches.now)) }
-    ensures refused { IfErr result (λ e. e ≢ CommandError.Memory
-        → LeavesOut (subcommand_rows_of matches.now)
-        ⊎ ((status_of e ≡ 2) × WritesLibrary (subcommand_rows_of matches.now))) }
+) -> Result<Task<'a, A>, UsageError>
+    ensures { IfOk result (λ t. IsNamedCommand t (subcommand_rows_of matches.now)) }
 {
+    let heap = rt.alloc();
     let Some((name, found)) = matches.subcommand() else {
         return Err(missing_argument(heap));
     };
     match name {
-        "link" => link_of(heap, alloc, found),
+        "link" => link_of(rt, alloc, found),
         "map" => map_of(heap, alloc, found),
         "show" => show_of(heap, found),
         "check" => check_of(heap, alloc, found),
@@ -137,34 +130,33 @@ fn task_of<'a, A: Allocator + Copy>(
     }
 }
 
-fn link_of<'a, A: Allocator + Copy>(
-    heap: Global,
+fn link_of<'a, R: CodeFiles + AllocGlobal, A: Allocator + Copy>(
+    rt: &R,
     alloc: A,
     found: &ArgMatches<'a>,
-) -> Result<Task<'a, A>, CommandError<'a>>
-    ensures named { IfOk result (λ t. IsNamedCommand t
+) -> Result<Task<'a, A>, UsageError>
+    ensures { IfOk result (λ t. IsNamedCommand t
         (Some (codes "link", rows_of (found_of found.now)))) }
-    ensures refused { IfErr result (λ e. e ≢ CommandError.Memory
-        → LeavesOut (Some (codes "link", rows_of (found_of found.now)))
-        ⊎ ((status_of e ≡ 2) × WritesLibrary (Some (codes "link", rows_of (found_of found.now))))) }
 {
+    let heap = rt.alloc();
     let inputs = inputs_of(heap, alloc, found)?;
     let out = file_of(heap, found, "OUT")?;
     if inputs.libraries.contains(&out) {
         return Err(written_library(heap, out, out));
     }
-    Ok(Task::Link { inputs, out })
+    match files::first_to(rt, inputs.libraries.as_slice(), out) {
+        Some(library) => Err(written_library(heap, out, library)),
+        None => Ok(Task::Link { inputs, out }),
+    }
 }
 
 fn map_of<'a, A: Allocator + Copy>(
     heap: Global,
     alloc: A,
     found: &ArgMatches<'a>,
-) -> Result<Task<'a, A>, CommandError<'a>>
-    ensures named { IfOk result (λ t. IsNamedCommand t
+) -> Result<Task<'a, A>, UsageError>
+    ensures { IfOk result (λ t. IsNamedCommand t
         (Some (codes "map", rows_of (found_of found.now)))) }
-    ensures refused { IfErr result (λ e. e ≢ CommandError.Memory
-        → LeavesOut (Some (codes "map", rows_of (found_of found.now)))) }
 {
     let inputs = inputs_of(heap, alloc, found)?;
     let references = has_flag(found, "references");
@@ -179,11 +171,9 @@ fn map_of<'a, A: Allocator + Copy>(
 fn show_of<'a, A: Allocator + Copy>(
     heap: Global,
     found: &ArgMatches<'a>,
-) -> Result<Task<'a, A>, CommandError<'a>>
-    ensures named { IfOk result (λ t. IsNamedCommand t
+) -> Result<Task<'a, A>, UsageError>
+    ensures { IfOk result (λ t. IsNamedCommand t
         (Some (codes "show", rows_of (found_of found.now)))) }
-    ensures refused { IfErr result (λ e. e ≢ CommandError.Memory
-        → LeavesOut (Some (codes "show", rows_of (found_of found.now)))) }
 {
     let file = file_of(heap, found, "FILE")?;
     let json = has_flag(found, "json");
@@ -194,11 +184,9 @@ fn check_of<'a, A: Allocator + Copy>(
     heap: Global,
     alloc: A,
     found: &ArgMatches<'a>,
-) -> Result<Task<'a, A>, CommandError<'a>>
-    ensures named { IfOk result (λ t. IsNamedCommand t
+) -> Result<Task<'a, A>, UsageError>
+    ensures { IfOk result (λ t. IsNamedCommand t
         (Some (codes "check", rows_of (found_of found.now)))) }
-    ensures refused { IfErr result (λ e. e ≢ CommandError.Memory
-        → LeavesOut (Some (codes "check", rows_of (found_of found.now)))) }
 {
     let inputs = inputs_of(heap, alloc, found)?;
     let strict = has_flag(found, "strict");
@@ -215,10 +203,9 @@ fn check_of<'a, A: Allocator + Copy>(
 fn list_of<'a, A: Allocator + Copy>(
     alloc: A,
     found: &ArgMatches<'a>,
-) -> Result<Task<'a, A>, CommandError<'a>>
-    ensures named { IfOk result (λ t. IsNamedCommand t
+) -> Result<Task<'a, A>, UsageError>
+    ensures { IfOk result (λ t. IsNamedCommand t
         (Some (codes "list", rows_of (found_of found.now)))) }
-    ensures refused { IfErr result (λ e. e ≡ CommandError.Memory) }
 {
     let files = paths_of(alloc, found, "FILE")?;
     let json = has_flag(found, "json");
@@ -239,10 +226,8 @@ fn inputs_of<'a, A: Allocator + Copy>(
     heap: Global,
     alloc: A,
     found: &ArgMatches<'a>,
-) -> Result<Inputs<'a, A>, CommandError<'a>>
-    ensures named { IfOk result (λ inputs. NamesInputs inputs (rows_of (found_of found.now))) }
-    ensures refused { IfErr result (λ e. e ≢ CommandError.Memory
-        → first_of (codes "HOST") (rows_of (found_of found.now)) ≡ None) }
+) -> Result<Inputs<'a, A>, UsageError>
+    ensures { IfOk result (λ inputs. NamesInputs inputs (rows_of (found_of found.now))) }
 {
     let host = file_of(heap, found, "HOST")?;
     let libraries = paths_of(alloc, found, "LIB")?;
@@ -250,15 +235,9 @@ fn inputs_of<'a, A: Allocator + Copy>(
 }
 
 /// The path that is given for an argument.
-fn file_of<'a>(
-    heap: Global,
-    found: &ArgMatches<'a>,
-    argument: &str,
-) -> Result<&'a str, CommandError<'a>>
-    ensures named { IfOk result (λ path. first_of argument.now (rows_of (found_of found.now))
+fn file_of<'a>(heap: Global, found: &ArgMatches<'a>, argument: &str) -> Result<&'a str, UsageError>
+    ensures { IfOk result (λ path. first_of argument.now (rows_of (found_of found.now))
         ≡ Some path.now) }
-    ensures refused { IfErr result (λ _. first_of argument.now (rows_of (found_of found.now))
-        ≡ None) }
 {
     match found.get_str(argument) {
         Some(path) => Ok(path),
@@ -267,7 +246,7 @@ fn file_of<'a>(
 }
 
 /// The error of arguments that leave out a command or a file of one, which `clap` does not accept.
-fn missing_argument(heap: Global) -> CommandError<'static> {
+fn missing_argument(heap: Global) -> UsageError {
     usage_error(
         command(heap),
         ErrorKind::MissingSubcommand,
@@ -276,13 +255,10 @@ fn missing_argument(heap: Global) -> CommandError<'static> {
 }
 
 /// The error of arguments that name the file to write as a library too, at this path or another.
-pub(crate) fn written_library(heap: Global, out: &str, library: &str) -> CommandError<'static>
-    ensures either { status_of result ≢ 4 → status_of result ≡ 2 }
-    ensures memory { result ≢ CommandError.Memory → status_of result ≡ 2 }
-{
+fn written_library(heap: Global, out: &str, library: &str) -> UsageError {
     match written_library_text(heap, out, library) {
         Ok(text) => usage_error(link_usage(heap), ErrorKind::ValueValidation, text.as_str()),
-        Err(_) => CommandError::Memory,
+        Err(error) => UsageError::from(error),
     }
 }
 
@@ -294,28 +270,18 @@ fn written_library_text(heap: Global, out: &str, library: &str) -> Result<String
 }
 
 /// The error of this kind, with the usage of a command, if there was memory for the command.
-fn usage_error(
-    made: Result<Command<'_>, AllocError>,
-    kind: ErrorKind,
-    text: &str,
-) -> CommandError<'static>
-    ensures { kind ≢ ErrorKind.OutOfMemory → result ≢ CommandError.Memory
-        → status_of result ≡ 2 }
-{
+fn usage_error(made: Result<Command<'_>, AllocError>, kind: ErrorKind, text: &str) -> UsageError {
     match made {
         Ok(mut command) => error_with_usage(&mut command, kind, text),
-        Err(_) => CommandError::Memory,
+        Err(error) => UsageError::from(error),
     }
 }
 
 /// The error of this kind, with the usage of this command.
-fn error_with_usage(command: &mut Command<'_>, kind: ErrorKind, text: &str) -> CommandError<'static>
-    ensures { kind ≢ ErrorKind.OutOfMemory → result ≢ CommandError.Memory
-        → status_of result ≡ 2 }
-{
+fn error_with_usage(command: &mut Command<'_>, kind: ErrorKind, text: &str) -> UsageError {
     match command.error(kind, text) {
-        Ok(error) => CommandError::from(error),
-        Err(_) => CommandError::Memory,
+        Ok(error) => UsageError::from(error),
+        Err(error) => UsageError::from(error),
     }
 }
 

@@ -1,27 +1,29 @@
 //! One command, from its arguments to its status.
-ghost use Rattle.std.specs.Prelude.{◌≡◌, ◌≢◌, ◌≤◌, ◌⊎◌, ◌∷◌, ◌++◌, [], List, Option, ℕ, Any, IfErr, IfOk, IsErrAnd, OnOk, false, map, true};
+ghost use Rattle.std.specs.Prelude.{◌≡◌, ◌≢◌, ◌≤◌, ◌⊎◌, ◌∷◌, ◌++◌, [], List, Option, ℕ, IfErr, IfOk, OnOk, false, map, string_bytes, true};
 ghost use Rattle.std.specs.Io.KnownBytes.{Appends};
 ghost use Rattle.clap.specs.Words.{Row, Text};
 ghost use Rattle.ps_linkfile.specs.LinkedFile.{LinkedFile, summary_of};
-ghost use Rattle.ps_linkfile.specs.MapText.{map_in, map_json_in, map_json_of, map_of};
-ghost use Rattle.ps_linkfile.specs.ReferencesJson.{IsReferencesJson, referenced_json, references_text};
-ghost use Rattle.ps_linkfile.specs.ReferencesText.{references_of};
+ghost use Rattle.ps_texts.specs.Sources.{contents};
+ghost use Rattle.ps_texts.specs.Paths.{paths_in};
+ghost use Rattle.ps_texts.specs.Texts.{IsTextOf, bytes_in, status_in};
+ghost use Rattle.ps_texts.specs.Unmade.{CanRefuse};
 ghost use Rattle.ps_linkfile.specs.Writing.{file_in, summary_in};
-ghost use Rattle.ps_report.specs.Reports.{IsPrintedReport};
 ghost use Rattle.ps_command.specs.CommandLine.{AreAccepted, AskForText, faults_in, named_in, texts};
-ghost use Rattle.ps_command.specs.Printed.{Prints, PrintsLine, PrintsLines, PrintsLists, PrintsMap, PrintsReport, PrintsShow, PrintsText, IsPrintedMap, SomeLink, list_form as list_form_spec, printed_show, version_line};
+ghost use Rattle.ps_command.specs.Printed.{Prints, PrintsLine, PrintsLists, PrintsText, PrintsTextOf, SomeLink, form_of as form_of_spec, list_form as list_form_spec, map_kind as map_kind_spec};
 ghost use Rattle.ps_command.specs.FilesRead.{Reads, Writes};
-ghost use Rattle.ps_command.specs.Requests.{IsNamedCommand, NamesCheck, NamesList, OverwritesLibrary, WritesLibrary};
-ghost use Rattle.ps_errors.specs.Statuses.{status_of};
+ghost use Rattle.ps_command.specs.Requests.{IsNamedCommand, NamesCheck, NamesList};
+ghost use Rattle.ps_command.specs.Statuses.{ended_status, status_of};
+ghost use Rattle.ps_words.specs.declared.fault.Fault.{Fault};
 
-use crate::files::{self, CodeFiles};
-use crate::lists::{Form, print_lists};
+use crate::ended::Ended;
+use crate::error::{CommandError, RunError};
+use crate::files::{self, CodeFiles, InputBytes};
+use crate::lists::print_lists;
 use crate::output;
 use crate::request::{self, Inputs, Request, Task};
-use ps_errors::CommandError;
-use ps_linkfile::{Linked, ReferenceMap, Summary};
-use ps_report::{PrintError, Printing};
-use ps_writing::{Counting, Counts};
+use ps_linkfile::{Linked, Summary};
+use ps_texts::{FilesText, Form, ListForm, NamedFiles, TextKind, text_of};
+use ps_writing::{Counting, WriteFault, write_text};
 use std::alloc::{AllocError, Allocator, Global};
 use std::io::Write;
 
@@ -88,13 +90,6 @@ pub fn run<R: CodeFiles + AllocGlobal, A: Allocator + Copy, O: Write, E: Write>(
         (Writes (R.created rt.now) (R.closed rt.now) R.Created.contents)
         (named_in (texts args.now)) 1 (O.contents out.old) (O.contents out.new) }
 
-    // Of arguments that clap accepts, those that name OUT as a library too are wrong usage, unless
-    // memory runs out, and no others but those whose OUT was found to be a library's file.
-    ensures misused { AreAccepted (texts args.now) → WritesLibrary (named_in (texts args.now))
-        → result ≢ 4 → result ≡ 2 }
-    ensures usage { AreAccepted (texts args.now) → result ≡ 2
-        → OverwritesLibrary (R.one_file rt.now) (named_in (texts args.now)) }
-
     // Only what was done, a report, lists, or a fault of standard output itself, leaves anything
     // there.
     ensures unprinted { result ≢ 0 → result ≢ 3
@@ -102,94 +97,83 @@ pub fn run<R: CodeFiles + AllocGlobal, A: Allocator + Copy, O: Write, E: Write>(
         ⊎ NamesList (named_in (texts args.now)))) }
 {
     match carry_out(rt, alloc, args, out, err) {
-        Ok(status) => status,
+        Ok(ended) => ended.status(),
         Err(error) => error.report(err),
     }
 }
 
-/// Does the command that `args` name, and returns its status, which is 0 where that is no check and
-/// no list.
+/// Does the command that `args` name, and returns how it ends.
 fn carry_out<'a, R: CodeFiles + AllocGlobal, A: Allocator + Copy, O: Write, E: Write>(
     rt: &R,
     alloc: A,
     args: &'a [&'a str],
     out: &mut O,
     err: &mut E,
-) -> Result<u8, CommandError<'a>>
+) -> Result<Ended, CommandError<'a>>
     ensures ok { AreAccepted (texts args.now)
-        → IfOk result (λ status. Prints (Reads (R.opened rt.now) R.Opened.remaining)
+        → IfOk result (λ ended. Prints (Reads (R.opened rt.now) R.Opened.remaining)
         (Writes (R.created rt.now) (R.closed rt.now) R.Created.contents)
-        (named_in (texts args.now)) status (O.contents out.old) (O.contents out.new)) }
+        (named_in (texts args.now)) (ended_status ended) (O.contents out.old)
+        (O.contents out.new)) }
     ensures text { faults_in (texts args.now) ≢ []
-        → IfOk result (λ status. (status ≡ 0) × PrintsText (faults_in (texts args.now))
+        → IfOk result (λ ended. (ended ≡ Ended.Done) × PrintsText (faults_in (texts args.now))
         (O.contents out.old) (O.contents out.new)) }
     ensures asked { AskForText (texts args.now)
         → IfErr result (λ e. status_of e ≢ 3 → status_of e ≡ 4) }
-    ensures few { IfOk result (λ status. status ≤ 3) }
-    ensures used { IfOk result (λ status. status ≢ 2) }
-    ensures silent { IfOk result (λ status. status ≡ 0 → err.new ≡ err.old) }
-    ensures checked { IfOk result (λ status. status ≢ 0
+    ensures silent { IfOk result (λ ended. ended_status ended ≡ 0 → err.new ≡ err.old) }
+    ensures checked { IfOk result (λ ended. ended_status ended ≢ 0
         → NamesCheck (named_in (texts args.now)) ⊎ NamesList (named_in (texts args.now))) }
     ensures err { IfErr result (λ e. status_of e ≢ 3 → out.new ≡ out.old) }
-    ensures misused { AreAccepted (texts args.now) → WritesLibrary (named_in (texts args.now))
-        → IsErrAnd result (λ e. status_of e ≢ 4 → status_of e ≡ 2) }
-    ensures usage { AreAccepted (texts args.now) → IfErr result (λ e. status_of e ≡ 2
-        → OverwritesLibrary (R.one_file rt.now) (named_in (texts args.now))) }
     ensures unrefused { AreAccepted (texts args.now) → NamesCheck (named_in (texts args.now))
         → IfErr result (λ e. status_of e ≢ 1) }
 {
-    match request::parse(rt.alloc(), alloc, args)? {
+    match request::parse(rt, alloc, args)? {
         Request::Help(text) => {
-            print_help(rt.alloc(), text, out)?;
-            Ok(0)
+            let words = help_words(rt.alloc(), text)?;
+            output::print(out, words.as_bytes())?;
+            Ok(Ended::Done)
         }
         Request::Version => {
-            print_version(out)?;
-            Ok(0)
+            output::print(out, b"pslink 0.2.0\n")?;
+            Ok(Ended::Done)
         }
-        Request::Task(task) => perform(rt, alloc, task, out, err),
+        Request::Task(task) => Ok(perform(rt, alloc, task, out, err)?),
     }
 }
 
-/// Does what a command says, and returns its status.
+/// Does what a command says, and returns how it ends.
 fn perform<'a, R: CodeFiles + AllocGlobal, A: Allocator + Copy, O: Write, E: Write>(
     rt: &R,
     alloc: A,
     task: Task<'a, A>,
     out: &mut O,
     err: &mut E,
-) -> Result<u8, CommandError<'a>>
+) -> Result<Ended, RunError<'a>>
     ensures ok { (named : Option (Text × List Row)) → IsNamedCommand task.entry named
-        → IfOk result (λ status. Prints (Reads (R.opened rt.now) R.Opened.remaining)
+        → IfOk result (λ ended. Prints (Reads (R.opened rt.now) R.Opened.remaining)
         (Writes (R.created rt.now) (R.closed rt.now) R.Created.contents)
-        named status (O.contents out.old) (O.contents out.new)) }
-    ensures few { IfOk result (λ status. status ≤ 3) }
-    ensures used { IfOk result (λ status. status ≢ 2) }
-    ensures silent { IfOk result (λ status. status ≡ 0 → err.new ≡ err.old) }
-    ensures err { IfErr result (λ e. status_of e ≢ 3 → out.new ≡ out.old) }
-    ensures usage { (named : Option (Text × List Row)) → IsNamedCommand task.entry named
-        → IfErr result (λ e. status_of e ≡ 2
-        → OverwritesLibrary (R.one_file rt.now) named) }
+        named (ended_status ended) (O.contents out.old) (O.contents out.new)) }
+    ensures silent { IfOk result (λ ended. ended_status ended ≡ 0 → err.new ≡ err.old) }
+    ensures err { IfErr result (λ e. e ≢ RunError.StandardOutput → out.new ≡ out.old) }
     ensures unrefused { (named : Option (Text × List Row)) → IsNamedCommand task.entry named
-        → NamesCheck named → IfErr result (λ e. status_of e ≢ 1) }
+        → NamesCheck named → IfErr result (λ e. (fault : Fault) → e ≢ RunError.Refused fault) }
 {
     match task {
         Task::Link { inputs, out: path } => {
-            refuse_library(rt, &inputs, path)?;
             link(rt, alloc, inputs, path, out)?;
-            Ok(0)
+            Ok(Ended::Done)
         }
         Task::Map {
             inputs,
             references,
             json,
-        } => {
-            map(rt, alloc, inputs, references, json, out)?;
-            Ok(0)
-        }
+        } => { print(rt, alloc, map_kind(references, json), inputs, out) }
         Task::Show { file, json } => {
-            show(rt, alloc, file, json, out)?;
-            Ok(0)
+            let inputs = Inputs {
+                host: file,
+                libraries: Vec::new(alloc),
+            };
+            print(rt, alloc, TextKind::Show(form_of(json)), inputs, out)
         }
         Task::Check {
             inputs,
@@ -200,53 +184,23 @@ fn perform<'a, R: CodeFiles + AllocGlobal, A: Allocator + Copy, O: Write, E: Wri
             if unit {
                 return check_units(rt, alloc, inputs, out, err);
             }
-            check(rt, alloc, inputs, strict, json, out)
+            check(rt, alloc, form_of(json), strict, inputs, out)
         }
         Task::List { files, json } => {
-            print_lists(rt, alloc, files.as_slice(), list_form(json), out, err)
+            Ok(print_lists(rt, alloc, files.as_slice(), list_form(json), out, err)?)
         }
     }
 }
 
-/// Prints the help, whose words are clap's, and a line end where these have none.
-fn print_help<O: Write>(
-    heap: Global,
-    text: clap::Error,
-    out: &mut O,
-) -> Result<(), CommandError<'static>>
-    ensures ok { OnOk result (PrintsLines (O.contents out.old) (O.contents out.new)) }
-    ensures err { IfErr result (λ e. status_of e ≢ 3 → out.new ≡ out.old) }
-    ensures usage { IfErr result (λ e. status_of e ≢ 3 → status_of e ≡ 4) }
+/// The help, whose words are clap's, and a line end where these have none.
+fn help_words(heap: Global, text: clap::Error) -> Result<String, AllocError>
+    ensures { IfOk result (λ words. (text : List ℕ) × (string_bytes words ≡ text ++ 10 ∷ [])) }
 {
     let mut words = text.to_string(heap)?;
     if words.as_bytes().last() != Some(&b'\n') {
         words.push('\n')?;
     }
-    output::print(out, words.as_bytes())
-}
-
-/// Prints the version.
-fn print_version<O: Write>(out: &mut O) -> Result<(), CommandError<'static>>
-    ensures ok { OnOk result (Appends (O.contents out.old) (O.contents out.new) version_line) }
-    ensures err { IfErr result (λ e. status_of e ≡ 3) }
-{
-    output::print(out, b"pslink 0.2.0\n")
-}
-
-/// Refuses to write a file that is a library too, to which another path leads.
-fn refuse_library<'a, R: CodeFiles + AllocGlobal, A: Allocator>(
-    rt: &R,
-    inputs: &Inputs<'a, A>,
-    out: &'a str,
-) -> Result<(), CommandError<'a>>
-    ensures either { IfErr result (λ e. status_of e ≢ 4 → status_of e ≡ 2) }
-    ensures usage { IfErr result (λ e. Any (R.one_file rt.now out.now)
-        (map (λ path. path.now) inputs.now.libraries.items)) }
-{
-    match files::first_to(rt, inputs.libraries.as_slice(), out) {
-        Some(library) => Err(request::written_library(rt.alloc(), out, library)),
-        None => Ok(()),
-    }
+    Ok(words)
 }
 
 /// Links, and prints the summary. All is read and checked, and the summary's line has its room,
@@ -257,18 +211,17 @@ fn link<'a, R: CodeFiles, A: Allocator + Copy, O: Write>(
     inputs: Inputs<'a, A>,
     path: &'a str,
     out: &mut O,
-) -> Result<(), CommandError<'a>>
+) -> Result<(), RunError<'a>>
     ensures ok { OnOk result (PrintsLine (Reads (R.opened rt.now) R.Opened.remaining)
         (Writes (R.created rt.now) (R.closed rt.now) R.Created.contents)
         inputs.entry.host.now (map (λ path. path.now) inputs.entry.libraries.items)
         path.entry.now (O.contents out.old) (O.contents out.new)) }
-    ensures err { IfErr result (λ e. status_of e ≢ 3 → out.new ≡ out.old) }
-    ensures usage { IfErr result (λ e. status_of e ≢ 2) }
+    ensures err { IfErr result (λ e. e ≢ RunError.StandardOutput → out.new ≡ out.old) }
 {
     let mut line = String::with_capacity(alloc, SUMMARY_LENGTH)?;
     let summary = link_inputs(rt, alloc, &inputs, path)?;
     output::add_summary(&mut line, summary)?;
-    output::print(out, line.as_bytes())
+    Ok(output::print(out, line.as_bytes())?)
 }
 
 /// Links the inputs, and writes the linked file to `path`, once all is read and checked.
@@ -277,12 +230,11 @@ fn link_inputs<'a, R: CodeFiles, A: Allocator + Copy>(
     alloc: A,
     inputs: &Inputs<'a, A>,
     path: &'a str,
-) -> Result<Summary, CommandError<'a>>
-    ensures linked { IfOk result (λ summary. SomeLink (Reads (R.opened rt.now) R.Opened.remaining)
+) -> Result<Summary, RunError<'a>>
+    ensures { IfOk result (λ summary. SomeLink (Reads (R.opened rt.now) R.Opened.remaining)
         inputs.now.host.now (map (λ path. path.now) inputs.now.libraries.items)
         (λ host libs file. Writes (R.created rt.now) (R.closed rt.now) R.Created.contents
         path.entry.now file × (summary ≡ summary_of host libs))) }
-    ensures usage { IfErr result (λ e. status_of e ≢ 2) }
 {
     let bytes = files::read_inputs(rt, alloc, inputs)?;
     let views = views(alloc, bytes.libraries.as_slice())?;
@@ -296,268 +248,172 @@ fn link_bytes<'a, R: CodeFiles, A: Allocator + Copy>(
     host: &[u8],
     libraries: &[&[u8]],
     path: &'a str,
-) -> Result<Summary, CommandError<'a>>
+) -> Result<Summary, RunError<'a>>
     ensures file { IfOk result (λ _. (file : List ℕ)
         × LinkedFile host.now (map (λ lib. lib.now) libraries.now) file
         × Writes (R.created rt.now) (R.closed rt.now) R.Created.contents path.entry.now file) }
     ensures summary { IfOk result (λ summary. summary
         ≡ summary_of host.now (map (λ lib. lib.now) libraries.now)) }
-    ensures usage { IfErr result (λ e. status_of e ≢ 2) }
 {
     let linked = ps_linkfile::prepare(alloc, host, libraries)?;
     write_linked(rt, &linked, path)
 }
 
-/// Prints the map of a link, and with `references` what the link stores, with `json` as JSON. All
-/// is read and checked before anything is printed; the text is written in pieces, and that takes no
-/// memory.
-fn map<'a, R: CodeFiles, A: Allocator + Copy, O: Write>(
-    rt: &R,
-    alloc: A,
-    inputs: Inputs<'a, A>,
-    references: bool,
-    json: bool,
-    out: &mut O,
-) -> Result<(), CommandError<'a>>
-    ensures ok { OnOk result (PrintsMap (Reads (R.opened rt.now) R.Opened.remaining)
-        inputs.entry.host.now (map (λ path. path.now) inputs.entry.libraries.items) references json
-        (O.contents out.old) (O.contents out.new)) }
-    ensures err { IfErr result (λ e. status_of e ≢ 3 → out.new ≡ out.old) }
-    ensures usage { IfErr result (λ e. status_of e ≢ 2) }
+/// The text that `map` prints: the map of a link, and with `references` what the link stores.
+fn map_kind(references: bool, json: bool) -> TextKind
+    ensures { result ≡ map_kind_spec references json }
 {
-    let bytes = files::read_inputs(rt, alloc, &inputs)?;
-    let views = views(alloc, bytes.libraries.as_slice())?;
-    let (host, libraries) = (bytes.host.as_slice(), views.as_slice());
     if references {
-        return references_bytes(alloc, host, libraries, json, out);
-    }
-    map_bytes(alloc, host, libraries, json, out)
-}
-
-/// Prints the map of a link of a host with libraries, with `json` as JSON, once all is checked.
-fn map_bytes<A: Allocator + Copy, O: Write>(
-    alloc: A,
-    host: &[u8],
-    libraries: &[&[u8]],
-    json: bool,
-    out: &mut O,
-) -> Result<(), CommandError<'static>>
-    ensures ok { OnOk result ((file : List ℕ) × (text : List ℕ)
-        × LinkedFile host.now (map (λ lib. lib.now) libraries.now) file
-        × IsPrintedMap false json host.now (map (λ lib. lib.now) libraries.now) text
-        × Appends (O.contents out.old) (O.contents out.new) text) }
-    ensures err { IfErr result (λ e. status_of e ≢ 3 → out.new ≡ out.old) }
-    ensures usage { IfErr result (λ e. status_of e ≢ 2) }
-{
-    match ps_linkfile::prepare(alloc, host, libraries) {
-        Ok(linked) => write_map(&linked, json, out),
-        Err(error) => Err(CommandError::from(error)),
+        TextKind::References(form_of(json))
+    } else {
+        TextKind::Map(form_of(json))
     }
 }
 
-/// Writes the map of a link that is prepared, with `json` as JSON. Nothing is let go here where a
-/// write fails: the plan is the caller's.
-fn write_map<A: Allocator + Copy, O: Write>(
-    linked: &Linked<'_, A>,
-    json: bool,
-    out: &mut O,
-) -> Result<(), CommandError<'static>>
-    ensures ok { (host : List ℕ) (libs : List (List ℕ)) → map_in linked.now ≡ map_of host libs
-        → map_json_in linked.now ≡ map_json_of host libs → OnOk result ((text : List ℕ)
-        × IsPrintedMap false json host libs text
-        × Appends (O.contents out.old) (O.contents out.new) text) }
-    ensures err { IfErr result (λ e. e ≡ CommandError.StandardOutput) }
-{
-    if json {
-        return Ok(linked.write_map_json(out, &mut Counts::new())?);
-    }
-    Ok(linked.write_map(out, &mut Counts::new())?)
-}
-
-/// Prints the map of a link of a host with libraries and what the link stores, with `json` as JSON,
-/// once all is checked.
-fn references_bytes<A: Allocator + Copy, O: Write>(
-    alloc: A,
-    host: &[u8],
-    libraries: &[&[u8]],
-    json: bool,
-    out: &mut O,
-) -> Result<(), CommandError<'static>>
-    ensures ok { OnOk result ((file : List ℕ) × (text : List ℕ)
-        × LinkedFile host.now (map (λ lib. lib.now) libraries.now) file
-        × IsPrintedMap true json host.now (map (λ lib. lib.now) libraries.now) text
-        × Appends (O.contents out.old) (O.contents out.new) text) }
-    ensures err { IfErr result (λ e. status_of e ≢ 3 → out.new ≡ out.old) }
-    ensures usage { IfErr result (λ e. status_of e ≢ 2) }
-{
-    match ps_linkfile::prepare_references(alloc, host, libraries) {
-        Ok(map) => write_references(&map, json, out),
-        Err(error) => Err(CommandError::from(error)),
-    }
-}
-
-/// Writes the map of a link that is prepared and what the link stores, with `json` as JSON.
-fn write_references<A: Allocator + Copy, O: Write>(
-    map: &ReferenceMap<'_, A>,
-    json: bool,
-    out: &mut O,
-) -> Result<(), CommandError<'static>>
-    ensures ok { (host : List ℕ) (libs : List (List ℕ))
-        → references_text map.now ≡ map_of host libs ++ references_of host libs
-        → IsReferencesJson host libs (referenced_json map.now) → OnOk result ((text : List ℕ)
-        × IsPrintedMap true json host libs text
-        × Appends (O.contents out.old) (O.contents out.new) text) }
-    ensures err { IfErr result (λ e. e ≡ CommandError.StandardOutput) }
-{
-    if json {
-        return Ok(map.write_json(out, &mut Counts::new())?);
-    }
-    Ok(map.write(out, &mut Counts::new())?)
-}
-
-/// Prints what the file at `path` has, with `json` as JSON. Its text is written in pieces, and takes
-/// no memory.
-fn show<'a, R: CodeFiles, A: Allocator + Copy, O: Write>(
-    rt: &R,
-    alloc: A,
-    path: &'a str,
-    json: bool,
-    out: &mut O,
-) -> Result<(), CommandError<'a>>
-    ensures ok { OnOk result (PrintsShow (Reads (R.opened rt.now) R.Opened.remaining)
-        path.entry.now json (O.contents out.old) (O.contents out.new)) }
-    ensures err { IfErr result (λ e. status_of e ≢ 3 → out.new ≡ out.old) }
-    ensures usage { IfErr result (λ e. status_of e ≢ 2) }
-{
-    let file = files::read(rt, alloc, path)?;
-    show_bytes(file.as_slice(), json, out)
-}
-
-/// Prints what a file has, with `json` as JSON.
-fn show_bytes<O: Write>(file: &[u8], json: bool, out: &mut O) -> Result<(), CommandError<'static>>
-    ensures ok { OnOk result (Appends (O.contents out.old) (O.contents out.new)
-        (printed_show json file.now)) }
-    ensures err { IfErr result (λ e. status_of e ≢ 3 → out.new ≡ out.old) }
-    ensures usage { IfErr result (λ e. status_of e ≢ 2) }
-{
-    if json {
-        return Ok(ps_linkfile::write_show_json(file, out, &mut Counts::new())?);
-    }
-    Ok(ps_linkfile::write_show(file, out, &mut Counts::new())?)
-}
-
-/// Prints the report of a check, with `json` as JSON, and returns its status. The report is whole
-/// before anything is printed.
-fn check<'a, R: CodeFiles, A: Allocator + Copy, O: Write>(
-    rt: &R,
-    alloc: A,
-    inputs: Inputs<'a, A>,
-    strict: bool,
-    json: bool,
-    out: &mut O,
-) -> Result<u8, CommandError<'a>>
-    ensures ok { IfOk result (λ status. PrintsReport (Reads (R.opened rt.now) R.Opened.remaining)
-        inputs.entry.host.now (map (λ path. path.now) inputs.entry.libraries.items) strict json
-        status (O.contents out.old) (O.contents out.new)) }
-    ensures few { IfOk result (λ status. status ≤ 1) }
-    ensures err { IfErr result (λ e. status_of e ≢ 3 → out.new ≡ out.old) }
-    ensures usage { IfErr result (λ e. status_of e ≢ 2) }
-    ensures unrefused { IfErr result (λ e. status_of e ≢ 1) }
-{
-    let bytes = match files::read_inputs(rt, alloc, &inputs) {
-        Ok(bytes) => bytes,
-        Err(error) => return Err(error.with_cause()),
-    };
-    let views = views(alloc, bytes.libraries.as_slice())?;
-    let (host, libraries) = (bytes.host.as_slice(), views.as_slice());
-    check_bytes(
-        alloc,
-        &inputs,
-        host,
-        libraries,
-        Printing { strict, json },
-        out,
-    )
-}
-
-/// Prints the report of a check of a host with libraries, and returns its status.
-fn check_bytes<A: Allocator + Copy, O: Write>(
-    alloc: A,
-    inputs: &Inputs<'_, A>,
-    host: &[u8],
-    libraries: &[&[u8]],
-    printing: Printing,
-    out: &mut O,
-) -> Result<u8, CommandError<'static>>
-    ensures ok { IfOk result (λ status. (text : List ℕ)
-        × IsPrintedReport (inputs.now.host.now ∷ map (λ path. path.now) inputs.now.libraries.items)
-        host.now (map (λ lib. lib.now) libraries.now) printing.strict printing.json status text
-        × Appends (O.contents out.old) (O.contents out.new) text) }
-    ensures few { IfOk result (λ status. status ≤ 1) }
-    ensures err { IfErr result (λ e. status_of e ≢ 3 → out.new ≡ out.old) }
-    ensures usage { IfErr result (λ e. status_of e ≢ 2) }
-    ensures unrefused { IfErr result (λ e. status_of e ≢ 1) }
-{
-    let paths = inputs.libraries.as_slice();
-    match ps_report::write_check(
-        alloc,
-        inputs.host,
-        paths,
-        host,
-        libraries,
-        printing,
-        out,
-        &mut Counts::new(),
-    ) {
-        Ok(status) => Ok(status),
-        Err(error) => Err(unprinted(error)),
-    }
-}
-
-/// Why a report was not printed, as the error of a command.
-fn unprinted(error: PrintError) -> CommandError<'static>
-    ensures untouched { status_of result ≢ 3 → error ≡ PrintError.Memory }
-    ensures usage { status_of result ≢ 2 }
-    ensures unrefused { status_of result ≢ 1 }
-{
-    match error {
-        PrintError::Memory => CommandError::Memory,
-        PrintError::Write(_) => CommandError::StandardOutput,
-    }
-}
-
-/// How a list is printed.
-fn list_form(json: bool) -> Form
-    ensures { result ≡ list_form_spec json }
+/// Lines, or with `json` a document.
+fn form_of(json: bool) -> Form
+    ensures { result ≡ form_of_spec json }
 {
     if json { Form::Json } else { Form::Lines }
 }
 
-/// Prints the list of each of the inputs, with its units by themselves, and returns the greatest
-/// status.
+/// Prints a text of these inputs, which were read, and returns how it ends.
+fn print_read<A: Allocator + Copy, O: Write>(
+    alloc: A,
+    kind: TextKind,
+    strict: bool,
+    inputs: &Inputs<'_, A>,
+    bytes: &InputBytes<A>,
+    out: &mut O,
+) -> Result<Ended, RunError<'static>>
+    ensures ok { IfOk result (λ ended. (text : List ℕ)
+        × IsTextOf kind strict (inputs.now.host.now ∷ contents inputs.now.libraries.items)
+        bytes.now.host.items (map (λ library. library.items) bytes.now.libraries.items)
+        (ended_status ended) text × Appends (O.contents out.old) (O.contents out.new) text) }
+    ensures err { IfErr result (λ e. e ≢ RunError.StandardOutput → out.new ≡ out.old) }
+    ensures refused { IfErr result (λ e. (fault : Fault) → e ≡ RunError.Refused fault
+        → CanRefuse kind bytes.now.host.items
+        (map (λ library. library.items) bytes.now.libraries.items) fault) }
+{
+    let views = views(alloc, bytes.libraries.as_slice())?;
+    let files = NamedFiles {
+        host_path: inputs.host,
+        paths: inputs.libraries.as_slice(),
+        host: bytes.host.as_slice(),
+        libs: views.as_slice(),
+    };
+    print_files(alloc, kind, strict, &files, out)
+}
+
+/// Prints a text of these files, once all is read and checked, and returns how it ends.
+fn print_files<A: Allocator + Copy, O: Write>(
+    alloc: A,
+    kind: TextKind,
+    strict: bool,
+    files: &NamedFiles<'_>,
+    out: &mut O,
+) -> Result<Ended, RunError<'static>>
+    ensures ok { IfOk result (λ ended. (text : List ℕ)
+        × IsTextOf kind strict (paths_in files.now) files.now.host.now
+        (contents files.now.libs.now) (ended_status ended) text
+        × Appends (O.contents out.old) (O.contents out.new) text) }
+    ensures err { IfErr result (λ e. e ≢ RunError.StandardOutput → out.new ≡ out.old) }
+    ensures refused { IfErr result (λ e. (fault : Fault) → e ≡ RunError.Refused fault
+        → CanRefuse kind files.now.host.now (contents files.now.libs.now) fault) }
+{
+    match text_of(alloc, kind, files) {
+        Ok(text) => Ok(print_text(&text, strict, out)?),
+        Err(unmade) => Err(RunError::from(unmade)),
+    }
+}
+
+/// Prints a text, and returns how it ends. Nothing is let go here where a write fails: the text is the
+/// caller's.
+fn print_text<A: Allocator + Copy, O: Write>(
+    text: &FilesText<'_, A>,
+    strict: bool,
+    out: &mut O,
+) -> Result<Ended, WriteFault>
+    ensures ended { IfOk result (λ ended. ended_status ended ≡ status_in strict text.now) }
+    ensures all { OnOk result (Appends (O.contents out.old) (O.contents out.new)
+        (bytes_in text.now)) }
+{
+    write_text(text, out)?;
+    Ok(Ended::of(text.status(strict) == 1))
+}
+
+/// Reads the inputs, and prints a text of them. Returns how it ends.
+fn print<'a, R: CodeFiles, A: Allocator + Copy, O: Write>(
+    rt: &R,
+    alloc: A,
+    kind: TextKind,
+    inputs: Inputs<'a, A>,
+    out: &mut O,
+) -> Result<Ended, RunError<'a>>
+    ensures ok { IfOk result (λ ended. PrintsTextOf (Reads (R.opened rt.now) R.Opened.remaining)
+        kind false inputs.entry.host.now (contents inputs.entry.libraries.items)
+        (ended_status ended) (O.contents out.old) (O.contents out.new)) }
+    ensures err { IfErr result (λ e. e ≢ RunError.StandardOutput → out.new ≡ out.old) }
+{
+    let bytes = files::read_inputs(rt, alloc, &inputs)?;
+    Ok(print_read(alloc, kind, false, &inputs, &bytes, out)?)
+}
+
+/// Reads the inputs, and prints the report of a check. Returns how it ends. What cannot be read is
+/// reported with its cause.
+fn check<'a, R: CodeFiles, A: Allocator + Copy, O: Write>(
+    rt: &R,
+    alloc: A,
+    form: Form,
+    strict: bool,
+    inputs: Inputs<'a, A>,
+    out: &mut O,
+) -> Result<Ended, RunError<'a>>
+    ensures ok { IfOk result (λ ended. PrintsTextOf (Reads (R.opened rt.now) R.Opened.remaining)
+        (TextKind.Check form) strict inputs.entry.host.now (contents inputs.entry.libraries.items)
+        (ended_status ended) (O.contents out.old) (O.contents out.new)) }
+    ensures err { IfErr result (λ e. e ≢ RunError.StandardOutput → out.new ≡ out.old) }
+    ensures unrefused { IfErr result (λ e. (fault : Fault) → e ≢ RunError.Refused fault) }
+{
+    match files::read_inputs(rt, alloc, &inputs) {
+        Ok(bytes) => print_read(alloc, TextKind::Check(form), strict, &inputs, &bytes, out),
+        Err(error) => Err(RunError::Unchecked(error)),
+    }
+}
+
+/// How a list is printed.
+fn list_form(json: bool) -> ListForm
+    ensures { result ≡ list_form_spec json }
+{
+    if json {
+        ListForm::Json
+    } else {
+        ListForm::Lines
+    }
+}
+
+/// Prints the list of each of the inputs, with its units by themselves, and returns the worst end of
+/// all.
 fn check_units<'a, R: CodeFiles, A: Allocator + Copy, O: Write, E: Write>(
     rt: &R,
     alloc: A,
     inputs: Inputs<'a, A>,
     out: &mut O,
     err: &mut E,
-) -> Result<u8, CommandError<'a>>
-    ensures ok { IfOk result (λ status. PrintsLists (Reads (R.opened rt.now) R.Opened.remaining)
-        Form.Units (inputs.entry.host.now ∷ map (λ path. path.now) inputs.entry.libraries.items)
-        status (O.contents out.old) (O.contents out.new)) }
-    ensures few { IfOk result (λ status. status ≤ 3) }
-    ensures used { IfOk result (λ status. status ≢ 2) }
-    ensures silent { IfOk result (λ status. status ≡ 0 → err.new ≡ err.old) }
-    ensures err { IfErr result (λ e. status_of e ≢ 3 → out.new ≡ out.old) }
-    ensures usage { IfErr result (λ e. status_of e ≢ 2) }
-    ensures unrefused { IfErr result (λ e. status_of e ≢ 1) }
+) -> Result<Ended, RunError<'a>>
+    ensures ok { IfOk result (λ ended. PrintsLists (Reads (R.opened rt.now) R.Opened.remaining)
+        ListForm.Units (inputs.entry.host.now ∷ map (λ path. path.now) inputs.entry.libraries.items)
+        (ended_status ended) (O.contents out.old) (O.contents out.new)) }
+    ensures silent { IfOk result (λ ended. ended_status ended ≡ 0 → err.new ≡ err.old) }
+    ensures err { IfErr result (λ e. e ≢ RunError.StandardOutput → out.new ≡ out.old) }
+    ensures unrefused { IfErr result (λ e. (fault : Fault) → e ≢ RunError.Refused fault) }
 {
     let Inputs {
         host,
         libraries: mut paths,
     } = inputs;
     paths.insert(0, host)?;
-    print_lists(rt, alloc, paths.as_slice(), Form::Units, out, err)
+    Ok(print_lists(rt, alloc, paths.as_slice(), ListForm::Units, out, err)?)
 }
 
 /// Creates or empties the file at `path`, writes the linked file to it, and closes it.
@@ -565,22 +421,22 @@ fn write_linked<'a, R: CodeFiles, A: Allocator + Copy>(
     rt: &R,
     linked: &Linked<'_, A>,
     path: &'a str,
-) -> Result<Summary, CommandError<'a>>
+) -> Result<Summary, RunError<'a>>
     ensures ok { IfOk result (λ summary. summary ≡ summary_in linked.now) }
     ensures file { IfOk result (λ _. Writes (R.created rt.now) (R.closed rt.now)
         R.Created.contents path.entry.now (file_in linked.now)) }
-    ensures err { IfErr result (λ e. status_of e ≡ 3) }
+    ensures err { IfErr result (λ e. e ≡ RunError.Write path.entry) }
 {
     let Ok(file) = rt.create(path) else {
-        return Err(CommandError::Write { path });
+        return Err(RunError::Write { path });
     };
     let mut told = Counting::new(file);
     let Ok(summary) = linked.write_told(&mut told) else {
-        return Err(CommandError::Write { path });
+        return Err(RunError::Write { path });
     };
     match rt.close(path, told.into_inner()) {
         Ok(()) => Ok(summary),
-        Err(_) => Err(CommandError::Write { path }),
+        Err(_) => Err(RunError::Write { path }),
     }
 }
 

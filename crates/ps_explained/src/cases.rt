@@ -5,7 +5,7 @@ use ps_codefile::{Dict, Entry, ProcedureDictionary, ProcedureFault, Role};
 use ps_filetype::{CodeFile, FileType, ShownName};
 use ps_linkinfo::{LinkInformation, LinkRecord, Operand};
 use ps_resolve::{Reading, words_before};
-use ps_segments::{Inputs, ReadSegment, SegmentPart, in_slot};
+use ps_segments::{NamedFiles, ReadSegment, SegmentPart, in_slot};
 use ps_words::{Fault, Name, Reason};
 
 /// A fault, and what of the files it is about.
@@ -14,7 +14,7 @@ use ps_words::{Fault, Name, Reason};
 #[derive(Clone, Copy)]
 pub struct Case<'c, 'a> {
     /// The files.
-    pub inputs: &'c Inputs<'a>,
+    pub inputs: &'c NamedFiles<'a>,
     /// The segments of the link.
     pub list: &'c [ReadSegment<'a>],
     /// The fault.
@@ -29,7 +29,7 @@ impl<'c, 'a> Case<'c, 'a> {
     /// The case of this fault, of the segments of a reading.
     /// Source: this project's profile.
     pub fn new(
-        inputs: &'c Inputs<'a>,
+        inputs: &'c NamedFiles<'a>,
         reading: &'c Reading<'a>,
         list: &'c [ReadSegment<'a>],
         fault: Fault,

@@ -12,7 +12,7 @@ use ps_codefile::Role;
 use ps_codefile::dictionary_layout::SLOTS;
 use ps_filetype::{ShownName, ShownPath};
 use ps_resolve::{HostReading, Reading, Segment as LinkedSegment, UnitReference};
-use ps_segments::{Inputs, ReadSegment, SegmentPart, in_slot};
+use ps_segments::{NamedFiles, ReadSegment, SegmentPart, in_slot};
 use ps_words::{Name, Reason};
 use std::alloc::{AllocError, Allocator};
 use std::fmt::{self, Formatter, Write as _};
@@ -88,7 +88,7 @@ impl fmt::Display for Origin<'_> {
 }
 
 /// The line of each file.
-fn file_lines<A: Allocator>(alloc: A, inputs: &Inputs<'_>) -> Result<String<A>, AllocError> {
+fn file_lines<A: Allocator>(alloc: A, inputs: &NamedFiles<'_>) -> Result<String<A>, AllocError> {
     let mut text = String::new(alloc);
     for file in 0..=inputs.libs.len() {
         let bytes = inputs.bytes(file);
@@ -114,7 +114,7 @@ fn file_lines<A: Allocator>(alloc: A, inputs: &Inputs<'_>) -> Result<String<A>, 
 /// Source: this project's profile.
 pub fn overview_of<A: Allocator + Copy>(
     alloc: A,
-    inputs: &Inputs<'_>,
+    inputs: &NamedFiles<'_>,
     reading: &Reading<'_>,
     list: &[ReadSegment<'_>],
 ) -> Result<String<A>, AllocError>
@@ -133,7 +133,7 @@ pub fn overview_of<A: Allocator + Copy>(
 fn add_files<A: Allocator + Copy>(
     alloc: A,
     text: &mut String<A>,
-    inputs: &Inputs<'_>,
+    inputs: &NamedFiles<'_>,
 ) -> Result<(), AllocError>
     ensures { OnOk result (AddsSlotLines (string_bytes text.old) [] (string_bytes text.new)) }
 {
@@ -147,7 +147,7 @@ fn add_files<A: Allocator + Copy>(
 fn add_segments<A: Allocator + Copy>(
     alloc: A,
     text: &mut String<A>,
-    inputs: &Inputs<'_>,
+    inputs: &NamedFiles<'_>,
     reading: &Reading<'_>,
     list: &[ReadSegment<'_>],
 ) -> Result<(), AllocError>
@@ -165,7 +165,7 @@ fn add_segments<A: Allocator + Copy>(
 fn add_each<A: Allocator + Copy>(
     alloc: A,
     text: &mut String<A>,
-    inputs: &Inputs<'_>,
+    inputs: &NamedFiles<'_>,
     reading: &Reading<'_>,
     list: &[ReadSegment<'_>],
 ) -> Result<(), AllocError>
@@ -187,7 +187,7 @@ fn add_each<A: Allocator + Copy>(
 fn add_linked<A: Allocator + Copy>(
     alloc: A,
     text: &mut String<A>,
-    inputs: &Inputs<'_>,
+    inputs: &NamedFiles<'_>,
     segments: &[LinkedSegment<'_>],
     requests: &[UnitReference],
 ) -> Result<(), AllocError>
@@ -207,7 +207,7 @@ fn add_linked<A: Allocator + Copy>(
 /// Adds the line of a segment of a link that is this.
 fn add_linked_segment<A: Allocator>(
     text: &mut String<A>,
-    inputs: &Inputs<'_>,
+    inputs: &NamedFiles<'_>,
     segment: &LinkedSegment<'_>,
     part: SegmentPart,
 ) -> Result<(), AllocError>
@@ -316,7 +316,7 @@ fn part_of(
 fn add_read<A: Allocator + Copy>(
     alloc: A,
     text: &mut String<A>,
-    inputs: &Inputs<'_>,
+    inputs: &NamedFiles<'_>,
     list: &[ReadSegment<'_>],
 ) -> Result<(), AllocError> {
     for segment in list {
@@ -328,7 +328,7 @@ fn add_read<A: Allocator + Copy>(
 fn add_segment<A: Allocator + Copy>(
     alloc: A,
     text: &mut String<A>,
-    inputs: &Inputs<'_>,
+    inputs: &NamedFiles<'_>,
     segment: &ReadSegment<'_>,
 ) -> Result<(), AllocError> {
     let head = Head {
@@ -360,7 +360,7 @@ fn why_no_source(segment: &ReadSegment<'_>) -> &'static str {
 /// Which libraries after that of a segment have a unit of its name too, in a line, if some have.
 fn later_line<A: Allocator>(
     alloc: A,
-    inputs: &Inputs<'_>,
+    inputs: &NamedFiles<'_>,
     name: Name,
     used: usize,
 ) -> Result<String<A>, AllocError> {
@@ -377,7 +377,7 @@ fn later_line<A: Allocator>(
 
 /// The first library after that of a segment that has an entry of its name, with the entry, and how
 /// many more have one.
-fn later_entries(inputs: &Inputs<'_>, name: &Name, used: usize) -> Option<(usize, u8, More)> {
+fn later_entries(inputs: &NamedFiles<'_>, name: &Name, used: usize) -> Option<(usize, u8, More)> {
     if used == 0 {
         return None;
     }
@@ -389,7 +389,7 @@ fn later_entries(inputs: &Inputs<'_>, name: &Name, used: usize) -> Option<(usize
 }
 
 /// The first entry of a library that is filled and has this name.
-fn entry_in(inputs: &Inputs<'_>, name: &Name, file: usize) -> Option<u8> {
+fn entry_in(inputs: &NamedFiles<'_>, name: &Name, file: usize) -> Option<u8> {
     let dict = inputs.dict(file)?;
     for slot in 0..SLOTS {
         if dict.filled(slot) && dict.entry(slot).name == *name {
@@ -417,7 +417,7 @@ impl fmt::Display for More {
 /// not used.
 fn lines_after<A: Allocator>(
     alloc: A,
-    inputs: &Inputs<'_>,
+    inputs: &NamedFiles<'_>,
     reading: &Reading<'_>,
     list: &[ReadSegment<'_>],
 ) -> Result<String<A>, AllocError> {
@@ -449,7 +449,7 @@ fn add_empty<A: Allocator>(
 /// Adds the first library from which nothing is taken, and how many more there are.
 fn add_unused<A: Allocator>(
     text: &mut String<A>,
-    inputs: &Inputs<'_>,
+    inputs: &NamedFiles<'_>,
     list: &[ReadSegment<'_>],
 ) -> Result<(), AllocError> {
     let mut unused = (1..=inputs.libs.len()).filter(|file| !is_used(list, *file));

@@ -1,10 +1,10 @@
 -- The order of a file that is shown, and its lines.
-use Rattle.ps_linkfile.proofs.Vocabulary.{filter, range_with_len, in_file, Order, Reason, reading, known_order, OpenedFile, FileOrder, Ordered, file_order, opened_as, entry_at, code_of, information_of, ◌≡◌, ℕ, suc, ◌+◌, ◌-◌, ◌<◌, ◌≤◌, List, [], ◌∷◌, ◌++◌, length, length-append, map, append_assoc, append-nil, Bool, true, if◌then◌else◌, Some, None, Ok, Err, refl, sym, ◌∙◌, ap, arith, codes, Zero, opened_beside_as}
+use Rattle.ps_linkfile.proofs.Vocabulary.{filter, range_with_len, in_file, in_slot, Order, Reason, reading, known_order, OpenedFile, FileOrder, Ordered, file_order, opened_as, entry_at, code_of, information_of, ◌≡◌, ℕ, suc, ◌+◌, ◌-◌, ◌<◌, ◌≤◌, List, [], ◌∷◌, ◌++◌, length, length-append, map, append_assoc, append-nil, Bool, true, if◌then◌else◌, Option, Some, None, Ok, Err, ltb, refl, sym, ◌∙◌, ap, arith, codes, Zero, opened_beside_as}
 use Rattle.ps_words.specs.declared.order.Order.TheVariants.{Little}
 use Rattle.ps_words.specs.declared.fault.Reason.TheVariants as reason
-use Rattle.ps_writing.specs.Rows.{by_form, reason_in}
+use Rattle.ps_writing.specs.Rows.{by_form, fault_in as file_fault_in}
 use Rattle.ps_linkfile.specs.ShowJson.{show_json_of, shown_json}
-use Rattle.ps_linkfile.specs.ShowText.{unit_names, records_in, has_links, links_head, links_in, shown_file, show_of, order_fault}
+use Rattle.ps_linkfile.specs.ShowText.{unit_names, records_in, has_links, links_head, links_in, shown_file, show_of, show_fault, order_fault, order_shown, IsShown}
 use Rattle.ps_writing.specs.declared.rows.Form.{Form}
 
 -- a file whose kind words show an order
@@ -13,6 +13,21 @@ pub record Shows (short : Bool) (of : FileOrder) (file : List ℕ) (shown : File
   pub order : shown ≡ of
   pub dict : o ≡ record { order = known_order of; file = file }
   pub sound : (if short then Some (in_file 0 reason.ShortFile) else order_fault of) ≡ None
+
+-- so it can be shown
+pub is_shown : (file : List ℕ) (found : Option Order) (o : OpenedFile)
+    → Shows (ltb (length file) 512) (file_order file) file (order_shown found) o
+    → IsShown found o
+is_shown file found o h =
+    let same : o.file ≡ file = ap (λ (o : OpenedFile). o.file) h.dict in
+    record {
+      order = h.order ∙ ap file_order (sym same);
+      dict = h.dict ∙ ap as_shown (sym same);
+      sound = ap show_fault same ∙ h.sound;
+    }
+  where
+    as_shown : List ℕ → OpenedFile
+    as_shown file = record { order = known_order (file_order file); file = file }
 
 module _ (short : Bool) (of : FileOrder) (file : List ℕ) where
   -- a file that is opened by itself shows the order in which its words are read
@@ -72,7 +87,8 @@ module _ (form : Form) (order : Order) (file : List ℕ) (slot : ℕ) where
   -- the link information of a slot whose code is refused
   pub links_of_fault : (why : Reason) → has_links (entry_at order file slot) ≡ true
       → code_of file (entry_at order file slot) ≡ Err why → links_head form slot
-      ++ (by_form form [] (codes ",\"fault\":") ++ reason_in form why
+      ++ (by_form form [] (codes ",\"fault\":")
+      ++ file_fault_in form (in_slot 0 slot why) (entry_at order file slot).name
       ++ by_form form (codes "\n") (codes ",\"records\":[]")) ≡ links_in form order file slot
   unfolding links_in
   links_of_fault why h k = rw (h, k) refl
@@ -81,7 +97,7 @@ module _ (form : Form) (order : Order) (file : List ℕ) (slot : ℕ) where
   pub links_of_records : (code : List ℕ) → has_links (entry_at order file slot) ≡ true
       → code_of file (entry_at order file slot) ≡ Ok code → links_head form slot
       ++ (by_form form [] (codes ",\"fault\":null,\"records\":[")
-      ++ records_in form (unit_names order file)
+      ++ records_in form (unit_names order file) slot (entry_at order file slot).name
       (reading order (information_of file (entry_at order file slot)))
       ++ by_form form [] (codes "\n]")) ≡ links_in form order file slot
   unfolding links_in

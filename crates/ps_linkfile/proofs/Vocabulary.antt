@@ -24,7 +24,7 @@ pub use Rattle.ps_resolve.specs.Privates.{private_words, total_words}
 pub use Rattle.ps_resolve.specs.References.{Known}
 pub use Rattle.ps_resolve.specs.Sources.{Segment, contents, file_at, host_records, known_order, order_of}
 pub use Rattle.ps_words.specs.Edits.{patched_byte}
-pub use Rattle.ps_words.specs.FaultPlaces.{in_file}
+pub use Rattle.ps_words.specs.FaultPlaces.{in_file, in_slot}
 pub use Rattle.ps_words.specs.Words.{blocks, word_bytes}
 pub use Rattle.ps_words.specs.declared.edit.Edit.{Edit}
 pub use Rattle.ps_words.specs.declared.fault.Fault.{Fault}

@@ -11,8 +11,6 @@ use Rattle.ps_resolve.specs.declared.linkage.Stop.{Stop}
 use Rattle.ps_resolve.specs.declared.linkage.Stop.TheVariants as stop
 use Rattle.ps_linkfile.specs.LinkedFile.{LinkedFile}
 use Rattle.ps_writing.specs.Prefixes.{AppendsPrefix}
-use Rattle.ps_writing.specs.Counts.{NoneFailed, OneFailed}
-use Rattle.ps_writing.specs.declared.counts.Counts.{Counts}
 use Rattle.ps_linkfile.specs.declared.error.LinkError.{LinkError}
 use Rattle.ps_linkfile.specs.declared.error.LinkError.TheVariants.{Refused, Memory, Write}
 
@@ -68,16 +66,3 @@ LeavesPrefix host libs (Refused fault) old new = ⊤
 LeavesPrefix host libs Memory old new = ⊤
 LeavesPrefix host libs (Write fault) old new =
     (file : List ℕ) × (LinkedFile host libs file × AppendsPrefix old new file)
-
--- where a write failed, a known writer took a prefix of the text
-abbrev pub LeavesTextPrefix : List ℕ → LinkError → Option (List ℕ) → Option (List ℕ)
-    → Type 0
-LeavesTextPrefix text (Refused fault) old new = ⊤
-LeavesTextPrefix text Memory old new = ⊤
-LeavesTextPrefix text (Write fault) old new = AppendsPrefix old new text
-
--- one write failed, in the way that the fault says, or none where none was made
-abbrev pub LeavesFailure : LinkError → Counts → Counts → Type 0
-LeavesFailure (Refused fault) old new = NoneFailed old new
-LeavesFailure Memory old new = NoneFailed old new
-LeavesFailure (Write fault) old new = OneFailed fault old new

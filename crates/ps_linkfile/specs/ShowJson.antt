@@ -6,8 +6,9 @@ use Rattle.ps_words.specs.declared.order.Order.{Order}
 use Rattle.ps_words.specs.declared.order.Order.TheVariants.{Little, Big}
 use Rattle.ps_codefile.specs.Dictionary.{slots, FileOrder, Zero, Ordered, Mixed, file_order, entry_at}
 use Rattle.ps_resolve.specs.Sources.{known_order}
-use Rattle.ps_linkfile.specs.ShowText.{entry_in, links_in}
-use Rattle.ps_writing.specs.declared.rows.Form.TheVariants.{Json}
+use Rattle.ps_linkfile.specs.ShowText.{entry_in, links_in, show_of}
+use Rattle.ps_writing.specs.declared.rows.Form.{Form}
+use Rattle.ps_writing.specs.declared.rows.Form.TheVariants.{Lines, Json}
 
 -- the byte order that is shown, and what is before the items of the slots
 abbrev pub order_member : FileOrder → List ℕ
@@ -29,3 +30,8 @@ shown_json found order file = order_member found ++ flat_map (slot_item order fi
 -- the document of a code file
 unfoldable pub show_json_of : List ℕ → List ℕ
 show_json_of file = shown_json (file_order file) (known_order (file_order file)) file
+
+-- the show in one of its forms
+abbrev pub show_as : Form → List ℕ → List ℕ
+show_as Lines file = show_of file
+show_as Json file = show_json_of file

@@ -6,11 +6,11 @@ use Rattle.std.specs.List.{flat_map, enumerate_from, filter, list_any}
 use Rattle.std.specs.Str.{bytes_eq}
 use Rattle.ps_words.specs.declared.order.Order.{Order}
 use Rattle.ps_words.specs.declared.order.Order.TheVariants.{Little, Big}
-use Rattle.ps_words.specs.FaultPlaces.{in_file}
+use Rattle.ps_words.specs.FaultPlaces.{in_file, in_record, in_slot}
 use Rattle.ps_words.specs.declared.fault.Reason.{Reason}
 use Rattle.ps_words.specs.declared.fault.Reason.TheVariants as reason
 use Rattle.ps_words.specs.declared.fault.Fault.{Fault as FileFault}
-use Rattle.ps_codefile.specs.Dictionary.{slots, block_len, FileOrder, Zero, Ordered, Mixed, file_order, entry_at, is_filled, code_of, information_of}
+use Rattle.ps_codefile.specs.Dictionary.{slots, block_len, OpenedFile, FileOrder, Zero, Ordered, Mixed, file_order, entry_at, is_filled, code_of, information_of}
 use Rattle.ps_codefile.specs.declared.entry.Entry.{Entry}
 use Rattle.ps_linkinfo.specs.Kinds.{kind_of, kind_word}
 use Rattle.ps_linkinfo.specs.Records.{reading}
@@ -22,7 +22,7 @@ use Rattle.ps_resolve.specs.Sources.{known_order}
 use Rattle.ps_resolve.specs.Faults.{is_role}
 use Rattle.ps_writing.specs.JsonText.{separator}
 use Rattle.ps_writing.specs.Lines.{line, two_digits}
-use Rattle.ps_writing.specs.Rows.{Value, InSlot, Number, Flag, Record, Kind, Named, References, Fault, by_form, reason_in, row_in, values_in}
+use Rattle.ps_writing.specs.Rows.{Value, InSlot, Number, Flag, Record, Kind, Named, References, Refused as RefusedFor, by_form, fault_in as file_fault_in, row_in, values_in}
 use Rattle.ps_writing.specs.declared.rows.Form.{Form}
 use Rattle.ps_writing.specs.declared.rows.Form.TheVariants.{Lines, Json}
 use Rattle.ps_linkfile.specs.declared.error.LinkError.{LinkError}
@@ -75,15 +75,18 @@ abbrev pub record_in : Form → List (List ℕ) → ℕ × LinkRecord → List �
 record_in form units r = row_in form r.0
     (Record r.0 ∷ Kind (kind_word (kind_of r.1.body)) ∷ body_row units r.1.name r.1.body)
 
--- the row of a fault in place of a record, as `2 fault 19 RecordsTruncated`
-abbrev pub fault_in : Form → ℕ → Option Reason → List ℕ
-fault_in form rec None = []
-fault_in form rec (Some why) = row_in form rec (Record rec ∷ Fault why ∷ [])
+-- the row of a fault in place of a record of the segment in a slot, which has this name, as
+-- `2 fault 19 RecordsTruncated`
+abbrev pub fault_in : Form → ℕ → List ℕ → ℕ → Option Reason → List ℕ
+fault_in form slot name rec None = []
+fault_in form slot name rec (Some why) =
+    row_in form rec (Record rec ∷ RefusedFor (in_record 0 slot rec why) name ∷ [])
 
 -- the records up to the end mark, or up to the first fault and that fault
-abbrev pub records_in : Form → List (List ℕ) → List LinkRecord × Option Reason → List ℕ
-records_in form units read = flat_map (record_in form units) (enumerate_from 0 read.0)
-    ++ fault_in form (length read.0) read.1
+abbrev pub records_in : Form → List (List ℕ) → ℕ → List ℕ
+    → List LinkRecord × Option Reason → List ℕ
+records_in form units slot name read = flat_map (record_in form units) (enumerate_from 0 read.0)
+    ++ fault_in form slot name (length read.0) read.1
 
 -- the slot has a host segment or a unit
 abbrev pub has_links : Entry → Bool
@@ -101,10 +104,12 @@ links_in form order file slot =
     let e = entry_at order file slot in
     if has_links e
     then links_head form slot ++ (elim (code_of file e) [
-      | Err why ↦ by_form form [] (codes ",\"fault\":") ++ reason_in form why
+      | Err why ↦ by_form form [] (codes ",\"fault\":")
+          ++ file_fault_in form (in_slot 0 slot why) e.name
           ++ by_form form (codes "\n") (codes ",\"records\":[]")
       | Ok code ↦ by_form form [] (codes ",\"fault\":null,\"records\":[")
-          ++ records_in form (unit_names order file) (reading order (information_of file e))
+          ++ records_in form (unit_names order file) slot e.name
+          (reading order (information_of file e))
           ++ by_form form [] (codes "\n]")
     ])
     else by_form form [] (codes ",\"fault\":null,\"records\":null")
@@ -144,9 +149,9 @@ IsUnshown file (Refused fault) = show_fault file ≡ Some fault
 IsUnshown file Memory = show_fault file ≡ None
 IsUnshown file (Write fault) = ⊥
 
--- the same of a call that takes no memory and writes the text: a write failed only if there is no
--- fault
-abbrev pub IsUnwritten : List ℕ → LinkError → Type 0
-IsUnwritten file (Refused fault) = show_fault file ≡ Some fault
-IsUnwritten file Memory = ⊥
-IsUnwritten file (Write fault) = show_fault file ≡ None
+-- a file that can be shown, with the byte order that its kind words show and the one in which its
+-- words are read
+pub record IsShown (found : Option Order) (opened : OpenedFile) : Type 0 where
+  pub order : order_shown found ≡ file_order opened.file
+  pub dict : opened ≡ record { order = known_order (file_order opened.file); file = opened.file }
+  pub sound : show_fault opened.file ≡ None

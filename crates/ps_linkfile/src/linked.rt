@@ -11,16 +11,16 @@ ghost use Rattle.ps_writing.specs.Prefixes.{AppendsPrefix};
 ghost use Rattle.ps_writing.specs.declared.write_fault.WriteFault.{WriteFault};
 ghost use Rattle.ps_linkfile.specs.declared.error.LinkError.TheVariants.{Write as WriteFailed};
 ghost use Rattle.ps_linkfile.specs.Outcomes.{AppendsLinkedFile, HasUsedNumber, NamesFirst, IsUnprepared, IsUnlinked, LeavesUntouched, LeavesPrefix};
-ghost use Rattle.ps_writing.specs.Counts.{AreAtMost, IfDevice, IfStalled, NoneFailed, OneError, OneFailed, OneStall, RisesByBytes, RisesByPieces};
+ghost use Rattle.ps_writing.specs.Counts.{AreAtMost, IfDevice, IfStalled, NoneFailed, OneError, OneStall, RisesByBytes, RisesByPieces};
 
 use crate::block_layout::{MAX_FILE_BLOCKS, lay_out};
 use crate::error::LinkError;
-use crate::map::{LinkMap, add_map};
+use crate::map::add_map;
 use crate::summary::Summary;
 use crate::writing::write_file;
 use ps_laws::{bytes_are_linked, first_of_all};
 use ps_resolve::{Plan, resolve, slot_names_are_whole};
-use ps_writing::{ByWriter, Counts, Form, TextWriter, ToldWriter, WriteFault, write_text};
+use ps_writing::{ByWriter, Counts, Form, TextWriter, ToldWriter, WriteFault};
 use std::alloc::{Allocator, Global};
 use std::io::Write;
 use std::marker::Model;
@@ -122,46 +122,6 @@ impl<'a, A: Allocator + Copy> Linked<'a, A> {
         ensures { Adds S.added text.old (plan_rows form self.now) text.new }
     {
         add_map(text, form, &self.plan);
-    }
-
-    /// Writes the map of the link, the text that `map_text` returns, in pieces, by writes that
-    /// are counted in `counts`. It takes no memory.
-    ///
-    /// After Ok no write failed. Refuses `Device` where a write returned an error, which is not
-    /// repeated: that was one write, and none stalled. Refuses `Stalled` where a write of at least
-    /// one byte took none: that was one write, and none returned an error. The writer then has a
-    /// prefix of the map.
-    /// Source: this project's profile.
-    pub fn write_map<W: Write>(&self, out: &mut W, counts: &mut Counts) -> Result<(), WriteFault>
-        ensures map { OnOk result (Appends (W.contents out.old) (W.contents out.new)
-            (map_in self.now)) }
-        ensures prefix { OnErr result (AppendsPrefix (W.contents out.old) (W.contents out.new)
-            (map_in self.now)) }
-        ensures ok { OnOk result (NoneFailed counts.old counts.new) }
-        ensures failed { IfErr result (λ fault. OneFailed fault counts.old counts.new) }
-    {
-        write_text(&LinkMap(Form::Lines, self), out, counts)
-    }
-
-    /// Writes the map of the link as one JSON document: the values of its lines, of each name the
-    /// eight characters and all its bytes in hexadecimal digits. It is written in pieces, and takes
-    /// no memory.
-    ///
-    /// Refuses what `write_map` refuses. The writer then has a prefix of the document.
-    /// Source: RFC 8259; the document is this project's profile.
-    pub fn write_map_json<W: Write>(
-        &self,
-        out: &mut W,
-        counts: &mut Counts,
-    ) -> Result<(), WriteFault>
-        ensures json { OnOk result (Appends (W.contents out.old) (W.contents out.new)
-            (map_json_in self.now)) }
-        ensures prefix { OnErr result (AppendsPrefix (W.contents out.old) (W.contents out.new)
-            (map_json_in self.now)) }
-        ensures ok { OnOk result (NoneFailed counts.old counts.new) }
-        ensures failed { IfErr result (λ fault. OneFailed fault counts.old counts.new) }
-    {
-        write_text(&LinkMap(Form::Json, self), out, counts)
     }
 }
 

@@ -17,7 +17,7 @@ use ps_resolve::{Def, DefKind, Definitions, Plan, Private, Segment};
 use ps_words::Name;
 use ps_writing::RowPart::{Flag, InSlot, Named, Number, OfKind, Short, Total};
 use ps_writing::{Form, Text, TextWriter, add_by_form, add_part, begin_row, end_row, in_memory};
-use std::alloc::{AllocError, Allocator};
+use std::alloc::{AllocError, Allocator, Global};
 
 /// Adds the row of a segment, whose code begins in this block.
 fn add_segment<S: TextWriter>(text: &mut S, form: Form, index: usize, segment: &Segment, block: u16)
@@ -151,21 +151,24 @@ pub(crate) fn add_map<A: Allocator + Copy, S: TextWriter>(
     add_by_form(text, form, b"\n", b"");
 }
 
-/// The map of a link that was checked, in this form.
+/// The map of a link that was checked: the lines that `map_text` describes, or one JSON document of the
+/// same values, which has of each name the eight characters and all its bytes in hexadecimal digits.
 #[derive(Drop)]
-pub(crate) struct LinkMap<'l, 'a, A: Allocator + Copy>(
-    pub(crate) Form,
-    pub(crate) &'l Linked<'a, A>,
-);
+pub struct LinkMap<'l, 'a, A: Allocator + Copy = Global> {
+    /// Lines, or a document.
+    pub form: Form,
+    /// The link.
+    pub linked: &'l Linked<'a, A>,
+}
 
 impl<A: Allocator + Copy> Text for LinkMap<'_, '_, A> {
     ghost use Rattle.ps_linkfile.specs.MapText.{map_as};
 
-    ghost bytes = { λ m. map_as m.0 m.1.now };
+    ghost bytes = { λ m. map_as m.form m.linked.now };
 
     fn add_to<S: TextWriter>(&self, text: &mut S) {
-        self.1.add_map(text, self.0);
-        if let Form::Json = self.0 {
+        self.linked.add_map(text, self.form);
+        if let Form::Json = self.form {
             text.add(b"}\n");
         }
     }
@@ -208,5 +211,6 @@ pub fn map_text<'a, A: Allocator + Copy>(
 fn lines_of<A: Allocator + Copy>(alloc: A, linked: &Linked<'_, A>) -> Result<Vec<u8, A>, AllocError>
     ensures { IfOk result (λ lines. lines.items ≡ map_in linked.now) }
 {
-    in_memory(alloc, &LinkMap(Form::Lines, linked))
+    let form = Form::Lines;
+    in_memory(alloc, &LinkMap { form, linked })
 }

@@ -1,14 +1,11 @@
 //! The references of a link, after its map.
-ghost use Rattle.std.specs.Prelude.{◌≡◌, ◌<◌, ◌+◌, ◌*◌, ◌++◌, List, ℕ, length, IfOk, IfErr, OnOk, OnErr, Some};
+ghost use Rattle.std.specs.Prelude.{◌≡◌, ◌<◌, ◌+◌, ◌*◌, ◌++◌, List, ℕ, length, IfOk, IfErr, Some};
 ghost use Rattle.std.specs.List.{enumerate_from, flat_map};
-ghost use Rattle.std.specs.Io.KnownBytes.{Appends};
 ghost use Rattle.ps_writing.specs.Adding.{Adds};
-ghost use Rattle.ps_writing.specs.Counts.{NoneFailed, OneFailed};
 ghost use Rattle.ps_resolve.specs.Sources.{contents};
 ghost use Rattle.ps_resolve.specs.Standing.{NoneStands};
 ghost use Rattle.ps_linkfile.specs.LinkedFile.{LinkedFile};
 ghost use Rattle.ps_linkfile.specs.MapText.{map_of};
-ghost use Rattle.ps_writing.specs.Prefixes.{AppendsPrefix};
 ghost use Rattle.ps_linkfile.specs.Outcomes.{HasUsedNumber, IsUnprepared, NamesFirst};
 ghost use Rattle.ps_linkfile.specs.ReferencesJson.{IsReferencesJson, referenced_json, references_text};
 ghost use Rattle.ps_linkfile.specs.declared.cause.Cause.TheVariants.{Reference};
@@ -22,12 +19,8 @@ use ps_laws::first_of_all;
 use ps_linkinfo::Kind;
 use ps_words::{BLOCK_SIZE, Name};
 use ps_writing::RowPart::{Bytes, Named, Number, Stored};
-use ps_writing::{
-    Counts, Form, Text, TextWriter, WriteFault, add_by_form, add_part, by_form, separator,
-    write_text,
-};
+use ps_writing::{Form, Text, TextWriter, add_by_form, add_part, by_form, separator};
 use std::alloc::{Allocator, Global};
-use std::io::Write;
 use std::marker::Model;
 
 /// So many bytes of a code from a place on, or those that are there.
@@ -158,8 +151,7 @@ fn add_references<S: TextWriter, A: Allocator>(
     add_by_form(text, form, b"", b"\n]}\n");
 }
 
-/// The map of a link that was checked, and after it a line for each operand, number and data size
-/// that the link stores. Contracts see it as its text. It can be written any number of times.
+/// The map of a link that was checked, and what the link stores: each operand, number and data size.
 /// Source: this project's profile.
 #[derive(Drop)]
 pub struct ReferenceMap<'a, A: Allocator + Copy = Global> {
@@ -175,65 +167,34 @@ impl<'a, A: Allocator + Copy> Model for ReferenceMap<'a, A> {
     ghost view = { λ m. record { plan = m.linked; all_stored = m.all_stored.items } };
 }
 
-/// The map with its references, in this form.
+/// The map of a link and its references: its lines and those of the references, or one JSON document of
+/// the same values, which has of each name the eight characters and all its bytes in hexadecimal digits.
 #[derive(Drop)]
-struct Referenced<'m, 'a, A: Allocator + Copy>(Form, &'m ReferenceMap<'a, A>);
-
-impl<A: Allocator + Copy> Text for Referenced<'_, '_, A> {
-    ghost use Rattle.ps_linkfile.specs.ReferencesJson.{referenced_in};
-
-    ghost bytes = { λ m. referenced_in m.0 m.1.now };
-
-    fn add_to<S: TextWriter>(&self, text: &mut S) {
-        let map = self.1;
-        map.linked.add_map(text, self.0);
-        add_references(text, self.0, map.all_stored.as_slice());
-    }
+pub struct References<'m, 'a, A: Allocator + Copy = Global> {
+    /// Lines, or a document.
+    pub form: Form,
+    /// The map with its references.
+    pub map: &'m ReferenceMap<'a, A>,
 }
 
-impl<'a, A: Allocator + Copy> ReferenceMap<'a, A> {
-    /// Writes the text in pieces, by writes that are counted in `counts`. It takes no memory.
-    ///
-    /// After Ok no write failed. Refuses `Device` where a write returned an error, which is not
-    /// repeated: that was one write, and none stalled. Refuses `Stalled` where a write of at least
-    /// one byte took none: that was one write, and none returned an error. The writer then has a
-    /// prefix of the text.
-    /// Source: this project's profile.
-    pub fn write<W: Write>(&self, out: &mut W, counts: &mut Counts) -> Result<(), WriteFault>
-        ensures text { OnOk result (Appends (W.contents out.old) (W.contents out.new)
-            (references_text self.now)) }
-        ensures prefix { OnErr result (AppendsPrefix (W.contents out.old) (W.contents out.new)
-            (references_text self.now)) }
-        ensures ok { OnOk result (NoneFailed counts.old counts.new) }
-        ensures failed { IfErr result (λ fault. OneFailed fault counts.old counts.new) }
-    {
-        write_text(&Referenced(Form::Lines, self), out, counts)
-    }
+impl<A: Allocator + Copy> Text for References<'_, '_, A> {
+    ghost use Rattle.ps_linkfile.specs.ReferencesJson.{referenced_in};
 
-    /// Writes the map and the references as one JSON document: the values of the lines, of each
-    /// name the eight characters and all its bytes in hexadecimal digits. It is written in pieces,
-    /// and takes no memory.
-    ///
-    /// Refuses what `write` refuses. The writer then has a prefix of the document.
-    /// Source: RFC 8259; the document is this project's profile.
-    pub fn write_json<W: Write>(&self, out: &mut W, counts: &mut Counts) -> Result<(), WriteFault>
-        ensures json { OnOk result (Appends (W.contents out.old) (W.contents out.new)
-            (referenced_json self.now)) }
-        ensures prefix { OnErr result (AppendsPrefix (W.contents out.old) (W.contents out.new)
-            (referenced_json self.now)) }
-        ensures ok { OnOk result (NoneFailed counts.old counts.new) }
-        ensures failed { IfErr result (λ fault. OneFailed fault counts.old counts.new) }
-    {
-        write_text(&Referenced(Form::Json, self), out, counts)
+    ghost bytes = { λ r. referenced_in r.form r.map.now };
+
+    fn add_to<S: TextWriter>(&self, text: &mut S) {
+        let map = self.map;
+        map.linked.add_map(text, self.form);
+        add_references(text, self.form, map.all_stored.as_slice());
     }
 }
 
 /// Checks a host and the libraries of its units, and prepares the map of their link with its
-/// references, which `ReferenceMap::write` writes: after the lines of `map_text`, by slot and then
-/// by place, a line for each operand, number and data size that the link stores. Such a line has
+/// references, whose text is `References`: after the lines of `map_text`, by slot and then by place, a
+/// line for each operand, number and data size that the link stores. Such a line has
 /// the slot and the name of the segment, the place in its code and in the linked file, from 0, the
 /// bytes there before and after the link, and for an operand the kind, the name and the index of
-/// the record whose reference it is, from 0. `ReferenceMap::write_json` writes the same as JSON.
+/// the record whose reference it is, from 0.
 ///
 /// It takes the memory of a link, and for each segment whose references are resolved one byte and
 /// at most 32 more for each byte of its code.

@@ -1,22 +1,20 @@
 //! What a code file has, as text.
-ghost use Rattle.std.specs.Prelude.{◌≡◌, ◌<◌, ◌++◌, ◌∷◌, [], if◌then◌else◌, None, Some, IfOk, IfErr, OnOk, flat_map};
-ghost use Rattle.std.specs.Io.KnownBytes.{Appends};
+ghost use Rattle.std.specs.Prelude.{◌≡◌, ◌<◌, ◌++◌, ◌∷◌, [], if◌then◌else◌, None, IfOk, IfErr, flat_map};
 ghost use Rattle.ps_words.specs.FaultPlaces.{in_file};
 ghost use Rattle.ps_codefile.specs.Dictionary.{slots, file_order, entry_at};
 ghost use Rattle.ps_linkinfo.specs.Records.{reading};
 ghost use Rattle.arrayvec.specs.ArrayVec.{array_vec_len};
 ghost use Rattle.ps_resolve.specs.Faults.{is_role};
 ghost use Rattle.ps_codefile.specs.Roles.{is_unit as is_unit_role};
-ghost use Rattle.ps_resolve.specs.Sources.{known_order};
 ghost use Rattle.ps_writing.specs.Adding.{Adds};
-ghost use Rattle.ps_writing.specs.Counts.{NoneFailed};
 ghost use Rattle.ps_writing.specs.declared.rows.Form.TheVariants.{Lines};
 ghost use Rattle.ps_writing.specs.Lines.{line};
 ghost use Rattle.ps_writing.specs.Rows.{values_in};
-ghost use Rattle.ps_linkfile.specs.Outcomes.{LeavesFailure, LeavesTextPrefix, LeavesUntouched};
-ghost use Rattle.ps_linkfile.specs.ShowText.{entry_in, order_words, slot_line, unit_names as unit_names_spec, is_listed as is_listed_spec, body_row, record_in, fault_in, records_in, has_links as has_links_spec, links_head, links_in, show_of, order_shown, show_fault, IsUnshown, IsUnwritten};
+ghost use Rattle.ps_linkfile.specs.ShowJson.{show_json_of};
+ghost use Rattle.ps_linkfile.specs.ShowText.{entry_in, order_words, slot_line, unit_names as unit_names_spec, is_listed as is_listed_spec, body_row, record_in, fault_in, records_in, has_links as has_links_spec, links_head, links_in, show_of, order_shown, show_fault, IsUnshown};
 
 use crate::error::LinkError;
+use crate::show_json::{add_order_member, add_slot_items};
 use arrayvec::ArrayVec;
 use ps_codefile::dictionary_layout::{SLOT_COUNT, SLOTS};
 use ps_codefile::{Dict, Entry, Role};
@@ -24,11 +22,11 @@ use ps_linkinfo::{Body, LinkRecord, Records, walk_from_start};
 use ps_words::{Fault, Name, Order, Reason};
 use ps_writing::RowPart::{self, Flag, InSlot, Kind, Named, Number, Record, References};
 use ps_writing::{
-    Counts, Form, Text, TextWriter, add_by_form, add_part, add_reason, begin_row, end_row,
-    in_memory, two_digits, write_text,
+    Form, Text, TextWriter, add_by_form, add_fault, add_part, begin_row, end_row, in_memory,
+    two_digits,
 };
 use std::alloc::Allocator;
-use std::io::Write;
+use std::marker::Model;
 
 /// A fault of the file as a whole.
 fn file_fault(reason: Reason) -> Fault
@@ -37,43 +35,91 @@ fn file_fault(reason: Reason) -> Fault
     Fault::in_file(0, reason)
 }
 
-/// A file seen through its dictionary, and the byte order that its kind words show.
+/// A code file that can be shown: its segment dictionary, and the byte order that its kind words show.
+/// Contracts see it as its bytes.
 #[derive(Drop)]
-pub(crate) struct ShownFile<'a> {
-    pub(crate) dict: Dict<'a>,
-    pub(crate) order: Option<Order>,
+pub struct ShownFile<'a> {
+    dict: Dict<'a>,
+    order: Option<Order>,
 }
 
-impl Text for ShownFile<'_> {
-    ghost use Rattle.ps_linkfile.specs.ShowText.{order_shown, shown_file};
+impl<'a> Model for ShownFile<'a> {
+    ghost use Rattle.std.specs.Prelude.{List, ℕ};
+    ghost use Rattle.ps_linkfile.specs.ShowText.{IsShown};
 
-    ghost bytes = { λ f. shown_file (order_shown f.order) f.dict.order f.dict.file };
+    ghost Value = { List ℕ };
 
-    fn add_to<S: TextWriter>(&self, text: &mut S) {
+    ghost view = { λ f. f.dict.file };
+
+    ghost invariant = { λ f. IsShown f.order f.dict };
+}
+
+impl<'a> ShownFile<'a> {
+    ghost use Rattle.std.specs.Prelude.{◌≡◌, IfErr, IfOk, None, Some};
+    ghost use Rattle.ps_linkfile.specs.ShowText.{show_fault};
+
+    /// The file that is shown, of any contents. Its words are read in the byte order that its kind words
+    /// show, and as little-endian where all of these are 0.
+    ///
+    /// Refuses `ShortFile` for a file of fewer than 512 bytes, and `NoOrder` where the kind words fit
+    /// neither byte order, each of file 0. It takes no memory.
+    /// Source: UCSD Pascal II.0 manual, code file format.
+    pub fn read(file: &'a [u8]) -> Result<ShownFile<'a>, Fault>
+        ensures file { IfOk result (λ shown. shown ≡ file.now) }
+        ensures sound { IfOk result (λ _. show_fault file.now ≡ None) }
+        ensures fault { IfErr result (λ fault. show_fault file.now ≡ Some fault) }
+    {
+        match Dict::read(file) {
+            Ok(dict) => {
+                let order = Some(dict.order());
+                Ok(ShownFile { dict, order })
+            }
+            Err(_) => match Dict::read_beside(file, Order::Little) {
+                Ok(dict) => Ok(ShownFile { dict, order: None }),
+                Err(reason) => Err(file_fault(reason)),
+            },
+        }
+    }
+
+    /// Adds the lines of what the file has.
+    fn add_lines<S: TextWriter>(&self, text: &mut S)
+        ensures { Adds S.added text.old (show_of self.now) text.new }
+    {
         add_order(text, self.order);
         add_slots(text, &self.dict);
         add_all_links(text, &self.dict);
     }
+
+    /// Adds the document of what the file has.
+    fn add_document<S: TextWriter>(&self, text: &mut S)
+        ensures { Adds S.added text.old (show_json_of self.now) text.new }
+    {
+        add_order_member(text, self.order);
+        add_slot_items(text, &self.dict);
+        text.add(b"\n]}\n");
+    }
 }
 
-/// The file that is shown. Where its kind words show no byte order, for all are 0, its words are
-/// read as little-endian.
-pub(crate) fn read(file: &[u8]) -> Result<ShownFile<'_>, Fault>
-    ensures order { IfOk result (λ shown. order_shown shown.order ≡ file_order file.now) }
-    ensures dict { IfOk result (λ shown. shown.dict
-        ≡ record { order = known_order (file_order file.now); file = file.now }) }
-    ensures sound { IfOk result (λ _. show_fault file.now ≡ None) }
-    ensures fault { IfErr result (λ fault. show_fault file.now ≡ Some fault) }
-{
-    match Dict::read(file) {
-        Ok(dict) => {
-            let order = Some(dict.order());
-            Ok(ShownFile { dict, order })
+/// What a code file has: the lines that `show_text` describes, or one JSON document of the same values,
+/// which has of each name the eight characters and all its bytes in hexadecimal digits.
+#[derive(Drop)]
+pub struct Show<'f, 'a> {
+    /// Lines, or a document.
+    pub form: Form,
+    /// The file.
+    pub file: &'f ShownFile<'a>,
+}
+
+impl Text for Show<'_, '_> {
+    ghost use Rattle.ps_linkfile.specs.ShowJson.{show_as};
+
+    ghost bytes = { λ s. show_as s.form s.file.now };
+
+    fn add_to<S: TextWriter>(&self, text: &mut S) {
+        match self.form {
+            Form::Lines => self.file.add_lines(text),
+            Form::Json => self.file.add_document(text),
         }
-        Err(_) => match Dict::read_beside(file, Order::Little) {
-            Ok(dict) => Ok(ShownFile { dict, order: None }),
-            Err(reason) => Err(file_fault(reason)),
-        },
     }
 }
 
@@ -207,28 +253,39 @@ fn add_record<S: TextWriter>(
     end_row(text, form);
 }
 
-/// Adds the row of a fault that occurs in place of the record of index `rec`.
-fn add_record_fault<S: TextWriter>(text: &mut S, form: Form, rec: usize, reason: Reason)
-    ensures { Adds S.added text.old (fault_in form rec (Some reason)) text.new }
+/// Adds the row of a fault that occurs in place of the record of index `rec` of the segment in a slot,
+/// which has this name.
+fn add_record_fault<S: TextWriter>(
+    text: &mut S,
+    form: Form,
+    slot: u8,
+    name: Name,
+    rec: usize,
+    reason: Reason,
+)
+    ensures { Adds S.added text.old (fault_in form slot name rec (Some reason)) text.new }
 {
     begin_row(text, form, rec);
     add_part(text, form, Record(rec));
-    add_part(text, form, RowPart::Fault(reason));
+    let fault = Fault::in_record(0, slot, rec, reason);
+    add_part(text, form, RowPart::Refused(fault, name));
     end_row(text, form);
 }
 
-/// Adds the rows of link information in a file with these units: of each record up to its end, or
-/// up to the first fault and that fault.
+/// Adds the rows of the link information of the segment in a slot, which has this name, in a file with
+/// these units: of each record up to its end, or up to the first fault and that fault.
 #[tactic(auto, using(ps_writing::proofs::Written::some_more, ps_writing::proofs::Written::all_written, crate::proofs::Walks::walked, crate::proofs::Walks::record_next, crate::proofs::Walks::fault_next))]
 fn add_records<S: TextWriter>(
     text: &mut S,
     form: Form,
     units: &[Name],
+    slot: u8,
+    name: Name,
     order: Order,
     information: &[u8],
 )
     ensures { Adds S.added text.old
-        (records_in form units.now (reading order information.now)) text.new }
+        (records_in form units.now slot name (reading order information.now)) text.new }
 {
     walk_from_start();
     let mut rec = 0;
@@ -241,7 +298,7 @@ fn add_records<S: TextWriter>(
                 add_record(text, form, units, rec, &entry);
                 rec += 1;
             }
-            Err(reason) => add_record_fault(text, form, rec, reason),
+            Err(reason) => add_record_fault(text, form, slot, name, rec, reason),
         }
     }
 }
@@ -288,15 +345,17 @@ pub(crate) fn add_links<S: TextWriter>(
         return;
     }
     add_links_head(text, form, slot);
+    let name = dict.entry(slot).name;
     match dict.code(slot) {
         Err(reason) => {
             add_by_form(text, form, b"", b",\"fault\":");
-            add_reason(text, form, reason);
+            add_fault(text, form, Fault::in_slot(0, slot, reason), name);
             add_by_form(text, form, b"\n", b",\"records\":[]");
         }
         Ok(_) => {
             add_by_form(text, form, b"", b",\"fault\":null,\"records\":[");
-            add_records(text, form, units, dict.order(), dict.after(slot));
+            let information = dict.after(slot);
+            add_records(text, form, units, slot, name, dict.order(), information);
             add_by_form(text, form, b"", b"\n]");
         }
     }
@@ -330,33 +389,12 @@ fn add_all_links<S: TextWriter>(text: &mut S, dict: &Dict)
 /// the kind words fit neither byte order, each of file 0, also where there is no memory; and
 /// `Memory` where memory was refused. Never returns `Write`.
 /// Source: UCSD Pascal II.0 manual, code file format; the text is this project's profile.
-#[tactic(auto, using(crate::proofs::Shows::shown_is))]
 pub fn show_text<A: Allocator + Copy>(alloc: A, file: &[u8]) -> Result<Vec<u8, A>, LinkError>
     ensures text { IfOk result (λ text. text.items ≡ show_of file.now) }
     ensures sound { IfOk result (λ _. show_fault file.now ≡ None) }
     ensures error { IfErr result (IsUnshown file.now) }
 {
-    Ok(in_memory(alloc, &read(file)?)?)
-}
-
-/// Writes the text that `show_text` returns, in pieces, by writes that are counted in `counts`.
-/// It takes no memory.
-///
-/// After Ok no write failed. Refuses `Refused` as `show_text` does, of the same files; nothing was
-/// written then. Refuses `Write` where a write failed, which is not repeated: that was one write,
-/// which returned the error of `Device`, or which took none of at least one byte where it is
-/// `Stalled`. The writer then has a prefix of the text. Never returns `Memory`.
-/// Source: UCSD Pascal II.0 manual, code file format; the text is this project's profile.
-pub fn write_show<W: Write>(file: &[u8], out: &mut W, counts: &mut Counts) -> Result<(), LinkError>
-    ensures written { OnOk result (Appends (W.contents out.old) (W.contents out.new)
-        (show_of file.now)) }
-    ensures sound { OnOk result (show_fault file.now ≡ None) }
-    ensures error { IfErr result (IsUnwritten file.now) }
-    ensures untouched { IfErr result (λ e. LeavesUntouched e out.old out.new) }
-    ensures prefix { IfErr result (λ e. LeavesTextPrefix (show_of file.now) e
-        (W.contents out.old) (W.contents out.new)) }
-    ensures ok { OnOk result (NoneFailed counts.old counts.new) }
-    ensures failed { IfErr result (λ e. LeavesFailure e counts.old counts.new) }
-{
-    Ok(write_text(&read(file)?, out, counts)?)
+    let form = Form::Lines;
+    let file = &ShownFile::read(file)?;
+    Ok(in_memory(alloc, &Show { form, file })?)
 }

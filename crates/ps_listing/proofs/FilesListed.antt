@@ -1,46 +1,51 @@
 -- The lists of files, one after another.
-use Rattle.std.proofs.Common.{◌≡◌, ◌≤◌, ◌<◌, ◌⊎◌, ◌+◌, ◌++◌, ◌∷◌, [], ℕ, Bool, Bor, List, ap, get_or, map, true, false, inl, inr, drop, length, refl, sym, subst, arith}
+use Rattle.std.proofs.Common.{◌≡◌, ◌≤◌, ◌<◌, ◌⊎◌, ◌+◌, ◌++◌, ◌∷◌, [], ℕ, Bool, Bor, List, ap, get_or, true, false, inl, inr, drop, length, refl, sym, subst, arith}
 use Rattle.std.specs.Prelude.{min, nat_le}
 use Rattle.std.proofs.lemmas.Bool.Decides.{nat_tests}
 use Rattle.std.proofs.lemmas.List.{append_assoc, drop_all, drop_more}
 use Rattle.ps_resolve.specs.Sources.{contents}
-use Rattle.ps_listing.specs.ListText.{list_of}
-use Rattle.ps_listing.specs.FileLists.{AreLists}
+use Rattle.ps_writing.specs.declared.rows.Form.TheVariants.{Lines}
+use Rattle.ps_listing.specs.FileLists.{AreListed, Listed, listed, listed_from, listed_units}
+use Rattle.ps_listing.specs.ListText.{listed_in}
+use Rattle.ps_listing.specs.LoneText.{lone_text}
+use Rattle.ps_listing.specs.declared.lists.ListForm.{ListForm}
+use Rattle.ps_listing.specs.declared.lists.ListForm.TheVariants as form
 
-module _ (all_paths all_files : List (List ℕ)) where
-  -- the lists of these files are still to be added
-  pub record ListsLeft (paths files : List (List ℕ)) (now : List ℕ) : Type 0 where
-    pub rest : (more : List ℕ) → AreLists paths files more
-        → AreLists all_paths all_files (now ++ more)
+module _ (how : ListForm) (all_paths all_files : List (List ℕ)) where
+  -- these files are still to be listed
+  pub record FilesLeft (paths files : List (List ℕ)) (now : List Listed) : Type 0 where
+    pub rest : (more : List Listed) → AreListed how paths files more
+        → AreListed how all_paths all_files (now ++ more)
 
-  pub listed_more : (path file : List ℕ) (paths files : List (List ℕ))
-      (phrase before : List ℕ) → ListsLeft (path ∷ paths) (file ∷ files) before
-      → ListsLeft paths files (before ++ list_of path phrase file)
-  listed_more path file paths files phrase before so_far = record {
+  pub listed_more : (path file : List ℕ) (paths files : List (List ℕ)) (one : Listed)
+      (before : List Listed) → one.how ≡ how → one.path ≡ path → one.file ≡ file
+      → FilesLeft (path ∷ paths) (file ∷ files) before
+      → FilesLeft paths files (before ++ one ∷ [])
+  listed_more path file paths files one before of_how at_path of_file so_far = record {
     rest = λ more are.
-        subst (λ (text : List ℕ). AreLists all_paths all_files text)
-        (sym (append_assoc before (list_of path phrase file) more))
-        (so_far.rest (list_of path phrase file ++ more) (phrase, more, are, refl));
+        subst (λ (ls : List Listed). AreListed how all_paths all_files ls)
+        (sym (append_assoc before (one ∷ []) more))
+        (so_far.rest (one ∷ more) (one.phrase, more, are, rw (of_how, at_path, of_file) refl));
   }
 
   -- the same for the file in this place among those that are lent
   pub listed_more_at : (paths libs : List (Bor (List ℕ))) (i : ℕ) (none : Bor (List ℕ))
-      (phrase before : List ℕ) → i < length paths → i < length libs
-      → ListsLeft (map (λ path. path.now) (drop i paths)) (contents (drop i libs)) before
-      → ListsLeft (map (λ path. path.now) (drop (i + 1) paths)) (contents (drop (i + 1) libs))
-      (before ++ list_of (get_or paths i none).now phrase (get_or libs i none).now)
-  listed_more_at paths libs i none phrase before in_paths in_libs so_far =
-      let more_paths = ap (map (λ (path : Bor (List ℕ)). path.now))
-      (drop_more paths i none in_paths) in
+      (one : Listed) (before : List Listed) → one.how ≡ how
+      → one.path ≡ (get_or paths i none).now → one.file ≡ (get_or libs i none).now
+      → i < length paths → i < length libs
+      → FilesLeft (contents (drop i paths)) (contents (drop i libs)) before
+      → FilesLeft (contents (drop (i + 1) paths)) (contents (drop (i + 1) libs))
+      (before ++ one ∷ [])
+  listed_more_at paths libs i none one before of_how at_path of_file in_paths in_libs so_far =
+      let more_paths = ap contents (drop_more paths i none in_paths) in
       let more_files = ap contents (drop_more libs i none in_libs) in
-      let of_path = subst (λ (ps : List (List ℕ)). ListsLeft ps (contents (drop i libs)) before)
+      let of_path = subst (λ (ps : List (List ℕ)). FilesLeft ps (contents (drop i libs)) before)
       more_paths so_far in
-      let here = subst (λ (fs : List (List ℕ)). ListsLeft
-      ((get_or paths i none).now ∷ map (λ (path : Bor (List ℕ)). path.now)
-      (drop (i + 1) paths)) fs before) more_files of_path in
+      let here = subst (λ (fs : List (List ℕ)). FilesLeft
+      ((get_or paths i none).now ∷ contents (drop (i + 1) paths)) fs before) more_files of_path in
       listed_more (get_or paths i none).now (get_or libs i none).now
-      (map (λ (path : Bor (List ℕ)). path.now) (drop (i + 1) paths))
-      (contents (drop (i + 1) libs)) phrase before here
+      (contents (drop (i + 1) paths)) (contents (drop (i + 1) libs)) one before of_how at_path
+      of_file here
 
 -- one of two lists ends where the shorter one does
 pub one_ends : {X Y : Type 0} (xs : List X) (ys : List Y) (n : ℕ)
@@ -52,9 +57,25 @@ one_ends xs ys n short = by (nat_le (length xs) n) refl
     by false gt = inr (drop_all n ys (grind (arith, nat_tests)))
 
 -- no file is listed where no path or no file is left
-pub none_listed : (paths files : List (List ℕ)) → (paths ≡ []) ⊎ (files ≡ [])
-    → AreLists paths files []
-none_listed [] files e = refl
-none_listed (path ∷ paths) [] e = refl
-none_listed (path ∷ paths) (file ∷ files) (inl e) = cc
-none_listed (path ∷ paths) (file ∷ files) (inr e) = cc
+pub none_listed : (how : ListForm) (paths files : List (List ℕ)) → (paths ≡ []) ⊎ (files ≡ [])
+    → AreListed how paths files []
+none_listed how [] files e = refl
+none_listed how (path ∷ paths) [] e = refl
+none_listed how (path ∷ paths) (file ∷ files) (inl e) = cc
+none_listed how (path ∷ paths) (file ∷ files) (inr e) = cc
+
+-- what is listed of a file whose units are listed
+pub units_listed : (first : Bool) (l : Listed) → l.how ≡ form.Units
+    → listed_in Lines l.path l.phrase l.file ++ lone_text l.path (listed_units l.how l.file)
+    ≡ listed first l
+units_listed first l h = rw h refl
+
+-- the files from i on are file i and those behind it
+pub items_left : (first : Bool) (files : List Listed) (i : ℕ) (one : Listed)
+    → drop i files ≡ one ∷ drop (i + 1) files
+    → listed_from first (drop i files) ≡ listed first one ++ listed_from false (drop (i + 1) files)
+items_left first files i one h = ap (λ (ls : List Listed). listed_from first ls) h
+
+pub items_over : (first : Bool) (files : List Listed) (i : ℕ) → length files ≤ i
+    → listed_from first (drop i files) ≡ []
+items_over first files i le = ap (λ (ls : List Listed). listed_from first ls) (drop_all i files le)

@@ -1,6 +1,5 @@
 pub mod Vocabulary
-pub mod JsonItems
-pub mod NumberedUses
+pub mod Rows
 pub mod LinkedEntries
 pub mod FoundUnits
 pub mod FilesListed

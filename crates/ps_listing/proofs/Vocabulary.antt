@@ -5,8 +5,7 @@ pub use Rattle.ps_codefile.specs.declared.dictionary_layout.TheConstants.{SLOTS}
 pub use Rattle.ps_codefile.specs.declared.entry.Role.{Role}
 pub use Rattle.ps_writing.proofs.Written.{Written, adds_is, all_written, items_left, items_over, none_yet, slots_left, slots_over, some_more, ◌⨾◌}
 pub use Rattle.ps_linkinfo.specs.declared.record.LinkRecord.{LinkRecord as Record}
-pub use Rattle.ps_listing.specs.ListJson.{is_first_after, is_first_after_slot, item_of, role_item, slot_item, slot_items, text_byte, use_item, use_items}
-pub use Rattle.ps_listing.specs.ListText.{lines_of, shown_char, slot_line, used_words}
+pub use Rattle.ps_listing.specs.ListText.{shown_char}
 pub use Rattle.ps_listing.specs.LoneText.{is_refused_unit, lone_line, lone_text, lone_unit, units_as, units_of}
 pub use Rattle.ps_words.specs.declared.fault.Fault.{Fault}
 pub use Rattle.ps_words.specs.declared.fault.Reason.{Reason}

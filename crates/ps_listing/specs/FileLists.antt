@@ -1,6 +1,6 @@
 -- Several files, each by itself: which have a host program, and their lists one after another.
 -- Source: this project's profile.
-use Rattle.std.specs.Prelude.{◌≡◌, ℕ, Bool, true, false, List, [], ◌∷◌, ◌++◌, Option, Some, None, Result, Ok, Err}
+use Rattle.std.specs.Prelude.{◌≡◌, ℕ, Bool, true, false, List, [], ◌∷◌, ◌++◌, codes, Option, Some, None, Result, Ok, Err}
 use Rattle.std.specs.List.{list_any}
 use Rattle.ps_words.specs.declared.fault.Reason.{Reason}
 use Rattle.ps_codefile.specs.Dictionary.{OpenedFile}
@@ -8,7 +8,14 @@ use Rattle.ps_codefile.specs.Opened.{opened}
 use Rattle.ps_filetype.specs.CodeFiles.{code_file}
 use Rattle.ps_filetype.specs.declared.code_file.CodeFile.{CodeFile}
 use Rattle.ps_filetype.specs.declared.code_file.CodeFile.TheVariants.{Host, Library, Linked, Mixed}
-use Rattle.ps_listing.specs.ListText.{list_of}
+use Rattle.ps_writing.specs.JsonText.{line_end}
+use Rattle.ps_writing.specs.declared.rows.Form.TheVariants.{Lines, Json}
+use Rattle.ps_listing.specs.Listed.{is_refused}
+use Rattle.ps_listing.specs.ListText.{listed_in, unread_json_of}
+use Rattle.ps_listing.specs.LoneText.{has_no_sound, lone_text, lone_units}
+use Rattle.ps_listing.specs.declared.lone.LoneUnit.{LoneUnit}
+use Rattle.ps_listing.specs.declared.lists.ListForm.{ListForm}
+use Rattle.ps_listing.specs.declared.lists.ListForm.TheVariants as form
 
 -- a file that is for this has a host program
 abbrev pub is_for_host : Option CodeFile → Bool
@@ -31,10 +38,63 @@ has_host file = has_host_as (opened file)
 abbrev pub has_host_among : List (List ℕ) → Bool
 has_host_among libs = list_any has_host libs
 
--- the lists of the files at these paths, one after another, each with some phrase for what it is
-abbrev pub AreLists : List (List ℕ) → List (List ℕ) → List ℕ → Type 0
-AreLists [] files text = text ≡ []
-AreLists (path ∷ paths) [] text = text ≡ []
-AreLists (path ∷ paths) (file ∷ files) text =
-    (phrase : List ℕ) × (rest : List ℕ) × AreLists paths files rest
-    × (text ≡ list_of path phrase file ++ rest)
+-- a file that is listed: how, its path, the phrase for what it is, and its bytes
+pub record Listed : Type 0 where
+  pub how : ListForm
+  pub path : List ℕ
+  pub phrase : List ℕ
+  pub file : List ℕ
+
+-- the units of a file by themselves, where they are listed
+abbrev pub listed_units : ListForm → List ℕ → List LoneUnit
+listed_units form.Lines file = []
+listed_units form.Json file = []
+listed_units form.Units file = lone_units file
+
+-- what is listed of a file: its lines; in a document an item, the first or another; or its lines and
+-- those of its units
+abbrev pub listed_as : ListForm → Bool → List ℕ → List ℕ → List ℕ → List ℕ
+listed_as form.Lines first path phrase file = listed_in Lines path phrase file
+listed_as form.Json first path phrase file = line_end first ++ listed_in Json path phrase file
+listed_as form.Units first path phrase file =
+    listed_in Lines path phrase file ++ lone_text path (lone_units file)
+
+abbrev pub listed : Bool → Listed → List ℕ
+listed first l = listed_as l.how first l.path l.phrase l.file
+
+-- the item of a file that could not be read, the first or another
+abbrev pub unread : Bool → List ℕ → List ℕ
+unread first path = line_end first ++ unread_json_of path
+
+-- a file or a segment is refused, or, where its units are listed, one of these, or there is none
+abbrev pub is_refused_as_listed : ListForm → List ℕ → List ℕ → Bool
+is_refused_as_listed form.Lines phrase file = is_refused phrase file
+is_refused_as_listed form.Json phrase file = is_refused phrase file
+is_refused_as_listed form.Units phrase file = has_no_sound (lone_units file)
+
+abbrev pub is_refused_in : Listed → Bool
+is_refused_in l = is_refused_as_listed l.how l.phrase l.file
+
+-- files, one after another, of which the first is that of the list or not
+abbrev pub listed_from : Bool → List Listed → List ℕ
+listed_from first [] = []
+listed_from first (l ∷ ls) = listed first l ++ listed_from false ls
+
+-- the list of files
+abbrev pub lists_in : ListForm → List Listed → List ℕ
+lists_in form.Lines ls = listed_from true ls
+lists_in form.Units ls = listed_from true ls
+lists_in form.Json ls = codes "{\"files\":[" ++ listed_from true ls ++ codes "\n]}\n"
+
+-- these are the files at these paths, one for one, each with some phrase for what it is
+abbrev pub AreListed : ListForm → List (List ℕ) → List (List ℕ) → List Listed → Type 0
+AreListed how [] files ls = ls ≡ []
+AreListed how (path ∷ paths) [] ls = ls ≡ []
+AreListed how (path ∷ paths) (file ∷ files) ls =
+    (phrase : List ℕ) × (rest : List Listed) × AreListed how paths files rest
+    × (ls ≡ record { how = how; path = path; phrase = phrase; file = file } ∷ rest)
+
+-- the text is the list of the files at these paths
+abbrev pub IsList : ListForm → List (List ℕ) → List (List ℕ) → List ℕ → Type 0
+IsList how paths files text = (ls : List Listed) × AreListed how paths files ls
+    × (text ≡ lists_in how ls)

@@ -1,4 +1,4 @@
-pub mod ListJson
+pub mod Listed
 pub mod ListText
 pub mod LoneText
 pub mod FileLists

@@ -1,34 +1,39 @@
--- What files have, as lines made for grep: a line of the file, and one for each of its segments.
--- Each begins with the path.
--- Source: this project's profile.
-use Rattle.std.specs.Prelude.{ℕ, ◌-◌, take, is_none, is_some, ◌==◌, ◌||◌, if◌then◌else◌, not, List, [], ◌∷◌, ◌++◌, length, chars, codes, decimal, Bool, true, false, Option, Some, None, Result, Ok, Err}
+-- What files have, as text: as lines made for grep, of which each begins with the path, or as an
+-- item of the list of a JSON document, in which the segments are a list.
+-- Source: RFC 8259; which words and members there are is this project's profile.
+use Rattle.std.specs.Prelude.{ℕ, ◌-◌, take, ◌==◌, if◌then◌else◌, List, [], ◌∷◌, ◌++◌, length, chars, codes, decimal, Bool, true, false, Option, Some, None, Result, Ok, Err}
 use Rattle.std.specs.Char.{encode_utf8, is_ascii_whitespace}
-use Rattle.std.specs.List.{flat_map, list_any, suffix_len}
+use Rattle.std.specs.List.{flat_map, suffix_len}
 use Rattle.ps_words.specs.declared.order.Order.{Order}
 use Rattle.ps_words.specs.declared.order.Order.TheVariants.{Little, Big}
-use Rattle.ps_words.specs.FaultText.{number_of, name_of, part_text}
+use Rattle.ps_words.specs.FaultText.{number_of, name_of}
 use Rattle.ps_words.specs.declared.fault.Reason.{Reason}
 use Rattle.ps_words.specs.declared.fault.Fault.{Fault}
-use Rattle.ps_codefile.specs.Dictionary.{OpenedFile, entry_at, role_of, slots}
+use Rattle.ps_codefile.specs.Dictionary.{OpenedFile}
 use Rattle.ps_codefile.specs.Opened.{opened}
-use Rattle.ps_codefile.specs.Roles.{needs_linking}
 use Rattle.ps_codefile.specs.declared.entry.Role.{Role}
 use Rattle.ps_codefile.specs.declared.entry.Role.TheVariants as role
 use Rattle.ps_linkinfo.specs.declared.record.Body.{Body}
 use Rattle.ps_linkinfo.specs.RecordCounts.{is_unit_reference}
 use Rattle.ps_linkinfo.specs.declared.record.LinkRecord.{LinkRecord as Record}
-use Rattle.ps_resolve.specs.Faults.{code_fault}
-use Rattle.ps_resolve.specs.Sources.{records_of}
-use Rattle.ps_writing.specs.Lines.{line, shown_name, two_digits}
+use Rattle.ps_writing.specs.JsonText.{comma_unless, json_name, line_end, member}
+use Rattle.ps_writing.specs.FaultJson.{fault_json}
+use Rattle.ps_writing.specs.JsonStrings.{json_text}
+use Rattle.ps_writing.specs.Lines.{line, shown_name}
+use Rattle.ps_writing.specs.Rows.{InSlot, Number, by_form, value_in}
+use Rattle.ps_writing.specs.declared.rows.Form.{Form}
+use Rattle.ps_writing.specs.declared.rows.Form.TheVariants.{Lines, Json}
 use Rattle.ps_filetype.specs.Shown.{is_hidden}
-use Rattle.ps_filetype.specs.CodeFiles.{code_file, code_file_word}
+use Rattle.ps_filetype.specs.CodeFiles.{code_file_word}
 use Rattle.ps_filetype.specs.declared.code_file.CodeFile.{CodeFile}
+use Rattle.ps_listing.specs.Listed.{no_values, segments_of, values_of}
+use Rattle.ps_listing.specs.declared.segments.ListedSegment.{ListedSegment}
+use Rattle.ps_listing.specs.declared.listed_file.FileValues.{FileValues}
 
--- a character of a path: a question mark for a hidden one, as one that could end the line
+-- a character of a path in a line: a question mark for a hidden one, as one that could end the line
 abbrev pub shown_char : ℕ → List ℕ
 shown_char c = if is_hidden c then 63 ∷ [] else encode_utf8 c
 
--- a path as each of its lines begins with it, and a phrase
 abbrev pub shown_path : List ℕ → List ℕ
 shown_path path = flat_map shown_char (chars path)
 
@@ -36,139 +41,149 @@ shown_path path = flat_map shown_char (chars path)
 abbrev pub trimmed : List ℕ → List ℕ
 trimmed text = take (length text - suffix_len is_ascii_whitespace text) text
 
--- `, 24 bytes`
-abbrev pub size_words : ℕ → List ℕ
-size_words n = codes ", " ++ decimal n ++ codes " bytes"
+-- a text that is not ASCII throughout, and a name
+abbrev pub text_in : Form → List ℕ → List ℕ
+text_in Lines text = shown_path text
+text_in Json text = json_text text
 
--- `, refused 17 BadProcDict`, and the index of the record that is refused, if one is
-abbrev pub refused_words : Reason → Option ℕ → List ℕ
-refused_words why rec = codes ", refused " ++ decimal (number_of why) ++ (32 ∷ []) ++ name_of why
-    ++ part_text (codes "record") rec
+abbrev pub name_in : Form → List ℕ → List ℕ
+name_in Lines name = trimmed (shown_name name)
+name_in Json name = json_name name
 
--- what uses a unit, as `, uses AUX`: a UNITREF record, and no other
-abbrev pub uses_of : List ℕ → Body → List ℕ
-uses_of name body = if is_unit_reference body then codes ", uses " ++ trimmed (shown_name name)
-    else []
+-- `PATH:`, and `{"path":"host.code"`
+abbrev pub path_in : Form → List ℕ → List ℕ
+path_in form path = by_form form [] (codes "{\"path\":\"") ++ text_in form path
+    ++ by_form form (codes ":") (codes "\"")
 
--- the use that a record is
-abbrev pub used_words : Record → List ℕ
-used_words r = uses_of r.name r.body
+-- ` little-endian,`, and `,"order":"little"`
+abbrev pub order_in : Form → Option Order → List ℕ
+order_in form None = by_form form [] (codes ",\"order\":null")
+order_in form (Some Little) = by_form form (codes " little-endian,") (codes ",\"order\":\"little\"")
+order_in form (Some Big) = by_form form (codes " big-endian,") (codes ",\"order\":\"big\"")
 
--- the refusal of a segment, or else its uses
-abbrev pub refused_or : List ℕ → Option Fault → List ℕ
-refused_or uses None = uses
-refused_or uses (Some f) = refused_words f.reason f.rec
+-- ` 1536 bytes` after this text, and `,"length":1536`
+abbrev pub length_in : Form → List ℕ → Option ℕ → List ℕ
+length_in form before None = by_form form [] (codes ",\"length\":null")
+length_in form before (Some n) = by_form form before (codes ",\"length\":") ++ decimal n
+    ++ by_form form (codes " bytes") []
 
--- the first fault of the segment in a slot of this role, by itself: of its code, then of one that
--- is to be linked of its tables and its records
-abbrev pub fault_alone : Order → List ℕ → ℕ → Role → Option Fault
-fault_alone order file slot r = code_fault order file [] slot r (0, slot)
+-- `, library`, and `,"contents":"library"`
+abbrev pub purpose_in : Form → Option (Option CodeFile) → List ℕ
+purpose_in form None = by_form form [] (codes ",\"contents\":null")
+purpose_in form (Some None) = by_form form (codes ", no segment") (codes ",\"contents\":null")
+purpose_in form (Some (Some c)) = by_form form (codes ", ") (codes ",\"contents\":\"")
+    ++ code_file_word c ++ by_form form [] (codes "\"")
 
--- what a segment of this role ends with: why it is refused, or the units that it uses
-unfoldable pub found_words : Order → List ℕ → ℕ → Role → List ℕ
-found_words order file slot r = refused_or
-    (flat_map used_words (records_of order file (entry_at order file slot) (needs_linking r)))
-    (fault_alone order file slot r)
+-- `, a gzip file`, and `,"type":"a gzip file"`
+abbrev pub type_in : Form → List ℕ → List ℕ
+type_in form phrase = if length phrase == 0 then by_form form [] (codes ",\"type\":null")
+    else by_form form (codes ", ") (codes ",\"type\":\"") ++ text_in form phrase
+    ++ by_form form [] (codes "\"")
 
--- what the line of a slot begins with, as `PATH: slot 02 UTIL     `
-unfoldable pub slot_head : List ℕ → Order → List ℕ → ℕ → List ℕ
-slot_head path order file slot = shown_path path
-    ++ (codes ": slot " ++ two_digits slot ++ (32 ∷ [])
-    ++ shown_name (entry_at order file slot).name) ++ (32 ∷ [])
+-- ` record 1`
+abbrev pub record_words : Option ℕ → List ℕ
+record_words None = []
+record_words (Some n) = codes " record " ++ decimal n
 
--- the line of a segment that is in the file, as `PATH: slot 02 UTIL     unit, 24 bytes, uses AUX`
-unfoldable pub found_line : List ℕ → Order → List ℕ → ℕ → Role → List ℕ
-    → List ℕ
-found_line path order file slot r word =
-    line (slot_head path order file slot ++ word ++ size_words (entry_at order file slot).length
-    ++ found_words order file slot r)
+-- `, refused 19 RecordsTruncated record 1`
+abbrev pub refused_words : Fault → List ℕ
+refused_words f = codes ", refused " ++ decimal (number_of f.reason) ++ codes " "
+    ++ name_of f.reason ++ record_words f.rec
 
--- the line of a segment whose kind is refused
-unfoldable pub refused_line : List ℕ → Order → List ℕ → ℕ → Reason → List ℕ
-refused_line path order file slot why =
-    line (slot_head path order file slot
-    ++ (codes "kind " ++ decimal (entry_at order file slot).kind)
-    ++ size_words (entry_at order file slot).length ++ refused_words why None)
+-- the same, and `,"fault":{"number":19,..}`, with the name of what the fault is about
+abbrev pub fault_in : Form → Option (List ℕ) → Fault → List ℕ
+fault_in Lines name f = refused_words f
+fault_in Json name f = codes ",\"fault\":" ++ fault_json name f
 
--- the line of a slot of this role: an empty one has none
-abbrev pub role_line : List ℕ → Order → List ℕ → ℕ → Result Role Reason → List ℕ
-role_line path order file slot (Ok role.Empty) = []
-role_line path order file slot (Ok role.Wanted) = slot_head path order file slot ++ codes "wanted\n"
-role_line path order file slot (Ok role.Plain) =
-    found_line path order file slot role.Plain (codes "linked")
-role_line path order file slot (Ok role.Host) =
-    found_line path order file slot role.Host (codes "host")
-role_line path order file slot (Ok role.Unit) =
-    found_line path order file slot role.Unit (codes "unit")
-role_line path order file slot (Err why) = refused_line path order file slot why
+-- that there is no fault, which a line does not say
+abbrev pub no_fault_in : Form → List ℕ
+no_fault_in form = by_form form [] (codes ",\"fault\":null")
 
--- the line of a slot
-unfoldable pub slot_line : List ℕ → Order → List ℕ → ℕ → List ℕ
-slot_line path order file slot = role_line path order file slot (role_of (entry_at order file slot))
+-- ` unit`, and `,"role":"unit"`
+abbrev pub role_in : Form → Role → List ℕ
+role_in form role.Empty = by_form form (codes " empty") (codes ",\"role\":\"empty\"")
+role_in form role.Wanted = by_form form (codes " wanted") (codes ",\"role\":\"wanted\"")
+role_in form role.Plain = by_form form (codes " linked") (codes ",\"role\":\"linked\"")
+role_in form role.Host = by_form form (codes " host") (codes ",\"role\":\"host\"")
+role_in form role.Unit = by_form form (codes " unit") (codes ",\"role\":\"unit\"")
 
--- the order in which a file is read
-abbrev pub order_words : Order → List ℕ
-order_words Little = codes "little-endian"
-order_words Big = codes "big-endian"
+-- ` unit`, or ` kind 5` of a kind that is refused, and `,"kind":3,"role":"unit"`
+abbrev pub kind_in : Form → ℕ → Option Role → List ℕ
+kind_in form kind None = value_in form (Number (codes "kind") kind)
+    ++ by_form form [] (codes ",\"role\":null")
+kind_in form kind (Some r) = by_form form [] (member (codes "kind") kind) ++ role_in form r
 
--- what a file is for
-abbrev pub purpose_words : Option CodeFile → List ℕ
-purpose_words None = codes ", no segment"
-purpose_words (Some purpose) = codes ", " ++ code_file_word purpose
+-- a unit that a record uses, as `, uses AUX`, or `{"name":..,"name_hex":..}`
+abbrev pub use_in : Form → Bool → List ℕ → List ℕ
+use_in form first name = by_form form (codes ", uses ") (comma_unless first)
+    ++ by_form form [] (codes "{") ++ name_in form name ++ by_form form [] (codes "}")
 
--- what a file is that is no code file as it ought to be
-abbrev pub phrase_words : List ℕ → List ℕ
-phrase_words phrase = if length phrase == 0 then [] else codes ", " ++ shown_path phrase
+-- that of a record, where it is one that uses a unit
+abbrev pub use_of : Form → Bool → List ℕ → Body → List ℕ
+use_of form first name body = if is_unit_reference body then use_in form first name else []
 
--- the line of a file, as `PATH: little-endian, 1536 bytes, library`
-unfoldable pub file_line : List ℕ → List ℕ → ℕ → Order → List ℕ → List ℕ
-file_line path phrase size order file = line
-    (shown_path path ++ codes ": " ++ order_words order ++ size_words size
-    ++ purpose_words (code_file order file) ++ phrase_words phrase)
+-- the first is still to come after this record
+abbrev pub is_first_after : Bool → Body → Bool
+is_first_after first body = if is_unit_reference body then false else first
 
--- the lines of the slots: a file of which the phrase says that it is something else has none
-abbrev pub slot_lines : List ℕ → List ℕ → Order → List ℕ → List ℕ
-slot_lines path phrase order file = if length phrase == 0
-    then flat_map (slot_line path order file) slots else []
+abbrev pub uses_from : Form → Bool → List Record → List ℕ
+uses_from form first [] = []
+uses_from form first (r ∷ rs) = use_of form first r.name r.body
+    ++ uses_from form (is_first_after first r.body) rs
 
--- the lines of a file of so many bytes: one that cannot be read has one, as `PATH: 4096 bytes, a
--- gzip file, refused 2 NoOrder`
-abbrev pub lines_of : List ℕ → List ℕ → ℕ → Result OpenedFile Reason → List ℕ
-lines_of path phrase size (Ok f) = file_line path phrase size f.order f.file
-    ++ slot_lines path phrase f.order f.file
-lines_of path phrase size (Err why) = line
-    (shown_path path ++ (codes ": " ++ decimal size) ++ codes " bytes" ++ phrase_words phrase
-    ++ refused_words why None)
+-- the units that records use, in the order of the records
+abbrev pub uses_in : Form → List Record → List ℕ
+uses_in form records = by_form form [] (codes ",\"uses\":[") ++ uses_from form true records
+    ++ by_form form [] (codes "]")
 
--- the list of the file at a path; the phrase says what it is, where it is no code file as it ought
--- to be
-unfoldable pub list_of : List ℕ → List ℕ → List ℕ → List ℕ
-list_of path phrase file = lines_of path phrase (length file) (opened file)
+-- what a segment of this name is refused for, or the units that it uses
+abbrev pub found_in : Form → List ℕ → Result (List Record) Fault → List ℕ
+found_in form name (Ok records) = no_fault_in form ++ uses_in form records
+found_in form name (Err f) = fault_in form (Some name) f ++ by_form form [] (codes ",\"uses\":[]")
 
--- a slot of this role is refused
-abbrev pub is_refused_role : Order → List ℕ → ℕ → Result Role Reason → Bool
-is_refused_role order file slot (Ok role.Empty) = false
-is_refused_role order file slot (Ok role.Wanted) = false
-is_refused_role order file slot (Ok role.Plain) = is_some (fault_alone order file slot role.Plain)
-is_refused_role order file slot (Ok role.Host) = is_some (fault_alone order file slot role.Host)
-is_refused_role order file slot (Ok role.Unit) = is_some (fault_alone order file slot role.Unit)
-is_refused_role order file slot (Err why) = true
+-- a segment, the first of its file or not, as `PATH: slot 02 UTIL     unit, 24 bytes, uses AUX`
+unfoldable pub segment_in : Form → List ℕ → Bool → ListedSegment → List ℕ
+segment_in form path first s = by_form form (shown_path path) (line_end first)
+    ++ value_in form (InSlot (codes ": slot ") s.slot s.name) ++ kind_in form s.kind s.role
+    ++ length_in form (codes ", ") s.length ++ found_in form s.name s.found
+    ++ by_form form (codes "\n") (codes "}")
 
--- the line of a slot says that it is refused
-unfoldable pub is_refused_slot : Order → List ℕ → ℕ → Bool
-is_refused_slot order file slot = is_refused_role order file slot
-    (role_of (entry_at order file slot))
+abbrev pub segments_in : Form → List ℕ → Bool → List ListedSegment → List ℕ
+segments_in form path first [] = []
+segments_in form path first (s ∷ ss) = segment_in form path first s
+    ++ segments_in form path false ss
 
--- some slot is refused
-unfoldable pub has_refused : Order → List ℕ → Bool
-has_refused order file = list_any (is_refused_slot order file) slots
+-- the fault of a file, if it has one
+abbrev pub fault_or_none : Form → Option Fault → List ℕ
+fault_or_none form None = no_fault_in form
+fault_or_none form (Some f) = fault_in form None f
 
--- a file cannot be read, has no segment, or has a slot that is refused
-abbrev pub is_refused_as : Result OpenedFile Reason → Bool
-is_refused_as (Ok f) = is_none (code_file f.order f.file) || has_refused f.order f.file
-is_refused_as (Err why) = true
+-- a file, as `PATH: little-endian, 1536 bytes, library`, and its item up to its segments
+unfoldable pub file_in : Form → List ℕ → List ℕ → FileValues → List ℕ
+file_in Lines path phrase v = line (path_in Lines path ++ order_in Lines v.order
+    ++ length_in Lines (codes " ") v.size ++ purpose_in Lines v.purpose ++ type_in Lines phrase
+    ++ fault_or_none Lines v.fault)
+file_in Json path phrase v = path_in Json path ++ length_in Json [] v.size
+    ++ type_in Json phrase ++ order_in Json v.order ++ purpose_in Json v.purpose
+    ++ fault_or_none Json v.fault ++ codes ",\"segments\":["
 
--- the list of a file says that the file or a segment is refused, that there is none, or, by the
--- phrase, that the file is something else
-unfoldable pub is_refused : List ℕ → List ℕ → Bool
-is_refused phrase file = not (length phrase == 0) || is_refused_as (opened file)
+-- the segments of a file that was opened; another has none
+abbrev pub segments_as : Form → List ℕ → List ℕ → Result OpenedFile Reason → List ℕ
+segments_as form path phrase (Ok f) =
+    segments_in form path true (segments_of phrase f.order f.file)
+segments_as form path phrase (Err why) = []
+
+-- the file at a path; the phrase says what it is, where it is no code file as it ought to be
+unfoldable pub listed_in : Form → List ℕ → List ℕ → List ℕ → List ℕ
+listed_in form path phrase file = file_in form path phrase (values_of (length file) (opened file))
+    ++ segments_as form path phrase (opened file) ++ by_form form [] (codes "\n]}")
+
+abbrev pub list_of : List ℕ → List ℕ → List ℕ → List ℕ
+list_of path phrase file = listed_in Lines path phrase file
+
+abbrev pub list_json_of : List ℕ → List ℕ → List ℕ → List ℕ
+list_json_of path phrase file = listed_in Json path phrase file
+
+-- the item of a file at a path at which nothing could be read
+abbrev pub unread_json_of : List ℕ → List ℕ
+unread_json_of path = file_in Json path [] no_values ++ codes "\n]}"

@@ -11,6 +11,7 @@ use Rattle.ps_codefile.specs.declared.entry.Role.TheVariants as role
 use Rattle.ps_resolve.specs.LoneUnits.{lone_fault}
 use Rattle.ps_resolve.specs.Readings.{HostFiles, opened_host}
 use Rattle.ps_resolve.specs.Sources.{opened_files}
+use Rattle.ps_writing.specs.declared.rows.Form.TheVariants.{Lines}
 use Rattle.ps_writing.specs.Lines.{line, shown_name, two_digits}
 use Rattle.ps_listing.specs.ListText.{refused_words, shown_path}
 use Rattle.ps_listing.specs.declared.lone.LoneUnit.{LoneUnit}
@@ -57,7 +58,7 @@ has_no_sound units = length units == 0 || list_any is_refused_unit units
 -- what is wrong with a unit
 abbrev pub lone_words : Option Fault → List ℕ
 lone_words None = codes ", no fault"
-lone_words (Some f) = refused_words f.reason f.rec ++ part_text (codes "reference") f.reference
+lone_words (Some f) = refused_words f ++ part_text (codes "reference") f.reference
 
 -- the line of a unit, as `PATH: slot 02 UTIL     by itself, no fault`
 abbrev pub lone_line : List ℕ → LoneUnit → List ℕ

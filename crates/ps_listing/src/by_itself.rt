@@ -9,7 +9,7 @@ ghost use Rattle.ps_codefile.specs.Roles.{is_host as is_host_spec, needs_linking
 ghost use Rattle.ps_linkinfo.specs.Records.{reading};
 ghost use Rattle.ps_resolve.specs.Faults.{information_fault};
 ghost use Rattle.ps_resolve.specs.Sources.{records_of};
-ghost use Rattle.ps_listing.specs.ListText.{fault_alone};
+ghost use Rattle.ps_listing.specs.Listed.{fault_alone};
 
 use ps_codefile::dictionary_layout::SLOTS;
 use ps_codefile::{Dict, ProcedureDictionary, Role};

@@ -4,18 +4,15 @@
 #![tactic(auto)]
 
 mod by_itself;
-mod file_json;
-mod json;
+mod escapes;
 mod listed_file;
+mod lists;
 mod lone;
+mod parts;
 mod phrases;
+mod segments;
 mod several;
-mod slots;
-mod slots_json;
-mod words;
 
-pub use file_json::{write_list_json, write_unread_json};
-pub use listed_file::{is_refused, write_list};
-pub use lone::{LoneUnit, has_no_sound, lone_units, write_lone_units};
-pub use phrases::phrase;
-pub use several::{has_host_among, lists_of};
+pub use lists::{ListForm, ListItem, ListedFile, Lists, UnreadItem};
+pub use lone::{LoneUnit, lone_units};
+pub use several::has_host_among;

@@ -1,22 +1,20 @@
 //! The units of a file, each by itself.
-ghost use Rattle.std.specs.Prelude.{◌≡◌, ◌<◌, IfErr, IfOk, OnOk, OnErr, is_some, length, true};
+ghost use Rattle.std.specs.Prelude.{◌≡◌, ◌<◌, IfErr, IfOk, codes, is_some, length, true};
 ghost use Rattle.std.specs.List.{list_any};
-ghost use Rattle.std.specs.Io.KnownBytes.{Appends};
 ghost use Rattle.ps_writing.specs.Adding.{Adds};
-ghost use Rattle.ps_writing.specs.Counts.{NoneFailed, OneFailed};
-ghost use Rattle.ps_writing.specs.Prefixes.{AppendsPrefix};
+ghost use Rattle.ps_words.specs.FaultText.{part_text};
 ghost use Rattle.ps_resolve.specs.LoneUnits.{IsSoundUnit};
 ghost use Rattle.ps_resolve.specs.Sources.{opened_files};
 ghost use Rattle.ps_listing.specs.LoneText.{has_no_sound as has_no_sound_spec, is_refused_unit, lone_line, lone_text, lone_unit as lone_unit_spec, lone_units as lone_units_spec, lone_words, units_of as units_of_spec};
 
-use crate::words::{add_path, add_reference, add_refusal};
+use crate::escapes::add_path;
+use crate::parts::add_refused;
 use ps_codefile::Role;
 use ps_codefile::dictionary_layout::SLOTS;
 use ps_resolve::{HostReading, lone_fault, read};
 use ps_words::{Fault, Name};
-use ps_writing::{Counts, Text, TextWriter, WriteFault, add_slot_name, write_text};
+use ps_writing::{TextWriter, add_number, add_slot_name};
 use std::alloc::{AllocError, Allocator};
-use std::io::Write;
 
 /// A unit whose code a file has, and what is wrong with it by itself.
 /// Source: this project's profile.
@@ -114,20 +112,13 @@ pub fn has_no_sound(units: &[LoneUnit]) -> bool
     units.is_empty() || has_refused(units)
 }
 
-/// The units of a file at a path.
-#[derive(Drop)]
-struct LoneLines<'a> {
-    path: &'a str,
-    units: &'a [LoneUnit],
-}
-
-impl Text for LoneLines<'_> {
-    ghost use Rattle.ps_listing.specs.LoneText.{lone_text};
-
-    ghost bytes = { λ l. lone_text l.path.now l.units.now };
-
-    fn add_to<S: TextWriter>(&self, text: &mut S) {
-        add_lines(text, self.path, self.units);
+/// Adds the index of a reference, where there is one.
+fn add_reference<S: TextWriter>(text: &mut S, reference: Option<usize>)
+    ensures { Adds S.added text.old (part_text (codes "reference") reference) text.new }
+{
+    match reference {
+        None => text.add(b""),
+        Some(reference) => add_number(text, b" reference ", reference),
     }
 }
 
@@ -138,7 +129,7 @@ fn add_words<S: TextWriter>(text: &mut S, fault: Option<Fault>)
     match fault {
         None => text.add(b", no fault"),
         Some(fault) => {
-            add_refusal(text, fault.reason, fault.rec);
+            add_refused(text, fault);
             add_reference(text, fault.reference);
         }
     }
@@ -155,37 +146,14 @@ fn add_line<S: TextWriter>(text: &mut S, path: &str, unit: &LoneUnit)
     text.add(b"\n");
 }
 
-/// Adds the line of each unit.
+/// Adds a line of each unit of a file, as `PATH: slot 02 UTIL     by itself, no fault`, or with its fault
+/// as `PATH: slot 02 UTIL     by itself, refused 33 Overlap record 1 reference 0`. Each begins with
+/// the path, in which a hidden character, as one that could end the line, is a question mark.
 #[tactic(auto, using(std::proofs::lemmas::List::drop_more, ps_writing::proofs::Written::all_written, ps_writing::proofs::Written::items_left, ps_writing::proofs::Written::items_over, ps_writing::proofs::Written::none_yet, ps_writing::proofs::Written::some_more))]
-fn add_lines<S: TextWriter>(text: &mut S, path: &str, units: &[LoneUnit])
+pub(crate) fn add_unit_lines<S: TextWriter>(text: &mut S, path: &str, units: &[LoneUnit])
     ensures { Adds S.added text.old (lone_text path.now units.now) text.new }
 {
     for unit in units {
         add_line(text, path, unit);
     }
-}
-
-/// Writes a line of each unit, as `PATH: slot 02 UTIL     by itself, no fault`, or with its fault as
-/// `PATH: slot 02 UTIL     by itself, refused 33 Overlap record 1 reference 0`.
-///
-/// Each begins with the path, in which a hidden character, as one that could end the line, is a
-/// question mark. They are written in pieces, by writes that are counted in `counts`, and take
-/// no memory. After Ok no write failed. Refused where a write failed, in the way that the fault
-/// says: that was one write, which is not repeated. The writer then has a prefix of the text.
-/// Source: this project's profile.
-pub fn write_lone_units<W: Write>(
-    path: &str,
-    units: &[LoneUnit],
-    out: &mut W,
-    counts: &mut Counts,
-) -> Result<(), WriteFault>
-    ensures written { OnOk result (Appends (W.contents out.old) (W.contents out.new)
-        (lone_text path.now units.now)) }
-    ensures prefix { OnErr result (AppendsPrefix (W.contents out.old) (W.contents out.new)
-        (lone_text path.now units.now)) }
-    ensures ok { OnOk result (NoneFailed counts.old counts.new) }
-    ensures failed { IfErr result (λ fault. OneFailed fault counts.old counts.new) }
-{
-    let lines = LoneLines { path, units };
-    write_text(&lines, out, counts)
 }

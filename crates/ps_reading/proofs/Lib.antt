@@ -22,3 +22,4 @@ pub mod BySlot
 pub mod WholeNames
 pub mod SharedRecords
 pub mod KnownNames
+pub mod NamesRead

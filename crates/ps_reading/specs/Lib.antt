@@ -7,3 +7,4 @@ pub mod Readings
 pub mod KnownSegments
 pub mod OfLink
 pub mod Standing
+pub mod FaultNames

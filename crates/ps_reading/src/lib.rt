@@ -1,11 +1,13 @@
 //! What a link reads: of each slot of the host its segment or its fault, the units that are requested
-//! and added, and the first fault of the files.
+//! and added, the first fault of the files, and the name of what a fault is about.
 #![tactic(auto)]
 
+mod fault_names;
 mod locations;
 mod reading;
 mod slot_name_law;
 
+pub use fault_names::{fault_name, fault_name_in};
 pub use locations::{EntryAt, RecordAt, ReferenceAt, SegmentAt};
 pub use reading::added::{MAX_ADDED, MAX_REQUESTED, UnitReference};
 pub use reading::request::{Request, Requester};

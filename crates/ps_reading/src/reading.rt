@@ -36,7 +36,7 @@ use ps_words::{Fault, Name, Order, Reason};
 use std::marker::Model;
 
 /// The segment that is in a slot.
-fn segment_in<'s, 'a>(segments: &'s [Segment<'a>], slot: u8) -> Option<&'s Segment<'a>>
+pub(crate) fn segment_in<'s, 'a>(segments: &'s [Segment<'a>], slot: u8) -> Option<&'s Segment<'a>>
     ensures { option_map (λ s. s.now) result ≡ find (is_in_slot slot) segments.now }
 {
     for segment in segments {

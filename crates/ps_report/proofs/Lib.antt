@@ -2,6 +2,6 @@ pub mod Verdicts
 pub mod Texts
 pub mod SegmentTexts
 pub mod WarningLines
-pub mod ReportItems
-pub mod LookLines
-pub mod Prefixes
+pub mod Findings
+pub mod Items
+pub mod Reports

@@ -1,7 +1,8 @@
 -- Where the line of the verdict and the lists of files are in the text of a report.
 use Rattle.std.proofs.Common.{◌≡◌, ◌∙◌, ◌++◌, ℕ, List, codes, ap}
 use Rattle.std.proofs.lemmas.List.{append_assoc}
-use Rattle.ps_listing.specs.FileLists.{AreLists}
+use Rattle.ps_listing.specs.FileLists.{IsList}
+use Rattle.ps_listing.specs.declared.lists.ListForm.TheVariants.{Lines}
 use Rattle.ps_report.specs.Lists.{HasLists}
 use Rattle.ps_report.specs.Verdicts.{Tells, verdict_line}
 use Rattle.ps_report.specs.WarningLines.{other_lines}
@@ -30,7 +31,7 @@ told_in overview verdict explanation lists warned text is =
 pub lists_in : (paths files : List (List ℕ)) (overview : List ℕ) (verdict : Verdict)
     (explanation lists warned text : List ℕ)
     → text ≡ in_parts overview verdict explanation (other_lines lists) warned
-    → AreLists paths files lists → HasLists paths files text
+    → IsList Lines paths files lists → HasLists paths files text
 lists_in paths files overview verdict explanation lists warned text is are =
     let before = overview ++ (codes "\n" ++ verdict_line verdict) ++ explanation in
     (before, lists, warned, are, is ∙ append_assoc before (other_lines lists) warned)

@@ -1,14 +1,18 @@
 -- The lines of a report to which a line is added that is a warning's, or none's.
-use Rattle.std.proofs.Common.{◌≡◌, ◌∙◌, ◌+◌, ◌++◌, ◌∷◌, ◌==◌, ◌&&◌, [], ℕ, List, Bool, true, false, not, cond, append-nil, length, ◌<◌, Bor, refl, sym, subst, ap, arith, get_or, take}
+use Rattle.std.proofs.Common.{◌≡◌, ◌∙◌, ◌+◌, ◌++◌, ◌∷◌, ◌==◌, ◌&&◌, [], ℕ, List, Bool, true, false, not, cond, append-nil, length, ◌<◌, Bor, refl, sym, subst, ap, arith, get_or, codes}
 use Rattle.std.specs.Prelude.{if◌then◌else◌, Option, Some, None, IfSome}
 use Rattle.std.specs.List.{after_first, before_first, filter, flat_map, list_all, position_or_len}
 use Rattle.std.proofs.lemmas.Bool.Decides.{nat_tests}
-use Rattle.std.proofs.lemmas.List.{append_assoc, length-take-le}
+use Rattle.std.proofs.lemmas.List.{append_assoc, take_all}
 use Rattle.std.proofs.lemmas.List.Sums.{passes_at_first, split_at_first}
 use Rattle.ps_explained.specs.SlotLines.{AddsSlotLines, indent, is_slot_line, lines_of, one_line, slot_lines, with_first}
-use Rattle.ps_explained.proofs.OneLine.{Splits, and_both, and_left, and_right, one_append}
-use Rattle.ps_explained.proofs.SlotLines.{adds_line, adds_no_line, adds_then, line_ends}
-use Rattle.ps_report.specs.WarningLines.{AddsWarnings, head, is_warning_line, mark, note_line, other_line, other_lines, warning_line, warning_lines, warnings_in}
+use Rattle.ps_explained.proofs.OneLine.{Splits, and_both, and_left, and_right, one_append, one_before}
+use Rattle.ps_explained.proofs.SlotLines.{adds_line, adds_no_line, adds_then, adds_then_none, line_ends}
+use Rattle.ps_warnings.specs.Weights.{weight_of, weight_word}
+use Rattle.ps_warnings.specs.declared.weight.Weight.{Weight}
+use Rattle.ps_warnings.specs.declared.weight.Weight.TheVariants.{Note, Harmless, Look, Damaged}
+use Rattle.ps_report.specs.Reported.{Said}
+use Rattle.ps_report.specs.WarningLines.{AddsWarnings, finding_words, first_line, head, is_warning_line, look_lines, note_line, other_line, other_lines, warning_line, warning_lines, warnings_in}
 
 -- a last line that has no end
 more_alone : (b : ℕ) (line : List ℕ) (t : Bool) → (b == 10) ≡ t → not (b == 10) ≡ true
@@ -73,17 +77,6 @@ added_then a b c n m h k = (
       ap warnings_in (append_assoc h.0 k.0 rest)
       ∙ (h.2 (k.0 ++ rest) ∙ (ap (λ (t : ℕ). n + t) (k.2 rest) ∙ omega arith)),
 )
-
--- the next of many
-pub added_next : {X : Type 0} (old before after : List ℕ) (xs : List X) (i : ℕ)
-    → i < length xs → AddsWarnings old (length (take i xs)) before
-    → AddsWarnings before 1 after → AddsWarnings old (length (take (i + 1) xs)) after
-added_next old before after xs i within so_far one =
-    let here : length (take i xs) ≡ i = length-take-le i xs (omega arith) in
-    let next : length (take (i + 1) xs) ≡ i + 1 = length-take-le (i + 1) xs (omega arith) in
-    let more : length (take i xs) + 1 ≡ length (take (i + 1) xs) = omega (arith, here, next) in
-    subst (λ (n : ℕ). AddsWarnings old n after) more
-    (added_then old before after (length (take i xs)) 1 so_far one)
 
 -- a whole text
 pub warnings_are : (text : List ℕ) (n : ℕ) → AddsWarnings [] n text → warnings_in text ≡ n
@@ -199,62 +192,115 @@ keeps_slot_lines old lines new is =
     (sym is)
     (adds_slots old (lines_of lines) (one_each lines))
 
--- the line of a warning
-warning_is : (line : List ℕ) (t : Bool) → is_warning_line line ≡ t
-    → warning_line line ≡ mark t ++ (line ++ 10 ∷ [])
+-- the line of a warning, of a note and of what is harmless
+one_word : (w : Weight) → one_line (weight_word w) ≡ true
+one_word Note = refl
+one_word Harmless = refl
+one_word Look = refl
+one_word Damaged = refl
+
+one_words : (f : Said) → one_line (finding_words f) ≡ true
+one_words f = one_append (first_line f.place ++ codes ": ") (first_line f.words)
+    (one_append (first_line f.place) (codes ": ") (one_before f.place) refl) (one_before f.words)
+
+abbrev warning_text : Said → List ℕ
+warning_text f = codes "warning: " ++ weight_word (weight_of f.warning.look) ++ codes ": "
+    ++ finding_words f
+
+one_warning : (f : Said) → one_line (warning_text f) ≡ true
+one_warning f =
+    let word = weight_word (weight_of f.warning.look) in
+    one_append (codes "warning: " ++ word ++ codes ": ") (finding_words f)
+    (one_append (codes "warning: " ++ word) (codes ": ")
+    (one_append (codes "warning: ") word refl (one_word (weight_of f.warning.look))) refl)
+    (one_words f)
+
+warning_is : (f : Said) → warning_line f ≡ warning_text f ++ 10 ∷ []
 unfolding warning_line
-warning_is line t e = ap (λ (t : Bool). mark t ++ (line ++ 10 ∷ [])) e
+warning_is f = refl
 
-pub adds_warning_line : (old line new : List ℕ) → one_line line ≡ true
-    → new ≡ old ++ warning_line line → AddsWarnings old 1 new × AddsSlotLines old [] new
-adds_warning_line old line new one is = by (is_warning_line line) refl
-  where
-    no_slot : is_warning_line line ≡ true → (s : Bool) → is_slot_line line ≡ s
-        → is_slot_line line ≡ false
-    no_slot e true f = let no = sym e ∙ not_both line f in cc
-    no_slot e false f = f
-
-    by : (t : Bool) → is_warning_line line ≡ t
-        → AddsWarnings old 1 new × AddsSlotLines old [] new
-    by true e =
-        let same = is ∙ ap (λ (l : List ℕ). old ++ l) (warning_is line true e) in (
-          adds_warning old line new one e same,
-          adds_no_line old line new one (no_slot e (is_slot_line line) refl) same,
-        )
-    by false e =
-        let same = is ∙ ap (λ (l : List ℕ). old ++ l) (warning_is line false e) in (
-          adds_warning old (mark false ++ line) new
-              (one_append (mark false) line refl one) refl same,
-          adds_no_line old (mark false ++ line) new (one_append (mark false) line refl one) refl
-              same,
-        )
-
--- the line of a note, or of what is harmless
-note_is : (is_note : Bool) (line : List ℕ)
-    → note_line is_note line ≡ head is_note ++ (line ++ 10 ∷ [])
+note_is : (is_note : Bool) (f : Said)
+    → note_line is_note f ≡ (head is_note ++ finding_words f) ++ 10 ∷ []
 unfolding note_line
-note_is is_note line = refl
+note_is is_note f = refl
 
-pub adds_note_line : (old line new : List ℕ) (is_note : Bool) → one_line line ≡ true
-    → new ≡ old ++ note_line is_note line → AddsWarnings old 0 new × AddsSlotLines old [] new
-adds_note_line old line new true one is =
-    let same = is ∙ ap (λ (l : List ℕ). old ++ l) (note_is true line) in (
-      adds_no_warning old (head true ++ line) new (one_append (head true) line refl one) refl same,
-      adds_no_line old (head true ++ line) new (one_append (head true) line refl one) refl same,
-    )
-adds_note_line old line new false one is =
-    let same = is ∙ ap (λ (l : List ℕ). old ++ l) (note_is false line) in (
-      adds_no_warning old (head false ++ line) new
-          (one_append (head false) line refl one) refl same,
-      adds_no_line old (head false ++ line) new (one_append (head false) line refl one) refl same,
+-- so many warnings, and no line of a segment
+abbrev AddsLooks : List ℕ → ℕ → List ℕ → Type 0
+AddsLooks old n new = AddsWarnings old n new × AddsSlotLines old [] new
+
+adds_warning_line : (old : List ℕ) (f : Said) → AddsLooks old 1 (old ++ warning_line f)
+adds_warning_line old f =
+    let same = ap (λ (line : List ℕ). old ++ line) (warning_is f) in (
+      adds_warning old (warning_text f) (old ++ warning_line f) (one_warning f) refl same,
+      adds_no_line old (warning_text f) (old ++ warning_line f) (one_warning f) refl same,
     )
 
--- no more warnings
-pub added_none : (a b c : List ℕ) (n : ℕ) → AddsWarnings a n b → AddsWarnings b 0 c
-    → AddsWarnings a n c
-added_none a b c n h k =
-    let same : n + 0 ≡ n = omega arith in
-    subst (λ (m : ℕ). AddsWarnings a m c) same (added_then a b c n 0 h k)
+adds_note_line : (old : List ℕ) (is_note : Bool) (f : Said)
+    → AddsLooks old 0 (old ++ note_line is_note f)
+adds_note_line old true f =
+    let same = ap (λ (line : List ℕ). old ++ line) (note_is true f) in
+    let line = head true ++ finding_words f in
+    let one = one_append (head true) (finding_words f) refl (one_words f) in (
+      adds_no_warning old line (old ++ note_line true f) one refl same,
+      adds_no_line old line (old ++ note_line true f) one refl same,
+    )
+adds_note_line old false f =
+    let same = ap (λ (line : List ℕ). old ++ line) (note_is false f) in
+    let line = head false ++ finding_words f in
+    let one = one_append (head false) (finding_words f) refl (one_words f) in (
+      adds_no_warning old line (old ++ note_line false f) one refl same,
+      adds_no_line old line (old ++ note_line false f) one refl same,
+    )
+
+-- the lines of many
+adds_nothing : (old : List ℕ) → AddsLooks old 0 (old ++ [])
+adds_nothing old = (([], refl, λ rest. no_more (warnings_in rest)), ([], refl, λ rest. refl))
+
+looks_then : (a b c : List ℕ) (n m : ℕ) → AddsLooks a n b → AddsLooks b m c
+    → AddsLooks a (n + m) c
+looks_then a b c n m h k =
+    (added_then a b c n m h.0 k.0, adds_then_none a b c [] h.1 k.1)
+
+adds_warning_lines : (old : List ℕ) (ws : List Said)
+    → AddsLooks old (length ws) (old ++ flat_map warning_line ws)
+adds_warning_lines old [] = adds_nothing old
+adds_warning_lines old (w ∷ ws) =
+    let here = old ++ warning_line w in
+    let count : 1 + length ws ≡ length (w ∷ ws) = omega arith in
+    subst (λ (n : ℕ). AddsLooks old n (old ++ flat_map warning_line (w ∷ ws))) count
+    (subst (λ (new : List ℕ). AddsLooks old (1 + length ws) new)
+    (append_assoc old (warning_line w) (flat_map warning_line ws))
+    (looks_then old here (here ++ flat_map warning_line ws) 1 (length ws)
+    (adds_warning_line old w) (adds_warning_lines here ws)))
+
+adds_note_lines : (old : List ℕ) (is_note : Bool) (fs : List Said)
+    → AddsLooks old 0 (old ++ flat_map (note_line is_note) fs)
+adds_note_lines old is_note [] = adds_nothing old
+adds_note_lines old is_note (f ∷ fs) =
+    let here = old ++ note_line is_note f in
+    subst (λ (new : List ℕ). AddsLooks old 0 new)
+    (append_assoc old (note_line is_note f) (flat_map (note_line is_note) fs))
+    (looks_then old here (here ++ flat_map (note_line is_note) fs) 0 0
+    (adds_note_line old is_note f) (adds_note_lines here is_note fs))
+
+pub adds_look_lines : (old : List ℕ) (ws hs ns : List Said)
+    → AddsLooks old (length ws) (old ++ look_lines ws hs ns)
+unfolding look_lines
+adds_look_lines old ws hs ns =
+    let warned = flat_map warning_line ws in
+    let calm = flat_map (note_line false) hs in
+    let noted = flat_map (note_line true) ns in
+    let count : length ws + 0 ≡ length ws = omega arith in
+    let first = old ++ warned in
+    let two = subst (λ (n : ℕ). AddsLooks old n (first ++ calm)) count
+    (looks_then old first (first ++ calm) (length ws) 0 (adds_warning_lines old ws)
+    (adds_note_lines first false hs)) in
+    let three = subst (λ (n : ℕ). AddsLooks old n (first ++ calm ++ noted)) count
+    (looks_then old (first ++ calm) (first ++ calm ++ noted) (length ws) 0 two
+    (adds_note_lines (first ++ calm) true ns)) in
+    subst (λ (new : List ℕ). AddsLooks old (length ws) new)
+    (ap (λ (t : List ℕ). t ++ noted) (append_assoc old warned calm)
+    ∙ append_assoc old (warned ++ calm) noted) three
 
 -- the end of a line alone
 pub adds_end_of_line : (old new : List ℕ) → new ≡ old ++ 10 ∷ [] → AddsWarnings old 0 new
@@ -304,3 +350,18 @@ cut_at bs (Some y) x m e =
     ∙ ap (λ (t : List ℕ). y.0.now ++ 10 ∷ t) (sym m.2)) in
     subst (λ (o : Option (Bor (List ℕ) × Bor (List ℕ))). IfSome o
     (λ z. bs ≡ z.0.now ++ 10 ∷ z.1.now)) e cut
+
+-- a text up to its first byte 10, and one that has none
+pub line_of : (bs : List ℕ) (r : Option (Bor (List ℕ) × Bor (List ℕ)))
+    (x : Bor (List ℕ) × Bor (List ℕ)) → Splits bs r → r ≡ Some x
+    → x.0.now ≡ first_line bs
+line_of bs None x m e = cc
+line_of bs (Some y) x m e =
+    subst (λ (o : Option (Bor (List ℕ) × Bor (List ℕ))). IfSome o
+    (λ z. z.0.now ≡ first_line bs)) e m.1
+
+pub whole_line : (bs : List ℕ) (r : Option (Bor (List ℕ) × Bor (List ℕ))) → Splits bs r
+    → ((x : Bor (List ℕ) × Bor (List ℕ)) → r ≡ Some x → ⊥) → bs ≡ first_line bs
+whole_line bs None m never =
+    sym (take_all (position_or_len (λ b. b == 10) bs) bs (omega (arith, m)))
+whole_line bs (Some y) m never = absurd (never y refl)

@@ -3,7 +3,8 @@
 use Rattle.std.specs.Prelude.{◌≡◌, ◌&&◌, not, ℕ, Bool, true, false, List, ◌++◌}
 use Rattle.ps_words.specs.declared.fault.Reason.{Reason}
 use Rattle.ps_words.specs.declared.fault.Reason.TheVariants as reason
-use Rattle.ps_listing.specs.FileLists.{AreLists, has_host_among}
+use Rattle.ps_listing.specs.FileLists.{IsList, has_host_among}
+use Rattle.ps_listing.specs.declared.lists.ListForm.TheVariants.{Lines}
 use Rattle.ps_report.specs.WarningLines.{other_lines}
 use Rattle.ps_report.specs.declared.verdict.Verdict.{Verdict}
 use Rattle.ps_report.specs.declared.verdict.Verdict.TheVariants.{Links, Refused}
@@ -26,5 +27,5 @@ lacks_host verdict libs = is_no_host verdict && not (has_host_among libs)
 -- indented
 abbrev pub HasLists : List (List ℕ) → List (List ℕ) → List ℕ → Type 0
 HasLists paths files text =
-    (before : List ℕ) × (lists : List ℕ) × (after : List ℕ) × AreLists paths files lists
+    (before : List ℕ) × (lists : List ℕ) × (after : List ℕ) × IsList Lines paths files lists
     × (text ≡ before ++ (other_lines lists ++ after))

@@ -2,7 +2,7 @@
 -- Source: this project's profile.
 use Rattle.std.specs.Prelude.{◌≡◌, ℕ, ◌==◌, ◌&&◌, not, if◌then◌else◌, Bool, List, ◌++◌, Option, Some, None, Result, Ok, codes, decimal}
 use Rattle.std.specs.Result.{IsErr}
-use Rattle.ps_named.specs.FaultNames.{fault_name}
+use Rattle.ps_resolve.specs.FaultNames.{fault_name}
 use Rattle.ps_resolve.specs.FaultParts.{HasItsParts}
 use Rattle.ps_resolve.specs.Sources.{order_of}
 use Rattle.ps_words.specs.FaultText.{fault_text}

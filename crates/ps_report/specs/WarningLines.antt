@@ -1,9 +1,10 @@
 -- The lines of a report that begin with `warning: `: those of its warnings, and no others.
 -- Source: this project's profile.
-use Rattle.std.specs.Prelude.{◌≡◌, ℕ, ◌+◌, ◌==◌, ◌<◌, if◌then◌else◌, Bool, true, false, List, [], ◌∷◌, ◌++◌, codes, length}
-use Rattle.std.specs.List.{filter, flat_map, starts_with}
-use Rattle.ps_explained.specs.SlotLines.{indent, lines_of, one_line}
-use Rattle.ps_warnings.specs.declared.warnings.Warning.{Warning}
+use Rattle.std.specs.Prelude.{◌≡◌, ℕ, ◌+◌, ◌==◌, ◌<◌, Bool, true, false, List, ◌∷◌, [], ◌++◌, codes, length}
+use Rattle.std.specs.List.{before_first, filter, flat_map, starts_with}
+use Rattle.ps_explained.specs.SlotLines.{indent, lines_of}
+use Rattle.ps_warnings.specs.Weights.{weight_of, weight_word}
+use Rattle.ps_report.specs.Reported.{Said}
 
 -- a line begins with `warning: `
 abbrev pub is_warning_line : List ℕ → Bool
@@ -36,9 +37,19 @@ other_line line = indent (is_warning_line line) ++ (line ++ 10 ∷ [])
 unfoldable pub other_lines : List ℕ → List ℕ
 other_lines text = flat_map other_line (lines_of text)
 
--- what goes before the line of a warning
-abbrev pub mark : Bool → List ℕ
-mark begins = if begins then [] else codes "warning: "
+-- a text up to its first line end
+abbrev pub first_line : List ℕ → List ℕ
+first_line text = before_first (λ byte. byte == 10) text
+
+-- where something looks wrong and what it is, within a line
+abbrev pub finding_words : Said → List ℕ
+finding_words f = first_line f.place ++ codes ": " ++ first_line f.words
+
+-- the line of a warning, and its end:
+-- `warning: damaged: UTIL.CODE, segment UTIL: each byte of its code is E5`
+unfoldable pub warning_line : Said → List ℕ
+warning_line f = codes "warning: " ++ weight_word (weight_of f.warning.look) ++ codes ": "
+    ++ finding_words f ++ codes "\n"
 
 -- what the line of a note begins with, and that of what is harmless
 abbrev pub head : Bool → List ℕ
@@ -46,29 +57,11 @@ head true = codes "note: "
 head false = codes "harmless: "
 
 -- such a line, and its end
-unfoldable pub note_line : Bool → List ℕ → List ℕ
-note_line is_note line = head is_note ++ (line ++ 10 ∷ [])
-
--- the line of a warning, and its end
-unfoldable pub warning_line : List ℕ → List ℕ
-warning_line line = mark (is_warning_line line) ++ (line ++ 10 ∷ [])
-
--- a line for each of these, in order, of this form and with some words
-abbrev pub AreLinesBy : (List ℕ → List ℕ) → List Warning → List ℕ → Type 0
-AreLinesBy line [] text = text ≡ []
-AreLinesBy line (w ∷ warnings) text =
-    (words : List ℕ) × (rest : List ℕ) × (one_line words ≡ true)
-    × AreLinesBy line warnings rest × (text ≡ line words ++ rest)
+unfoldable pub note_line : Bool → Said → List ℕ
+note_line is_note f = head is_note ++ finding_words f ++ codes "\n"
 
 -- what looks wrong, one by one: a line for each warning, then one for each look that is harmless,
 -- and then one for each note, and nothing else
-abbrev pub AreLookLines : List Warning → List Warning → List Warning → List ℕ → Type 0
-AreLookLines warnings harmless notes text =
-    (warned : List ℕ) × (calm : List ℕ) × (guesses : List ℕ)
-    × AreLinesBy warning_line warnings warned × AreLinesBy (note_line false) harmless calm
-    × AreLinesBy (note_line true) notes guesses × (text ≡ warned ++ (calm ++ guesses))
-
--- those of these warnings, whatever is harmless or noted
-abbrev pub AreLookLinesOf : List Warning → List ℕ → Type 0
-AreLookLinesOf warnings text = (harmless : List Warning) × (notes : List Warning)
-    × AreLookLines warnings harmless notes text
+unfoldable pub look_lines : List Said → List Said → List Said → List ℕ
+look_lines warnings harmless notes = flat_map warning_line warnings
+    ++ flat_map (note_line false) harmless ++ flat_map (note_line true) notes

@@ -2,17 +2,20 @@
 //! words: the files, the segments with where each comes from, and the explanation of a fault.
 #![tactic(auto)]
 
-mod findings;
+mod finding;
+mod inspection;
 mod json;
+mod kept;
 mod lines;
 mod looks;
 mod names;
-mod printing;
+mod printed;
 mod report;
 mod verdict;
 mod without_host;
 
-pub use printing::{PrintError, Printing, write_check};
+pub use finding::Finding;
+pub use printed::{PrintedLooks, PrintedReport};
 pub use ps_filetype::Oddity;
 pub use ps_warnings::{Look, Warning, WarningAt};
 pub use report::{Report, check};

@@ -3,8 +3,7 @@ ghost use Rattle.std.specs.Prelude.{◌≡◌};
 ghost use Rattle.ps_report.specs.Verdicts.{verdict_name as verdict_name_spec};
 
 use crate::verdict::Verdict;
-use ps_named::fault_name_in;
-use ps_resolve::Reading;
+use ps_resolve::{Reading, fault_name_in};
 use ps_words::Name;
 
 /// The name of what the fault of a verdict on files that were read is about.

@@ -1,13 +1,14 @@
 //! The lists of files of which none has a host program.
-ghost use Rattle.std.specs.Prelude.{◌≡◌, ◌∷◌, [], IfOk, false, map, string_bytes, true};
+ghost use Rattle.std.specs.Prelude.{◌≡◌, ◌∷◌, [], IfOk, false, string_bytes, true};
 ghost use Rattle.ps_resolve.specs.Sources.{contents};
-ghost use Rattle.ps_listing.specs.FileLists.{AreLists};
+ghost use Rattle.ps_listing.specs.FileLists.{IsList};
+ghost use Rattle.ps_listing.specs.declared.lists.ListForm.TheVariants.{Lines};
 ghost use Rattle.ps_report.specs.Lists.{is_no_host as is_no_host_spec, is_no_host_reason as is_no_host_reason_spec, lacks_host as lacks_host_spec};
 
+use crate::kept::string_of;
 use crate::verdict::Verdict;
-use ps_listing::{has_host_among, lists_of};
+use ps_listing::{ListForm, Lists, has_host_among};
 use ps_words::Reason;
-use ps_writing::Counts;
 use std::alloc::{AllocError, Allocator};
 
 /// This is why the first file is no host.
@@ -38,27 +39,23 @@ fn lacks_host(verdict: Verdict, libs: &[&[u8]]) -> bool
 }
 
 /// The list of each file, one after another, where none of them has a host program; else no line.
-pub(crate) fn lists_without_host<A: Allocator + Copy>(
+pub(crate) fn lists_without_host<'a, A: Allocator + Copy>(
     alloc: A,
     verdict: Verdict,
-    host_path: &str,
-    paths: &[&str],
-    host: &[u8],
-    libs: &[&[u8]],
+    host_path: &'a str,
+    paths: &[&'a str],
+    host: &'a [u8],
+    libs: &[&'a [u8]],
 ) -> Result<String<A>, AllocError>
     ensures lists { IfOk result (λ lists. lacks_host_spec verdict (contents libs.now) ≡ true
-        → AreLists (host_path.now ∷ map (λ path. path.now) paths.now)
-        (host.now ∷ contents libs.now) (string_bytes lists)) }
+        → IsList Lines (host_path.now ∷ contents paths.now) (host.now ∷ contents libs.now)
+        (string_bytes lists)) }
     ensures none { IfOk result (λ lists. lacks_host_spec verdict (contents libs.now) ≡ false
         → string_bytes lists ≡ []) }
 {
     if !lacks_host(verdict, libs) {
         return Ok(String::new(alloc));
     }
-    let lists = lists_of(alloc, host_path, paths, host, libs)?;
-    // Paths and phrases are UTF-8, and names are shown in ASCII, so this is never an error.
-    match String::from_utf8(lists) {
-        Ok(lists) => Ok(lists),
-        Err(_) => Err(AllocError),
-    }
+    let lists = Lists::of(alloc, ListForm::Lines, host_path, paths, host, libs)?;
+    string_of(alloc, &lists)
 }

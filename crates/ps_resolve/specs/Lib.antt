@@ -22,6 +22,7 @@ pub mod Builders
 pub mod Origins
 pub mod Causes
 pub use Rattle.ps_reading.specs.Added
+pub use Rattle.ps_reading.specs.FaultNames
 pub use Rattle.ps_reading.specs.KnownSegments
 pub use Rattle.ps_reading.specs.OfLink
 pub use Rattle.ps_reading.specs.Readings

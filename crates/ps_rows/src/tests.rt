@@ -7,6 +7,7 @@ mod changed_bytes;
 mod cuts;
 mod dictionary;
 mod entries;
+mod failing_texts;
 mod host_faults;
 mod in_place;
 mod in_place_faults;

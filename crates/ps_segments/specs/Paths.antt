@@ -5,12 +5,12 @@ use Rattle.std.specs.Option.{option_map_or}
 use Rattle.std.specs.Result.{result_ok}
 use Rattle.ps_codefile.specs.Dictionary.{opened_alone}
 use Rattle.ps_resolve.specs.Sources.{contents}
-use Rattle.ps_segments.specs.declared.inputs.Inputs.{Inputs}
+use Rattle.ps_segments.specs.declared.named_files.NamedFiles.{NamedFiles}
 use Rattle.ps_words.specs.declared.order.Order.{Order}
 use Rattle.ps_words.specs.declared.order.Order.TheVariants.{Little}
 
 -- the paths of all files, the host first
-abbrev pub paths_in : Inputs → List (List ℕ)
+abbrev pub paths_in : NamedFiles → List (List ℕ)
 paths_in i = i.host_path.now ∷ contents i.paths.now
 
 -- the path of a file: that of the host, or of the k-th library

@@ -11,7 +11,7 @@ ghost use Rattle.ps_segments.specs.SegmentParts.{is_added as is_added_spec, is_u
 ghost use Rattle.ps_segments.specs.Seen.{is_host_part, part_needs_linking, seen};
 ghost use Rattle.ps_segments.specs.SeenSegments.{is_for_unit as is_for_unit_spec, is_of_host as is_of_host_spec, is_unit_of as is_unit_of_spec, name_by as name_by_spec, name_in as name_in_spec, origin_in, origin_of, part_by, part_in as part_in_spec, part_of_role, read_entry, reading_in, records_at, request_in, role_in, seen_by, seen_in, seen_of, seen_unit, seen_with, slot_origin, taken_of, takes_slot as takes_slot_spec};
 
-use crate::inputs::Inputs;
+use crate::named_files::NamedFiles;
 use ps_codefile::dictionary_layout::SLOTS;
 use ps_codefile::{Dict, Entry, Role};
 use ps_filetype::ShownName;
@@ -185,7 +185,7 @@ fn of_entry<'a>(
 
 /// A segment that comes from an entry of a file, which can be read or not.
 fn read_at<'a>(
-    inputs: &Inputs<'a>,
+    inputs: &NamedFiles<'a>,
     slot: u8,
     name: Name,
     part: SegmentPart,
@@ -205,7 +205,7 @@ fn read_at<'a>(
 /// A segment that comes from an entry of a file, if there is such an entry.
 #[tactic(auto, unfolding(crate::specs::SeenSegments::origin_of))]
 fn read_from<'a>(
-    inputs: &Inputs<'a>,
+    inputs: &NamedFiles<'a>,
     slot: u8,
     name: Name,
     part: SegmentPart,
@@ -366,7 +366,7 @@ fn reason_in(host: &HostReading<'_>, slot: u8) -> Reason
 
 /// The segment of a slot that is such a one.
 fn segment_as<'a>(
-    inputs: &Inputs<'a>,
+    inputs: &NamedFiles<'a>,
     host: &HostReading<'a>,
     slot: u8,
     part: SegmentPart,
@@ -383,7 +383,11 @@ fn segment_as<'a>(
 }
 
 /// The segment of a slot; none where there is none.
-fn segment_in<'a>(inputs: &Inputs<'a>, host: &HostReading<'a>, slot: u8) -> Option<ReadSegment<'a>>
+fn segment_in<'a>(
+    inputs: &NamedFiles<'a>,
+    host: &HostReading<'a>,
+    slot: u8,
+) -> Option<ReadSegment<'a>>
     requires { slot < SLOTS }
     ensures { option_map seen result ≡ seen_in inputs.now.host.now
         (contents inputs.now.libs.now) host.now slot }
@@ -452,7 +456,7 @@ pub fn host_of<'a>(list: &[ReadSegment<'a>]) -> Option<ReadSegment<'a>>
 /// Source: this project's profile.
 pub fn segments_of<'a, A: Allocator + Copy>(
     alloc: A,
-    inputs: &Inputs<'a>,
+    inputs: &NamedFiles<'a>,
     reading: &Reading<'a>,
 ) -> Result<Vec<ReadSegment<'a>, A>, AllocError>
     ensures { IfOk result (λ list. map seen list.items ≡ seen_by inputs.now.host.now
@@ -467,7 +471,7 @@ pub fn segments_of<'a, A: Allocator + Copy>(
 /// So of a host that was read.
 fn segments_in<'a, A: Allocator + Copy>(
     alloc: A,
-    inputs: &Inputs<'a>,
+    inputs: &NamedFiles<'a>,
     host: &HostReading<'a>,
 ) -> Result<Vec<ReadSegment<'a>, A>, AllocError>
     ensures { IfOk result (λ list. map seen list.items ≡ seen_of inputs.now.host.now
@@ -518,7 +522,7 @@ fn push_segment<'a, A: Allocator>(
 /// The segments that have slots.
 fn segments_in_slots<'a, A: Allocator + Copy>(
     alloc: A,
-    inputs: &Inputs<'a>,
+    inputs: &NamedFiles<'a>,
     host: &HostReading<'a>,
 ) -> Result<Vec<ReadSegment<'a>, A>, AllocError>
     ensures { IfOk result (λ list. map seen list.items ≡ filter_map (seen_in inputs.now.host.now

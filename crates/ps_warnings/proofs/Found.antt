@@ -5,7 +5,7 @@ use Rattle.std.specs.List.{enumerate_from, filter, flat_map, range_with_len}
 use Rattle.std.proofs.lemmas.List.{drop_all, map-append}
 use Rattle.std.proofs.lemmas.List.Elements.{filter-append}
 use Rattle.ps_warnings.specs.Found.{Adds, LinkLooks, LookAt, is_about_link, is_harmless, is_harmless_look, is_warned, link_looks, link_looks_in, look_at, sorted, told}
-use Rattle.ps_warnings.specs.Weights.{IsWeight}
+use Rattle.ps_warnings.specs.Weights.{weight_of}
 use Rattle.ps_warnings.specs.declared.warnings.Look.{Look}
 use Rattle.ps_warnings.specs.declared.warnings.Look.TheVariants as which
 use Rattle.ps_warnings.specs.declared.warnings.RecordLook.TheVariants as said
@@ -18,6 +18,7 @@ pub adds_none : (l : LinkLooks) → Adds l [] l
 adds_none l = record {
   warnings = sym (append-nil l.warnings);
   harmless = sym (append-nil l.harmless);
+  notes = refl;
 }
 
 -- more of a list that was begun
@@ -32,6 +33,7 @@ pub adds_both : {a b c : LinkLooks} {f g : List LookAt} → Adds a f b → Adds 
 adds_both {a = a} {b = b} {c = c} {f = f} {g = g} h k = record {
   warnings = joined is_warned a.warnings b.warnings c.warnings f g h.warnings k.warnings;
   harmless = joined is_harmless a.harmless b.harmless c.harmless f g h.harmless k.harmless;
+  notes = k.notes ∙ h.notes;
 }
 
 pub adds_is : {a b : LinkLooks} {f g : List LookAt} → f ≡ g → Adds a f b → Adds a g b
@@ -46,15 +48,15 @@ then_none {f = f} h k = adds_is (append-nil f) (adds_both h k)
 
 -- what is added to nothing is all that there is
 pub only_added : (found : List LookAt) (new : LinkLooks)
-    → Adds (record { warnings = []; harmless = [] }) found new → new ≡ sorted found
-only_added found new is = λ i. record { warnings = is.warnings i; harmless = is.harmless i }
+    → Adds (record { warnings = []; harmless = []; notes = [] }) found new → new ≡ sorted found
+only_added found new is = λ i. record { warnings = is.warnings i; harmless = is.harmless i; notes = is.notes i }
 
 -- so where there was no warning yet
-pub only_found : (ws hs : List Warning) (found : List LookAt) (new : LinkLooks) → ws ≡ []
-    → hs ≡ [] → Adds (link_looks ws hs) found new → new ≡ sorted found
+pub only_found : (ws hs ns : List Warning) (found : List LookAt) (new : LinkLooks) → ws ≡ []
+    → hs ≡ [] → ns ≡ [] → Adds (link_looks ws hs ns) found new → new ≡ sorted found
 unfolding link_looks_in
-only_found ws hs found new w h is =
-    only_added found new (rw (w, h) at is)
+only_found ws hs ns found new w h n is =
+    only_added found new (rw (w, h, n) at is)
 
 -- of all these looks, those that are left are still to be added
 pub record Owes (old : LinkLooks) (all left : List LookAt) (new : LinkLooks) : Type 0 where
@@ -123,74 +125,87 @@ more_in ws place l = ap (filter (λ (x : LookAt). is_about_link x.look))
     (told (record { place = place; look = l }) ∷ [])
 
 -- what a push adds to the notes, to what is harmless, and to the warnings
-pub pushed_note : (place : WarningAt) (l : Look) (ws hs : List Warning) → IsWeight l weight.Note
-    → Adds (link_looks ws hs) (look_at place.path.now place.segment place.rec l)
-    (link_looks ws hs)
-pushed_note place (which.Entry e) ws hs h = absurd (cc)
-pushed_note place (which.Link e) ws hs h = absurd (cc)
-pushed_note place (which.Record (said.UnitDefinition n)) ws hs h = absurd (cc)
-pushed_note place (which.Record (said.OwnDefinition n)) ws hs h = absurd (cc)
-pushed_note place (which.Record (said.PastPrivate a b c)) ws hs h = absurd (cc)
-pushed_note place (which.Record (said.LowMark a b)) ws hs h = absurd (cc)
-pushed_note place (which.Record (said.HighDefinition a b c)) ws hs h = absurd (cc)
-pushed_note place (which.Other e) ws hs h = adds_none (link_looks ws hs)
+pub pushed_note : (place : WarningAt) (l : Look) (ws hs ns : List Warning) → weight.Note ≡ weight_of l
+    → Adds (link_looks ws hs ns) (look_at place.path.now place.segment place.rec l)
+    (link_looks ws hs (ns ++ record { place = place; look = l } ∷ []))
+pushed_note place (which.Entry e) ws hs ns h = absurd (cc)
+pushed_note place (which.Link e) ws hs ns h = absurd (cc)
+pushed_note place (which.Record (said.UnitDefinition n)) ws hs ns h = absurd (cc)
+pushed_note place (which.Record (said.OwnDefinition n)) ws hs ns h = absurd (cc)
+pushed_note place (which.Record (said.PastPrivate a b c)) ws hs ns h = absurd (cc)
+pushed_note place (which.Record (said.LowMark a b)) ws hs ns h = absurd (cc)
+pushed_note place (which.Record (said.HighDefinition a b c)) ws hs ns h = absurd (cc)
+pushed_note place (which.Other e) ws hs ns h = record {
+  warnings = sym (append-nil (link_looks_in ws));
+  harmless = sym (append-nil (link_looks_in hs));
+  notes = more_in ns place (which.Other e) ∙ append-nil (link_looks_in ns);
+}
 
-pub pushed_harmless : (place : WarningAt) (l : Look) (ws hs : List Warning)
-    → IsWeight l weight.Harmless
-    → Adds (link_looks ws hs) (look_at place.path.now place.segment place.rec l)
-    (link_looks ws (hs ++ record { place = place; look = l } ∷ []))
-pushed_harmless place (which.Entry e) ws hs h = absurd (cc)
-pushed_harmless place (which.Link e) ws hs h = absurd (cc)
-pushed_harmless place (which.Record (said.UnitDefinition n)) ws hs h = record {
+pub pushed_harmless : (place : WarningAt) (l : Look) (ws hs ns : List Warning)
+    → weight.Harmless ≡ weight_of l
+    → Adds (link_looks ws hs ns) (look_at place.path.now place.segment place.rec l)
+    (link_looks ws (hs ++ record { place = place; look = l } ∷ []) ns)
+pushed_harmless place (which.Entry e) ws hs ns h = absurd (cc)
+pushed_harmless place (which.Link e) ws hs ns h = absurd (cc)
+pushed_harmless place (which.Record (said.UnitDefinition n)) ws hs ns h = record {
   warnings = sym (append-nil (link_looks_in ws));
   harmless = more_in hs place (which.Record (said.UnitDefinition n));
+  notes = refl;
 }
-pushed_harmless place (which.Record (said.OwnDefinition n)) ws hs h = absurd (cc)
-pushed_harmless place (which.Record (said.PastPrivate a b c)) ws hs h = absurd (cc)
-pushed_harmless place (which.Record (said.LowMark a b)) ws hs h = absurd (cc)
-pushed_harmless place (which.Record (said.HighDefinition a b c)) ws hs h = absurd (cc)
-pushed_harmless place (which.Other e) ws hs h = record {
+pushed_harmless place (which.Record (said.OwnDefinition n)) ws hs ns h = absurd (cc)
+pushed_harmless place (which.Record (said.PastPrivate a b c)) ws hs ns h = absurd (cc)
+pushed_harmless place (which.Record (said.LowMark a b)) ws hs ns h = absurd (cc)
+pushed_harmless place (which.Record (said.HighDefinition a b c)) ws hs ns h = absurd (cc)
+pushed_harmless place (which.Other e) ws hs ns h = record {
   warnings = sym (append-nil (link_looks_in ws));
   harmless = more_in hs place (which.Other e);
+  notes = refl;
 }
 
 -- a look that is not harmless is a warning
-warned : (place : WarningAt) (l : Look) (ws hs : List Warning) → is_harmless_look l ≡ false
-    → Adds (link_looks ws hs) (look_at place.path.now place.segment place.rec l)
-    (link_looks (ws ++ record { place = place; look = l } ∷ []) hs)
-warned place (which.Entry e) ws hs h = record {
+warned : (place : WarningAt) (l : Look) (ws hs ns : List Warning) → is_harmless_look l ≡ false
+    → Adds (link_looks ws hs ns) (look_at place.path.now place.segment place.rec l)
+    (link_looks (ws ++ record { place = place; look = l } ∷ []) hs ns)
+warned place (which.Entry e) ws hs ns h = record {
   warnings = more_in ws place (which.Entry e);
   harmless = sym (append-nil (link_looks_in hs));
+  notes = refl;
 }
-warned place (which.Link e) ws hs h = record {
+warned place (which.Link e) ws hs ns h = record {
   warnings = more_in ws place (which.Link e);
   harmless = sym (append-nil (link_looks_in hs));
+  notes = refl;
 }
-warned place (which.Other e) ws hs h = record {
+warned place (which.Other e) ws hs ns h = record {
   warnings = more_in ws place (which.Other e);
   harmless = sym (append-nil (link_looks_in hs));
+  notes = refl;
 }
-warned place (which.Record (said.UnitDefinition n)) ws hs h = absurd (cc)
-warned place (which.Record (said.OwnDefinition n)) ws hs h = record {
+warned place (which.Record (said.UnitDefinition n)) ws hs ns h = absurd (cc)
+warned place (which.Record (said.OwnDefinition n)) ws hs ns h = record {
   warnings = more_in ws place (which.Record (said.OwnDefinition n));
   harmless = sym (append-nil (link_looks_in hs));
+  notes = refl;
 }
-warned place (which.Record (said.PastPrivate a b c)) ws hs h = record {
+warned place (which.Record (said.PastPrivate a b c)) ws hs ns h = record {
   warnings = more_in ws place (which.Record (said.PastPrivate a b c));
   harmless = sym (append-nil (link_looks_in hs));
+  notes = refl;
 }
-warned place (which.Record (said.LowMark a b)) ws hs h = record {
+warned place (which.Record (said.LowMark a b)) ws hs ns h = record {
   warnings = more_in ws place (which.Record (said.LowMark a b));
   harmless = sym (append-nil (link_looks_in hs));
+  notes = refl;
 }
-warned place (which.Record (said.HighDefinition a b c)) ws hs h = record {
+warned place (which.Record (said.HighDefinition a b c)) ws hs ns h = record {
   warnings = more_in ws place (which.Record (said.HighDefinition a b c));
   harmless = sym (append-nil (link_looks_in hs));
+  notes = refl;
 }
 
 -- a definition that has no effect is harmless, and no other record
 weighed : (l : Look) (w : Weight) → (w ≡ weight.Look) ⊎ (w ≡ weight.Damaged)
-    → IsWeight l w → is_harmless_look l ≡ false
+    → w ≡ weight_of l → is_harmless_look l ≡ false
 weighed (which.Entry e) w h is = refl
 weighed (which.Link e) w h is = refl
 weighed (which.Other e) w h is = refl
@@ -201,8 +216,8 @@ weighed (which.Record (said.PastPrivate a b c)) w h is = refl
 weighed (which.Record (said.LowMark a b)) w h is = refl
 weighed (which.Record (said.HighDefinition a b c)) w h is = refl
 
-pub pushed_warning : (place : WarningAt) (l : Look) (w : Weight) (ws hs : List Warning)
-    → (w ≡ weight.Look) ⊎ (w ≡ weight.Damaged) → IsWeight l w
-    → Adds (link_looks ws hs) (look_at place.path.now place.segment place.rec l)
-    (link_looks (ws ++ record { place = place; look = l } ∷ []) hs)
-pushed_warning place l w ws hs h is = warned place l ws hs (weighed l w h is)
+pub pushed_warning : (place : WarningAt) (l : Look) (w : Weight) (ws hs ns : List Warning)
+    → (w ≡ weight.Look) ⊎ (w ≡ weight.Damaged) → w ≡ weight_of l
+    → Adds (link_looks ws hs ns) (look_at place.path.now place.segment place.rec l)
+    (link_looks (ws ++ record { place = place; look = l } ∷ []) hs ns)
+pushed_warning place l w ws hs ns h is = warned place l ws hs ns (weighed l w h is)

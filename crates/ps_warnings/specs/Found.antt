@@ -2,6 +2,7 @@
 -- Source: this project's profile.
 use Rattle.std.specs.Prelude.{◌≡◌, ℕ, not, if◌then◌else◌, List, [], ◌∷◌, ◌++◌, map, Bool, true, false, Option, Some, None}
 use Rattle.std.specs.List.{filter}
+use Rattle.ps_warnings.specs.declared.looks.Looks.{Looks}
 use Rattle.ps_warnings.specs.declared.warnings.Look.{Look}
 use Rattle.ps_warnings.specs.declared.warnings.Look.TheVariants as which
 use Rattle.ps_warnings.specs.declared.warnings.RecordLook.{RecordLook}
@@ -51,23 +52,31 @@ is_harmless l = is_harmless_look l.look
 abbrev pub is_warned : LookAt → Bool
 is_warned l = not (is_harmless l)
 
--- the looks about the link, by whether they are warnings or harmless, each in their order
+-- the looks about the link, by whether they are warnings, harmless or notes, each in their order
 pub record LinkLooks : Type 0 where
   pub warnings : List LookAt
   pub harmless : List LookAt
+  pub notes : List LookAt
 
--- the looks about the link, among warnings and among what is harmless
-abbrev pub link_looks : List Warning → List Warning → LinkLooks
-link_looks ws hs = record { warnings = link_looks_in ws; harmless = link_looks_in hs }
+-- the looks about the link, among warnings, among what is harmless and among notes
+abbrev pub link_looks : List Warning → List Warning → List Warning → LinkLooks
+link_looks ws hs ns = record
+    { warnings = link_looks_in ws; harmless = link_looks_in hs; notes = link_looks_in ns }
 
--- these looks, by whether they are warnings or harmless
+-- those among all that looks wrong
+abbrev pub about_link : {A : Type 0} → Looks A → LinkLooks
+about_link l = link_looks l.warnings.items l.harmless.items l.notes.items
+
+-- these looks, by whether they are warnings or harmless; none of them is a note
 abbrev pub sorted : List LookAt → LinkLooks
-sorted found = record { warnings = filter is_warned found; harmless = filter is_harmless found }
+sorted found = record
+    { warnings = filter is_warned found; harmless = filter is_harmless found; notes = [] }
 
 -- these looks about the link are added, in their order, and no others
 pub record Adds (old : LinkLooks) (found : List LookAt) (new : LinkLooks) : Type 0 where
   pub warnings : new.warnings ≡ old.warnings ++ (sorted found).warnings
   pub harmless : new.harmless ≡ old.harmless ++ (sorted found).harmless
+  pub notes : new.notes ≡ old.notes
 
 -- a look at a place, if it is about the link
 abbrev pub look_at : List ℕ → Option (List ℕ) → Option ℕ → Look → List LookAt

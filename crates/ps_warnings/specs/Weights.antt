@@ -1,8 +1,16 @@
--- The weight of a look about the link, and the word for a weight.
+-- How much a look weighs, and the word for a weight.
 -- Source: this project's profile.
-use Rattle.std.specs.Prelude.{◌≡◌, ⊤, ℕ, List, codes}
-use Rattle.ps_warnings.specs.declared.warnings.EntryLook.{EntryLook}
-use Rattle.ps_warnings.specs.declared.warnings.LinkLook.{LinkLook}
+use Rattle.std.specs.Prelude.{ℕ, List, codes}
+use Rattle.ps_segments.specs.declared.looks.CodeLook.{CodeLook}
+use Rattle.ps_segments.specs.declared.looks.Guess.{Guess}
+use Rattle.ps_segments.specs.declared.looks.ProcedureLook.{ProcedureLook}
+use Rattle.ps_segments.specs.declared.looks.ProcedureLook.TheVariants as procedure
+use Rattle.ps_warnings.specs.declared.warnings.DictionaryLook.{DictionaryLook}
+use Rattle.ps_warnings.specs.declared.warnings.DictionaryLook.TheVariants as dictionary
+use Rattle.ps_warnings.specs.declared.warnings.FileLook.{FileLook}
+use Rattle.ps_warnings.specs.declared.warnings.FileLook.TheVariants as file
+use Rattle.ps_warnings.specs.declared.warnings.OtherLook.{OtherLook}
+use Rattle.ps_warnings.specs.declared.warnings.OtherLook.TheVariants as other
 use Rattle.ps_warnings.specs.declared.warnings.RecordLook.{RecordLook}
 use Rattle.ps_warnings.specs.declared.warnings.RecordLook.TheVariants as rec
 use Rattle.ps_warnings.specs.declared.warnings.Look.{Look as AnyLook}
@@ -17,13 +25,6 @@ weight_word Harmless = codes "harmless"
 weight_word Look = codes "look"
 weight_word Damaged = codes "damaged"
 
--- what looks wrong in an entry, and in the link as a whole
-abbrev pub entry_weight : EntryLook → Weight
-entry_weight l = Look
-
-abbrev pub link_weight : LinkLook → Weight
-link_weight l = Look
-
 -- a unit's definition that has no effect is harmless, and what else looks wrong in a record is not
 abbrev pub record_weight : RecordLook → Weight
 record_weight (rec.UnitDefinition name) = Harmless
@@ -32,9 +33,39 @@ record_weight (rec.PastPrivate place displacement words) = Look
 record_weight (rec.LowMark next size) = Look
 record_weight (rec.HighDefinition name value next) = Look
 
--- a look weighs so much, if it is about the link
-abbrev pub IsWeight : AnyLook → Weight → Type 0
-IsWeight (look.Entry l) w = w ≡ entry_weight l
-IsWeight (look.Record l) w = w ≡ record_weight l
-IsWeight (look.Link l) w = w ≡ link_weight l
-IsWeight (look.Other l) w = ⊤
+-- what looks wrong in a file, and in a dictionary
+abbrev pub file_weight : FileLook → Weight
+file_weight (file.NoCodeFile file_type) = Look
+file_weight (file.Padded bytes) = Harmless
+file_weight (file.Doubled start end) = Damaged
+file_weight (file.Converted line_ends) = Damaged
+
+abbrev pub dictionary_weight : DictionaryLook → Weight
+dictionary_weight (dictionary.DeadTail start end byte) = Damaged
+dictionary_weight (dictionary.FullTail bytes) = Look
+dictionary_weight (dictionary.NoName slot) = Look
+dictionary_weight (dictionary.MachineType slot machine version) = Look
+dictionary_weight (dictionary.IntrinsicKind slot kind) = Harmless
+
+-- what looks wrong in the procedures of a code
+abbrev pub procedure_weight : ProcedureLook → Weight
+procedure_weight (procedure.OtherProcedure number found) = Damaged
+procedure_weight (procedure.OutsideCode number) = Damaged
+procedure_weight procedure.LostTables = Damaged
+procedure_weight procedure.LinkedWithRecords = Look
+
+-- a look that is not about the link
+abbrev pub other_weight : OtherLook → Weight
+other_weight (other.File l) = file_weight l
+other_weight (other.Dictionary l) = dictionary_weight l
+other_weight (other.Segment l) = Look
+other_weight (other.Code l) = Damaged
+other_weight (other.Procedure l) = procedure_weight l
+other_weight (other.Guess l) = Note
+
+-- how much a look weighs
+abbrev pub weight_of : AnyLook → Weight
+weight_of (look.Entry l) = Look
+weight_of (look.Record l) = record_weight l
+weight_of (look.Link l) = Look
+weight_of (look.Other l) = other_weight l

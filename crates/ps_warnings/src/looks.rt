@@ -4,7 +4,7 @@ ghost use Rattle.std.specs.List.{enumerate_from, flat_map};
 ghost use Rattle.std.specs.Option.{option_map};
 ghost use Rattle.ps_resolve.specs.Sources.{contents};
 ghost use Rattle.ps_warnings.specs.AllLooks.{all_looks, link_looks_of, looks_of_file, looks_of_files};
-ghost use Rattle.ps_warnings.specs.Found.{Adds, found_at, found_in_record, link_looks, look_at, sorted};
+ghost use Rattle.ps_warnings.specs.Found.{Adds, found_at, found_in_record, about_link, look_at, sorted};
 ghost use Rattle.ps_segments.specs.Paths.{host_order, paths_in};
 ghost use Rattle.ps_segments.specs.Seen.{host_records, seen};
 
@@ -20,14 +20,14 @@ mod records;
 use crate::warnings::{Look, OtherLook, Warning, WarningAt};
 use crate::weight::Weight;
 use ps_linkinfo::LinkInformation;
-use ps_segments::{Guess, Inputs, ReadSegment, host_of, in_slot};
+use ps_segments::{Guess, NamedFiles, ReadSegment, host_of, in_slot};
 use ps_words::Fault;
 use std::alloc::{AllocError, Allocator};
 
 /// What is looked at, and what a report says of it already.
 #[derive(Clone, Copy)]
 struct Context<'c, 'a> {
-    inputs: &'c Inputs<'a>,
+    inputs: &'c NamedFiles<'a>,
     list: &'c [ReadSegment<'a>],
     /// The fault that the report explains.
     fault: Option<Fault>,
@@ -88,10 +88,10 @@ fn add_to<'a, A: Allocator>(
 impl<'a, A: Allocator> Looks<'a, A> {
     /// Adds what looks wrong by its weight.
     fn push(&mut self, warning: Warning<'a>) -> Result<(), AllocError>
-        ensures { OnOk result (Adds (link_looks self.old.warnings.items self.old.harmless.items)
+        ensures { OnOk result (Adds (about_link self.old)
             (look_at warning.entry.place.path.now warning.entry.place.segment
             warning.entry.place.rec warning.entry.look)
-            (link_looks self.new.warnings.items self.new.harmless.items)) }
+            (about_link self.new)) }
     {
         match warning.look.weight() {
             Weight::Note => add_to(&mut self.notes, warning),
@@ -103,9 +103,9 @@ impl<'a, A: Allocator> Looks<'a, A> {
 
     /// Adds what looks wrong at a place, if anything does.
     fn add(&mut self, place: WarningAt<'a>, found: Option<Look>) -> Result<(), AllocError>
-        ensures { OnOk result (Adds (link_looks self.old.warnings.items self.old.harmless.items)
+        ensures { OnOk result (Adds (about_link self.old)
             (found_at place.entry.path.now place.entry.segment place.entry.rec found)
-            (link_looks self.new.warnings.items self.new.harmless.items)) }
+            (about_link self.new)) }
     {
         match found {
             None => Ok(()),
@@ -119,9 +119,9 @@ impl<'a, A: Allocator> Looks<'a, A> {
         place: WarningAt<'a>,
         found: Option<(usize, Look)>,
     ) -> Result<(), AllocError>
-        ensures { OnOk result (Adds (link_looks self.old.warnings.items self.old.harmless.items)
+        ensures { OnOk result (Adds (about_link self.old)
             (found_in_record place.entry.path.now place.entry.segment found)
-            (link_looks self.new.warnings.items self.new.harmless.items)) }
+            (about_link self.new)) }
     {
         match found {
             None => Ok(()),
@@ -141,8 +141,8 @@ impl<'a, A: Allocator> Looks<'a, A> {
         place: WarningAt<'a>,
         found: Option<OtherLook>,
     ) -> Result<(), AllocError>
-        ensures { OnOk result (Adds (link_looks self.old.warnings.items self.old.harmless.items)
-            [] (link_looks self.new.warnings.items self.new.harmless.items)) }
+        ensures { OnOk result (Adds (about_link self.old)
+            [] (about_link self.new)) }
     {
         match found {
             None => Ok(()),
@@ -159,8 +159,8 @@ impl<'a, A: Allocator> Looks<'a, A> {
         place: WarningAt<'a>,
         found: Option<(usize, OtherLook)>,
     ) -> Result<(), AllocError>
-        ensures { OnOk result (Adds (link_looks self.old.warnings.items self.old.harmless.items)
-            [] (link_looks self.new.warnings.items self.new.harmless.items)) }
+        ensures { OnOk result (Adds (about_link self.old)
+            [] (about_link self.new)) }
     {
         match found {
             None => Ok(()),
@@ -177,8 +177,8 @@ impl<'a, A: Allocator> Looks<'a, A> {
         place: WarningAt<'a>,
         found: Option<(usize, Guess)>,
     ) -> Result<(), AllocError>
-        ensures { OnOk result (Adds (link_looks self.old.warnings.items self.old.harmless.items)
-            [] (link_looks self.new.warnings.items self.new.harmless.items)) }
+        ensures { OnOk result (Adds (about_link self.old)
+            [] (about_link self.new)) }
     {
         match found {
             None => Ok(()),
@@ -195,8 +195,8 @@ impl<'a, A: Allocator> Looks<'a, A> {
         place: WarningAt<'a>,
         found: &[Option<OtherLook>],
     ) -> Result<(), AllocError>
-        ensures { OnOk result (Adds (link_looks self.old.warnings.items self.old.harmless.items)
-            [] (link_looks self.new.warnings.items self.new.harmless.items)) }
+        ensures { OnOk result (Adds (about_link self.old)
+            [] (about_link self.new)) }
     {
         for look in found {
             self.add_other(place, *look)?;
@@ -224,11 +224,11 @@ fn in_file(path: &str) -> WarningAt<'_> {
 /// Source: this project's profile.
 pub fn looks_of<'a, A: Allocator + Copy>(
     alloc: A,
-    inputs: &Inputs<'a>,
+    inputs: &NamedFiles<'a>,
     list: &[ReadSegment<'a>],
     fault: Option<Fault>,
 ) -> Result<Looks<'a, A>, AllocError>
-    ensures { IfOk result (λ looks. link_looks looks.warnings.items looks.harmless.items
+    ensures { IfOk result (λ looks. about_link looks
         ≡ sorted (link_looks_of (paths_in inputs.now)
         inputs.now.host.now (contents inputs.now.libs.now) (map seen list.now))) }
 {
@@ -255,16 +255,16 @@ fn records_of_host<'a>(list: &[ReadSegment<'a>]) -> Option<LinkInformation<'a>>
 /// Adds all that looks wrong, where the host program of the link has these records.
 fn add_looks<'a, A: Allocator>(
     looks: &mut Looks<'a, A>,
-    inputs: &Inputs<'a>,
+    inputs: &NamedFiles<'a>,
     list: &[ReadSegment<'a>],
     host: Option<&LinkInformation<'a>>,
     fault: Option<Fault>,
 ) -> Result<(), AllocError>
-    ensures { OnOk result (Adds (link_looks looks.old.warnings.items looks.old.harmless.items)
+    ensures { OnOk result (Adds (about_link looks.old)
         (all_looks (paths_in inputs.now)
         (option_map (λ h. h.now) host.entry) inputs.now.host.now (contents inputs.now.libs.now)
         (map seen list.now))
-        (link_looks looks.new.warnings.items looks.new.harmless.items)) }
+        (about_link looks.new)) }
 {
     let context = Context {
         inputs,
@@ -282,12 +282,12 @@ fn add_of_files<'a, A: Allocator>(
     looks: &mut Looks<'a, A>,
     context: &Context<'_, 'a>,
 ) -> Result<(), AllocError>
-    ensures { OnOk result (Adds (link_looks looks.old.warnings.items looks.old.harmless.items)
+    ensures { OnOk result (Adds (about_link looks.old)
         (looks_of_files (paths_in context.now.inputs.now)
         (option_map (λ h. h.now) context.now.host) (map seen context.now.list.now)
         (host_order context.now.inputs.now.host.now)
         (context.now.inputs.now.host.now ∷ contents context.now.inputs.now.libs.now))
-        (link_looks looks.new.warnings.items looks.new.harmless.items)) }
+        (about_link looks.new)) }
 {
     files::look_at(looks, context, 0, context.inputs.host)?;
     add_of_libraries(looks, context)
@@ -298,12 +298,12 @@ fn add_of_libraries<'a, A: Allocator>(
     looks: &mut Looks<'a, A>,
     context: &Context<'_, 'a>,
 ) -> Result<(), AllocError>
-    ensures { OnOk result (Adds (link_looks looks.old.warnings.items looks.old.harmless.items)
+    ensures { OnOk result (Adds (about_link looks.old)
         (flat_map (looks_of_file (paths_in context.now.inputs.now)
         (option_map (λ h. h.now) context.now.host) (map seen context.now.list.now)
         (host_order context.now.inputs.now.host.now))
         (enumerate_from 1 (contents context.now.inputs.now.libs.now)))
-        (link_looks looks.new.warnings.items looks.new.harmless.items)) }
+        (about_link looks.new)) }
 {
     for (library, lib) in context.inputs.libs.iter().enumerate() {
         files::look_at(looks, context, library + 1, lib)?;

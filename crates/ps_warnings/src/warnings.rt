@@ -2,7 +2,10 @@
 //! which `ps_segments` has. `man/make_fault_table.py` makes the tables of warnings and of notes in
 //! USING.md from the enums of both: what each means and what to do about it is above it, and its weight
 //! is in `weight` here.
-ghost use Rattle.ps_warnings.specs.Weights.{IsWeight};
+ghost use Rattle.std.specs.Prelude.{◌≡◌, Some};
+ghost use Rattle.std.specs.Fmt.{WritesOnOk};
+ghost use Rattle.ps_warnings.specs.Places.{place_text, record_words, segment_words};
+ghost use Rattle.ps_warnings.specs.Weights.{weight_of};
 
 use crate::weight::Weight;
 use ps_filetype::{FileType, LineEnds, Oddity, ShownName, ShownPath};
@@ -327,7 +330,7 @@ impl Look {
     /// effect is harmless, and each other is a look.
     /// Source: this project's profile.
     pub fn weight(&self) -> Weight
-        ensures { IsWeight self.now result }
+        ensures { result ≡ weight_of self.now }
     {
         match *self {
             Look::Entry(_) => Weight::Look,
@@ -391,33 +394,46 @@ pub struct WarningAt<'a> {
     pub rec: Option<usize>,
 }
 
-impl fmt::Display for WarningAt<'_> {
-    fn fmt<W: fmt::Write>(&self, f: &mut Formatter<W>) -> fmt::Result {
-        write!(f, "{}", ShownPath(self.path))?;
-        if let Some(name) = self.segment {
-            write!(f, ", segment {}", ShownName(name))?;
+/// Writes the segment in which something looks wrong, if it is in one.
+fn write_segment<W: fmt::Write>(f: &mut Formatter<W>, segment: Option<Name>) -> fmt::Result
+    ensures { WritesOnOk W.write_str_gives f.old result (segment_words segment) f.new }
+{
+    match segment {
+        Some(name) => {
+            let name = ShownName(name);
+            write!(f, ", segment {name}")
         }
-        match self.rec {
-            Some(rec) => write!(f, ", record {rec}"),
-            None => Ok(()),
-        }
+        None => Ok(()),
     }
 }
 
-/// What looks wrong in the files and is no fault, and where. Its text is its weight, the place and
-/// what is said of it, as `damaged: UTIL.CODE, segment UTIL: each byte of its code is E5`.
+/// Writes the record in which something looks wrong, if it is in one.
+fn write_record<W: fmt::Write>(f: &mut Formatter<W>, rec: Option<usize>) -> fmt::Result
+    ensures { WritesOnOk W.write_str_gives f.old result (record_words rec) f.new }
+{
+    match rec {
+        Some(rec) => write!(f, ", record {rec}"),
+        None => Ok(()),
+    }
+}
+
+impl fmt::Display for WarningAt<'_> {
+    ghost output = { λ place. Some (place_text place) };
+
+    #[tactic(auto, unfolding(crate::specs::Places::place_text))]
+    fn fmt<W: fmt::Write>(&self, f: &mut Formatter<W>) -> fmt::Result {
+        let path = ShownPath(self.path);
+        write!(f, "{path}")?;
+        write_segment(f, self.segment)?;
+        write_record(f, self.rec)
+    }
+}
+
+/// What looks wrong in the files and is no fault, and where.
 ///
 /// Source: this project's profile.
 #[derive(Clone, Copy)]
 pub struct Warning<'a> {
     pub place: WarningAt<'a>,
     pub look: Look,
-}
-
-impl fmt::Display for Warning<'_> {
-    fn fmt<W: fmt::Write>(&self, f: &mut Formatter<W>) -> fmt::Result {
-        let (place, look) = (self.place, self.look);
-        let weight = look.weight();
-        write!(f, "{weight}: {place}: {look}")
-    }
 }

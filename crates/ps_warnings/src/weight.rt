@@ -1,10 +1,8 @@
 //! How much a look weighs.
-ghost use Rattle.std.specs.Prelude.{Some};
+ghost use Rattle.std.specs.Prelude.{◌≡◌};
 ghost use Rattle.ps_warnings.specs.Weights.{weight_word};
 
-use std::fmt::{self, Formatter};
-
-/// How much a look weighs: whether a link of the files goes wrong by it. Its text is one word.
+/// How much a look weighs: whether a link of the files goes wrong by it.
 ///
 /// Source: this project's profile.
 #[derive(Clone, Copy)]
@@ -19,15 +17,17 @@ pub enum Weight {
     Damaged,
 }
 
-impl fmt::Display for Weight {
-    ghost output = { λ weight. Some (weight_word weight) };
-
-    fn fmt<W: fmt::Write>(&self, f: &mut Formatter<W>) -> fmt::Result {
-        f.write_str(match self {
+impl Weight {
+    /// The word for it.
+    /// Source: this project's profile.
+    pub fn word(&self) -> &'static str
+        ensures { result.now ≡ weight_word self.now }
+    {
+        match self {
             Weight::Note => "note",
             Weight::Harmless => "harmless",
             Weight::Look => "look",
             Weight::Damaged => "damaged",
-        })
+        }
     }
 }

@@ -1,9 +1,8 @@
 -- Text that is gathered in front of a writer, and sent to it.
-use Rattle.std.proofs.Common.{arith, ◌≡◌, ℕ, List, [], ◌++◌, true, false, Option, Some, None, append_assoc, append-nil, sym, ◌∙◌, ap}
+use Rattle.std.proofs.Common.{arith, ◌≡◌, ℕ, List, [], ◌++◌, true, false, Option, Some, None, append_assoc, append-nil, sym}
 use Rattle.ps_writing.proofs.Vocabulary.{is_some, Appends, AppendsPrefix, WriteFault}
-use Rattle.ps_writing.specs.Counts.{Failures, failures_with}
 use Rattle.std.proofs.lemmas.Bool.{false≢true}
-use Rattle.ps_writing.specs.Adding.{IsCounted, IsSent, IsKept}
+use Rattle.ps_writing.specs.Adding.{IsSent, IsKept}
 use Rattle.ps_writing.proofs.Prefixes.{appends_none, appends_twice, prefix_last, prefix_then}
 
 -- of what was gathered and of these bytes, some was sent, and the rest is gathered
@@ -67,20 +66,6 @@ module _ (old new : Option (List ℕ)) (gathered bytes rest : List ℕ) where
   -- where nothing is sent, all is gathered
   pub sends_none : new ≡ old → rest ≡ gathered ++ bytes → Sends old new gathered bytes rest
   sends_none same e = rw same ([], appends_none old, e)
-
-module _ (first old new : Failures) where
-  -- where no write had failed, and none did or one does
-  pub counted_after : (before after : Option WriteFault) → is_some before ≡ false
-      → IsCounted first old before → IsCounted old new after → IsCounted first new after
-  counted_after None None e h k = k ∙ h
-  counted_after None (Some fault) e h k = k ∙ ap (λ failures. failures_with fault failures) h
-  counted_after (Some before) after e h k = absurd (false≢true (sym e))
-
--- where no write has failed
-pub counted_now : (old new : Failures) (fault : Option WriteFault) → is_some fault ≡ false
-    → new ≡ old → IsCounted old new fault
-counted_now old new None e h = h
-counted_now old new (Some fault) e h = absurd (false≢true (sym e))
 
 -- where memory was refused, what is added is not kept
 pub kept_no_more : {E : Type 0} (first text now bytes : List ℕ) (error : Option E) → is_some

@@ -4,7 +4,6 @@ use Rattle.std.specs.Prelude.{◌≡◌, ℕ, List, ◌++◌, Option, Some, None
 use Rattle.std.specs.Io.KnownBytes.{Appends}
 use Rattle.ps_writing.specs.Prefixes.{AppendsPrefix}
 use Rattle.ps_writing.specs.declared.write_fault.WriteFault.{WriteFault}
-use Rattle.ps_writing.specs.Counts.{Failures, failures_with}
 
 -- The text was added between old and new. `added` says of a writer as it was at first, of a text
 -- and of a writer that it is that writer once the text was added.
@@ -20,11 +19,6 @@ abbrev pub IsSent : Option (List ℕ) → List ℕ → Option (List ℕ) → Lis
 IsSent first text now gathered None = (sent : List ℕ) × Appends first now sent
     × (sent ++ gathered ≡ text)
 IsSent first text now gathered (Some fault) = AppendsPrefix first now text
-
--- What failed at the writer at first and now: nothing more, or the one write that failed.
-abbrev pub IsCounted : Failures → Failures → Option WriteFault → Type 0
-IsCounted first now None = now ≡ first
-IsCounted first now (Some fault) = now ≡ failures_with fault first
 
 -- The text was added to what was kept at first, unless memory was refused.
 abbrev pub IsKept : {E : Type 0} → List ℕ → List ℕ → List ℕ → Option E → Type 0

@@ -3,8 +3,6 @@
 -- Source: RFC 8259; which members there are is this project's profile.
 use Rattle.std.specs.Prelude.{ℕ, ◌==◌, if◌then◌else◌, Bool, List, [], ◌∷◌, ◌++◌, codes, decimal}
 use Rattle.std.specs.List.{enumerate_from, flat_map}
-use Rattle.ps_words.specs.FaultText.{number_of, name_of}
-use Rattle.ps_words.specs.declared.fault.Reason.{Reason}
 use Rattle.ps_writing.specs.Lines.{hex_byte, shown_byte}
 
 -- a member that is a number, after another one, as `,"file":1`
@@ -36,11 +34,6 @@ separator i = line_end (i == 0)
 
 abbrev pub json_bool : Bool → List ℕ
 json_bool b = if b then codes "true" else codes "false"
-
--- `{"number":19,"reason":"RecordsTruncated"}`
-abbrev pub json_reason : Reason → List ℕ
-json_reason why = codes "{\"number\":" ++ decimal (number_of why) ++ codes ",\"reason\":\""
-    ++ name_of why ++ codes "\"}"
 
 -- one reference, of this index
 abbrev pub reference_item : ℕ × ℕ → List ℕ

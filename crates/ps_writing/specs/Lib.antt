@@ -4,4 +4,6 @@ pub mod Told
 pub mod Adding
 pub mod Lines
 pub mod JsonText
+pub mod JsonStrings
+pub mod FaultJson
 pub mod Rows

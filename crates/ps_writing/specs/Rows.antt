@@ -1,10 +1,11 @@
 -- What map and its kin print, as values: a row is a list of values, each with its word. A row has
 -- two forms, a line of text and an item of a JSON document.
 -- Source: RFC 8259; which words there are is this project's profile.
-use Rattle.std.specs.Prelude.{ℕ, if◌then◌else◌, Bool, List, [], ◌∷◌, ◌++◌, codes, decimal}
+use Rattle.std.specs.Prelude.{ℕ, if◌then◌else◌, Bool, List, [], ◌∷◌, ◌++◌, Some, codes, decimal}
 use Rattle.std.specs.List.{flat_map, enumerate_from}
-use Rattle.ps_words.specs.declared.fault.Reason.{Reason}
-use Rattle.ps_writing.specs.JsonText.{json_bool, json_name, json_reason, member, references_member, separator}
+use Rattle.ps_words.specs.declared.fault.Fault.{Fault}
+use Rattle.ps_writing.specs.JsonText.{json_bool, json_name, member, references_member, separator}
+use Rattle.ps_writing.specs.FaultJson.{fault_json}
 use Rattle.ps_writing.specs.Lines.{fault_words, hex_byte, references, shown_name, two_digits}
 use Rattle.ps_writing.specs.declared.rows.Form.{Form}
 use Rattle.ps_writing.specs.declared.rows.Form.TheVariants.{Lines, Json}
@@ -14,7 +15,7 @@ use Rattle.ps_writing.specs.declared.rows.RowPart.TheVariants as part
 -- A value of a row: the slot and the name, or the kind, that a row begins with; the number that the
 -- last row begins with; a number; a number that a line has in two digits; whether the word holds;
 -- of a record its index, which its row begins with, its kind, its name and its references, or a
--- fault in place of these; what is stored, with the slot and the name of its segment, which a row
+-- fault in place of these, with the name of what it is about; what is stored, with the slot and the name of its segment, which a row
 -- begins with; and bytes.
 pub data Value : Type 0 where
   InSlot : List ℕ → ℕ → List ℕ → Value
@@ -27,7 +28,7 @@ pub data Value : Type 0 where
   Kind : List ℕ → Value
   Named : List ℕ → Value
   References : List ℕ → Value
-  Fault : Reason → Value
+  Refused : Fault → List ℕ → Value
   Stored : List ℕ → ℕ → List ℕ → Value
   Bytes : List ℕ → List ℕ → Value
 
@@ -43,7 +44,7 @@ value_of (part.Record rec) = Record rec
 value_of (part.Kind kind) = Kind kind.now
 value_of (part.Named name) = Named name
 value_of (part.References refs) = References refs.now
-value_of (part.Fault why) = Fault why
+value_of (part.Refused f name) = Refused f name
 value_of (part.Stored word slot name) = Stored word.now slot name
 value_of (part.Bytes word bytes) = Bytes word.now bytes.now
 
@@ -60,7 +61,7 @@ in_line (Record rec) = decimal rec
 in_line (Kind kind) = (32 ∷ []) ++ kind
 in_line (Named name) = (32 ∷ []) ++ shown_name name
 in_line (References refs) = references refs
-in_line (Fault why) = (32 ∷ []) ++ fault_words why
+in_line (Refused f name) = (32 ∷ []) ++ fault_words f.reason
 in_line (Stored word slot name) =
     word ++ ((32 ∷ []) ++ two_digits slot ++ (32 ∷ []) ++ shown_name name)
 in_line (Bytes word bytes) = (32 ∷ []) ++ word ++ ((32 ∷ []) ++ flat_map hex_byte bytes)
@@ -79,7 +80,7 @@ in_item (Record rec) = codes "{\"record\":" ++ decimal rec
 in_item (Kind kind) = codes ",\"kind\":\"" ++ kind ++ codes "\""
 in_item (Named name) = codes "," ++ json_name name
 in_item (References refs) = references_member refs
-in_item (Fault why) = codes ",\"kind\":\"fault\",\"fault\":" ++ json_reason why
+in_item (Refused f name) = codes ",\"kind\":\"fault\",\"fault\":" ++ fault_json (Some name) f
 in_item (Stored word slot name) =
     codes "{\"stores\":\"" ++ word ++ codes "\"" ++ member (codes "slot") slot
     ++ (codes "," ++ json_name name)
@@ -98,10 +99,10 @@ abbrev pub by_form : Form → List ℕ → List ℕ → List ℕ
 by_form Lines line item = line
 by_form Json line item = item
 
--- a fault of a code
-abbrev pub reason_in : Form → Reason → List ℕ
-reason_in Lines why = fault_words why
-reason_in Json why = json_reason why
+-- a fault, with the name of what it is about
+abbrev pub fault_in : Form → Fault → List ℕ → List ℕ
+fault_in Lines f name = fault_words f.reason
+fault_in Json f name = fault_json (Some name) f
 
 -- the row of this index
 abbrev pub row_in : Form → ℕ → List Value → List ℕ

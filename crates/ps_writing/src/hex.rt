@@ -19,7 +19,7 @@ fn hex_digit(value: u8) -> u8
 }
 
 /// A byte in two hexadecimal digits.
-fn hex_digits(byte: u8) -> [u8; 2]
+pub(crate) fn hex_digits(byte: u8) -> [u8; 2]
     ensures { result ≡ hex_byte byte }
 {
     [hex_digit(byte / 16), hex_digit(byte % 16)]

@@ -18,10 +18,13 @@ mod writing;
 
 pub use counts::Counts;
 pub use hex::add_hex;
-pub use json::{add_json_name, comma, separator};
+pub use json::{
+    add_json_fault, add_json_name, add_json_text, add_name_members, add_name_or_null,
+    add_number_or_null, comma, separator,
+};
 pub use lines::{add_number, add_slot_name, shown_codes, two_digits};
 pub use memory::in_memory;
-pub use rows::{Form, RowPart, add_by_form, add_part, add_reason, begin_row, by_form, end_row};
+pub use rows::{Form, RowPart, add_by_form, add_fault, add_part, begin_row, by_form, end_row};
 pub use stream::write_text;
 pub use text_writer::{Text, TextWriter};
 pub use told::{Counting, ToldWriter};

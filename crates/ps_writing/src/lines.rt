@@ -68,8 +68,8 @@ pub fn add_slot_name<S: TextWriter>(text: &mut S, before: &[u8], slot: u8, name:
     text.add(&shown_codes(name));
 }
 
-/// Adds a fault of a code or of a record: its number and its name.
-pub(crate) fn add_fault<S: TextWriter>(text: &mut S, reason: Reason)
+/// Adds a fault as a line has it: its number and its reason.
+pub(crate) fn add_fault_words<S: TextWriter>(text: &mut S, reason: Reason)
     ensures { Adds S.added text.old (fault_words reason) text.new }
 {
     add_number(text, b"fault ", reason.number());

@@ -4,16 +4,16 @@ ghost use Rattle.std.specs.List.{flat_map};
 ghost use Rattle.ps_writing.specs.Adding.{Adds};
 ghost use Rattle.ps_writing.specs.JsonText.{json_bool as json_bool_spec, json_name, member, separator as separator_spec};
 ghost use Rattle.ps_writing.specs.Lines.{hex_byte};
-ghost use Rattle.ps_writing.specs.Rows.{by_form as by_form_spec, in_item, in_line, reason_in, value_in, value_of};
+ghost use Rattle.ps_writing.specs.Rows.{by_form as by_form_spec, in_item, in_line, fault_in, value_in, value_of};
 
 use crate::hex::add_hex;
-use crate::json::{self, add_json_name, add_json_reason, json_bool, separator};
-use crate::lines::{add_fault, add_number, add_slot_name, shown_codes, two_digits};
+use crate::json::{self, add_json_fault, add_json_name, json_bool, separator};
+use crate::lines::{add_fault_words, add_number, add_slot_name, shown_codes, two_digits};
 use crate::pieces;
 use crate::text_writer::TextWriter;
 use itoa::Buffer;
 use ps_linkinfo::Refs;
-use ps_words::{Name, Reason};
+use ps_words::{Fault, Name};
 
 /// What rows are printed as.
 ///
@@ -51,8 +51,8 @@ pub enum RowPart<'w> {
     Named(Name),
     /// The references of a record.
     References(&'w Refs<'w>),
-    /// A fault in place of what a record has.
-    Fault(Reason),
+    /// A fault in place of what a record has, with the name of what it is about.
+    Refused(Fault, Name),
     /// What the row of what a link stores begins with: the slot and the name of the segment.
     Stored(&'w [u8], u8, Name),
     /// Bytes, in hexadecimal digits.
@@ -101,9 +101,9 @@ fn add_in_line<S: TextWriter>(text: &mut S, part: RowPart)
         RowPart::Kind(kind) => add_word(text, kind),
         RowPart::Named(name) => add_word(text, &shown_codes(name)),
         RowPart::References(refs) => pieces::add_references(text, refs),
-        RowPart::Fault(reason) => {
+        RowPart::Refused(fault, _) => {
             text.add(b" ");
-            add_fault(text, reason);
+            add_fault_words(text, fault.reason);
         }
         RowPart::Stored(word, slot, name) => {
             text.add(word);
@@ -210,9 +210,9 @@ fn add_in_item<S: TextWriter>(text: &mut S, part: RowPart)
         RowPart::Kind(kind) => add_kind(text, b",\"kind\":\"", kind),
         RowPart::Named(name) => add_name(text, name),
         RowPart::References(refs) => json::add_references(text, refs),
-        RowPart::Fault(reason) => {
+        RowPart::Refused(fault, name) => {
             text.add(b",\"kind\":\"fault\",\"fault\":");
-            add_json_reason(text, reason);
+            add_json_fault(text, fault, Some(name));
         }
         RowPart::Stored(word, slot, name) => {
             add_stored(text, word, slot);
@@ -256,14 +256,14 @@ pub fn add_by_form<S: TextWriter>(text: &mut S, form: Form, line: &[u8], item: &
     }
 }
 
-/// Adds a fault of a code: its number and its name.
-/// Source: this project's profile.
-pub fn add_reason<S: TextWriter>(text: &mut S, form: Form, reason: Reason)
-    ensures { Adds S.added text.old (reason_in form reason) text.new }
+/// Adds a fault: in a line its number and its reason, in a document all its parts and the name of
+/// what it is about.
+pub fn add_fault<S: TextWriter>(text: &mut S, form: Form, fault: Fault, name: Name)
+    ensures { Adds S.added text.old (fault_in form fault name) text.new }
 {
     match form {
-        Form::Lines => add_fault(text, reason),
-        Form::Json => add_json_reason(text, reason),
+        Form::Lines => add_fault_words(text, fault.reason),
+        Form::Json => add_json_fault(text, fault, Some(name)),
     }
 }
 

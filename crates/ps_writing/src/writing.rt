@@ -44,25 +44,14 @@ pub fn write_all<W: Write, T: WriteCounter<W>>(
     Ok(())
 }
 
-/// Writes all bytes, by writes that are counted in `counts`, each of all that are left. It takes no
-/// memory.
+/// Writes all bytes, by writes each of all that are left. It takes no memory.
 ///
-/// After Ok no write failed. Refuses `Device` where a write returned an error, which is not
-/// repeated: that was one write, and none stalled. Refuses `Stalled` where a write of at least one
-/// byte took none: that was one write, and none returned an error. The writer then has a prefix of
-/// the bytes.
-/// Source: this project's profile.
-pub fn write_all_of<W: Write>(
-    out: &mut W,
-    counts: &mut Counts,
-    bytes: &[u8],
-) -> Result<(), WriteFault>
+/// Refuses `Device` where a write returned an error, and `Stalled` where a write of at least one byte
+/// took none. Neither is repeated, and no write follows it. The writer then has a prefix of the bytes.
+pub fn write_all_of<W: Write>(out: &mut W, bytes: &[u8]) -> Result<(), WriteFault>
     ensures all { OnOk result (Appends (W.contents out.old) (W.contents out.new) bytes.now) }
     ensures prefix { OnErr result (AppendsPrefix (W.contents out.old) (W.contents out.new)
         bytes.now) }
-    ensures writes { Rises counts.old counts.new (length bytes.now) (min 1 (length bytes.now)) }
-    ensures ok { OnOk result (NoneFailed counts.old counts.new) }
-    ensures failed { IfErr result (λ fault. OneFailed fault counts.old counts.new) }
 {
-    write_all(out, counts, bytes)
+    write_all(out, &mut Counts::new(), bytes)
 }

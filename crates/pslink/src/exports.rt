@@ -14,7 +14,7 @@ ghost use Rattle.ps_calls.specs.Calls.{IsAnswered, Links, LinkNeeds, Maps, MapNe
 
 use ps_answers::{
     Answer, DONE, LIBRARIES_IN_PLACE, LINKED_MAX, NO_MEMORY, REFUSED, TOO_SMALL, WRONG_LENGTHS,
-    WRONG_NAMES, link,
+    WRONG_NAMES, WRONG_TEXT, link,
 };
 use ps_calls::{
     CheckAnswer, FAULT_TEXT_MAX, RELEASE_NUMBER, SENTENCE_MAX, check, map, put_fault,
@@ -65,7 +65,10 @@ pub extern "C" fn pslink_link_nonnull(
     ensures bare_wrong { result ≡ WRONG_LENGTHS → answer.new ≡ bare WRONG_LENGTHS }
     ensures bare_memory { result ≡ NO_MEMORY → answer.new ≡ bare NO_MEMORY }
 {
-    *answer = Answer::of(link(alloc, host, libs, lengths, out));
+    *answer = match link(alloc, host, libs, lengths, out) {
+        Ok(done) => Answer::of(Ok(done)),
+        Err(error) => Answer::of(Err(error.into())),
+    };
     answer.status
 }
 
@@ -105,7 +108,10 @@ pub extern "C" fn pslink_map_nonnull(
     ensures bare_wrong { result ≡ WRONG_LENGTHS → answer.new ≡ bare WRONG_LENGTHS }
     ensures bare_memory { result ≡ NO_MEMORY → answer.new ≡ bare NO_MEMORY }
 {
-    *answer = Answer::of(map(alloc, host, libs, lengths, out));
+    *answer = match map(alloc, host, libs, lengths, out) {
+        Ok(done) => Answer::of(Ok(done)),
+        Err(error) => Answer::of(Err(error.into())),
+    };
     answer.status
 }
 
@@ -132,7 +138,10 @@ pub extern "C" fn pslink_show_nonnull(
     ensures untouched { result ≢ DONE → out.new ≡ out.old }
     ensures bare_memory { result ≡ NO_MEMORY → answer.new ≡ bare NO_MEMORY }
 {
-    *answer = Answer::of(show(alloc, file, out));
+    *answer = match show(alloc, file, out) {
+        Ok(done) => Answer::of(Ok(done)),
+        Err(why) => Answer::of(Err(why.into())),
+    };
     answer.status
 }
 
@@ -227,8 +236,10 @@ pub extern "C" fn pslink_text_nonnull(
         names.now name_lengths.now out.old out.new answer.new }
     ensures untouched { result ≢ DONE → out.new ≡ out.old }
 {
-    let kind = text_kind(what, form);
-    *answer = Answer::of(text(alloc, kind, host, libs, lengths, names, name_lengths, out));
+    *answer = match text_kind(what, form) {
+        Some(kind) => Answer::of(text(alloc, kind, host, libs, lengths, names, name_lengths, out)),
+        None => Answer::bare(WRONG_TEXT),
+    };
     answer.status
 }
 
@@ -254,8 +265,10 @@ pub extern "C" fn pslink_units_nonnull(
         [] [] out.old out.new answer.new }
     ensures untouched { result ≢ DONE → out.new ≡ out.old }
 {
-    let kind = units_kind(which);
-    *answer = Answer::of(text(alloc, kind, host, libs, lengths, &[], &[], out));
+    *answer = match units_kind(which) {
+        Some(kind) => Answer::of(text(alloc, kind, host, libs, lengths, &[], &[], out)),
+        None => Answer::bare(WRONG_TEXT),
+    };
     answer.status
 }
 

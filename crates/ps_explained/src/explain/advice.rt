@@ -4,7 +4,7 @@ use crate::cases::Case;
 use crate::sentences::{meaning_of, remedy_of};
 use ps_codefile::kinds::{FIRST_INTRINSIC, LAST_INTRINSIC, LINKED};
 use ps_filetype::{FileType, Remedy, ShownPath, is_swapped};
-use ps_segments::{Inputs, dead_look};
+use ps_segments::{NamedFiles, dead_look};
 use ps_words::Reason;
 use std::fmt::{self, Display, Formatter};
 
@@ -53,7 +53,7 @@ enum Advice<'a> {
 
 impl<'a> Advice<'a> {
     /// What to do with this file.
-    fn of_file(inputs: &Inputs<'a>, file: usize) -> Self {
+    fn of_file(inputs: &NamedFiles<'a>, file: usize) -> Self {
         Advice::OfType(Remedy {
             file_type: inputs.file_type(file),
             path: inputs.path(file),

@@ -2,8 +2,9 @@
 use super::outcome::gives;
 use super::wanted::Text;
 use super::wanted::Text::{
-    CheckHelp, Help, LinkHelp, MapHelp, NoArgs, NoCheckedHost, NoCommand, NoFile, NoHost, NoOut,
-    NotThere, NotThereToCheck, Nothing, OutIsLibrary, ShowHelp, TwoFiles, Version,
+    CheckHelp, Help, LinkHelp, MapHelp, NoArgs, NoCheckedFile, NoCheckedHost, NoCommand, NoFile,
+    NoHost, NoHostAndOut, NoListedFile, NoOut, NotThere, NotThereToCheck, Nothing, OutIsLibrary,
+    ShowHelp, TwoFiles, UnknownOption, UnknownOptionOfMap, Version,
 };
 
 pub const VERSION: &str = "pslink 0.2.0\n";
@@ -190,6 +191,15 @@ Usage: pslink link <HOST> <OUT> [LIB]...
 For more information, try '--help'.
 ";
 
+pub const NO_HOST_AND_OUT: &str = "error: the following required arguments were not provided:
+  <HOST>
+  <OUT>
+
+Usage: pslink link <HOST> <OUT> [LIB]...
+
+For more information, try '--help'.
+";
+
 pub const NO_HOST: &str = "error: the following required arguments were not provided:
   <HOST>
 
@@ -206,10 +216,42 @@ Usage: pslink check --strict <HOST> [LIB]...
 For more information, try '--help'.
 ";
 
+pub const NO_CHECKED_FILE: &str = "error: the following required arguments were not provided:
+  <HOST>
+
+Usage: pslink check <HOST> [LIB]...
+
+For more information, try '--help'.
+";
+
 pub const NO_FILE: &str = "error: the following required arguments were not provided:
   <FILE>
 
 Usage: pslink show <FILE>
+
+For more information, try '--help'.
+";
+
+pub const NO_LISTED_FILE: &str = "error: the following required arguments were not provided:
+  <FILE>...
+
+Usage: pslink list <FILE>...
+
+For more information, try '--help'.
+";
+
+pub const UNKNOWN_OPTION: &str = "error: unexpected argument '--frob' found
+
+Usage: pslink <COMMAND>
+
+For more information, try '--help'.
+";
+
+pub const UNKNOWN_OPTION_OF_MAP: &str = "error: unexpected argument '--frob' found
+
+  tip: to pass '--frob' as a value, use '-- --frob'
+
+Usage: pslink map [OPTIONS] <HOST> [LIB]...
 
 For more information, try '--help'.
 ";
@@ -234,7 +276,7 @@ pub const NOT_THERE_TO_CHECK: &str = "pslink: cannot read not-there (no such fil
 
 /// Args, and the status and the two texts that they give. HOST may be OUT or a library, and no file
 /// of these is there.
-static ROWS: [(&str, u8, Text, Text); 28] = [
+static ROWS: [(&str, u8, Text, Text); 33] = [
     ("pslink --help", 0, Help, Nothing),
     ("pslink -h", 0, Help, Nothing),
     ("pslink link --help", 0, LinkHelp, Nothing),
@@ -251,9 +293,14 @@ static ROWS: [(&str, u8, Text, Text); 28] = [
     ("pslink", 2, Nothing, NoArgs),
     ("", 2, Nothing, NoArgs),
     ("pslink frob", 2, Nothing, NoCommand),
+    ("pslink --frob", 2, Nothing, UnknownOption),
+    ("pslink map --frob a", 2, Nothing, UnknownOptionOfMap),
+    ("pslink link", 2, Nothing, NoHostAndOut),
     ("pslink link host", 2, Nothing, NoOut),
     ("pslink map", 2, Nothing, NoHost),
     ("pslink show", 2, Nothing, NoFile),
+    ("pslink list", 2, Nothing, NoListedFile),
+    ("pslink check", 2, Nothing, NoCheckedFile),
     ("pslink check --strict", 2, Nothing, NoCheckedHost),
     (
         "pslink check not-there --strict",

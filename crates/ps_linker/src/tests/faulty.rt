@@ -110,8 +110,6 @@ impl<R: Files> CodeFiles for Faulty<'_, R> {
 
     ghost closed = { λ rt path file. ⊤ };
 
-    ghost one_file = { λ rt path other. ⊤ };
-
     fn open(&self, path: &str) -> io::Result<FaultyFile<R::File>> {
         let inner = fs::open(self.inner, path)?;
         Ok(self.faulty(inner))

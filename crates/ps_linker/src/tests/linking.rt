@@ -98,23 +98,59 @@ Usage: pslink link <HOST> <OUT> [LIB]...
 For more information, try '--help'.
 ";
 
+const IS_LIBRARY: &str =
+    "error: invalid value 'led-library' for '<OUT>': it is named as a library too
+
+Usage: pslink link <HOST> <OUT> [LIB]...
+
+For more information, try '--help'.
+";
+
+const SPELLS_LIBRARY: &str =
+    "error: invalid value './led-library' for '<OUT>': it is the library 'led-library'
+
+Usage: pslink link <HOST> <OUT> [LIB]...
+
+For more information, try '--help'.
+";
+
+/// Links whose OUT is a library by its path, or by another spelling of it, and what is said of them.
+static SPELLED: [(&str, &str); 2] = [
+    (
+        "pslink link led-host led-library led-other led-library",
+        IS_LIBRARY,
+    ),
+    (
+        "pslink link led-host ./led-library led-other led-library",
+        SPELLS_LIBRARY,
+    ),
+];
+
 /// The link is wrong usage, and no file is opened to be written.
-fn overwrites_no_library<R: Files + AllocGlobal + Abort>(rt: &R, row: &str) {
-    let (run, created) = done_faulty(rt, rt.alloc(), NO_FAULTS, LED);
-    run.is(rt, row, 2, "", LEADS_TO_LIBRARY);
+fn overwrites_no_library<R: Files + AllocGlobal + Abort>(
+    rt: &R,
+    args: &str,
+    complained: &str,
+    row: &str,
+) {
+    let (run, created) = done_faulty(rt, rt.alloc(), NO_FAULTS, args);
+    run.is(rt, row, 2, "", complained);
     says(rt, created == 0, &row);
     holds_image(rt, "led-library", &LIBRARY, row);
     clean(rt, "led-out");
 }
 
-/// Links to a library are no OUT, and a copy of it is.
+/// A library and links to it are no OUT, and a copy of it is.
 fn takes_a_copy<R: Files + AllocGlobal + Abort>(rt: &R) {
     clean(rt, "led-out");
     save_all(rt, LED_FILES.as_slice());
+    for (args, complained) in &SPELLED {
+        overwrites_no_library(rt, *args, *complained, *args);
+    }
     let _ = fs::hard_link(rt, "led-library", "led-out");
-    overwrites_no_library(rt, "a hard link");
+    overwrites_no_library(rt, LED, LEADS_TO_LIBRARY, "a hard link");
     let _ = symlink(rt, "led-library", "led-out");
-    overwrites_no_library(rt, "a symbolic link");
+    overwrites_no_library(rt, LED, LEADS_TO_LIBRARY, "a symbolic link");
     save_all(rt, LED_OUT.as_slice());
     gives(rt, LED, 0, SUMMARY_OF_PAIR, "");
     holds_image(rt, "led-out", &LINKED_PAIR, "a copy");

@@ -1,9 +1,9 @@
 //! A link of files, and the calls that make and write it. They have no clauses, so the proof of a
 //! test has nothing of what the linker promises.
 use crate::code_file::CodeFile;
-use ps_linkfile::{LinkError, Linked, Summary, link, map_text, prepare};
+use ps_linkfile::{LinkError, LinkMap, Linked, Show, ShownFile, Summary, link, map_text, prepare};
 use ps_resolve::{Plan, Stop, resolve};
-use ps_writing::{Counting, Counts};
+use ps_writing::{Counting, Form, write_text};
 use std::alloc::Allocator;
 use std::io::Write;
 use std::process::Abort;
@@ -74,12 +74,18 @@ pub(crate) fn write_to<A: Allocator + Copy, W: Write>(
 }
 
 /// Writes the map of a link.
-pub(crate) fn write_map<W: Write>(
-    linked: &Linked<'_>,
-    out: &mut W,
-    counts: &mut Counts,
-) -> Result<(), LinkError> {
-    linked.write_map(out, counts).map_err(LinkError::Write)
+pub(crate) fn write_map<W: Write>(linked: &Linked<'_>, out: &mut W) -> Result<(), LinkError> {
+    let form = Form::Lines;
+    write_text(&LinkMap { form, linked }, out).map_err(LinkError::Write)
+}
+
+/// Writes the show of a file.
+pub(crate) fn write_show<W: Write>(file: &[u8], out: &mut W) -> Result<(), LinkError> {
+    let form = Form::Lines;
+    match ShownFile::read(file) {
+        Ok(file) => write_text(&Show { form, file: &file }, out).map_err(LinkError::Write),
+        Err(fault) => Err(LinkError::Refused(fault)),
+    }
 }
 
 /// Writes a linked file to a writer that counts, and returns that writer too.

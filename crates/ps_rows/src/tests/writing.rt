@@ -3,7 +3,8 @@
 ghost use Rattle.std.specs.Prelude.{◌<◌};
 
 use super::answers::{LITTLE, is, text_of, text_of_error};
-use super::calls::{Link, prepared, tell_to, write_map, write_to};
+use super::calls::{Link, prepared, tell_to, write_map, write_show, write_to};
+use super::failing_texts::fail_at_each_write;
 use super::rows::{Row, check_all};
 use super::tables::{Check, IN_PLACE_TEXTS, base_named};
 use super::texts::{Map, Show};
@@ -12,7 +13,7 @@ use super::writers::{Counts, Full, Room, Writer, room_for};
 use crate::code_file::CodeFile;
 use crate::line::Line;
 use crate::notation::{ends, holds, holds_of, number, number_of};
-use ps_linkfile::{LinkError, Linked, Summary, write_show};
+use ps_linkfile::{LinkError, Linked, Summary};
 use ps_writing::{Counting, ToldWriter, WriteFault};
 use refusing::Refusing;
 use std::alloc::Global;
@@ -41,14 +42,14 @@ impl<'a> Writing for Linked<'a> {
 
 impl<'a> Writing for Show<'a> {
     fn write<W: Write>(&self, _alloc: Global, out: &mut W) -> Result<Option<Summary>, LinkError> {
-        without_summary(write_show(self.file, out, &mut ps_writing::Counts::new()))
+        without_summary(write_show(self.file, out))
     }
 }
 
 impl<'a> Writing for Map<'a> {
     fn write<W: Write>(&self, alloc: Global, out: &mut W) -> Result<Option<Summary>, LinkError> {
         match self.link.prepare(alloc) {
-            Ok(linked) => without_summary(write_map(&linked, out, &mut ps_writing::Counts::new())),
+            Ok(linked) => without_summary(write_map(&linked, out)),
             Err(error) => Err(error),
         }
     }
@@ -282,6 +283,8 @@ enum WriteCheck {
     AnyRoom(&'static str),
     /// The failures of its map and of the show of its host.
     Failures,
+    /// The failures of each text of its files, at each write.
+    Texts,
     /// The errors of the writers.
     Errors,
 }
@@ -301,7 +304,8 @@ impl WriteCheck {
                 writes_to_each(rt, link, linked, summary);
                 writes_to_any_room(rt, link, linked)
             }
-            WriteCheck::Failures => counts_each(rt, linked, link.host),
+            WriteCheck::Failures => fail_each(rt, linked, link.host),
+            WriteCheck::Texts => fail_at_each_write(rt, link),
             WriteCheck::Errors => give_each_error(rt, link, linked),
         }
     }
@@ -494,66 +498,62 @@ static FAILURES: &str = "\
 9 all fails 1 0
 9 all stalls 0 1";
 
-/// Checks what was counted where a text was written, or was not: the writes that the writer had.
-fn has_counted(
-    rt: &impl Abort,
-    is_written: bool,
-    out: &Room,
-    told: ps_writing::Counts,
-    wanted: (u64, u64),
-) {
+/// Checks how many writes of a text failed, and that it is written where none did.
+fn has_failed(rt: &impl Abort, is_written: bool, out: &Room, wanted: (u64, u64)) {
     let [_, errors, stalls, _] = out.counts();
-    let counted = [told.writes, told.errors, told.stalls, told.shorts];
     let is_right = is_written == (wanted == (0, 0)) && (errors, stalls) == wanted;
-    holds_of(rt, is_right && counted == out.counts(), &wanted)
+    holds_of(rt, is_right, &wanted)
 }
 
-/// Writes a map, and counts.
-fn counts_of_a_map(
+/// Writes a map, of which so many writes fail.
+fn failures_of_a_map(
     rt: &(impl Abort + AllocGlobal),
     linked: &Linked<'_>,
     writer: Writer,
     wanted: (u64, u64),
 ) {
     let mut out = room_for(rt, writer);
-    let mut counts = ps_writing::Counts::new();
-    let is_written = write_map(linked, &mut out, &mut counts).is_ok();
-    has_counted(rt, is_written, &out, counts, wanted)
+    let is_written = write_map(linked, &mut out).is_ok();
+    has_failed(rt, is_written, &out, wanted)
 }
 
-/// Writes a show, and counts.
-fn counts_of_a_show(
+/// Writes a show, of which so many writes fail.
+fn failures_of_a_show(
     rt: &(impl Abort + AllocGlobal),
     file: &[u8],
     writer: Writer,
     wanted: (u64, u64),
 ) {
     let mut out = room_for(rt, writer);
-    let mut counts = ps_writing::Counts::new();
-    let is_written = write_show(file, &mut out, &mut counts).is_ok();
-    has_counted(rt, is_written, &out, counts, wanted)
+    let is_written = write_show(file, &mut out).is_ok();
+    has_failed(rt, is_written, &out, wanted)
 }
 
 #[test]
-fn failures_of_a_map_and_a_show_are_counted(rt: HostRuntime) {
+fn a_map_and_a_show_fail_once(rt: HostRuntime) {
     writes_file(&rt, "in-place", WriteCheck::Failures)
 }
 
 /// Writes the map of a link and the show of its host into each writer.
-fn counts_each(rt: &(impl Abort + AllocGlobal), linked: &Linked<'_>, host: &[u8]) {
+fn fail_each(rt: &(impl Abort + AllocGlobal), linked: &Linked<'_>, host: &[u8]) {
     for row in FAILURES.lines() {
-        are_counted(rt, linked, host, row);
+        fail_in(rt, linked, host, row);
     }
 }
 
 /// Writes both into the writer of a row.
-fn are_counted(rt: &(impl Abort + AllocGlobal), linked: &Linked<'_>, host: &[u8], row: &str) {
+fn fail_in(rt: &(impl Abort + AllocGlobal), linked: &Linked<'_>, host: &[u8], row: &str) {
     let mut words = row.split_whitespace();
     let writer = writer_of(rt, &mut words);
     let wanted = failures_in(rt, &mut words);
     ends(rt, &mut words, row);
-    counts_of_a_map(rt, linked, writer, wanted);
-    counts_of_a_show(rt, host, writer, wanted)
+    failures_of_a_map(rt, linked, writer, wanted);
+    failures_of_a_show(rt, host, writer, wanted)
+}
+
+#[test]
+fn each_text_fails_once_and_stops(rt: HostRuntime) {
+    writes_file(&rt, "pair", WriteCheck::Texts)
 }
 
 /// A writer whose calls all fail.

@@ -1,6 +1,6 @@
 //! Codes that look wrong.
 ghost use Rattle.std.specs.Prelude.{◌<◌, [], OnOk};
-ghost use Rattle.ps_warnings.specs.Found.{Adds, link_looks};
+ghost use Rattle.ps_warnings.specs.Found.{Adds, about_link};
 
 use super::Looks;
 use crate::warnings::{OtherLook, WarningAt};
@@ -26,8 +26,8 @@ pub(super) fn look_at<'a, A: Allocator>(
     is_told: bool,
 ) -> Result<(), AllocError>
     requires { slot < SLOTS }
-    ensures { OnOk result (Adds (link_looks looks.old.warnings.items looks.old.harmless.items)
-        [] (link_looks looks.new.warnings.items looks.new.harmless.items)) }
+    ensures { OnOk result (Adds (about_link looks.old)
+        [] (about_link looks.new)) }
 {
     if let Some(byte) = only_byte(code) {
         let look = OtherLook::Code(CodeLook::OneByte { byte });

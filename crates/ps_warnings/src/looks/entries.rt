@@ -5,7 +5,7 @@ ghost use Rattle.std.specs.Option.{option_map};
 ghost use Rattle.ps_codefile.specs.Dictionary.{entry_at, information_of, kind_needs_linking, role_of, slots};
 ghost use Rattle.ps_warnings.specs.EntryLooks.{empty_look as empty_look_spec, empty_slot as empty_slot_spec, half_entry as half_entry_spec, has_name_or_kind as has_name_or_kind_spec};
 ghost use Rattle.ps_warnings.specs.FileLooks.{looks_of_entry, looks_of_segment, looks_of_slot};
-ghost use Rattle.ps_warnings.specs.Found.{Adds, link_looks};
+ghost use Rattle.ps_warnings.specs.Found.{Adds, about_link};
 ghost use Rattle.ps_segments.specs.Paths.{path_of, paths_in};
 ghost use Rattle.ps_segments.specs.Seen.{has_slot as has_slot_spec, seen};
 
@@ -43,11 +43,11 @@ pub(super) fn look_at<'a, A: Allocator>(
     dict: &Dict<'a>,
     shown: &FileCode,
 ) -> Result<(), AllocError>
-    ensures { OnOk result (Adds (link_looks looks.old.warnings.items looks.old.harmless.items)
+    ensures { OnOk result (Adds (about_link looks.old)
         (flat_map (looks_of_slot (path_of (paths_in context.now.inputs.now) file)
         (option_map (λ h. h.now) context.now.host)
         (map seen context.now.list.now) dict.now.order dict.now.file file) slots)
-        (link_looks looks.new.warnings.items looks.new.harmless.items)) }
+        (about_link looks.new)) }
 {
     let place = in_file(context.inputs.path(file));
     looks.add_other(place, dead_tail(dict).or(full_tail(dict)))?;
@@ -68,11 +68,11 @@ fn look_at_slot<'a, A: Allocator>(
     slot: u8,
 ) -> Result<(), AllocError>
     requires { slot < SLOTS }
-    ensures { OnOk result (Adds (link_looks looks.old.warnings.items looks.old.harmless.items)
+    ensures { OnOk result (Adds (about_link looks.old)
         (looks_of_slot (path_of (paths_in context.now.inputs.now) file)
         (option_map (λ h. h.now) context.now.host)
         (map seen context.now.list.now) dict.now.order dict.now.file file slot)
-        (link_looks looks.new.warnings.items looks.new.harmless.items)) }
+        (about_link looks.new)) }
 {
     if dict.filled(slot) {
         return look_at_entry(looks, context, file, dict, shown, slot);
@@ -101,11 +101,11 @@ fn look_at_entry<'a, A: Allocator>(
     slot: u8,
 ) -> Result<(), AllocError>
     requires { slot < SLOTS }
-    ensures { OnOk result (Adds (link_looks looks.old.warnings.items looks.old.harmless.items)
+    ensures { OnOk result (Adds (about_link looks.old)
         (looks_of_entry (path_of (paths_in context.now.inputs.now) file)
         (option_map (λ h. h.now) context.now.host) dict.now.order dict.now.file
         (entry_at dict.now.order dict.now.file slot))
-        (link_looks looks.new.warnings.items looks.new.harmless.items)) }
+        (about_link looks.new)) }
 {
     let entry = dict.entry(slot);
     let found = dictionary_looks(context, file, dict, &entry, slot);
@@ -138,11 +138,11 @@ fn look_at_segment<'a, A: Allocator>(
     slot: u8,
 ) -> Result<(), AllocError>
     requires { slot < SLOTS }
-    ensures { OnOk result (Adds (link_looks looks.old.warnings.items looks.old.harmless.items)
+    ensures { OnOk result (Adds (about_link looks.old)
         (looks_of_entry (path_of (paths_in context.now.inputs.now) file)
         (option_map (λ h. h.now) context.now.host) dict.now.order dict.now.file
         (entry_at dict.now.order dict.now.file slot))
-        (link_looks looks.new.warnings.items looks.new.harmless.items)) }
+        (about_link looks.new)) }
 {
     let path = context.inputs.path(file);
     let place = WarningAt {
@@ -170,11 +170,11 @@ fn look_at_code<'a, A: Allocator>(
     code: &'a [u8],
 ) -> Result<(), AllocError>
     requires { slot < SLOTS }
-    ensures { OnOk result (Adds (link_looks looks.old.warnings.items looks.old.harmless.items)
+    ensures { OnOk result (Adds (about_link looks.old)
         (looks_of_segment path.now (option_map (λ h. h.now) context.now.host) dict.now.order
         (entry_at dict.now.order dict.now.file slot) (Ok code.now)
         (information_of dict.now.file (entry_at dict.now.order dict.now.file slot)))
-        (link_looks looks.new.warnings.items looks.new.harmless.items)) }
+        (about_link looks.new)) }
 {
     let entry = dict.entry(slot);
     let place = WarningAt {

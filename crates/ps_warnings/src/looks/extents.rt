@@ -5,7 +5,7 @@ ghost use Rattle.ps_codefile.specs.Dictionary.{entry_at, slots};
 ghost use Rattle.ps_linkinfo.specs.Records.{reading, used_by};
 ghost use Rattle.ps_warnings.specs.EntryLooks.{overlap, shares as shares_spec};
 ghost use Rattle.ps_warnings.specs.FileLooks.{extent_at as extent_at_spec, extent_of_kind as extent_of_kind_spec, information_end as information_end_spec, overlap_look};
-ghost use Rattle.ps_warnings.specs.Found.{Adds, link_looks};
+ghost use Rattle.ps_warnings.specs.Found.{Adds, about_link};
 
 use super::Looks;
 use crate::warnings::{EntryLook, Look, WarningAt};
@@ -107,9 +107,9 @@ pub(super) fn look_at<'a, A: Allocator>(
     dict: &Dict<'_>,
     extents: &[Extent],
 ) -> Result<(), AllocError>
-    ensures { OnOk result (Adds (link_looks looks.old.warnings.items looks.old.harmless.items)
+    ensures { OnOk result (Adds (about_link looks.old)
         (flat_map (overlap_look path.now dict.now.order dict.now.file extents.now) extents.now)
-        (link_looks looks.new.warnings.items looks.new.harmless.items)) }
+        (about_link looks.new)) }
 {
     for extent in extents {
         look_at_extent(looks, path, dict, extents, *extent)?;
@@ -125,9 +125,9 @@ fn look_at_extent<'a, A: Allocator>(
     extents: &[Extent],
     extent: Extent,
 ) -> Result<(), AllocError>
-    ensures { OnOk result (Adds (link_looks looks.old.warnings.items looks.old.harmless.items)
+    ensures { OnOk result (Adds (about_link looks.old)
         (overlap_look path.now dict.now.order dict.now.file extents.now extent)
-        (link_looks looks.new.warnings.items looks.new.harmless.items)) }
+        (about_link looks.new)) }
 {
     if is_slot(extent.slot) {
         let entry = dict.entry(extent.slot);

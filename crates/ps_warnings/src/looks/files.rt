@@ -3,7 +3,7 @@ ghost use Rattle.std.specs.Prelude.{OnOk, map};
 ghost use Rattle.std.specs.Option.{option_map};
 ghost use Rattle.ps_warnings.specs.AllLooks.{looks_of_file};
 ghost use Rattle.ps_warnings.specs.FileLooks.{looks_of_code_file, looks_of_entries};
-ghost use Rattle.ps_warnings.specs.Found.{Adds, link_looks};
+ghost use Rattle.ps_warnings.specs.Found.{Adds, about_link};
 ghost use Rattle.ps_segments.specs.Paths.{host_order, path_of, paths_in};
 ghost use Rattle.ps_segments.specs.Seen.{seen};
 
@@ -31,11 +31,11 @@ pub(super) fn look_at<'a, A: Allocator>(
     file: usize,
     bytes: &'a [u8],
 ) -> Result<(), AllocError>
-    ensures { OnOk result (Adds (link_looks looks.old.warnings.items looks.old.harmless.items)
+    ensures { OnOk result (Adds (about_link looks.old)
         (looks_of_file (paths_in context.now.inputs.now) (option_map (λ h. h.now) context.now.host)
         (map seen context.now.list.now) (host_order context.now.inputs.now.host.now)
         (file, bytes.now))
-        (link_looks looks.new.warnings.items looks.new.harmless.items)) }
+        (about_link looks.new)) }
 {
     if is_code_type(bytes) {
         return look_at_code_file(looks, context, file, bytes);
@@ -69,12 +69,12 @@ fn look_at_code_file<'a, A: Allocator>(
     file: usize,
     bytes: &'a [u8],
 ) -> Result<(), AllocError>
-    ensures { OnOk result (Adds (link_looks looks.old.warnings.items looks.old.harmless.items)
+    ensures { OnOk result (Adds (about_link looks.old)
         (looks_of_code_file (path_of (paths_in context.now.inputs.now) file)
         (option_map (λ h. h.now) context.now.host)
         (map seen context.now.list.now)
         (host_order context.now.inputs.now.host.now) bytes.now file)
-        (link_looks looks.new.warnings.items looks.new.harmless.items)) }
+        (about_link looks.new)) }
 {
     let place = in_file(context.inputs.path(file));
     looks.add_other(place, padding_of(bytes))?;
@@ -92,12 +92,12 @@ fn look_at_dictionary<'a, A: Allocator>(
     bytes: &'a [u8],
     dict: &Dict<'a>,
 ) -> Result<(), AllocError>
-    ensures { OnOk result (Adds (link_looks looks.old.warnings.items looks.old.harmless.items)
+    ensures { OnOk result (Adds (about_link looks.old)
         (looks_of_entries (path_of (paths_in context.now.inputs.now) file)
         (option_map (λ h. h.now) context.now.host)
         (map seen context.now.list.now)
         dict.now.order dict.now.file file)
-        (link_looks looks.new.warnings.items looks.new.harmless.items)) }
+        (about_link looks.new)) }
 {
     let path = context.inputs.path(file);
     let place = in_file(path);

@@ -2,7 +2,7 @@
 ghost use Rattle.std.specs.Prelude.{◌≡◌, ◌<◌, ◌≤◌, OnOk, length, map, take, unwrap_or};
 ghost use Rattle.ps_codefile.specs.Dictionary.{entry_at};
 ghost use Rattle.ps_warnings.specs.AllLooks.{looks_of_unit, looks_of_units, looks_of_link};
-ghost use Rattle.ps_warnings.specs.Found.{Adds, link_looks};
+ghost use Rattle.ps_warnings.specs.Found.{Adds, about_link};
 ghost use Rattle.ps_segments.specs.Paths.{paths_in};
 ghost use Rattle.ps_warnings.specs.LinkLooks.{is_near_unit as is_near_unit_spec, other_spelling as other_spelling_spec, taken_by as taken_by_spec, taken_slot as taken_slot_spec};
 ghost use Rattle.ps_segments.specs.Seen.{seen};
@@ -22,10 +22,10 @@ pub(super) fn look_at<'a, A: Allocator>(
     looks: &mut Looks<'a, A>,
     context: &Context<'_, 'a>,
 ) -> Result<(), AllocError>
-    ensures { OnOk result (Adds (link_looks looks.old.warnings.items looks.old.harmless.items)
+    ensures { OnOk result (Adds (about_link looks.old)
         (looks_of_link (paths_in context.now.inputs.now)
         context.now.inputs.now.host.now (map seen context.now.list.now))
-        (link_looks looks.new.warnings.items looks.new.harmless.items)) }
+        (about_link looks.new)) }
 {
     match Dict::read(context.inputs.host) {
         Ok(host) => look_at_units(looks, context, &host),
@@ -39,10 +39,10 @@ fn look_at_units<'a, A: Allocator>(
     context: &Context<'_, 'a>,
     host: &Dict<'a>,
 ) -> Result<(), AllocError>
-    ensures { OnOk result (Adds (link_looks looks.old.warnings.items looks.old.harmless.items)
+    ensures { OnOk result (Adds (about_link looks.old)
         (looks_of_units (paths_in context.now.inputs.now)
         host.now.order host.now.file (map seen context.now.list.now))
-        (link_looks looks.new.warnings.items looks.new.harmless.items)) }
+        (about_link looks.new)) }
 {
     for (index, segment) in context.list.iter().enumerate() {
         look_at_unit(looks, context, host, index, segment)?;
@@ -59,10 +59,10 @@ fn look_at_unit<'a, A: Allocator>(
     segment: &ReadSegment<'a>,
 ) -> Result<(), AllocError>
     requires { index ≤ length context.now.list.now }
-    ensures { OnOk result (Adds (link_looks looks.old.warnings.items looks.old.harmless.items)
+    ensures { OnOk result (Adds (about_link looks.old)
         (looks_of_unit (paths_in context.now.inputs.now)
         host.now.order host.now.file (map seen context.now.list.now) (index, seen segment.now))
-        (link_looks looks.new.warnings.items looks.new.harmless.items)) }
+        (about_link looks.new)) }
 {
     let file = file_of(segment);
     let path = context.inputs.path(file);

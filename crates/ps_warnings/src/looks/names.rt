@@ -2,7 +2,7 @@
 use ps_codefile::Dict;
 use ps_codefile::dictionary_layout::SLOTS;
 use ps_filetype::has_any;
-use ps_segments::Inputs;
+use ps_segments::NamedFiles;
 
 /// The name of an entry that is filled has a capital letter.
 fn has_capital(dict: &Dict<'_>) -> bool {
@@ -15,7 +15,7 @@ fn has_capital(dict: &Dict<'_>) -> bool {
 }
 
 /// No name of an entry that is filled has a capital letter.
-pub(super) fn are_small(inputs: &Inputs<'_>) -> bool {
+pub(super) fn are_small(inputs: &NamedFiles<'_>) -> bool {
     for file in 0..=inputs.libs.len() {
         if let Some(dict) = inputs.dict(file) {
             if has_capital(&dict) {

@@ -7,7 +7,7 @@ ghost use Rattle.ps_linkinfo.specs.RecordCounts.{next_of};
 ghost use Rattle.ps_linkinfo.specs.Records.{reading};
 ghost use Rattle.ps_resolve.specs.Searches.{first_of};
 ghost use Rattle.ps_warnings.specs.FileLooks.{data_size as data_size_spec, definition_looks, looks_of_records};
-ghost use Rattle.ps_warnings.specs.Found.{Adds, link_looks};
+ghost use Rattle.ps_warnings.specs.Found.{Adds, about_link};
 ghost use Rattle.ps_warnings.specs.RecordLooks.{definition_as as definition_as_spec, definition_of as definition_of_spec, first_definition as first_definition_spec, first_high, first_past, high_as as high_as_spec, is_defined as is_defined_spec, is_requested as is_requested_spec, low_mark as low_mark_spec, past_as as past_as_spec, past_words as past_words_spec};
 
 use super::{Context, Looks};
@@ -34,11 +34,11 @@ pub(super) fn look_at<'a, A: Allocator>(
     code: &[u8],
 ) -> Result<(), AllocError>
     requires { slot < SLOTS }
-    ensures { OnOk result (Adds (link_looks looks.old.warnings.items looks.old.harmless.items)
+    ensures { OnOk result (Adds (about_link looks.old)
         (looks_of_records path.now (option_map (λ h. h.now) context.now.host) dict.now.order
         (entry_at dict.now.order dict.now.file slot) code.now (reading dict.now.order
         (information_of dict.now.file (entry_at dict.now.order dict.now.file slot))).0)
-        (link_looks looks.new.warnings.items looks.new.harmless.items)) }
+        (about_link looks.new)) }
 {
     let order = dict.order();
     let entry = dict.entry(slot);
@@ -68,10 +68,10 @@ fn look_at_definitions<'a, A: Allocator>(
     size: Option<u16>,
     records: &LinkInformation<'_>,
 ) -> Result<(), AllocError>
-    ensures { OnOk result (Adds (link_looks looks.old.warnings.items looks.old.harmless.items)
+    ensures { OnOk result (Adds (about_link looks.old)
         (definition_looks path.now (Some entry.now.name)
         (option_map (λ h. h.now) context.now.host) entry.now.kind size records.now)
-        (link_looks looks.new.warnings.items looks.new.harmless.items)) }
+        (about_link looks.new)) }
 {
     let place = WarningAt {
         path,

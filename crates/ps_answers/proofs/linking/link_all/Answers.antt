@@ -4,5 +4,5 @@ use Rattle.ps_answers.proofs.linking.link_all.Goals as goal
 pub returns-clause-linked : goal.returns-clause-linked
 returns-clause-linked c = search rules
 
-pub returns-then-room-size-clause-not_done : goal.returns-then-room-size-clause-not_done
-returns-then-room-size-clause-not_done c = search rules
+pub returns-then-room-size-clause-unput : goal.returns-then-room-size-clause-unput
+returns-then-room-size-clause-unput c = search rules

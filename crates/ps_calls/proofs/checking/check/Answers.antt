@@ -1,12 +1,18 @@
-use Rattle.std.proofs.Common.{◌≡◌, ◌+◌, ◌∙◌, ap, arith, length, rules}
-use Rattle.ps_resolve.specs.Sources.{contents}
-use Rattle.ps_calls.proofs.FileNames.{as_many}
+use Rattle.std.proofs.lemmas.Result.{err_from_is_err_and}
+use Rattle.ps_report.specs.Reported.{reported}
 use Rattle.ps_calls.proofs.checking.check.Goals as goal
 
-pub check_all-requires : goal.check_all-requires
-check_all-requires c =
-    let one_each : length c.args.name_lengths.now
-    ≡ 1 + length c.args.lengths.now = search rules in
-    let named = as_many c.args.names.now c.args.name_lengths.now c.as_slice-2.result.now
-    (ap contents c.as_slice-2.ensures.value ∙ c.in_ok-names.ensures.cut) in
-    omega (arith, named, one_each)
+pub returns-in_err-put-clause-not_done : goal.returns-in_err-put-clause-not_done
+returns-in_err-put-clause-not_done c =
+    let told = err_from_is_err_and c.from_residual-in_err-put.result
+    c.from_residual-in_err-put.ensures.1 in
+    let lengths = c.have_lengths.ensures.0 c.if-not-have_lengths.false in
+    rw (told.1, told.2) (
+      (lengths.0, lengths.1, (lengths.2, c.in_ok-names.ensures.utf8)),
+      (
+        reported c.in_ok-report.report,
+        rw (c.as_slice.ensures, c.as_slice-2.ensures.value, c.in_ok-libs.ensures.ok,
+            c.in_ok-names.ensures.cut) at c.in_ok-report.ensures,
+        rw c.as_bytes.ensures.value at c.in_err-put.ensures.small,
+      ),
+    )

@@ -1,6 +1,6 @@
-use Rattle.std.proofs.Common.{Bor, List, ℕ, ◌∙◌, ap}
+use Rattle.std.proofs.Common.{◌∙◌, ap}
 use Rattle.ps_resolve.specs.Sources.{contents}
-use Rattle.ps_calls.proofs.FileNames.{misnamed}
+use Rattle.ps_calls.proofs.FileNames.{many_texts}
 use Rattle.ps_calls.proofs.file_names.file_names.Goals as goal
 
 pub returns-clause-cut : goal.returns-clause-cut
@@ -13,7 +13,8 @@ returns-clause-utf8 c =
 
 pub returns-clause-err : goal.returns-clause-err
 returns-clause-err c =
-    misnamed c.args.names.now c.args.lengths.now c.as_slice.result.now c.texts.result
-    c.in_ok-parts.ensures.right
-    (ap (λ (parts : List (Bor (List ℕ))). contents parts) c.as_slice.ensures
-    ∙ c.in_ok-parts.ensures.ok) c.texts.ensures.err
+    rw (ap contents c.as_slice.ensures ∙ c.in_ok-parts.ensures.ok) at c.texts.ensures.err
+
+pub returns-clause-many : goal.returns-clause-many
+returns-clause-many c = many_texts c.args.names.now c.args.lengths.now c.texts.result
+    (rw (ap contents c.as_slice.ensures ∙ c.in_ok-parts.ensures.ok) at c.texts.ensures.same)

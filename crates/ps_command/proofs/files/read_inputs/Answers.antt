@@ -21,8 +21,8 @@ loop-path-preserved g c =
     map_more _ paths i no_path lt in
     let pushed : map (λ library. library.items) c.push.new.self.items
     ≡ map (λ library. library.items) c.loop-path.libraries.items
-    ++ c.in_ok-read.field-0.items ∷ [] =
+    ++ c.in_ok-read_at.field-0.items ∷ [] =
     rw c.in_ok-push.ensures.items (map-append _ c.loop-path.libraries.items
-    (c.in_ok-read.field-0 ∷ [])) in
+    (c.in_ok-read_at.field-0 ∷ [])) in
     rw (more, pushed) (AllZip-push _ _ _ _ _ c.loop-path.invariant
-    (rw whole at c.in_ok-read.ensures.whole))
+    (rw whole at c.in_ok-read_at.ensures))

@@ -5,6 +5,6 @@ returns-clause-ok g c = (
   g.O.Write.contents c.write_all_of.new.out,
   g.O.Write.contents c.print_files.new.out,
   c.in_ok-write_all_of.ensures.all,
-  c.in_ok-status.ensures.ok,
+  c.in_ok-ended.ensures.ok,
   c.in_ok-write_all_of-2.ensures.all,
 )

@@ -1,17 +1,15 @@
-use Rattle.std.proofs.Common.{◌≡◌, ◌≤◌, ◌≢◌, drop, map}
+use Rattle.std.proofs.Common.{◌≡◌, drop, map}
 use Rattle.ps_command.specs.FilesRead.{Reads}
+use Rattle.ps_command.specs.Statuses.{ended_status}
 use Rattle.ps_command.proofs.ListsPrinted.{ListsLeft}
 use Rattle.ps_command.proofs.lists.print_files.Given as goal
 
 -- the lists of the files so far are printed, and those of the others are still to be printed
 abbrev pub invariant-loop-path : goal.invariant-loop-path
 invariant-loop-path g l = record {
-  at : l.index ≡ l.path-index;
-  lists : ListsLeft (Reads (g.R.CodeFiles.opened l.rt) g.R.Opened.Read.remaining) l.form
+  lists : ListsLeft (Reads (g.R.CodeFiles.opened l.rt) g.R.Opened.Read.remaining) l.how
       (map (λ path. path.now) l.paths) (g.O.Write.contents l.fn.out)
-      l.path-index (map (λ path. path.now) (drop l.path-index l.paths)) l.status
+      l.first (map (λ path. path.now) (drop l.path-index l.paths)) (ended_status l.ended)
       (g.O.Write.contents l.out);
-  few : l.status ≤ 3;
-  used : l.status ≢ 2;
-  silent : l.status ≡ 0 → l.err ≡ l.fn.err;
+  silent : ended_status l.ended ≡ 0 → l.err ≡ l.fn.err;
 }

@@ -1,6 +1,4 @@
 use Rattle.ps_command.proofs.lists.print_lists.Goals as goal
 
-pub returns-in_ok-print_document-in-Json-clause-ok :
-    goal.returns-in_ok-print_document-in-Json-clause-ok
-returns-in_ok-print_document-in-Json-clause-ok g c =
-    rw c.in-Json.is c.in_ok-print_document-in-Json.ensures.ok
+pub returns-in-Json-clause-ok : goal.returns-in-Json-clause-ok
+returns-in-Json-clause-ok g c = rw c.in-Json.is c.print_document.ensures.ok

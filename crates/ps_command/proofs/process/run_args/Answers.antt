@@ -3,12 +3,12 @@ use Rattle.ps_command.proofs.process.run_args.Goals as goal
 
 pub returns-in-Ok-clause-reported : goal.returns-in-Ok-clause-reported
 returns-in-Ok-clause-reported g c taken one =
-    let same = ap (map (λ arg. arg.now)) c.as_slice.ensures.value ∙ c.in-Ok.ensures.ok in
+    let same = ap (map (λ arg. arg.now)) c.as_slice.ensures.value ∙ c.in-Ok.ensures in
     let is_one : c.run.result ≡ 1 = search rules in
     (rw same at c.run.ensures.reported) taken is_one
 
 pub returns-in-Ok-clause-printed : goal.returns-in-Ok-clause-printed
 returns-in-Ok-clause-printed g c taken zero =
-    let same = ap (map (λ arg. arg.now)) c.as_slice.ensures.value ∙ c.in-Ok.ensures.ok in
+    let same = ap (map (λ arg. arg.now)) c.as_slice.ensures.value ∙ c.in-Ok.ensures in
     let is_zero : c.run.result ≡ 0 = search rules in
     (rw same at c.run.ensures.printed) taken is_zero

@@ -3,10 +3,6 @@ use Rattle.clap.specs.Words.{found_of}
 use Rattle.clap.proofs.WalkLemmas.{first_value-rows}
 use Rattle.ps_command.proofs.request.file_of.Goals as goal
 
-pub returns-in-None-clause-refused : goal.returns-in-None-clause-refused
-returns-in-None-clause-refused c =
-    sym (c.in-None.ensures ∙ first_value-rows (found_of c.args.found.now) c.args.argument.now)
-
-pub returns-in-Some-clause-named : goal.returns-in-Some-clause-named
-returns-in-Some-clause-named c =
+pub returns-in-Some : goal.returns-in-Some
+returns-in-Some c =
     sym (c.in-Some.ensures ∙ first_value-rows (found_of c.args.found.now) c.args.argument.now)

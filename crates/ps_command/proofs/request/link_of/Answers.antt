@@ -1,4 +1,4 @@
-use Rattle.std.proofs.Common.{◌≡◌, ◌∙◌, List, [], ◌∷◌, ◌||◌, Bor, ap, inr, map, refl, sym}
+use Rattle.std.proofs.Common.{◌≡◌, ◌∙◌, List, [], ◌∷◌, ◌||◌, Bor, ap, map, refl, sym}
 use Rattle.std.specs.List.{list_any}
 use Rattle.std.specs.Str.{bytes_eq}
 use Rattle.clap.specs.Words.{Text, found_of, rows_of}
@@ -13,24 +13,13 @@ among : (out : Text) (paths : List (Bor Text))
 among out [] = refl
 among out (path ∷ paths) = ap (λ t. bytes_eq path.now out || t) (among out paths)
 
-pub returns-then-contains-clause-refused : goal.returns-then-contains-clause-refused
-returns-then-contains-clause-refused g c other =
+pub returns : goal.returns
+returns g c =
     let rows = rows_of (found_of c.args.found.now) in
     let out = c.in_ok-out.out.now in
     let whole = ap (λ (paths : List (Bor Text)). list_any (λ path. bytes_eq path.now out) paths)
     c.deref.ensures.value in
-    let is = sym (ap (is_library out) c.in_ok-inputs.ensures.named.1)
-    ∙ sym (among out c.in_ok-inputs.inputs.libraries.items) ∙ sym whole
-    ∙ sym c.contains.ensures.value ∙ c.if-contains.true in
-    inr (c.written_library.ensures.memory other, (rows, out, refl, c.in_ok-out.ensures.named, is))
-
-pub returns-clause-named : goal.returns-clause-named
-returns-clause-named g c =
-    let rows = rows_of (found_of c.args.found.now) in
-    let out = c.in_ok-out.out.now in
-    let whole = ap (λ (paths : List (Bor Text)). list_any (λ path. bytes_eq path.now out) paths)
-    c.deref.ensures.value in
-    let is = sym (ap (is_library out) c.in_ok-inputs.ensures.named.1)
+    let is = sym (ap (is_library out) c.in_ok-inputs.ensures.1)
     ∙ sym (among out c.in_ok-inputs.inputs.libraries.items) ∙ sym whole
     ∙ sym c.contains.ensures.value ∙ c.if-contains.false in
-    (rows, refl, c.in_ok-inputs.ensures.named, c.in_ok-out.ensures.named, is)
+    (rows, refl, c.in_ok-inputs.ensures, c.in_ok-out.ensures, is)

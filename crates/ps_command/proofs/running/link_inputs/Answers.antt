@@ -3,8 +3,8 @@ use Rattle.std.proofs.lemmas.Result.{IfOk-weaker}
 use Rattle.clap.proofs.WalkLemmas.{IfOk-both}
 use Rattle.ps_command.proofs.running.link_inputs.Goals as goal
 
-pub returns-clause-linked : goal.returns-clause-linked
-returns-clause-linked g c =
+pub returns : goal.returns
+returns g c =
     let seen = ap (map (λ lib. lib.now)) c.as_slice-3.ensures.value ∙ c.in_ok-views.ensures in
     IfOk-weaker c.link_bytes.result _ _ (λ summary linked. (
       c.as_slice-2.result.now,

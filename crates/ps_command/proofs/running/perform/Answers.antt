@@ -1,4 +1,4 @@
-use Rattle.std.proofs.Common.{arith, ◌∙◌, [], ap, map, refl, sym, inl, inr}
+use Rattle.std.proofs.Common.{◌∙◌, [], ap, map, refl, sym, inl, inr}
 use Rattle.std.proofs.lemmas.Result.{IfOk-weaker}
 use Rattle.ps_command.proofs.running.perform.Goals as goal
 
@@ -11,17 +11,29 @@ returns-in_ok-link-in-Link-clause-ok g c named is =
       inl (task.1, refl, task.2.0, c.in-Link.path.now, task.3, printed),
     )
 
-pub returns-in_ok-map-in-Map-clause-ok : goal.returns-in_ok-map-in-Map-clause-ok
-returns-in_ok-map-in-Map-clause-ok g c named is =
+pub returns-in-Map-clause-ok : goal.returns-in-Map-clause-ok
+returns-in-Map-clause-ok g c named is =
     let task = rw c.in-Map.is at is in
-    let printed = rw (task.2.1, task.3, task.4) at c.in_ok-map-in-Map.ensures.ok in
-    (task.0, c.in-Map.inputs.host.now, inr (inl (task.1, refl, task.2.0, printed)))
+    IfOk-weaker c.print.result _ _ (λ ended printed. (
+      task.0,
+      c.in-Map.inputs.host.now,
+      inr (inl (
+        task.1,
+        task.2.0,
+        rw (c.map_kind.ensures, task.2.1, task.3, task.4) at printed,
+      )),
+    ))
+    c.print.ensures.ok
 
-pub returns-in_ok-show-in-Show-clause-ok : goal.returns-in_ok-show-in-Show-clause-ok
-returns-in_ok-show-in-Show-clause-ok g c named is =
+pub returns-in-Show-clause-ok : goal.returns-in-Show-clause-ok
+returns-in-Show-clause-ok g c named is =
     let task = rw c.in-Show.is at is in
-    let printed = rw task.3 at c.in_ok-show-in-Show.ensures.ok in
-    (task.0, c.in-Show.file.now, inr (inr (inl (task.1, refl, task.2, printed))))
+    IfOk-weaker c.print-in-Show.result _ _ (λ ended printed. (
+      task.0,
+      c.in-Show.file.now,
+      inr (inr (inl (task.1, task.2, rw (c.form_of.ensures, task.3, c.new.ensures.items) at printed))),
+    ))
+    c.print-in-Show.ensures.ok
 
 pub returns-then-unit-clause-ok : goal.returns-then-unit-clause-ok
 returns-then-unit-clause-ok g c named is =
@@ -46,27 +58,19 @@ returns-else-unit-clause-ok g c named is =
       inr (inr (inr (inl (
         task.1,
         task.2.0,
-        rw (sym task.4 ∙ c.if-unit.false) (rw (task.2.1, task.3, task.5) at printed),
+        rw (sym task.4 ∙ c.if-unit.false)
+            (rw (c.form_of-in-Check.ensures, task.2.1, task.3, task.5) at printed),
       )))),
     ))
     c.check.ensures.ok
 
-pub returns-else-unit-clause-few : goal.returns-else-unit-clause-few
-returns-else-unit-clause-few g c = IfOk-weaker c.check.result _ _
-    (λ status few. omega (arith, few)) c.check.ensures.few
-
-pub returns-else-unit-clause-used : goal.returns-else-unit-clause-used
-returns-else-unit-clause-used g c = IfOk-weaker c.check.result _ _
-    (λ status few. omega (arith, few)) c.check.ensures.few
-
-pub returns-in-List-clause-ok : goal.returns-in-List-clause-ok
-returns-in-List-clause-ok g c named is =
+pub returns-in_ok-print_lists-in-List-clause-ok : goal.returns-in_ok-print_lists-in-List-clause-ok
+returns-in_ok-print_lists-in-List-clause-ok g c named is =
     let task = rw c.in-List.is at is in
     let paths = ap (map (λ path. path.now)) c.as_slice.ensures.value ∙ task.2 in
-    IfOk-weaker c.print_lists.result _ _ (λ status printed. (
+    let printed = c.in_ok-print_lists-in-List.ensures.ok in (
       task.0,
       [],
       inr (inr (inr (inr
           (task.1, rw (c.list_form.ensures, task.3, paths) at printed)))),
-    ))
-    c.print_lists.ensures.ok
+    )

@@ -6,9 +6,10 @@ use Rattle.ps_linkfile.proofs.show.add_links.Goals as goal
 pub returns-in-Err : goal.returns-in-Err
 returns-in-Err g c =
     let dict = c.args.dict.now in
-    adds_is (links_of_fault c.args.form dict.order dict.file c.args.slot c.in-Err.reason
-    (search rules) (search rules)) (c.add_links_head.ensures ⨾ (c.add_by_form-in-Err.ensures
-    ⨾ c.add_reason.ensures ⨾ c.add_by_form-in-Err-2.ensures))
+    let links = links_of_fault c.args.form dict.order dict.file c.args.slot c.in-Err.reason
+    (search rules) (search rules) in
+    adds_is (search (rules, links)) (c.add_links_head.ensures ⨾ (c.add_by_form-in-Err.ensures
+    ⨾ c.add_fault.ensures ⨾ c.add_by_form-in-Err-2.ensures))
 
 pub returns-in-Ok : goal.returns-in-Ok
 returns-in-Ok g c =

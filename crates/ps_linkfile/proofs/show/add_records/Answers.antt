@@ -8,7 +8,7 @@ loop-item-init g c = grind (
   arith,
   none_yet,
   walked,
-  walked_all (record_in c.args.form c.args.units.now) (fault_in c.args.form) (λ n. refl),
+  walked_all (record_in c.args.form c.args.units.now) (fault_in c.args.form c.args.slot c.args.name) (λ n. refl),
 )
 
 pub returns-then-has_failed : goal.returns-then-has_failed

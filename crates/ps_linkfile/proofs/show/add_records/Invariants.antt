@@ -9,8 +9,8 @@ invariant-loop-item g l = record {
   can : (goal.iterator-loop-item g).can_next l.item-iterator;
   finite : (goal.iterator-loop-item g).is_finite l.item-iterator;
   lines : Written g.S.TextWriter.added l.fn.text
-      (records_in l.form l.units (reading l.fn.order l.information))
-      (walked (record_in l.form l.units) (fault_in l.form) l.rec (items_left l.item-iterator))
+      (records_in l.form l.units l.slot l.name (reading l.fn.order l.information))
+      (walked (record_in l.form l.units) (fault_in l.form l.slot l.name) l.rec (items_left l.item-iterator))
       l.text;
   few : l.rec + length (items_left l.item-iterator) ≤ length l.information / 16 + 1;
 }

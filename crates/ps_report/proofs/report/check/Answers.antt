@@ -1,72 +1,79 @@
-use Rattle.std.proofs.Common.{◌∙◌, ◌∷◌, [], List, ℕ, Bor, map, string_bytes, subst, sym, vec_len, ap}
+use Rattle.std.proofs.Common.{◌≡◌, ◌∙◌, ◌∷◌, ◌++◌, [], List, None, ℕ, ap, string_bytes, subst, sym, vec_len}
+use Rattle.std.proofs.lemmas.List.{length-map}
+use Rattle.ps_resolve.specs.AllFaults.{reading_fault}
 use Rattle.ps_resolve.specs.Sources.{contents}
 use Rattle.ps_explained.specs.SegmentLines.{segment_lines}
 use Rattle.ps_explained.specs.SlotLines.{AddsSlotLines, slot_lines}
-use Rattle.ps_explained.proofs.SlotLines.{lines_in}
-use Rattle.ps_listing.specs.FileLists.{AreLists}
+use Rattle.ps_listing.specs.FileLists.{IsList}
+use Rattle.ps_listing.specs.declared.lists.ListForm.TheVariants.{Lines}
+use Rattle.ps_report.specs.Reported.{said}
+use Rattle.ps_report.specs.Verdicts.{fault_of}
 use Rattle.ps_report.specs.WarningLines.{other_lines}
 use Rattle.ps_report.proofs.SegmentTexts.{links_of, no_lists}
-use Rattle.ps_report.proofs.Texts.{lists_in, told_in}
+use Rattle.ps_report.proofs.Reports.{is_report, same_looks}
 use Rattle.ps_report.proofs.Verdicts.{linked_or_not, refused_or_not, warned_or_refused}
 use Rattle.ps_report.proofs.report.check.Goals as goal
 
 pub returns-clause-links : goal.returns-clause-links
 returns-clause-links g c = linked_or_not c.args.host.now (contents c.args.libs.now)
-    (vec_len c.in_ok-findings.findings.looks.warnings) c.in_ok-verdict.verdict
-    c.in_ok-verdict.ensures.right
+    (vec_len c.in_ok-warnings.warnings) c.in_ok-verdict.verdict c.in_ok-verdict.ensures.right
 
 pub returns-clause-refused : goal.returns-clause-refused
 returns-clause-refused g c = refused_or_not c.args.host.now (contents c.args.libs.now)
-    (vec_len c.in_ok-findings.findings.looks.warnings) c.in_ok-verdict.verdict
-    c.in_ok-verdict.ensures.right
+    (vec_len c.in_ok-warnings.warnings) c.in_ok-verdict.verdict c.in_ok-verdict.ensures.right
 
-pub returns-clause-counted : goal.returns-clause-counted
-returns-clause-counted g c = c.in_ok-text.ensures.counted
+pub returns-clause-report : goal.returns-clause-report
+returns-clause-report g c =
+    let host = c.args.host.now in
+    let libs : List (List ℕ) = contents c.args.libs.now in
+    let paths : List (List ℕ) = c.args.host_path.now ∷ contents c.args.paths.now in
+    let verdict = c.in_ok-verdict.verdict in
+    let right = c.in_ok-verdict.ensures.right in
+    let front = string_bytes c.in_ok-front.front in
+    let told = c.in_ok-front.ensures in
+    let found = c.in_ok-inspection.ensures in
+    let warned = c.in_ok-warnings.ensures in
+    let calm = c.in_ok-harmless.ensures in
+    let noted = c.in_ok-notes.ensures in
+    let lists = c.in_ok-lists.ensures in
+    let silent : fault_of verdict ≡ None → c.as_str-2.result.now ≡ [] =
+    λ links. c.as_str-2.ensures.value ∙ found.explanation links in
+    let unlisted : fault_of verdict ≡ None → c.as_str-3.result.now ≡ [] =
+    λ links. c.as_str-3.ensures.value ∙ lists.none (no_lists verdict libs links) in
+    let shown : reading_fault host libs ≡ None
+    → slot_lines c.as_str.result.now ≡ segment_lines paths host libs =
+    λ read. ap slot_lines c.as_str.ensures.value ∙ found.segments read in
+    is_report paths host libs _ front
+    (record {
+      before = told.parts.0;
+      explanation = other_lines c.as_str-2.result.now;
+      lists = c.as_str-3.result.now;
+      parts = told.parts.1;
+      warnings = told.warnings;
+      lines =
+          λ none.
+          let links = links_of host libs verdict right none in
+          let read = c.first_of_all.ensures.unread host libs
+          (λ step f reading stands. none step f stands) in
+          subst (λ (ls : List (List ℕ)). AddsSlotLines [] ls front) (shown read)
+          (told.lines (silent links) (unlisted links));
+      listed =
+          λ lacks.
+          subst (λ (text : List ℕ). IsList Lines paths (host ∷ libs) text)
+          (sym c.as_str-3.ensures.value) (lists.lists lacks);
+    })
+    (c.in_ok-push_str.ensures.bytes
+    ∙ ap (λ (t : List ℕ). front ++ t) (c.as_str-4.ensures.value ∙ c.in_ok-lines.ensures))
+    right found.name
+    (same_looks _ _ _ _ _ _ (warned.warnings ∙ c.as_slice.ensures.value)
+    (calm.warnings ∙ c.as_slice-2.ensures.value)
+    (noted.warnings ∙ c.as_slice-3.ensures.value) ∙ found.looks)
+    warned.places calm.places noted.places
 
 pub returns-clause-warned : goal.returns-clause-warned
-returns-clause-warned g c = warned_or_refused c.args.host.now (contents c.args.libs.now)
-    (string_bytes c.in_ok-text.text) (vec_len c.in_ok-findings.findings.looks.warnings)
-    c.in_ok-verdict.verdict c.in_ok-verdict.ensures.right c.in_ok-text.ensures.counted
-
-pub returns-clause-line : goal.returns-clause-line
-returns-clause-line g c =
-    let parts = c.in_ok-text.ensures.parts in
-    told_in parts.0 c.in_ok-verdict.verdict (other_lines c.as_str-2.result.now)
-    (other_lines c.as_str-3.result.now) parts.1 (string_bytes c.in_ok-text.text) parts.2
-
-pub returns-clause-lists : goal.returns-clause-lists
-returns-clause-lists g c = λ lacks.
-    let paths : List (List ℕ) = c.args.host_path.now
-    ∷ map (λ (path : Bor (List ℕ)). path.now) c.args.paths.now in
-    let files : List (List ℕ) = c.args.host.now ∷ contents c.args.libs.now in
-    let lists : List ℕ = c.as_str-3.result.now in
-    let parts = c.in_ok-text.ensures.parts in
-    let are = subst (λ (text : List ℕ). AreLists paths files text) (sym c.as_str-3.ensures.value)
-    (c.in_ok-lists.ensures.lists lacks) in
-    lists_in paths files parts.0 c.in_ok-verdict.verdict (other_lines c.as_str-2.result.now)
-    lists parts.1 (string_bytes c.in_ok-text.text) parts.2 are
-
-pub returns-clause-segments : goal.returns-clause-segments
-returns-clause-segments g c = λ none.
-    let host = c.args.host.now in
-    let libs = contents c.args.libs.now in
-    let verdict = c.in_ok-verdict.verdict in
-    let lines = segment_lines (c.args.host_path.now ∷ contents c.args.paths.now) host libs in
-    let text = string_bytes c.in_ok-text.text in
-    let links = links_of host libs verdict c.in_ok-verdict.ensures.right none in
-    let read = c.first_of_all.ensures.unread host libs
-    (λ step f reading stands. none step f stands) in
-    let silent = c.as_str-2.ensures.value ∙ c.in_ok-findings.ensures.explanation links in
-    let unlisted = c.as_str-3.ensures.value
-    ∙ c.in_ok-lists.ensures.none (no_lists verdict libs links) in
-    let shown = ap slot_lines c.as_str.ensures.value
-    ∙ c.in_ok-findings.ensures.segments read in
-    let told = subst (λ (ls : List (List ℕ)). AddsSlotLines [] ls text) shown
-    (c.in_ok-text.ensures.lines silent unlisted) in
-    lines_in text lines told
-
-pub returns-clause-looks : goal.returns-clause-looks
-returns-clause-looks g c = c.in_ok-findings.ensures.looks
-
-pub returns-clause-name : goal.returns-clause-name
-returns-clause-name g c = c.in_ok-findings.ensures.name
+returns-clause-warned g c =
+    let counted = (returns-clause-report g c).counted in
+    let warnings = c.in_ok-warnings.warnings in
+    warned_or_refused c.args.host.now (contents c.args.libs.now) _ (vec_len warnings)
+    c.in_ok-verdict.verdict c.in_ok-verdict.ensures.right
+    (counted ∙ (length-map warnings.items said ∙ sym warnings.ok.0))

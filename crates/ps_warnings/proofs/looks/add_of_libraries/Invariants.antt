@@ -3,7 +3,7 @@ use Rattle.std.specs.List.{enumerate_from, flat_map}
 use Rattle.std.specs.Option.{option_map}
 use Rattle.ps_resolve.specs.Sources.{contents}
 use Rattle.ps_warnings.specs.AllLooks.{looks_of_file}
-use Rattle.ps_warnings.specs.Found.{link_looks}
+use Rattle.ps_warnings.specs.Found.{about_link}
 use Rattle.ps_segments.specs.Paths.{host_order, paths_in}
 use Rattle.ps_segments.specs.Seen.{seen}
 use Rattle.ps_warnings.proofs.Found.{Owes}
@@ -16,7 +16,7 @@ invariant-loop-library g l =
     (λ h. h.now) l.context.host)
     (map seen l.context.list.now) (host_order l.context.inputs.now.host.now) in
     let libs = contents l.context.inputs.now.libs.now in
-    Owes (link_looks l.fn.looks.warnings.items l.fn.looks.harmless.items)
+    Owes (about_link l.fn.looks)
     (flat_map of_file (enumerate_from 1 libs))
     (flat_map of_file (enumerate_from (l.library + 1) (drop l.library libs)))
-    (link_looks l.looks.warnings.items l.looks.harmless.items)
+    (about_link l.looks)

@@ -13,17 +13,8 @@ returns-in-None-clause-all g c = grind (arith, adds_first, appends_none, on_ok_w
 
 pub returns-in-None-clause-prefix : goal.returns-in-None-clause-prefix
 returns-in-None-clause-prefix g c =
-    let (name, counter, sent, noted) = adds_first c.add_to.ensures
-    (refl, refl, ([], appends_none _, c.new-room.ensures), refl) in
+    let (name, sent) = adds_first c.add_to.ensures
+    (refl, ([], appends_none _, c.new-room.ensures)) in
     let before = rw c.in-None.is at sent in
     on_err_weaker c.flush.result (λ flushed.
     (let bytes = sent_front _ _ _ _ _ before flushed in search rules)) c.flush.ensures.prefix
-
-pub returns-in-Some-clause-failed : goal.returns-in-Some-clause-failed
-returns-in-Some-clause-failed g c = grind (arith, adds_first, appends_none)
-
-pub returns-in-None-clause-ok : goal.returns-in-None-clause-ok
-returns-in-None-clause-ok g c = grind (arith, adds_first, appends_none, on_ok_weaker)
-
-pub returns-in-None-clause-failed : goal.returns-in-None-clause-failed
-returns-in-None-clause-failed g c = grind (arith, adds_first, appends_none)

@@ -3,7 +3,7 @@ use Rattle.std.specs.List.{flat_map, range_with_len}
 use Rattle.std.specs.Option.{option_map}
 use Rattle.ps_codefile.specs.Dictionary.{slots}
 use Rattle.ps_warnings.specs.FileLooks.{looks_of_slot}
-use Rattle.ps_warnings.specs.Found.{link_looks}
+use Rattle.ps_warnings.specs.Found.{about_link}
 use Rattle.ps_segments.specs.Paths.{path_of, paths_in}
 use Rattle.ps_segments.specs.Seen.{seen}
 use Rattle.ps_warnings.proofs.Found.{Owes}
@@ -15,6 +15,6 @@ abbrev pub invariant-loop-slot : goal.invariant-loop-slot
 invariant-loop-slot g l =
     let of_slot = looks_of_slot (path_of (paths_in l.context.inputs.now) l.file) (option_map
     (λ h. h.now) l.context.host) (map seen l.context.list.now) l.dict.order l.dict.file l.file in
-    Owes (link_looks l.fn.looks.warnings.items l.fn.looks.harmless.items) (flat_map of_slot slots)
+    Owes (about_link l.fn.looks) (flat_map of_slot slots)
     (flat_map of_slot (range_with_len l.slot (SLOTS - l.slot)))
-    (link_looks l.looks.warnings.items l.looks.harmless.items)
+    (about_link l.looks)

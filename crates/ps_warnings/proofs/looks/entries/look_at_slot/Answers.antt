@@ -4,7 +4,7 @@ use Rattle.std.specs.Option.{option_map}
 use Rattle.ps_linkinfo.specs.declared.record.LinkRecord.{LinkRecord as Record}
 use Rattle.ps_segments.specs.Seen.{seen}
 use Rattle.std.proofs.lemmas.Bool.Decides.{nat_tests}
-use Rattle.ps_warnings.specs.Found.{link_looks}
+use Rattle.ps_warnings.specs.Found.{about_link}
 use Rattle.ps_segments.specs.Paths.{path_of, paths_in}
 use Rattle.ps_warnings.proofs.Found.{adds_is, adds_none}
 use Rattle.ps_warnings.proofs.Slots.{slot_beside, slot_empty, slot_filled}
@@ -30,8 +30,7 @@ returns-then-file-ne0 g c =
     (List Record)). h.now) c.args.context.now.host)
     (map seen c.args.context.now.list.now) d.order d.file c.args.file c.args.slot
     (sym c.filled.ensures ∙ c.if-filled.false) other in
-    adds_is (sym none) (adds_none (link_looks c.args.looks.now.warnings.items
-    c.args.looks.now.harmless.items))
+    adds_is (sym none) (adds_none (about_link c.args.looks.now))
 
 pub returns : goal.returns
 returns g c =

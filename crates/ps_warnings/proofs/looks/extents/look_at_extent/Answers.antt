@@ -1,6 +1,6 @@
 use Rattle.std.proofs.Common.{◌∙◌, sym}
 use Rattle.std.proofs.lemmas.Result.{on_ok_weaker}
-use Rattle.ps_warnings.specs.Found.{link_looks}
+use Rattle.ps_warnings.specs.Found.{about_link}
 use Rattle.ps_warnings.proofs.Found.{adds_is, adds_none}
 use Rattle.ps_warnings.proofs.Slots.{in_slot, no_slot}
 use Rattle.ps_warnings.proofs.looks.extents.look_at_extent.Goals as goal
@@ -19,5 +19,4 @@ returns g c =
     let d = c.args.dict.now in
     let none = no_slot c.args.path.now d.order d.file c.args.extents.now c.args.extent
     (sym c.is_slot.ensures ∙ c.if-is_slot.false) in
-    adds_is (sym none) (adds_none (link_looks c.args.looks.now.warnings.items
-    c.args.looks.now.harmless.items))
+    adds_is (sym none) (adds_none (about_link c.args.looks.now))

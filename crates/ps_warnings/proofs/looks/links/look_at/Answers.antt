@@ -2,7 +2,7 @@ use Rattle.std.proofs.Common.{◌∙◌, map, sym}
 use Rattle.std.proofs.lemmas.Result.{on_ok_weaker}
 use Rattle.ps_segments.specs.Paths.{paths_in}
 use Rattle.ps_segments.specs.Seen.{seen}
-use Rattle.ps_warnings.specs.Found.{link_looks}
+use Rattle.ps_warnings.specs.Found.{about_link}
 use Rattle.ps_warnings.proofs.Found.{adds_is, adds_none}
 use Rattle.ps_warnings.proofs.Slots.{host_read, host_unread}
 use Rattle.ps_warnings.proofs.looks.links.look_at.Goals as goal
@@ -19,5 +19,4 @@ returns-in-Err g c =
     let none = host_unread
     (paths_in c.args.context.now.inputs.now) c.args.context.now.inputs.now.host.now
     (map seen c.args.context.now.list.now) _ (sym c.read.ensures ∙ c.in-Err.is) in
-    adds_is (sym none) (adds_none (link_looks c.args.looks.now.warnings.items
-    c.args.looks.now.harmless.items))
+    adds_is (sym none) (adds_none (about_link c.args.looks.now))

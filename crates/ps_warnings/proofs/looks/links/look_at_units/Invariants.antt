@@ -2,7 +2,7 @@ use Rattle.std.proofs.Common.{drop, map}
 use Rattle.std.specs.List.{enumerate_from, flat_map}
 use Rattle.ps_segments.specs.Paths.{paths_in}
 use Rattle.ps_warnings.specs.AllLooks.{looks_of_unit, looks_of_units}
-use Rattle.ps_warnings.specs.Found.{link_looks}
+use Rattle.ps_warnings.specs.Found.{about_link}
 use Rattle.ps_segments.specs.Seen.{seen}
 use Rattle.ps_warnings.proofs.Found.{Owes}
 use Rattle.ps_warnings.proofs.looks.links.look_at_units.Given as goal
@@ -12,8 +12,8 @@ abbrev pub invariant-loop-index : goal.invariant-loop-index
 invariant-loop-index g l =
     let paths = paths_in l.context.inputs.now in
     let list = map seen l.context.list.now in
-    Owes (link_looks l.fn.looks.warnings.items l.fn.looks.harmless.items)
+    Owes (about_link l.fn.looks)
     (looks_of_units paths l.host.order l.host.file list)
     (flat_map (looks_of_unit paths l.host.order l.host.file list)
     (enumerate_from l.index (drop l.index list)))
-    (link_looks l.looks.warnings.items l.looks.harmless.items)
+    (about_link l.looks)

@@ -1,0 +1,353 @@
+//! Why a command ends without having been done: a type for each step says what can happen there, and
+//! `CommandError` what is reported of it, with the status that the process ends with.
+ghost use Rattle.std.specs.Prelude.{◌≡◌, ◌≢◌};
+ghost use Rattle.clap.specs.Words.{kind_of};
+ghost use Rattle.clap.specs.declared.error.ErrorKind.TheVariants.{OutOfMemory};
+ghost use Rattle.ps_command.specs.declared.error.CommandError.TheVariants as told;
+ghost use Rattle.ps_command.specs.declared.error.FileError.TheVariants as file;
+ghost use Rattle.ps_command.specs.declared.error.RunError.TheVariants as run;
+ghost use Rattle.ps_command.specs.declared.error.UsageError.TheVariants as usage;
+ghost use Rattle.ps_linkfile.specs.declared.error.LinkError.TheVariants.{Write};
+ghost use Rattle.ps_words.specs.declared.fault.Fault.{Fault};
+ghost use Rattle.ps_writing.specs.declared.write_fault.WriteFault.{WriteFault};
+ghost use Rattle.ps_command.specs.Causes.{cause_of, run_error_of, run_error_of_unmade, told_of, told_of_file, told_of_usage, told_with_cause as told_with_cause_spec};
+ghost use Rattle.ps_command.specs.Statuses.{status_of};
+
+use clap::error::ErrorKind;
+use ps_filetype::ShownPath;
+use ps_linkfile::LinkError;
+use ps_texts::Unmade;
+use ps_words::Fault;
+use ps_writing::WriteFault;
+use std::alloc::{AllocError, AllocFailed};
+use std::fmt::{self, Formatter};
+use std::io::{self, Write};
+use thiserror::Error;
+
+/// Why a file cannot be read, as far as the system says.
+/// Source: this project's profile.
+#[derive(Clone, Copy)]
+pub(crate) enum Cause {
+    Missing,
+    Folder,
+    Forbidden,
+    /// Its name is not UTF-8, and stands with a zero byte at its end, which no path has.
+    NotText,
+    /// Memory for its bytes, or for what is said of it, was refused.
+    Memory,
+    Other,
+}
+
+impl Cause {
+    /// The cause that is of this kind of the system's errors: a path below a file names no file.
+    /// Source: this project's profile.
+    pub(crate) fn of(kind: io::ErrorKind) -> Cause
+        ensures { result ≡ cause_of kind }
+    {
+        match kind {
+            io::ErrorKind::NotFound | io::ErrorKind::NotADirectory => Cause::Missing,
+            io::ErrorKind::IsADirectory => Cause::Folder,
+            io::ErrorKind::PermissionDenied => Cause::Forbidden,
+            io::ErrorKind::InvalidInput => Cause::NotText,
+            _ => Cause::Other,
+        }
+    }
+}
+
+impl fmt::Display for Cause {
+    fn fmt<W: fmt::Write>(&self, f: &mut Formatter<W>) -> fmt::Result {
+        f.write_str(match self {
+            Cause::Missing => "no such file",
+            Cause::Folder => "a folder",
+            Cause::Forbidden => "no permission",
+            Cause::NotText => "its name is not UTF-8",
+            Cause::Memory => "out of memory",
+            Cause::Other => "the system gives another reason",
+        })
+    }
+}
+
+/// The first argument that is not UTF-8, counted as a shell's `$1`, so that 0 is the program's name;
+/// none where that is not known. Its text is the end of the line that reports it.
+/// Source: this project's profile.
+#[derive(Clone, Copy)]
+pub(crate) struct WrongArgument(pub(crate) Option<usize>);
+
+impl fmt::Display for WrongArgument {
+    fn fmt<W: fmt::Write>(&self, f: &mut Formatter<W>) -> fmt::Result {
+        match self.0 {
+            Some(number) => write!(f, ", and argument {number} is not"),
+            None => Ok(()),
+        }
+    }
+}
+
+/// Why a command line asks for nothing: it is wrong usage, or memory was refused.
+#[derive(Drop)]
+pub(crate) enum UsageError {
+    /// The program does not accept the arguments: what clap says of it.
+    Clap(clap::Error),
+    /// An argument is not UTF-8.
+    NotText(WrongArgument),
+    Memory,
+}
+
+impl From<AllocError> for UsageError {
+    ghost from_gives = { λ _ e. e ≡ usage.Memory };
+
+    fn from(_error: AllocError) -> Self {
+        UsageError::Memory
+    }
+}
+
+impl<T: Drop> From<AllocFailed<T>> for UsageError {
+    ghost from_gives = { λ _ e. e ≡ usage.Memory };
+
+    fn from(_error: AllocFailed<T>) -> Self {
+        UsageError::Memory
+    }
+}
+
+impl From<clap::Error> for UsageError {
+    ghost from_gives = { λ error e. (kind_of error ≡ OutOfMemory → e ≡ usage.Memory) × (kind_of error ≢ OutOfMemory → e ≡ usage.Clap error) };
+
+    fn from(error: clap::Error) -> Self {
+        match error.kind() {
+            ErrorKind::OutOfMemory => UsageError::Memory,
+            _ => UsageError::Clap(error),
+        }
+    }
+}
+
+/// Why the files of a command are not read.
+#[derive(Clone, Copy)]
+pub(crate) enum FileError<'a> {
+    Read { path: &'a str, cause: Cause },
+    TooLong { path: &'a str },
+    Memory,
+}
+
+impl From<AllocError> for FileError<'_> {
+    ghost from_gives = { λ _ e. e ≡ file.Memory };
+
+    fn from(_error: AllocError) -> Self {
+        FileError::Memory
+    }
+}
+
+impl<T: Drop> From<AllocFailed<T>> for FileError<'_> {
+    ghost from_gives = { λ _ e. e ≡ file.Memory };
+
+    fn from(_error: AllocFailed<T>) -> Self {
+        FileError::Memory
+    }
+}
+
+impl<'a> FileError<'a> {
+    /// What is reported where no cause is named.
+    fn told(self) -> CommandError<'a>
+        ensures error { result ≡ told_of_file self.entry }
+        ensures unrefused { status_of result ≢ 1 }
+    {
+        match self {
+            FileError::Read { path, .. } => CommandError::Read { path },
+            FileError::TooLong { path } => CommandError::TooLong { path },
+            FileError::Memory => CommandError::Memory,
+        }
+    }
+
+    /// What is reported where the cause is named.
+    fn told_with_cause(self) -> CommandError<'a>
+        ensures error { result ≡ told_with_cause_spec self.entry }
+        ensures unrefused { status_of result ≢ 1 }
+    {
+        match self {
+            FileError::Read { path, cause } => CommandError::Unreadable { path, cause },
+            FileError::TooLong { path } => CommandError::TooLong { path },
+            FileError::Memory => CommandError::Memory,
+        }
+    }
+}
+
+/// Why a command was not done that the command line asks for.
+#[derive(Drop)]
+pub(crate) enum RunError<'a> {
+    /// The files are refused.
+    Refused(Fault),
+    /// The files are not read.
+    File(FileError<'a>),
+    /// The files of a check are not read: its line names the cause.
+    Unchecked(FileError<'a>),
+    /// The linked file cannot be written to this path.
+    Write { path: &'a str },
+    StandardOutput,
+    Memory,
+}
+
+impl From<AllocError> for RunError<'_> {
+    ghost from_gives = { λ _ e. e ≡ run.Memory };
+
+    fn from(_error: AllocError) -> Self {
+        RunError::Memory
+    }
+}
+
+impl<T: Drop> From<AllocFailed<T>> for RunError<'_> {
+    ghost from_gives = { λ _ e. e ≡ run.Memory };
+
+    fn from(_error: AllocFailed<T>) -> Self {
+        RunError::Memory
+    }
+}
+
+impl<'a> From<FileError<'a>> for RunError<'a> {
+    ghost from_gives = { λ error e. e ≡ run.File error };
+
+    fn from(error: FileError<'a>) -> Self {
+        RunError::File(error)
+    }
+}
+
+impl From<WriteFault> for RunError<'_> {
+    ghost from_gives = { λ _ e. e ≡ run.StandardOutput };
+
+    /// What could not be written is standard output, since a file is named where it is written.
+    fn from(_fault: WriteFault) -> Self {
+        RunError::StandardOutput
+    }
+}
+
+impl From<Unmade> for RunError<'_> {
+    ghost from_gives = { λ why e. e ≡ run_error_of_unmade why };
+
+    fn from(why: Unmade) -> Self {
+        match why {
+            Unmade::Refused(fault) => RunError::Refused(fault),
+            Unmade::Memory => RunError::Memory,
+        }
+    }
+}
+
+impl From<LinkError> for RunError<'_> {
+    ghost from_gives = { λ error e. (e ≡ run_error_of error) × ((fault : WriteFault) → error ≡ Write fault → e ≡ run.StandardOutput) };
+
+    /// What could not be written is standard output, since a file is named where it is written.
+    fn from(error: LinkError) -> Self {
+        match error {
+            LinkError::Refused(fault) => RunError::Refused(fault),
+            LinkError::Memory => RunError::Memory,
+            LinkError::Write(_) => RunError::StandardOutput,
+        }
+    }
+}
+
+/// Each text that the program writes to standard error, with what the text names.
+/// Source: this project's profile.
+#[derive(Drop, Error)]
+pub(crate) enum CommandError<'a> {
+    /// The files are refused.
+    #[error("pslink: {0}")]
+    Refused(Fault),
+    /// The program does not accept the arguments of the command line.
+    #[error("{0}")]
+    Usage(clap::Error),
+    /// An argument of the command line is not UTF-8.
+    #[error("pslink: the arguments of a command are UTF-8{0}")]
+    NotText(WrongArgument),
+    #[error("pslink: cannot read {}", ShownPath(.path))]
+    Read { path: &'a str },
+    /// The same where the cause is named too.
+    #[error("pslink: cannot read {} ({cause})", ShownPath(.path))]
+    Unreadable { path: &'a str, cause: Cause },
+    #[error("pslink: {} is longer than 67108864 bytes", ShownPath(.path))]
+    TooLong { path: &'a str },
+    #[error("pslink: cannot write {}", ShownPath(.path))]
+    Write { path: &'a str },
+    #[error("pslink: cannot write standard output")]
+    StandardOutput,
+    #[error("pslink: out of memory")]
+    Memory,
+}
+
+// The trait `Error` wants a `Debug`, and nothing prints it.
+impl fmt::Debug for CommandError<'_> {
+    fn fmt<W: fmt::Write>(&self, f: &mut Formatter<W>) -> fmt::Result {
+        write!(f, "{self}")
+    }
+}
+
+impl From<AllocError> for CommandError<'_> {
+    ghost from_gives = { λ _ e. e ≡ told.Memory };
+
+    fn from(_error: AllocError) -> Self {
+        CommandError::Memory
+    }
+}
+
+impl From<WriteFault> for CommandError<'_> {
+    ghost from_gives = { λ _ e. e ≡ told.StandardOutput };
+
+    /// What could not be written is standard output, since a file is named where it is written.
+    fn from(_fault: WriteFault) -> Self {
+        CommandError::StandardOutput
+    }
+}
+
+impl From<UsageError> for CommandError<'_> {
+    ghost from_gives = { λ error e. (e ≡ told_of_usage error) × (error ≡ usage.Memory → e ≡ told.Memory) × (status_of e ≢ 1) };
+
+    fn from(error: UsageError) -> Self {
+        match error {
+            UsageError::Clap(error) => CommandError::Usage(error),
+            UsageError::NotText(argument) => CommandError::NotText(argument),
+            UsageError::Memory => CommandError::Memory,
+        }
+    }
+}
+
+impl<'a> From<RunError<'a>> for CommandError<'a> {
+    ghost from_gives = { λ error e. (e ≡ told_of error) × (error ≡ run.StandardOutput → status_of e ≡ 3) × (status_of e ≡ 1 → (fault : Fault) × (error ≡ run.Refused fault)) };
+
+    fn from(error: RunError<'a>) -> Self {
+        match error {
+            RunError::Refused(fault) => CommandError::Refused(fault),
+            RunError::File(error) => error.told(),
+            RunError::Unchecked(error) => error.told_with_cause(),
+            RunError::Write { path } => CommandError::Write { path },
+            RunError::StandardOutput => CommandError::StandardOutput,
+            RunError::Memory => CommandError::Memory,
+        }
+    }
+}
+
+impl CommandError<'_> {
+    /// What the process ends with.
+    /// Source: this project's profile.
+    pub(crate) fn status(&self) -> u8
+        ensures { result ≡ status_of self.now }
+    {
+        match self {
+            CommandError::Refused(_) => 1,
+            CommandError::Usage(_) | CommandError::NotText(_) => 2,
+            CommandError::Read { .. }
+            | CommandError::Unreadable { .. }
+            | CommandError::TooLong { .. }
+            | CommandError::Write { .. }
+            | CommandError::StandardOutput => 3,
+            CommandError::Memory => 4,
+        }
+    }
+
+    /// Writes the text, and returns the status. If the text cannot be written, that is ignored.
+    /// Source: this project's profile.
+    pub(crate) fn report<E: Write>(&self, err: &mut E) -> u8
+        ensures { result ≡ status_of self.now }
+    {
+        // The texts of `clap` end with a line end of their own.
+        let _ = match self {
+            CommandError::Usage(error) => write!(err, "{error}"),
+            _ => writeln!(err, "{self}"),
+        };
+        self.status()
+    }
+}

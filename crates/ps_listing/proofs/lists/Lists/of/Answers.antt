@@ -1,0 +1,61 @@
+use Rattle.std.proofs.Common.{◌≡◌, ◌≤◌, ◌<◌, ◌⊎◌, ◌∷◌, ◌++◌, ◌+◌, [], ℕ, List, Bor, append-nil, inl, inr, drop, length, ap, rules, sym, subst, arith}
+use Rattle.std.specs.Prelude.{min}
+use Rattle.ps_resolve.specs.Sources.{contents}
+use Rattle.ps_listing.specs.FileLists.{AreListed, Listed}
+use Rattle.ps_listing.proofs.FilesListed.{FilesLeft, listed_more, listed_more_at, none_listed, one_ends}
+use Rattle.ps_listing.proofs.lists.Lists.of.Goals as goal
+
+pub loop-index-init : goal.loop-index-init
+loop-index-init g c =
+    let paths = contents c.args.paths.now in
+    let libs = contents c.args.libs.now in
+    let all_paths = c.args.host_path.now ∷ paths in
+    let all_files = c.args.host.now ∷ libs in
+    let one : Listed = c.in_ok-of.field-0 in
+    let start : FilesLeft c.args.how all_paths all_files all_paths all_files [] =
+    record { rest = λ more are. are } in
+    let more = listed_more c.args.how all_paths all_files c.args.host_path.now c.args.host.now
+    paths libs one [] c.in_ok-of.ensures.how c.in_ok-of.ensures.path c.in_ok-of.ensures.file
+    start in
+    let items : c.push.new.self.items ≡ one ∷ [] = search rules in
+    subst (λ (ls : List Listed). FilesLeft c.args.how all_paths all_files paths libs ls)
+    (sym items) more
+
+pub loop-index-preserved : goal.loop-index-preserved
+loop-index-preserved g c =
+    let paths : List (Bor (List ℕ)) = c.args.paths.now in
+    let libs : List (Bor (List ℕ)) = c.args.libs.now in
+    let i : ℕ = c.loop-index.index in
+    let all_paths = c.args.host_path.now ∷ contents paths in
+    let all_files = c.args.host.now ∷ contents libs in
+    let in_paths : i < length paths = omega (arith, c.loop-index-test.true, c.min-count.ensures) in
+    let in_libs : i < length libs = omega (arith, c.loop-index-test.true, c.min-count.ensures) in
+    let none : Bor (List ℕ) = record { ref_ptr = (0, 0); now = [] } in
+    let one : Listed = c.in_ok-of-2.field-0 in
+    let before : List Listed = c.loop-index.files.items in
+    let more = listed_more_at c.args.how all_paths all_files paths libs i none one before
+    c.in_ok-of-2.ensures.how c.in_ok-of-2.ensures.path c.in_ok-of-2.ensures.file in_paths in_libs
+    c.loop-index.invariant in
+    let items : c.push-in-loop-index.new.self.items ≡ before ++ one ∷ [] = search rules in
+    subst (λ (ls : List Listed). FilesLeft c.args.how all_paths all_files
+    (contents (drop (i + 1) paths)) (contents (drop (i + 1) libs)) ls) (sym items) more
+
+pub returns-clause-files : goal.returns-clause-files
+returns-clause-files g c =
+    let paths : List (Bor (List ℕ)) = c.args.paths.now in
+    let libs : List (Bor (List ℕ)) = c.args.libs.now in
+    let i : ℕ = c.loop-index.index in
+    let all_paths = c.args.host_path.now ∷ contents paths in
+    let all_files = c.args.host.now ∷ contents libs in
+    let short : min (length paths) (length libs) ≤ i =
+    omega (arith, c.loop-index-test.false, c.min-count.ensures) in
+    let ended : (drop i paths ≡ []) ⊎ (drop i libs ≡ []) = one_ends paths libs i short in
+    let none = none_listed c.args.how (contents (drop i paths)) (contents (drop i libs))
+    (of_texts ended) in
+    subst (λ (ls : List Listed). AreListed c.args.how all_paths all_files ls)
+    (append-nil c.loop-index.files.items) (c.loop-index.invariant.rest [] none)
+  where
+    of_texts : {ps fs : List (Bor (List ℕ))} → (ps ≡ []) ⊎ (fs ≡ [])
+        → (contents ps ≡ []) ⊎ (contents fs ≡ [])
+    of_texts (inl e) = inl (ap contents e)
+    of_texts (inr e) = inr (ap contents e)

@@ -1,5 +1,0 @@
-use Rattle.std.proofs.lemmas.Str.Ascii.{trim_ascii_end_is}
-use Rattle.ps_listing.proofs.words.trimmed.Goals as goal
-
-pub returns : goal.returns
-returns c = trim_ascii_end_is _ _ c.trim_ascii_end.ensures.value

@@ -1,0 +1,254 @@
+//! The lists of files, one after another.
+ghost use Rattle.std.specs.Prelude.{◌≡◌, IfOk, true};
+ghost use Rattle.ps_writing.specs.Adding.{Adds};
+ghost use Rattle.ps_listing.specs.FileLists.{listed, listed_from, listed_units};
+ghost use Rattle.ps_listing.specs.ListText.{listed_in};
+ghost use Rattle.ps_listing.specs.LoneText.{lone_text};
+
+use crate::listed_file::{add_listed, add_unread, is_refused};
+use crate::lone::{LoneUnit, add_unit_lines, has_no_sound, lone_units};
+use crate::phrases;
+use ps_writing::{Form, Text, TextWriter, separator};
+use std::alloc::{AllocError, Allocator, Global};
+use std::marker::Model;
+
+/// How files are listed.
+#[derive(Clone, Copy)]
+pub enum ListForm {
+    /// A line of each file and of each of its segments.
+    Lines,
+    /// The same values as one JSON document.
+    Json,
+    /// The lines, and after those of each file a line of each of its units by itself.
+    Units,
+}
+
+/// The units of a file by themselves, where they are listed.
+fn units_in<A: Allocator + Copy>(
+    alloc: A,
+    how: ListForm,
+    file: &[u8],
+) -> Result<Vec<LoneUnit, A>, AllocError>
+    ensures { IfOk result (λ units. units.items ≡ listed_units how file.now) }
+{
+    match how {
+        ListForm::Lines | ListForm::Json => Ok(Vec::new(alloc)),
+        ListForm::Units => lone_units(alloc, file),
+    }
+}
+
+/// A file that is listed: its path, what it is, and what it has.
+#[derive(Drop)]
+pub struct ListedFile<'a, A: Allocator = Global> {
+    how: ListForm,
+    path: &'a str,
+    /// What it is, where it is no code file as it ought to be.
+    phrase: String<A>,
+    file: &'a [u8],
+    /// Its units by themselves, where they are listed.
+    units: Vec<LoneUnit, A>,
+}
+
+impl<'a, A: Allocator> Model for ListedFile<'a, A> {
+    ghost use Rattle.std.specs.Prelude.{◌≡◌, string_bytes};
+    ghost use Rattle.ps_listing.specs.FileLists.{Listed, listed_units};
+
+    ghost Value = { Listed };
+
+    ghost view = { λ l. record { how = l.how; path = l.path.now; phrase = string_bytes l.phrase; file = l.file.now } };
+
+    ghost invariant = { λ l. l.units.items ≡ listed_units l.how l.file.now };
+}
+
+impl<'a, A: Allocator + Copy> ListedFile<'a, A> {
+    ghost use Rattle.std.specs.Prelude.{◌≡◌, IfOk};
+    ghost use Rattle.ps_listing.specs.FileLists.{is_refused_in};
+
+    /// What is listed of the file at `path`, a whole file of any contents.
+    ///
+    /// Refused where memory was.
+    pub fn of(
+        alloc: A,
+        how: ListForm,
+        path: &'a str,
+        file: &'a [u8],
+    ) -> Result<ListedFile<'a, A>, AllocError>
+        ensures how { IfOk result (λ l. l.how ≡ how) }
+        ensures path { IfOk result (λ l. l.path ≡ path.now) }
+        ensures file { IfOk result (λ l. l.file ≡ file.now) }
+    {
+        let phrase = phrases::phrase(alloc, file)?;
+        let units = units_in(alloc, how, file)?;
+        Ok(ListedFile {
+            how,
+            path,
+            phrase,
+            file,
+            units,
+        })
+    }
+
+    /// The list says that the file is refused, or one of its segments is, or that it has none; or, with
+    /// units, that it has no unit or that one is refused.
+    pub fn is_refused(&self) -> bool
+        ensures { result ≡ is_refused_in self.now }
+    {
+        match self.how {
+            ListForm::Lines | ListForm::Json => is_refused(self.phrase.as_str(), self.file),
+            ListForm::Units => has_no_sound(self.units.as_slice()),
+        }
+    }
+
+    /// Adds its lines, or its item.
+    fn add_in<S: TextWriter>(&self, text: &mut S, form: Form)
+        ensures { Adds S.added text.old
+            (listed_in form self.now.path self.now.phrase self.now.file) text.new }
+    {
+        add_listed(text, form, self.path, self.phrase.as_str(), self.file);
+    }
+
+    /// Adds the lines of its units, where they are listed.
+    fn add_units<S: TextWriter>(&self, text: &mut S)
+        ensures { Adds S.added text.old
+            (lone_text self.now.path (listed_units self.now.how self.now.file)) text.new }
+    {
+        add_unit_lines(text, self.path, self.units.as_slice());
+    }
+
+    /// Adds what is listed of it, as the first or after another.
+    fn add_item<S: TextWriter>(&self, text: &mut S, first: bool)
+        ensures { Adds S.added text.old (listed first self.now) text.new }
+    {
+        match self.how {
+            ListForm::Lines => self.add_in(text, Form::Lines),
+            ListForm::Json => {
+                text.add(separator(first));
+                self.add_in(text, Form::Json);
+            }
+            ListForm::Units => {
+                self.add_in(text, Form::Lines);
+                self.add_units(text);
+            }
+        }
+    }
+}
+
+/// What is listed of a file: lines made for grep, or an item of the list of a document.
+///
+/// The lines: one of the file, with its byte order, its length and what it is for; and one of each
+/// slot that is not empty. Each begins with the path, in which a hidden character, as one that could
+/// end the line, is a question mark. A segment that is in the file has its kind, its length and the
+/// units that its UNITREF records name. One whose kind, code, procedure tables or records are
+/// refused ends with the number and the name of its first fault, and with the index of the record.
+/// A file that is no code file has one line. With units, a line of each unit follows, with its first
+/// fault by itself.
+///
+/// The item: what is before it, and one object with the values of the lines, of each name the eight
+/// characters and all its bytes in hexadecimal digits.
+/// Source: UCSD Pascal II.0 manual, code file format; RFC 8259; the text is this project's profile.
+#[derive(Drop)]
+pub struct ListItem<'l, 'a, A: Allocator + Copy = Global> {
+    /// It is the first of the list.
+    pub first: bool,
+    /// The file.
+    pub listed: &'l ListedFile<'a, A>,
+}
+
+impl<A: Allocator + Copy> Text for ListItem<'_, '_, A> {
+    ghost bytes = { λ i. listed i.first i.listed.now };
+
+    fn add_to<S: TextWriter>(&self, text: &mut S) {
+        self.listed.add_item(text, self.first);
+    }
+}
+
+/// The item of the file at a path at which nothing could be read: all its members but the path are
+/// `null`, and it has no segments.
+#[derive(Drop)]
+pub struct UnreadItem<'a> {
+    /// It is the first of the list.
+    pub first: bool,
+    /// The path.
+    pub path: &'a str,
+}
+
+impl Text for UnreadItem<'_> {
+    ghost use Rattle.ps_listing.specs.FileLists.{unread};
+
+    ghost bytes = { λ i. unread i.first i.path.now };
+
+    fn add_to<S: TextWriter>(&self, text: &mut S) {
+        text.add(separator(self.first));
+        add_unread(text, self.path);
+    }
+}
+
+/// The list of several files: that of each, one after another, or one document of their items.
+#[derive(Drop)]
+pub struct Lists<'a, A: Allocator + Copy = Global> {
+    /// How they are listed.
+    pub how: ListForm,
+    /// The files.
+    pub files: Vec<ListedFile<'a, A>, A>,
+}
+
+impl<A: Allocator + Copy> Text for Lists<'_, A> {
+    ghost use Rattle.ps_listing.specs.FileLists.{lists_in};
+
+    ghost bytes = { λ l. lists_in l.how l.files.items };
+
+    fn add_to<S: TextWriter>(&self, text: &mut S) {
+        match self.how {
+            ListForm::Lines | ListForm::Units => add_items(text, self.files.as_slice()),
+            ListForm::Json => {
+                text.add(b"{\"files\":[");
+                add_items(text, self.files.as_slice());
+                text.add(b"\n]}\n");
+            }
+        }
+    }
+}
+
+/// Adds what is listed of each file.
+#[tactic(auto, using(std::proofs::lemmas::List::drop_more, ps_writing::proofs::Written::all_written, ps_writing::proofs::Written::none_yet, ps_writing::proofs::Written::some_more, crate::proofs::FilesListed::items_left, crate::proofs::FilesListed::items_over))]
+fn add_items<S: TextWriter, A: Allocator + Copy>(text: &mut S, files: &[ListedFile<'_, A>])
+    ensures { Adds S.added text.old (listed_from true files.now) text.new }
+{
+    let mut first = true;
+    for file in files {
+        file.add_item(text, first);
+        first = false;
+    }
+}
+
+impl<'a, A: Allocator + Copy> Lists<'a, A> {
+    ghost use Rattle.std.specs.Prelude.{◌≡◌, ◌∷◌, IfOk};
+    ghost use Rattle.ps_resolve.specs.Sources.{contents};
+    ghost use Rattle.ps_listing.specs.FileLists.{AreListed};
+
+    /// What is listed of a host, and then of each of `libs` that has a path.
+    ///
+    /// `host_path` and `paths` name the files, which are whole files of any contents. Refused where memory
+    /// was.
+    pub fn of(
+        alloc: A,
+        how: ListForm,
+        host_path: &'a str,
+        paths: &[&'a str],
+        host: &'a [u8],
+        libs: &[&'a [u8]],
+    ) -> Result<Lists<'a, A>, AllocError>
+        ensures how { IfOk result (λ lists. lists.how ≡ how) }
+        ensures files { IfOk result (λ lists. AreListed how
+            (host_path.now ∷ contents paths.now) (host.now ∷ contents libs.now)
+            lists.files.items) }
+    {
+        let mut files = Vec::new(alloc);
+        files.push(ListedFile::of(alloc, how, host_path, host)?)?;
+        let count = paths.len().min(libs.len());
+        for index in 0..count {
+            files.push(ListedFile::of(alloc, how, paths[index], libs[index])?)?;
+        }
+        Ok(Lists { how, files })
+    }
+}

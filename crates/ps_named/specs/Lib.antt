@@ -1,4 +1,0 @@
-pub mod FaultNames
-pub mod UnitNames
-pub mod JsonStrings
-pub mod FaultJson

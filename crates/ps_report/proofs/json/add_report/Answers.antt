@@ -1,0 +1,12 @@
+use Rattle.std.proofs.Common.{ap}
+use Rattle.ps_writing.specs.JsonStrings.{json_text}
+use Rattle.ps_writing.proofs.Written.{◌⨾◌, adds_is}
+use Rattle.ps_report.specs.ReportJson.{report_json}
+use Rattle.ps_report.proofs.json.add_report.Goals as goal
+
+pub returns : goal.returns
+unfolding report_json
+returns g c =
+    c.add_verdict.ensures ⨾ c.add.ensures ⨾ c.add_lists.ensures
+    ⨾ c.add-2.ensures ⨾ adds_is (ap json_text c.as_str.ensures.value) c.add_json_text.ensures
+    ⨾ c.add-3.ensures

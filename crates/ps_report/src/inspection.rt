@@ -1,0 +1,107 @@
+//! What is found in a host and its libraries.
+ghost use Rattle.std.specs.Prelude.{◌≡◌, ◌∷◌, [], IfOk, None, string_bytes};
+ghost use Rattle.ps_resolve.specs.AllFaults.{reading_fault};
+ghost use Rattle.ps_resolve.specs.Sources.{contents};
+ghost use Rattle.ps_warnings.specs.AllLooks.{link_looks_of};
+ghost use Rattle.ps_warnings.specs.Found.{about_link, sorted};
+ghost use Rattle.ps_segments.specs.SeenSegments.{seen_segments};
+ghost use Rattle.ps_explained.specs.SegmentLines.{segment_lines};
+ghost use Rattle.ps_explained.specs.SlotLines.{slot_lines};
+ghost use Rattle.ps_report.specs.Verdicts.{fault_of, verdict_name as verdict_name_spec};
+
+use crate::names::verdict_name;
+use crate::verdict::Verdict;
+use ps_explained::{Case, Explanation, overview_of};
+use ps_resolve::{Reading, read};
+use ps_segments::{NamedFiles, ReadSegment, segments_of};
+use ps_warnings::{Looks, looks_of};
+use ps_words::{Fault, Name};
+use std::alloc::{AllocError, Allocator};
+use std::fmt::Write as _;
+
+/// What is found in a host and its libraries.
+#[derive(Drop)]
+pub(crate) struct Inspection<'a, A: Allocator> {
+    /// The files, and the segments with where each comes from, in lines.
+    pub overview: String<A>,
+    /// The name of what the fault is about, where there is one and it has a name.
+    pub name: Option<Name>,
+    /// What the fault is in these files, and what to do about it, in lines; empty where there is
+    /// none.
+    pub explanation: String<A>,
+    /// What looks wrong and is no fault.
+    pub looks: Looks<'a, A>,
+}
+
+/// What is found in a host and its libraries, of which this is the verdict.
+///
+/// `host_path` and `paths` name the files; `host` and each of `libs` are whole code files, the
+/// libraries in the order in which units are looked up in them. Returns an error where memory was
+/// refused.
+pub(crate) fn inspect<'a, A: Allocator + Copy>(
+    alloc: A,
+    host_path: &'a str,
+    paths: &'a [&'a str],
+    host: &'a [u8],
+    libs: &'a [&'a [u8]],
+    verdict: Verdict,
+) -> Result<Inspection<'a, A>, AllocError>
+    ensures segments { IfOk result (λ found. reading_fault host.now (contents libs.now) ≡ None
+        → slot_lines (string_bytes found.overview) ≡ segment_lines
+        (host_path.now ∷ contents paths.now) host.now (contents libs.now)) }
+    ensures name { IfOk result (λ found. found.name
+        ≡ verdict_name_spec host.now (contents libs.now) verdict) }
+    ensures explanation { IfOk result (λ found. fault_of verdict ≡ None
+        → string_bytes found.explanation ≡ []) }
+    ensures looks { IfOk result (λ found.
+        about_link found.looks
+        ≡ sorted (link_looks_of (host_path.now ∷ contents paths.now) host.now (contents libs.now)
+        (seen_segments host.now (contents libs.now)))) }
+{
+    let inputs = NamedFiles {
+        host_path,
+        paths,
+        host,
+        libs,
+    };
+    let reading = read_files(host, libs);
+    let fault = verdict.fault();
+    let name = verdict_name(&reading, verdict);
+    let list = segments_of(alloc, &inputs, &reading)?;
+    let overview = overview_of(alloc, &inputs, &reading, list.as_slice())?;
+    let explanation = explanation_of(alloc, &inputs, &reading, list.as_slice(), fault)?;
+    let looks = looks_of(alloc, &inputs, list.as_slice(), fault)?;
+    Ok(Inspection {
+        overview,
+        name,
+        explanation,
+        looks,
+    })
+}
+
+/// Reads the files. A function by itself, so that what it moves takes room of the stack only until it
+/// returns.
+#[inline(never)]
+fn read_files<'a>(host: &'a [u8], libs: &'a [&'a [u8]]) -> Reading<'a>
+    ensures { result ≡ record { host = host.now; libs = contents libs.now } }
+{
+    read(host, libs)
+}
+
+/// What the fault is in these files, and what to do about it, in lines; empty where there is none.
+fn explanation_of<'a, A: Allocator>(
+    alloc: A,
+    inputs: &NamedFiles<'a>,
+    reading: &Reading<'a>,
+    list: &[ReadSegment<'a>],
+    fault: Option<Fault>,
+) -> Result<String<A>, AllocError>
+    ensures { IfOk result (λ text. fault ≡ None → string_bytes text ≡ []) }
+{
+    let mut text = String::new(alloc);
+    if let Some(fault) = fault {
+        let explanation = Explanation(Case::new(inputs, reading, list, fault));
+        write!(text, "{explanation}")?;
+    }
+    Ok(text)
+}

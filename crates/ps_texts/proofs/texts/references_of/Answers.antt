@@ -1,0 +1,14 @@
+use Rattle.std.proofs.Common.{refl}
+use Rattle.ps_resolve.specs.Sources.{contents}
+use Rattle.ps_texts.proofs.Forms.{references_by}
+use Rattle.ps_texts.proofs.texts.references_of.Goals as goal
+
+pub returns-in-Ok-clause-made : goal.returns-in-Ok-clause-made
+returns-in-Ok-clause-made g c strict =
+    let files = c.args.files.now in
+    let made = c.in-Ok.ensures in (
+      made.accepted,
+      refl,
+      references_by c.args.form files.host.now (contents files.libs.now)
+          c.in-Ok.map made.text made.json,
+    )

@@ -1,0 +1,21 @@
+use Rattle.std.proofs.Common.{refl, sym, arith}
+use Rattle.ps_texts.specs.UnitNames.{slots_wanted, wanted_name}
+use Rattle.ps_texts.proofs.SlotNames.{no_more, one_more}
+use Rattle.ps_texts.proofs.units.slots_wanted.Goals as goal
+
+pub loop-slot-init : goal.loop-slot-init
+unfolding slots_wanted
+loop-slot-init g c = rw c.new-names.ensures.items refl
+
+pub loop-slot-preserved : goal.loop-slot-preserved
+loop-slot-preserved g c =
+    let host = c.args.host.now in
+    one_more (wanted_name host.order host.file) (slots_wanted host.order host.file) _ _ _
+    c.loop-slot-test.true (grind arith) c.loop-slot.invariant
+
+pub returns : goal.returns
+returns g c =
+    let host = c.args.host.now in
+    sym (no_more (wanted_name host.order host.file) (slots_wanted host.order host.file)
+    c.loop-slot.names.items c.loop-slot.slot (omega (arith, c.loop-slot-test.false))
+    c.loop-slot.invariant)

@@ -1,0 +1,16 @@
+-- The texts that there are.
+-- Source: this project's profile.
+use Rattle.std.specs.Prelude.{Bool, true, false}
+use Rattle.ps_texts.specs.declared.kinds.TextKind.{TextKind}
+use Rattle.ps_texts.specs.declared.kinds.TextKind.TheVariants as kind
+
+-- the files have names in the text
+abbrev pub needs_names : TextKind → Bool
+needs_names (kind.Map form) = false
+needs_names (kind.References form) = false
+needs_names (kind.Show form) = false
+needs_names (kind.Check form) = true
+needs_names (kind.Looks form) = true
+needs_names (kind.List how) = true
+needs_names kind.Wanted = false
+needs_names kind.Had = false

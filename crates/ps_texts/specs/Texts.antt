@@ -1,0 +1,82 @@
+-- What each text is of a host and its libraries, and of a value that has it.
+-- Source: this project's profile.
+use Rattle.std.specs.Prelude.{◌≡◌, ℕ, Bool, false, List, ◌∷◌, ◌++◌, None, Ok, vec_len}
+use Rattle.ps_codefile.specs.Dictionary.{OpenedFile, opened_alone}
+use Rattle.ps_resolve.specs.Readings.{HostFiles, opened_host}
+use Rattle.ps_resolve.specs.Standing.{NoneStands}
+use Rattle.ps_writing.specs.declared.rows.Form.{Form}
+use Rattle.ps_writing.specs.declared.rows.Form.TheVariants.{Lines, Json}
+use Rattle.ps_linkfile.specs.MapText.{map_as, map_json_of, map_of, members_of}
+use Rattle.ps_linkfile.specs.ReferencesJson.{referenced_in}
+use Rattle.ps_linkfile.specs.ReferencesText.{all_stored_of, references_in, references_of}
+use Rattle.ps_linkfile.specs.ShowJson.{show_as}
+use Rattle.ps_linkfile.specs.ShowText.{show_fault}
+use Rattle.ps_listing.specs.FileLists.{IsList, lists_in}
+use Rattle.ps_report.specs.Reported.{reported}
+use Rattle.ps_report.specs.Reports.{ArePrintedLooks, IsPrintedReport, printed_looks, printed_report}
+use Rattle.ps_report.specs.Verdicts.{check_status}
+use Rattle.ps_texts.specs.UnitNames.{units_had, units_wanted}
+use Rattle.ps_texts.specs.declared.kinds.TextKind.{TextKind}
+use Rattle.ps_texts.specs.declared.kinds.TextKind.TheVariants as kind
+use Rattle.ps_texts.specs.declared.texts.FilesText.{FilesText}
+use Rattle.ps_texts.specs.declared.texts.FilesText.TheVariants as text
+
+-- the map of a link
+abbrev pub map_text : Form → List ℕ → List (List ℕ) → List ℕ
+map_text Lines host libs = map_of host libs
+map_text Json host libs = map_json_of host libs
+
+-- the map of a link and what it stores
+abbrev pub references_text : Form → List ℕ → List (List ℕ) → List ℕ
+references_text Lines host libs = map_of host libs ++ references_of host libs
+references_text Json host libs =
+    members_of host libs ++ references_in Json (all_stored_of host libs)
+
+-- The text of a host and these libraries, of which a report and a list have the paths. With
+-- `strict`, a warning counts for the status: 1 where the files of a check are refused, else 0.
+abbrev pub IsTextOf : TextKind → Bool → List (List ℕ) → List ℕ → List (List ℕ)
+    → ℕ → List ℕ → Type 0
+IsTextOf (kind.Map form) strict paths host libs status text =
+    NoneStands host libs × (status ≡ 0) × (text ≡ map_text form host libs)
+IsTextOf (kind.References form) strict paths host libs status text =
+    NoneStands host libs × (status ≡ 0) × (text ≡ references_text form host libs)
+IsTextOf (kind.Show form) strict paths host libs status text =
+    (show_fault host ≡ None) × (status ≡ 0) × (text ≡ show_as form host)
+IsTextOf (kind.Check form) strict paths host libs status text =
+    IsPrintedReport paths host libs strict form status text
+IsTextOf (kind.Looks form) strict paths host libs status text =
+    (status ≡ 0) × ArePrintedLooks paths host libs form text
+IsTextOf (kind.List how) strict paths host libs status text =
+    (status ≡ 0) × IsList how paths (host ∷ libs) text
+IsTextOf kind.Wanted strict paths host libs status text =
+    (h : HostFiles) × (opened_host host libs ≡ Ok h) × (status ≡ 0) × (text ≡ units_wanted h)
+IsTextOf kind.Had strict paths host libs status text =
+    (f : OpenedFile) × (opened_alone host ≡ Ok f) × (status ≡ 0)
+    × (text ≡ units_had f.order f.file)
+
+-- the text that a value has
+abbrev pub bytes_in : {A : Type 0} → FilesText A → List ℕ
+bytes_in (text.Map form linked) = map_as form linked
+bytes_in (text.References form map) = referenced_in form map
+bytes_in (text.Show form file) = show_as form file
+bytes_in (text.Report form report) = printed_report form (reported report)
+bytes_in (text.Looks form report) = printed_looks form (reported report)
+bytes_in (text.Lists lists) = lists_in lists.how lists.files.items
+bytes_in (text.Names names) = names.items
+
+-- what a process that prints it ends with
+abbrev pub status_in : {A : Type 0} → Bool → FilesText A → ℕ
+status_in strict (text.Map form linked) = 0
+status_in strict (text.References form map) = 0
+status_in strict (text.Show form file) = 0
+status_in strict (text.Report form report) =
+    check_status strict (vec_len report.warnings) report.verdict
+status_in strict (text.Looks form report) = 0
+status_in strict (text.Lists lists) = 0
+status_in strict (text.Names names) = 0
+
+-- a value has the text of these files, and its status is that of the text
+abbrev pub IsMadeOf : {A : Type 0} → TextKind → List (List ℕ) → List ℕ → List (List ℕ)
+    → FilesText A → Type 0
+IsMadeOf k paths host libs t =
+    (strict : Bool) → IsTextOf k strict paths host libs (status_in strict t) (bytes_in t)

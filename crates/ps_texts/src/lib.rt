@@ -1,0 +1,15 @@
+//! What pslink prints of files: which texts there are, each in the form of lines or of a document, and
+//! what each is of a host and its libraries. `text_of` makes one as a value, which `write_text` writes
+//! and `in_memory` keeps.
+#![tactic(auto)]
+
+mod kinds;
+mod texts;
+mod units;
+
+pub use kinds::TextKind;
+pub use ps_listing::ListForm;
+pub use ps_segments::NamedFiles;
+pub use ps_writing::Form;
+pub use texts::{FilesText, Unmade, text_of};
+pub use units::{units_had, units_wanted};

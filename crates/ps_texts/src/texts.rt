@@ -1,0 +1,314 @@
+//! The texts of files, as values.
+ghost use Rattle.std.specs.Prelude.{◌≡◌, IfErr, IfOk, List, ℕ};
+ghost use Rattle.ps_words.specs.FaultPlaces.{in_file};
+ghost use Rattle.ps_resolve.specs.Sources.{contents};
+ghost use Rattle.ps_segments.specs.Paths.{paths_in};
+ghost use Rattle.ps_texts.specs.Texts.{IsMadeOf, bytes_in};
+ghost use Rattle.ps_texts.specs.Unmade.{WhyUnmade, unmade_of};
+ghost use Rattle.ps_texts.specs.declared.kinds.TextKind.TheVariants.{Check, Had, List as Listed, Looks as LooksOf, Map as MapOf, References as ReferencesOf, Show as ShowOf, Wanted};
+ghost use Rattle.ps_texts.specs.declared.texts.Unmade.TheVariants.{Memory, Refused};
+
+use crate::kinds::TextKind;
+use crate::units::{units_had, units_wanted};
+use ps_codefile::Dict;
+use ps_linkfile::{
+    LinkError, LinkMap, Linked, ReferenceMap, References, Show, ShownFile, prepare,
+    prepare_references,
+};
+use ps_listing::{ListForm, Lists};
+use ps_report::{PrintedLooks, PrintedReport, Report, check};
+use ps_resolve::{Reading, read};
+use ps_segments::NamedFiles;
+use ps_words::{Fault, Reason};
+use ps_writing::{Form, Text, TextWriter};
+use std::alloc::{AllocError, Allocator, Global};
+
+/// Why a text is not made.
+#[derive(Clone, Copy, Debug, PartialEq, Eq)]
+pub enum Unmade {
+    /// The files are refused for this fault: of a map the first of all, of a show and of names of units
+    /// why the host's file cannot be read.
+    Refused(Fault),
+    /// Memory was refused.
+    Memory,
+}
+
+impl From<AllocError> for Unmade {
+    ghost from_gives = { λ _ why. why ≡ Memory };
+
+    fn from(_error: AllocError) -> Unmade {
+        Unmade::Memory
+    }
+}
+
+impl From<Fault> for Unmade {
+    ghost from_gives = { λ fault why. why ≡ Refused fault };
+
+    fn from(fault: Fault) -> Unmade {
+        Unmade::Refused(fault)
+    }
+}
+
+impl From<LinkError> for Unmade {
+    ghost from_gives = { λ error why. why ≡ unmade_of error };
+
+    // Where nothing is written, no write fails.
+    fn from(error: LinkError) -> Unmade {
+        match error {
+            LinkError::Refused(fault) => Unmade::Refused(fault),
+            LinkError::Memory | LinkError::Write(_) => Unmade::Memory,
+        }
+    }
+}
+
+/// A text of files. It has views of them, and no copy.
+#[derive(Drop)]
+pub enum FilesText<'a, A: Allocator + Copy = Global> {
+    /// The map of a link.
+    Map(Form, Linked<'a, A>),
+    /// The map of a link, and each place at which it stores bytes.
+    References(Form, ReferenceMap<'a, A>),
+    /// What a file has.
+    Show(Form, ShownFile<'a>),
+    /// The report of a check.
+    Report(Form, Report<'a, A>),
+    /// What looks wrong, one by one.
+    Looks(Form, Report<'a, A>),
+    /// The list of each file.
+    Lists(Lists<'a, A>),
+    /// Names of units, eight bytes each.
+    Names(Vec<u8, A>),
+}
+
+impl<A: Allocator + Copy> Text for FilesText<'_, A> {
+    ghost bytes = { λ t. bytes_in t };
+
+    fn add_to<S: TextWriter>(&self, text: &mut S) {
+        match self {
+            FilesText::Map(form, linked) => LinkMap {
+                form: *form,
+                linked,
+            }
+            .add_to(text),
+            FilesText::References(form, map) => References { form: *form, map }.add_to(text),
+            FilesText::Show(form, file) => Show { form: *form, file }.add_to(text),
+            FilesText::Report(form, report) => PrintedReport {
+                form: *form,
+                report,
+            }
+            .add_to(text),
+            FilesText::Looks(form, report) => PrintedLooks {
+                form: *form,
+                report,
+            }
+            .add_to(text),
+            FilesText::Lists(lists) => lists.add_to(text),
+            FilesText::Names(names) => text.add(names.as_slice()),
+        }
+    }
+}
+
+impl<A: Allocator + Copy> FilesText<'_, A> {
+    ghost use Rattle.std.specs.Prelude.{◌≡◌, ◌≤◌};
+    ghost use Rattle.ps_texts.specs.Texts.{status_in};
+
+    /// What a process that prints it ends with: 1 where it is the report of files that are refused or, if
+    /// it is `strict`, that has a warning; else 0.
+    pub fn status(&self, strict: bool) -> u8
+        ensures status { result ≡ status_in strict self.now }
+        ensures few { result ≤ 1 }
+    {
+        match self {
+            FilesText::Report(_, report) => report.status(strict),
+            FilesText::Map(..)
+            | FilesText::References(..)
+            | FilesText::Show(..)
+            | FilesText::Looks(..)
+            | FilesText::Lists(_)
+            | FilesText::Names(_) => 0,
+        }
+    }
+}
+
+/// The map of a link.
+#[inline(never)]
+fn map_of<'a, A: Allocator + Copy>(
+    alloc: A,
+    form: Form,
+    files: &NamedFiles<'a>,
+) -> Result<FilesText<'a, A>, Unmade>
+    ensures made { IfOk result (IsMadeOf (MapOf form) (paths_in files.now) files.now.host.now
+        (contents files.now.libs.now)) }
+    ensures unmade { IfErr result (WhyUnmade (MapOf form) files.now.host.now
+        (contents files.now.libs.now)) }
+{
+    match prepare(alloc, files.host, files.libs) {
+        Ok(linked) => Ok(FilesText::Map(form, linked)),
+        Err(error) => Err(Unmade::from(error)),
+    }
+}
+
+/// The map of a link, and what it stores.
+#[inline(never)]
+fn references_of<'a, A: Allocator + Copy>(
+    alloc: A,
+    form: Form,
+    files: &NamedFiles<'a>,
+) -> Result<FilesText<'a, A>, Unmade>
+    ensures made { IfOk result (IsMadeOf (ReferencesOf form) (paths_in files.now)
+        files.now.host.now (contents files.now.libs.now)) }
+    ensures unmade { IfErr result (WhyUnmade (ReferencesOf form) files.now.host.now
+        (contents files.now.libs.now)) }
+{
+    match prepare_references(alloc, files.host, files.libs) {
+        Ok(map) => Ok(FilesText::References(form, map)),
+        Err(error) => Err(Unmade::from(error)),
+    }
+}
+
+/// What the host's file has.
+fn show_of<'a, A: Allocator + Copy>(
+    form: Form,
+    files: &NamedFiles<'a>,
+) -> Result<FilesText<'a, A>, Unmade>
+    ensures made { IfOk result (IsMadeOf (ShowOf form) (paths_in files.now) files.now.host.now
+        (contents files.now.libs.now)) }
+    ensures unmade { IfErr result (WhyUnmade (ShowOf form) files.now.host.now
+        (contents files.now.libs.now)) }
+{
+    match ShownFile::read(files.host) {
+        Ok(file) => Ok(FilesText::Show(form, file)),
+        Err(fault) => Err(Unmade::Refused(fault)),
+    }
+}
+
+/// The report of a check.
+#[inline(never)]
+fn report_of<'a, A: Allocator + Copy>(
+    alloc: A,
+    form: Form,
+    files: &NamedFiles<'a>,
+) -> Result<FilesText<'a, A>, AllocError>
+    ensures { IfOk result (IsMadeOf (Check form) (paths_in files.now) files.now.host.now
+        (contents files.now.libs.now)) }
+{
+    let report = check(alloc, files.host_path, files.paths, files.host, files.libs)?;
+    Ok(FilesText::Report(form, report))
+}
+
+/// What looks wrong, one by one.
+#[inline(never)]
+fn looks_of<'a, A: Allocator + Copy>(
+    alloc: A,
+    form: Form,
+    files: &NamedFiles<'a>,
+) -> Result<FilesText<'a, A>, AllocError>
+    ensures { IfOk result (IsMadeOf (LooksOf form) (paths_in files.now) files.now.host.now
+        (contents files.now.libs.now)) }
+{
+    let report = check(alloc, files.host_path, files.paths, files.host, files.libs)?;
+    Ok(FilesText::Looks(form, report))
+}
+
+/// The list of each file.
+#[inline(never)]
+fn lists_of<'a, A: Allocator + Copy>(
+    alloc: A,
+    how: ListForm,
+    files: &NamedFiles<'a>,
+) -> Result<FilesText<'a, A>, AllocError>
+    ensures { IfOk result (IsMadeOf (Listed how) (paths_in files.now) files.now.host.now
+        (contents files.now.libs.now)) }
+{
+    let lists = Lists::of(
+        alloc,
+        how,
+        files.host_path,
+        files.paths,
+        files.host,
+        files.libs,
+    )?;
+    Ok(FilesText::Lists(lists))
+}
+
+/// The names of the units that files that were read want.
+fn wanted_in<'a, A: Allocator + Copy>(
+    alloc: A,
+    reading: &Reading<'_>,
+) -> Result<FilesText<'a, A>, Unmade>
+    ensures made { (paths : List (List ℕ))
+        → IfOk result (IsMadeOf Wanted paths reading.now.host reading.now.libs) }
+    ensures unmade { IfErr result (WhyUnmade Wanted reading.now.host reading.now.libs) }
+{
+    match reading.host() {
+        Err(reason) => Err(unopened(reason)),
+        Ok(host) => Ok(FilesText::Names(units_wanted(alloc, host)?)),
+    }
+}
+
+/// The names of the units that a link wants from libraries.
+#[inline(never)]
+fn wanted_of<'a, A: Allocator + Copy>(
+    alloc: A,
+    files: &NamedFiles<'a>,
+) -> Result<FilesText<'a, A>, Unmade>
+    ensures made { IfOk result (IsMadeOf Wanted (paths_in files.now) files.now.host.now
+        (contents files.now.libs.now)) }
+    ensures unmade { IfErr result (WhyUnmade Wanted files.now.host.now
+        (contents files.now.libs.now)) }
+{
+    let reading = read(files.host, files.libs);
+    wanted_in(alloc, &reading)
+}
+
+/// The names of the units whose code the host's file has.
+fn had_of<'a, A: Allocator + Copy>(
+    alloc: A,
+    files: &NamedFiles<'a>,
+) -> Result<FilesText<'a, A>, Unmade>
+    ensures made { IfOk result (IsMadeOf Had (paths_in files.now) files.now.host.now
+        (contents files.now.libs.now)) }
+    ensures unmade { IfErr result (WhyUnmade Had files.now.host.now
+        (contents files.now.libs.now)) }
+{
+    match Dict::read(files.host) {
+        Err(reason) => Err(unopened(reason)),
+        Ok(dict) => Ok(FilesText::Names(units_had(alloc, &dict)?)),
+    }
+}
+
+/// Why nothing is made of a host's file that cannot be opened.
+fn unopened(reason: Reason) -> Unmade
+    ensures { result ≡ Refused (in_file 0 reason) }
+{
+    Unmade::Refused(Fault::in_file(0, reason))
+}
+
+/// The text of this kind of a host and its libraries.
+///
+/// The files are whole files, of any contents; of the libraries that have a unit, the first is used. A
+/// report and a list have their paths. Refuses `Refused`, a map and its references with the first fault
+/// of all, a show and names of units where the host's file cannot be read; nothing else is refused. And
+/// `Memory` where memory was refused, which a map requests only once the files were read and have no
+/// fault, and a show never.
+pub fn text_of<'a, A: Allocator + Copy>(
+    alloc: A,
+    kind: TextKind,
+    files: &NamedFiles<'a>,
+) -> Result<FilesText<'a, A>, Unmade>
+    ensures made { IfOk result (IsMadeOf kind (paths_in files.now) files.now.host.now
+        (contents files.now.libs.now)) }
+    ensures unmade { IfErr result (WhyUnmade kind files.now.host.now
+        (contents files.now.libs.now)) }
+{
+    match kind {
+        TextKind::Map(form) => map_of(alloc, form, files),
+        TextKind::References(form) => references_of(alloc, form, files),
+        TextKind::Show(form) => show_of(form, files),
+        TextKind::Check(form) => Ok(report_of(alloc, form, files)?),
+        TextKind::Looks(form) => Ok(looks_of(alloc, form, files)?),
+        TextKind::List(how) => Ok(lists_of(alloc, how, files)?),
+        TextKind::Wanted => wanted_of(alloc, files),
+        TextKind::Had => had_of(alloc, files),
+    }
+}
