@@ -82,8 +82,8 @@ extern "C" {
 
 /* The release of pslink that this header is of, and the same as a number to compare: 10000 times
    its first part, 100 times its second, and its third. */
-#define PSLINK_RELEASE "0.2.0"
-#define PSLINK_RELEASE_NUMBER 200u
+#define PSLINK_RELEASE "0.3.0"
+#define PSLINK_RELEASE_NUMBER 300u
 
 /*
  * What a function returns, and the field `status`: the statuses of the program pslink. Its status
@@ -402,7 +402,7 @@ static inline size_t pslink_fault_remedy(uint8_t fault, char *out, size_t out_le
    0.1.0. */
 static inline size_t pslink_status_text(uint32_t status, char *out, size_t out_length);
 
-/* In the same way the release of the library, as "0.2.0": PSLINK_RELEASE of its own header. Since
+/* In the same way the release of the library, as "0.3.0": PSLINK_RELEASE of its own header. Since
    0.1.0. */
 static inline size_t pslink_release(char *out, size_t out_length);
 

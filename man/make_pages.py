@@ -14,7 +14,7 @@ SHORT = 22  # a column whose cells are all as short is not wrapped
 
 HEAD = r"""'\" t
 .\" written by make_pages.py from docs/FORMAT.md: change that page, and not this one
-.TH PSLINK 5 "2026-11-23" "pslink 0.2.0" "File Formats"
+.TH PSLINK 5 "2026-11-23" "pslink 0.3.0" "File Formats"
 .SH NAME
 pslink \- code files and link information of UCSD Pascal II.0
 .SH DESCRIPTION

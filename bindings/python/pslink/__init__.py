@@ -28,7 +28,7 @@ __all__ = [
     "File", "Look", "Refused", "Report", "Summary", "Text", "check", "fault_meaning", "fault_name", "fault_remedy", "link",
     "link_with_summary", "looks", "release", "release_number", "show", "text", "units_had", "units_wanted",
 ]  # fmt: skip
-__version__ = "0.2.0"
+__version__ = "0.3.0"
 
 # What has a whole code file, or names one.
 if TYPE_CHECKING:
@@ -195,12 +195,12 @@ def fault_remedy(number: int) -> str:
 
 
 def release() -> str:
-    """The release of the library, as '0.2.0'."""
+    """The release of the library, as '0.3.0'."""
     return _text(_library.pslink_release_nonnull)
 
 
 def release_number() -> int:
-    """The same as a number to compare, as 200: 10000 times its first part, 100 times its second, and its third. Since 0.2.0."""
+    """The same as a number to compare, as 300: 10000 times its first part, 100 times its second, and its third. Since 0.2.0."""
     return int(_library.pslink_release_number())
 
 

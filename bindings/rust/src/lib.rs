@@ -462,13 +462,13 @@ pub fn show<F: AsRef<[u8]>>(file: F) -> Result<String, Error> {
     Ok(String::from_utf8_lossy(&text).into_owned())
 }
 
-/// The release of the archive, as `0.2.0`.
+/// The release of the archive, as `0.3.0`.
 #[must_use]
 pub fn release() -> String {
     text_of::<FAULT_TEXT_MAX>(raw::release)
 }
 
-/// The same as a number to compare, as 200: 10000 times its first part, 100 times its second, and
+/// The same as a number to compare, as 300: 10000 times its first part, 100 times its second, and
 /// its third. Since 0.2.0.
 #[must_use]
 pub fn release_number() -> u32 {

@@ -43,4 +43,4 @@ status_text status =
 
 -- the release of pslink
 abbrev pub release : List ℕ
-release = codes "0.2.0"
+release = codes "0.3.0"

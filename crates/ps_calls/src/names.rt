@@ -9,12 +9,12 @@ use ps_answers::{DONE, NO_MEMORY, REFUSED, TOO_SMALL, WRONG_LENGTHS, WRONG_NAMES
 use ps_words::Reason;
 
 /// The release of pslink.
-const RELEASE: &str = "0.2.0";
+const RELEASE: &str = "0.3.0";
 
 /// The release of pslink as a number: 10000 times its first part, 100 times its second, and its
 /// third.
 /// Source: this project's profile.
-pub const RELEASE_NUMBER: u32 = 200;
+pub const RELEASE_NUMBER: u32 = 300;
 
 /// The name of the fault of this number; nothing where there is none.
 fn name_of_fault(number: u8) -> &'static str

@@ -131,9 +131,9 @@ Prints Reads Writes named status old new = (rows : List Row) × (path : Text) ×
     ⊎ ((named ≡ Some (codes "list", rows))
     × PrintsLists Reads (list_form (is_json rows)) (files_of rows) status old new))
 
--- `pslink 0.2.0`
+-- `pslink 0.3.0`
 abbrev pub version_line : List ℕ
-version_line = codes "pslink 0.2.0" ++ 10 ∷ []
+version_line = codes "pslink 0.3.0" ++ 10 ∷ []
 
 -- a known writer takes one text that ends with a line end
 abbrev pub PrintsLines : Option (List ℕ) → Option (List ℕ) → Type 0

@@ -134,7 +134,7 @@ fn carry_out<'a, R: CodeFiles + AllocGlobal, A: Allocator + Copy, O: Write, E: W
             Ok(Ended::Done)
         }
         Request::Version => {
-            output::print(out, b"pslink 0.2.0\n")?;
+            output::print(out, b"pslink 0.3.0\n")?;
             Ok(Ended::Done)
         }
         Request::Task(task) => Ok(perform(rt, alloc, task, out, err)?),
