@@ -75,7 +75,8 @@ fn is_fault_of(fault: &WriteFault, stalls: bool) -> bool {
 /// failed what was taken before, and no write after it. Returns whether all was written.
 fn is_written(
     rt: &(impl Abort + AllocGlobal),
-    (text, bytes): (&FilesText<'_>, &[u8]),
+    text: &FilesText<'_>,
+    bytes: &[u8],
     (most, before, stalls): (usize, usize, bool),
 ) -> bool {
     let mut out = Failing {
@@ -104,12 +105,12 @@ fn is_written(
 /// Lets each write of a text fail, one after another, until all of it is written.
 fn fails_at_each(
     rt: &(impl Abort + AllocGlobal),
-    written: (&FilesText<'_>, &[u8]),
+    text: &FilesText<'_>,
+    bytes: &[u8],
     (most, stalls): (usize, bool),
 ) {
-    let (_, bytes) = written;
     for before in 0..bytes.len().saturating_add(2) {
-        if is_written(rt, written, (most, before, stalls)) {
+        if is_written(rt, text, bytes, (most, before, stalls)) {
             return;
         }
     }
@@ -126,8 +127,8 @@ fn fails_of_kind(rt: &(impl Abort + AllocGlobal), files: &NamedFiles<'_>, kind: 
         return holds(rt, false, "out of memory");
     };
     for most in &MOST {
-        fails_at_each(rt, (&text, bytes.as_slice()), (*most, false));
-        fails_at_each(rt, (&text, bytes.as_slice()), (*most, true));
+        fails_at_each(rt, &text, bytes.as_slice(), (*most, false));
+        fails_at_each(rt, &text, bytes.as_slice(), (*most, true));
     }
 }
 
