@@ -185,7 +185,7 @@ pub(crate) enum Release {
 }
 
 impl Row {
-    /// That of an opcode in a release.
+    /// The row of an opcode in a release.
     pub(crate) fn of(opcode: u8, release: Release) -> Row {
         if matches!(release, Release::Earlier) {
             if let Some(row) = row_in(&EARLIER, opcode) {

@@ -4,20 +4,6 @@ use ps_codefile::code_layout::NUMBERS;
 use ps_codefile::{ProcedureDictionary, ProcedureFault};
 use ps_words::{Order, WORD_LEN, get};
 
-/// The shortest code that has a procedure: an instruction, a table, its word of the procedure
-/// dictionary, and the two numbers.
-const SHORTEST: usize = 16;
-
-/// The code is that of a unit without procedures: too short for one, and so says its end.
-///
-/// Source: this project's profile.
-pub fn is_without_procedures(code: &[u8]) -> bool {
-    match code {
-        [.., 0] => code.len() < SHORTEST,
-        _ => false,
-    }
-}
-
 /// The procedures of a code; none where its procedure dictionary is not whole, or one of them is
 /// native code.
 ///
@@ -29,9 +15,12 @@ pub fn procedures_of(order: Order, code: &[u8]) -> Option<ProcedureDictionary<'_
     ProcedureDictionary::read(order, code, false).ok()
 }
 
-/// The place of the table of the first native procedure of a code, as the procedure dictionary has
-/// it; none where no procedure is native.
-pub(crate) fn native_table(order: Order, code: &[u8]) -> Option<usize> {
+/// The place of the attribute table of the first procedure of a code that is native code and no
+/// P-code, as the procedure dictionary has it; none where no procedure is native, or where the
+/// procedure dictionary is not whole.
+///
+/// Source: UCSD Pascal II.0 manual, code file format.
+pub fn native_table(order: Order, code: &[u8]) -> Option<usize> {
     if code.len() < NUMBERS {
         return None;
     }
@@ -52,17 +41,20 @@ pub(crate) fn pointed_at(order: Order, code: &[u8], place: usize) -> Option<usiz
     }
 }
 
-/// Where a procedure is entered, and where it is left: places in the code of its segment.
+/// Where a procedure is entered, and where it is left: places in the code of its segment, in bytes.
 ///
 /// Source: UCSD Pascal II.0 manual, code file format.
 #[derive(Clone, Copy)]
 pub struct Ends {
+    /// The place of the first instruction.
     pub enter: usize,
+    /// The place of the instructions that leave the procedure.
     pub leave: usize,
 }
 
 impl Ends {
-    /// Those of the table at this place; none where one of them is before the code.
+    /// The ends of the procedure whose attribute table is at this place of the code; none where one of
+    /// them is before the code.
     /// Source: UCSD Pascal II.0 manual, code file format.
     pub fn at(order: Order, code: &[u8], table: usize) -> Option<Ends> {
         Some(Ends {
