@@ -1,4 +1,6 @@
 //! The code of a procedure of P-code.
+ghost use Rattle.std.specs.Prelude.{◌≤◌, length};
+
 use crate::places::MOST;
 use crate::rules::{RULES, ShownRules};
 use crate::table::Release;
@@ -17,6 +19,7 @@ pub(crate) struct Body<'c> {
     /// The code of the segment, up to the procedure's attribute table.
     pub(crate) code: &'c [u8],
     pub(crate) ends: Ends,
+    ghost inside: { ends.enter ≤ length code.now },
 }
 
 /// Where a jump leads to.
@@ -44,7 +47,7 @@ impl<'c> Body<'c> {
 
     /// How many bytes the procedure has, with its jump table and the sizes before its attribute table.
     pub(crate) fn len(self) -> usize {
-        self.code.len().saturating_sub(self.ends.enter)
+        self.code.len() - self.ends.enter
     }
 
     /// What the procedure shows of the rules, by the instructions of the release by which it keeps to

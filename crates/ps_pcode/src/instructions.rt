@@ -1,5 +1,7 @@
 //! Instructions of P-code: how long they are, which of them jump and which return, and what they do to
 //! the evaluation stack.
+ghost use Rattle.std.specs.Prelude.{◌<◌};
+
 use crate::table::{Effect, Operands, Release, Row};
 use ps_words::{Order, get};
 
@@ -51,9 +53,11 @@ impl Operands {
     }
 }
 
-/// Where an instruction ends whose BIG operand has this byte first, after so many others.
-fn big_end(high: u8, before: usize) -> usize {
-    before.saturating_add(2 + usize::from(TWO_BYTES <= high))
+/// The length of an instruction whose BIG operand has this byte first, after so many others, 0 or 1.
+fn big_end(high: u8, before: usize) -> usize
+    requires { before < 2 }
+{
+    before + 2 + usize::from(TWO_BYTES <= high)
 }
 
 /// An instruction.
@@ -113,9 +117,9 @@ impl Instruction {
     pub(crate) fn words(self) -> Option<(usize, usize)> {
         let words = usize::from(self.operand);
         match self.effect {
-            Effect::Words(taken, put) => Some((taken, put)),
-            Effect::Loads(taken) => Some((taken, words)),
-            Effect::Stores(more) => Some((words.saturating_add(more), 0)),
+            Effect::Words(taken, put) => Some((usize::from(taken), usize::from(put))),
+            Effect::Loads(taken) => Some((usize::from(taken), words)),
+            Effect::Stores(more) => Some((words + usize::from(more), 0)),
             Effect::Compares => match self.operand {
                 REALS => Some((4, 1)),
                 STRINGS | BOOLEANS | BYTE_ARRAYS | WORD_ARRAYS => Some((2, 1)),

@@ -100,7 +100,11 @@ impl Tallies {
     /// Adds the procedure of this number, and what it shows.
     fn add(&mut self, procedure: usize, is_long: bool, shown_rules: ShownRules) {
         // (of instructions that are not read no other rule is known)
-        let known = if shown_rules.rules_kept() == 0 { 1 } else { RULES };
+        let known = if shown_rules.rules_kept() == 0 {
+            1
+        } else {
+            RULES
+        };
         let shown = shown_rules.in_order();
         for (tally, shown) in self.0.iter_mut().zip(shown.iter()).take(known) {
             *tally = tally.with(procedure, is_long, *shown);

@@ -53,11 +53,7 @@ impl Places {
         for (index, word) in self.words.iter().enumerate().take(self.used) {
             let rest = *word & !those.words.get(index).copied().unwrap_or(0);
             if rest != 0 {
-                return Some(
-                    index
-                        .saturating_mul(BITS)
-                        .saturating_add(rest.trailing_zeros() as usize),
-                );
+                return Some(index * BITS + rest.trailing_zeros() as usize);
             }
         }
         None

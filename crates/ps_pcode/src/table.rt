@@ -42,11 +42,11 @@ pub(crate) enum Operands {
 #[derive(Clone, Copy)]
 pub(crate) enum Effect {
     /// It takes so many, and then puts so many there.
-    Words(usize, usize),
+    Words(u8, u8),
     /// It takes so many, and then puts as many there as its first operand says.
-    Loads(usize),
+    Loads(u8),
     /// It takes as many as its first operand says, and so many more.
-    Stores(usize),
+    Stores(u8),
     /// It takes two values of the type that its first operand says, and puts a word there.
     Compares,
     /// As many as a set has, or a procedure says that is not looked at.
@@ -192,10 +192,10 @@ impl Row {
                 return row;
             }
         }
-        let place = usize::from(opcode.saturating_sub(FIRST));
-        match TABLE.get(place) {
-            Some(row) if FIRST <= opcode => return *row,
-            _ => {}
+        if FIRST <= opcode {
+            if let Some(row) = TABLE.get(usize::from(opcode - FIRST)) {
+                return *row;
+            }
         }
         let mut last = SHORT[0];
         for row in &SHORT {

@@ -1,5 +1,7 @@
 //! What the procedure dictionary of a code says, and the attribute table of a procedure of the code
 //! before it.
+ghost use Rattle.std.specs.Prelude.{IfSome, ◌<◌, ◌≤◌};
+
 use ps_codefile::code_layout::NUMBERS;
 use ps_codefile::{ProcedureDictionary, ProcedureFault};
 use ps_words::{Order, WORD_LEN, get};
@@ -34,7 +36,9 @@ pub fn native_table(order: Order, code: &[u8]) -> Option<usize> {
 
 /// The place that the word at a place of a code points to, by how far it is before the word; none
 /// where the word is not whole, or points before the code.
-pub(crate) fn pointed_at(order: Order, code: &[u8], place: usize) -> Option<usize> {
+pub(crate) fn pointed_at(order: Order, code: &[u8], place: usize) -> Option<usize>
+    ensures { IfSome result (λ found. found ≤ place) }
+{
     match code.get(place..) {
         Some(word) if WORD_LEN <= word.len() => place.checked_sub(usize::from(get(order, word, 0))),
         _ => None,
@@ -56,7 +60,10 @@ impl Ends {
     /// The ends of the procedure whose attribute table is at this place of the code; none where one of
     /// them is before the code.
     /// Source: UCSD Pascal II.0 manual, code file format.
-    pub fn at(order: Order, code: &[u8], table: usize) -> Option<Ends> {
+    pub fn at(order: Order, code: &[u8], table: usize) -> Option<Ends>
+        ensures entered { IfSome result (λ ends. ends.enter < table) }
+        ensures left { IfSome result (λ ends. ends.leave < table) }
+    {
         Some(Ends {
             enter: pointed_at(order, code, table.checked_sub(2)?)?,
             leave: pointed_at(order, code, table.checked_sub(4)?)?,
