@@ -1,14 +1,28 @@
 //! What looks wrong in a code by its bytes and by its procedures.
 use crate::dead::DeadRun;
 use crate::looks::{CodeLook, ProcedureLook};
-use crate::tables::{Ends, is_without_procedures, native_table, procedures_of};
 use ps_codefile::ProcedureDictionary;
 use ps_codefile::code_layout::NUMBERS;
 use ps_codefile::kinds::{HOSTSEG, LINKED, SEPRTSEG, UNITSEG};
+use ps_pcode::{Ends, native_table, procedures_of};
 use ps_words::{Order, Reason};
 
 /// From this length on a code without a byte above 127 looks wrong.
 const STRIPPED_LENGTH: usize = 64;
+
+/// The shortest code that has a procedure: an instruction, a table, its word of the procedure
+/// dictionary, and the two numbers.
+const SHORTEST: usize = 16;
+
+/// The code is that of a unit without procedures: too short for one, and so says its end.
+///
+/// Source: this project's profile.
+pub fn is_without_procedures(code: &[u8]) -> bool {
+    match code {
+        [.., 0] => code.len() < SHORTEST,
+        _ => false,
+    }
+}
 
 /// What looks wrong where a part of a code was not read: the first bytes that are as many as a
 /// sector of a disk and as if nothing was read.

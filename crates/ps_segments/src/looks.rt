@@ -108,10 +108,6 @@ impl fmt::Display for ProcedureLook {
 pub enum Guess {
     /// A part of the code may stand in another place, or be another's. Compare two copies of the file.
     Misfit { procedure: usize },
-    /// The code or the link information may be damaged. Compare two copies of the file.
-    NoOperand { place: usize },
-    /// A part of the link information may have been lost. Compare two copies of the file.
-    LostReferences { operands: usize, references: usize },
     /// A link sets the bit, and reads the operand without it. Compare two copies of the file.
     ClearMark { place: usize },
 }
@@ -123,21 +119,6 @@ impl fmt::Display for Guess {
                 write!(
                     f,
                     "procedure {procedure} may be damaged: its instructions do not fit together, as those of the others do"
-                )
-            }
-            Guess::NoOperand { place } => {
-                write!(
-                    f,
-                    "byte {place} may be no operand: the instruction there has no such reference"
-                )
-            }
-            Guess::LostReferences {
-                operands,
-                references,
-            } => {
-                write!(
-                    f,
-                    "references may be lost: a compiler has left {operands} operands to a link, and the link information has references to {references}"
                 )
             }
             Guess::ClearMark { place } => {

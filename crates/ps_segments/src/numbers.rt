@@ -1,6 +1,6 @@
 //! The segment numbers at the ends of codes, beside those that the dictionary has.
+use crate::codes::is_without_procedures;
 use crate::looks::CodeLook;
-use crate::tables::is_without_procedures;
 use ps_codefile::Dict;
 use ps_codefile::dictionary_layout::SLOTS;
 use ps_codefile::kinds::{HOSTSEG, UNITSEG};

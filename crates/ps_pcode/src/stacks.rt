@@ -16,14 +16,14 @@ impl Stack {
         is_whole: true,
     };
 
-    /// That of which nothing is known.
+    /// A stack of which nothing is known.
     pub(crate) const UNKNOWN: Stack = Stack {
         words: 0,
         is_whole: false,
     };
 
-    /// That after an instruction, to which a jump may go; none where words are left that a jump does
-    /// not leave, or the instruction takes words that are not there.
+    /// The stack after an instruction, which a jump may lead to; none where words are left that a jump
+    /// does not leave, or where the instruction takes words that are not there.
     pub(crate) fn after(self, instruction: Instruction, is_target: bool) -> Option<Stack> {
         let index = usize::from(instruction.is_case());
         if !is_target && index == 0 {
@@ -39,6 +39,7 @@ impl Stack {
         found.changed_by(instruction)
     }
 
+    /// The stack after an instruction, by the words that it takes and puts there; none as above.
     fn changed_by(self, instruction: Instruction) -> Option<Stack> {
         let Some((taken, put)) = instruction.words() else {
             return Some(Stack::UNKNOWN);

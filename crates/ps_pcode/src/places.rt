@@ -5,10 +5,11 @@ const BITS: usize = 64;
 
 const WORDS: usize = 128;
 
-/// A procedure is shorter: a compiler's buffer has some 1300 bytes.
+/// So many places a set may have, in bytes from where a procedure is entered. A procedure is shorter: a
+/// compiler's buffer has some 1300 bytes.
 pub(crate) const MOST: usize = BITS * WORDS;
 
-/// Some of the first places, as bits.
+/// Some of the first places of a procedure, each a bit.
 #[derive(Clone, Copy)]
 pub(crate) struct Places {
     words: [u64; WORDS],
@@ -30,7 +31,7 @@ impl Places {
         self.used = 0;
     }
 
-    /// With this place, if it is one of the first.
+    /// Adds a place, if it is one of the first.
     pub(crate) fn add(&mut self, place: usize) {
         let index = place / BITS;
         if index < WORDS {
@@ -39,6 +40,7 @@ impl Places {
         }
     }
 
+    /// The place is in the set.
     pub(crate) fn has(&self, place: usize) -> bool {
         match self.words.get(place / BITS) {
             Some(word) => *word >> (place % BITS) & 1 == 1,
@@ -46,16 +48,12 @@ impl Places {
         }
     }
 
-    /// The first of these that is none of those.
+    /// The first place of this set that is none of those.
     pub(crate) fn first_beside(&self, those: &Places) -> Option<usize> {
         for (index, word) in self.words.iter().enumerate().take(self.used) {
             let rest = *word & !those.words.get(index).copied().unwrap_or(0);
             if rest != 0 {
-                return Some(
-                    index
-                        .saturating_mul(BITS)
-                        .saturating_add(rest.trailing_zeros() as usize),
-                );
+                return Some(index * BITS + rest.trailing_zeros() as usize);
             }
         }
         None

@@ -1,6 +1,8 @@
 //! The code of a procedure of P-code.
+ghost use Rattle.std.specs.Prelude.{◌≤◌, length};
+
 use crate::places::MOST;
-use crate::rules::{Rule, ShownRules};
+use crate::rules::{RULES, ShownRules};
 use crate::table::Release;
 use crate::tables::{Ends, pointed_at};
 use crate::walks::Walk;
@@ -12,25 +14,28 @@ const BY_TABLE: u8 = 128;
 /// The code of a procedure.
 #[derive(Clone, Copy)]
 pub(crate) struct Body<'c> {
+    /// The order of the segment's words.
     pub(crate) order: Order,
-    /// That of its segment, up to the procedure's table.
+    /// The code of the segment, up to the procedure's attribute table.
     pub(crate) code: &'c [u8],
     pub(crate) ends: Ends,
+    ghost inside: { ends.enter ≤ length code.now },
 }
 
 /// Where a jump leads to.
 #[derive(Clone, Copy)]
 pub(crate) enum Target {
-    /// So many bytes after the place where the procedure is entered.
+    /// So many bytes after the place where the procedure is entered, by the jump's operand alone.
     Short(usize),
+    /// So many bytes after that place, by a word of the jump table.
     ByTable(usize),
     /// No place that the procedure has.
     Outside,
 }
 
 impl<'c> Body<'c> {
-    /// That before a table; none where the table names no place in the code, or one that is too far
-    /// away to be of a procedure.
+    /// The code of the procedure whose attribute table is at this place; none where the table names a
+    /// place before the code, or one that is too far away to be of a procedure.
     pub(crate) fn before(order: Order, segment: &'c [u8], table: usize) -> Option<Body<'c>> {
         let body = Body {
             order,
@@ -40,16 +45,16 @@ impl<'c> Body<'c> {
         if body.len() < MOST { Some(body) } else { None }
     }
 
-    /// How many bytes it has, with its jump table and the sizes before its table.
+    /// How many bytes the procedure has, with its jump table and the sizes before its attribute table.
     pub(crate) fn len(self) -> usize {
-        self.code.len().saturating_sub(self.ends.enter)
+        self.code.len() - self.ends.enter
     }
 
-    /// What it shows of the rules by the table of instructions of the release by which it keeps to
+    /// What the procedure shows of the rules, by the instructions of the release by which it keeps to
     /// more of them.
     pub(crate) fn shown_rules(self, walk: &mut Walk) -> ShownRules {
         let later = walk.over(self, Release::Later);
-        if later.rules_kept() == Rule::ALL.len() {
+        if later.rules_kept() == RULES {
             return later;
         }
         let earlier = walk.over(self, Release::Earlier);

@@ -42,11 +42,11 @@ pub(crate) enum Operands {
 #[derive(Clone, Copy)]
 pub(crate) enum Effect {
     /// It takes so many, and then puts so many there.
-    Words(usize, usize),
+    Words(u8, u8),
     /// It takes so many, and then puts as many there as its first operand says.
-    Loads(usize),
+    Loads(u8),
     /// It takes as many as its first operand says, and so many more.
-    Stores(usize),
+    Stores(u8),
     /// It takes two values of the type that its first operand says, and puts a word there.
     Compares,
     /// As many as a set has, or a procedure says that is not looked at.
@@ -185,17 +185,17 @@ pub(crate) enum Release {
 }
 
 impl Row {
-    /// That of an opcode in a release.
+    /// The row of an opcode in a release.
     pub(crate) fn of(opcode: u8, release: Release) -> Row {
         if matches!(release, Release::Earlier) {
             if let Some(row) = row_in(&EARLIER, opcode) {
                 return row;
             }
         }
-        let place = usize::from(opcode.saturating_sub(FIRST));
-        match TABLE.get(place) {
-            Some(row) if FIRST <= opcode => return *row,
-            _ => {}
+        if FIRST <= opcode {
+            if let Some(row) = TABLE.get(usize::from(opcode - FIRST)) {
+                return *row;
+            }
         }
         let mut last = SHORT[0];
         for row in &SHORT {

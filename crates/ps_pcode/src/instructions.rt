@@ -1,5 +1,7 @@
-//! Instructions of P-code: how long they are, and which of them jump, return, or have an operand that
-//! a link fills in.
+//! Instructions of P-code: how long they are, which of them jump and which return, and what they do to
+//! the evaluation stack.
+ghost use Rattle.std.specs.Prelude.{◌<◌};
+
 use crate::table::{Effect, Operands, Release, Row};
 use ps_words::{Order, get};
 
@@ -51,9 +53,11 @@ impl Operands {
     }
 }
 
-/// Where an instruction ends whose BIG operand has this byte first, after so many others.
-fn big_end(high: u8, before: usize) -> usize {
-    before.saturating_add(2 + usize::from(TWO_BYTES <= high))
+/// The length of an instruction whose BIG operand has this byte first, after so many others, 0 or 1.
+fn big_end(high: u8, before: usize) -> usize
+    requires { before < 2 }
+{
+    before + 2 + usize::from(TWO_BYTES <= high)
 }
 
 /// An instruction.
@@ -61,14 +65,15 @@ fn big_end(high: u8, before: usize) -> usize {
 pub(crate) struct Instruction {
     operands: Operands,
     effect: Effect,
-    /// The first two bytes after the opcode.
-    bytes: [u8; 2],
-    /// How many bytes it has.
+    /// The byte after the opcode, the first operand of an instruction that has one.
+    operand: u8,
+    /// How many bytes it has, with its opcode.
     pub(crate) length: usize,
 }
 
 impl Instruction {
-    /// That at a place of a code, in a release; none where no whole one is.
+    /// The instruction at a place of a code, by the table of a release; none where the code has not
+    /// enough bytes from there on to tell how long it is.
     pub(crate) fn at(
         order: Order,
         release: Release,
@@ -83,19 +88,21 @@ impl Instruction {
         Some(Instruction {
             operands,
             effect,
-            bytes: [bytes.first().copied()?, bytes.get(1).copied()?],
+            operand: bytes.first().copied()?,
             length: operands.length(order, place, bytes)?,
         })
     }
 
-    /// How many bytes a jump goes on; above 127 by the jump table. None of what is no jump.
+    /// The operand of a jump: how many bytes it goes on, or, above 127, which word of the jump table
+    /// says where to. None of an instruction that is no jump.
     pub(crate) fn jump(self) -> Option<u8> {
         match self.operands {
-            Operands::Jump => Some(self.bytes[0]),
+            Operands::Jump => Some(self.operand),
             _ => None,
         }
     }
 
+    /// It goes to one of several places, by an index.
     pub(crate) fn is_case(self) -> bool {
         matches!(self.operands, Operands::Case)
     }
@@ -108,13 +115,12 @@ impl Instruction {
     /// The words of the evaluation stack that it takes, and those that it then puts there; none where
     /// these are not known.
     pub(crate) fn words(self) -> Option<(usize, usize)> {
-        let operand = self.bytes[0];
-        let words = usize::from(operand);
+        let words = usize::from(self.operand);
         match self.effect {
-            Effect::Words(taken, put) => Some((taken, put)),
-            Effect::Loads(taken) => Some((taken, words)),
-            Effect::Stores(more) => Some((words.saturating_add(more), 0)),
-            Effect::Compares => match operand {
+            Effect::Words(taken, put) => Some((usize::from(taken), usize::from(put))),
+            Effect::Loads(taken) => Some((usize::from(taken), words)),
+            Effect::Stores(more) => Some((words + usize::from(more), 0)),
+            Effect::Compares => match self.operand {
                 REALS => Some((4, 1)),
                 STRINGS | BOOLEANS | BYTE_ARRAYS | WORD_ARRAYS => Some((2, 1)),
                 _ => None,
@@ -122,66 +128,15 @@ impl Instruction {
             Effect::Unknown => None,
         }
     }
-
-    /// It has a variable of the program in an operand that is longer than it need be, as a compiler
-    /// leaves it to a link.
-    pub(crate) fn is_left_to_link(self) -> bool {
-        matches!(self.operands, Operands::Variable)
-            && self.bytes[0] == TWO_BYTES
-            && self.bytes[1] < TWO_BYTES
-    }
-
-    /// It has another operand that is longer than it need be.
-    pub(crate) fn is_lengthened(self) -> bool {
-        matches!(self.operands, Operands::Big)
-            && self.bytes[0] == TWO_BYTES
-            && self.bytes[1] < TWO_BYTES
-    }
 }
 
-/// What a reference fills in.
-///
-/// Source: the published II.0 Linker source.
-#[derive(Clone, Copy)]
-pub enum Filled {
-    /// The number of a segment.
-    Segment,
-    /// The base offset of a variable of the program.
-    Variable,
-}
-
-/// The byte at this place of a code may be the first of an operand of the kind, in any release: that
-/// after an opcode that has one or, for a segment, a constant, which is an opcode below 128.
-///
-/// Source: P-code of II.0, *(open)* in FORMAT.md.
-pub fn may_be_operand(code: &[u8], place: usize, filled: Filled) -> bool {
-    let is_constant = match code.get(place) {
-        Some(byte) => *byte < TWO_BYTES,
-        None => false,
-    };
-    let before = match code.get(..place) {
-        Some([.., opcode]) => *opcode,
-        _ => return matches!(filled, Filled::Segment) && is_constant,
-    };
-    match filled {
-        Filled::Segment => is_constant
-            || matches!(operands_of(before, Release::Later), Operands::Call),
-        Filled::Variable => {
-            matches!(operands_of(before, Release::Later), Operands::Variable)
-                || matches!(operands_of(before, Release::Earlier), Operands::Variable)
-        }
-    }
-}
-
-/// A case begins at a place of a code, whole or not.
+/// A case begins at a place of a code, whole or not: all releases have it at one opcode.
 pub(crate) fn is_case_at(code: &[u8], place: usize) -> bool {
     match code.get(place) {
-        Some(opcode) => matches!(operands_of(*opcode, Release::Later), Operands::Case),
+        Some(opcode) => {
+            let Row(_, _, operands, _) = Row::of(*opcode, Release::Later);
+            matches!(operands, Operands::Case)
+        }
         None => false,
     }
-}
-
-fn operands_of(opcode: u8, release: Release) -> Operands {
-    let Row(_, _, operands, _) = Row::of(opcode, release);
-    operands
 }

@@ -29,8 +29,6 @@ pub(crate) struct Walk {
     stack: Stack,
     /// The first place where the evaluation stack has too much or too little.
     first_odd_stack: Option<usize>,
-    left_to_link: usize,
-    is_lengthened: bool,
 }
 
 impl Walk {
@@ -46,12 +44,10 @@ impl Walk {
         is_whole: false,
         stack: Stack::EMPTY,
         first_odd_stack: None,
-        left_to_link: 0,
-        is_lengthened: false,
     };
 
-    /// Goes over a procedure: what its instructions show, by the table of a release. Sets of places are
-    /// large: those of the walk before are cleared.
+    /// Goes over a procedure, and gives what its instructions show by the table of a release. Sets of
+    /// places are large: those of the walk before are cleared.
     pub(crate) fn over(&mut self, body: Body<'_>, release: Release) -> ShownRules {
         self.starts.clear();
         self.short.clear();
@@ -64,8 +60,6 @@ impl Walk {
         self.is_whole = false;
         self.stack = Stack::EMPTY;
         self.first_odd_stack = None;
-        self.left_to_link = 0;
-        self.is_lengthened = false;
         for _ in 0..body.len() {
             let place = body.ends.enter.saturating_add(self.place);
             if self.is_whole {
@@ -109,10 +103,6 @@ impl Walk {
                 }
             }
         }
-        self.left_to_link = self
-            .left_to_link
-            .saturating_add(usize::from(instruction.is_left_to_link()));
-        self.is_lengthened = self.is_lengthened || instruction.is_lengthened();
         self.place = self.place.saturating_add(instruction.length);
     }
 
@@ -129,8 +119,8 @@ impl Walk {
         };
     }
 
-    /// What was shown. What comes after the first case tells of `Cases`, and of the evaluation stack
-    /// where `Cases` is kept.
+    /// What was shown. What comes after the first case tells of the rule of cases, and of the
+    /// evaluation stack only where the procedure keeps to that rule.
     fn shown_rules(&self) -> ShownRules {
         let limit = self.first_case.unwrap_or(usize::MAX);
         let odd_short = self.short.first_beside(&self.starts);
@@ -141,19 +131,15 @@ impl Walk {
         let is_table_kept = !self.leads_outside && !is_before(odd_by_table, limit);
         let last = if is_all_read { usize::MAX } else { limit };
         ShownRules {
-            shown: [
-                Shown::by(true, is_read),
-                Shown::by(is_read && has_case, is_all_read),
-                Shown::by(is_read && self.has_table_jump, is_table_kept),
-                Shown::by(is_read, !is_before(self.first_odd_stack, last)),
-            ],
-            left_to_link: if is_all_read { self.left_to_link } else { 0 },
-            is_lengthened: is_read && self.is_lengthened,
+            instructions: Shown::by(true, is_read),
+            cases: Shown::by(is_read && has_case, is_all_read),
+            table_jumps: Shown::by(is_read && self.has_table_jump, is_table_kept),
+            stack: Shown::by(is_read, !is_before(self.first_odd_stack, last)),
         }
     }
 }
 
-/// There is such a place, and it is before this one.
+/// A place was found, and it is before a limit.
 fn is_before(place: Option<usize>, limit: usize) -> bool {
     match place {
         Some(place) => place < limit,
