@@ -60,7 +60,7 @@ certain_about (which.Dictionary (dictionary.IntrinsicKind a b)) h = cc
 certain_about (which.Name n) h = cc
 certain_about (which.Code c) h = cc
 certain_about (which.Procedure p) h = cc
-certain_about (which.Guess g) h = cc
+certain_about (which.Operand o) h = cc
 
 -- one more finding, which is a warning or not, and about the link or not
 count_step : (c a : Bool) (x : Said) (xs : List Said) (s : Stated) (rest : List Stated)

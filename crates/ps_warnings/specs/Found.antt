@@ -29,7 +29,7 @@ is_about_link (which.Dictionary f) = false
 is_about_link (which.Name f) = false
 is_about_link (which.Code f) = false
 is_about_link (which.Procedure f) = false
-is_about_link (which.Guess f) = false
+is_about_link (which.Operand f) = false
 
 -- the findings about the link among these, in their order
 unfoldable pub about_link_in : List FindingAt → List Stated

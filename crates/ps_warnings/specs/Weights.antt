@@ -48,7 +48,7 @@ weight_of (finding.Dictionary f) = dictionary_weight f
 weight_of (finding.Name f) = Note
 weight_of (finding.Code f) = Note
 weight_of (finding.Procedure f) = Note
-weight_of (finding.Guess f) = Note
+weight_of (finding.Operand f) = Note
 
 -- it is a warning: it is certain, and the link is another one by it
 abbrev pub is_certain_weight : Weight → Bool

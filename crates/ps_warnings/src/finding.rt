@@ -1,7 +1,6 @@
-//! What is found in files and is no fault: the one home of these sentences, but for those of codes,
-//! which `ps_segments` has. `man/make_fault_table.py` makes the tables of warnings and of notes in
-//! USING.md from the enums of both: what each finding means and what to do about it is above it, and
-//! its weight is in `weight` here.
+//! What is found in files and is no fault: the one home of these sentences. `man/make_fault_table.py`
+//! makes the tables of warnings and of notes in USING.md from the enums here: what each finding means
+//! and what to do about it is above it, and its weight is in `weight`.
 ghost use Rattle.std.specs.Prelude.{◌≡◌, Some, false};
 ghost use Rattle.std.specs.Fmt.{WritesOnOk};
 ghost use Rattle.ps_warnings.specs.Places.{place_text, record_words, segment_words};
@@ -10,7 +9,6 @@ ghost use Rattle.ps_warnings.specs.Weights.{is_certain as is_certain_spec, weigh
 
 use crate::weight::Weight;
 use ps_filetype::{FileType, LineEnds, Oddity, ShownName, ShownPath};
-use ps_segments::{CodeLook, Guess, ProcedureLook};
 use ps_words::Name;
 use std::fmt::{self, Display, Formatter};
 
@@ -30,7 +28,7 @@ pub enum FileFinding {
 impl fmt::Display for FileFinding {
     fn fmt<W: fmt::Write>(&self, f: &mut Formatter<W>) -> fmt::Result {
         match *self {
-            FileFinding::NoCodeFile { file_type } => write!(f, "it is {file_type}"),
+            FileFinding::NoCodeFile { file_type } => write!(f, "it may be {file_type}"),
             FileFinding::Padded { bytes } => {
                 write!(
                     f,
@@ -40,7 +38,7 @@ impl fmt::Display for FileFinding {
             FileFinding::Doubled { start, end } => {
                 write!(
                     f,
-                    "bytes {start} to {end} are there twice, one after the other"
+                    "bytes {start} to {end} are there twice, one after the other: they may have been read twice"
                 )
             }
             FileFinding::Converted { line_ends } => {
@@ -53,7 +51,7 @@ impl fmt::Display for FileFinding {
 /// What looks wrong in a dictionary.
 #[derive(Clone, Copy)]
 pub enum DictionaryFinding {
-    /// A part of the dictionary was not read, which a link copies. Copy the file again.
+    /// A part of the dictionary may not have been read, which a link copies. Copy the file again.
     DeadTail { start: usize, end: usize, byte: u8 },
     /// Apple Pascal's intrinsic units are not linked. The link passes them over.
     IntrinsicKind { slot: u8, kind: u16 },
@@ -65,7 +63,7 @@ impl fmt::Display for DictionaryFinding {
             DictionaryFinding::DeadTail { start, end, byte } => {
                 write!(
                     f,
-                    "bytes {start} to {end} of its dictionary are all {byte:02X}"
+                    "bytes {start} to {end} of its dictionary are all {byte:02X}: they may not have been read"
                 )
             }
             DictionaryFinding::IntrinsicKind { slot, kind } => {
@@ -116,7 +114,114 @@ impl fmt::Display for NameFinding {
         match *self {
             NameFinding::OddName { name, oddity } => {
                 let name = ShownName(name);
-                write!(f, "the name {name} {oddity}")
+                write!(f, "the name {name} {oddity}: it may not be found")
+            }
+        }
+    }
+}
+
+/// What looks wrong in a code, or in the numbers at its end.
+#[derive(Clone, Copy)]
+pub enum CodeFinding {
+    /// The code may never have been written, or was lost. Copy the file again.
+    OneByte { byte: u8 },
+    /// A part of the medium may not have been read, or never written. Copy the file again.
+    DeadRun { start: usize, end: usize, byte: u8 },
+    /// The end of the code may have been lost. Copy the file again.
+    ZeroEnd,
+    /// The code may be that of another slot. Compile the host again.
+    OtherNumber { found: u8, slot: u8 },
+    /// The addresses of two entries may have been exchanged. Copy the file again.
+    ExchangedNumber { found: u8, slot: u8 },
+    /// The code may be that of another slot. Copy the file again.
+    OtherInfo { found: u8, number: u8 },
+}
+
+impl fmt::Display for CodeFinding {
+    fn fmt<W: fmt::Write>(&self, f: &mut Formatter<W>) -> fmt::Result {
+        match *self {
+            CodeFinding::OneByte { byte } => {
+                write!(f, "each byte of its code is {byte:02X}: it may never have been written")
+            }
+            CodeFinding::DeadRun { start, end, byte } => {
+                write!(
+                    f,
+                    "bytes {start} to {end} of its code are all {byte:02X}: they may not have been read"
+                )
+            }
+            CodeFinding::ZeroEnd => f.write_str(
+                "its code ends with zeros, so it has no procedure and no segment number: its end may be lost",
+            ),
+            CodeFinding::OtherNumber { found, slot } => {
+                write!(
+                    f,
+                    "its code has segment number {found}, and its slot is {slot}: the code may be another one"
+                )
+            }
+            CodeFinding::ExchangedNumber { found, slot } => {
+                write!(
+                    f,
+                    "its code has segment number {found}, and that of slot {found} has {slot}: the two may be exchanged"
+                )
+            }
+            CodeFinding::OtherInfo { found, number } => {
+                write!(
+                    f,
+                    "its code has segment number {found}, and bytes 256 to 287 of the dictionary have {number} for it: the code may be another one"
+                )
+            }
+        }
+    }
+}
+
+/// What looks wrong in the procedures of a code.
+#[derive(Clone, Copy)]
+pub enum ProcedureFinding {
+    /// The code may be damaged, or another file's. Copy the file again, or compile it again.
+    OtherProcedure { procedure: usize, found: u8 },
+    /// The end of the code may be damaged. Copy the file again.
+    LostTables,
+    /// A part of the code may stand in another place, or be another's. Compare two copies of the file.
+    Misfit { procedure: usize },
+}
+
+impl fmt::Display for ProcedureFinding {
+    fn fmt<W: fmt::Write>(&self, f: &mut Formatter<W>) -> fmt::Result {
+        match *self {
+            ProcedureFinding::OtherProcedure { procedure, found } => {
+                write!(
+                    f,
+                    "the attribute table of procedure {procedure} says that it is procedure {found}: the code may be damaged"
+                )
+            }
+            ProcedureFinding::LostTables => f.write_str(
+                "it does not end with a procedure dictionary: the end of its code may be lost",
+            ),
+            ProcedureFinding::Misfit { procedure } => {
+                write!(
+                    f,
+                    "procedure {procedure} may be damaged: its instructions do not fit together, as those of the others do"
+                )
+            }
+        }
+    }
+}
+
+/// What looks wrong in the operands that references name.
+#[derive(Clone, Copy)]
+pub enum OperandFinding {
+    /// A link sets the bit, and reads the operand without it. Compare two copies of the file.
+    ClearMark { place: usize },
+}
+
+impl fmt::Display for OperandFinding {
+    fn fmt<W: fmt::Write>(&self, f: &mut Formatter<W>) -> fmt::Result {
+        match *self {
+            OperandFinding::ClearMark { place } => {
+                write!(
+                    f,
+                    "the operand at byte {place} may be damaged: its bit 7 is clear, and a compiler sets it"
+                )
             }
         }
     }
@@ -162,7 +267,7 @@ impl fmt::Display for RecordFinding {
             } => {
                 write!(
                     f,
-                    "the operand at byte {place} is word {displacement} of a variable of {words} words"
+                    "the operand at byte {place} is word {displacement} of a variable that has {words}"
                 )
             }
             RecordFinding::UnitDefinition { name } => {
@@ -237,9 +342,9 @@ pub enum Finding {
     Dictionary(DictionaryFinding),
     Entry(EntryFinding),
     Name(NameFinding),
-    Code(CodeLook),
-    Procedure(ProcedureLook),
-    Guess(Guess),
+    Code(CodeFinding),
+    Procedure(ProcedureFinding),
+    Operand(OperandFinding),
     Record(RecordFinding),
     Link(LinkFinding),
 }
@@ -272,7 +377,7 @@ impl Finding {
             | Finding::Name(_)
             | Finding::Code(_)
             | Finding::Procedure(_)
-            | Finding::Guess(_) => Weight::Note,
+            | Finding::Operand(_) => Weight::Note,
         }
     }
 
@@ -293,7 +398,7 @@ impl fmt::Display for Finding {
             Finding::Name(finding) => finding.fmt(f),
             Finding::Code(finding) => finding.fmt(f),
             Finding::Procedure(finding) => finding.fmt(f),
-            Finding::Guess(finding) => finding.fmt(f),
+            Finding::Operand(finding) => finding.fmt(f),
             Finding::Record(finding) => finding.fmt(f),
             Finding::Link(finding) => finding.fmt(f),
         }
@@ -325,21 +430,21 @@ impl Unsure for NameFinding {
     }
 }
 
-impl Unsure for CodeLook {
+impl Unsure for CodeFinding {
     fn finding(self) -> Finding {
         Finding::Code(self)
     }
 }
 
-impl Unsure for ProcedureLook {
+impl Unsure for ProcedureFinding {
     fn finding(self) -> Finding {
         Finding::Procedure(self)
     }
 }
 
-impl Unsure for Guess {
+impl Unsure for OperandFinding {
     fn finding(self) -> Finding {
-        Finding::Guess(self)
+        Finding::Operand(self)
     }
 }
 

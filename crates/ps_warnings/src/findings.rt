@@ -16,6 +16,9 @@ mod extents;
 mod files;
 mod links;
 mod names;
+mod numbers;
+mod operands;
+mod procedures;
 mod records;
 
 use crate::finding::{Finding, FindingAt, Place, Unsure};

@@ -2,13 +2,15 @@
 //! values with their texts.
 #![tactic(auto)]
 
+mod dead;
 mod finding;
 mod findings;
 mod weight;
 
+pub use dead::dead_run;
 pub use finding::{
-    DictionaryFinding, EntryFinding, FileFinding, Finding, FindingAt, LinkFinding, NameFinding,
-    Place, RecordFinding,
+    CodeFinding, DictionaryFinding, EntryFinding, FileFinding, Finding, FindingAt, LinkFinding,
+    NameFinding, OperandFinding, Place, ProcedureFinding, RecordFinding,
 };
 pub use findings::{Findings, findings_of};
 pub use weight::Weight;

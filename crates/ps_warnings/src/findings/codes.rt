@@ -3,23 +3,22 @@ ghost use Rattle.std.specs.Prelude.{◌<◌, [], OnOk};
 ghost use Rattle.ps_warnings.specs.Found.{Adds, about_link};
 
 use super::Findings;
-use crate::finding::Place;
-use ps_codefile::dictionary_layout::SLOTS;
+use super::numbers::other_number;
+use super::procedures::{is_without_procedures, lost_tables, misfit_in, other_procedure};
+use crate::dead::unread_run;
+use crate::finding::{CodeFinding, Place};
 use ps_codefile::Dict;
+use ps_codefile::dictionary_layout::SLOTS;
 use ps_filetype::only_byte;
-use ps_pcode::misfit;
-use ps_segments::{
-    CodeLook, Guess, is_without_procedures, number_look, procedures_look, table_look, unread_look,
-};
 use ps_words::Order;
 use std::alloc::{AllocError, Allocator};
 
 /// The run of one byte that a code has, if it has one: it was not read, or never written.
-pub(super) fn run_in(order: Order, kind: u16, code: &[u8]) -> Option<CodeLook> {
+pub(super) fn run_in(order: Order, kind: u16, code: &[u8]) -> Option<CodeFinding> {
     match only_byte(code) {
         Some(_) if is_without_procedures(code) => None,
-        Some(byte) => Some(CodeLook::OneByte { byte }),
-        None => unread_look(order, kind, code),
+        Some(byte) => Some(CodeFinding::OneByte { byte }),
+        None => unread_run(order, kind, code),
     }
 }
 
@@ -31,7 +30,7 @@ pub(super) fn look_at<'a, A: Allocator>(
     dict: &Dict<'_>,
     slot: u8,
     code: &[u8],
-    run: Option<CodeLook>,
+    run: Option<CodeFinding>,
     is_told: bool,
 ) -> Result<(), AllocError>
     requires { slot < SLOTS }
@@ -41,16 +40,8 @@ pub(super) fn look_at<'a, A: Allocator>(
         return findings.add_unsure(place, if is_told { None } else { run });
     }
     let (order, kind) = (dict.order(), dict.entry(slot).kind);
-    findings.add_unsure(place, number_look(dict, slot, kind, code))?;
-    findings.add_unsure(place, procedures_look(order, kind, slot, code))?;
-    findings.add_unsure(place, table_look(order, code))?;
-    findings.add_unsure(place, misfit_guess(order, code))
-}
-
-/// The procedure of a code whose instructions alone do not fit together, if there is one.
-fn misfit_guess(order: Order, code: &[u8]) -> Option<Guess> {
-    match misfit(order, code) {
-        Some(procedure) => Some(Guess::Misfit { procedure }),
-        None => None,
-    }
+    findings.add_unsure(place, other_number(dict, slot, kind, code))?;
+    findings.add_unsure(place, lost_tables(order, kind, slot, code))?;
+    findings.add_unsure(place, other_procedure(order, code))?;
+    findings.add_unsure(place, misfit_in(order, code))
 }

@@ -10,6 +10,7 @@ ghost use Rattle.ps_segments.specs.Paths.{path_of, paths_in};
 ghost use Rattle.ps_segments.specs.Seen.{has_slot as has_slot_spec, seen};
 
 use super::{Context, Findings, codes, in_file, records};
+use crate::dead::{REPEATED, SECTOR};
 use crate::finding::{DictionaryFinding, EntryFinding, Finding, NameFinding, Place};
 use ps_codefile::dictionary_layout::{SLOTS, TAIL};
 use ps_codefile::kinds::{
@@ -17,7 +18,7 @@ use ps_codefile::kinds::{
 };
 use ps_codefile::{Dict, Entry, Role, is_nameless};
 use ps_filetype::{oddity_of, only_byte};
-use ps_segments::{REPEATED, ReadSegment, SECTOR};
+use ps_segments::ReadSegment;
 use std::alloc::{AllocError, Allocator};
 
 /// Looks at the entries of a dictionary.

@@ -10,6 +10,7 @@ ghost use Rattle.ps_warnings.specs.FileFindings.{data_size as data_size_spec, de
 ghost use Rattle.ps_warnings.specs.Found.{Adds, about_link};
 ghost use Rattle.ps_warnings.specs.RecordFindings.{definition_as as definition_as_spec, definition_of as definition_of_spec, first_definition as first_definition_spec, first_high, first_past, high_as as high_as_spec, is_defined as is_defined_spec, is_past as is_past_spec, is_requested as is_requested_spec, low_mark as low_mark_spec, past_as as past_as_spec, past_words as past_words_spec};
 
+use super::operands::first_clear_mark;
 use super::{Context, Findings};
 use crate::finding::{Finding, NameFinding, Place, RecordFinding};
 use ps_codefile::code_layout::NUMBERS;
@@ -18,7 +19,6 @@ use ps_codefile::kinds::HOSTSEG;
 use ps_codefile::{Dict, Entry, ProcedureDictionary};
 use ps_filetype::oddity_of;
 use ps_linkinfo::{Body, LinkInformation, LinkRecord, Refs, Sort};
-use ps_segments::first_clear_mark;
 use ps_words::{Name, Order, get_big};
 use std::alloc::{AllocError, Allocator};
 

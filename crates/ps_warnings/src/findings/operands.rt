@@ -1,17 +1,18 @@
 //! Operands that the references of records name and whose bytes look wrong.
-use crate::looks::Guess;
+use crate::finding::OperandFinding;
 use ps_linkinfo::{Body, LinkInformation, Refs};
 
 /// The first record that refers to a variable by a BIG operand whose bit 7 is clear: the index of the
-/// record, from 0 on, and the guess, with the place of the first such operand of that record. Operands
+/// record, from 0 on, and the finding, with the place of the first such operand of that record. Operands
 /// of which the code has not both bytes say nothing.
-///
-/// Source: this project's profile.
-pub fn first_clear_mark(records: &LinkInformation<'_>, code: &[u8]) -> Option<(usize, Guess)> {
+pub(super) fn first_clear_mark(
+    records: &LinkInformation<'_>,
+    code: &[u8],
+) -> Option<(usize, OperandFinding)> {
     for (rec, record) in records.records() {
         if let Body::PublRef(refs) | Body::PrivRef { refs, .. } = &record.body {
             if let Some(place) = first_clear(refs, code) {
-                return Some((rec, Guess::ClearMark { place }));
+                return Some((rec, OperandFinding::ClearMark { place }));
             }
         }
     }
