@@ -141,7 +141,7 @@ def ordered_pair(order, procedures, links=None):
     return (HOST if order == "little" else SAMPLES["big_host.code"]), [library]
 
 
-# A code that refers to COUNT twice, at bytes 1 and 5, and another whose second operand is too large to be left to a link.
+# A code that refers to COUNT twice, at bytes 1 and 5, and another with large operands.
 TWICE, LARGE = "A5 80 00 D7 AB 80 00", "A5 80 7F D7 AB 80 80"
 
 
@@ -164,30 +164,19 @@ def beside_four(code, slot=2, order="little"):
 
 
 def lost_warnings():
-    """The warnings of what was lost beside the instructions, as in warnings()."""
+    """The warnings of what was lost elsewhere, as in warnings()."""
     big_host = SAMPLES["big_host.code"]
     tail = lambda bytes_: f"look: HOST: {bytes_} of bytes 336 to 431 of its dictionary are not zero"
-    operand = lambda place: f"note: LIB1, segment UTIL, record 0: byte {place} may be no operand: the instruction there has no such reference"
-    left = lambda operands, references: f"note: LIB1, segment UTIL: references may be lost: a compiler has left {operands} operands to a link, and the link information has references to {references}"
     no_tables = "damaged: LIB1, segment UTIL: it ends with no whole procedure dictionary"
     linked = "look: HOST, segment AUX: its kind says that it is linked, and link information follows its code"
-    count, state = (lambda *places: m.publ_ref("COUNT", places)), (lambda *places: m.priv_ref("STATE", 4, places))
-    aux = lambda pair: (pair[0], [*pair[1], USED])
     # more bytes than a comment of 80 characters from 296 on has there, and sixteen that no text has
     yield [tail(41)], changed(HOST, (336, b"A" * 41)), [LIBRARY]
     yield [tail(41)], changed(big_host, (391, b"\xff" * 41)), [SAMPLES["big_library.code"]]
     for byte in (b"\1", b"\x08", b"\x0b", b"\x1f", b"\x7f"):
         yield [tail(16)], changed(HOST, (350, byte * 16)), [LIBRARY]
     for order in ("little", "big"):
-        yield [operand(4)], *referring(TWICE, count(1, 4), order=order)
-        yield [operand(0)], *referring("A5 80 00 D7 AB 03", count(0), order=order)
-        yield [left(2, 1)], *referring(TWICE, count(1), order=order)
         yield [linked], with_units_in_place(order, m.LINKED), []
         yield [no_tables], HOST if order == "little" else big_host, [beside_four(b"\xd7" * 14 + bytes([2, 0]), order=order)]
-    yield [operand(1)], *referring("CD 80 00 AB 80 00", state(1, 4))
-    yield [operand(1), left(1, 0)], *aux(referring("A5 80 00 AB 03", m.unit_ref("AUX", [1])))
-    yield [left(1, 0)], *referring(LARGE)
-    yield [left(3, 2)], *referring("A9 80 00 AB 80 00 A5 80 00 AB 03", count(1), state(4))
     yield [no_tables], HOST, [beside_four(b"\xd7" * 14 + bytes(2), slot=0)]
 
 

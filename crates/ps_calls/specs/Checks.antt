@@ -2,7 +2,7 @@
 -- Source: this project's profile.
 use Rattle.std.specs.Prelude.{◌≡◌, ℕ, ◌+◌, ◌<◌, ⊤, All, Bool, IsUtf8, List, length, sum}
 use Rattle.ps_report.specs.Reports.{IsReport}
-use Rattle.ps_report.specs.Reported.{Reported}
+use Rattle.ps_report.specs.Reported.{Reported, warning_count}
 use Rattle.ps_report.specs.Verdicts.{check_status}
 use Rattle.ps_answers.specs.Libraries.{split}
 use Rattle.ps_answers.specs.Rooms.{RoomBeginsWith}
@@ -43,7 +43,7 @@ abbrev pub IsFound : List (List ℕ) → List ℕ → List (List ℕ) → Bool �
     → List ℕ → Found → Type 0
 IsFound names host libs strict old new found =
     (r : Reported) × IsReport names host libs r × RoomBeginsWith r.text old new
-    × (found.verdict ≡ r.verdict) × (found.warnings ≡ length r.warnings)
+    × (found.verdict ≡ r.verdict) × (found.warnings ≡ warning_count r.findings)
     × (found.size ≡ length r.text)
     × (found.ends_with ≡ check_status strict found.warnings found.verdict)
     × (found.name ≡ r.name)

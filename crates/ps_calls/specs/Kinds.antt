@@ -34,7 +34,7 @@ kind_in what how =
     else if what == TEXT_CHECK then Some (kind.Check how)
     else if what == TEXT_LIST then Some (kind.List (list_in how))
     else if what == TEXT_UNITS then units_in how
-    else if what == TEXT_LOOKS then Some (kind.Looks how)
+    else if what == TEXT_LOOKS then Some (kind.Findings how)
     else None
 
 -- the text of this number, in the form of this one

@@ -1,8 +1,8 @@
 //! The report of a check, into the caller's room.
-ghost use Rattle.std.specs.Prelude.{◌≡◌, ◌<◌, ◌+◌, ◌↔◌, IfOk, IfErr, IsTrue, OnErr, length, string_bytes, sum, vec_len};
+ghost use Rattle.std.specs.Prelude.{◌≡◌, ◌<◌, ◌+◌, ◌↔◌, IfOk, IfErr, IsTrue, OnErr, length, map, string_bytes, sum};
 ghost use Rattle.ps_resolve.specs.Sources.{contents};
 ghost use Rattle.ps_report.specs.Reports.{IsReport};
-ghost use Rattle.ps_report.specs.Reported.{reported};
+ghost use Rattle.ps_report.specs.Reported.{reported, said, warning_count};
 ghost use Rattle.ps_report.specs.Verdicts.{check_status};
 ghost use Rattle.ps_answers.specs.Libraries.{split as split_spec};
 ghost use Rattle.ps_calls.specs.Checks.{HasItsLengths, IsCheckable, IsFound, WhyUnchecked};
@@ -97,15 +97,16 @@ pub(crate) fn have_lengths(
 /// What a report says of its files.
 fn found_in(report: &Report<'_, Global>, strict: bool) -> Found
     ensures verdict { result.verdict ≡ report.now.verdict }
-    ensures warnings { result.warnings ≡ vec_len report.now.warnings }
+    ensures warnings { result.warnings ≡ warning_count (map said report.now.findings.items) }
     ensures ends_with { result.ends_with
-        ≡ check_status strict (vec_len report.now.warnings) report.now.verdict }
+        ≡ check_status strict (warning_count (map said report.now.findings.items))
+        report.now.verdict }
     ensures size { result.size ≡ length (string_bytes report.now.text) }
     ensures name { result.name ≡ report.now.name }
 {
     Found {
         verdict: report.verdict,
-        warnings: report.warnings.len(),
+        warnings: report.warnings(),
         ends_with: report.status(strict),
         size: report.text.len(),
         name: report.name,

@@ -90,7 +90,7 @@ fn kind_in(what: u32, form: Form) -> Option<TextKind>
         TEXT_CHECK => Some(TextKind::Check(form)),
         TEXT_LIST => Some(TextKind::List(list_in(form))),
         TEXT_UNITS => units_in(form),
-        TEXT_LOOKS => Some(TextKind::Looks(form)),
+        TEXT_LOOKS => Some(TextKind::Findings(form)),
         _ => None,
     }
 }

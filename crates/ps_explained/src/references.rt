@@ -1,8 +1,9 @@
 //! What the files say of the reference that a fault is reported with.
 use crate::cases::Case;
 use ps_linkinfo::{Body, LinkRecord, Operand, Sort};
+use ps_pcode::procedures_of;
 use ps_resolve::{RecordAt, ReferenceAt, SegmentAt, covering_reference};
-use ps_segments::{host_of, procedures_of};
+use ps_segments::host_of;
 use ps_words::{Fault, Name, get_big};
 
 impl<'a> Case<'_, 'a> {

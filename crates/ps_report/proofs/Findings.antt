@@ -1,39 +1,91 @@
--- The findings of warnings, one after another.
-use Rattle.std.proofs.Common.{◌≡◌, ◌∙◌, ◌+◌, ◌<◌, ◌++◌, ◌∷◌, [], ℕ, List, ap, get_or, length, map, string_bytes, sym, take}
+-- Findings with their words, one after another, and how many of them are warnings.
+use Rattle.std.proofs.Common.{◌≡◌, ◌∙◌, ◌+◌, ◌<◌, ◌++◌, ◌∷◌, [], ℕ, Bool, List, ap, cond, false, get_or, length, map, refl, string_bytes, sym, take, true}
 use Rattle.std.proofs.lemmas.List.{map-append, take_more}
+use Rattle.std.proofs.lemmas.List.Elements.{filter-append}
 use Rattle.ps_warnings.specs.Places.{place_text}
-use Rattle.ps_warnings.specs.declared.warnings.Warning.{Warning}
-use Rattle.ps_report.specs.Reported.{ArePlaced, Said, said, warnings_of}
-use Rattle.ps_report.specs.declared.finding.Finding.{Finding}
+use Rattle.std.specs.List.{filter}
+use Rattle.ps_warnings.specs.Weights.{is_certain}
+use Rattle.ps_warnings.specs.declared.finding.DictionaryFinding.TheVariants as dictionary
+use Rattle.ps_warnings.specs.declared.finding.FileFinding.TheVariants as file
+use Rattle.ps_warnings.specs.declared.finding.Finding.{Finding}
+use Rattle.ps_warnings.specs.declared.finding.Finding.TheVariants as which
+use Rattle.ps_warnings.specs.declared.finding.FindingAt.{FindingAt}
+use Rattle.ps_warnings.specs.Found.{Stated, about_link_in, is_about_link, is_warning, stated, warnings_among}
+use Rattle.ps_report.specs.Reported.{ArePlaced, Said, findings_in, is_warned, said, warning_count}
+use Rattle.ps_report.specs.declared.finding.SaidFinding.{SaidFinding}
 
-warnings_more : (xs : List Said) (x : Said)
-    → warnings_of (xs ++ x ∷ []) ≡ warnings_of xs ++ x.warning ∷ []
-warnings_more xs x = map-append (λ (f : Said). f.warning) xs (x ∷ [])
+findings_more : (xs : List Said) (x : Said)
+    → findings_in (xs ++ x ∷ []) ≡ findings_in xs ++ x.at ∷ []
+findings_more xs x = map-append (λ (f : Said). f.at) xs (x ∷ [])
 
 places_more : (xs : List Said) (x : Said)
-    → ArePlaced xs → x.place ≡ place_text x.warning.place → ArePlaced (xs ++ x ∷ [])
+    → ArePlaced xs → x.place ≡ place_text x.at.place → ArePlaced (xs ++ x ∷ [])
 places_more xs x so_far here =
-    let place : Warning → List ℕ = λ w. place_text w.place in
-    let right = ap (map place) (warnings_more xs x)
-    ∙ map-append place (warnings_of xs) (x.warning ∷ []) in
+    let place : FindingAt → List ℕ = λ w. place_text w.place in
+    let right = ap (map place) (findings_more xs x)
+    ∙ map-append place (findings_in xs) (x.at ∷ []) in
     map-append (λ (f : Said). f.place) xs (x ∷ [])
     ∙ (ap (λ (l : List (List ℕ)). l ++ x.place ∷ []) so_far
-    ∙ (ap (λ (p : List ℕ). map place (warnings_of xs) ++ p ∷ []) here ∙ sym right))
+    ∙ (ap (λ (p : List ℕ). map place (findings_in xs) ++ p ∷ []) here ∙ sym right))
 
-module _ {A : Type 0} (before after : List (Finding A)) (f : Finding A)
+module _ {A : Type 0} (before after : List (SaidFinding A)) (f : SaidFinding A)
     (is : after ≡ before ++ f ∷ []) where
   said_more : map said after ≡ map said before ++ said f ∷ []
   said_more = ap (map said) is ∙ map-append said before (f ∷ [])
 
-  pub next_warning : (ws : List Warning) (i : ℕ) (d : Warning) → i < length ws
-      → warnings_of (map said before) ≡ take i ws → f.warning ≡ get_or ws i d
-      → warnings_of (map said after) ≡ take (i + 1) ws
-  next_warning ws i d within so_far here =
-      ap warnings_of said_more ∙ (warnings_more (map said before) (said f)
-      ∙ (ap (λ (l : List Warning). l ++ f.warning ∷ []) so_far
-      ∙ (ap (λ (w : Warning). take i ws ++ w ∷ []) here ∙ sym (take_more ws i d within))))
+  pub next_finding : (ws : List FindingAt) (i : ℕ) (d : FindingAt) → i < length ws
+      → findings_in (map said before) ≡ take i ws → f.at ≡ get_or ws i d
+      → findings_in (map said after) ≡ take (i + 1) ws
+  next_finding ws i d within so_far here =
+      ap findings_in said_more ∙ (findings_more (map said before) (said f)
+      ∙ (ap (λ (l : List FindingAt). l ++ f.at ∷ []) so_far
+      ∙ (ap (λ (w : FindingAt). take i ws ++ w ∷ []) here ∙ sym (take_more ws i d within))))
 
   pub next_place : ArePlaced (map said before)
-      → string_bytes f.place ≡ place_text f.warning.place → ArePlaced (map said after)
+      → string_bytes f.place ≡ place_text f.at.place → ArePlaced (map said after)
   next_place so_far here =
       rw said_more (places_more (map said before) (said f) so_far here)
+
+-- a warning is about the link
+certain_about : (f : Finding) → is_certain f ≡ true → is_about_link f ≡ true
+certain_about (which.Entry e) h = refl
+certain_about (which.Record r) h = refl
+certain_about (which.Link l) h = refl
+certain_about (which.File (file.NoCodeFile t)) h = cc
+certain_about (which.File (file.Padded n)) h = cc
+certain_about (which.File (file.Doubled a b)) h = cc
+certain_about (which.File (file.Converted e)) h = cc
+certain_about (which.Dictionary (dictionary.DeadTail a b c)) h = cc
+certain_about (which.Dictionary (dictionary.IntrinsicKind a b)) h = cc
+certain_about (which.Name n) h = cc
+certain_about (which.Code c) h = cc
+certain_about (which.Procedure p) h = cc
+certain_about (which.Operand o) h = cc
+
+-- one more finding, which is a warning or not, and about the link or not
+count_step : (c a : Bool) (x : Said) (xs : List Said) (s : Stated) (rest : List Stated)
+    → (c ≡ true → a ≡ true) → is_warned x ≡ c → is_warning s ≡ c
+    → length (filter is_warned xs) ≡ length (filter is_warning rest)
+    → length (filter is_warned (x ∷ xs)) ≡ length (filter is_warning (cond a (s ∷ rest) rest))
+count_step true true x xs s rest h k l so_far =
+    ap (λ (b : Bool). length (cond b (x ∷ filter is_warned xs) (filter is_warned xs))) k
+    ∙ (ap (λ (n : ℕ). n + 1) so_far
+    ∙ sym (ap (λ (b : Bool). length (cond b (s ∷ filter is_warning rest)
+    (filter is_warning rest))) l))
+count_step true false x xs s rest h k l so_far = let no = h refl in cc
+count_step false true x xs s rest h k l so_far =
+    ap (λ (b : Bool). length (cond b (x ∷ filter is_warned xs) (filter is_warned xs))) k
+    ∙ (so_far ∙ sym (ap (λ (b : Bool). length (cond b (s ∷ filter is_warning rest)
+    (filter is_warning rest))) l))
+count_step false false x xs s rest h k l so_far =
+    ap (λ (b : Bool). length (cond b (x ∷ filter is_warned xs) (filter is_warned xs))) k ∙ so_far
+
+-- so many of these findings are warnings as of those about the link
+pub warned_about : (fs : List Said)
+    → warning_count fs ≡ length (warnings_among (about_link_in (findings_in fs)))
+unfolding warning_count warnings_among about_link_in
+warned_about [] = refl
+warned_about (f ∷ fs) =
+    count_step (is_certain f.at.finding) (is_about_link f.at.finding) f fs (stated f.at)
+    (filter (λ (s : Stated). is_about_link s.finding) (map stated (findings_in fs)))
+    (certain_about f.at.finding) refl refl (warned_about fs)

@@ -1,7 +1,7 @@
 pub mod Verdicts
 pub mod Texts
 pub mod SegmentTexts
-pub mod WarningLines
+pub mod FindingLines
 pub mod Findings
 pub mod Items
 pub mod Reports

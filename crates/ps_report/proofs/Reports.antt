@@ -7,16 +7,16 @@ use Rattle.ps_explained.specs.SlotLines.{AddsSlotLines}
 use Rattle.ps_explained.proofs.SlotLines.{adds_then_none, lines_in}
 use Rattle.ps_listing.specs.FileLists.{IsList}
 use Rattle.ps_listing.specs.declared.lists.ListForm.TheVariants.{Lines}
-use Rattle.ps_warnings.specs.AllLooks.{link_looks_of}
-use Rattle.ps_warnings.specs.Found.{link_looks, sorted}
-use Rattle.ps_warnings.specs.declared.warnings.Warning.{Warning}
+use Rattle.ps_warnings.specs.AllFindings.{link_findings_of}
+use Rattle.ps_warnings.specs.Found.{Stated, about_link_in, warnings_among}
 use Rattle.ps_report.specs.Lists.{lacks_host}
-use Rattle.ps_report.specs.Reported.{ArePlaced, Reported, warnings_of}
+use Rattle.ps_report.specs.Reported.{ArePlaced, Reported, findings_in, warning_count}
 use Rattle.ps_report.specs.Reports.{IsReport}
 use Rattle.ps_report.specs.Verdicts.{IsVerdict, verdict_line, verdict_name}
-use Rattle.ps_report.specs.WarningLines.{AddsWarnings, look_lines, other_lines}
+use Rattle.ps_report.specs.FindingLines.{AddsWarnings, finding_lines, other_lines}
+use Rattle.ps_report.proofs.Findings.{warned_about}
 use Rattle.ps_report.proofs.Texts.{lists_in, told_in}
-use Rattle.ps_report.proofs.WarningLines.{adds_look_lines, counted}
+use Rattle.ps_report.proofs.FindingLines.{adds_finding_lines, counted}
 
 -- what is before the lines of what looks wrong
 pub record Front (paths : List (List ℕ)) (host : List ℕ) (libs : List (List ℕ)) (r : Reported)
@@ -32,16 +32,15 @@ pub record Front (paths : List (List ℕ)) (host : List ℕ) (libs : List (List 
 
 pub is_report : (paths : List (List ℕ)) (host : List ℕ) (libs : List (List ℕ))
     (r : Reported) (front : List ℕ) → Front paths host libs r front
-    → r.text ≡ front ++ look_lines r.warnings r.harmless r.notes
+    → r.text ≡ front ++ finding_lines r.findings
     → IsVerdict host libs r.verdict → r.name ≡ verdict_name host libs r.verdict
-    → link_looks (warnings_of r.warnings) (warnings_of r.harmless) (warnings_of r.notes)
-    ≡ sorted (link_looks_of paths host libs (seen_segments host libs))
-    → ArePlaced r.warnings → ArePlaced r.harmless → ArePlaced r.notes
-    → IsReport paths host libs r
-is_report paths host libs r front is text right name looks warned calm noted =
-    let lines = look_lines r.warnings r.harmless r.notes in
+    → about_link_in (findings_in r.findings)
+    ≡ link_findings_of paths host libs (seen_segments host libs)
+    → ArePlaced r.findings → IsReport paths host libs r
+is_report paths host libs r front is text right name findings placed =
+    let lines = finding_lines r.findings in
     let whole = text ∙ ap (λ (t : List ℕ). t ++ lines) is.parts in
-    let added = adds_look_lines front r.warnings r.harmless r.notes in record {
+    let added = adds_finding_lines front r.findings in record {
       right = right;
       line = told_in is.before r.verdict is.explanation (other_lines is.lists) lines r.text whole;
       name = name;
@@ -54,16 +53,12 @@ is_report paths host libs r front is text right name looks warned calm noted =
           λ lacks.
           lists_in paths (host ∷ libs) is.before r.verdict is.explanation is.lists lines r.text
           whole (is.listed lacks);
-      looks = looks;
-      warned_at = warned;
-      harmless_at = calm;
-      noted_at = noted;
+      findings = findings;
+      warnings = warned_about r.findings
+          ∙ ap (λ (l : List Stated). length (warnings_among l)) findings;
+      placed = placed;
       ends = (front, text);
-      counted = counted r.text front (length r.warnings) is.warnings
-          (subst (λ (t : List ℕ). AddsWarnings front (length r.warnings) t) (sym text) added.0);
+      counted = counted r.text front (warning_count r.findings) is.warnings
+          (subst (λ (t : List ℕ). AddsWarnings front (warning_count r.findings) t) (sym text)
+          added.0);
     }
-
--- the same lists of looks
-pub same_looks : (ws hs ns ws' hs' ns' : List Warning) → ws ≡ ws' → hs ≡ hs' → ns ≡ ns'
-    → link_looks ws hs ns ≡ link_looks ws' hs' ns'
-same_looks ws hs ns ws' hs' ns' w h n = λ i. link_looks (w i) (h i) (n i)

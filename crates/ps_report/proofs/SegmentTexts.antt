@@ -13,10 +13,10 @@ use Rattle.ps_explained.proofs.OneLine.{one_append, one_digits}
 use Rattle.ps_explained.proofs.SlotLines.{adds_no_line, adds_then_none}
 use Rattle.ps_report.specs.Lists.{lacks_host}
 use Rattle.ps_report.specs.Verdicts.{IsVerdict, fault_of, verdict_line}
-use Rattle.ps_report.specs.WarningLines.{AddsWarnings, other_lines}
+use Rattle.ps_report.specs.FindingLines.{AddsWarnings, other_lines}
 use Rattle.ps_report.specs.declared.verdict.Verdict.{Verdict}
 use Rattle.ps_report.specs.declared.verdict.Verdict.TheVariants.{Links, Refused}
-use Rattle.ps_report.proofs.WarningLines.{added_then, adds_no_warning, other_lines_none}
+use Rattle.ps_report.proofs.FindingLines.{added_then, adds_no_warning, other_lines_none}
 
 -- a part that is empty
 pub adds_empty : (old part new : List ℕ) → new ≡ old ++ other_lines part → part ≡ []

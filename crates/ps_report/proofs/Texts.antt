@@ -5,7 +5,7 @@ use Rattle.ps_listing.specs.FileLists.{IsList}
 use Rattle.ps_listing.specs.declared.lists.ListForm.TheVariants.{Lines}
 use Rattle.ps_report.specs.Lists.{HasLists}
 use Rattle.ps_report.specs.Verdicts.{Tells, verdict_line}
-use Rattle.ps_report.specs.WarningLines.{other_lines}
+use Rattle.ps_report.specs.FindingLines.{other_lines}
 use Rattle.ps_report.specs.declared.verdict.Verdict.{Verdict}
 
 -- the text of a report, by its parts

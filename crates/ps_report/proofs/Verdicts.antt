@@ -5,7 +5,7 @@ use Rattle.std.specs.Prelude.{if◌then◌else◌}
 use Rattle.std.proofs.lemmas.Bool.Decides.{nat_tests}
 use Rattle.ps_resolve.specs.Standing.{NoneStands}
 use Rattle.ps_report.specs.Verdicts.{IsRefused, IsVerdict, check_status}
-use Rattle.ps_report.specs.WarningLines.{HasWarning, warnings_in}
+use Rattle.ps_report.specs.Reports.{HasWarning, warnings_of_files}
 use Rattle.ps_report.specs.declared.verdict.Verdict.{Verdict}
 use Rattle.ps_report.specs.declared.verdict.Verdict.TheVariants.{Links, Refused}
 
@@ -27,26 +27,28 @@ no_warning warnings none some = absurd (grind (arith, nat_tests))
 some_warning : (warnings : ℕ) → (warnings == 0) ≡ false → 0 < warnings
 some_warning warnings some = grind (arith, nat_tests)
 
-pub warned_or_refused : (host : List ℕ) (libs : List (List ℕ)) (text : List ℕ)
+pub warned_or_refused : (paths : List (List ℕ)) (host : List ℕ) (libs : List (List ℕ))
     (warnings : ℕ)
-    (verdict : Verdict) → IsVerdict host libs verdict → warnings_in text ≡ warnings
-    → (check_status true warnings verdict ≡ 1) ↔ (HasWarning text ⊎ IsRefused host libs)
-warned_or_refused host libs text warnings (Links s) right counted = by (warnings == 0) refl
+    (verdict : Verdict) → IsVerdict host libs verdict
+    → warnings ≡ warnings_of_files paths host libs
+    → (check_status true warnings verdict ≡ 1)
+    ↔ (HasWarning paths host libs ⊎ IsRefused host libs)
+warned_or_refused paths host libs warnings (Links s) right counted = by (warnings == 0) refl
   where
-    either : (warnings == 0) ≡ true → (HasWarning text ⊎ IsRefused host libs)
+    either : (warnings == 0) ≡ true → (HasWarning paths host libs ⊎ IsRefused host libs)
         → ◌≡◌ {A = ℕ} 0 1
     either none (inl some) = absurd (no_warning warnings none (omega (arith, counted, some)))
     either none (inr refused) = absurd (right.0 refused.1.step refused.0 refused.1.stands)
 
-    has : (warnings == 0) ≡ false → HasWarning text
+    has : (warnings == 0) ≡ false → HasWarning paths host libs
     has some = let more : 0 < warnings = some_warning warnings some in omega (arith, counted)
 
     by : (b : Bool) → (warnings == 0) ≡ b
         → (◌≡◌ {A = ℕ} (if true && not b then 1 else 0) 1) ↔
-        (HasWarning text ⊎ IsRefused host libs)
+        (HasWarning paths host libs ⊎ IsRefused host libs)
     by true none = (λ one. absurd (zero_is_not_one one), either none)
     by false some = (λ _. inl (has some), λ _. refl)
-warned_or_refused host libs text warnings (Refused f) right counted =
+warned_or_refused paths host libs warnings (Refused f) right counted =
     (λ _. inr (f, right.0), λ _. refl)
 
 one_is_not_zero : ◌≡◌ {A = ℕ} 1 0 → ⊥

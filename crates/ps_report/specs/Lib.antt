@@ -2,5 +2,5 @@ pub mod Verdicts
 pub mod ReportJson
 pub mod Lists
 pub mod Reported
-pub mod WarningLines
+pub mod FindingLines
 pub mod Reports

@@ -1,11 +1,10 @@
 -- Files without a host among them, of which a report has the lists.
--- Source: this project's profile.
 use Rattle.std.specs.Prelude.{◌≡◌, ◌&&◌, not, ℕ, Bool, true, false, List, ◌++◌}
 use Rattle.ps_words.specs.declared.fault.Reason.{Reason}
 use Rattle.ps_words.specs.declared.fault.Reason.TheVariants as reason
 use Rattle.ps_listing.specs.FileLists.{IsList, has_host_among}
 use Rattle.ps_listing.specs.declared.lists.ListForm.TheVariants.{Lines}
-use Rattle.ps_report.specs.WarningLines.{other_lines}
+use Rattle.ps_report.specs.FindingLines.{other_lines}
 use Rattle.ps_report.specs.declared.verdict.Verdict.{Verdict}
 use Rattle.ps_report.specs.declared.verdict.Verdict.TheVariants.{Links, Refused}
 

@@ -19,36 +19,33 @@ verdict_json name (Links s) =
     ++ (codes ",\"blocks\":" ++ decimal s.blocks) ++ codes ",\"fault\":null"
 verdict_json name (Refused f) = codes "{\"links\":false,\"fault\":" ++ fault_json name f
 
--- `{"weight":"look","path":"UTIL.CODE","segment":{"name":"UTIL    ",
--- "name_hex":"5554494C20202020"},"record":1,"text":".."}` on a line of its own: the item of what
--- looks wrong
+-- `{"weight":"warning","path":"UTIL.CODE","segment":{"name":"UTIL    ",
+-- "name_hex":"5554494C20202020"},"record":1,"text":".."}` on a line of its own: the item of a finding
 unfoldable pub finding_json : Said → List ℕ
 finding_json f =
-    codes "\n{\"weight\":\"" ++ weight_word (weight_of f.warning.look)
-    ++ codes "\",\"path\":\"" ++ json_text f.warning.place.path.now
-    ++ codes "\",\"segment\":" ++ name_or_null f.warning.place.segment
-    ++ (codes ",\"record\":" ++ number_or_null f.warning.place.rec)
+    codes "\n{\"weight\":\"" ++ weight_word (weight_of f.at.finding)
+    ++ codes "\",\"path\":\"" ++ json_text f.at.place.path.now
+    ++ codes "\",\"segment\":" ++ name_or_null f.at.place.segment
+    ++ (codes ",\"record\":" ++ number_or_null f.at.place.rec)
     ++ codes ",\"text\":\"" ++ json_text f.words ++ codes "\"}"
 
 -- the item of this index, and what is before it
 abbrev pub item_json : ℕ × Said → List ℕ
 item_json p = comma_unless (p.0 == 0) ++ finding_json p.1
 
--- the items of what looks wrong, in order
+-- the items of findings, in order
 abbrev pub items_json : List Said → List ℕ
 items_json found = flat_map item_json (enumerate_from 0 found)
 
--- the lists of warnings, of what is harmless and of notes
-unfoldable pub lists_json : Reported → List ℕ
-lists_json r = codes "\"warnings\":[" ++ items_json r.warnings
-    ++ codes "\n],\"harmless\":[" ++ items_json r.harmless
-    ++ codes "\n],\"notes\":[" ++ items_json r.notes ++ codes "\n]"
+-- the list of findings
+unfoldable pub list_json : List Said → List ℕ
+list_json found = codes "\"findings\":[" ++ items_json found ++ codes "\n]"
 
 -- the document of a report
 unfoldable pub report_json : Reported → List ℕ
-report_json r = verdict_json r.name r.verdict ++ codes "," ++ lists_json r
+report_json r = verdict_json r.name r.verdict ++ codes "," ++ list_json r.findings
     ++ codes ",\"report\":\"" ++ json_text r.text ++ codes "\"}\n"
 
--- the document of what looks wrong alone
-unfoldable pub looks_json : Reported → List ℕ
-looks_json r = codes "{" ++ lists_json r ++ codes "}\n"
+-- the document of the findings alone
+unfoldable pub findings_json : List Said → List ℕ
+findings_json found = codes "{" ++ list_json found ++ codes "}\n"

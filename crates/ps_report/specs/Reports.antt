@@ -1,19 +1,28 @@
 -- The report of a check of files at these paths, the host's first, and what is printed of it.
--- Source: this project's profile.
-use Rattle.std.specs.Prelude.{◌≡◌, ℕ, Bool, true, List, ◌∷◌, ◌++◌, length}
+use Rattle.std.specs.Prelude.{◌≡◌, ◌<◌, ℕ, Bool, true, List, ◌∷◌, ◌++◌, length, map}
 use Rattle.ps_resolve.specs.Standing.{NoneStands}
 use Rattle.ps_segments.specs.SeenSegments.{seen_segments}
 use Rattle.ps_explained.specs.SegmentLines.{segment_lines}
 use Rattle.ps_explained.specs.SlotLines.{slot_lines}
-use Rattle.ps_warnings.specs.AllLooks.{link_looks_of}
-use Rattle.ps_warnings.specs.Found.{link_looks, sorted}
+use Rattle.ps_warnings.specs.AllFindings.{link_findings_of, link_warnings_of}
+use Rattle.ps_warnings.specs.Found.{about_link_in}
 use Rattle.ps_writing.specs.declared.rows.Form.{Form}
 use Rattle.ps_writing.specs.declared.rows.Form.TheVariants.{Lines, Json}
 use Rattle.ps_report.specs.Lists.{HasLists, lacks_host}
-use Rattle.ps_report.specs.ReportJson.{looks_json, report_json}
-use Rattle.ps_report.specs.Reported.{ArePlaced, Reported, warnings_of}
+use Rattle.ps_report.specs.FindingLines.{finding_lines, warnings_in}
+use Rattle.ps_report.specs.ReportJson.{findings_json, report_json}
+use Rattle.ps_report.specs.Reported.{ArePlaced, Reported, findings_in, warning_count}
 use Rattle.ps_report.specs.Verdicts.{IsVerdict, Tells, check_status, verdict_name}
-use Rattle.ps_report.specs.WarningLines.{look_lines, warnings_in}
+
+-- How many warnings a check of these files has: those that the definitions give, for the segments of
+-- the link as they were read.
+abbrev pub warnings_of_files : List (List ℕ) → List ℕ → List (List ℕ) → ℕ
+warnings_of_files paths host libs =
+    length (link_warnings_of paths host libs (seen_segments host libs))
+
+-- a check of these files has a warning
+abbrev pub HasWarning : List (List ℕ) → List ℕ → List (List ℕ) → Type 0
+HasWarning paths host libs = 0 < warnings_of_files paths host libs
 
 -- The report of these files.
 pub record IsReport (paths : List (List ℕ)) (host : List ℕ) (libs : List (List ℕ))
@@ -27,41 +36,41 @@ pub record IsReport (paths : List (List ℕ)) (host : List ℕ) (libs : List (Li
   pub segments : NoneStands host libs → slot_lines r.text ≡ segment_lines paths host libs
   -- where no file is a host, the text has the list of each
   pub lists : lacks_host r.verdict libs ≡ true → HasLists paths (host ∷ libs) r.text
-  -- the looks about the link are those that their definitions give, for the segments of the link
-  -- as they were read, and no note is one of them
-  pub looks : link_looks (warnings_of r.warnings) (warnings_of r.harmless) (warnings_of r.notes)
-      ≡ sorted (link_looks_of paths host libs (seen_segments host libs))
-  -- each warning, each harmless look and each note is said to be where it is
-  pub warned_at : ArePlaced r.warnings
-  pub harmless_at : ArePlaced r.harmless
-  pub noted_at : ArePlaced r.notes
+  -- the findings about the link are those that their definitions give, in order, each with its
+  -- place, for the segments of the link as they were read
+  pub findings : about_link_in (findings_in r.findings)
+      ≡ link_findings_of paths host libs (seen_segments host libs)
+  -- so many of the findings are warnings as the definitions give, and no other finding is one
+  pub warnings : warning_count r.findings ≡ warnings_of_files paths host libs
+  -- each finding is said to be where it is
+  pub placed : ArePlaced r.findings
   -- the text ends with their lines, and so many lines begin with `warning: ` as there are warnings
-  pub ends : (front : List ℕ) × (r.text ≡ front ++ look_lines r.warnings r.harmless r.notes)
-  pub counted : warnings_in r.text ≡ length r.warnings
+  pub ends : (front : List ℕ) × (r.text ≡ front ++ finding_lines r.findings)
+  pub counted : warnings_in r.text ≡ warning_count r.findings
 
 -- A report as it is printed: its text, or the document.
 abbrev pub printed_report : Form → Reported → List ℕ
 printed_report Lines r = r.text
 printed_report Json r = report_json r
 
--- What looks wrong, one by one, as it is printed: the lines with which the text of a report ends, or
--- the document of the same lists.
-abbrev pub printed_looks : Form → Reported → List ℕ
-printed_looks Lines r = look_lines r.warnings r.harmless r.notes
-printed_looks Json r = looks_json r
+-- The findings of a report, one by one, as they are printed: the lines with which its text ends, or
+-- the document of them.
+abbrev pub printed_findings : Form → Reported → List ℕ
+printed_findings Lines r = finding_lines r.findings
+printed_findings Json r = findings_json r.findings
 
--- What a check of the files at these paths may print, the host's first, and its status: a report,
--- whose status is 1 where the files are refused, and, if it is strict, where a line of the report
--- begins with `warning: `.
+-- What a check of the files at these paths prints, the host's first, and its status, which is a
+-- function of the files: 1 where they are refused, and, if the check is strict, where they have a
+-- warning.
 abbrev pub IsPrintedReport : List (List ℕ) → List ℕ → List (List ℕ) → Bool → Form
     → ℕ → List ℕ → Type 0
 IsPrintedReport paths host libs strict form status text =
     (r : Reported) × IsReport paths host libs r
-    × (status ≡ check_status strict (warnings_in r.text) r.verdict)
+    × (status ≡ check_status strict (warnings_of_files paths host libs) r.verdict)
     × (text ≡ printed_report form r)
 
--- What may be printed of what looks wrong in these files.
-abbrev pub ArePrintedLooks : List (List ℕ) → List ℕ → List (List ℕ) → Form → List ℕ
-    → Type 0
-ArePrintedLooks paths host libs form text =
-    (r : Reported) × IsReport paths host libs r × (text ≡ printed_looks form r)
+-- What is printed of the findings in these files.
+abbrev pub ArePrintedFindings : List (List ℕ) → List ℕ → List (List ℕ) → Form
+    → List ℕ → Type 0
+ArePrintedFindings paths host libs form text =
+    (r : Reported) × IsReport paths host libs r × (text ≡ printed_findings form r)

@@ -1,5 +1,4 @@
 -- What a check finds: whether the files are linked, the line that says so, and the status.
--- Source: this project's profile.
 use Rattle.std.specs.Prelude.{◌≡◌, ℕ, ◌==◌, ◌&&◌, not, if◌then◌else◌, Bool, List, ◌++◌, Option, Some, None, Result, Ok, codes, decimal}
 use Rattle.std.specs.Result.{IsErr}
 use Rattle.ps_resolve.specs.FaultNames.{fault_name}

@@ -1,53 +1,46 @@
-//! What looks wrong, in words.
+//! Findings with the words for them.
 ghost use Rattle.std.specs.Prelude.{◌≡◌, IfOk, map, string_bytes};
 ghost use Rattle.ps_warnings.specs.Places.{place_text};
-ghost use Rattle.ps_report.specs.Reported.{ArePlaced, said, warnings_of};
+ghost use Rattle.ps_report.specs.Reported.{ArePlaced, findings_in, said};
 
-use ps_warnings::Warning;
+use ps_warnings::FindingAt;
 use std::alloc::{AllocError, Allocator};
 
-/// What looks wrong, with the words for it, which are made once.
-///
-/// Source: this project's profile.
+/// A finding with the words for it, which are made once.
 #[derive(Drop)]
-pub struct Finding<'a, A: Allocator> {
-    pub warning: Warning<'a>,
+pub struct SaidFinding<'a, A: Allocator> {
+    pub at: FindingAt<'a>,
     /// Where it is, as `UTIL.CODE, segment UTIL, record 1`.
     pub place: String<A>,
     /// What it is, as half a sentence.
     pub words: String<A>,
 }
 
-/// The finding of a warning.
-fn finding_of<'a, A: Allocator + Copy>(
+/// A finding with its words.
+fn said_finding<'a, A: Allocator + Copy>(
     alloc: A,
-    warning: Warning<'a>,
-) -> Result<Finding<'a, A>, AllocError>
-    ensures warning { IfOk result (λ f. f.warning ≡ warning.entry) }
-    ensures place { IfOk result (λ f. string_bytes f.place ≡ place_text warning.entry.place) }
+    at: FindingAt<'a>,
+) -> Result<SaidFinding<'a, A>, AllocError>
+    ensures finding { IfOk result (λ f. f.at ≡ at.entry) }
+    ensures place { IfOk result (λ f. string_bytes f.place ≡ place_text at.entry.place) }
 {
-    let Warning { place, look } = warning;
+    let FindingAt { place, finding } = at;
     let place = format!(in alloc; "{place}")?;
-    let words = format!(in alloc; "{look}")?;
-    Ok(Finding {
-        warning,
-        place,
-        words,
-    })
+    let words = format!(in alloc; "{finding}")?;
+    Ok(SaidFinding { at, place, words })
 }
 
-/// The findings of these warnings, in their order.
-pub(crate) fn findings_of<'a, A: Allocator + Copy>(
+/// These findings with their words, in their order.
+pub(crate) fn said_findings<'a, A: Allocator + Copy>(
     alloc: A,
-    warnings: &[Warning<'a>],
-) -> Result<Vec<Finding<'a, A>, A>, AllocError>
-    ensures warnings { IfOk result (λ found. warnings_of (map said found.items)
-        ≡ warnings.now) }
+    findings: &[FindingAt<'a>],
+) -> Result<Vec<SaidFinding<'a, A>, A>, AllocError>
+    ensures findings { IfOk result (λ found. findings_in (map said found.items) ≡ findings.now) }
     ensures places { IfOk result (λ found. ArePlaced (map said found.items)) }
 {
     let mut found = Vec::new(alloc);
-    for warning in warnings {
-        let finding = finding_of(alloc, *warning)?;
+    for at in findings {
+        let finding = said_finding(alloc, *at)?;
         found.push(finding)?;
     }
     Ok(found)

@@ -2,8 +2,8 @@
 ghost use Rattle.std.specs.Prelude.{◌≡◌, ◌∷◌, [], IfOk, None, string_bytes};
 ghost use Rattle.ps_resolve.specs.AllFaults.{reading_fault};
 ghost use Rattle.ps_resolve.specs.Sources.{contents};
-ghost use Rattle.ps_warnings.specs.AllLooks.{link_looks_of};
-ghost use Rattle.ps_warnings.specs.Found.{about_link, sorted};
+ghost use Rattle.ps_warnings.specs.AllFindings.{link_findings_of};
+ghost use Rattle.ps_warnings.specs.Found.{about_link};
 ghost use Rattle.ps_segments.specs.SeenSegments.{seen_segments};
 ghost use Rattle.ps_explained.specs.SegmentLines.{segment_lines};
 ghost use Rattle.ps_explained.specs.SlotLines.{slot_lines};
@@ -14,7 +14,7 @@ use crate::verdict::Verdict;
 use ps_explained::{Case, Explanation, overview_of};
 use ps_resolve::{Reading, read};
 use ps_segments::{NamedFiles, ReadSegment, segments_of};
-use ps_warnings::{Looks, looks_of};
+use ps_warnings::{Findings, findings_of};
 use ps_words::{Fault, Name};
 use std::alloc::{AllocError, Allocator};
 use std::fmt::Write as _;
@@ -29,8 +29,8 @@ pub(crate) struct Inspection<'a, A: Allocator> {
     /// What the fault is in these files, and what to do about it, in lines; empty where there is
     /// none.
     pub explanation: String<A>,
-    /// What looks wrong and is no fault.
-    pub looks: Looks<'a, A>,
+    /// What else is found, and is no fault.
+    pub findings: Findings<'a, A>,
 }
 
 /// What is found in a host and its libraries, of which this is the verdict.
@@ -53,10 +53,9 @@ pub(crate) fn inspect<'a, A: Allocator + Copy>(
         ≡ verdict_name_spec host.now (contents libs.now) verdict) }
     ensures explanation { IfOk result (λ found. fault_of verdict ≡ None
         → string_bytes found.explanation ≡ []) }
-    ensures looks { IfOk result (λ found.
-        about_link found.looks
-        ≡ sorted (link_looks_of (host_path.now ∷ contents paths.now) host.now (contents libs.now)
-        (seen_segments host.now (contents libs.now)))) }
+    ensures findings { IfOk result (λ found. about_link found.findings
+        ≡ link_findings_of (host_path.now ∷ contents paths.now) host.now (contents libs.now)
+        (seen_segments host.now (contents libs.now))) }
 {
     let inputs = NamedFiles {
         host_path,
@@ -70,12 +69,12 @@ pub(crate) fn inspect<'a, A: Allocator + Copy>(
     let list = segments_of(alloc, &inputs, &reading)?;
     let overview = overview_of(alloc, &inputs, &reading, list.as_slice())?;
     let explanation = explanation_of(alloc, &inputs, &reading, list.as_slice(), fault)?;
-    let looks = looks_of(alloc, &inputs, list.as_slice(), fault)?;
+    let findings = findings_of(alloc, &inputs, list.as_slice(), fault)?;
     Ok(Inspection {
         overview,
         name,
         explanation,
-        looks,
+        findings,
     })
 }
 

@@ -1,11 +1,11 @@
 //! The report of a check as JSON.
 ghost use Rattle.std.specs.Prelude.{None, map};
 ghost use Rattle.ps_writing.specs.Adding.{Adds};
-ghost use Rattle.ps_report.specs.ReportJson.{finding_json, item_json, items_json, lists_json, looks_json, report_json, verdict_json};
+ghost use Rattle.ps_report.specs.ReportJson.{finding_json, findings_json, item_json, items_json, list_json, report_json, verdict_json};
 ghost use Rattle.ps_report.specs.Reported.{reported, said};
 ghost use Rattle.ps_report.specs.declared.verdict.Verdict.TheVariants.{Links};
 
-use crate::finding::Finding;
+use crate::finding::SaidFinding;
 use crate::report::Report;
 use crate::verdict::Verdict;
 use ps_linkfile::Summary;
@@ -44,14 +44,14 @@ fn add_verdict<S: TextWriter>(text: &mut S, verdict: Verdict, name: Option<Name>
     }
 }
 
-/// Adds the item of a finding: how much it weighs, where something looks wrong, and what.
+/// Adds the item of a finding: how much it weighs, where something was found, and what.
 #[tactic(auto, unfolding(crate::specs::ReportJson::finding_json))]
-fn add_finding<S: TextWriter, A: Allocator>(text: &mut S, finding: &Finding<'_, A>)
+fn add_finding<S: TextWriter, A: Allocator>(text: &mut S, finding: &SaidFinding<'_, A>)
     ensures { Adds S.added text.old (finding_json (said finding.now)) text.new }
 {
-    let place = finding.warning.place;
+    let place = finding.at.place;
     text.add(b"\n{\"weight\":\"");
-    text.add(finding.warning.look.weight().word().as_bytes());
+    text.add(finding.at.finding.weight().word().as_bytes());
     text.add(b"\",\"path\":\"");
     add_json_text(text, place.path);
     text.add(b"\",\"segment\":");
@@ -63,7 +63,7 @@ fn add_finding<S: TextWriter, A: Allocator>(text: &mut S, finding: &Finding<'_, 
 }
 
 /// Adds the item of this index, and what is before it.
-fn add_item<S: TextWriter, A: Allocator>(text: &mut S, index: usize, finding: &Finding<'_, A>)
+fn add_item<S: TextWriter, A: Allocator>(text: &mut S, index: usize, finding: &SaidFinding<'_, A>)
     ensures { Adds S.added text.old (item_json (index, said finding.now)) text.new }
 {
     text.add(comma(index == 0));
@@ -72,7 +72,7 @@ fn add_item<S: TextWriter, A: Allocator>(text: &mut S, index: usize, finding: &F
 
 /// Adds the items of findings.
 #[tactic(auto, using(std::proofs::lemmas::List::drop_more, ps_writing::proofs::Numbered::numbered_left, ps_writing::proofs::Numbered::numbered_over, ps_writing::proofs::Written::all_written, ps_writing::proofs::Written::some_more))]
-fn add_items<S: TextWriter, A: Allocator>(text: &mut S, findings: &[Finding<'_, A>])
+fn add_items<S: TextWriter, A: Allocator>(text: &mut S, findings: &[SaidFinding<'_, A>])
     ensures { Adds S.added text.old (items_json (map said findings.now)) text.new }
 {
     for (index, finding) in findings.iter().enumerate() {
@@ -80,17 +80,13 @@ fn add_items<S: TextWriter, A: Allocator>(text: &mut S, findings: &[Finding<'_, 
     }
 }
 
-/// Adds the lists of warnings, of what is harmless and of notes.
-#[tactic(auto, unfolding(crate::specs::ReportJson::lists_json))]
-fn add_lists<S: TextWriter, A: Allocator>(text: &mut S, report: &Report<'_, A>)
-    ensures { Adds S.added text.old (lists_json (reported report.now)) text.new }
+/// Adds the list of findings.
+#[tactic(auto, unfolding(crate::specs::ReportJson::list_json))]
+fn add_list<S: TextWriter, A: Allocator>(text: &mut S, findings: &[SaidFinding<'_, A>])
+    ensures { Adds S.added text.old (list_json (map said findings.now)) text.new }
 {
-    text.add(b"\"warnings\":[");
-    add_items(text, report.warnings.as_slice());
-    text.add(b"\n],\"harmless\":[");
-    add_items(text, report.harmless.as_slice());
-    text.add(b"\n],\"notes\":[");
-    add_items(text, report.notes.as_slice());
+    text.add(b"\"findings\":[");
+    add_items(text, findings);
     text.add(b"\n]");
 }
 
@@ -101,18 +97,21 @@ pub(crate) fn add_report<S: TextWriter, A: Allocator>(text: &mut S, report: &Rep
 {
     add_verdict(text, report.verdict, report.name);
     text.add(b",");
-    add_lists(text, report);
+    add_list(text, report.findings.as_slice());
     text.add(b",\"report\":\"");
     add_json_text(text, report.text.as_str());
     text.add(b"\"}\n");
 }
 
-/// Adds the document of what looks wrong.
-#[tactic(auto, unfolding(crate::specs::ReportJson::looks_json))]
-pub(crate) fn add_looks<S: TextWriter, A: Allocator>(text: &mut S, report: &Report<'_, A>)
-    ensures { Adds S.added text.old (looks_json (reported report.now)) text.new }
+/// Adds the document of findings.
+#[tactic(auto, unfolding(crate::specs::ReportJson::findings_json))]
+pub(crate) fn add_findings<S: TextWriter, A: Allocator>(
+    text: &mut S,
+    findings: &[SaidFinding<'_, A>],
+)
+    ensures { Adds S.added text.old (findings_json (map said findings.now)) text.new }
 {
     text.add(b"{");
-    add_lists(text, report);
+    add_list(text, findings);
     text.add(b"}\n");
 }

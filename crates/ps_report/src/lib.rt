@@ -3,20 +3,20 @@
 #![tactic(auto)]
 
 mod finding;
+mod finding_lines;
 mod inspection;
 mod json;
 mod kept;
 mod lines;
-mod looks;
 mod names;
 mod printed;
 mod report;
 mod verdict;
 mod without_host;
 
-pub use finding::Finding;
-pub use printed::{PrintedLooks, PrintedReport};
+pub use finding::SaidFinding;
+pub use printed::{PrintedFindings, PrintedReport};
 pub use ps_filetype::Oddity;
-pub use ps_warnings::{Look, Warning, WarningAt};
+pub use ps_warnings::{Finding, FindingAt, Place, Weight};
 pub use report::{Report, check};
 pub use verdict::{Verdict, verdict_of};

@@ -1,6 +1,6 @@
 //! Lines of a report that are no warning's.
 ghost use Rattle.std.specs.Prelude.{◌≡◌, ◌++◌, OnOk, string_bytes};
-ghost use Rattle.ps_report.specs.WarningLines.{is_warning_line as is_warning_line_spec, other_line, other_lines};
+ghost use Rattle.ps_report.specs.FindingLines.{is_warning_line as is_warning_line_spec, other_line, other_lines};
 
 use ps_explained::indent;
 use std::alloc::{AllocError, Allocator};
@@ -17,7 +17,7 @@ fn is_warning_line(line: &str) -> bool
 }
 
 /// Adds a line that is no warning's: one that begins as that of a warning is indented.
-#[tactic(auto, unfolding(crate::specs::WarningLines::other_line))]
+#[tactic(auto, unfolding(crate::specs::FindingLines::other_line))]
 fn add_other_line<A: Allocator>(text: &mut String<A>, line: &str) -> Result<(), AllocError>
     ensures { OnOk result (string_bytes text.new ≡ string_bytes text.old ++ other_line line.now) }
 {

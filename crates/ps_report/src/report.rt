@@ -1,18 +1,18 @@
 //! The report of a check.
-ghost use Rattle.std.specs.Prelude.{◌≡◌, ◌↔◌, ◌⊎◌, ◌∷◌, ◌++◌, [], IfOk, List, OnOk, codes, false, map, true, string_bytes, vec_len, ℕ};
+ghost use Rattle.std.specs.Prelude.{◌≡◌, ◌↔◌, ◌⊎◌, ◌∷◌, ◌++◌, [], IfOk, List, OnOk, codes, false, map, true, string_bytes, ℕ};
 ghost use Rattle.ps_resolve.specs.Sources.{contents};
 ghost use Rattle.ps_resolve.specs.Standing.{NoneStands};
 ghost use Rattle.ps_explained.specs.SlotLines.{AddsSlotLines, slot_lines};
-ghost use Rattle.ps_report.specs.Reported.{reported, said};
-ghost use Rattle.ps_report.specs.Reports.{IsReport};
+ghost use Rattle.ps_report.specs.Reported.{reported, said, warning_count};
+ghost use Rattle.ps_report.specs.Reports.{HasWarning, IsReport};
 ghost use Rattle.ps_report.specs.Verdicts.{IsRefused, check_status, verdict_line};
-ghost use Rattle.ps_report.specs.WarningLines.{AddsWarnings, HasWarning, look_lines, other_lines};
+ghost use Rattle.ps_report.specs.FindingLines.{AddsWarnings, finding_lines, other_lines};
 
-use crate::finding::{Finding, findings_of};
+use crate::finding::{SaidFinding, said_findings};
 use crate::inspection::{Inspection, inspect};
 use crate::kept::string_of;
 use crate::lines::add_other_lines;
-use crate::printed::PrintedLooks;
+use crate::printed::PrintedFindings;
 use crate::verdict::{Verdict, verdict_of};
 use crate::without_host::lists_without_host;
 use ps_laws::first_of_all;
@@ -22,35 +22,50 @@ use std::alloc::{AllocError, Allocator};
 use std::fmt::Write as _;
 
 /// What a check of a host and its libraries reports.
-///
-/// Source: this project's profile.
 #[derive(Drop)]
 pub struct Report<'a, A: Allocator> {
     /// Whether the files are linked.
     pub verdict: Verdict,
     /// The name of what the fault is about, where the files are refused and it has one.
     pub name: Option<Name>,
-    /// What looks wrong and is no fault, and is not harmless.
-    pub warnings: Vec<Finding<'a, A>, A>,
-    /// What looks wrong and is harmless.
-    pub harmless: Vec<Finding<'a, A>, A>,
-    /// What the P-code makes one guess.
-    pub notes: Vec<Finding<'a, A>, A>,
+    /// What else is found, and is no fault, in its order.
+    pub findings: Vec<SaidFinding<'a, A>, A>,
     /// The whole text, for a person: the files, the segments, the line of the verdict, what it
-    /// means, where no file is a host the list of each, and the warnings.
+    /// means, where no file is a host the list of each, and a line of each finding.
     pub text: String<A>,
 }
 
+/// How many of these findings are warnings.
+#[tactic(auto, unfolding(crate::specs::Reported::warning_count))]
+fn count_warnings<A: Allocator>(findings: &[SaidFinding<'_, A>]) -> usize
+    ensures { result ≡ warning_count (map said findings.now) }
+{
+    let mut warnings = 0usize;
+    for finding in findings {
+        if finding.at.finding.is_certain() {
+            warnings += 1;
+        }
+    }
+    warnings
+}
+
 impl<A: Allocator> Report<'_, A> {
+    /// How many of the findings are warnings: so many lines of the text begin with `warning: `.
+    pub fn warnings(&self) -> usize
+        ensures { result ≡ warning_count (map said self.now.findings.items) }
+    {
+        count_warnings(self.findings.as_slice())
+    }
+
     /// What a process that prints the report ends with: 0 where the files are linked, 1 where they
     /// are refused, and, if it is to be `strict`, 1 on a warning too.
-    /// Source: this project's profile.
     pub fn status(&self, strict: bool) -> u8
-        ensures { result ≡ check_status strict (vec_len self.now.warnings) self.now.verdict }
+        ensures { result ≡ check_status strict (warning_count (map said self.now.findings.items))
+            self.now.verdict }
     {
         match self.verdict {
             Verdict::Refused(_) => 1,
-            Verdict::Links(_) => u8::from(strict && !self.warnings.is_empty()),
+            Verdict::Links(_) => u8::from(strict && self.warnings() != 0),
         }
     }
 }
@@ -65,7 +80,6 @@ impl<A: Allocator> Report<'_, A> {
 /// the list of each file that has a path. Where the files are linked, each segment of the link has
 /// its line in the text, by slot, and no other line begins with `slot `. Returns an error where
 /// memory was refused.
-/// Source: this project's profile.
 pub fn check<'a, A: Allocator + Copy>(
     alloc: A,
     host_path: &'a str,
@@ -75,12 +89,14 @@ pub fn check<'a, A: Allocator + Copy>(
 ) -> Result<Report<'a, A>, AllocError>
     ensures report { IfOk result (λ r. IsReport (host_path.now ∷ contents paths.now) host.now
         (contents libs.now) (reported r)) }
-    ensures links { IfOk result (λ r. (check_status false (vec_len r.warnings) r.verdict ≡ 0)
-        ↔ NoneStands host.now (contents libs.now)) }
-    ensures refused { IfOk result (λ r. (check_status false (vec_len r.warnings) r.verdict ≡ 1)
-        ↔ IsRefused host.now (contents libs.now)) }
-    ensures warned { IfOk result (λ r. (check_status true (vec_len r.warnings) r.verdict ≡ 1)
-        ↔ (HasWarning (string_bytes r.text) ⊎ IsRefused host.now (contents libs.now))) }
+    ensures links { IfOk result (λ r. (check_status false (warning_count (map said
+        r.findings.items)) r.verdict ≡ 0) ↔ NoneStands host.now (contents libs.now)) }
+    ensures refused { IfOk result (λ r. (check_status false (warning_count (map said
+        r.findings.items)) r.verdict ≡ 1) ↔ IsRefused host.now (contents libs.now)) }
+    ensures warned { IfOk result (λ r. (check_status true (warning_count (map said
+        r.findings.items)) r.verdict ≡ 1)
+        ↔ (HasWarning (host_path.now ∷ contents paths.now) host.now (contents libs.now)
+        ⊎ IsRefused host.now (contents libs.now))) }
 {
     first_of_all();
     let verdict = verdict_of(alloc, host, libs)?;
@@ -92,34 +108,29 @@ pub fn check<'a, A: Allocator + Copy>(
         lists: lists.as_str(),
     };
     let front = with_verdict(alloc, verdict, parts)?;
-    let Inspection { name, looks, .. } = inspection;
-    let warnings = findings_of(alloc, looks.warnings.as_slice())?;
-    let harmless = findings_of(alloc, looks.harmless.as_slice())?;
-    let notes = findings_of(alloc, looks.notes.as_slice())?;
+    let Inspection { name, findings, .. } = inspection;
+    let findings = said_findings(alloc, findings.list.as_slice())?;
     let mut report = Report {
         verdict,
         name,
-        warnings,
-        harmless,
-        notes,
+        findings,
         text: front,
     };
-    let lines = lines_of_looks(alloc, &report)?;
+    let lines = lines_of_findings(alloc, &report)?;
     report.text.push_str(lines.as_str())?;
     Ok(report)
 }
 
-/// The lines of what looks wrong in a report.
-fn lines_of_looks<A: Allocator + Copy>(
+/// The lines of the findings of a report.
+fn lines_of_findings<A: Allocator + Copy>(
     alloc: A,
     report: &Report<'_, A>,
 ) -> Result<String<A>, AllocError>
     ensures { IfOk result (λ lines. string_bytes lines
-        ≡ look_lines (map said report.now.warnings.items) (map said report.now.harmless.items)
-        (map said report.now.notes.items)) }
+        ≡ finding_lines (map said report.now.findings.items)) }
 {
     let form = Form::Lines;
-    string_of(alloc, &PrintedLooks { form, report })
+    string_of(alloc, &PrintedFindings { form, report })
 }
 
 /// What a report has before and after the line of its verdict, in lines, but for its warnings.

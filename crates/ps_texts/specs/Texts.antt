@@ -1,6 +1,6 @@
 -- What each text is of a host and its libraries, and of a value that has it.
 -- Source: this project's profile.
-use Rattle.std.specs.Prelude.{◌≡◌, ℕ, Bool, false, List, ◌∷◌, ◌++◌, None, Ok, vec_len}
+use Rattle.std.specs.Prelude.{◌≡◌, ℕ, Bool, false, List, ◌∷◌, ◌++◌, None, Ok, map}
 use Rattle.ps_codefile.specs.Dictionary.{OpenedFile, opened_alone}
 use Rattle.ps_resolve.specs.Readings.{HostFiles, opened_host}
 use Rattle.ps_resolve.specs.Standing.{NoneStands}
@@ -12,8 +12,8 @@ use Rattle.ps_linkfile.specs.ReferencesText.{all_stored_of, references_in, refer
 use Rattle.ps_linkfile.specs.ShowJson.{show_as}
 use Rattle.ps_linkfile.specs.ShowText.{show_fault}
 use Rattle.ps_listing.specs.FileLists.{IsList, lists_in}
-use Rattle.ps_report.specs.Reported.{reported}
-use Rattle.ps_report.specs.Reports.{ArePrintedLooks, IsPrintedReport, printed_looks, printed_report}
+use Rattle.ps_report.specs.Reported.{reported, said, warning_count}
+use Rattle.ps_report.specs.Reports.{ArePrintedFindings, IsPrintedReport, printed_findings, printed_report}
 use Rattle.ps_report.specs.Verdicts.{check_status}
 use Rattle.ps_texts.specs.UnitNames.{units_had, units_wanted}
 use Rattle.ps_texts.specs.declared.kinds.TextKind.{TextKind}
@@ -44,8 +44,8 @@ IsTextOf (kind.Show form) strict paths host libs status text =
     (show_fault host ≡ None) × (status ≡ 0) × (text ≡ show_as form host)
 IsTextOf (kind.Check form) strict paths host libs status text =
     IsPrintedReport paths host libs strict form status text
-IsTextOf (kind.Looks form) strict paths host libs status text =
-    (status ≡ 0) × ArePrintedLooks paths host libs form text
+IsTextOf (kind.Findings form) strict paths host libs status text =
+    (status ≡ 0) × ArePrintedFindings paths host libs form text
 IsTextOf (kind.List how) strict paths host libs status text =
     (status ≡ 0) × IsList how paths (host ∷ libs) text
 IsTextOf kind.Wanted strict paths host libs status text =
@@ -60,7 +60,7 @@ bytes_in (text.Map form linked) = map_as form linked
 bytes_in (text.References form map) = referenced_in form map
 bytes_in (text.Show form file) = show_as form file
 bytes_in (text.Report form report) = printed_report form (reported report)
-bytes_in (text.Looks form report) = printed_looks form (reported report)
+bytes_in (text.Findings form report) = printed_findings form (reported report)
 bytes_in (text.Lists lists) = lists_in lists.how lists.files.items
 bytes_in (text.Names names) = names.items
 
@@ -70,8 +70,8 @@ status_in strict (text.Map form linked) = 0
 status_in strict (text.References form map) = 0
 status_in strict (text.Show form file) = 0
 status_in strict (text.Report form report) =
-    check_status strict (vec_len report.warnings) report.verdict
-status_in strict (text.Looks form report) = 0
+    check_status strict (warning_count (map said report.findings.items)) report.verdict
+status_in strict (text.Findings form report) = 0
 status_in strict (text.Lists lists) = 0
 status_in strict (text.Names names) = 0
 

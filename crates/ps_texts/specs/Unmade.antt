@@ -27,7 +27,7 @@ CanRefuse (kind.Map form) host libs f = IsFirstOf host libs f
 CanRefuse (kind.References form) host libs f = IsFirstOf host libs f
 CanRefuse (kind.Show form) host libs f = show_fault host ≡ Some f
 CanRefuse (kind.Check form) host libs f = ⊥
-CanRefuse (kind.Looks form) host libs f = ⊥
+CanRefuse (kind.Findings form) host libs f = ⊥
 CanRefuse (kind.List how) host libs f = ⊥
 CanRefuse kind.Wanted host libs f =
     (why : Reason) × (opened_host host libs ≡ Err why) × (f ≡ in_file 0 why)

@@ -16,8 +16,8 @@ pub enum TextKind {
     Show(Form),
     /// The report of a check.
     Check(Form),
-    /// What looks wrong, one by one: the warnings of that report, what is harmless, and the notes.
-    Looks(Form),
+    /// The findings of that report, one by one: warnings, what is harmless, and notes.
+    Findings(Form),
     /// The list of each file.
     List(ListForm),
     /// The names of the units that a link takes from libraries, or would take if they had them.
@@ -32,7 +32,7 @@ impl TextKind {
         ensures { result ≡ needs_names_spec self }
     {
         match self {
-            TextKind::Check(_) | TextKind::Looks(_) | TextKind::List(_) => true,
+            TextKind::Check(_) | TextKind::Findings(_) | TextKind::List(_) => true,
             TextKind::Map(_)
             | TextKind::References(_)
             | TextKind::Show(_)

@@ -5,7 +5,7 @@ ghost use Rattle.ps_resolve.specs.Sources.{contents};
 ghost use Rattle.ps_segments.specs.Paths.{paths_in};
 ghost use Rattle.ps_texts.specs.Texts.{IsMadeOf, bytes_in};
 ghost use Rattle.ps_texts.specs.Unmade.{WhyUnmade, unmade_of};
-ghost use Rattle.ps_texts.specs.declared.kinds.TextKind.TheVariants.{Check, Had, List as Listed, Looks as LooksOf, Map as MapOf, References as ReferencesOf, Show as ShowOf, Wanted};
+ghost use Rattle.ps_texts.specs.declared.kinds.TextKind.TheVariants.{Check, Had, List as Listed, Findings as FindingsOf, Map as MapOf, References as ReferencesOf, Show as ShowOf, Wanted};
 ghost use Rattle.ps_texts.specs.declared.texts.Unmade.TheVariants.{Memory, Refused};
 
 use crate::kinds::TextKind;
@@ -16,7 +16,7 @@ use ps_linkfile::{
     prepare_references,
 };
 use ps_listing::{ListForm, Lists};
-use ps_report::{PrintedLooks, PrintedReport, Report, check};
+use ps_report::{PrintedFindings, PrintedReport, Report, check};
 use ps_resolve::{Reading, read};
 use ps_segments::NamedFiles;
 use ps_words::{Fault, Reason};
@@ -72,8 +72,8 @@ pub enum FilesText<'a, A: Allocator + Copy = Global> {
     Show(Form, ShownFile<'a>),
     /// The report of a check.
     Report(Form, Report<'a, A>),
-    /// What looks wrong, one by one.
-    Looks(Form, Report<'a, A>),
+    /// The findings of a report, one by one.
+    Findings(Form, Report<'a, A>),
     /// The list of each file.
     Lists(Lists<'a, A>),
     /// Names of units, eight bytes each.
@@ -97,7 +97,7 @@ impl<A: Allocator + Copy> Text for FilesText<'_, A> {
                 report,
             }
             .add_to(text),
-            FilesText::Looks(form, report) => PrintedLooks {
+            FilesText::Findings(form, report) => PrintedFindings {
                 form: *form,
                 report,
             }
@@ -123,7 +123,7 @@ impl<A: Allocator + Copy> FilesText<'_, A> {
             FilesText::Map(..)
             | FilesText::References(..)
             | FilesText::Show(..)
-            | FilesText::Looks(..)
+            | FilesText::Findings(..)
             | FilesText::Lists(_)
             | FilesText::Names(_) => 0,
         }
@@ -196,18 +196,18 @@ fn report_of<'a, A: Allocator + Copy>(
     Ok(FilesText::Report(form, report))
 }
 
-/// What looks wrong, one by one.
+/// The findings of a report, one by one.
 #[inline(never)]
-fn looks_of<'a, A: Allocator + Copy>(
+fn findings_of<'a, A: Allocator + Copy>(
     alloc: A,
     form: Form,
     files: &NamedFiles<'a>,
 ) -> Result<FilesText<'a, A>, AllocError>
-    ensures { IfOk result (IsMadeOf (LooksOf form) (paths_in files.now) files.now.host.now
+    ensures { IfOk result (IsMadeOf (FindingsOf form) (paths_in files.now) files.now.host.now
         (contents files.now.libs.now)) }
 {
     let report = check(alloc, files.host_path, files.paths, files.host, files.libs)?;
-    Ok(FilesText::Looks(form, report))
+    Ok(FilesText::Findings(form, report))
 }
 
 /// The list of each file.
@@ -306,7 +306,7 @@ pub fn text_of<'a, A: Allocator + Copy>(
         TextKind::References(form) => references_of(alloc, form, files),
         TextKind::Show(form) => show_of(form, files),
         TextKind::Check(form) => Ok(report_of(alloc, form, files)?),
-        TextKind::Looks(form) => Ok(looks_of(alloc, form, files)?),
+        TextKind::Findings(form) => Ok(findings_of(alloc, form, files)?),
         TextKind::List(how) => Ok(lists_of(alloc, how, files)?),
         TextKind::Wanted => wanted_of(alloc, files),
         TextKind::Had => had_of(alloc, files),

@@ -1,94 +1,67 @@
--- The looks about the link among what looks wrong: which they are, and where each is.
--- Source: this project's profile.
-use Rattle.std.specs.Prelude.{◌≡◌, ℕ, not, if◌then◌else◌, List, [], ◌∷◌, ◌++◌, map, Bool, true, false, Option, Some, None}
+-- The findings about the link, which are those that have definitions: which they are among all that
+-- is found, and where each is.
+use Rattle.std.specs.Prelude.{◌≡◌, ℕ, if◌then◌else◌, List, [], ◌∷◌, ◌++◌, map, Bool, true, false, Option, Some, None}
 use Rattle.std.specs.List.{filter}
-use Rattle.ps_warnings.specs.declared.looks.Looks.{Looks}
-use Rattle.ps_warnings.specs.declared.warnings.Look.{Look}
-use Rattle.ps_warnings.specs.declared.warnings.Look.TheVariants as which
-use Rattle.ps_warnings.specs.declared.warnings.RecordLook.{RecordLook}
-use Rattle.ps_warnings.specs.declared.warnings.RecordLook.TheVariants as said
-use Rattle.ps_warnings.specs.declared.warnings.Warning.{Warning}
+use Rattle.ps_warnings.specs.Weights.{is_certain}
+use Rattle.ps_warnings.specs.declared.findings.Findings.{Findings}
+use Rattle.ps_warnings.specs.declared.finding.Finding.{Finding}
+use Rattle.ps_warnings.specs.declared.finding.Finding.TheVariants as which
+use Rattle.ps_warnings.specs.declared.finding.FindingAt.{FindingAt}
 
--- a look, with the path of its file, the name of its segment and the number of its record there
-pub record LookAt : Type 0 where
+-- a finding, with the path of its file, the name of its segment and the number of its record there
+pub record Stated : Type 0 where
   pub path : List ℕ
   pub segment : Option (List ℕ)
   pub rec : Option ℕ
-  pub look : Look
+  pub finding : Finding
 
--- what a warning is about
-abbrev pub told : Warning → LookAt
-told w = record
-    { path = w.place.path.now; segment = w.place.segment; rec = w.place.rec; look = w.look }
+abbrev pub stated : FindingAt → Stated
+stated f = record
+    { path = f.place.path.now; segment = f.place.segment; rec = f.place.rec; finding = f.finding }
 
--- the look is about the link: it has a definition
-abbrev pub is_about_link : Look → Bool
-is_about_link (which.Entry l) = true
-is_about_link (which.Record l) = true
-is_about_link (which.Link l) = true
-is_about_link (which.Other l) = false
+-- the finding is about the link: it has a definition
+abbrev pub is_about_link : Finding → Bool
+is_about_link (which.Entry f) = true
+is_about_link (which.Record f) = true
+is_about_link (which.Link f) = true
+is_about_link (which.File f) = false
+is_about_link (which.Dictionary f) = false
+is_about_link (which.Name f) = false
+is_about_link (which.Code f) = false
+is_about_link (which.Procedure f) = false
+is_about_link (which.Operand f) = false
 
--- the looks about the link among these warnings, in their order
-unfoldable pub link_looks_in : List Warning → List LookAt
-link_looks_in ws = filter (λ l. is_about_link l.look) (map told ws)
+-- the findings about the link among these, in their order
+unfoldable pub about_link_in : List FindingAt → List Stated
+about_link_in found = filter (λ s. is_about_link s.finding) (map stated found)
 
--- a look about the link is harmless: that of a unit's definition that has no effect
-abbrev pub is_harmless_record : RecordLook → Bool
-is_harmless_record (said.UnitDefinition name) = true
-is_harmless_record (said.OwnDefinition name) = false
-is_harmless_record (said.PastPrivate place displacement words) = false
-is_harmless_record (said.LowMark next size) = false
-is_harmless_record (said.HighDefinition name value next) = false
+abbrev pub about_link : {A : Type 0} → Findings A → List Stated
+about_link found = about_link_in found.list.items
 
-abbrev pub is_harmless_look : Look → Bool
-is_harmless_look (which.Entry l) = false
-is_harmless_look (which.Record l) = is_harmless_record l
-is_harmless_look (which.Link l) = false
-is_harmless_look (which.Other l) = false
+-- these findings about the link are added, in their order, and no others
+pub record Adds (old found new : List Stated) : Type 0 where
+  pub all : new ≡ old ++ found
 
-abbrev pub is_harmless : LookAt → Bool
-is_harmless l = is_harmless_look l.look
+-- a finding at a place, if it is about the link
+abbrev pub stated_at : List ℕ → Option (List ℕ) → Option ℕ → Finding → List Stated
+stated_at path segment rec f = if is_about_link f
+    then record { path = path; segment = segment; rec = rec; finding = f } ∷ [] else []
 
-abbrev pub is_warned : LookAt → Bool
-is_warned l = not (is_harmless l)
-
--- the looks about the link, by whether they are warnings, harmless or notes, each in their order
-pub record LinkLooks : Type 0 where
-  pub warnings : List LookAt
-  pub harmless : List LookAt
-  pub notes : List LookAt
-
--- the looks about the link, among warnings, among what is harmless and among notes
-abbrev pub link_looks : List Warning → List Warning → List Warning → LinkLooks
-link_looks ws hs ns = record
-    { warnings = link_looks_in ws; harmless = link_looks_in hs; notes = link_looks_in ns }
-
--- those among all that looks wrong
-abbrev pub about_link : {A : Type 0} → Looks A → LinkLooks
-about_link l = link_looks l.warnings.items l.harmless.items l.notes.items
-
--- these looks, by whether they are warnings or harmless; none of them is a note
-abbrev pub sorted : List LookAt → LinkLooks
-sorted found = record
-    { warnings = filter is_warned found; harmless = filter is_harmless found; notes = [] }
-
--- these looks about the link are added, in their order, and no others
-pub record Adds (old : LinkLooks) (found : List LookAt) (new : LinkLooks) : Type 0 where
-  pub warnings : new.warnings ≡ old.warnings ++ (sorted found).warnings
-  pub harmless : new.harmless ≡ old.harmless ++ (sorted found).harmless
-  pub notes : new.notes ≡ old.notes
-
--- a look at a place, if it is about the link
-abbrev pub look_at : List ℕ → Option (List ℕ) → Option ℕ → Look → List LookAt
-look_at path segment rec l = if is_about_link l
-    then record { path = path; segment = segment; rec = rec; look = l } ∷ [] else []
-
--- a look at a place, which was found or not, if it is about the link
-abbrev pub found_at : List ℕ → Option (List ℕ) → Option ℕ → Option Look → List LookAt
+-- what was found at a place or not, if it is about the link
+abbrev pub found_at : List ℕ → Option (List ℕ) → Option ℕ → Option Finding → List Stated
 found_at path segment rec None = []
-found_at path segment rec (Some l) = look_at path segment rec l
+found_at path segment rec (Some f) = stated_at path segment rec f
 
--- a look at a record of a segment, which was found or not, if it is about the link
-abbrev pub found_in_record : List ℕ → Option (List ℕ) → Option (ℕ × Look) → List LookAt
+-- what was found in a record of a segment or not, if it is about the link
+abbrev pub found_in_record : List ℕ → Option (List ℕ) → Option (ℕ × Finding)
+    → List Stated
 found_in_record path segment None = []
-found_in_record path segment (Some found) = look_at path segment (Some found.0) found.1
+found_in_record path segment (Some found) = stated_at path segment (Some found.0) found.1
+
+-- the finding is a warning
+abbrev pub is_warning : Stated → Bool
+is_warning s = is_certain s.finding
+
+-- the warnings among findings, in their order
+unfoldable pub warnings_among : List Stated → List Stated
+warnings_among found = filter is_warning found

@@ -1,8 +1,8 @@
-pub mod RecordLooks
-pub mod EntryLooks
+pub mod RecordFindings
+pub mod EntryFindings
 pub mod Weights
 pub mod Places
-pub mod LinkLooks
+pub mod LinkFindings
 pub mod Found
-pub mod FileLooks
-pub mod AllLooks
+pub mod FileFindings
+pub mod AllFindings

@@ -1,8 +1,7 @@
 -- Where something looks wrong, in words.
--- Source: this project's profile.
 use Rattle.std.specs.Prelude.{ℕ, List, [], ◌++◌, Option, Some, None, codes, decimal}
 use Rattle.ps_filetype.specs.Shown.{shown_name, shown_path}
-use Rattle.ps_warnings.specs.declared.warnings.WarningAt.{WarningAt}
+use Rattle.ps_warnings.specs.declared.finding.Place.{Place}
 
 -- `, segment UTIL`, where it is in a segment
 abbrev pub segment_words : Option (List ℕ) → List ℕ
@@ -15,6 +14,6 @@ record_words None = []
 record_words (Some rec) = codes ", record " ++ decimal rec
 
 -- `UTIL.CODE, segment UTIL, record 1`
-unfoldable pub place_text : WarningAt → List ℕ
+unfoldable pub place_text : Place → List ℕ
 place_text place = shown_path place.path.now
     ++ (segment_words place.segment ++ record_words place.rec)

@@ -1,71 +1,60 @@
--- How much a look weighs, and the word for a weight.
--- Source: this project's profile.
-use Rattle.std.specs.Prelude.{ℕ, List, codes}
-use Rattle.ps_segments.specs.declared.looks.CodeLook.{CodeLook}
-use Rattle.ps_segments.specs.declared.looks.Guess.{Guess}
-use Rattle.ps_segments.specs.declared.looks.ProcedureLook.{ProcedureLook}
-use Rattle.ps_segments.specs.declared.looks.ProcedureLook.TheVariants as procedure
-use Rattle.ps_warnings.specs.declared.warnings.DictionaryLook.{DictionaryLook}
-use Rattle.ps_warnings.specs.declared.warnings.DictionaryLook.TheVariants as dictionary
-use Rattle.ps_warnings.specs.declared.warnings.FileLook.{FileLook}
-use Rattle.ps_warnings.specs.declared.warnings.FileLook.TheVariants as file
-use Rattle.ps_warnings.specs.declared.warnings.OtherLook.{OtherLook}
-use Rattle.ps_warnings.specs.declared.warnings.OtherLook.TheVariants as other
-use Rattle.ps_warnings.specs.declared.warnings.RecordLook.{RecordLook}
-use Rattle.ps_warnings.specs.declared.warnings.RecordLook.TheVariants as rec
-use Rattle.ps_warnings.specs.declared.warnings.Look.{Look as AnyLook}
-use Rattle.ps_warnings.specs.declared.warnings.Look.TheVariants as look
+-- How much a finding weighs, and the word for a weight.
+use Rattle.std.specs.Prelude.{ℕ, List, codes, Bool, true, false}
+use Rattle.ps_warnings.specs.declared.finding.DictionaryFinding.{DictionaryFinding}
+use Rattle.ps_warnings.specs.declared.finding.DictionaryFinding.TheVariants as dictionary
+use Rattle.ps_warnings.specs.declared.finding.FileFinding.{FileFinding}
+use Rattle.ps_warnings.specs.declared.finding.FileFinding.TheVariants as file
+use Rattle.ps_warnings.specs.declared.finding.Finding.{Finding}
+use Rattle.ps_warnings.specs.declared.finding.Finding.TheVariants as finding
+use Rattle.ps_warnings.specs.declared.finding.RecordFinding.{RecordFinding}
+use Rattle.ps_warnings.specs.declared.finding.RecordFinding.TheVariants as rec
 use Rattle.ps_warnings.specs.declared.weight.Weight.{Weight}
-use Rattle.ps_warnings.specs.declared.weight.Weight.TheVariants.{Note, Harmless, Look, Damaged}
+use Rattle.ps_warnings.specs.declared.weight.Weight.TheVariants.{Warning, Harmless, Note}
 
 -- the word that a weight is printed as
 abbrev pub weight_word : Weight → List ℕ
-weight_word Note = codes "note"
+weight_word Warning = codes "warning"
 weight_word Harmless = codes "harmless"
-weight_word Look = codes "look"
-weight_word Damaged = codes "damaged"
+weight_word Note = codes "note"
 
--- a unit's definition that has no effect is harmless, and what else looks wrong in a record is not
-abbrev pub record_weight : RecordLook → Weight
+-- a unit's definition that has no effect is harmless, and each other finding in a record a warning
+abbrev pub record_weight : RecordFinding → Weight
 record_weight (rec.UnitDefinition name) = Harmless
-record_weight (rec.OwnDefinition name) = Look
-record_weight (rec.PastPrivate place displacement words) = Look
-record_weight (rec.LowMark next size) = Look
-record_weight (rec.HighDefinition name value next) = Look
+record_weight (rec.OwnDefinition name) = Warning
+record_weight (rec.PastPrivate place displacement words) = Warning
+record_weight (rec.LowMark next size) = Warning
+record_weight (rec.HighDefinition name value next) = Warning
 
--- what looks wrong in a file, and in a dictionary
-abbrev pub file_weight : FileLook → Weight
-file_weight (file.NoCodeFile file_type) = Look
+-- bytes that pad a file are harmless, and each other finding in a file is a note
+abbrev pub file_weight : FileFinding → Weight
+file_weight (file.NoCodeFile file_type) = Note
 file_weight (file.Padded bytes) = Harmless
-file_weight (file.Doubled start end) = Damaged
-file_weight (file.Converted line_ends) = Damaged
+file_weight (file.Doubled start end) = Note
+file_weight (file.Converted line_ends) = Note
 
-abbrev pub dictionary_weight : DictionaryLook → Weight
-dictionary_weight (dictionary.DeadTail start end byte) = Damaged
-dictionary_weight (dictionary.FullTail bytes) = Look
-dictionary_weight (dictionary.NoName slot) = Look
-dictionary_weight (dictionary.MachineType slot machine version) = Look
+-- an intrinsic unit of Apple Pascal is harmless, and each other finding in a dictionary a note
+abbrev pub dictionary_weight : DictionaryFinding → Weight
+dictionary_weight (dictionary.DeadTail start end byte) = Note
 dictionary_weight (dictionary.IntrinsicKind slot kind) = Harmless
 
--- what looks wrong in the procedures of a code
-abbrev pub procedure_weight : ProcedureLook → Weight
-procedure_weight (procedure.OtherProcedure number found) = Damaged
-procedure_weight (procedure.OutsideCode number) = Damaged
-procedure_weight procedure.LostTables = Damaged
-procedure_weight procedure.LinkedWithRecords = Look
+-- how much a finding weighs: of the subjects that have definitions, entries, records and the link, a
+-- finding is certain, and a warning if it is not harmless
+abbrev pub weight_of : Finding → Weight
+weight_of (finding.Entry f) = Warning
+weight_of (finding.Record f) = record_weight f
+weight_of (finding.Link f) = Warning
+weight_of (finding.File f) = file_weight f
+weight_of (finding.Dictionary f) = dictionary_weight f
+weight_of (finding.Name f) = Note
+weight_of (finding.Code f) = Note
+weight_of (finding.Procedure f) = Note
+weight_of (finding.Operand f) = Note
 
--- a look that is not about the link
-abbrev pub other_weight : OtherLook → Weight
-other_weight (other.File l) = file_weight l
-other_weight (other.Dictionary l) = dictionary_weight l
-other_weight (other.Segment l) = Look
-other_weight (other.Code l) = Damaged
-other_weight (other.Procedure l) = procedure_weight l
-other_weight (other.Guess l) = Note
+-- it is a warning: it is certain, and the link is another one by it
+abbrev pub is_certain_weight : Weight → Bool
+is_certain_weight Warning = true
+is_certain_weight Harmless = false
+is_certain_weight Note = false
 
--- how much a look weighs
-abbrev pub weight_of : AnyLook → Weight
-weight_of (look.Entry l) = Look
-weight_of (look.Record l) = record_weight l
-weight_of (look.Link l) = Look
-weight_of (look.Other l) = other_weight l
+abbrev pub is_certain : Finding → Bool
+is_certain f = is_certain_weight (weight_of f)

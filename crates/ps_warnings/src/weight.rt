@@ -1,33 +1,28 @@
-//! How much a look weighs.
+//! How much a finding weighs.
 ghost use Rattle.std.specs.Prelude.{◌≡◌};
 ghost use Rattle.ps_warnings.specs.Weights.{weight_word};
 
-/// How much a look weighs: whether a link of the files goes wrong by it.
-///
-/// Source: this project's profile.
+/// How much a finding weighs: whether a link of the files is another one by it, as far as that is known.
 #[derive(Clone, Copy)]
 pub enum Weight {
-    /// A guess by what P-code means, which no source of this project says. It is no warning.
-    Note,
-    /// A link of the files does what it would do without it. It is no warning.
+    /// Certain, by the definition of a link and by what is in the files, and nothing that a compiler
+    /// writes.
+    Warning,
+    /// Certain, and a link of the files does what it would do without it.
     Harmless,
-    /// The files may be as a compiler wrote them, and the link may not be what is wanted.
-    Look,
-    /// No compiler writes it: something happened to the file.
-    Damaged,
+    /// A guess from bytes, names, numbers or P-code. The files may be as a compiler wrote them.
+    Note,
 }
 
 impl Weight {
-    /// The word for it.
-    /// Source: this project's profile.
+    /// The word for it, with which the line of a finding begins.
     pub fn word(&self) -> &'static str
         ensures { result.now ≡ weight_word self.now }
     {
         match self {
-            Weight::Note => "note",
+            Weight::Warning => "warning",
             Weight::Harmless => "harmless",
-            Weight::Look => "look",
-            Weight::Damaged => "damaged",
+            Weight::Note => "note",
         }
     }
 }

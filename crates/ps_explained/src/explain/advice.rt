@@ -4,7 +4,8 @@ use crate::cases::Case;
 use crate::sentences::{meaning_of, remedy_of};
 use ps_codefile::kinds::{FIRST_INTRINSIC, LAST_INTRINSIC, LINKED};
 use ps_filetype::{FileType, Remedy, ShownPath, is_swapped};
-use ps_segments::{NamedFiles, dead_look};
+use ps_segments::NamedFiles;
+use ps_warnings::dead_run;
 use ps_words::Reason;
 use std::fmt::{self, Display, Formatter};
 
@@ -24,7 +25,7 @@ fn wrong_in(case: &Case<'_, '_>) -> &'static str {
         Reason::MissingUnit if case.fault.rec.is_some() =>
             "No library has the unit that the UNITREF in this record requests.",
         Reason::MissingUnit => "No library has the unit that the slot wants.",
-        Reason::NativeProcedure if dead_look(case.code()).is_some() =>
+        Reason::NativeProcedure if dead_run(case.code()).is_some() =>
             "The code is damaged: a part of it was not read, or never written.",
         Reason::NativeProcedure if is_exchanged(case) =>
             "The bytes of the code are exchanged in pairs.",
@@ -113,7 +114,7 @@ fn remedy_in<'a>(case: &Case<'_, 'a>) -> Advice<'a> {
 /// What to do about a procedure of native code, as damaged code may be read.
 fn remedy_of_native<'a>(case: &Case<'_, 'a>) -> Advice<'a> {
     let path = case.inputs.path(case.fault.file);
-    if dead_look(case.code()).is_some() {
+    if dead_run(case.code()).is_some() {
         let text = remedy_of(Reason::Truncated.number());
         return Advice::Sentence { text, path };
     }

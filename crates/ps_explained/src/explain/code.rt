@@ -2,7 +2,7 @@
 ghost use Rattle.std.specs.Prelude.{◌≡◌, ◌+◌, ◌*◌};
 
 use crate::cases::Case;
-use ps_segments::dead_look;
+use ps_warnings::dead_run;
 use ps_words::BLOCK_SIZE;
 use std::fmt::{self, Formatter, Write};
 
@@ -36,7 +36,7 @@ pub(super) fn write_procedure<W: Write>(f: &mut Formatter<W>, case: &Case<'_, '_
     if let Some(fault) = case.procedure_fault() {
         writeln!(f, "  {fault}")?;
     }
-    match dead_look(case.code()) {
+    match dead_run(case.code()) {
         Some(look) => writeln!(f, "  {look}"),
         None => Ok(()),
     }

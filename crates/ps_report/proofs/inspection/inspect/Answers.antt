@@ -1,6 +1,5 @@
 use Rattle.std.proofs.Common.{◌≡◌, ◌∙◌, ◌∷◌, List, ℕ, None, ap, map, string_bytes, subst}
-use Rattle.ps_warnings.specs.AllLooks.{link_looks_of}
-use Rattle.ps_warnings.specs.Found.{sorted}
+use Rattle.ps_warnings.specs.AllFindings.{link_findings_of}
 use Rattle.ps_segments.specs.Seen.{Seen, seen}
 use Rattle.ps_segments.specs.SeenSegments.{seen_by}
 use Rattle.ps_resolve.specs.AllFaults.{reading_fault}
@@ -19,13 +18,13 @@ returns-clause-segments g c =
     → slot_lines overview ≡ segment_lines paths f.host f.libs) c.read_files-reading.ensures
     c.in_ok-overview.ensures
 
-pub returns-clause-looks : goal.returns-clause-looks
-returns-clause-looks g c =
+pub returns-clause-findings : goal.returns-clause-findings
+returns-clause-findings g c =
     let host = c.args.host.now in
     let libs = contents c.args.libs.now in
     let paths : List (List ℕ) = c.args.host_path.now ∷ contents c.args.paths.now in
-    c.in_ok-looks.ensures
-    ∙ ap (λ (l : List Seen). sorted (link_looks_of paths host libs l))
+    c.in_ok-findings.ensures
+    ∙ ap (λ (l : List Seen). link_findings_of paths host libs l)
     (ap (map seen) c.as_slice-3.ensures.value
     ∙ (c.in_ok-list.ensures
     ∙ ap (λ (f : ReadFiles). seen_by host libs (opened_host f.host f.libs))

@@ -1,12 +1,15 @@
-use Rattle.std.proofs.Common.{ap}
+use Rattle.std.proofs.Common.{ap, map}
 use Rattle.ps_writing.specs.JsonStrings.{json_text}
 use Rattle.ps_writing.proofs.Written.{◌⨾◌, adds_is}
-use Rattle.ps_report.specs.ReportJson.{report_json}
+use Rattle.ps_report.specs.ReportJson.{list_json, report_json}
+use Rattle.ps_report.specs.Reported.{said}
+use Rattle.ps_report.proofs.Items.{same_list}
 use Rattle.ps_report.proofs.json.add_report.Goals as goal
 
 pub returns : goal.returns
 unfolding report_json
 returns g c =
-    c.add_verdict.ensures ⨾ c.add.ensures ⨾ c.add_lists.ensures
+    c.add_verdict.ensures ⨾ c.add.ensures
+    ⨾ adds_is (same_list c.as_slice.ensures.value) c.add_list.ensures
     ⨾ c.add-2.ensures ⨾ adds_is (ap json_text c.as_str.ensures.value) c.add_json_text.ensures
     ⨾ c.add-3.ensures

@@ -4,8 +4,8 @@ use Rattle.std.proofs.lemmas.List.{append_assoc}
 use Rattle.std.proofs.lemmas.Result.{on_ok_weaker}
 use Rattle.std.proofs.lemmas.Str.Pattern.{split_once_first}
 use Rattle.ps_explained.proofs.OneLine.{split_line, unsplit_line}
-use Rattle.ps_report.specs.WarningLines.{other_line, other_lines}
-use Rattle.ps_report.proofs.WarningLines.{cut_at, lines_done, other_lines_alone, other_lines_cut}
+use Rattle.ps_report.specs.FindingLines.{other_line, other_lines}
+use Rattle.ps_report.proofs.FindingLines.{cut_at, lines_done, other_lines_alone, other_lines_cut}
 use Rattle.ps_report.proofs.lines.add_other_lines.Goals as goal
 
 pub loop-line-preserved : goal.loop-line-preserved

@@ -1,7 +1,7 @@
 use Rattle.std.proofs.Common.{◌≡◌, ◌++◌, length, string_bytes}
 use denote.Text.{Utf8}
 use denote.Shadow.{shadow}
-use Rattle.ps_report.specs.WarningLines.{other_lines}
+use Rattle.ps_report.specs.FindingLines.{other_lines}
 use Rattle.ps_report.proofs.lines.add_other_lines.Given as goal
 
 -- the lines so far are added, and those of what is left are still to be

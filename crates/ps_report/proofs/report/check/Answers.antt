@@ -6,21 +6,21 @@ use Rattle.ps_explained.specs.SegmentLines.{segment_lines}
 use Rattle.ps_explained.specs.SlotLines.{AddsSlotLines, slot_lines}
 use Rattle.ps_listing.specs.FileLists.{IsList}
 use Rattle.ps_listing.specs.declared.lists.ListForm.TheVariants.{Lines}
-use Rattle.ps_report.specs.Reported.{said}
+use Rattle.ps_warnings.specs.Found.{about_link_in}
 use Rattle.ps_report.specs.Verdicts.{fault_of}
-use Rattle.ps_report.specs.WarningLines.{other_lines}
+use Rattle.ps_report.specs.FindingLines.{other_lines}
 use Rattle.ps_report.proofs.SegmentTexts.{links_of, no_lists}
-use Rattle.ps_report.proofs.Reports.{is_report, same_looks}
+use Rattle.ps_report.proofs.Reports.{is_report}
 use Rattle.ps_report.proofs.Verdicts.{linked_or_not, refused_or_not, warned_or_refused}
 use Rattle.ps_report.proofs.report.check.Goals as goal
 
 pub returns-clause-links : goal.returns-clause-links
 returns-clause-links g c = linked_or_not c.args.host.now (contents c.args.libs.now)
-    (vec_len c.in_ok-warnings.warnings) c.in_ok-verdict.verdict c.in_ok-verdict.ensures.right
+    _ c.in_ok-verdict.verdict c.in_ok-verdict.ensures.right
 
 pub returns-clause-refused : goal.returns-clause-refused
 returns-clause-refused g c = refused_or_not c.args.host.now (contents c.args.libs.now)
-    (vec_len c.in_ok-warnings.warnings) c.in_ok-verdict.verdict c.in_ok-verdict.ensures.right
+    _ c.in_ok-verdict.verdict c.in_ok-verdict.ensures.right
 
 pub returns-clause-report : goal.returns-clause-report
 returns-clause-report g c =
@@ -32,9 +32,7 @@ returns-clause-report g c =
     let front = string_bytes c.in_ok-front.front in
     let told = c.in_ok-front.ensures in
     let found = c.in_ok-inspection.ensures in
-    let warned = c.in_ok-warnings.ensures in
-    let calm = c.in_ok-harmless.ensures in
-    let noted = c.in_ok-notes.ensures in
+    let worded = c.in_ok-findings.ensures in
     let lists = c.in_ok-lists.ensures in
     let silent : fault_of verdict ≡ None → c.as_str-2.result.now ≡ [] =
     λ links. c.as_str-2.ensures.value ∙ found.explanation links in
@@ -65,15 +63,11 @@ returns-clause-report g c =
     (c.in_ok-push_str.ensures.bytes
     ∙ ap (λ (t : List ℕ). front ++ t) (c.as_str-4.ensures.value ∙ c.in_ok-lines.ensures))
     right found.name
-    (same_looks _ _ _ _ _ _ (warned.warnings ∙ c.as_slice.ensures.value)
-    (calm.warnings ∙ c.as_slice-2.ensures.value)
-    (noted.warnings ∙ c.as_slice-3.ensures.value) ∙ found.looks)
-    warned.places calm.places noted.places
+    (ap about_link_in (worded.findings ∙ c.as_slice.ensures.value) ∙ found.findings)
+    worded.places
 
 pub returns-clause-warned : goal.returns-clause-warned
 returns-clause-warned g c =
-    let counted = (returns-clause-report g c).counted in
-    let warnings = c.in_ok-warnings.warnings in
-    warned_or_refused c.args.host.now (contents c.args.libs.now) _ (vec_len warnings)
-    c.in_ok-verdict.verdict c.in_ok-verdict.ensures.right
-    (counted ∙ (length-map warnings.items said ∙ sym warnings.ok.0))
+    warned_or_refused (c.args.host_path.now ∷ contents c.args.paths.now) c.args.host.now
+    (contents c.args.libs.now) _ c.in_ok-verdict.verdict c.in_ok-verdict.ensures.right
+    (returns-clause-report g c).warnings

@@ -1,7 +1,7 @@
 use Rattle.std.proofs.Common.{◌∙◌, ◌-◌, length, take, sym, string_bytes, lit<}
 use Rattle.std.proofs.lemmas.Str.Pattern.{ends_char}
 use Rattle.ps_explained.proofs.SlotLines.{adds_end, adds_none}
-use Rattle.ps_report.proofs.WarningLines.{adds_end_of_line, none_added}
+use Rattle.ps_report.proofs.FindingLines.{adds_end_of_line, none_added}
 use Rattle.ps_report.proofs.report.end_line.Goals as goal
 
 pub returns-then-ends_with-clause-ended : goal.returns-then-ends_with-clause-ended

@@ -1,8 +1,8 @@
 use Rattle.std.proofs.Common.{ℕ, List, string_bytes, subst}
 use Rattle.ps_explained.specs.SlotLines.{AddsSlotLines, slot_lines}
-use Rattle.ps_report.specs.WarningLines.{AddsWarnings, other_lines}
+use Rattle.ps_report.specs.FindingLines.{AddsWarnings, other_lines}
 use Rattle.ps_report.proofs.SegmentTexts.{adds_empty, adds_five, none_in_five, parts_are}
-use Rattle.ps_report.proofs.WarningLines.{adds_other_lines, keeps_slot_lines}
+use Rattle.ps_report.proofs.FindingLines.{adds_other_lines, keeps_slot_lines}
 use Rattle.ps_report.proofs.report.with_verdict.Goals as goal
 
 pub returns-clause-parts : goal.returns-clause-parts

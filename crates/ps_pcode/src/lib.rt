@@ -1,0 +1,20 @@
+//! P-code, by what its instructions mean: the table of the instructions, with their operands and what
+//! they do to the evaluation stack; the procedures of a code, with where each is entered and left; the
+//! rules that the instructions of a procedure keep to; and the procedure that alone of its code breaks
+//! one of them.
+#![tactic(auto)]
+
+mod bodies;
+mod instructions;
+mod misfits;
+mod places;
+mod rules;
+mod stacks;
+mod table;
+mod tables;
+#[cfg(test)]
+mod tests;
+mod walks;
+
+pub use misfits::misfit;
+pub use tables::{Ends, native_table, procedures_of};

@@ -1,0 +1,356 @@
+-- The lines of a report to which a line is added that is a warning's, or none's.
+use Rattle.std.proofs.Common.{◌≡◌, ◌∙◌, ◌+◌, ◌++◌, ◌∷◌, ◌==◌, ◌&&◌, [], ℕ, List, Bool, true, false, not, cond, append-nil, length, ◌<◌, Bor, refl, sym, subst, ap, arith, get_or, codes}
+use Rattle.std.specs.Prelude.{if◌then◌else◌, Option, Some, None, IfSome}
+use Rattle.std.specs.List.{after_first, before_first, filter, flat_map, list_all, position_or_len}
+use Rattle.std.proofs.lemmas.Bool.Decides.{nat_tests}
+use Rattle.std.proofs.lemmas.List.{append_assoc, take_all}
+use Rattle.std.proofs.lemmas.List.Sums.{passes_at_first, split_at_first}
+use Rattle.ps_explained.specs.SlotLines.{AddsSlotLines, indent, is_slot_line, lines_of, one_line, slot_lines, with_first}
+use Rattle.ps_explained.proofs.OneLine.{Splits, and_both, and_left, and_right, one_append, one_before}
+use Rattle.ps_explained.proofs.SlotLines.{adds_line, adds_no_line, adds_then, adds_then_none, line_ends}
+use Rattle.ps_warnings.specs.Weights.{is_certain_weight, weight_of, weight_word}
+use Rattle.ps_warnings.specs.declared.weight.Weight.{Weight}
+use Rattle.ps_warnings.specs.declared.weight.Weight.TheVariants.{Warning, Harmless, Note}
+use Rattle.ps_report.specs.Reported.{Said, is_warned, warning_count}
+use Rattle.ps_report.specs.FindingLines.{AddsWarnings, finding_line, finding_lines, finding_words, first_line, is_warning_line, other_line, other_lines, warning_lines, warnings_in}
+
+-- a last line that has no end
+more_alone : (b : ℕ) (line : List ℕ) (t : Bool) → (b == 10) ≡ t → not (b == 10) ≡ true
+    → (if t then [] ∷ lines_of line else with_first b (lines_of line))
+    ≡ with_first b (lines_of line)
+more_alone b line true e other = let no = ap not (sym e) ∙ other in cc
+more_alone b line false e other = refl
+
+pub alone : (b : ℕ) (line : List ℕ) → one_line (b ∷ line) ≡ true
+    → lines_of (b ∷ line) ≡ (b ∷ line) ∷ []
+alone b [] one = more_alone b [] (b == 10) refl (and_left (not (b == 10)) true one)
+alone b (c ∷ line) one =
+    more_alone b (c ∷ line) (b == 10) refl (and_left (not (b == 10)) (one_line (c ∷ line)) one)
+    ∙ ap (with_first b) (alone c line (and_right (not (b == 10)) (one_line (c ∷ line)) one))
+
+no_more : (n : ℕ) → n ≡ 0 + n
+no_more n = omega arith
+
+warnings_after : (line rest : List ℕ) → one_line line ≡ true
+    → warnings_in ((line ++ 10 ∷ []) ++ rest)
+    ≡ length (cond (is_warning_line line) (line ∷ warning_lines rest) (warning_lines rest))
+unfolding warning_lines
+warnings_after line rest one =
+    ap (λ (text : List ℕ). length (filter is_warning_line (lines_of text)))
+    (append_assoc line (10 ∷ []) rest)
+    ∙ ap (λ (lines : List (List ℕ)). length (filter is_warning_line lines))
+    (line_ends line rest one)
+
+-- a line that begins with `warning: `
+pub adds_warning : (old line new : List ℕ) → one_line line ≡ true
+    → is_warning_line line ≡ true → new ≡ old ++ (line ++ 10 ∷ [])
+    → AddsWarnings old 1 new
+adds_warning old line new one begins is = (
+  line ++ 10 ∷ [],
+  is,
+  λ rest. warnings_after line rest one
+      ∙ (ap (λ (t : Bool). length (cond t (line ∷ warning_lines rest) (warning_lines rest)))
+      begins ∙ omega arith),
+)
+
+-- a line that does not
+pub adds_no_warning : (old line new : List ℕ) → one_line line ≡ true
+    → is_warning_line line ≡ false → new ≡ old ++ (line ++ 10 ∷ [])
+    → AddsWarnings old 0 new
+adds_no_warning old line new one begins is = (
+  line ++ 10 ∷ [],
+  is,
+  λ rest. warnings_after line rest one
+      ∙ (ap (λ (t : Bool). length (cond t (line ∷ warning_lines rest) (warning_lines rest)))
+      begins ∙ no_more (warnings_in rest)),
+)
+
+pub none_added : (text : List ℕ) → AddsWarnings text 0 text
+none_added text = ([], sym (append-nil text), λ rest. no_more (warnings_in rest))
+
+pub added_then : (a b c : List ℕ) (n m : ℕ) → AddsWarnings a n b → AddsWarnings b m c
+    → AddsWarnings a (n + m) c
+added_then a b c n m h k = (
+  h.0 ++ k.0,
+  k.1 ∙ (ap (λ (t : List ℕ). t ++ k.0) h.1 ∙ append_assoc a h.0 k.0),
+  λ rest.
+      ap warnings_in (append_assoc h.0 k.0 rest)
+      ∙ (h.2 (k.0 ++ rest) ∙ (ap (λ (t : ℕ). n + t) (k.2 rest) ∙ omega arith)),
+)
+
+-- a whole text
+pub warnings_are : (text : List ℕ) (n : ℕ) → AddsWarnings [] n text → warnings_in text ≡ n
+unfolding warning_lines
+warnings_are text n h = ap warnings_in (h.1 ∙ sym (append-nil h.0)) ∙ (h.2 [] ∙ omega arith)
+
+-- a text to which so many warnings are added
+pub counted : (text before : List ℕ) (n : ℕ) → AddsWarnings [] 0 before
+    → AddsWarnings before n text → warnings_in text ≡ n
+counted text before n none some =
+    warnings_are text (0 + n) (added_then [] before text 0 n none some) ∙ omega arith
+
+-- a line that is no warning's
+other_is : (line : List ℕ) (t : Bool) → is_warning_line line ≡ t
+    → other_line line ≡ indent t ++ (line ++ 10 ∷ [])
+unfolding other_line
+other_is line t e = ap (λ (t : Bool). indent t ++ (line ++ 10 ∷ [])) e
+
+pub adds_other_line : (old line new : List ℕ) → one_line line ≡ true
+    → new ≡ old ++ other_line line → AddsWarnings old 0 new
+adds_other_line old line new one is = by (is_warning_line line) refl
+  where
+    by : (t : Bool) → is_warning_line line ≡ t → AddsWarnings old 0 new
+    by true e = adds_no_warning old (32 ∷ 32 ∷ line) new one refl
+        (is ∙ ap (λ (l : List ℕ). old ++ l) (other_is line true e))
+    by false e = adds_no_warning old line new one e
+        (is ∙ ap (λ (l : List ℕ). old ++ l) (other_is line false e))
+
+-- texts of such lines
+ends_first : (b : ℕ) (lines : List (List ℕ)) → not (b == 10) ≡ true
+    → list_all one_line lines ≡ true → list_all one_line (with_first b lines) ≡ true
+ends_first b [] other h = and_both (not (b == 10) && true) true (and_both (not (b == 10)) true
+    other refl) refl
+ends_first b (line ∷ lines) other h =
+    and_both (not (b == 10) && one_line line) (list_all one_line lines)
+    (and_both (not (b == 10)) (one_line line) other (and_left (one_line line) _ h))
+    (and_right (one_line line) _ h)
+
+one_first : (b : ℕ) (text : List ℕ) (t : Bool) → (b == 10) ≡ t
+    → list_all one_line (lines_of text) ≡ true
+    → list_all one_line (if t then [] ∷ lines_of text else with_first b (lines_of text))
+    ≡ true
+one_first b text true e h = h
+one_first b text false e h = ends_first b (lines_of text) (ap not e) h
+
+one_each : (text : List ℕ) → list_all one_line (lines_of text) ≡ true
+one_each [] = refl
+one_each (b ∷ text) = one_first b text (b == 10) refl (one_each text)
+
+adds_each : (old : List ℕ) (lines : List (List ℕ)) → list_all one_line lines ≡ true
+    → AddsWarnings old 0 (old ++ flat_map other_line lines)
+adds_each old [] h = ([], refl, λ rest. no_more (warnings_in rest))
+adds_each old (line ∷ lines) h =
+    let here : List ℕ = old ++ other_line line in
+    let first = adds_other_line old line here (and_left (one_line line) _ h) refl in
+    let more = adds_each here lines (and_right (one_line line) _ h) in
+    subst (λ (new : List ℕ). AddsWarnings old 0 new)
+    (append_assoc old (other_line line) (flat_map other_line lines))
+    (added_then old here (here ++ flat_map other_line lines) 0 0 first more)
+
+pub adds_other_lines : (old lines new : List ℕ) → new ≡ old ++ other_lines lines
+    → AddsWarnings old 0 new
+unfolding other_lines
+adds_other_lines old lines new is = subst (λ (new : List ℕ). AddsWarnings old 0 new) (sym is)
+    (adds_each old (lines_of lines) (one_each lines))
+
+-- the line of a segment is as it was
+not_both : (line : List ℕ) → is_slot_line line ≡ true → is_warning_line line ≡ false
+not_both [] h = refl
+not_both (b ∷ line) h =
+    let is : b ≡ 115 = grind (arith, nat_tests, and_left (115 == b) _ h) in rw is refl
+
+adds_slot : (old line new : List ℕ) (lines : List (List ℕ)) → one_line line ≡ true
+    → new ≡ old ++ other_line line
+    → AddsSlotLines old (cond (is_slot_line line) (line ∷ []) []) new
+adds_slot old line new lines one is = by (is_slot_line line) refl (is_warning_line line) refl
+  where
+    by : (s : Bool) → is_slot_line line ≡ s → (w : Bool) → is_warning_line line ≡ w
+        → AddsSlotLines old (cond s (line ∷ []) []) new
+    by true e true f = let no = sym f ∙ not_both line e in cc
+    by true e false f = adds_line old line new one e
+        (is ∙ ap (λ (l : List ℕ). old ++ l) (other_is line false f))
+    by false e true f = adds_no_line old (32 ∷ 32 ∷ line) new one refl
+        (is ∙ ap (λ (l : List ℕ). old ++ l) (other_is line true f))
+    by false e false f = adds_no_line old line new one e
+        (is ∙ ap (λ (l : List ℕ). old ++ l) (other_is line false f))
+
+slots_of : (line : List ℕ) (lines : List (List ℕ)) (s : Bool)
+    → cond s (line ∷ []) [] ++ lines ≡ cond s (line ∷ lines) lines
+slots_of line lines true = refl
+slots_of line lines false = refl
+
+adds_slots : (old : List ℕ) (lines : List (List ℕ)) → list_all one_line lines ≡ true
+    → AddsSlotLines old (filter is_slot_line lines) (old ++ flat_map other_line lines)
+adds_slots old [] h = ([], refl, λ rest. refl)
+adds_slots old (line ∷ lines) h =
+    let here : List ℕ = old ++ other_line line in
+    let first = adds_slot old line here lines (and_left (one_line line) _ h) refl in
+    let more = adds_slots here lines (and_right (one_line line) _ h) in
+    let all = adds_then old here (here ++ flat_map other_line lines)
+    (cond (is_slot_line line) (line ∷ []) []) (filter is_slot_line lines) first more in
+    let same = subst (λ (ls : List (List ℕ)). AddsSlotLines old ls
+    (here ++ flat_map other_line lines))
+    (slots_of line (filter is_slot_line lines) (is_slot_line line)) all in
+    subst (λ (new : List ℕ). AddsSlotLines old (filter is_slot_line (line ∷ lines)) new)
+    (append_assoc old (other_line line) (flat_map other_line lines)) same
+
+pub keeps_slot_lines : (old lines new : List ℕ) → new ≡ old ++ other_lines lines
+    → AddsSlotLines old (slot_lines lines) new
+unfolding other_lines slot_lines
+keeps_slot_lines old lines new is =
+    subst (λ (new : List ℕ). AddsSlotLines old (filter is_slot_line (lines_of lines)) new)
+    (sym is)
+    (adds_slots old (lines_of lines) (one_each lines))
+
+-- the line of a finding
+one_word : (w : Weight) → one_line (weight_word w) ≡ true
+one_word Warning = refl
+one_word Harmless = refl
+one_word Note = refl
+
+one_words : (f : Said) → one_line (finding_words f) ≡ true
+one_words f = one_append (first_line f.place ++ codes ": ") (first_line f.words)
+    (one_append (first_line f.place) (codes ": ") (one_before f.place) refl) (one_before f.words)
+
+abbrev text_with : Weight → Said → List ℕ
+text_with w f = weight_word w ++ codes ": " ++ finding_words f
+
+one_text : (w : Weight) (f : Said) → one_line (text_with w f) ≡ true
+one_text w f =
+    one_append (weight_word w ++ codes ": ") (finding_words f)
+    (one_append (weight_word w) (codes ": ") (one_word w) refl) (one_words f)
+
+line_is : (f : Said) → finding_line f ≡ text_with (weight_of f.at.finding) f ++ 10 ∷ []
+unfolding finding_line
+line_is f = refl
+
+-- so many warnings, and no line of a segment
+abbrev AddsFindings : List ℕ → ℕ → List ℕ → Type 0
+AddsFindings old n new = AddsWarnings old n new × AddsSlotLines old [] new
+
+-- how many warnings a finding of this weight is
+abbrev count_of : Weight → ℕ
+count_of Warning = 1
+count_of Harmless = 0
+count_of Note = 0
+
+adds_text : (old : List ℕ) (w : Weight) (f : Said)
+    → AddsFindings old (count_of w) (old ++ (text_with w f ++ 10 ∷ []))
+adds_text old Warning f =
+    let new = old ++ (text_with Warning f ++ 10 ∷ []) in (
+      adds_warning old (text_with Warning f) new (one_text Warning f) refl refl,
+      adds_no_line old (text_with Warning f) new (one_text Warning f) refl refl,
+    )
+adds_text old Harmless f =
+    let new = old ++ (text_with Harmless f ++ 10 ∷ []) in (
+      adds_no_warning old (text_with Harmless f) new (one_text Harmless f) refl refl,
+      adds_no_line old (text_with Harmless f) new (one_text Harmless f) refl refl,
+    )
+adds_text old Note f =
+    let new = old ++ (text_with Note f ++ 10 ∷ []) in (
+      adds_no_warning old (text_with Note f) new (one_text Note f) refl refl,
+      adds_no_line old (text_with Note f) new (one_text Note f) refl refl,
+    )
+
+adds_finding_line : (old : List ℕ) (f : Said)
+    → AddsFindings old (count_of (weight_of f.at.finding)) (old ++ finding_line f)
+adds_finding_line old f =
+    subst (λ (line : List ℕ). AddsFindings old (count_of (weight_of f.at.finding)) (old ++ line))
+    (sym (line_is f)) (adds_text old (weight_of f.at.finding) f)
+
+-- how many warnings there are with one more finding
+counted_with : (f : Said) (fs : List Said) (w : Weight)
+    → length (cond (is_certain_weight w) (f ∷ filter is_warned fs) (filter is_warned fs))
+    ≡ count_of w + length (filter is_warned fs)
+counted_with f fs Warning = omega arith
+counted_with f fs Harmless = no_more (length (filter is_warned fs))
+counted_with f fs Note = no_more (length (filter is_warned fs))
+
+count_more : (f : Said) (fs : List Said)
+    → count_of (weight_of f.at.finding) + warning_count fs ≡ warning_count (f ∷ fs)
+unfolding warning_count
+count_more f fs = sym (counted_with f fs (weight_of f.at.finding))
+
+no_finding : warning_count [] ≡ 0
+unfolding warning_count
+no_finding = refl
+
+-- the lines of many
+lines_then : (a b c : List ℕ) (n m : ℕ) → AddsFindings a n b → AddsFindings b m c
+    → AddsFindings a (n + m) c
+lines_then a b c n m h k =
+    (added_then a b c n m h.0 k.0, adds_then_none a b c [] h.1 k.1)
+
+adds_lines : (old : List ℕ) (fs : List Said)
+    → AddsFindings old (warning_count fs) (old ++ flat_map finding_line fs)
+adds_lines old [] =
+    subst (λ (n : ℕ). AddsFindings old n (old ++ [])) (sym no_finding)
+    (([], refl, λ rest. no_more (warnings_in rest)), ([], refl, λ rest. refl))
+adds_lines old (f ∷ fs) =
+    let here = old ++ finding_line f in
+    let count = count_of (weight_of f.at.finding) in
+    subst (λ (n : ℕ). AddsFindings old n (old ++ flat_map finding_line (f ∷ fs)))
+    (count_more f fs)
+    (subst (λ (new : List ℕ). AddsFindings old (count + warning_count fs) new)
+    (append_assoc old (finding_line f) (flat_map finding_line fs))
+    (lines_then old here (here ++ flat_map finding_line fs) count (warning_count fs)
+    (adds_finding_line old f) (adds_lines here fs)))
+
+pub adds_finding_lines : (old : List ℕ) (fs : List Said)
+    → AddsFindings old (warning_count fs) (old ++ finding_lines fs)
+unfolding finding_lines
+adds_finding_lines old fs = adds_lines old fs
+
+-- the end of a line alone
+pub adds_end_of_line : (old new : List ℕ) → new ≡ old ++ 10 ∷ [] → AddsWarnings old 0 new
+adds_end_of_line old new is = adds_no_warning old [] new refl refl is
+
+-- lines of a text that is cut at its first byte 10, and of one that has none
+pub other_lines_cut : (line rest : List ℕ) → one_line line ≡ true
+    → other_lines (line ++ 10 ∷ rest) ≡ other_line line ++ other_lines rest
+unfolding other_lines
+other_lines_cut line rest one = ap (flat_map other_line) (line_ends line rest one)
+
+pub other_lines_none : other_lines [] ≡ []
+unfolding other_lines
+other_lines_none = refl
+
+pub other_lines_alone : (line : List ℕ) → 0 < length line → one_line line ≡ true
+    → other_lines line ≡ other_line line
+unfolding other_lines
+other_lines_alone [] some one = absurd (omega arith)
+other_lines_alone (b ∷ line) some one =
+    ap (flat_map other_line) (alone b line one) ∙ append-nil (other_line (b ∷ line))
+
+-- nothing is left
+pub lines_done : (left text all : List ℕ) → length left ≡ 0
+    → text ++ other_lines left ≡ all → text ≡ all
+lines_done [] text all none h =
+    sym (append-nil text) ∙ (ap (λ (t : List ℕ). text ++ t) (sym other_lines_none) ∙ h)
+lines_done (b ∷ left) text all none h = absurd (omega arith)
+
+-- what a text is that was split at its first byte 10
+first_is : (bs : List ℕ) → position_or_len (λ b. b == 10) bs < length bs
+    → bs ≡ before_first (λ b. b == 10) bs ++ 10 ∷ after_first (λ b. b == 10) bs
+first_is bs within =
+    let p : ℕ → Bool = λ b. b == 10 in
+    let found : get_or bs (position_or_len p bs) 0 ≡ 10 =
+    grind (arith, nat_tests, passes_at_first p bs 0 within) in
+    split_at_first p bs 0 within
+    ∙ ap (λ (b : ℕ). before_first p bs ++ b ∷ after_first p bs) found
+
+pub cut_at : (bs : List ℕ) (r : Option (Bor (List ℕ) × Bor (List ℕ)))
+    (x : Bor (List ℕ) × Bor (List ℕ)) → Splits bs r → r ≡ Some x
+    → bs ≡ x.0.now ++ 10 ∷ x.1.now
+cut_at bs None x m e = cc
+cut_at bs (Some y) x m e =
+    let cut : bs ≡ y.0.now ++ 10 ∷ y.1.now = first_is bs m.0
+    ∙ (ap (λ (t : List ℕ). t ++ 10 ∷ after_first (λ b. b == 10) bs) (sym m.1)
+    ∙ ap (λ (t : List ℕ). y.0.now ++ 10 ∷ t) (sym m.2)) in
+    subst (λ (o : Option (Bor (List ℕ) × Bor (List ℕ))). IfSome o
+    (λ z. bs ≡ z.0.now ++ 10 ∷ z.1.now)) e cut
+
+-- a text up to its first byte 10, and one that has none
+pub line_of : (bs : List ℕ) (r : Option (Bor (List ℕ) × Bor (List ℕ)))
+    (x : Bor (List ℕ) × Bor (List ℕ)) → Splits bs r → r ≡ Some x
+    → x.0.now ≡ first_line bs
+line_of bs None x m e = cc
+line_of bs (Some y) x m e =
+    subst (λ (o : Option (Bor (List ℕ) × Bor (List ℕ))). IfSome o
+    (λ z. z.0.now ≡ first_line bs)) e m.1
+
+pub whole_line : (bs : List ℕ) (r : Option (Bor (List ℕ) × Bor (List ℕ))) → Splits bs r
+    → ((x : Bor (List ℕ) × Bor (List ℕ)) → r ≡ Some x → ⊥) → bs ≡ first_line bs
+whole_line bs None m never =
+    sym (take_all (position_or_len (λ b. b == 10) bs) bs (omega (arith, m)))
+whole_line bs (Some y) m never = absurd (never y refl)

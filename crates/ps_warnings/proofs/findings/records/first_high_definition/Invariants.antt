@@ -1,0 +1,10 @@
+use Rattle.std.proofs.Common.{◌≡◌}
+use Rattle.ps_linkinfo.specs.Numbered.{numbered_records}
+use Rattle.ps_linkinfo.specs.RecordCounts.{next_of}
+use Rattle.ps_warnings.specs.RecordFindings.{first_high}
+use Rattle.ps_warnings.proofs.findings.records.first_high_definition.Given as goal
+
+-- the first of all is the first of those that are left
+abbrev pub invariant-loop-rec : goal.invariant-loop-rec
+invariant-loop-rec l = first_high l.next l.rec-iterator
+    ≡ first_high (next_of l.records) (numbered_records 0 l.records)

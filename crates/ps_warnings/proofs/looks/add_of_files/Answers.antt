@@ -1,9 +1,0 @@
-use Rattle.std.proofs.lemmas.Result.{on_ok_weaker}
-use Rattle.ps_warnings.specs.AllLooks.{looks_of_files}
-use Rattle.ps_warnings.proofs.Found.{adds_both}
-use Rattle.ps_warnings.proofs.looks.add_of_files.Goals as goal
-
-pub returns : goal.returns
-unfolding looks_of_files
-returns g c = on_ok_weaker c.add_of_libraries.result
-    (λ more. adds_both c.in_ok-look_at.ensures more) c.add_of_libraries.ensures

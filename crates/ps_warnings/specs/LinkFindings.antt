@@ -1,0 +1,37 @@
+-- What looks wrong in a link as a whole, by its segments as they were read, in their order.
+use Rattle.std.specs.Prelude.{ℕ, ◌&&◌, if◌then◌else◌, List, nat_lt, Bool, Option, Some, None}
+use Rattle.std.specs.List.{find}
+use Rattle.std.specs.Option.{option_map}
+use Rattle.ps_words.specs.declared.order.Order.{Order}
+use Rattle.ps_codefile.specs.Dictionary.{entry_at}
+use Rattle.ps_codefile.specs.declared.entry.Entry.{Entry}
+use Rattle.ps_filetype.specs.Names.{is_near}
+use Rattle.ps_segments.specs.SegmentParts.{is_added, is_unit}
+use Rattle.ps_segments.specs.declared.segments.SegmentPart.{SegmentPart}
+use Rattle.ps_warnings.specs.EntryFindings.{names_segment}
+use Rattle.ps_segments.specs.Seen.{Seen}
+use Rattle.ps_warnings.specs.declared.finding.LinkFinding.TheVariants as finding
+use Rattle.ps_warnings.specs.declared.finding.Finding.{Finding}
+use Rattle.ps_warnings.specs.declared.finding.Finding.TheVariants as which
+use Rattle.ps_codefile.specs.declared.dictionary_layout.TheConstants.{SLOTS}
+
+-- a unit that a record requests takes a slot whose entry in the host has a name or a kind
+abbrev pub taken_slot : ℕ → SegmentPart → Entry → Option Finding
+taken_slot slot what e = if is_added what && names_segment e
+    then Some (which.Link (finding.TakenSlot slot e.name)) else None
+
+-- so does the one that has this slot of the host, if it has one
+abbrev pub taken_by : Order → List ℕ → Option ℕ → SegmentPart → Option Finding
+taken_by order host None what = None
+taken_by order host (Some slot) what = if nat_lt slot SLOTS
+    then taken_slot slot what (entry_at order host slot) else None
+
+-- the segment is a unit of nearly this name
+abbrev pub is_near_unit : List ℕ → Seen → Bool
+is_near_unit name s = is_unit s.part && is_near s.name name
+
+-- the first of the segments before a unit that is a unit of nearly its name
+abbrev pub other_spelling : List Seen → Seen → Option Finding
+other_spelling earlier s = if is_unit s.part
+    then option_map (λ o. which.Link (finding.OtherSpelling o.name))
+    (find (is_near_unit s.name) earlier) else None

@@ -1,0 +1,503 @@
+//! What is found in files and is no fault: the one home of these sentences. `man/make_fault_table.py`
+//! makes the tables of warnings and of notes in USING.md from the enums here: what each finding means
+//! and what to do about it is above it, and its weight is in `weight`.
+ghost use Rattle.std.specs.Prelude.{◌≡◌, Some, false};
+ghost use Rattle.std.specs.Fmt.{WritesOnOk};
+ghost use Rattle.ps_warnings.specs.Places.{place_text, record_words, segment_words};
+ghost use Rattle.ps_warnings.specs.Found.{is_about_link};
+ghost use Rattle.ps_warnings.specs.Weights.{is_certain as is_certain_spec, weight_of};
+
+use crate::weight::Weight;
+use ps_filetype::{FileType, LineEnds, Oddity, ShownName, ShownPath};
+use ps_words::Name;
+use std::fmt::{self, Display, Formatter};
+
+/// What looks wrong in a file as a whole.
+#[derive(Clone, Copy)]
+pub enum FileFinding {
+    /// A library that is no code file gives no unit. Give the code file.
+    NoCodeFile { file_type: FileType },
+    /// A transfer padded the file. The link does not read these bytes.
+    Padded { bytes: usize },
+    /// A part of the medium may have been read twice, in place of another part. Copy the file again.
+    Doubled { start: usize, end: usize },
+    /// A transfer may have converted the file as if it were a text. Copy it again, as binary.
+    Converted { line_ends: LineEnds },
+}
+
+impl fmt::Display for FileFinding {
+    fn fmt<W: fmt::Write>(&self, f: &mut Formatter<W>) -> fmt::Result {
+        match *self {
+            FileFinding::NoCodeFile { file_type } => write!(f, "it may be {file_type}"),
+            FileFinding::Padded { bytes } => {
+                write!(
+                    f,
+                    "its last {bytes} bytes are 1A: it was padded, as by CP/M"
+                )
+            }
+            FileFinding::Doubled { start, end } => {
+                write!(
+                    f,
+                    "bytes {start} to {end} are there twice, one after the other: they may have been read twice"
+                )
+            }
+            FileFinding::Converted { line_ends } => {
+                write!(f, "{line_ends}: its line ends may have been converted")
+            }
+        }
+    }
+}
+
+/// What looks wrong in a dictionary.
+#[derive(Clone, Copy)]
+pub enum DictionaryFinding {
+    /// A part of the dictionary may not have been read, which a link copies. Copy the file again.
+    DeadTail { start: usize, end: usize, byte: u8 },
+    /// Apple Pascal's intrinsic units are not linked. The link passes them over.
+    IntrinsicKind { slot: u8, kind: u16 },
+}
+
+impl fmt::Display for DictionaryFinding {
+    fn fmt<W: fmt::Write>(&self, f: &mut Formatter<W>) -> fmt::Result {
+        match *self {
+            DictionaryFinding::DeadTail { start, end, byte } => {
+                write!(
+                    f,
+                    "bytes {start} to {end} of its dictionary are all {byte:02X}: they may not have been read"
+                )
+            }
+            DictionaryFinding::IntrinsicKind { slot, kind } => {
+                write!(
+                    f,
+                    "slot {slot:02} is of kind {kind}, an intrinsic unit of Apple Pascal or its data"
+                )
+            }
+        }
+    }
+}
+
+/// What looks wrong in an entry, by what a link does with it.
+#[derive(Clone, Copy)]
+pub enum EntryFinding {
+    /// Its kind or its length was lost, so nothing is linked into the slot. Compile the host again.
+    EmptySlot { slot: u8, name: Name, kind: u16 },
+    /// Both segments are taken from the same bytes. One of the entries is damaged: copy it again.
+    Overlap { other: u8 },
+}
+
+impl fmt::Display for EntryFinding {
+    fn fmt<W: fmt::Write>(&self, f: &mut Formatter<W>) -> fmt::Result {
+        match *self {
+            EntryFinding::EmptySlot { slot, name, kind } => {
+                let name = ShownName(name);
+                write!(
+                    f,
+                    "slot {slot:02} has the name {name}, kind {kind} and no code: no segment is linked there"
+                )
+            }
+            EntryFinding::Overlap { other } => {
+                write!(f, "its bytes in the file overlap those of slot {other:02}")
+            }
+        }
+    }
+}
+
+/// What looks wrong in the name of a segment or of a record.
+#[derive(Clone, Copy)]
+pub enum NameFinding {
+    /// Names are compared byte for byte, so it may not be found. Correct what made the file.
+    OddName { name: Name, oddity: Oddity },
+}
+
+impl fmt::Display for NameFinding {
+    fn fmt<W: fmt::Write>(&self, f: &mut Formatter<W>) -> fmt::Result {
+        match *self {
+            NameFinding::OddName { name, oddity } => {
+                let name = ShownName(name);
+                write!(f, "the name {name} {oddity}: it may not be found")
+            }
+        }
+    }
+}
+
+/// What looks wrong in a code, or in the numbers at its end.
+#[derive(Clone, Copy)]
+pub enum CodeFinding {
+    /// The code may never have been written, or was lost. Copy the file again.
+    OneByte { byte: u8 },
+    /// A part of the medium may not have been read, or never written. Copy the file again.
+    DeadRun { start: usize, end: usize, byte: u8 },
+    /// The end of the code may have been lost. Copy the file again.
+    ZeroEnd,
+    /// The code may be that of another slot. Compile the host again.
+    OtherNumber { found: u8, slot: u8 },
+    /// The addresses of two entries may have been exchanged. Copy the file again.
+    ExchangedNumber { found: u8, slot: u8 },
+    /// The code may be that of another slot. Copy the file again.
+    OtherInfo { found: u8, number: u8 },
+}
+
+impl fmt::Display for CodeFinding {
+    fn fmt<W: fmt::Write>(&self, f: &mut Formatter<W>) -> fmt::Result {
+        match *self {
+            CodeFinding::OneByte { byte } => {
+                write!(
+                    f,
+                    "each byte of its code is {byte:02X}: it may never have been written"
+                )
+            }
+            CodeFinding::DeadRun { start, end, byte } => {
+                write!(
+                    f,
+                    "bytes {start} to {end} of its code are all {byte:02X}: they may not have been read"
+                )
+            }
+            CodeFinding::ZeroEnd => f.write_str(
+                "its code ends with zeros, so it has no procedure and no segment number: its end may be lost",
+            ),
+            CodeFinding::OtherNumber { found, slot } => {
+                write!(
+                    f,
+                    "its code has segment number {found}, and its slot is {slot}: the code may be another one"
+                )
+            }
+            CodeFinding::ExchangedNumber { found, slot } => {
+                write!(
+                    f,
+                    "its code has segment number {found}, and that of slot {found} has {slot}: the two may be exchanged"
+                )
+            }
+            CodeFinding::OtherInfo { found, number } => {
+                write!(
+                    f,
+                    "its code has segment number {found}, and bytes 256 to 287 of the dictionary have {number} for it: the code may be another one"
+                )
+            }
+        }
+    }
+}
+
+/// What looks wrong in the procedures of a code.
+#[derive(Clone, Copy)]
+pub enum ProcedureFinding {
+    /// The code may be damaged, or another file's. Copy the file again, or compile it again.
+    OtherProcedure { procedure: usize, found: u8 },
+    /// The end of the code may be damaged. Copy the file again.
+    LostTables,
+    /// A part of the code may stand in another place, or be another's. Compare two copies of the file.
+    Misfit { procedure: usize },
+}
+
+impl fmt::Display for ProcedureFinding {
+    fn fmt<W: fmt::Write>(&self, f: &mut Formatter<W>) -> fmt::Result {
+        match *self {
+            ProcedureFinding::OtherProcedure { procedure, found } => {
+                write!(
+                    f,
+                    "the attribute table of procedure {procedure} says that it is procedure {found}: the code may be damaged"
+                )
+            }
+            ProcedureFinding::LostTables => f.write_str(
+                "it does not end with a procedure dictionary: the end of its code may be lost",
+            ),
+            ProcedureFinding::Misfit { procedure } => {
+                write!(
+                    f,
+                    "procedure {procedure} may be damaged: its instructions do not fit together, as those of the others do"
+                )
+            }
+        }
+    }
+}
+
+/// What looks wrong in the operands that references name.
+#[derive(Clone, Copy)]
+pub enum OperandFinding {
+    /// A link sets the bit, and reads the operand without it. Compare two copies of the file.
+    ClearMark { place: usize },
+}
+
+impl fmt::Display for OperandFinding {
+    fn fmt<W: fmt::Write>(&self, f: &mut Formatter<W>) -> fmt::Result {
+        match *self {
+            OperandFinding::ClearMark { place } => {
+                write!(
+                    f,
+                    "the operand at byte {place} may be damaged: its bit 7 is clear, and a compiler sets it"
+                )
+            }
+        }
+    }
+}
+
+/// What looks wrong in link information, by what a link does with it.
+#[derive(Clone, Copy)]
+pub enum RecordFinding {
+    /// The operand is outside the variable. Compile the unit again.
+    PastPrivate {
+        place: usize,
+        displacement: u16,
+        words: u16,
+    },
+    /// Only the host program's definitions count. The link passes it over.
+    UnitDefinition {
+        name: Name,
+    },
+    /// Only the host program's definitions count. Define the name there.
+    OwnDefinition {
+        name: Name,
+    },
+    /// The private variables of units may overlap the program's own. Compile the host again.
+    LowMark {
+        next: u16,
+        data: u16,
+    },
+    /// The variable may overlap a private variable of a unit. Compile the host again.
+    HighDefinition {
+        name: Name,
+        value: u16,
+        next: u16,
+    },
+}
+
+impl fmt::Display for RecordFinding {
+    fn fmt<W: fmt::Write>(&self, f: &mut Formatter<W>) -> fmt::Result {
+        match *self {
+            RecordFinding::PastPrivate {
+                place,
+                displacement,
+                words,
+            } => {
+                write!(
+                    f,
+                    "the operand at byte {place} is word {displacement} of a variable that has {words}"
+                )
+            }
+            RecordFinding::UnitDefinition { name } => {
+                let name = ShownName(name);
+                write!(
+                    f,
+                    "the unit defines {name}, which has no effect: only the host program defines variables"
+                )
+            }
+            RecordFinding::OwnDefinition { name } => {
+                let name = ShownName(name);
+                write!(
+                    f,
+                    "the unit refers to {name} and defines it itself: only the host program defines variables"
+                )
+            }
+            RecordFinding::LowMark { next, data } => {
+                write!(
+                    f,
+                    "the end mark {next} is below half the data size of {data} bytes"
+                )
+            }
+            RecordFinding::HighDefinition { name, value, next } => {
+                let name = ShownName(name);
+                write!(
+                    f,
+                    "{name} has base offset {value}, and the end mark says that {next} is free"
+                )
+            }
+        }
+    }
+}
+
+/// What looks wrong in the link as a whole.
+#[derive(Clone, Copy)]
+pub enum LinkFinding {
+    /// The unit takes a slot that the host has for another one, whose calls go to it. Compile the
+    /// host again.
+    TakenSlot { slot: u8, name: Name },
+    /// Both may mean one unit. Write its name in one way.
+    OtherSpelling { name: Name },
+}
+
+impl fmt::Display for LinkFinding {
+    fn fmt<W: fmt::Write>(&self, f: &mut Formatter<W>) -> fmt::Result {
+        match *self {
+            LinkFinding::TakenSlot { slot, name } => {
+                let name = ShownName(name);
+                write!(
+                    f,
+                    "it is added in slot {slot:02}, which the host has for {name}: calls of {name} go to it"
+                )
+            }
+            LinkFinding::OtherSpelling { name } => {
+                let name = ShownName(name);
+                write!(
+                    f,
+                    "another unit of the link is {name}, nearly the same name"
+                )
+            }
+        }
+    }
+}
+
+/// What is found in files and is no fault, by its subject. Its text is half a sentence.
+///
+/// Of an entry, a record and the link as a whole each finding has its definition. Of the other
+/// subjects a finding is a guess.
+#[derive(Clone, Copy)]
+pub enum Finding {
+    File(FileFinding),
+    Dictionary(DictionaryFinding),
+    Entry(EntryFinding),
+    Name(NameFinding),
+    Code(CodeFinding),
+    Procedure(ProcedureFinding),
+    Operand(OperandFinding),
+    Record(RecordFinding),
+    Link(LinkFinding),
+}
+
+impl Finding {
+    /// How much it weighs. A finding that has its definition is certain: a warning, but for a
+    /// definition in a unit that has no effect. Each other finding is a note, but for what a link
+    /// passes over.
+    pub fn weight(&self) -> Weight
+        ensures { result ≡ weight_of self.now }
+    {
+        match *self {
+            Finding::Record(RecordFinding::UnitDefinition { .. })
+            | Finding::File(FileFinding::Padded { .. })
+            | Finding::Dictionary(DictionaryFinding::IntrinsicKind { .. }) => Weight::Harmless,
+            Finding::Entry(_)
+            | Finding::Link(_)
+            | Finding::Record(
+                RecordFinding::PastPrivate { .. }
+                | RecordFinding::OwnDefinition { .. }
+                | RecordFinding::LowMark { .. }
+                | RecordFinding::HighDefinition { .. },
+            ) => Weight::Warning,
+            Finding::File(
+                FileFinding::NoCodeFile { .. }
+                | FileFinding::Doubled { .. }
+                | FileFinding::Converted { .. },
+            )
+            | Finding::Dictionary(DictionaryFinding::DeadTail { .. })
+            | Finding::Name(_)
+            | Finding::Code(_)
+            | Finding::Procedure(_)
+            | Finding::Operand(_) => Weight::Note,
+        }
+    }
+
+    /// It is a warning.
+    pub fn is_certain(&self) -> bool
+        ensures { result ≡ is_certain_spec self.now }
+    {
+        matches!(self.weight(), Weight::Warning)
+    }
+}
+
+impl fmt::Display for Finding {
+    fn fmt<W: fmt::Write>(&self, f: &mut Formatter<W>) -> fmt::Result {
+        match *self {
+            Finding::File(finding) => finding.fmt(f),
+            Finding::Dictionary(finding) => finding.fmt(f),
+            Finding::Entry(finding) => finding.fmt(f),
+            Finding::Name(finding) => finding.fmt(f),
+            Finding::Code(finding) => finding.fmt(f),
+            Finding::Procedure(finding) => finding.fmt(f),
+            Finding::Operand(finding) => finding.fmt(f),
+            Finding::Record(finding) => finding.fmt(f),
+            Finding::Link(finding) => finding.fmt(f),
+        }
+    }
+}
+
+/// A finding that no definition gives.
+pub(crate) trait Unsure {
+    /// The finding, with its subject.
+    fn finding(self) -> Finding
+        ensures { is_about_link result ≡ false };
+}
+
+impl Unsure for FileFinding {
+    fn finding(self) -> Finding {
+        Finding::File(self)
+    }
+}
+
+impl Unsure for DictionaryFinding {
+    fn finding(self) -> Finding {
+        Finding::Dictionary(self)
+    }
+}
+
+impl Unsure for NameFinding {
+    fn finding(self) -> Finding {
+        Finding::Name(self)
+    }
+}
+
+impl Unsure for CodeFinding {
+    fn finding(self) -> Finding {
+        Finding::Code(self)
+    }
+}
+
+impl Unsure for ProcedureFinding {
+    fn finding(self) -> Finding {
+        Finding::Procedure(self)
+    }
+}
+
+impl Unsure for OperandFinding {
+    fn finding(self) -> Finding {
+        Finding::Operand(self)
+    }
+}
+
+/// Where something looks wrong: in a file, in a segment of it, or in a record of that.
+#[derive(Clone, Copy)]
+pub struct Place<'a> {
+    pub path: &'a str,
+    pub segment: Option<Name>,
+    /// The record's index in the link information of the segment, from 0.
+    pub rec: Option<usize>,
+}
+
+/// Writes the segment in which something looks wrong, if it is in one.
+fn write_segment<W: fmt::Write>(f: &mut Formatter<W>, segment: Option<Name>) -> fmt::Result
+    ensures { WritesOnOk W.write_str_gives f.old result (segment_words segment) f.new }
+{
+    match segment {
+        Some(name) => {
+            let name = ShownName(name);
+            write!(f, ", segment {name}")
+        }
+        None => Ok(()),
+    }
+}
+
+/// Writes the record in which something looks wrong, if it is in one.
+fn write_record<W: fmt::Write>(f: &mut Formatter<W>, rec: Option<usize>) -> fmt::Result
+    ensures { WritesOnOk W.write_str_gives f.old result (record_words rec) f.new }
+{
+    match rec {
+        Some(rec) => write!(f, ", record {rec}"),
+        None => Ok(()),
+    }
+}
+
+impl fmt::Display for Place<'_> {
+    ghost output = { λ place. Some (place_text place) };
+
+    #[tactic(auto, unfolding(crate::specs::Places::place_text))]
+    fn fmt<W: fmt::Write>(&self, f: &mut Formatter<W>) -> fmt::Result {
+        let path = ShownPath(self.path);
+        write!(f, "{path}")?;
+        write_segment(f, self.segment)?;
+        write_record(f, self.rec)
+    }
+}
+
+/// What is found in files and is no fault, and where.
+#[derive(Clone, Copy)]
+pub struct FindingAt<'a> {
+    pub place: Place<'a>,
+    pub finding: Finding,
+}
