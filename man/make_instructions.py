@@ -1,18 +1,18 @@
 #!/usr/bin/env python3
-"""Writes the tables of instructions at the end of docs/FORMAT.md from the table of crates/ps_pcode, so that they have one home.
-man/make_pages.py then copies them to man/pslink.5. Usage: make_instructions.py [FOLDER], which is docs/ if none is given."""
+"""Writes the tables of instructions of docs/PCODE.md from the table of the code, so that they have one home.
+Usage: make_instructions.py [FOLDER], which is docs/ if none is given."""
 import pathlib
 import re
 import sys
 
 ROOT = pathlib.Path(__file__).resolve().parent.parent
-FORMAT, TABLE = ROOT / "docs/FORMAT.md", ROOT / "crates/ps_pcode/src/table.rt"
+PCODE, TABLE = ROOT / "docs/PCODE.md", next((ROOT / "crates").glob("*/src/table.rt"))
 HEAD = "| Opcode | Name | Operands | Takes | Puts |\n|---|---|---|---|---|\n"
 HEAD_OF_EARLIER = "| Opcode | Name in earlier releases | Operands | Takes | Puts |\n|---|---|---|---|---|\n"
 OPERANDS = {
-    "Nothing": "", "Exit": "", "Byte": "a byte", "TwoBytes": "two bytes", "Big": "BIG", "ByteAndBig": "a byte, BIG",
-    "Variable": "BIG: a variable of the program", "Call": "a segment, a procedure", "Jump": "a distance", "Return": "the words of a result",
-    "Text": "a length, so many bytes", "WordList": "a count, so many words", "Type": "a type; of arrays a length, BIG",
+    "Nothing": "", "Exit": "", "Byte": "a byte", "TwoBytes": "two bytes", "Big": "B", "ByteAndBig": "a byte, B",
+    "Variable": "B: a variable of the program", "Call": "a segment, a procedure", "Jump": "a distance", "Return": "the words of a result",
+    "Text": "a length, so many bytes", "WordList": "a count, so many words", "Type": "a type; of arrays a length, B",
     "Case": "two indices, a jump, a word for each index",
 }  # fmt: skip
 ROW = re.compile(r'Row\(0x(..), "(\w+)", (\w+), (\w+)(?:\((\d+)(?:, (\d+))?\))?\),')
@@ -51,9 +51,9 @@ def with_table(page, head, rows):
 
 def main():
     folder = pathlib.Path(sys.argv[1]) if len(sys.argv) > 1 else ROOT / "docs"
-    page = with_table(FORMAT.read_text(), HEAD, lines(table("TABLE") + table("SHORT"), 255))
+    page = with_table(PCODE.read_text(), HEAD, lines(table("TABLE") + table("SHORT"), 255))
     earlier = [line(f"`{code:02X}`", *rest) for code, *rest in table("EARLIER")]
-    (folder / FORMAT.name).write_text(with_table(page, HEAD_OF_EARLIER, earlier))
+    (folder / PCODE.name).write_text(with_table(page, HEAD_OF_EARLIER, earlier))
 
 
 if __name__ == "__main__":

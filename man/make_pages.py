@@ -14,7 +14,7 @@ SHORT = 22  # a column whose cells are all as short is not wrapped
 
 HEAD = r"""'\" t
 .\" written by make_pages.py from docs/FORMAT.md: change that page, and not this one
-.TH PSLINK 5 "2026-11-23" "pslink 0.3.0" "File Formats"
+.TH PSLINK 5 DATE "pslink 0.3.0" "File Formats"
 .SH NAME
 pslink \- code files and link information of UCSD Pascal II.0
 .SH DESCRIPTION
@@ -23,7 +23,7 @@ pslink \- code files and link information of UCSD Pascal II.0
 FOOT = r""".SH SEE ALSO
 .BR pslink (1)
 .PP
-LINKING.md, and the samples and the script that writes them, in the sources of
+LINKING.md, PCODE.md, and the samples and the script that writes them, in the sources of
 .BR pslink (1).
 Its section FILES says where the documents are.
 """
@@ -209,7 +209,9 @@ def with_parts(manual):
 
 def main():
     folder = pathlib.Path(sys.argv[1]) if len(sys.argv) > 1 else HERE
-    (folder / "pslink.5").write_text(HEAD + "\n".join(page((DOCS / "FORMAT.md").read_text())) + "\n" + FOOT)
+    # both pages have the date of pslink(1)
+    date = re.search(r'^\.TH PSLINK 1 ("[^"]*")', (HERE / "pslink.1").read_text(), re.M)[1]
+    (folder / "pslink.5").write_text(HEAD.replace("DATE", date) + "\n".join(page((DOCS / "FORMAT.md").read_text())) + "\n" + FOOT)
     (folder / "pslink.1").write_text(with_parts((HERE / "pslink.1").read_text()))
 
 
