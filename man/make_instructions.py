@@ -1,12 +1,12 @@
 #!/usr/bin/env python3
-"""Writes the tables of instructions at the end of docs/FORMAT.md from the table of crates/ps_segments, so that they have one home.
+"""Writes the tables of instructions at the end of docs/FORMAT.md from the table of crates/ps_pcode, so that they have one home.
 man/make_pages.py then copies them to man/pslink.5. Usage: make_instructions.py [FOLDER], which is docs/ if none is given."""
 import pathlib
 import re
 import sys
 
 ROOT = pathlib.Path(__file__).resolve().parent.parent
-FORMAT, TABLE = ROOT / "docs/FORMAT.md", ROOT / "crates/ps_segments/src/table.rt"
+FORMAT, TABLE = ROOT / "docs/FORMAT.md", ROOT / "crates/ps_pcode/src/table.rt"
 HEAD = "| Opcode | Name | Operands | Takes | Puts |\n|---|---|---|---|---|\n"
 HEAD_OF_EARLIER = "| Opcode | Name in earlier releases | Operands | Takes | Puts |\n|---|---|---|---|---|\n"
 OPERANDS = {
