@@ -1,6 +1,6 @@
 """Good files: hosts and libraries as compilers write them, made at random in many styles. Nothing of them is damaged, and all that
 docs/FORMAT.md allows or says is ignored may be there. The instructions are written from their names, by the tables of a later and
-of an earlier release, apart from the table of crates/ps_segments."""
+of an earlier release, apart from the table of crates/ps_pcode."""
 import dataclasses
 import random
 import typing
