@@ -141,7 +141,7 @@ def ordered_pair(order, procedures, links=None):
     return (HOST if order == "little" else SAMPLES["big_host.code"]), [library]
 
 
-# A code that refers to COUNT twice, at bytes 1 and 5, and another whose second operand is too large to be left to a link.
+# A code that refers to COUNT twice, at bytes 1 and 5, and another with large operands.
 TWICE, LARGE = "A5 80 00 D7 AB 80 00", "A5 80 7F D7 AB 80 80"
 
 

@@ -57,4 +57,4 @@ pub unprinted : (k : TextKind) (room host libs lengths names name_lengths : List
 unprinted k room host libs lengths names name_lengths given why (Ok done) told right same is = tt
 unprinted k room host libs lengths names name_lengths given why (Err e) told right same is =
     subst (WhyUnprinted k room host libs lengths names name_lengths) (sym told)
-        (unprinted_of k room host libs lengths names name_lengths given why right same is)
+    (unprinted_of k room host libs lengths names name_lengths given why right same is)

@@ -2,10 +2,7 @@
 ghost use Rattle.std.specs.Prelude.{◌≤◌, length};
 
 use crate::places::MOST;
-use crate::rules::{RULES, ShownRules};
-use crate::table::Release;
 use crate::tables::{Ends, pointed_at};
-use crate::walks::Walk;
 use ps_words::Order;
 
 /// From this operand on a jump goes by the jump table.
@@ -50,38 +47,21 @@ impl<'c> Body<'c> {
         self.code.len() - self.ends.enter
     }
 
-    /// What the procedure shows of the rules, by the instructions of the release by which it keeps to
-    /// more of them.
-    pub(crate) fn shown_rules(self, walk: &mut Walk) -> ShownRules {
-        let later = walk.over(self, Release::Later);
-        if later.rules_kept() == RULES {
-            return later;
-        }
-        let earlier = walk.over(self, Release::Earlier);
-        if later.rules_kept() < earlier.rules_kept() {
-            earlier
-        } else {
-            later
-        }
-    }
-
-    /// Where a jump with this operand leads to, whose instruction ends at a place.
+    /// Where a jump with this operand leads to, whose instruction ends so many bytes after the place
+    /// where the procedure is entered.
     ///
     /// The jump table is before the procedure's table: an operand of 256 minus n names the word n
     /// bytes before that table, which says how far before the word the jump goes.
     pub(crate) fn target(self, operand: u8, end: usize) -> Target {
         if operand < BY_TABLE {
-            let place = end.saturating_add(usize::from(operand));
-            return Target::Short(place.saturating_sub(self.ends.enter));
+            return Target::Short(end.saturating_add(usize::from(operand)));
         }
-        let length = self.code.len().saturating_add(usize::from(operand));
+        let length = self.code.len() + usize::from(operand);
         let Some(word) = length.checked_sub(256) else {
             return Target::Outside;
         };
         match pointed_at(self.order, self.code, word) {
-            Some(place) if self.ends.enter <= place => {
-                Target::ByTable(place.saturating_sub(self.ends.enter))
-            }
+            Some(place) if self.ends.enter <= place => Target::ByTable(place - self.ends.enter),
             _ => Target::Outside,
         }
     }

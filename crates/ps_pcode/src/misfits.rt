@@ -90,7 +90,7 @@ impl Tallies {
                         return tallies;
                     }
                     left -= length;
-                    tallies.add(procedure, LONG <= length, body.shown_rules(walk));
+                    tallies.add(procedure, LONG <= length, walk.best(body));
                 }
             }
         }

@@ -92,15 +92,15 @@ fn code_of<A: Allocator + Copy>(
         let table = add_procedure(&mut code, order, count, letter)?;
         tables.push(table)?;
     }
-    while let Some(table) = tables.pop() {
-        add_word(&mut code, order, table)?;
+    for table in tables.iter().rev() {
+        add_word(&mut code, order, *table)?;
     }
     code.extend_from_slice(&[2, count])?;
     Ok(code)
 }
 
 /// Rows of procedures, and the one that is found. Without a damaged procedure none is.
-static ROWS: [(&str, Option<usize>); 23] = [
+static ROWS: [(&str, Option<usize>); 24] = [
     ("lllllllll", None),
     ("sjcdlllll", None),
     // one damaged procedure of nine, of eight, and alone in its segment; two of ten
@@ -124,6 +124,8 @@ static ROWS: [(&str, Option<usize>); 23] = [
     ("llllllllWX", Some(10)),
     ("lllllllWX", Some(9)),
     ("llllllllXXW", Some(11)),
+    // of procedures that are not read no other rule is known
+    ("lllllllXXW", None),
     // no other procedure, another, and a short one has what the rule is about
     ("llllllllC", None),
     ("clllllllC", Some(9)),

@@ -2,7 +2,7 @@
 use crate::bodies::{Body, Target};
 use crate::instructions::{Instruction, is_case_at};
 use crate::places::Places;
-use crate::rules::{Shown, ShownRules};
+use crate::rules::{RULES, Shown, ShownRules};
 use crate::stacks::Stack;
 use crate::table::Release;
 
@@ -46,9 +46,24 @@ impl Walk {
         first_odd_stack: None,
     };
 
+    /// Goes over a procedure, and gives what it shows by the instructions of the release by which it
+    /// keeps to more of the rules.
+    pub(crate) fn best(&mut self, body: Body<'_>) -> ShownRules {
+        let later = self.over(body, Release::Later);
+        if later.rules_kept() == RULES {
+            return later;
+        }
+        let earlier = self.over(body, Release::Earlier);
+        if later.rules_kept() < earlier.rules_kept() {
+            earlier
+        } else {
+            later
+        }
+    }
+
     /// Goes over a procedure, and gives what its instructions show by the table of a release. Sets of
     /// places are large: those of the walk before are cleared.
-    pub(crate) fn over(&mut self, body: Body<'_>, release: Release) -> ShownRules {
+    fn over(&mut self, body: Body<'_>, release: Release) -> ShownRules {
         self.starts.clear();
         self.short.clear();
         self.by_table.clear();
@@ -67,7 +82,7 @@ impl Walk {
             }
             self.arrive(body, place);
             match Instruction::at(body.order, release, body.code, place) {
-                Some(instruction) => self.pass(body, place, instruction),
+                Some(instruction) => self.pass(body, instruction),
                 None => return self.shown_rules(),
             }
         }
@@ -84,14 +99,15 @@ impl Walk {
     }
 
     /// Goes over an instruction.
-    fn pass(&mut self, body: Body<'_>, place: usize, instruction: Instruction) {
+    fn pass(&mut self, body: Body<'_>, instruction: Instruction) {
         self.pass_stack(instruction);
         if self.is_left && instruction.is_return() {
             self.is_whole = true;
             return;
         }
+        let end = self.place.saturating_add(instruction.length);
         if let Some(operand) = instruction.jump() {
-            match body.target(operand, place.saturating_add(instruction.length)) {
+            match body.target(operand, end) {
                 Target::Short(place) => self.short.add(place),
                 Target::ByTable(place) => {
                     self.by_table.add(place);
@@ -103,7 +119,7 @@ impl Walk {
                 }
             }
         }
-        self.place = self.place.saturating_add(instruction.length);
+        self.place = end;
     }
 
     /// Notes what the instruction does to the evaluation stack.

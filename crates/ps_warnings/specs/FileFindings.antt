@@ -1,6 +1,6 @@
 -- The findings about the link in files: in the records of their segments, in their entries, and where
 -- entries overlap. Each file is looked at with the records of the host program.
-use Rattle.std.specs.Prelude.{ℕ, ◌+◌, ◌*◌, ◌==◌, ◌&&◌, if◌then◌else◌, List, [], ◌++◌, length, map, nat_lt, false, Option, Some, None, Result, Ok, Err, bytes_eq, option_and_then}
+use Rattle.std.specs.Prelude.{ℕ, Bool, ◌+◌, ◌*◌, ◌==◌, ◌&&◌, if◌then◌else◌, List, [], ◌++◌, length, map, nat_lt, false, Option, Some, None, Result, Ok, Err, bytes_eq, option_and_then}
 use Rattle.std.specs.List.{flat_map, list_any}
 use Rattle.std.specs.Option.{option_map_or}
 use Rattle.std.specs.Result.{is_ok, result_ok}

@@ -141,7 +141,10 @@ impl fmt::Display for CodeFinding {
     fn fmt<W: fmt::Write>(&self, f: &mut Formatter<W>) -> fmt::Result {
         match *self {
             CodeFinding::OneByte { byte } => {
-                write!(f, "each byte of its code is {byte:02X}: it may never have been written")
+                write!(
+                    f,
+                    "each byte of its code is {byte:02X}: it may never have been written"
+                )
             }
             CodeFinding::DeadRun { start, end, byte } => {
                 write!(

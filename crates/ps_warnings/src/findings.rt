@@ -78,7 +78,7 @@ impl<'c, 'a> Context<'c, 'a> {
     /// The records of the host program that the unit of this name in a file meets in the link: none
     /// where the link does not take it.
     fn host_met(&self, file: usize, name: &Name) -> Option<&'c LinkInformation<'a>>
-        ensures { option_map (λ h. h.now) result.entry ≡ host_met (map seen self.now.list.now) file
+        ensures { option_map (λ h. h.now) result ≡ host_met (map seen self.now.list.now) file
             name.now (option_map (λ h. h.now) self.now.host) }
     {
         if self.is_taken_from(file, name) {

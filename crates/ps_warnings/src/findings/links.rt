@@ -9,7 +9,7 @@ ghost use Rattle.ps_segments.specs.Seen.{seen};
 
 use super::entries::names_segment;
 use super::{Context, Findings};
-use crate::finding::{LinkFinding, Finding, Place};
+use crate::finding::{Finding, LinkFinding, Place};
 use ps_codefile::Dict;
 use ps_codefile::dictionary_layout::SLOTS;
 use ps_filetype::is_near;

@@ -73,12 +73,7 @@ fn has_host(dict: &Dict<'_>) -> bool {
 /// What looks wrong in the numbers at the end of the code of a segment of this kind in a slot, 0 to 15.
 /// A segment number of 0 is none. Two codes of a host whose numbers are exchanged are told of at the
 /// first of them.
-pub(super) fn other_number(
-    dict: &Dict<'_>,
-    slot: u8,
-    kind: u16,
-    code: &[u8],
-) -> Option<CodeFinding>
+pub(super) fn other_number(dict: &Dict<'_>, slot: u8, kind: u16, code: &[u8]) -> Option<CodeFinding>
     requires { slot < SLOTS }
 {
     let (found, procedures) = match code {

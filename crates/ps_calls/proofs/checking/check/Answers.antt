@@ -11,8 +11,12 @@ returns-in_err-put-clause-not_done c =
       (lengths.0, lengths.1, (lengths.2, c.in_ok-names.ensures.utf8)),
       (
         reported c.in_ok-report.report,
-        rw (c.as_slice.ensures, c.as_slice-2.ensures.value, c.in_ok-libs.ensures.ok,
-            c.in_ok-names.ensures.cut) at c.in_ok-report.ensures,
+        rw (
+          c.as_slice.ensures,
+          c.as_slice-2.ensures.value,
+          c.in_ok-libs.ensures.ok,
+          c.in_ok-names.ensures.cut,
+        ) at c.in_ok-report.ensures,
         rw c.as_bytes.ensures.value at c.in_err-put.ensures.small,
       ),
     )

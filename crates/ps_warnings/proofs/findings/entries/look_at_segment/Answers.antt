@@ -20,7 +20,7 @@ returns-in-Ok g c =
     let path = path_of (paths_in c.args.context.now.inputs.now) c.args.file in
     let host = option_map (λ (h : Bor (List Record)). h.now) c.args.context.now.host in
     let code = ap (λ (r : Result (List ℕ) Reason). findings_of_segment path host d.order e r
-    (information_of d.file e)) (code_is c.code-code.result _ c.code-code.ensures
+    (information_of d.file e)) (code_is c.code.result _ c.code.ensures
     ∙ ap code_as c.in-Ok.is) in
     let looked = rw c.path-path.ensures at c.look_at_code.ensures in
     on_ok_weaker c.look_at_code.result (λ more. adds_is (sym code) more) looked
@@ -32,7 +32,7 @@ returns-in-Err g c =
     let path = path_of (paths_in c.args.context.now.inputs.now) c.args.file in
     let host = option_map (λ (h : Bor (List Record)). h.now) c.args.context.now.host in
     let code = ap (λ (r : Result (List ℕ) Reason). findings_of_segment path host d.order e r
-    (information_of d.file e)) (code_is c.code-code.result _ c.code-code.ensures
+    (information_of d.file e)) (code_is c.code.result _ c.code.ensures
     ∙ ap code_as c.in-Err.is) in
     adds_is (sym (code ∙ no_code path host d.order e (information_of d.file e) _))
     (adds_none (about_link c.args.findings.now))
