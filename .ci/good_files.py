@@ -6,7 +6,7 @@ import random
 import typing
 
 BLOCK = 512
-LINKED, HOSTSEG, UNITSEG, SEPRTSEG = 0, 1, 3, 4
+LINKED, HOSTSEG, SEGPROC, UNITSEG, SEPRTSEG = range(5)
 UNITREF, PUBLREF, PRIVREF, PUBLDEF, CONSTDEF = 1, 3, 4, 7, 8
 
 # What opcodes are called in both releases, and in one of them.
@@ -59,6 +59,8 @@ class Style:
     moved: bool = False  # units of a library have the numbers of other slots
     tables: bool = False  # each jump goes by the jump table
     padding: int = 0  # the byte that makes a length even
+    numbers: bool = True  # each code has a segment number; without it is 0
+    half: bool = False  # empty slots have names of zeros and kinds that say nothing, and wanted ones an address or a length
 
 
 # Procedures ----------------------------------------------------------------------------------------------------------
@@ -536,7 +538,7 @@ class Maker:
             made, tables[one.number], _ = one.made(len(code), out)
             code += made
         code += b"".join(self.word(len(code) + 2 * k - tables[n]) for k, n in enumerate(range(len(tables), 0, -1)))
-        return code + bytes([number, len(tables)]), out
+        return code + bytes([number if self.style.numbers else 0, len(tables)]), out
 
     def records_of(self, out, privates):
         """The reference records of a segment."""
@@ -611,6 +613,19 @@ class Maker:
             return records + before[last:] if last else records
         return self.filled(records)
 
+    def pair(self, one, pair):
+        """The address and the length of an entry: a wanted one has neither, or one of them."""
+        if not self.style.half or not one or one.code:
+            return pair
+        return self.source.choice([pair, (self.source.randrange(1, 9), 0), (0, 2 * self.source.randrange(2, 900))])
+
+    def blank(self):
+        """The name of an empty slot."""
+        return bytes(8) if self.style.half else b" " * 8
+
+    def kind_of_empty(self):
+        return self.source.choice([LINKED, SEGPROC, UNITSEG, SEPRTSEG]) if self.style.half else LINKED
+
     def file(self, slots):
         """The code file of these segments, by slot."""
         blocks, entries = b"", {}
@@ -623,10 +638,9 @@ class Maker:
                 address = 1 + len(blocks) // BLOCK
                 blocks += self.filled(one.code) + self.records_filled(one.records)
             entries[slot] = (address, len(one.code), text)
-        none = Segment("", LINKED)
-        pairs = b"".join(self.word(value) for slot in range(16) for value in entries.get(slot, (0, 0, 0))[:2])
-        names = b"".join(slots.get(slot, none).name.encode().ljust(8)[:8] for slot in range(16))
-        kinds = b"".join(self.word(slots.get(slot, none).kind) for slot in range(16))
+        pairs = b"".join(self.word(value) for slot in range(16) for value in self.pair(slots.get(slot), entries.get(slot, (0, 0, 0))[:2]))
+        names = b"".join(slots[slot].name.encode().ljust(8)[:8] if slot in slots else self.blank() for slot in range(16))
+        kinds = b"".join(self.word(slots[slot].kind if slot in slots else self.kind_of_empty()) for slot in range(16))
         texts = b"".join(self.word(entries.get(slot, (0, 0, 0))[2]) for slot in range(16))
         tail = bytearray(256)
         for place, part in self.style.tail(self.source, {slot: one.kind for slot, one in slots.items() if one.code}).items():
@@ -718,6 +732,9 @@ def styles():
         Style("values over jumps", held=True),
         Style("all jumps by the table", tables=True),
         Style("NOP as padding", padding=0xD7),
+        Style("segment number 0", numbers=False),
+        Style("empty slots and wanted ones with half of an entry", half=True),
+        Style("bytes from 288 on in the dictionary", tail=lambda source, slots: {288: source.randbytes(224)}),
         Style("all at once", exits=True, cleared=False, old_mark=True, rows=True, returns=True, held=True, assembled=True, empty_unit=True, in_place=True, host_refs=True, definitions=35, tail=text_at(256, 432)),
     ]  # fmt: skip
     return later + [dataclasses.replace(style, name=f"{style.name}, earlier release", release="earlier") for style in later]

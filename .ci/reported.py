@@ -1,5 +1,5 @@
-"""Files for `check`, with what a report says of them: for each fault, each warning and each thing that is given in place of a
-code file, and files without a warning. For .ci/report."""
+"""Files for `check`, with what a report says of them: for each fault, each finding and each thing that is given in place of a
+code file, and files of which nothing is found. For .ci/report."""
 import base64
 import binascii
 import gzip
@@ -163,25 +163,8 @@ def beside_four(code, slot=2, order="little"):
     return changed(m.code_file(pair, order), (place, bytes([len(code)])), (CODE, code))
 
 
-def lost_warnings():
-    """The warnings of what was lost elsewhere, as in warnings()."""
-    big_host = SAMPLES["big_host.code"]
-    tail = lambda bytes_: f"look: HOST: {bytes_} of bytes 336 to 431 of its dictionary are not zero"
-    no_tables = "damaged: LIB1, segment UTIL: it ends with no whole procedure dictionary"
-    linked = "look: HOST, segment AUX: its kind says that it is linked, and link information follows its code"
-    # more bytes than a comment of 80 characters from 296 on has there, and sixteen that no text has
-    yield [tail(41)], changed(HOST, (336, b"A" * 41)), [LIBRARY]
-    yield [tail(41)], changed(big_host, (391, b"\xff" * 41)), [SAMPLES["big_library.code"]]
-    for byte in (b"\1", b"\x08", b"\x0b", b"\x1f", b"\x7f"):
-        yield [tail(16)], changed(HOST, (350, byte * 16)), [LIBRARY]
-    for order in ("little", "big"):
-        yield [linked], with_units_in_place(order, m.LINKED), []
-        yield [no_tables], HOST if order == "little" else big_host, [beside_four(b"\xd7" * 14 + bytes([2, 0]), order=order)]
-    yield [no_tables], HOST, [beside_four(b"\xd7" * 14 + bytes(2), slot=0)]
-
-
 def lost_quiet():
-    """Files without a warning beside those of lost_warnings(), as in quiet()."""
+    """References of P-code, names and tails of dictionaries of which nothing is found, as in quiet()."""
     big_host = SAMPLES["big_host.code"]
     count, state = (lambda *places: m.publ_ref("COUNT", places)), (lambda *places: m.priv_ref("STATE", 4, places))
     aux = lambda pair: (pair[0], [*pair[1], USED])
@@ -240,44 +223,44 @@ def faults():
         (2, HOST, unit((193, b"\1")), ["  it is no code file of a known form; the host is little-endian"], again("LIB1")),
         (3, HOST, unit((196, b"\0\3")), ["  it is big-endian; the host is little-endian"], "  Compile LIB1 for the machine of the host."),
         (4, LIBRARY, [], ["  it has units, and no host program"], "  Give the compiled program as HOST, and HOST after it, as a library."),
-        (4, USING, [USED, LIBRARY[:535]], ["  it has units, and no host program", "look: LIB2, segment UTIL: a link that takes it is refused with 16 Truncated"], "  Give the compiled program as HOST, and HOST after it, as a library."),
+        (4, USING, [USED, LIBRARY[:535]], ["  it has units, and no host program"], "  Give the compiled program as HOST, and HOST after it, as a library."),
         (4, LIBRARY, [HOST], ["  it has units, and no host program", "  LIB1 has a host program"], "  Exchange the two: give LIB1 as HOST, and HOST after it."),
         (4, LINKED, [LIBRARY], ["  all of its segments are linked"], "  Give the unlinked host in place of HOST, the file that the compiler made."),
-        (5, changed(HOST, *entry(3, "OTHER", 1, 1, 18)), [LIBRARY], ["  segment OTHER, of slot 03 of the host", "  the earlier one is slot 01, DEMO", "damaged: HOST, segment OTHER: its code has segment number 1, and its slot is 3", "look: HOST, segment OTHER: its bytes in the file overlap those of slot 01"]),
-        (3, swapped(HOST), [LIBRARY], ["  it is little-endian; the host is big-endian", "look: HOST: it is a code file whose bytes are exchanged in pairs"], "  Exchange the bytes again: dd conv=swab if=HOST of=FILE. Then give FILE."),
+        (5, changed(HOST, *entry(3, "OTHER", 1, 1, 18)), [LIBRARY], ["  segment OTHER, of slot 03 of the host", "  the earlier one is slot 01, DEMO", "note: HOST, segment OTHER: its code has segment number 1, and its slot is 3: the code may be another one", "warning: HOST, segment OTHER: its bytes in the file overlap those of slot 01"]),
+        (3, swapped(HOST), [LIBRARY], ["  it is little-endian; the host is big-endian", "note: HOST: it may be a code file whose bytes are exchanged in pairs"], "  Exchange the bytes again: dd conv=swab if=HOST of=FILE. Then give FILE."),
         (4, m.code_file({2: m.Segment("UTIL", m.UNITSEG, m.UNIT, m.UNIT_LINKS), 9: m.Segment("TOOLS", m.LINKED, LONG)}), [], ["  it has units, and no host program"], "  Give the compiled program as HOST, and HOST after it, as a library."),
         (6, m.code_file({**m.HOST, 7: m.Segment("UTIL", m.UNITSEG, m.UNIT, m.UNIT_LINKS), 8: m.Segment("AUX", m.UNITSEG, m.WANTED), 9: m.Segment("UTIL", m.UNITSEG, m.WANTED)}), [AUX_FILE], ["  segment UTIL, of slot 09 of the host", "  the earlier one is slot 07, UTIL"]),
         (6, changed(HOST, *entry(8, "UTIL", 3, 0, 0)), [LIBRARY], ["  segment UTIL, of slot 08 of the host", "  the earlier one is slot 07, UTIL"]),
         (7, changed(HOST, (194, b"\2")), [LIBRARY], [DEMO]),
         (8, changed(HOST, (194, b"\4")), [LIBRARY], [DEMO]),
         (9, changed(HOST, (194, b"\5")), [LIBRARY], [DEMO, "  its kind is 5"]),
-        (10, changed(HOST, (194, b"\x08")), [LIBRARY], [DEMO, "  its kind is 8", "look: HOST: it is no code file of a known form"]),
+        (10, changed(HOST, (194, b"\x08")), [LIBRARY], [DEMO, "  its kind is 8", "note: HOST: it may be no code file of a known form"]),
         (11, HOST, unit((10, word(23))), [UTIL, f"  entry 02 has 23 {extent} 512 to 535; the file has 1536"]),
         (12, changed(HOST, (4, word(0))), [LIBRARY], [DEMO, f"  entry 01 has 18 {extent} 0 to 18; the file has 1536"]),
         (13, HOST, [], [UTIL, "  no library is given"], *WANTED),
-        (13, HOST, [LIBRARY.replace(b"UTIL", b"util")], [UTIL, f"  LIB1 has util (which {near})", "look: LIB1: the name util has small letters, and other names have capitals"], *WANTED),
-        (13, HOST, [LIBRARY.replace(b"UTIL    ", b"UTIL\0\0\0\0")], [UTIL, f'  LIB1 has "UTIL\\x00\\x00\\x00\\x00" (which {near})', 'look: LIB1: the name "UTIL\\x00\\x00\\x00\\x00" is padded with zeros where blanks are expected'], *WANTED),
+        (13, HOST, [LIBRARY.replace(b"UTIL", b"util")], [UTIL, f"  LIB1 has util (which {near})", "note: LIB1: the name util has small letters, and other names have capitals: it may not be found"], *WANTED),
+        (13, HOST, [LIBRARY.replace(b"UTIL    ", b"UTIL\0\0\0\0")], [UTIL, f'  LIB1 has "UTIL\\x00\\x00\\x00\\x00" (which {near})', 'note: LIB1: the name "UTIL\\x00\\x00\\x00\\x00" is padded with zeros where blanks are expected: it may not be found'], *WANTED),
         (13, HOST, [m.code_file({3: AUX_UNIT, 5: OTHER_UNIT}), m.code_file({1: m.Segment("DEMO", m.LINKED, m.PROGRAM)})], [UTIL, "  LIB1 has AUX, OTHER", "  LIB2 has no unit"], *WANTED),
         (13, HOST, [bytes(2048), LIBRARY.replace(b"UTIL", b"TOOL")], [UTIL, "  LIB1 is a file of the byte 00 alone", "  LIB2 has TOOL"], WANTED[0], "  Copy LIB1 again: nothing of the code file is in it."),
         (13, HOST, [USING], [UTIL, "  record 0: UNITREF AUX", "  LIB1 has UTIL"], *REQUESTED),
-        (13, HOST, [BLANK_LIBRARY], [UTIL, '  record 0: UNITREF ""', '  LIB1 has UTIL, ""', "look: LIB1: the segment in slot 03 has no name"], *REQUESTED),
+        (13, HOST, [BLANK_LIBRARY], [UTIL, '  record 0: UNITREF ""', '  LIB1 has UTIL, ""'], *REQUESTED),
         *((13, HOST, [AUX_FILE] * count, [UTIL, *(f"  LIB{k} has AUX" for k in range(1, 17)), *rest], *WANTED)
           for count, rest in ((16, []), (17, ["  there is 1 more library"]), (18, ["  there are 2 more libraries"]))),
         (14, HOST, unit((196, b"\4")), [UTIL, "  entry 02 has the name, of kind 4: a separate segment"], "  Give the unit's library before LIB1, or remove that segment from LIB1."),
         (14, HOST, unit((196, b"\6")), [UTIL, "  entry 02 has the name, of kind 6: an intrinsic unit of Apple Pascal, or its data"], "  Compile it as a regular unit of II.0, or give the library of such a unit before LIB1."),
         *((14, HOST, unit((196, bytes([kind]))), [UTIL, f"  entry 02 has the name, of kind {kind}: {word}", *rest], "  Give the unit's library before LIB1, or remove that segment from LIB1.")
-          for kind, word, *rest in ((1, "a host program"), (2, "a segment procedure"), (8, "no kind of II.0", "look: LIB1: it is no code file of a known form"))),
+          for kind, word, *rest in ((1, "a host program"), (2, "a segment procedure"), (8, "no kind of II.0", "note: LIB1: it may be no code file of a known form"))),
         (14, HOST, [LINKED], [UTIL, "  entry 07 has the name, of kind 0: a linked segment"], "  LIB1 is linked already: leave it out."),
-        (15, HOST, unit(*entry(5, "UTIL", 3, 1, 24)), [UTIL, "  entry 02 has the name, of kind 3: a unit", "  entry 05 has the name, of kind 3: a unit", "look: LIB1, segment UTIL: its bytes in the file overlap those of slot 02"]),
+        (15, HOST, unit(*entry(5, "UTIL", 3, 1, 24)), [UTIL, "  entry 02 has the name, of kind 3: a unit", "  entry 05 has the name, of kind 3: a unit", "warning: LIB1, segment UTIL: its bytes in the file overlap those of slot 02"]),
         (16, HOST, [LIBRARY[:535]], [UTIL, f"  entry 02 has 24 {extent} 512 to 536; the file has 535"]),
         (17, HOST, unit((CODE + 23, b"\xc8")), [UTIL, "  its procedure dictionary would have 402 bytes"]),
         (17, HOST, unit((CODE + 20, word(13))), [UTIL, "  the table of procedure 1 lies outside the code"]),
         (17, HOST, unit((CODE + 20, word(500))), [UTIL, "  the table of procedure 1 lies outside the code"]),
         (17, changed(HOST, (CODE + 14, word(0))), [LIBRARY], [DEMO, "  it has no table of procedure 1, the outer block"]),
-        (17, HOST, [changed(dead_unit(), (CODE + 1054, word(5000)))], [UTIL, "  the table of procedure 1 lies outside the code", "  bytes 512 to 1023 of its code are all E5"]),
+        (17, HOST, [changed(dead_unit(), (CODE + 1054, word(5000)))], [UTIL, "  the table of procedure 1 lies outside the code", "  bytes 512 to 1023 of its code are all E5: they may not have been read"]),
         (18, HOST, unit((CODE + 18, b"\0")), [UTIL, "  the table of procedure 1 has the number 0, native code"]),
-        (18, native_host(), [LIBRARY], [DEMO, "  the table of procedure 2 has the number 0, native code", "  bytes 512 to 1023 of its code are all 00"], *NOT_READ),
-        (18, swapped(HOST), [swapped(LIBRARY)], ["  segment EDOM, of slot 01 of the host", "  the table of procedure 1 has the number 0, native code", "look: LIB1: it is a code file whose bytes are exchanged in pairs"], "  The bytes of the code are exchanged in pairs.", "  Exchange the bytes again: dd conv=swab if=HOST of=FILE. Then give FILE."),
+        (18, native_host(), [LIBRARY], [DEMO, "  the table of procedure 2 has the number 0, native code", "  bytes 512 to 1023 of its code are all 00: they may not have been read"], *NOT_READ),
+        (18, swapped(HOST), [swapped(LIBRARY)], ["  segment EDOM, of slot 01 of the host", "  the table of procedure 1 has the number 0, native code", "note: LIB1: it may be a code file whose bytes are exchanged in pairs"], "  The bytes of the code are exchanged in pairs.", "  Exchange the bytes again: dd conv=swab if=HOST of=FILE. Then give FILE."),
         (19, HOST, [LIBRARY[:1103]], [UTIL, f"  record 2: 15 {LEFT}"]),
         (20, HOST, unit((LINKS + 8, b"\x0f")), [UTIL, f"  record 0: type 15, and then the word 2; 512 {LEFT}"]),
         (20, HOST, [changed(LIBRARY[: LINKS + 16], (LINKS + 8, b"\x0f"))], [UTIL, f"  record 0: type 15, and then the word 2; 16 {LEFT}"]),
@@ -287,22 +270,22 @@ def faults():
         (24, host_with([m.publ_def("COUNT", 3), m.record("COUNT", 8, 1), m.eof_mark(8)]), [LIBRARY], [DEMO, "  record 1: CONSTDEF COUNT", "  the earlier one is record 0: PUBLDEF COUNT"]),
         (25, HOST, [unit_with([STATE, m.priv_ref("STATE", 1, []), END])], [UTIL, "  record 1: PRIVREF STATE", "  the earlier one is record 0: PRIVREF STATE"]),
         (26, HOST, [unit_with([m.priv_ref("FIRST", 2, []), m.priv_ref("STATE", 32758, []), END])], [UTIL, "  record 1: PRIVREF STATE", "  it takes 32758 words from base offset 10 on"]),
-        (27, host_with(m.PROGRAM_LINKS, [m.Procedure(1, ["NOP", "NOP", "RBP 0"], parameters=4, data=65534)]), [LIBRARY], [DEMO, "  the program's own data have 65534 bytes, and the private variables 8", "look: HOST, segment DEMO: the end mark 8 is below half the data size of 65534 bytes"]),
-        (28, HOST, [unit_with([m.publ_ref("Count", [1]), END])], [UTIL, "  record 0: PUBLREF Count", "  the host has PUBLDEF COUNT, record 0", "look: LIB1, segment UTIL, record 0: the name Count has small letters, and other names have capitals"]),
+        (27, host_with(m.PROGRAM_LINKS, [m.Procedure(1, ["NOP", "NOP", "RBP 0"], parameters=4, data=65534)]), [LIBRARY], [DEMO, "  the program's own data have 65534 bytes, and the private variables 8", "warning: HOST, segment DEMO: the end mark 8 is below half the data size of 65534 bytes"]),
+        (28, HOST, [unit_with([m.publ_ref("Count", [1]), END])], [UTIL, "  record 0: PUBLREF Count", "  the host has PUBLDEF COUNT, record 0", "note: LIB1, segment UTIL, record 0: the name Count has small letters, and other names have capitals: it may not be found"]),
         (28, HOST, [unit_with([m.publ_ref("OTHER", [1]), END]), LIBRARY, LIBRARY], [UTIL, "  record 0: PUBLREF OTHER"]),
-        (28, HOST, [unit_with([m.publ_ref("OWN", [1]), m.publ_def("OWN", 1), END])], [UTIL, "  record 0: PUBLREF OWN", "  the unit itself has a PUBLDEF of it, record 1, which is not used: the host program has to define it", "look: LIB1, segment UTIL, record 1: the unit refers to OWN and defines it itself: only the host program defines variables"]),
+        (28, HOST, [unit_with([m.publ_ref("OWN", [1]), m.publ_def("OWN", 1), END])], [UTIL, "  record 0: PUBLREF OWN", "  the unit itself has a PUBLDEF of it, record 1, which is not used: the host program has to define it", "warning: LIB1, segment UTIL, record 1: the unit refers to OWN and defines it itself: only the host program defines variables"]),
         (29, host_with([m.record("COUNT", 8, 3), m.eof_mark(8)]), [LIBRARY], [UTIL, "  record 0: PUBLREF COUNT", "  the host has CONSTDEF COUNT, record 0"]),
         (31, HOST, [unit_with([m.publ_ref("COUNT", [1, 23]), END])], [UTIL, "  record 0: PUBLREF COUNT", "  reference 1: byte 23 of the code, where these bytes stand: 01", "  the code has 24 bytes"]),
         (31, HOST, [unit_with([m.publ_ref("COUNT", [24]), END])], [UTIL, "  record 0: PUBLREF COUNT", "  reference 0: byte 24 of the code, where these bytes stand: none", "  the code has 24 bytes"]),
         (32, HOST, [unit_with([m.publ_ref("COUNT", [9]), END])], [UTIL, "  record 0: PUBLREF COUNT", "  reference 0: byte 9 of the code, where these bytes stand: 00 00", "  it lies in the table of procedure 1", "note: LIB1, segment UTIL, record 0: the operand at byte 9 may be damaged: its bit 7 is clear, and a compiler sets it"]),
         (32, HOST, [unit_with([m.unit_ref("UTIL", [20]), END])], [UTIL, "  record 0: UNITREF UTIL", "  reference 0: byte 20 of the code, where these bytes stand: 02", "  it lies in the procedure dictionary"]),
         (32, HOST, [unit_with([m.unit_ref("UTIL", [23]), END])], [UTIL, "  record 0: UNITREF UTIL", "  reference 0: byte 23 of the code, where these bytes stand: 01", "  it lies in the procedure dictionary"]),
-        (33, HOST, [unit_with([COUNT, m.priv_ref("STATE", 3, [4, 2]), END])], [UTIL, "  record 1: PRIVREF STATE", "  reference 1: byte 2 of the code, where these bytes stand: 00 AB", "  the earlier one is reference 0 of record 0, COUNT", "look: LIB1, segment UTIL, record 1: the operand at byte 2 is word 171 of a variable of 3 words", "note: LIB1, segment UTIL, record 1: the operand at byte 2 may be damaged: its bit 7 is clear, and a compiler sets it"]),
-        (33, HOST, [unit_with([m.publ_ref("COUNT", [4, 1]), m.priv_ref("STATE", 3, [2]), END])], [UTIL, "  record 1: PRIVREF STATE", "  reference 0: byte 2 of the code, where these bytes stand: 00 AB", "  the earlier one is reference 1 of record 0, COUNT", "look: LIB1, segment UTIL, record 1: the operand at byte 2 is word 171 of a variable of 3 words", "note: LIB1, segment UTIL, record 1: the operand at byte 2 may be damaged: its bit 7 is clear, and a compiler sets it"]),
+        (33, HOST, [unit_with([COUNT, m.priv_ref("STATE", 3, [4, 2]), END])], [UTIL, "  record 1: PRIVREF STATE", "  reference 1: byte 2 of the code, where these bytes stand: 00 AB", "  the earlier one is reference 0 of record 0, COUNT", "warning: LIB1, segment UTIL, record 1: the operand at byte 2 is word 171 of a variable that has 3", "note: LIB1, segment UTIL, record 1: the operand at byte 2 may be damaged: its bit 7 is clear, and a compiler sets it"]),
+        (33, HOST, [unit_with([m.publ_ref("COUNT", [4, 1]), m.priv_ref("STATE", 3, [2]), END])], [UTIL, "  record 1: PRIVREF STATE", "  reference 0: byte 2 of the code, where these bytes stand: 00 AB", "  the earlier one is reference 1 of record 0, COUNT", "warning: LIB1, segment UTIL, record 1: the operand at byte 2 is word 171 of a variable that has 3", "note: LIB1, segment UTIL, record 1: the operand at byte 2 may be damaged: its bit 7 is clear, and a compiler sets it"]),
         (33, HOST, [unit_with([m.publ_ref("COUNT", [4, 1, 1]), END])], [UTIL, "  record 0: PUBLREF COUNT", "  reference 2: byte 1 of the code, where these bytes stand: 80 00", "  the earlier one is reference 1 of record 0, COUNT"]),
         (34, HOST, unit((CODE + 1, b"\xff\xfd")), [UTIL, "  record 0: PUBLREF COUNT", "  reference 0: byte 1 of the code, where these bytes stand: FF FD", "  its displacement is 32765, and the value 3"]),
-        (34, HOST, unit((CODE + 4, b"\xff\xff")), [UTIL, "  record 1: PRIVREF STATE", "  reference 0: byte 4 of the code, where these bytes stand: FF FF", "  its displacement is 32767, and the value 8", "look: LIB1, segment UTIL, record 1: the operand at byte 4 is word 32767 of a variable of 4 words"]),
-        (34, TWO_WANTED, [changed(TWO_UNITS, (CODE + 1024 + 4, b"\xff\xff"))], [AUX, "  record 1: PRIVREF STATE", "  reference 0: byte 4 of the code, where these bytes stand: FF FF", "  its displacement is 32767, and the value 12", "look: LIB1, segment AUX, record 1: the operand at byte 4 is word 32767 of a variable of 4 words"]),
+        (34, HOST, unit((CODE + 4, b"\xff\xff")), [UTIL, "  record 1: PRIVREF STATE", "  reference 0: byte 4 of the code, where these bytes stand: FF FF", "  its displacement is 32767, and the value 8", "warning: LIB1, segment UTIL, record 1: the operand at byte 4 is word 32767 of a variable that has 4"]),
+        (34, TWO_WANTED, [changed(TWO_UNITS, (CODE + 1024 + 4, b"\xff\xff"))], [AUX, "  record 1: PRIVREF STATE", "  reference 0: byte 4 of the code, where these bytes stand: FF FF", "  its displacement is 32767, and the value 12", "warning: LIB1, segment AUX, record 1: the operand at byte 4 is word 32767 of a variable that has 4"]),
         (35, full_host(), [USING, USED], [UTIL, "  record 0: UNITREF AUX"]),
     ]
     for number, host, libraries, lines, *ends in cases:
@@ -382,109 +365,155 @@ def forms():
         ("a file whose line ends were converted: it has bytes 0D and none 0A", b"\1" * 200 + b"\r\2" * 40 + b"\3" * 600, "  Copy @ again, as binary, so that no line end is converted."),
         ("no code file of a known form", b"\1\2" * 300, again("@")),
     ]  # fmt: skip
+def runs():
+    """Units of 1030 instructions and a return with a run of one byte in their code: the first byte, the one after the last, and the
+    byte. Then those of which nothing is said: a run is as long as a sector, and begins or ends where a sector does."""
+    found = [(128, 256, byte) for byte in (0xE5, 0xF6, 0x1A, 0xFF, 0xAA, 0x55, 0x4E, 0x40, 0x21, 0xD6)]
+    found += [(512, 1024, 0), (128, 300, 0xE5), (100, 256, 0xE5), (0, 128, 0xFF)]
+    silent = [(129, 257, 0xE5), (100, 300, 0), (128, 255, 0xE5), (129, 256, 0xFF), (128, 256, 0x20), (128, 256, 0xD7)]
+    return found, silent
+
+
+# A jump into an instruction.
+INTO = "B9 01 CA 05 CC 01"
+
+
+def with_run(start, end, byte, links=None):
+    unit = unit_with(links or [END], [m.Procedure(1, ["NOP"] * 1030 + ["RNP 0"])])
+    return changed(unit, (CODE + start, bytes([byte]) * (end - start)))
+
+
+def numbered(order, *words, file=None):
+    """The library of a byte order, and numbers of II.1 in it: the slot, the high byte of its word, and the segment number."""
+    name = "library.code" if order == "little" else "big_library.code"
+    halves = lambda high, low: bytes([low, high] if order == "little" else [high, low])
+    return changed(file or SAMPLES[name], *((256 + 2 * slot, halves(high, low)) for slot, high, low in words))
+
+
+def blank_slot(name, kind):
+    """The host with this name and kind in slot 8, and no code there."""
+    return changed(HOST, (64 + 8 * 8, name), (192 + 2 * 8, bytes([kind])))
+
+
+def two_segments(others):
+    """A library with a procedure in UTIL whose instructions do not fit, beside so many that do; eight more are in OTHER."""
+    own = m.Segment("UTIL", m.UNITSEG, [*long_fitting(others), of_bytes(1 + others, INTO)], [END])
+    return m.code_file({2: own, 5: m.Segment("OTHER", m.UNITSEG, long_fitting(8), [END])})
+
+
 def warnings():
-    """For each warning: the texts, the host and its libraries."""
+    """For each finding: the lines, the host and its libraries."""
     in_unit, in_host = "LIB1, segment UTIL", "HOST, segment DEMO"
     unit = lambda *changes: [changed(LIBRARY, *changes)]
-    zeros = m.code_file({2: m.Segment("UTIL", m.UNITSEG, [m.Procedure(1, ["NOP"] * 1030 + ["RNP 0"])], [END])})
     plain = m.code_file({**m.HOST, 9: m.Segment("TOOLS", m.LINKED, LONG)})
     tools = plain[4 * 9] * 512
     mixed = unit_with([END], [m.Procedure(1, [*MIXED, "RNP 0"])])
     long = m.Segment("LONG", m.LINKED, [m.Procedure(1, [*MIXED[:900], "RNP 0"])])
     linked = m.code_file({**m.HOST, 8: long, 9: m.Segment("TOOLS", m.LINKED, [m.Procedure(1, [*MIXED[900:1400], "RNP 0"])])})
-    small = "the name util has small letters, and other names have capitals"
+    small = "the name util has small letters, and other names have capitals: it may not be found"
     spelled = m.code_file({2: m.Segment("UTIL", m.UNITSEG, m.USING, [m.unit_ref("util", [1]), END]), 3: m.Segment("util", m.UNITSEG, m.UNIT, m.UNIT_LINKS)})
-    lost = lambda name, kind: f"look: HOST: slot 07 has the name {name}, kind {kind} and no code: no segment is linked there"
+    lost = lambda name, kind, slot=7: f"warning: HOST: slot {slot:02} has the name {name}, kind {kind} and no code: no segment is linked there"
     misfit = lambda number: f"note: {in_unit}: procedure {number} may be damaged: its instructions do not fit together, as those of the others do"
-    number = lambda found, slot: f"its code has segment number {found}, and that of slot {found} has {slot}: the two may be exchanged"
-    three, crossed = unit_with([END], fitting(3)), m.code_file({**m.LIBRARY, 5: OTHER_UNIT})
+    exchange = lambda found, slot: f"its code has segment number {found}, and that of slot {found} has {slot}: the two may be exchanged"
+    twice = lambda start, end: f"bytes {start} to {end} are there twice, one after the other: they may have been read twice"
+    all_one = lambda start, end, byte: f"bytes {start} to {end - 1} of its code are all {byte:02X}: they may not have been read"
+    other_info = lambda found, number: f"its code has segment number {found}, and bytes 256 to 287 of the dictionary have {number} for it: the code may be another one"
+    converted = lambda what: f"note: LIB1: {what}: its line ends may have been converted"
+    odd = lambda name, how: f"note: HOST: the name {name} {how}: it may not be found"
+    zeros = f"note: {in_unit}: its code ends with zeros, so it has no procedure and no segment number: its end may be lost"
+    no_end = "it does not end with a procedure dictionary: the end of its code may be lost"
+    overlap = "warning: LIB1, segment OTHER: its bytes in the file overlap those of slot 02"
+    clear = lambda place: f"note: {in_unit}, record 0: the operand at byte {place} may be damaged: its bit 7 is clear, and a compiler sets it"
+    three = unit_with([END], fitting(3))
     end = tools + len(m.segment_bytes(9, LONG, word))
-    no_tables = "damaged: HOST, segment TOOLS: it ends with no whole procedure dictionary"
-    refused = lambda what: f"look: LIB1, segment OTHER: a link that takes it is refused with {what}"
     other = lambda *links: [m.code_file({**m.LIBRARY, 5: m.Segment("OTHER", m.UNITSEG, m.UNIT, links)})]
+    own = m.publ_ref("OWN", [1]), m.publ_def("OWN", 1)
+    narrow = unit_with([COUNT, m.priv_ref("STATE", 1, [4]), END])
+    taken = lambda name: f"warning: LIB2, segment AUX: it is added in slot 08, which the host has for {name}: calls of {name} go to it"
     return [
-        (["look: LIB2: it is a disk image, of the volume DISK"], HOST, [LIBRARY, volume(b"")]),
+        (["note: LIB2: it may be a disk image, of the volume DISK"], HOST, [LIBRARY, volume(b"")]),
         (["harmless: LIB1: its last 2 bytes are 1A: it was padded, as by CP/M"], HOST, [LIBRARY + b"\x1a\x1a"]),
         (["harmless: LIB1: its last 300 bytes are 1A: it was padded, as by CP/M"], HOST, [LIBRARY[:-300] + b"\x1a" * 300]),
-        (["damaged: LIB1: bytes 1024 to 1535 are there twice, one after the other"], HOST, [LIBRARY + LIBRARY[-512:]]),
-        (["damaged: LIB1: bytes 1024 to 1151 are there twice, one after the other"], HOST, unit((1152, LIBRARY[1024:1152]))),
-        (["damaged: LIB1: bytes 1024 to 1279 are there twice, one after the other"], HOST, unit((1152, b"X"), (1280, LIBRARY[1024:1152] + b"X"))),
-        *((["damaged: LIB1: bytes %d to %d are there twice, one after the other" % (at, at + size - 1)], HOST, [changed(mixed, (at + size, mixed[at : at + size]))])
-          for at, size in ((512, 512), (768, 256), (1152, 128))),
-        (["damaged: HOST: bytes 2048 to 2559 are there twice, one after the other"], changed(linked, (2560, linked[2048:2560])), [LIBRARY]),
-        (["damaged: HOST: bytes 384 to 511 of its dictionary are all E5"], changed(HOST, (384, b"\xe5" * 128)), [LIBRARY]),
-        (["damaged: LIB1: each 0A in it comes after a 0D: its line ends may have been converted"], HOST, unit((600, b"\r\n" * 32))),
-        (["damaged: LIB1: it has bytes 0A and none 0D: its line ends may have been converted"], HOST, unit((600, b"\n" * 32))),
-        (["damaged: LIB1: it has bytes 0D and none 0A: its line ends may have been converted"], HOST, unit((600, b"\r" * 32))),
-        (["damaged: LIB1: it has bytes 0D and none 0A: its line ends may have been converted"], HOST, [changed(text_library(), (600, b"\r" * 32))]),
-        (["look: LIB2: it is no code file of a known form"], HOST, [LIBRARY, LIBRARY.replace(b"UTIL", b"    ")]),
-        (["look: LIB2: it is no code file of a known form"], HOST, [LIBRARY, LIBRARY.replace(b"UTIL    ", bytes(8))]),
-        (["look: HOST: the segment in slot 09 has no name"], plain.replace(b"TOOLS", b"     "), [LIBRARY]),
-        (["look: HOST: slot 01 has machine type 7, which is no P-code of its byte order, and version 2", "look: LIB1: slot 02 has machine type 1, which is no P-code of its byte order, and version 2"], changed(HOST, (259, b"\x47")), unit((261, b"\x41"))),
-        (["look: HOST: slot 01 has machine type 2, which is no P-code of its byte order, and version 0"], changed(SAMPLES["big_host.code"], (258, b"\2")), [SAMPLES["big_library.code"]]),
-        (["look: LIB1: slot 02 has machine type 7, which is no P-code of its byte order, and version 0"], changed(HOST, (258, b"\1\x42")), unit((260, b"\2\7"), (286, b"\x1f\xef"))),
+        ([f"note: LIB1: {twice(1024, 1535)}"], HOST, [LIBRARY + LIBRARY[-512:]]),
+        ([f"note: LIB1: {twice(1024, 1151)}"], HOST, unit((1152, LIBRARY[1024:1152]))),
+        ([f"note: LIB1: {twice(1024, 1279)}"], HOST, unit((1152, b"X"), (1280, LIBRARY[1024:1152] + b"X"))),
+        *(([f"note: LIB1: {twice(at, at + size - 1)}"], HOST, [changed(mixed, (at + size, mixed[at : at + size]))]) for at, size in ((512, 512), (768, 256), (1152, 128))),
+        ([f"note: HOST: {twice(2048, 2559)}"], changed(linked, (2560, linked[2048:2560])), [LIBRARY]),
+        (["note: HOST: bytes 384 to 511 of its dictionary are all E5: they may not have been read"], changed(HOST, (384, b"\xe5" * 128)), [LIBRARY]),
+        ([converted("each 0A in it comes after a 0D")], HOST, unit((600, b"\r\n" * 32))),
+        ([converted("it has bytes 0A and none 0D")], HOST, unit((600, b"\n" * 32))),
+        ([converted("it has bytes 0D and none 0A")], HOST, unit((600, b"\r" * 32))),
+        ([converted("it has bytes 0D and none 0A")], HOST, [changed(text_library(), (600, b"\r" * 32))]),
+        (["note: LIB2: it may be no code file of a known form"], HOST, [LIBRARY, LIBRARY.replace(b"UTIL", b"    ")]),
+        (["note: LIB2: it may be no code file of a known form"], HOST, [LIBRARY, LIBRARY.replace(b"UTIL    ", bytes(8))]),
         (["harmless: LIB1: slot 04 is of kind 5, an intrinsic unit of Apple Pascal or its data"], HOST, unit(*entry(4, "TURTLE", 5, 1, 24))),
         *(([f"harmless: LIB1: slot 04 is of kind {kind}, an intrinsic unit of Apple Pascal or its data"], HOST, unit(*entry(4, "TURTLE", kind, address, length)))
           for kind, address, length in ((5, 9, 24), (6, 0, 200), (7, 0, 200), (7, 0, 23))),
-        (["look: HOST: the name demo has small letters, and other names have capitals"], changed(HOST, (72, b"demo")), [LIBRARY]),
-        (['look: HOST: the name "DEMO\\x00\\x00\\x00\\x00" is padded with zeros where blanks are expected'], changed(plain, (72, b"DEMO\0\0\0\0")), [LIBRARY]),
-        (['look: HOST: the name "DEM\\x01" has control bytes'], changed(plain, (75, b"\1")), [LIBRARY]),
-        (['look: HOST: the name "DEM\\x7f" has control bytes'], changed(plain, (75, b"\x7f")), [LIBRARY]),
-        (['look: HOST: the name "DEM\\xcf" has bytes above 127'], changed(plain, (75, b"\xcf")), [LIBRARY]),
-        ([f"look: {in_host}, record 1: the name Count has small letters, and other names have capitals"], host_with([m.publ_def("COUNT", 3), m.publ_def("Count", 4), m.eof_mark(8)]), [LIBRARY]),
+        ([odd("demo", "has small letters, and other names have capitals")], changed(HOST, (72, b"demo")), [LIBRARY]),
+        ([odd('"DEMO\\x00\\x00\\x00\\x00"', "is padded with zeros where blanks are expected")], changed(plain, (72, b"DEMO\0\0\0\0")), [LIBRARY]),
+        ([odd('"DEM\\x01"', "has control bytes")], changed(plain, (75, b"\1")), [LIBRARY]),
+        ([odd('"DEM\\x7f"', "has control bytes")], changed(plain, (75, b"\x7f")), [LIBRARY]),
+        ([odd('"DEM\\xcf"', "has bytes above 127")], changed(plain, (75, b"\xcf")), [LIBRARY]),
+        ([f"note: {in_host}, record 1: the name Count has small letters, and other names have capitals: it may not be found"], host_with([m.publ_def("COUNT", 3), m.publ_def("Count", 4), m.eof_mark(8)]), [LIBRARY]),
+        # a slot without code that no unit takes: of any kind where it has a name, else of one that a compiler does not leave there
         *(([lost("UTIL", kind)], changed(HOST, (206, bytes([kind]))), []) for kind in (0, 1, 2, 4, 5, 6, 7, 8, 9)),
         ([lost("TOOLS", 0)], changed(HOST, (206, b"\0"), (120, b"TOOLS")), []),
-        (["look: HOST: slot 09 has the name TOOLS, kind 0 and no code: no segment is linked there"], changed(plain, (38, word(0))), [LIBRARY]),
-        (["look: HOST: slot 07 wants a unit, and has address 2 and length 0: one of them may be lost"], changed(HOST, (28, word(2))), [LIBRARY]),
-        (["look: HOST: slot 07 wants a unit, and has address 0 and length 24: one of them may be lost"], changed(HOST, (30, word(24))), [LIBRARY]),
-        (["look: LIB1, segment OTHER: its kind says that it is linked, and link information follows its code", "look: LIB1, segment OTHER: its bytes in the file overlap those of slot 02"], HOST, unit(*entry(5, "OTHER", 0, 1, 24))),
-        (["damaged: LIB1, segment OTHER: it ends with no whole procedure dictionary", "look: LIB1, segment OTHER: its bytes in the file overlap those of slot 02"], HOST, unit(*entry(5, "OTHER", 0, 2, 24))),
-        ([refused("16 Truncated")], HOST, unit(*entry(5, "OTHER", 3, 9, 24))),
-        ([refused("11 BadLength")], HOST, unit(*entry(5, "OTHER", 3, 9, 23))),
-        ([refused("12 BadAddress")], HOST, unit(*entry(5, "OTHER", 4, 0, 24))),
-        ([refused("17 BadProcDict")], HOST, [changed(other(END)[0], (CODE + 1024 + 23, b"\xc8"))]),
-        ([refused("18 NativeProcedure")], HOST, [changed(other(END)[0], (CODE + 1024 + 18, b"\0"))]),
-        ([refused("20 UnknownRecord at record 1")], HOST, other(COUNT, m.record("COUNT", 15, 1), END)),
-        (["damaged: HOST, segment TOOLS: each byte of its code is D7"], changed(plain, (tools, b"\xd7" * len(m.segment_bytes(9, LONG, word)))), [LIBRARY]),
-        (["damaged: HOST, segment TOOLS: no byte of its code is above 127: bit 7 may have been stripped"], changed(plain, (tools, bytes(b & 127 for b in plain[tools : tools + 512]))), [LIBRARY]),
-        (["damaged: HOST, segment TOOLS: no byte of its code is above 127: bit 7 may have been stripped"], stripped(48), [LIBRARY]),
-        ([f"damaged: {in_unit}: bytes 512 to 1023 of its code are all 00"], HOST, [changed(zeros, (1024, bytes(512)))]),
-        *(([f"damaged: {in_unit}: bytes 128 to 255 of its code are all {byte:02X}"], HOST, [changed(zeros, (640, bytes([byte]) * 128))]) for byte in (0xE5, 0xF6, 0x1A, 0xFF, 0xAA, 0x55, 0x4E, 0x40, 0x21, 0xD6)),
+        ([lost("TOOLS", 0, 9)], changed(plain, (38, word(0))), [LIBRARY]),
+        *(([lost('""', kind, 8)], blank_slot(b" " * 8, kind), [LIBRARY]) for kind in (1, 5, 6, 7, 8)),
+        ([lost('"\\x00\\x00\\x00\\x00\\x00\\x00\\x00\\x00"', 1, 8)], blank_slot(bytes(8), 1), [LIBRARY]),
+        ([overlap], HOST, unit(*entry(5, "OTHER", 0, 1, 24))),
+        ([f"note: LIB1, segment OTHER: {no_end}", overlap], HOST, unit(*entry(5, "OTHER", 0, 2, 24))),
+        (["note: HOST, segment TOOLS: each byte of its code is D7: it may never have been written"], changed(plain, (tools, b"\xd7" * len(m.segment_bytes(9, LONG, word)))), [LIBRARY]),
+        ([f"note: {in_unit}: each byte of its code is 00: it may never have been written"], HOST, [short_unit(bytes(16))]),
+        *(([f"note: {in_unit}: {all_one(start, end, byte)}"], HOST, [with_run(start, end, byte)]) for start, end, byte in runs()[0]),
         # zeros of a linked segment with a native procedure whose table is among them
-        (["damaged: HOST, segment TOOLS: bytes 128 to 413 of its code are all 00"], with_native(414), [LIBRARY]),
-        ([f"damaged: {in_unit}: its code ends with zeros, so it has no procedure and no segment number"], HOST, unit((CODE + 22, b"\0\0"))),
-        ([f"damaged: {in_unit}: its code ends with zeros, so it has no procedure and no segment number"], HOST, [short_unit(b"\xd7" * 14 + bytes(2))]),
-        ([f"damaged: {in_unit}: it ends with no whole procedure dictionary"], HOST, unit((CODE + 23, b"\0"))),
-        ([f"damaged: {in_unit}: each byte of its code is 00"], HOST, [short_unit(bytes(16))]),
-        ([f"damaged: {in_host}: its code has segment number 9, and its slot is 1"], changed(HOST, (CODE + 16, b"\x09")), [LIBRARY]),
-        # two entries whose addresses are exchanged: of units, and of linked segments
-        ([f"damaged: LIB1, segment UTIL: {number(5, 2)}", f"damaged: LIB1, segment OTHER: {number(2, 5)}"], HOST, [exchanged(crossed, 2, 5)]),
-        ([f"damaged: HOST, segment LONG: {number(9, 8)}", f"damaged: HOST, segment TOOLS: {number(8, 9)}"], exchanged(linked, 8, 9), [LIBRARY]),
-        # the numbers that a dictionary of II.1 has of its segments
-        ([f"damaged: {in_unit}: its code has segment number 2, and its entry has 3 at bytes 256 to 287"], HOST, unit((260, b"\3"))),
-        ([f"damaged: HOST, segment TOOLS: its code has segment number 9, and its entry has 31 at bytes 256 to 287"], changed(plain, (256 + 18, b"\x1f\x02")), [LIBRARY]),
-        ([f"damaged: {in_unit}: the attribute table of procedure 2 says that it is procedure 3"], HOST, [changed(unit_with([END], TWO), (CODE + 26, b"\3"))]),
-        ([f"damaged: {in_unit}: procedure 1 is entered or left at a place before the code"], HOST, unit((CODE + 16, word(17)))),
-        ([f"damaged: {in_unit}: procedure 1 is entered or left at a place before the code"], HOST, unit((CODE + 14, word(15)))),
+        ([f"note: HOST, segment TOOLS: {all_one(128, 414, 0)}"], with_native(414), [LIBRARY]),
+        # a run silences the other notes of its segment: a number of another procedure, and an operand without bit 7
+        ([f"note: {in_unit}: {all_one(128, 256, 0xE5)}"], HOST, [changed(with_run(128, 256, 0xE5), (CODE + 1040, b"\3"))]),
+        ([f"note: {in_unit}: {all_one(128, 256, 0)}"], HOST, [with_run(128, 256, 0, [m.publ_ref("COUNT", [130]), END])]),
+        ([clear(130)], HOST, [with_run(129, 257, 0, [m.publ_ref("COUNT", [130]), END])]),
+        ([zeros], HOST, unit((CODE + 22, b"\0\0"))),
+        ([zeros], HOST, [short_unit(b"\xd7" * 14 + bytes(2))]),
+        # a unit that has more bytes than one without procedures, and the number of another slot
+        ([f"note: {in_unit}: {no_end}"], HOST, unit((CODE + 22, b"\x09\0"))),
+        *(([f"note: {in_unit}: {no_end}"], HOST if order == "little" else SAMPLES["big_host.code"], [beside_four(b"\xd7" * 14 + bytes([3, 0]), order=order)]) for order in ("little", "big")),
+        ([f"note: {in_host}: its code has segment number 9, and its slot is 1: the code may be another one"], changed(HOST, (CODE + 16, b"\x09")), [LIBRARY]),
+        # two entries of a host whose addresses are exchanged, or whose codes have the number of the other: at the first of them
+        ([f"note: HOST, segment LONG: {exchange(9, 8)}"], exchanged(linked, 8, 9), [LIBRARY]),
+        ([f"note: {in_host}: {exchange(9, 1)}"], changed(plain, (CODE + 16, b"\x09"), (end - 2, b"\1")), [LIBRARY]),
+        # the numbers that a dictionary of II.1 has of its segments: each slot with code has a word with a number or P-code
+        ([f"note: {in_unit}: {other_info(2, 3)}"], HOST, unit((260, b"\3"))),
+        *(([f"note: {in_unit}: {other_info(2, 3)}"], host, [numbered(order, (2, high, 3))])
+          for order, host, machine in (("little", HOST, 2), ("big", SAMPLES["big_host.code"], 1)) for high in (machine, 0x20 | machine, 0x40 | machine)),
+        ([f"note: HOST, segment TOOLS: {other_info(9, 31)}"], numbered("little", (1, 2, 1), (9, 2, 31), file=plain), [LIBRARY]),
+        ([f"note: {in_unit}: the attribute table of procedure 2 says that it is procedure 3: the code may be damaged"], HOST, [changed(unit_with([END], TWO), (CODE + 26, b"\3"))]),
         # a jump into an instruction
-        ([misfit(9)], HOST, [unit_with([END], [*long_fitting(8), of_bytes(9, "B9 01 CA 05 CC 01")])]),
-        *lost_warnings(),
-        ([no_tables], changed(plain, (end - 1, b"\0")), [three]),
-        ([no_tables], changed(plain, (end - 1, b"\xc8")), [three]),
-        (["damaged: HOST, segment TOOLS: the attribute table of procedure 1 says that it is procedure 3"], changed(plain, (end - 6, b"\3")), [three]),
-        ([f"damaged: LIB1, segment UTIL: {number(5, 2)}", f"damaged: LIB1, segment OTHER: {number(2, 5)}"], HOST, [changed(crossed, (CODE + 22, b"\5"), (CODE + 1024 + 22, b"\2"))]),
-        ([f"note: {in_unit}, record 0: the operand at byte 1 may be damaged: its bit 7 is clear, and a compiler sets it"], HOST, unit((CODE + 1, b"\0"))),
-        ([f"look: {in_unit}, record 1: the operand at byte 4 is word 2 of a variable of 2 words"], HOST, [unit_with([COUNT, m.priv_ref("STATE", 2, [4]), END])]),
+        ([misfit(9)], HOST, [unit_with([END], [*long_fitting(8), of_bytes(9, INTO)])]),
+        ([misfit(9)], HOST, [two_segments(8)]),
+        ([f"note: HOST, segment TOOLS: {no_end}"], changed(plain, (end - 1, b"\0")), [three]),
+        ([f"note: HOST, segment TOOLS: {no_end}"], changed(plain, (end - 1, b"\xc8")), [three]),
+        (["note: HOST, segment TOOLS: the attribute table of procedure 1 says that it is procedure 3: the code may be damaged"], changed(plain, (end - 6, b"\3")), [three]),
+        ([clear(1)], HOST, unit((CODE + 1, b"\0"))),
+        ([f"warning: {in_unit}, record 1: the operand at byte 4 is word 2 of a variable that has 2"], HOST, [unit_with([COUNT, m.priv_ref("STATE", 2, [4]), END])]),
+        ([f"warning: {in_unit}, record 1: the operand at byte 4 is word 1 of a variable that has 0"], HOST, [changed(unit_with([COUNT, m.priv_ref("STATE", 0, [4]), END]), (CODE + 5, b"\1"))]),
         ([f"harmless: {in_unit}, record 1: the unit defines MORE, which has no effect: only the host program defines variables"], HOST, [unit_with([COUNT, m.publ_def("MORE", 3), END])]),
-        ([f"look: {in_host}: the end mark 4 is below half the data size of 10 bytes"], host_with([m.publ_def("COUNT", 3), m.eof_mark(4)]), [LIBRARY]),
-        ([f"look: {in_host}, record 0: COUNT has base offset 8, and the end mark says that 8 is free"], host_with([m.publ_def("COUNT", 8), m.eof_mark(8)]), [LIBRARY]),
-        (["look: LIB2, segment AUX: it is added in slot 08, which the host has for OLD: calls of OLD go to it"], changed(HOST, *entry(8, "OLD", 0, 0, 0)), [USING, USED]),
-        (["look: LIB1, segment UTIL, record 0: " + small, "look: LIB1: " + small, "look: LIB1, segment util: another unit of the link is UTIL, nearly the same name"], HOST, [spelled]),
+        # what a unit defines and refers to: where the host defines it too, and in a unit that the link does not take
+        ([f"harmless: {in_unit}, record 1: the unit defines COUNT, which has no effect: only the host program defines variables"], HOST, [unit_with([COUNT, m.publ_def("COUNT", 3), END])]),
+        (["harmless: LIB1, segment OTHER, record 1: the unit defines OWN, which has no effect: only the host program defines variables"], HOST, other(*own, END)),
+        (["harmless: LIB2, segment UTIL, record 1: the unit defines OWN, which has no effect: only the host program defines variables"], HOST, [LIBRARY, unit_with([*own, END])]),
+        ([f"warning: {in_host}: the end mark 4 is below half the data size of 10 bytes"], host_with([m.publ_def("COUNT", 3), m.eof_mark(4)]), [LIBRARY]),
+        ([f"warning: {in_host}, record 0: COUNT has base offset 8, and the end mark says that 8 is free"], host_with([m.publ_def("COUNT", 8), m.eof_mark(8)]), [LIBRARY]),
+        ([taken("OLD")], changed(HOST, *entry(8, "OLD", 0, 0, 0)), [USING, USED]),
+        ([taken('""')], blank_slot(b" " * 8, 1), [USING, USED]),
+        ([f"note: LIB1, segment UTIL, record 0: {small}", f"note: LIB1: {small}", "warning: LIB1, segment util: another unit of the link is UTIL, nearly the same name"], HOST, [spelled]),
+        # the lines come in the order of the files and of their entries, whatever they begin with
+        ([f"note: LIB1: {twice(1024, 1535)}", f"warning: {in_unit}, record 1: the operand at byte 4 is word 2 of a variable that has 1", "harmless: LIB2: its last 2 bytes are 1A: it was padded, as by CP/M"],
+         HOST, [narrow + narrow[-512:], LIBRARY + b"\x1a\x1a"]),
     ]  # fmt: skip
 
 
 def quiet():
-    """Files that have no warning: what FORMAT.md allows, and the samples."""
+    """Files of which nothing is found: what FORMAT.md allows, the samples, and files beside those of warnings()."""
     pairs = [("host.code", "library.code"), ("big_host.code", "big_library.code"), ("host.code", "using.code", "used.code"),
              ("two_units.code",), ("procedures.code", "library.code")]  # fmt: skip
     names = [b"DEMO", b"UTIL", b"COUNT", b"STATE"]
@@ -494,6 +523,10 @@ def quiet():
     once = m.Segment("ONCE", m.LINKED, [m.Procedure(1, [*MIXED[:400], "RNP 0"])])
     same = m.code_file({**m.HOST, 9: once, 10: once})
     same = changed(same, (m.BLOCK * same[40] + 400 + 14, b"\x09"))
+    plain = m.code_file({**m.HOST, 9: m.Segment("TOOLS", m.LINKED, LONG)})
+    crossed = m.code_file({**m.LIBRARY, 5: OTHER_UNIT})
+    unit = lambda *changes: [changed(LIBRARY, *changes)]
+    other = lambda *links: [m.code_file({**m.LIBRARY, 5: m.Segment("OTHER", m.UNITSEG, m.UNIT, links)})]
     return [
         *((SAMPLES[host], [SAMPLES[name] for name in libraries]) for host, *libraries in pairs),
         (HOST, [unit_with(m.UNIT_LINKS, slot=9)]),
@@ -534,4 +567,39 @@ def quiet():
         (HOST, [USING, USED, *[LIBRARY] * 30]),
         (HOST, [USING, USED, AUX_FILE, AUX_FILE]),
         (HOST, [LIBRARY, m.code_file({3: AUX_UNIT, 7: m.Segment("UTIL", m.UNITSEG, m.WANTED)})]),
+        *lost_quiet(),
+        # runs that are too short, or begin and end within a sector
+        *((HOST, [with_run(start, end, byte)]) for start, end, byte in runs()[1]),
+        # segments without a name, a slot that has half of an entry, and empty slots as a compiler leaves them
+        (plain.replace(b"TOOLS", b"     "), [LIBRARY]),
+        *((changed(HOST, (28 + place, word(value))), [LIBRARY]) for place, value in ((0, 2), (2, 24))),
+        *((blank_slot(name, kind), libraries) for name in (b" " * 8, bytes(8)) for kind in (0, 2, 3, 4) for libraries in ([LIBRARY], [USING, USED])),
+        # units that the link does not take and by which one that takes them is refused
+        *((HOST, unit(*entry(5, "OTHER", kind, address, length))) for kind, address, length in ((3, 9, 24), (3, 9, 23), (4, 0, 24))),
+        *((HOST, [changed(other(END)[0], (CODE + 1024 + place, byte))]) for place, byte in ((23, b"\xc8"), (18, b"\0"))),
+        (HOST, other(COUNT, m.record("COUNT", 15, 1), END)),
+        # a code without a byte above 127
+        (stripped(48), [LIBRARY]),
+        # units without a procedure that have more bytes, and the number of their slot or none
+        (HOST, unit((CODE + 23, b"\0"))),
+        *((HOST if order == "little" else big_host, [beside_four(b"\xd7" * 14 + bytes([2, 0]), order=order)]) for order in ("little", "big")),
+        (HOST, [beside_four(b"\xd7" * 14 + bytes(2), slot=0)]),
+        # codes of a library with the numbers of one another
+        (HOST, [exchanged(crossed, 2, 5)]),
+        (HOST, [changed(crossed, (CODE + 22, b"\5"), (CODE + 1024 + 22, b"\2"))]),
+        # segment number 0 is none
+        (changed(HOST, (CODE + 16, b"\0")), [changed(LIBRARY, (CODE + 22, b"\0"))]),
+        (HOST, [numbered("little", (2, 2, 3), file=changed(LIBRARY, (CODE + 22, b"\0")))]),
+        # words that are no numbers of II.1: of a slot with code one is 0, is of another machine, has a bit that says nothing or too
+        # large a number; or one of a slot without code is not 0; or the number is right
+        (changed(plain, (256 + 18, b"\x1f\x02")), [LIBRARY]),
+        *((host, [numbered(order, *words)])
+          for order, host, machine in (("little", HOST, 2), ("big", big_host, 1))
+          for words in ([(2, 3 - machine, 3)], [(2, 0x47, 3)], [(2, 0x10 | machine, 3)], [(2, machine, 32)], [(2, machine, 3), (3, 0, 1)], [(2, machine, 3), (3, machine, 0)], [(2, machine, 2)], [(2, machine, 0)])),
+        (changed(HOST, (259, b"\x47")), unit((261, b"\x41"))),
+        (changed(HOST, (258, b"\1\x42")), unit((260, b"\2\7"), (286, b"\x1f\xef"))),
+        # a procedure that does not fit beside seven long ones of its segment, and more in another one
+        (HOST, [two_segments(7)]),
+        # word 0 of a variable without words
+        (HOST, [changed(unit_with([COUNT, m.priv_ref("STATE", 0, [4]), END]), (CODE + 5, b"\0"))]),
     ]

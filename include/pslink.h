@@ -32,8 +32,8 @@
  *
  * Any bytes may be given as a file: one that is no code file is refused. That the result is right
  * is proved: what is in `out` after PSLINK_DONE, and which fault a refusal names; of a report, its
- * verdict and the line of it, how many of its lines begin as a warning, the lines of the segments
- * where the files are linked, and the list of each file where none is a host, both with the names
+ * verdict and the line of it, which warnings it has and where each is, the lines of the segments
+ * where the files are linked, and the list of each file where none is a host, all with the names
  * that are given; and not its other lines. It is proved of the functions that the library exports,
  * whose names end in `_nonnull`, and of pslink_version and pslink_release_number. The others are
  * inline functions of this header over them, which are tested. What the proof asks of the caller is
@@ -106,12 +106,12 @@ extern "C" {
                                      as the program's `map --references` */
 #define PSLINK_TEXT_SHOW 2u       /* what the file `host` has, as pslink_show */
 #define PSLINK_TEXT_CHECK 3u      /* the report on the files, as pslink_check; its JSON document has
-                                     the warnings and notes one by one */
+                                     what is found one by one */
 #define PSLINK_TEXT_LIST 4u       /* what each file has, as the program's `list` */
 #define PSLINK_TEXT_UNITS 5u      /* the list of each file, and after it what is wrong with its
                                      units by themselves, as `check --unit`: PSLINK_LINES alone */
-#define PSLINK_TEXT_LOOKS 6u      /* what looks wrong, one by one: the warnings of the report, what
-                                     is harmless, and the notes, each in a line */
+#define PSLINK_TEXT_LOOKS 6u      /* what the report finds, one by one: warnings, notes, and what is
+                                     harmless, each in a line */
 #define PSLINK_LINES 0u           /* lines of text, each ended by a byte 10 */
 #define PSLINK_JSON 1u            /* one JSON document, as the program's `--json` */
 
@@ -308,7 +308,7 @@ static inline uint32_t pslink_map(const void *host, size_t host_length, const vo
 /*
  * The report on the same files, as UTF-8 text without a closing 0, for a person: the files, where
  * each segment comes from, whether they are linked, what a fault means in these files and what to
- * do about it, and what looks wrong. It is the text of the program's command `check`. Files that
+ * do about it, and what else is found. It is the text of the program's command `check`. Files that
  * are refused have one too: PSLINK_DONE says only that `out` begins with it, and `verdict` in the
  * answer says whether the files are linked. Its length is found as that of a map.
  *
@@ -341,14 +341,15 @@ static inline uint32_t pslink_show(const void *file, size_t file_length, void *o
  * that of a map.
  *
  * A map and its references are refused as a link is, and a show as that of pslink_show. A report,
- * what looks wrong, a list and its units are never PSLINK_REFUSED: what is wrong with the files is in
+ * what it finds, a list and its units are never PSLINK_REFUSED: what is wrong with the files is in
  * the text. `names` and `name_lengths`: as those of pslink_check, for these four; of the others they
  * are not looked at, and may be NULL. A show, a list and its units are of files by themselves: `host`
  * is the first of them, or the one of a show, in which `libs` have no part.
  *
- * What looks wrong is the last lines of the report on the same files, one for each warning, for each
- * look that is harmless and for each note: they begin with `warning: `, `harmless: ` and `note: `. It
- * is empty where nothing does. Its document has the lists `warnings`, `harmless` and `notes` of the
+ * What is found is the last lines of the report on the same files, one for each finding: in each
+ * file, and then in the link. A line begins with `warning: ` where it is certain and the link may be
+ * another one than was meant, with `harmless: ` where it changes no link, and with `note: ` where it
+ * is a guess. The text is empty where nothing is found. Its document has the list `findings` of the
  * document of the report, each item in a line.
  *
  * Since 0.2.0.

@@ -9,13 +9,14 @@ import sys
 ROOT = pathlib.Path(__file__).resolve().parent.parent
 LINKING, USING = ROOT / "docs/LINKING.md", ROOT / "docs/USING.md"
 SENTENCES = next((ROOT / "crates").glob("*/src/sentences.rt"))
-WARNINGS = [ROOT / f"crates/{file}" for file in ("ps_warnings/src/warnings.rt", "ps_segments/src/looks.rt")]
-LOOKS = ["FileLook", "DictionaryLook", "SegmentLook", "EntryLook", "CodeLook", "ProcedureLook", "RecordLook", "LinkLook"]
+FINDING = ROOT / "crates/ps_warnings/src/finding.rt"
+# In the order of the rows.
+FINDINGS = ["FileFinding", "DictionaryFinding", "EntryFinding", "NameFinding", "CodeFinding", "ProcedureFinding", "OperandFinding", "RecordFinding", "LinkFinding"]
 # A reader of LINKING and of pslink(1) has the section at hand.
 OF_THE_PAGE = " in pslink(1)"
 HEAD = "| No. | What is wrong | What to do |\n|---|---|---|\n"
-HEAD_OF_WARNINGS = "| What `check` says | Weight | What it means, and what to do |\n|---|---|---|\n"
-HEAD_OF_NOTES = "| What `check` notes | What it means, and what to do |\n|---|---|\n"
+HEAD_OF_WARNINGS = "| What `check` warns of | What it means, and what to do |\n|---|---|\n"
+HEAD_OF_NOTES = "| What `check` notes | Word | What it means, and what to do |\n|---|---|---|\n"
 
 
 def numbers():
@@ -46,13 +47,9 @@ def shown(text):
     return re.sub(r"\{(\w+)(:[^}]*)?\}", lambda part: part[1].upper(), text.replace('\\"', '"'))
 
 
-def source_of_warnings():
-    return "".join(file.read_text() for file in WARNINGS)
-
-
 def said_of(enum):
-    """For each variant of an enum of looks what is printed, its name, and the comment on it."""
-    source = source_of_warnings()
+    """For each variant of an enum of findings its name, what is printed, and the comment on it."""
+    source = FINDING.read_text()
     variants = source.split(f"pub enum {enum} {{", 1)[1].split("\n}\n", 1)[0]
     meanings = re.findall(r"((?:^    ///.*\n)+)^    (\w+)", variants, re.M)
     display = source.split(f"impl fmt::Display for {enum} {{", 1)[1].split("\n}\n", 1)[0]
@@ -63,27 +60,33 @@ def said_of(enum):
 
 
 def weight(enum, name):
-    """The weight of a variant of an enum of looks: that of an arm that names it, or of one for all of the enum."""
-    found = []
-    for arms in re.findall(r"fn weight\(.*?\n    \}\n", source_of_warnings(), re.S):
-        for arm, weight in re.findall(r"((?:(?!=>).)*)=>\s*Weight::(\w+)", arms, re.S):
-            if re.search(rf"\b{enum}::{name}\b|\b{enum.removesuffix('Look')}\(_\)", arm):
-                found.append(weight.lower())
+    """The word for the weight of a variant of an enum of findings: that of the arm that names it, or of the one for all of the enum."""
+    (arms,) = re.findall(r"fn weight\(.*?\n    \}\n", FINDING.read_text(), re.S)
+    subject = enum.removesuffix("Finding")
+    found = [
+        weight.lower()
+        for arm, weight in re.findall(r"((?:(?!=>).)*)=>\s*Weight::(\w+)", arms, re.S)
+        if re.search(rf"\b{enum}::{name}\b|\bFinding::{subject}\(_\)", arm)
+    ]
     (only,) = found
     return only
 
 
-def warnings():
-    """For each look what is printed, its weight, and the comment on its variant."""
-    for enum in LOOKS:
+def findings():
+    """For each finding the word that its line begins with, what is printed, and the comment on its variant."""
+    for enum in FINDINGS:
         for name, text, meaning in said_of(enum):
-            yield f"| {shown(text)} | {weight(enum, name)} | {meaning} |\n"
+            yield weight(enum, name), shown(text), meaning
+
+
+def warnings():
+    """A row for each finding that is a warning."""
+    return [f"| {text} | {meaning} |\n" for word, text, meaning in findings() if word == "warning"]
 
 
 def notes():
-    """For each guess what is printed, and the comment on its variant."""
-    for _, text, meaning in said_of("Guess"):
-        yield f"| {shown(text)} | {meaning} |\n"
+    """A row for each other finding."""
+    return [f"| {text} | {word} | {meaning} |\n" for word, text, meaning in findings() if word != "warning"]
 
 
 def with_table(page, head, rows):

@@ -178,11 +178,12 @@ def damage():
 
 
 def warnings():
-    """What each warning says, how much it weighs, what it means and what to do; and the same of each note."""
+    """What the line of each finding says, with the word that it begins with, what it means and what to do: the warnings, then the
+    others."""
     warned, noted = USING.tables("Warnings")[:2]
-    for text, weight, meaning in [*warned, *((text, "note", meaning) for text, meaning in noted)]:
+    for text, word, meaning in [*((text, "warning", meaning) for text, meaning in warned), *noted]:
         yield ".TP"
-        yield inline(f"{text} ({weight})")
+        yield inline(f"{text} ({word})")
         yield from lines_of(meaning)
 
 

@@ -10,6 +10,8 @@
 #include "refusing_heap.h"
 
 #define ROOM 8192
+/* Where the library says how many words the private variable of record 1 has. */
+#define WORDS_OF_STATE (1024 + 32 + 14)
 
 /* What the sample pair is reported as, and the host alone. */
 static const char pair[] =
@@ -110,7 +112,7 @@ static void check_verdicts(void)
           "the fault of the host alone is another", 0);
 }
 
-/* The attribute table of the unit's procedure has another number: one warning, of which a strict check says 1. */
+/* The unit's private variable has two words, and the operand is the third: one warning, of which a strict check says 1. */
 static void check_strict(void)
 {
     static unsigned char room[ROOM], other[1 << 16];
@@ -119,7 +121,7 @@ static void check_strict(void)
     int strict;
 
     memcpy(other, library.bytes, library.length);
-    other[512 + 18] = 3;
+    other[WORDS_OF_STATE] = 2;
     warned.bytes = other;
     for (strict = 0; strict < 3; strict++) {
         uint32_t status = pslink_check_files(host, &warned, 1, strict, room, sizeof room, &answer);
@@ -280,23 +282,25 @@ static void check_texts(void)
           "a short file is shown", answer.fault);
 }
 
-/* What looks wrong, one by one: nothing of the pair; and of a library whose procedure has another number, whose operand has lost its
- * bit 7, and which was padded, a warning, what is harmless and a note, which are the last lines of the report. */
+/* What is found, one by one: nothing in the pair; and in a library that was padded, whose procedure has another number, whose private
+ * variable has two words where the operand is the third, and whose first operand has lost its bit 7, what is harmless, a note, a warning
+ * and a note, which are the last lines of the report. */
 static void check_looks(void)
 {
-    static const char none[] = "{\"warnings\":[\n],\"harmless\":[\n],\"notes\":[\n]}\n";
+    static const char none[] = "{\"findings\":[\n]}\n";
     static const char lines[] =
-        "warning: damaged: LIB1, segment UTIL: the attribute table of procedure 1 says that it is procedure 3\n"
         "harmless: LIB1: its last 2 bytes are 1A: it was padded, as by CP/M\n"
+        "note: LIB1, segment UTIL: the attribute table of procedure 1 says that it is procedure 3: the code may be damaged\n"
+        "warning: LIB1, segment UTIL, record 1: the operand at byte 4 is word 2 of a variable that has 2\n"
         "note: LIB1, segment UTIL, record 0: the operand at byte 1 may be damaged: its bit 7 is clear, and a compiler sets it\n";
     static const char items[] =
-        "{\"warnings\":[\n"
-        "{\"weight\":\"damaged\",\"path\":\"LIB1\",\"segment\":{\"name\":\"UTIL    \",\"name_hex\":\"5554494C20202020\"},"
-        "\"record\":null,\"text\":\"the attribute table of procedure 1 says that it is procedure 3\"}\n"
-        "],\"harmless\":[\n"
+        "{\"findings\":[\n"
         "{\"weight\":\"harmless\",\"path\":\"LIB1\",\"segment\":null,"
-        "\"record\":null,\"text\":\"its last 2 bytes are 1A: it was padded, as by CP/M\"}\n"
-        "],\"notes\":[\n"
+        "\"record\":null,\"text\":\"its last 2 bytes are 1A: it was padded, as by CP/M\"},\n"
+        "{\"weight\":\"note\",\"path\":\"LIB1\",\"segment\":{\"name\":\"UTIL    \",\"name_hex\":\"5554494C20202020\"},"
+        "\"record\":null,\"text\":\"the attribute table of procedure 1 says that it is procedure 3: the code may be damaged\"},\n"
+        "{\"weight\":\"warning\",\"path\":\"LIB1\",\"segment\":{\"name\":\"UTIL    \",\"name_hex\":\"5554494C20202020\"},"
+        "\"record\":1,\"text\":\"the operand at byte 4 is word 2 of a variable that has 2\"},\n"
         "{\"weight\":\"note\",\"path\":\"LIB1\",\"segment\":{\"name\":\"UTIL    \",\"name_hex\":\"5554494C20202020\"},"
         "\"record\":0,\"text\":\"the operand at byte 1 may be damaged: its bit 7 is clear, and a compiler sets it\"}\n"
         "]}\n";
@@ -310,22 +314,23 @@ static void check_looks(void)
     memset(room, FILLER, sizeof room);
     check(pslink_text_files(PSLINK_TEXT_LOOKS, PSLINK_LINES, host, &library, 1, room, sizeof room, &answer) == PSLINK_DONE &&
               answer.written == 0 && answer.needed == 0 && is_untouched(room, 0, sizeof room),
-          "something of the pair looks wrong", answer.written);
+          "something is found in the pair", answer.written);
     size = text_of(PSLINK_TEXT_LOOKS, PSLINK_JSON, 1, room, sizeof room);
     check(size == strlen(none) && memcmp(room, none, size) == 0, "the document of nothing is another", size);
     memcpy(file, library.bytes, library.length);
     file[512 + 18] = 3;
     file[512 + 1] = 0;
+    file[WORDS_OF_STATE] = 2;
     memset(file + library.length, 0x1A, 2);
     library.bytes = file;
     library.length += 2;
     size = text_of(PSLINK_TEXT_LOOKS, PSLINK_LINES, 1, room, sizeof room);
-    check(size == strlen(lines) && memcmp(room, lines, size) == 0, "what looks wrong is said otherwise", size);
+    check(size == strlen(lines) && memcmp(room, lines, size) == 0, "what is found is said otherwise", size);
     check(make(1, other, sizeof other, &report) == PSLINK_DONE && report.warnings == 1 && report.written > size &&
               memcmp(other + report.written - size, room, size) == 0,
           "the report ends with other lines", report.written);
     size = text_of(PSLINK_TEXT_LOOKS, PSLINK_JSON, 1, room, sizeof room);
-    check(size == strlen(items) && memcmp(room, items, size) == 0, "the document of what looks wrong is another", size);
+    check(size == strlen(items) && memcmp(room, items, size) == 0, "the document of what is found is another", size);
     library = kept;
 }
 

@@ -35,6 +35,7 @@ import pslink  # noqa: E402
 
 HOST, LIBRARY, USING, USED, BOTH = (ROOT / f"samples/{name}.code" for name in ("host", "library", "using", "used", "two_units"))
 UTIL, AUX = b"UTIL    ", b"AUX     "
+WORDS_OF_STATE = 1024 + 32 + 14  # where the library says how many words the private variable of record 1 has
 MISSING = ("refused 13 MissingUnit file 0 slot 7", 13, "MissingUnit", 0, None, 7, None, None, UTIL)
 found = []
 
@@ -96,12 +97,12 @@ def of_reports():
     check(report.text.startswith(f"file 0 {HOST}: ") and parts(report.fault) == MISSING, f"the report of a path is {report}")
     check((report.warnings, report.summary, report.ok) == (0, None, False), f"what goes with a refusal is {report[1:]}")
     check(parts(pickle.loads(pickle.dumps(report)).fault) == MISSING, "a report that was pickled is another")
-    # (the attribute table of its procedure has another number)
-    warned = library[:530] + b"\3" + library[531:]
+    # (its private variable has two words, and the operand is the third)
+    warned = library[:WORDS_OF_STATE] + b"\2" + library[WORDS_OF_STATE + 1 :]
     for strict in (False, True):
         report = pslink.check(host, [warned], ["\N{FLOPPY DISK}", "two"], strict)
         check((report.warnings, report.fault, report.ok) == (1, None, not strict), f"a warning is {report[1:]}")
-        check("file 0 \N{FLOPPY DISK}: " in report.text and "\nwarning: damaged: two, segment UTIL" in report.text, f"its text is {report.text}")
+        check("file 0 \N{FLOPPY DISK}: " in report.text and "\nwarning: two, segment UTIL, record 1: " in report.text, f"its text is {report.text}")
     check(pslink.check(host, [library]) and not pslink.check(host), "a report is true otherwise than where it is ok")
     check(pslink.check(host) == pslink.check(host) != pslink.check(host, [library]), "two reports are equal otherwise than by what they hold")
     check(raised(ValueError, pslink.check, host, [library], ["one"]), "a name too few is no ValueError")
@@ -177,17 +178,18 @@ def of_texts():
     for what in ("map", "references", "show", "check", "list", "looks"):
         json.loads(text(what, *files, json=True))
     document = json.loads(text("check", HOST, [changed(LIBRARY, at530=b"\3")], json=True))
-    check([warning["weight"] for warning in document["warnings"]] == ["damaged"], f"the warnings are {document['warnings']}")
-    # (a procedure of another number, padding, and an operand without its bit 7)
-    odd = changed(LIBRARY, at513=b"\0", at530=b"\3") + b"\x1a\x1a"
+    check([finding["weight"] for finding in document["findings"]] == ["note"], f"what is found is {document['findings']}")
+    # (padding, a procedure of another number, a private variable of two words, and an operand without its bit 7)
+    odd = changed(LIBRARY, at513=b"\0", at530=b"\3", **{f"at{WORDS_OF_STATE}": b"\2"}) + b"\x1a\x1a"
     looks = [
-        ("damaged", "two\n", UTIL, None, "the attribute table of procedure 1 says that it is procedure 3"),
         ("harmless", "two\n", None, None, "its last 2 bytes are 1A: it was padded, as by CP/M"),
+        ("note", "two\n", UTIL, None, "the attribute table of procedure 1 says that it is procedure 3: the code may be damaged"),
+        ("warning", "two\n", UTIL, 1, "the operand at byte 4 is word 2 of a variable that has 2"),
         ("note", "two\n", UTIL, 0, "the operand at byte 1 may be damaged: its bit 7 is clear, and a compiler sets it"),
     ]
-    check(pslink.looks(HOST, [odd], ["\N{FLOPPY DISK}", "two\n"]) == looks, f"what looks wrong is {pslink.looks(HOST, [odd])}")
-    check(pslink.looks(*files) == [] and text("looks", *files) == "", "something of the pair looks wrong")
-    check(text("looks", HOST, [odd], ["one", "two"]).splitlines() == pslink.check(HOST, [odd], ["one", "two"]).text.splitlines()[-3:], "the lines of what looks wrong are others")
+    check(pslink.looks(HOST, [odd], ["\N{FLOPPY DISK}", "two\n"]) == looks, f"what is found is {pslink.looks(HOST, [odd])}")
+    check(pslink.looks(*files) == [] and text("looks", *files) == "", "something is found in the pair")
+    check(text("looks", HOST, [odd], ["one", "two"]).splitlines() == pslink.check(HOST, [odd], ["one", "two"]).text.splitlines()[-4:], "the lines of what is found are others")
     check(parts(raised(pslink.Refused, text, "map", HOST)) == MISSING, "the text of a map is of files that are refused")
     check(raised(ValueError, lambda: text("units", HOST, json=True)), "there is a document of units")
     check(raised(ValueError, text, "plan", HOST), "there is a text of another name")

@@ -38,7 +38,7 @@ else:
     File = Union[bytes, bytearray, memoryview, array.array, mmap.mmap, ctypes.Array, str, os.PathLike]
 
 # What `text` makes, as the commands of the program call it: `references` is the map with them, `units` is `check --unit`, `looks` is
-# what looks wrong by a `check`, one by one.
+# what a `check` finds, one by one.
 Text = Literal["map", "references", "show", "check", "list", "units", "looks"]
 _TEXTS = {"map": 0, "references": 1, "show": 2, "check": 3, "list": 4, "units": 5, "looks": 6}
 _LINES, _JSON = 0, 1
@@ -446,7 +446,7 @@ def text(
     """What the program prints of these files by its command of this name, as lines, or as one JSON document. Since 0.2.0.
 
     `references` is a map with what the link stores at each place; `units` is a list and what is wrong with each unit by itself, as
-    lines alone; `looks` is what looks wrong by a check, a line for each. Of a `list` and of `units` all files are equal; of a `show` there is one. names: as of `check`. Raises what `link`
+    lines alone; `looks` is what a check finds, a line for each. Of a `list` and of `units` all files are equal; of a `show` there is one. names: as of `check`. Raises what `link`
     raises, Refused for a map, its references and a show alone, and ValueError for what is no such text.
     """
     if what not in _TEXTS:
@@ -466,10 +466,11 @@ def text(
 
 
 class Look(NamedTuple):
-    """What looks wrong in a file and is no fault, or is harmless, or is what the P-code makes one guess. Since 0.2.0.
+    """What a check finds in files and is no fault. Since 0.2.0.
 
-    weight: 'look' or 'damaged' of a warning, or 'harmless', or 'note'. path: what the report calls the file. segment: the eight bytes
-    of the name of the segment that it is in, or None. record: the index of the record, or None. text: what is said of it.
+    weight: 'warning', which is certain; 'note', a guess; or 'harmless', which changes no link (until 0.3.0 a warning was 'look' or
+    'damaged', and many a note was one). path: what the report calls the file. segment: the eight bytes of the name of the segment that
+    it is in, or None. record: the index of the record, or None. text: what is said of it.
     """
 
     weight: str
@@ -486,12 +487,11 @@ def _look(item):
 
 
 def looks(host: File, libs: Iterable[File] = (), names: Optional[Iterable[str]] = None) -> List[Look]:
-    """What looks wrong by a check of these files, one by one: the warnings, then what is harmless, then the notes. Since 0.2.0.
+    """What a check of these files finds, one by one: in each file, and then in the link. Since 0.2.0.
 
-    They are in the order of the report's lines, of which each has one. names, and what is raised: as of `check`.
+    Each has a line of the report, in this order. names, and what is raised: as of `check`.
     """
-    made = json.loads(text("looks", host, libs, names, json=True))
-    return [_look(item) for kind in ("warnings", "harmless", "notes") for item in made[kind]]
+    return [_look(item) for item in json.loads(text("looks", host, libs, names, json=True))["findings"]]
 
 
 def units_wanted(host: File, libs: Iterable[File] = ()) -> List[bytes]:

@@ -360,13 +360,13 @@ pub enum Text {
     References = 1,
     /// What the one file has, as [`show`].
     Show = 2,
-    /// The report on the files, as [`check`]; its document has the warnings and notes one by one.
+    /// The report on the files, as [`check`]; its document has what it finds one by one.
     Check = 3,
     /// What each file has, in a line for each segment.
     List = 4,
     /// That list, and what is wrong with the units of each file by themselves: lines alone.
     Units = 5,
-    /// What looks wrong by that report, one by one, as [`looks`].
+    /// What that report finds, one by one, as [`looks`].
     Looks = 6,
 }
 
@@ -405,9 +405,9 @@ pub fn text<H: AsRef<[u8]>, L: AsRef<[u8]>>(
     Ok(String::from_utf8_lossy(&text).into_owned())
 }
 
-/// What looks wrong by a check of these files and is no fault, one by one: the warnings, then what is
-/// harmless, then the notes, in the order of the report's lines. Each file goes with the name that
-/// the report has for it. Since 0.2.0.
+/// What a check of these files finds and is no fault, one by one: in each file, and then in the link.
+/// Each has a line of the report, in this order. Each file goes with the name that the report has for
+/// it. Since 0.2.0.
 ///
 /// # Errors
 /// Those of [`check`].

@@ -1,34 +1,27 @@
-//! What looks wrong in files, read back from the document of the library.
+//! What a check finds in files, read back from the document of the library.
 
 use crate::Name;
 use std::fmt;
 
-/// How much a [`Look`] weighs. Its text is the word that the report has. Since 0.2.0.
+/// How much a [`Look`] weighs. Its text is the word that its line in the report begins with. Since
+/// 0.2.0; until 0.3.0 a warning was `Look` or `Damaged`, and many a note was one.
 #[derive(Clone, Copy, Debug, PartialEq, Eq, Hash)]
 #[non_exhaustive]
 pub enum Weight {
-    /// A warning: it looks wrong.
-    Look,
-    /// A warning: the file looks damaged.
-    Damaged,
-    /// It looks wrong and is harmless.
+    /// It is certain, and the link may be another one than was meant.
+    Warning,
+    /// It is certain, and changes no link.
     Harmless,
-    /// The P-code makes one guess.
+    /// It is a guess.
     Note,
 }
 
 impl Weight {
-    const ALL: [Weight; 4] = [
-        Weight::Look,
-        Weight::Damaged,
-        Weight::Harmless,
-        Weight::Note,
-    ];
+    const ALL: [Weight; 3] = [Weight::Warning, Weight::Harmless, Weight::Note];
 
     fn word(self) -> &'static str {
         match self {
-            Weight::Look => "look",
-            Weight::Damaged => "damaged",
+            Weight::Warning => "warning",
             Weight::Harmless => "harmless",
             Weight::Note => "note",
         }
@@ -41,7 +34,7 @@ impl fmt::Display for Weight {
     }
 }
 
-/// What looks wrong in a file and is no fault. Since 0.2.0.
+/// What a check finds in files and is no fault. Since 0.2.0.
 #[derive(Clone, Debug, PartialEq, Eq)]
 #[non_exhaustive]
 pub struct Look {

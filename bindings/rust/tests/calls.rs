@@ -3,6 +3,9 @@
 use pslink::{Error, Fault, Form, Look, Reason, Summary, Text, Weight, NO_LIBRARIES};
 use std::collections::HashSet;
 
+/// Where the library says how many words the private variable of record 1 has.
+const WORDS_OF_STATE: usize = 1024 + 32 + 14;
+
 fn sample(name: &str) -> Vec<u8> {
     let path = format!("{}/tests/samples/{name}", env!("CARGO_MANIFEST_DIR"));
     std::fs::read(&path).unwrap_or_else(|error| panic!("{path}: {error}"))
@@ -72,14 +75,14 @@ fn a_report_names_the_files_and_has_the_verdict() {
         (report.warnings, report.verdict.map(numbers), report.ok),
         (0, Ok((2, 4, 3)), true)
     );
-    // The attribute table of its procedure has another number.
-    library[530] = 3;
+    // Its private variable has two words, and the operand is the third.
+    library[WORDS_OF_STATE] = 2;
     for strict in [false, true] {
         let report = pslink::check(("one", &host), &[("two", &library)], strict).unwrap();
         assert_eq!((report.warnings, report.ok), (1, !strict));
         assert!(report
             .text
-            .contains("\nwarning: damaged: two, segment UTIL"));
+            .contains("\nwarning: two, segment UTIL, record 1: "));
     }
     let none: &[(&str, &[u8])] = &[];
     let report = pslink::check(("HOST", &host), none, false).unwrap();
@@ -172,13 +175,15 @@ fn a_text_is_what_the_program_prints() {
 }
 
 #[test]
-fn what_looks_wrong_is_told_one_by_one() {
+fn what_is_found_is_told_one_by_one() {
     let (host, mut library) = (sample("host.code"), sample("library.code"));
     let none = pslink::looks(("HOST", &host), &[("LIB1", &library)]).unwrap();
     assert_eq!(none, []);
-    // A procedure of another number, an operand without its bit 7, and padding.
+    // Padding, a procedure of another number, a private variable of two words, and an operand without
+    // its bit 7.
     library[530] = 3;
     library[513] = 0;
+    library[WORDS_OF_STATE] = 2;
     library.extend([0x1A; 2]);
     let path = "a \"path\" \\ \u{1}\n\u{1F4BE}";
     let looks = pslink::looks(("HOST", &host), &[(path, &library)]).unwrap();
@@ -188,16 +193,23 @@ fn what_looks_wrong_is_told_one_by_one() {
         looks.iter().map(parts).collect::<Vec<_>>(),
         [
             (
-                Weight::Damaged,
-                util,
-                None,
-                "the attribute table of procedure 1 says that it is procedure 3".to_owned()
-            ),
-            (
                 Weight::Harmless,
                 None,
                 None,
                 "its last 2 bytes are 1A: it was padded, as by CP/M".to_owned()
+            ),
+            (
+                Weight::Note,
+                util,
+                None,
+                "the attribute table of procedure 1 says that it is procedure 3: the code may be damaged"
+                    .to_owned()
+            ),
+            (
+                Weight::Warning,
+                util,
+                Some(1),
+                "the operand at byte 4 is word 2 of a variable that has 2".to_owned()
             ),
             (
                 Weight::Note,
@@ -209,7 +221,7 @@ fn what_looks_wrong_is_told_one_by_one() {
         ]
     );
     assert!(looks.iter().all(|look| look.path == path));
-    assert_eq!(Weight::Damaged.to_string(), "damaged");
+    assert_eq!(Weight::Warning.to_string(), "warning");
 }
 
 #[test]
