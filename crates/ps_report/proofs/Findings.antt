@@ -1,6 +1,7 @@
 -- Findings with their words, one after another, and how many of them are warnings.
-use Rattle.std.proofs.Common.{◌≡◌, ◌∙◌, ◌+◌, ◌<◌, ◌++◌, ◌∷◌, [], ℕ, Bool, List, ap, cond, false, get_or, length, map, refl, string_bytes, sym, take, true}
-use Rattle.std.proofs.lemmas.List.{map-append, take_more}
+use Rattle.std.proofs.Common.{◌≡◌, ◌∙◌, ◌+◌, ◌<◌, ◌++◌, ◌∷◌, [], ℕ, Bool, List, ap, arith, cond, ◌≤◌, false, get_or, length, map, refl, string_bytes, sym, take, true}
+use mir.Val.{bool_byte}
+use Rattle.std.proofs.lemmas.List.{length-append, map-append, take_more}
 use Rattle.std.proofs.lemmas.List.Elements.{filter-append}
 use Rattle.ps_warnings.specs.Places.{place_text}
 use Rattle.std.specs.List.{filter}
@@ -68,9 +69,10 @@ count_step : (c a : Bool) (x : Said) (xs : List Said) (s : Stated) (rest : List 
     → length (filter is_warned xs) ≡ length (filter is_warning rest)
     → length (filter is_warned (x ∷ xs)) ≡ length (filter is_warning (cond a (s ∷ rest) rest))
 count_step true true x xs s rest h k l so_far =
+    let grown : length (x ∷ filter is_warned xs) ≡ length (s ∷ filter is_warning rest) =
+    omega (arith, so_far) in
     ap (λ (b : Bool). length (cond b (x ∷ filter is_warned xs) (filter is_warned xs))) k
-    ∙ (ap (λ (n : ℕ). n + 1) so_far
-    ∙ sym (ap (λ (b : Bool). length (cond b (s ∷ filter is_warning rest)
+    ∙ (grown ∙ sym (ap (λ (b : Bool). length (cond b (s ∷ filter is_warning rest)
     (filter is_warning rest))) l))
 count_step true false x xs s rest h k l so_far = let no = h refl in cc
 count_step false true x xs s rest h k l so_far =
@@ -89,3 +91,33 @@ warned_about (f ∷ fs) =
     count_step (is_certain f.at.finding) (is_about_link f.at.finding) f fs (stated f.at)
     (filter (λ (s : Stated). is_about_link s.finding) (map stated (findings_in fs)))
     (certain_about f.at.finding) refl refl (warned_about fs)
+
+-- how many warnings one finding is
+pub byte_few : (b : Bool) → bool_byte b ≤ 1
+byte_few true = omega arith
+byte_few false = omega arith
+
+alone : (x : Said) (b : Bool) → is_warned x ≡ b
+    → length (filter is_warned (x ∷ [])) ≡ bool_byte b
+alone x true h = ap (λ (b : Bool). length (cond b (x ∷ []) [])) h
+alone x false h = ap (λ (b : Bool). length (cond b (x ∷ []) [])) h
+
+counted_more : (xs : List Said) (x : Said)
+    → length (filter is_warned (xs ++ x ∷ []))
+    ≡ length (filter is_warned xs) + bool_byte (is_warned x)
+counted_more xs x = ap length (filter-append is_warned xs (x ∷ []))
+    ∙ (length-append (filter is_warned xs) (filter is_warned (x ∷ []))
+    ∙ ap (λ (n : ℕ). length (filter is_warned xs) + n) (alone x (is_warned x) refl))
+
+-- how many of the findings are warnings, up to one more
+pub counted_after : {A : Type 0} (fs : List (SaidFinding A)) (i : ℕ) (f : SaidFinding A)
+    → i < length fs → f ≡ get_or fs i f
+    → warning_count (map said (take (i + 1) fs))
+    ≡ warning_count (map said (take i fs)) + bool_byte (is_certain f.at.finding)
+unfolding warning_count
+counted_after {A = A} fs i f within is =
+    let cut : take (i + 1) fs ≡ take i fs ++ f ∷ [] = take_more fs i f within
+    ∙ ap (λ (x : SaidFinding A). take i fs ++ x ∷ []) (sym is) in
+    ap (λ (l : List (SaidFinding A)). length (filter is_warned (map said l))) cut
+    ∙ (ap (λ (l : List Said). length (filter is_warned l)) (map-append said (take i fs) (f ∷ []))
+    ∙ counted_more (map said (take i fs)) (said f))

@@ -42,9 +42,7 @@ fn count_warnings<A: Allocator>(findings: &[SaidFinding<'_, A>]) -> usize
 {
     let mut warnings = 0usize;
     for finding in findings {
-        if finding.at.finding.is_certain() {
-            warnings += 1;
-        }
+        warnings += usize::from(finding.at.finding.is_certain());
     }
     warnings
 }

@@ -1,4 +1,4 @@
-use Rattle.std.proofs.Common.{◌≡◌, ◌∙◌, ◌∷◌, ◌++◌, [], List, None, ℕ, ap, string_bytes, subst, sym, vec_len}
+use Rattle.std.proofs.Common.{◌≡◌, ◌∙◌, ◌∷◌, ◌++◌, [], List, None, ℕ, ap, map, string_bytes, subst, sym, vec_len}
 use Rattle.std.proofs.lemmas.List.{length-map}
 use Rattle.ps_resolve.specs.AllFaults.{reading_fault}
 use Rattle.ps_resolve.specs.Sources.{contents}
@@ -7,6 +7,7 @@ use Rattle.ps_explained.specs.SlotLines.{AddsSlotLines, slot_lines}
 use Rattle.ps_listing.specs.FileLists.{IsList}
 use Rattle.ps_listing.specs.declared.lists.ListForm.TheVariants.{Lines}
 use Rattle.ps_warnings.specs.Found.{about_link_in}
+use Rattle.ps_report.specs.Reported.{said, warning_count}
 use Rattle.ps_report.specs.Verdicts.{fault_of}
 use Rattle.ps_report.specs.FindingLines.{other_lines}
 use Rattle.ps_report.proofs.SegmentTexts.{links_of, no_lists}
@@ -16,11 +17,13 @@ use Rattle.ps_report.proofs.report.check.Goals as goal
 
 pub returns-clause-links : goal.returns-clause-links
 returns-clause-links g c = linked_or_not c.args.host.now (contents c.args.libs.now)
-    _ c.in_ok-verdict.verdict c.in_ok-verdict.ensures.right
+    (warning_count (map said c.in_ok-findings.findings.items)) c.in_ok-verdict.verdict
+    c.in_ok-verdict.ensures.right
 
 pub returns-clause-refused : goal.returns-clause-refused
 returns-clause-refused g c = refused_or_not c.args.host.now (contents c.args.libs.now)
-    _ c.in_ok-verdict.verdict c.in_ok-verdict.ensures.right
+    (warning_count (map said c.in_ok-findings.findings.items)) c.in_ok-verdict.verdict
+    c.in_ok-verdict.ensures.right
 
 pub returns-clause-report : goal.returns-clause-report
 returns-clause-report g c =
@@ -69,5 +72,6 @@ returns-clause-report g c =
 pub returns-clause-warned : goal.returns-clause-warned
 returns-clause-warned g c =
     warned_or_refused (c.args.host_path.now ∷ contents c.args.paths.now) c.args.host.now
-    (contents c.args.libs.now) _ c.in_ok-verdict.verdict c.in_ok-verdict.ensures.right
+    (contents c.args.libs.now) (warning_count (map said c.in_ok-findings.findings.items))
+    c.in_ok-verdict.verdict c.in_ok-verdict.ensures.right
     (returns-clause-report g c).warnings
