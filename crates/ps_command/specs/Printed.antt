@@ -21,6 +21,8 @@ use Rattle.ps_resolve.specs.FaultNames.{fault_name}
 use Rattle.ps_texts.specs.Paths.{path_of}
 use Rattle.ps_texts.specs.Texts.{IsTextOf}
 use Rattle.ps_texts.specs.Unmade.{CanRefuse}
+use Rattle.ps_texts.specs.declared.texts.Unmade.{Unmade}
+use Rattle.ps_texts.specs.declared.texts.Unmade.TheVariants as unmade
 use Rattle.ps_texts.specs.declared.kinds.TextKind.{TextKind}
 use Rattle.ps_texts.specs.declared.kinds.TextKind.TheVariants as kind
 use Rattle.ps_command.specs.SummaryLine.{summary_text}
@@ -47,6 +49,12 @@ IsPlace Leads quiet by_option out map place.Output =
 IsPlace Leads quiet by_option out map place.Error =
     (quiet ≡ false) × (((by_option ≡ true) × Leads out true)
     ⊎ IsSomeAnd map (λ file. Leads file true))
+
+-- the same of the file of the map alone
+abbrev pub IsBeside : (Text → Bool → Type 0) → Option Text → Place → Type 0
+IsBeside Leads map place.Nowhere = ⊥
+IsBeside Leads map place.Output = IfSome map (λ file. Leads file false)
+IsBeside Leads map place.Error = IsSomeAnd map (λ file. Leads file true)
 
 -- known writers of standard output and of standard error take a summary at its place; of standard
 -- error, whose fault changes nothing, a prefix of it
@@ -113,6 +121,13 @@ refusal_json path name f = codes "{\"path\":\"" ++ json_text path ++ codes "\",\
 
 abbrev pub refusal_of : List Text → List ℕ → List (List ℕ) → Fault → List ℕ
 refusal_of paths host libs f = refusal_json (path_of paths f.file) (fault_name host libs f) f
+
+-- by that document, where nothing is made of files since they are refused
+abbrev pub PrintsUnmade : Unmade → List Text → List ℕ → List (List ℕ) → Option (List ℕ)
+    → Option (List ℕ) → Type 0
+PrintsUnmade (unmade.Refused f) paths host libs old new =
+    Appends old new (refusal_of paths host libs f)
+PrintsUnmade unmade.Memory paths host libs old new = ⊥
 
 -- by that document, of why a text of these files is not made, if it is to be a document
 abbrev pub PrintsRefusal : (Text → List ℕ → Type 0) → TextKind → Bool → Text → List Text

@@ -1,5 +1,5 @@
 //! A link: its files are read and checked, OUT is written, then its map, and the summary is printed.
-ghost use Rattle.std.specs.Prelude.{◌≡◌, ◌≢◌, List, ℕ, IfErr, IfOk, OnOk, map, option_map, true};
+ghost use Rattle.std.specs.Prelude.{◌≡◌, ◌≢◌, ◌⊎◌, List, ℕ, IfErr, IfOk, OnOk, false, map, option_map, true};
 ghost use Rattle.std.specs.Borrow.{Bor};
 ghost use Rattle.std.specs.List.{AllZip};
 ghost use Rattle.clap.specs.Words.{Row, Text};
@@ -9,7 +9,7 @@ ghost use Rattle.ps_texts.specs.Sources.{contents};
 ghost use Rattle.ps_command.specs.FilesRead.{LinksFiles, Reads, Writes};
 ghost use Rattle.ps_command.specs.Links.{IsLinked, IsPlaceOf, PrintsPlaced, WritesMapOf, WritesMapTo};
 ghost use Rattle.ps_command.specs.Prepared.{map_bytes, plan_of};
-ghost use Rattle.ps_command.specs.Printed.{IsPlace, LinksOrRefuses, PrintsAt, form_of as form_of_spec};
+ghost use Rattle.ps_command.specs.Printed.{IsBeside, IsPlace, LinksOrRefuses, PrintsAt, form_of as form_of_spec};
 ghost use Rattle.ps_command.specs.Requests.{NamesLink};
 ghost use Rattle.ps_command.specs.Statuses.{ended_status};
 
@@ -21,7 +21,7 @@ use crate::prepared::{Prepared, prepare_link};
 use crate::refusal::refuse;
 use crate::request::Link;
 use ps_linkfile::Linked;
-use ps_texts::{Form, NamedFiles, Unmade};
+use ps_texts::{Form, NamedFiles};
 use ps_writing::{Counting, WriteFault};
 use std::alloc::{AllocError, Allocator};
 use std::io::Write;
@@ -96,8 +96,7 @@ fn link_files<'a, R: CodeFiles, A: Allocator + Copy, O: Write, E: Write>(
             link_prepared(rt, alloc, &prepared, asked, out, err)?;
             Ok(Ended::Done)
         }
-        Err(Unmade::Refused(fault)) => refuse(files, fault, asked.json, out, err),
-        Err(Unmade::Memory) => Err(RunError::Memory),
+        Err(unmade) => refuse(files, unmade, asked.json, out, err),
     }
 }
 
@@ -146,25 +145,37 @@ fn place_of<R: CodeFiles>(
     if quiet {
         return Place::Nowhere;
     }
-    if by_option && rt.leads_to_output(out) {
+    if leads_by_option(rt, by_option, out) {
         return Place::Error;
     }
-    match map {
-        Some(file) => place_beside(rt, file),
-        None => Place::Output,
+    place_beside(rt, map)
+}
+
+/// The option names OUT, and OUT leads to standard output.
+fn leads_by_option<R: CodeFiles>(rt: &R, by_option: bool, out: &str) -> bool
+    ensures leads { result ≡ true → (by_option ≡ true) × R.leads rt.now out.now true }
+    ensures apart { result ≡ false → by_option ≡ true → R.leads rt.now out.now false }
+{
+    if by_option {
+        rt.leads_to_output(out)
+    } else {
+        false
     }
 }
 
-/// Where a summary is printed whose map goes to this file.
-fn place_beside<R: CodeFiles>(rt: &R, file: &str) -> Place
-    ensures error { result ≡ Place.Error → R.leads rt.now file.now true }
-    ensures output { result ≡ Place.Output → R.leads rt.now file.now false }
-    ensures told { result ≢ Place.Nowhere }
+/// Where a summary is printed whose map goes to this file, if there is one.
+fn place_beside<R: CodeFiles>(rt: &R, map: Option<&str>) -> Place
+    ensures { IsBeside (R.leads rt.now) (option_map (λ path. path.now) map) result }
 {
-    if rt.leads_to_output(file) {
-        Place::Error
-    } else {
-        Place::Output
+    match map {
+        None => Place::Output,
+        Some(file) => {
+            if rt.leads_to_output(file) {
+                Place::Error
+            } else {
+                Place::Output
+            }
+        }
     }
 }
 

@@ -3,13 +3,13 @@ ghost use Rattle.std.specs.Prelude.{◌≡◌, ◌≢◌, IfErr, IfOk, OnOk, tru
 ghost use Rattle.std.specs.Io.KnownBytes.{Appends};
 ghost use Rattle.ps_texts.specs.Paths.{paths_in};
 ghost use Rattle.ps_texts.specs.Sources.{contents};
-ghost use Rattle.ps_command.specs.Printed.{refusal_json, refusal_of};
+ghost use Rattle.ps_command.specs.Printed.{PrintsUnmade, refusal_json, refusal_of};
 ghost use Rattle.ps_words.specs.declared.fault.Fault.{Fault};
 
 use crate::ended::Ended;
 use crate::error::{CommandError, RunError};
 use ps_resolve::fault_name;
-use ps_texts::NamedFiles;
+use ps_texts::{NamedFiles, Unmade};
 use ps_words::{Fault, Name};
 use ps_writing::{Text, TextWriter, WriteFault, add_json_fault, add_json_text, write_text};
 use std::io::Write;
@@ -52,27 +52,32 @@ fn print_refusal<O: Write>(
     write_text(&refusal, out)
 }
 
-/// What comes of files that are refused for this fault: an error, or with `json` its document on
+/// What comes of files of which nothing is made: an error, or with `json` the document of their fault on
 /// standard output, and its line on standard error.
 pub(crate) fn refuse<'a, O: Write, E: Write>(
     files: &NamedFiles<'_>,
-    fault: Fault,
+    unmade: Unmade,
     json: bool,
     out: &mut O,
     err: &mut E,
 ) -> Result<Ended, RunError<'a>>
     ensures json { IfOk result (λ _. json ≡ true) }
     ensures ended { IfOk result (λ ended. ended ≡ Ended.Refused) }
-    ensures text { OnOk result (Appends (O.contents out.old) (O.contents out.new) (refusal_of
-        (paths_in files.now) files.now.host.now (contents files.now.libs.now) fault)) }
+    ensures text { IfOk result (λ _. PrintsUnmade unmade (paths_in files.now) files.now.host.now
+        (contents files.now.libs.now) (O.contents out.old) (O.contents out.new)) }
     ensures err { IfErr result (λ e. e ≢ RunError.StandardOutput → out.new ≡ out.old) }
-    ensures refused { IfErr result (λ e. (other : Fault) → e ≡ RunError.Refused other
-        → other ≡ fault) }
+    ensures refused { IfErr result (λ e. (fault : Fault) → e ≡ RunError.Refused fault
+        → unmade ≡ Unmade.Refused fault) }
 {
-    if !json {
-        return Err(RunError::Refused(fault));
+    match unmade {
+        Unmade::Memory => Err(RunError::Memory),
+        Unmade::Refused(fault) => {
+            if !json {
+                return Err(RunError::Refused(fault));
+            }
+            print_refusal(files, fault, out)?;
+            CommandError::Refused(fault).report(err);
+            Ok(Ended::Refused)
+        }
     }
-    print_refusal(files, fault, out)?;
-    CommandError::Refused(fault).report(err);
-    Ok(Ended::Refused)
 }

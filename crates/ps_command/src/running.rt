@@ -21,7 +21,7 @@ use crate::lists::print_lists;
 use crate::output;
 use crate::refusal::refuse;
 use crate::request::{self, Inputs, Request, Task};
-use ps_texts::{FilesText, Form, ListForm, NamedFiles, TextKind, Unmade, text_of};
+use ps_texts::{FilesText, Form, ListForm, NamedFiles, TextKind, text_of};
 use ps_writing::{WriteFault, write_text};
 use std::alloc::{AllocError, Allocator, Global};
 use std::io::Write;
@@ -289,8 +289,7 @@ fn print_files<'a, A: Allocator + Copy, O: Write, E: Write>(
 {
     match text_of(alloc, kind, files) {
         Ok(text) => Ok(print_text(&text, strict, out)?),
-        Err(Unmade::Refused(fault)) => refuse(files, fault, json, out, err),
-        Err(Unmade::Memory) => Err(RunError::Memory),
+        Err(unmade) => refuse(files, unmade, json, out, err),
     }
 }
 

@@ -111,7 +111,6 @@ pub(crate) fn add_listed<S: TextWriter>(
 }
 
 /// Adds the item of a file, which has its units by themselves too.
-#[tactic(auto, unfolding(crate::specs::LoneText::listed_with_units))]
 pub(crate) fn add_listed_with_units<S: TextWriter>(
     text: &mut S,
     path: &str,

@@ -30,4 +30,5 @@ returns-in-JsonUnits g c =
     let same : inside ≡ c.args.self.now = cc c.self.view_is in
     adds_is (item_with_units c.args.first c.args.self.now
     (sym (ap (λ (l : Listed). l.how) same) ∙ c.in-JsonUnits.is))
-    (c.add-in-JsonUnits.ensures ⨾ c.add_with_units.ensures)
+    (adds_is c.separator-in-JsonUnits.ensures c.add-in-JsonUnits.ensures
+    ⨾ c.add_with_units.ensures)
