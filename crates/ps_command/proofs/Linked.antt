@@ -1,6 +1,6 @@
 -- What follows of a link that was asked for.
 use Rattle.std.proofs.Common.{◌≡◌, ◌≢◌, ◌⊎◌, ◌∷◌, ◌∙◌, [], Bool, Bor, Err, IfOk, List, None, Ok, Option, Result, Some, ap, append-nil, arith, codes, false, inl, inr, length, map, refl, sym, true, ℕ}
-use Rattle.std.specs.Prelude.{OnErr, OnOk, option_map, ⊤}
+use Rattle.std.specs.Prelude.{IsSomeAnd, OnErr, OnOk, option_map, ⊤}
 use Rattle.std.specs.Io.KnownBytes.{Appends}
 use Rattle.std.specs.List.{AllZip}
 use Rattle.clap.specs.Words.{Row, Text}
@@ -96,6 +96,21 @@ pub not_zero : {E P : Type 0} (r : Result Ended E) → IfOk r (λ e. e ≡ ended
 not_zero (Ok e) is = λ zero. grind arith
 not_zero (Err e) is = tt
 
+-- a path that leads to standard output, where a file is known that does
+some_path : (Leads : Text → Bool → Type 0) (file : Option Text)
+    → IsSomeAnd file (λ path. Leads path true) → (path : Text) × Leads path true
+some_path Leads None led = absurd led
+some_path Leads (Some path) led = (path, led)
+
+-- a link whose summary is printed on standard error has such a path
+pub leading : {Same : Type 0} (Leads : Text → Bool → Type 0) (named : Option (Text × List Row))
+    → Same ⊎ TellsOnError Leads named → Same ⊎ ((path : Text) × Leads path true)
+leading Leads named (inl same) = inl same
+leading Leads named (inr told) = elim told.5.1 [
+  | inl by_option ↦ inr (told.1, by_option.1)
+  | inr map ↦ inr (some_path Leads (map_file told.0) map)
+]
+
 module _ {A : Type 0} (Leads : Text → Bool → Type 0) (link : Link A) (rows : List Row)
     (names : NamesLink link rows) where
   -- where the summary of the link that is asked for is printed
@@ -117,9 +132,9 @@ module _ {A : Type 0} (Leads : Text → Bool → Type 0) (link : Link A) (rows :
     refl,
     link.out.now,
     map (λ path. path.now) link.inputs.libraries.items,
-    linked.4,
+    linked.4.0,
     names.files,
-    placed linked.4 linked.5,
+    placed linked.4.0 linked.4.1,
     host,
     libs,
     linked.0,
@@ -129,7 +144,7 @@ module _ {A : Type 0} (Leads : Text → Bool → Type 0) (link : Link A) (rows :
     (
       linked.2,
       rw (names.map_file, names.references, names.json) at linked.3,
-      rw names.json at linked.6,
+      rw names.json at linked.4.2,
     ),
   )
   links_or_refuses Reads Writes host libs ended.Refused old new old_err new_err read all refused =

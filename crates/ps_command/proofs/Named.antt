@@ -36,7 +36,7 @@ only_checks Reads Writes Leads found status old new old_err new_err printed nonz
     printed.2 [
       | inl link ↦ elim link.2 [
         | inl done ↦ absurd (nonzero done.0)
-        | inr refused ↦ inr (inr (codes "link", printed.0, link.0, refused.3))
+        | inr refused ↦ inr (inr (codes "link", printed.0, link.0, refused.3.0))
       ]
       | inr (inl map) ↦ inr (inr (
         codes "map",
