@@ -85,7 +85,7 @@ pub trait CodeFiles {
 
     /// Creates or empties the file at `path`. It is called only where files that were read link.
     fn create(&self, path: &str) -> io::Result<Self::Created>
-        requires { LinksFiles (Reads (opened self.now) Opened.remaining) }
+        requires { LinksFiles (Reads (opened self.now) Self.Opened.remaining) }
         ensures { IfOk result (λ file. created self.now path.now file) };
 
     /// Closes the file that was created at `path`: no more is written to it.

@@ -140,7 +140,7 @@ fn place_of<R: CodeFiles>(
     map: Option<&str>,
 ) -> Place
     ensures { IsPlace (R.leads rt.now) quiet by_option out.now
-        (option_map (λ path. path.now) map) result }
+        (option_map (λ path. path.now) map.entry) result }
 {
     if quiet {
         return Place::Nowhere;
@@ -165,7 +165,7 @@ fn leads_by_option<R: CodeFiles>(rt: &R, by_option: bool, out: &str) -> bool
 
 /// Where a summary is printed whose map goes to this file, if there is one.
 fn place_beside<R: CodeFiles>(rt: &R, map: Option<&str>) -> Place
-    ensures { IsBeside (R.leads rt.now) (option_map (λ path. path.now) map) result }
+    ensures { IsBeside (R.leads rt.now) (option_map (λ path. path.now) map.entry) result }
 {
     match map {
         None => Place::Output,
