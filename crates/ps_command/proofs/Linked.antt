@@ -41,11 +41,11 @@ beside Leads quiet by_option out map place.Output loud apart is = (loud, apart, 
 beside Leads quiet by_option out map place.Error loud apart is = (loud, inr is)
 
 -- standard error is as it was, or a summary is printed there
-pub same_or_told : {Same : Type 0} {At : Place → Type 0} (where_to : Place) → At where_to
+pub same_or_told : {Same : Type 0} (At : Place → Type 0) (where_to : Place) → At where_to
     → (where_to ≢ place.Error → Same) → Same ⊎ At place.Error
-same_or_told place.Nowhere at silent = inl (silent (grind arith))
-same_or_told place.Output at silent = inl (silent (grind arith))
-same_or_told place.Error at silent = inr at
+same_or_told At place.Nowhere at silent = inl (silent (grind arith))
+same_or_told At place.Output at silent = inl (silent (grind arith))
+same_or_told At place.Error at silent = inr at
 
 -- the map of what was prepared is that of the files
 pub maps : {A : Type 0} (Writes : Text → List ℕ → Type 0) (path : Option (Bor Text))
@@ -85,16 +85,12 @@ text_refused k strict json paths host libs unmade.Memory (Ok e) old new can flag
     absurd text
 text_refused k strict json paths host libs why (Err e) old new can flag is text = tt
 
--- it is not done
-pub not_done : {E P : Type 0} (r : Result Ended E) → IfOk r (λ e. e ≡ ended.Refused)
-    → IfOk r (λ e. e ≡ ended.Done → P)
-not_done (Ok e) is = λ done. grind arith
-not_done (Err e) is = tt
+-- what is refused is not done, and does not end with status 0
+pub not_done : (e : Ended) → e ≡ ended.Refused → e ≡ ended.Done → ⊥
+not_done e is done = grind arith
 
-pub not_zero : {E P : Type 0} (r : Result Ended E) → IfOk r (λ e. e ≡ ended.Refused)
-    → IfOk r (λ e. ended_status e ≡ 0 → P)
-not_zero (Ok e) is = λ zero. grind arith
-not_zero (Err e) is = tt
+pub not_zero : (e : Ended) → e ≡ ended.Refused → ended_status e ≡ 0 → ⊥
+not_zero e is zero = grind arith
 
 -- a path that leads to standard output, where a file is known that does
 some_path : (Leads : Text → Bool → Type 0) (file : Option Text)
@@ -128,39 +124,40 @@ module _ {A : Type 0} (Leads : Text → Bool → Type 0) (link : Link A) (rows :
       old new old_err new_err
       → LinksOrRefuses Reads Writes Leads rows link.inputs.host.now (ended_status e) old new
       old_err new_err
-  links_or_refuses Reads Writes host libs ended.Done old new old_err new_err read all linked = inl (
-    refl,
-    link.out.now,
-    map (λ path. path.now) link.inputs.libraries.items,
-    linked.4.0,
-    names.files,
-    placed linked.4.0 linked.4.1,
-    host,
-    libs,
-    linked.0,
-    read,
-    all,
-    linked.1,
-    (
-      linked.2,
-      rw (names.map_file, names.references, names.json) at linked.3,
-      rw names.json at linked.4.2,
-    ),
-  )
+  links_or_refuses Reads Writes host libs ended.Done old new old_err new_err read all linked =
+      let paths = map (λ path. path.now) link.inputs.libraries.items in
+      let mapped = rw (names.map_file, names.references, names.json) at linked.3 in
+      let printed = rw names.json at linked.4.2 in
+      let link_of_files = (host, libs, linked.0, read, all, linked.1, (linked.2, mapped, printed)) in
+      inl (
+        refl,
+        (
+          link.out.now,
+          paths,
+          linked.4.0,
+          names.files,
+          placed linked.4.0 linked.4.1,
+          link_of_files,
+        ),
+      )
   links_or_refuses Reads Writes host libs ended.Refused old new old_err new_err read all refused =
+      let paths = map (λ path. path.now) link.inputs.libraries.items in
+      let flag = rw names.json at refused.0 in
       inr (
         link.out.now,
-        map (λ path. path.now) link.inputs.libraries.items,
+        paths,
         names.files,
-        rw names.json at refused.0,
-        refl,
-        host,
-        libs,
-        refused.1,
-        read,
-        all,
-        refused.2,
-        refused.3,
+        (
+          flag,
+          refl,
+          host,
+          libs,
+          refused.1,
+          read,
+          all,
+          refused.2,
+          refused.3,
+        ),
       )
   links_or_refuses Reads Writes host libs ended.Unread old new old_err new_err read all none =
       absurd none
@@ -176,13 +173,3 @@ module _ {A : Type 0} (Leads : Text → Bool → Type 0) (link : Link A) (rows :
     names.files,
     placed place.Error where_to,
   )
-
-  -- it ends with another status than 0 only where it is to be a document
-  pub known_document : {Writes : Text → List ℕ → Type 0} (paths : List Text) (host : List ℕ)
-      (libs : List (List ℕ)) (e : Ended) (old new old_err new_err : Option (List ℕ))
-      → IsLinked Writes Leads link paths host libs e old new old_err new_err
-      → ended_status e ≢ 0 → link.json ≡ true
-  known_document paths host libs ended.Done old new old_err new_err linked nonzero =
-      absurd (nonzero refl)
-  known_document paths host libs ended.Refused old new old_err new_err refused nonzero = refused.0
-  known_document paths host libs ended.Unread old new old_err new_err none nonzero = absurd none

@@ -1,5 +1,5 @@
 //! A link: its files are read and checked, OUT is written, then its map, and the summary is printed.
-ghost use Rattle.std.specs.Prelude.{◌≡◌, ◌≢◌, ◌⊎◌, List, ℕ, IfErr, IfOk, OnOk, false, map, option_map, true};
+ghost use Rattle.std.specs.Prelude.{◌≡◌, ◌≢◌, ◌⊎◌, List, ℕ, IfErr, IfOk, OnOk, false, map, option_map};
 ghost use Rattle.std.specs.Borrow.{Bor};
 ghost use Rattle.std.specs.List.{AllZip};
 ghost use Rattle.clap.specs.Words.{Row, Text};
@@ -55,7 +55,6 @@ pub(crate) fn link<'a, R: CodeFiles, A: Allocator + Copy, O: Write, E: Write>(
     ensures silent { IfOk result (λ ended. ended_status ended ≡ 0 → (err.new ≡ err.old)
         ⊎ IsPlace (R.leads rt.now) asked.entry.quiet asked.entry.by_option asked.entry.out.now
         (option_map (λ path. path.now) asked.entry.map) Place.Error) }
-    ensures known { IfOk result (λ ended. ended_status ended ≢ 0 → asked.entry.json ≡ true) }
     ensures err { IfErr result (λ e. e ≢ RunError.StandardOutput → out.new ≡ out.old) }
 {
     let bytes = files::read_inputs(rt, alloc, &asked.inputs)?;

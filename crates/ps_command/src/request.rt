@@ -205,13 +205,18 @@ fn check_map<R: CodeFiles, A: Allocator>(
 {
     match link.map {
         Some(file) => check_map_file(rt, heap, link, file),
-        None => {
-            if link.references {
-                return Err(references_alone(heap));
-            }
-            Ok(())
-        }
+        None => check_references(heap, link.references),
     }
+}
+
+/// Refuses a link without a map that is to write what it stores.
+fn check_references(heap: Global, references: bool) -> Result<(), UsageError>
+    ensures { IfOk result (λ _. references ≡ false) }
+{
+    if references {
+        return Err(references_alone(heap));
+    }
+    Ok(())
 }
 
 /// Refuses a link whose map would be written to a file of it, by its path or by another that leads

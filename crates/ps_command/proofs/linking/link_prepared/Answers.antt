@@ -1,4 +1,6 @@
 use Rattle.std.proofs.Common.{◌≡◌, ◌∙◌, ap, rules}
+use Rattle.ps_linkfile.specs.Writing.{summary_in}
+use Rattle.ps_command.specs.Links.{IsPlaceOf}
 use Rattle.ps_command.specs.SummaryLine.{summary_text}
 use Rattle.ps_command.proofs.Linked.{same_or_told}
 use Rattle.ps_command.proofs.linking.link_prepared.Goals as goal
@@ -13,7 +15,7 @@ pub returns-clause-printed : goal.returns-clause-printed
 returns-clause-printed g c =
     let text : c.as_bytes.result.now ≡ summary_text c.args.asked.now.json c.summary.result
     = search rules in
-    let same = c.summary.ensures.value ∙ ap _ c.linked.ensures in (
+    let same = c.summary.ensures.value ∙ ap summary_in c.linked.ensures in (
       c.place_of-place.result,
       c.place_of-place.ensures,
       rw (text ∙ ap (summary_text c.args.asked.now.json) same) at c.in_ok-print_at.ensures.printed,
@@ -21,4 +23,5 @@ returns-clause-printed g c =
 
 pub returns-clause-silent : goal.returns-clause-silent
 returns-clause-silent g c =
-    same_or_told c.place_of-place.result c.place_of-place.ensures c.in_ok-print_at.ensures.silent
+    same_or_told (IsPlaceOf (g.R.CodeFiles.leads c.args.rt.now) c.args.asked.now)
+    c.place_of-place.result c.place_of-place.ensures c.in_ok-print_at.ensures.silent

@@ -1,4 +1,5 @@
-use Rattle.std.proofs.Common.{inl}
+use Rattle.std.proofs.Common.{inl, map}
+use Rattle.std.specs.Prelude.{option_map}
 use Rattle.ps_command.proofs.Linked.{beside}
 use Rattle.ps_command.proofs.linking.place_of.Goals as goal
 
@@ -9,5 +10,6 @@ returns-then-leads_by_option g c = (
 )
 
 pub returns : goal.returns
-returns g c = beside _ _ _ _ _ _ c.if-quiet.false
+returns g c = beside (g.R.CodeFiles.leads c.args.rt.now) c.args.quiet c.args.by_option c.args.out.now
+    (option_map (λ path. path.now) c.args.map) c.place_beside.result c.if-quiet.false
     (c.leads_by_option.ensures.apart c.if-leads_by_option.false) c.place_beside.ensures

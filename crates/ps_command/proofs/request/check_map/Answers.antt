@@ -1,5 +1,3 @@
-use Rattle.std.proofs.Common.{IfOk}
-use Rattle.std.proofs.lemmas.Result.{IfOk-weaker}
 use Rattle.clap.proofs.WalkLemmas.{IfOk-both}
 use Rattle.ps_command.proofs.request.check_map.Goals as goal
 
@@ -8,4 +6,4 @@ returns-in-Some g c = rw c.in-Some.is (IfOk-both c.check_map_file.result _ _
     c.check_map_file.ensures.own c.check_map_file.ensures.libraries)
 
 pub returns-in-None : goal.returns-in-None
-returns-in-None g c = rw c.in-None.is c.if-references.false
+returns-in-None g c = rw c.in-None.is c.check_references.ensures

@@ -12,5 +12,5 @@ taken [] rest out some value left = grind arith
 taken (file ∷ files) rest out some value left = rw (left, value) refl
 
 pub returns : goal.returns
-returns g c = taken c.args.libraries.items _ c.remove.result (search rules)
+returns g c = taken c.args.libraries.now.items _ c.remove.result (search rules)
     c.remove.ensures.value c.remove.ensures.items

@@ -6,8 +6,8 @@ returns g c = (
   _,
   refl,
   record {
-    host = c.in_ok-inputs_of.ensures.0;
-    files = rw c.in_ok-inputs_of.ensures.1 at c.in_ok-out.ensures;
+    host = c.in_ok-host.ensures.0;
+    files = rw c.in_ok-host.ensures.1 at c.in_ok-out.ensures;
     by_option = c.is_given-by_option.ensures;
     map_file = c.value_of-map.ensures;
     references = c.has_flag-references.ensures;

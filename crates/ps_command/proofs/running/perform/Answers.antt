@@ -18,7 +18,7 @@ returns-in-Link-clause-silent g c named is =
     let task = rw c.in-Link.is at is in
     IfOk-weaker c.link.result _ _ (λ ended quiet zero. elim (quiet zero) [
       | inl same ↦ inl same
-      | inr where_to ↦ inr (tells _ c.in-Link.asked task.0 task.2 named task.1 where_to)
+      | inr where_to ↦ inr (tells (g.R.CodeFiles.leads c.args.rt.now) c.in-Link.asked task.0 task.2 named task.1 where_to)
     ])
     c.link.ensures.silent
 

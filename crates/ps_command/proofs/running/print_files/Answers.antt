@@ -1,5 +1,5 @@
 use Rattle.std.proofs.Common.{◌∙◌, inl, sym}
-use Rattle.std.proofs.lemmas.Result.{IfErr-weaker}
+use Rattle.std.proofs.lemmas.Result.{IfErr-weaker, IfOk-weaker}
 use Rattle.ps_command.proofs.Linked.{not_zero, text_refused}
 use Rattle.ps_command.proofs.running.print_files.Goals as goal
 
@@ -15,7 +15,8 @@ returns-in-Err-clause-ok g c = text_refused _ c.args.strict _ _ _ _ _ c.refuse.r
     c.in-Err.ensures.unmade c.refuse.ensures.json c.refuse.ensures.ended c.refuse.ensures.text
 
 pub returns-in-Err-clause-silent : goal.returns-in-Err-clause-silent
-returns-in-Err-clause-silent g c = not_zero c.refuse.result c.refuse.ensures.ended
+returns-in-Err-clause-silent g c = IfOk-weaker c.refuse.result _ _
+    (λ ended is zero. absurd (not_zero ended is zero)) c.refuse.ensures.ended
 
 pub returns-in-Err-clause-refused : goal.returns-in-Err-clause-refused
 returns-in-Err-clause-refused g c = IfErr-weaker c.refuse.result _ _
