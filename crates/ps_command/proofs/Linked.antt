@@ -128,7 +128,6 @@ module _ {A : Type 0} (Leads : Text → Bool → Type 0) (link : Link A) (rows :
       let paths = map (λ path. path.now) link.inputs.libraries.items in
       let mapped = rw (names.map_file, names.references, names.json) at linked.3 in
       let printed = rw names.json at linked.4.2 in
-      let link_of_files = (host, libs, linked.0, read, all, linked.1, (linked.2, mapped, printed)) in
       inl (
         refl,
         (
@@ -137,7 +136,7 @@ module _ {A : Type 0} (Leads : Text → Bool → Type 0) (link : Link A) (rows :
           linked.4.0,
           names.files,
           placed linked.4.0 linked.4.1,
-          link_of_files,
+          (host, libs, linked.0, read, all, linked.1, (linked.2, mapped, printed)),
         ),
       )
   links_or_refuses Reads Writes host libs ended.Refused old new old_err new_err read all refused =
