@@ -1,20 +1,29 @@
 # Completion of pslink for bash. .ci/completions compares it with the help of the program.
 
 _pslink() {
-    local current=${COMP_WORDS[COMP_CWORD]} command="" only_files="" files=0 word options
+    local current=${COMP_WORDS[COMP_CWORD]} command="" only_files="" value="" files=0 word options
     COMPREPLY=()
     for word in "${COMP_WORDS[@]:1:COMP_CWORD-1}"; do
         if [[ -z $command ]]; then
             [[ $word == -* ]] || command=$word
+        elif [[ -n $value ]]; then
+            # the value of an option, which may stand behind a sign of its own
+            [[ $word == = ]] || value=""
+        elif [[ -z $only_files && $command == link && $word =~ ^(-q*o|--output|--map)$ ]]; then
+            value=yes
         elif [[ -z $only_files && $word == -- ]]; then
             only_files=yes
         elif [[ -n $only_files || $word != -* ]]; then
             files=$((files + 1))
         fi
     done
+    # readline completes the name of the file that an option wants
+    if [[ -n $value ]]; then
+        return
+    fi
     case $command in
         '') options='link map show check list help --help --version' ;;
-        link) options='--help' ;;
+        link) options='--help --json --map --output --quiet --references' ;;
         map) options='--help --json --references' ;;
         show | list) options='--help --json' ;;
         check) options='--help --json --strict --unit' ;;

@@ -9,7 +9,7 @@ PSLINK ?= pslink
 pslink_libraries = $(filter %.code $(PSLINK_LIBS),$(filter-out $<,$^))
 
 %.linked: %.code
-	$(PSLINK) link $< $@.new $(pslink_libraries) && mv $@.new $@ || { status=$$?; rm -f $@.new; exit $$status; }
+	$(PSLINK) link -o $@.new $< $(pslink_libraries) && mv $@.new $@ || { status=$$?; rm -f $@.new; exit $$status; }
 
 %.map: %.code
 	$(PSLINK) map $< $(pslink_libraries) >$@.new && mv $@.new $@ || { status=$$?; rm -f $@.new; exit $$status; }

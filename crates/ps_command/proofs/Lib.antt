@@ -1,3 +1,5 @@
 pub mod Asked
+pub mod Linked
 pub mod ListsPrinted
+pub mod Maps
 pub mod Named

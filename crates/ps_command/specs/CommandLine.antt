@@ -1,7 +1,7 @@
 -- The command line of `pslink`, as clap's contracts see it: the commands, and the arguments of
 -- each.
 -- Source: this project's profile.
-use Rattle.std.specs.Prelude.{◌≡◌, ◌⊎◌, Bool, List, [], ◌∷◌, Option, fold, map, false, true, Some, codes}
+use Rattle.std.specs.Prelude.{◌≡◌, ◌⊎◌, Bool, List, [], ◌∷◌, Option, ℕ, fold, map, false, true, None, Some, codes}
 use Rattle.std.specs.Borrow.{Bor}
 use Rattle.clap.specs.Words.{App, Kinds, Row, Rule, Text, app_of, fault_of, new_app, new_rule, rule_of, subcommand_of, takes, with_rule, with_subcommand}
 use Rattle.clap.specs.declared.error.ErrorKind.TheVariants.{DisplayHelp, DisplayVersion}
@@ -22,26 +22,44 @@ file_rule id action = record (new_rule id) { required = true; action = Some acti
 abbrev pub libraries_rule : Rule
 libraries_rule = record (new_rule (codes "LIB")) { action = Some Append }
 
--- `link HOST OUT [LIB]...`
-abbrev pub link_app : App
-link_app = with_rule (with_rule (with_rule (new_app (codes "link")) (file_rule (codes "HOST") Set))
-    (file_rule (codes "OUT") Set)) libraries_rule
+-- an option with the letter that it has, if any
+abbrev pub lettered : Option ℕ → Rule → Rule
+lettered None rule = rule
+lettered (Some letter) rule = record rule { short = Some letter }
+
+-- `--NAME`, without a value
+abbrev pub flag_rule : Text → Option ℕ → Rule
+flag_rule id letter = lettered letter (record (new_rule id) {
+  long = Some id;
+  action = Some SetTrue;
+})
+
+-- `--NAME ID`
+abbrev pub value_rule : Text → Text → Option ℕ → Rule
+value_rule id name letter = lettered letter (record (new_rule id) {
+  long = Some name;
+  action = Some Set;
+})
 
 -- a command that takes a host and libraries, as `NAME HOST [LIB]...`
 abbrev pub inputs_app : Text → App
 inputs_app name = with_rule (with_rule (new_app name) (file_rule (codes "HOST") Set)) libraries_rule
 
--- `--NAME`, without a value
-abbrev pub flag_rule : Text → Rule
-flag_rule id = record (new_rule id) { long = Some id; action = Some SetTrue }
-
 -- `--json`
 abbrev pub json_rule : Rule
-json_rule = flag_rule (codes "json")
+json_rule = flag_rule (codes "json") None
+
+-- `link [--output OUT] [--map FILE] [--references] [--json] [--quiet] HOST [LIB]...`, with the
+-- letters `o` for OUT and `q` for `--quiet`
+abbrev pub link_app : App
+link_app = with_rule (with_rule (with_rule (with_rule (with_rule (inputs_app (codes "link"))
+    (value_rule (codes "OUT") (codes "output") (Some 111)))
+    (value_rule (codes "FILE") (codes "map") None)) (flag_rule (codes "references") None)) json_rule)
+    (flag_rule (codes "quiet") (Some 113))
 
 -- `map [--references] [--json] HOST [LIB]...`
 abbrev pub map_app : App
-map_app = with_rule (with_rule (inputs_app (codes "map")) (flag_rule (codes "references")))
+map_app = with_rule (with_rule (inputs_app (codes "map")) (flag_rule (codes "references") None))
     json_rule
 
 -- `show [--json] FILE`
@@ -52,7 +70,7 @@ show_app = with_rule (with_rule (new_app (codes "show")) (file_rule (codes "FILE
 -- `check [--strict] [--unit] [--json] HOST [LIB]...`
 abbrev pub check_app : App
 check_app = with_rule (with_rule (with_rule (inputs_app (codes "check"))
-    (flag_rule (codes "strict"))) (flag_rule (codes "unit"))) json_rule
+    (flag_rule (codes "strict") None)) (flag_rule (codes "unit") None)) json_rule
 
 -- `list [--json] FILE...`
 abbrev pub list_app : App
@@ -81,7 +99,8 @@ abbrev pub rule_in : Argument → Rule
 rule_in (argument.File name help) = files_rule name.now Set true
 rule_in (argument.Files name help) = files_rule name.now Append true
 rule_in (argument.AnyFiles name help) = files_rule name.now Append false
-rule_in (argument.Flag name help) = flag_rule name.now
+rule_in (argument.Flag name letter help) = flag_rule name.now letter
+rule_in (argument.Value id name letter help) = value_rule id.now name.now letter
 
 -- a command with the argument of a row too
 abbrev pub with_argument : App → Argument → App

@@ -2,6 +2,8 @@
 -- Source: this project's profile.
 use Rattle.std.specs.Prelude.{◌≡◌, ◌<◌, ℕ, List, Option, IfSome, length, ⊤}
 use Rattle.std.specs.Io.KnownBytes.{Appends}
+use Rattle.std.specs.List.{AllZip}
+use Rattle.ps_linkfile.specs.LinkedFile.{LinkedFile}
 use Rattle.ps_command.specs.declared.files.TheConstants.{LONGEST}
 use Rattle.ps_command.specs.declared.files.FileFault.{FileFault}
 use Rattle.ps_command.specs.declared.files.FileFault.TheVariants as fault
@@ -20,6 +22,13 @@ abbrev pub Writes : {F : Type 0} → (List ℕ → F → Type 0) → (List ℕ �
 Writes {F} created closed contents path bytes =
     (first : F) × (last : F) × created path first × closed path last
     × Appends (contents first) (contents last) bytes
+
+-- files that were read at their paths, one for one, link: `Reads` says of a path and of bytes that they
+-- were read there
+abbrev pub LinksFiles : (List ℕ → List ℕ → Type 0) → Type 0
+LinksFiles Reads = (path : List ℕ) × (paths : List (List ℕ)) × (host : List ℕ)
+    × (libs : List (List ℕ)) × (file : List ℕ) × Reads path host × AllZip Reads paths libs
+    × LinkedFile host libs file
 
 -- a file has more to give, if that is known, than a program reads of it
 abbrev pub IsTooLong : Option (List ℕ) → Type 0

@@ -5,3 +5,5 @@ pub mod Printed
 pub mod FilesRead
 pub mod Statuses
 pub mod Causes
+pub mod Prepared
+pub mod Links

@@ -2,22 +2,33 @@
 -- named, and what a link has written. `Reads` says of a path and of bytes that they were read
 -- there, and `Writes` that a file which was created there took them.
 -- Source: this project's profile.
-use Rattle.std.specs.Prelude.{◌≡◌, ◌⊎◌, ◌++◌, ◌∷◌, [], if◌then◌else◌, ℕ, Bool, true, false, List, Option, Some, codes, max}
+use Rattle.std.specs.Prelude.{◌≡◌, ◌⊎◌, ◌++◌, ◌∷◌, [], if◌then◌else◌, ℕ, Bool, true, false, List, Option, None, Some, IfSome, IsSomeAnd, codes, max, ⊤}
 use Rattle.std.specs.List.{AllZip}
 use Rattle.std.specs.Io.KnownBytes.{Appends}
 use Rattle.clap.specs.Words.{IsAmong, Kinds, Row, Text, first_of}
 use Rattle.clap.specs.declared.error.ErrorKind.TheVariants.{DisplayHelp, DisplayVersion}
+use Rattle.ps_words.specs.declared.fault.Fault.{Fault}
+use Rattle.ps_writing.specs.FaultJson.{fault_json}
+use Rattle.ps_writing.specs.JsonStrings.{json_text}
+use Rattle.ps_writing.specs.Prefixes.{AppendsPrefix}
 use Rattle.ps_writing.specs.declared.rows.Form.{Form}
 use Rattle.ps_writing.specs.declared.rows.Form.TheVariants.{Lines, Json}
 use Rattle.ps_linkfile.specs.LinkedFile.{LinkedFile, summary_of}
 use Rattle.ps_listing.specs.FileLists.{is_refused_as_listed, listed_as, unread}
 use Rattle.ps_listing.specs.declared.lists.ListForm.{ListForm}
 use Rattle.ps_listing.specs.declared.lists.ListForm.TheVariants as form
+use Rattle.ps_resolve.specs.FaultNames.{fault_name}
+use Rattle.ps_texts.specs.Paths.{path_of}
 use Rattle.ps_texts.specs.Texts.{IsTextOf}
+use Rattle.ps_texts.specs.Unmade.{CanRefuse}
+use Rattle.ps_texts.specs.declared.texts.Unmade.{Unmade}
+use Rattle.ps_texts.specs.declared.texts.Unmade.TheVariants as unmade
 use Rattle.ps_texts.specs.declared.kinds.TextKind.{TextKind}
 use Rattle.ps_texts.specs.declared.kinds.TextKind.TheVariants as kind
-use Rattle.ps_command.specs.SummaryLine.{summary_line}
-use Rattle.ps_command.specs.Requests.{files_of, has_references, is_json, is_strict, is_unit, libraries_of}
+use Rattle.ps_command.specs.SummaryLine.{summary_text}
+use Rattle.ps_command.specs.Requests.{files_of, has_output, has_references, is_json, is_quiet, is_strict, is_unit, libraries_of, map_file, out_and_libraries}
+use Rattle.ps_command.specs.declared.linking.Place.{Place}
+use Rattle.ps_command.specs.declared.linking.Place.TheVariants as place
 
 -- it holds of a host that was read at its path and of libraries that were read at theirs, one for
 -- one in their order, and of their linked file
@@ -27,13 +38,31 @@ SomeLink Reads path paths Holds =
     (host : List ℕ) × (libs : List (List ℕ)) × (file : List ℕ) × Reads path host
     × AllZip Reads paths libs × LinkedFile host libs file × Holds host libs file
 
--- a file that was created at `out` took the linked file of the files at these paths, and a known
--- writer takes the line of that link
-abbrev pub PrintsLine : (Text → List ℕ → Type 0) → (Text → List ℕ → Type 0) → Text
-    → List Text → Text → Option (List ℕ) → Option (List ℕ) → Type 0
-PrintsLine Reads Writes path paths out old new =
-    SomeLink Reads path paths (λ host libs file. Writes out file
-    × Appends old new (summary_line (summary_of host libs)))
+-- Where the summary of a link is printed: nowhere if it is quiet; on standard error if its option
+-- names OUT, and OUT leads to standard output, or if the file of the map does; and else on standard
+-- output. `Leads` says of a path whether it was found to lead there.
+abbrev pub IsPlace : (Text → Bool → Type 0) → Bool → Bool → Text → Option Text → Place
+    → Type 0
+IsPlace Leads quiet by_option out map place.Nowhere = quiet ≡ true
+IsPlace Leads quiet by_option out map place.Output =
+    (quiet ≡ false) × (by_option ≡ true → Leads out false) × IfSome map (λ file. Leads file false)
+IsPlace Leads quiet by_option out map place.Error =
+    (quiet ≡ false) × (((by_option ≡ true) × Leads out true)
+    ⊎ IsSomeAnd map (λ file. Leads file true))
+
+-- the same of the file of the map alone
+abbrev pub IsBeside : (Text → Bool → Type 0) → Option Text → Place → Type 0
+IsBeside Leads map place.Nowhere = ⊥
+IsBeside Leads map place.Output = IfSome map (λ file. Leads file false)
+IsBeside Leads map place.Error = IsSomeAnd map (λ file. Leads file true)
+
+-- known writers of standard output and of standard error take a summary at its place; of standard
+-- error, whose fault changes nothing, a prefix of it
+abbrev pub PrintsAt : Place → List ℕ → Option (List ℕ) → Option (List ℕ)
+    → Option (List ℕ) → Option (List ℕ) → Type 0
+PrintsAt place.Nowhere line old new old_err new_err = (new ≡ old) × (new_err ≡ old_err)
+PrintsAt place.Output line old new old_err new_err = Appends old new line × (new_err ≡ old_err)
+PrintsAt place.Error line old new old_err new_err = (new ≡ old) × AppendsPrefix old_err new_err line
 
 -- by a text of a host that was read at its path and of libraries that were read at theirs, one for
 -- one in their order, which ends with this status
@@ -54,10 +83,90 @@ abbrev pub map_kind : Bool → Bool → TextKind
 map_kind false json = kind.Map (form_of json)
 map_kind true json = kind.References (form_of json)
 
+-- a file that was created at the path of the map, if there is one, took the map of the link of these
+-- files
+abbrev pub WritesMap : (Text → List ℕ → Type 0) → Option Text → TextKind → List Text
+    → List ℕ → List (List ℕ) → Type 0
+WritesMap Writes None k paths host libs = ⊤
+WritesMap Writes (Some file) k paths host libs =
+    (text : List ℕ) × IsTextOf k false paths host libs 0 text × Writes file text
+
+-- a file that was created at OUT took the linked file of the files at these paths, one that was
+-- created for the map took the map of the same, and the summary of that link is printed at its place
+abbrev pub PrintsLink : (Text → List ℕ → Type 0) → (Text → List ℕ → Type 0)
+    → (Text → Bool → Type 0) → List Row → Text → Option (List ℕ) → Option (List ℕ)
+    → Option (List ℕ) → Option (List ℕ) → Type 0
+PrintsLink Reads Writes Leads rows path old new old_err new_err =
+    (out : Text) × (libraries : List Text) × (where_to : Place)
+    × (out_and_libraries rows ≡ Some (out, libraries))
+    × IsPlace Leads (is_quiet rows) (has_output rows) out (map_file rows) where_to
+    × SomeLink Reads path libraries (λ host libs file. Writes out file
+    × WritesMap Writes (map_file rows) (map_kind (has_references rows) (is_json rows))
+    (path ∷ libraries) host libs
+    × PrintsAt where_to (summary_text (is_json rows) (summary_of host libs)) old new old_err
+    new_err)
+
+-- a link that is named prints its summary on standard error
+abbrev pub TellsOnError : (Text → Bool → Type 0) → Option (Text × List Row) → Type 0
+TellsOnError Leads named =
+    (rows : List Row) × (out : Text) × (libraries : List Text)
+    × (named ≡ Some (codes "link", rows)) × (out_and_libraries rows ≡ Some (out, libraries))
+    × IsPlace Leads (is_quiet rows) (has_output rows) out (map_file rows) place.Error
+
+-- the document of files that are refused: the path of the file that the fault is in, and the fault
+-- with the name of what it is about
+abbrev pub refusal_json : Text → Option (List ℕ) → Fault → List ℕ
+refusal_json path name f = codes "{\"path\":\"" ++ json_text path ++ codes "\",\"fault\":"
+    ++ fault_json name f ++ codes "}\n"
+
+abbrev pub refusal_of : List Text → List ℕ → List (List ℕ) → Fault → List ℕ
+refusal_of paths host libs f = refusal_json (path_of paths f.file) (fault_name host libs f) f
+
+-- by that document, where nothing is made of files since they are refused
+abbrev pub PrintsUnmade : Unmade → List Text → List ℕ → List (List ℕ) → Option (List ℕ)
+    → Option (List ℕ) → Type 0
+PrintsUnmade (unmade.Refused f) paths host libs old new =
+    Appends old new (refusal_of paths host libs f)
+PrintsUnmade unmade.Memory paths host libs old new = ⊥
+
+-- by that document, of why a text of these files is not made, if it is to be a document
+abbrev pub PrintsRefusal : (Text → List ℕ → Type 0) → TextKind → Bool → Text → List Text
+    → ℕ → Option (List ℕ) → Option (List ℕ) → Type 0
+PrintsRefusal Reads k json path paths status old new =
+    (json ≡ true) × (status ≡ 1) × (host : List ℕ) × (libs : List (List ℕ)) × (f : Fault)
+    × Reads path host × AllZip Reads paths libs × CanRefuse k host libs f
+    × Appends old new (refusal_of (path ∷ paths) host libs f)
+
+-- a text of files is printed, or with `json` the document of why it is not made
+abbrev pub IsPrinted : TextKind → Bool → Bool → List Text → List ℕ → List (List ℕ) → ℕ
+    → Option (List ℕ) → Option (List ℕ) → Type 0
+IsPrinted k strict json paths host libs status old new =
+    ((text : List ℕ) × IsTextOf k strict paths host libs status text × Appends old new text)
+    ⊎ ((json ≡ true) × (status ≡ 1) × (f : Fault) × CanRefuse k host libs f
+    × Appends old new (refusal_of paths host libs f))
+
+-- by a text, or by the document of a refusal
+abbrev pub PrintsOrRefuses : (Text → List ℕ → Type 0) → TextKind → Bool → Text → List Text
+    → ℕ → Option (List ℕ) → Option (List ℕ) → Type 0
+PrintsOrRefuses Reads k json path paths status old new =
+    PrintsTextOf Reads k false path paths status old new
+    ⊎ PrintsRefusal Reads k json path paths status old new
+
+-- by a summary, or by the document of a refusal
+abbrev pub LinksOrRefuses : (Text → List ℕ → Type 0) → (Text → List ℕ → Type 0)
+    → (Text → Bool → Type 0) → List Row → Text → ℕ → Option (List ℕ) → Option (List ℕ)
+    → Option (List ℕ) → Option (List ℕ) → Type 0
+LinksOrRefuses Reads Writes Leads rows path status old new old_err new_err =
+    ((status ≡ 0) × PrintsLink Reads Writes Leads rows path old new old_err new_err)
+    ⊎ ((out : Text) × (libraries : List Text)
+    × (out_and_libraries rows ≡ Some (out, libraries))
+    × PrintsRefusal Reads (kind.Map Lines) (is_json rows) path libraries status old new)
+
 -- by nothing, where the file at a path cannot be read; or in a document by an item that says so
 abbrev pub PrintsUnread : ListForm → Bool → Text → Option (List ℕ) → Option (List ℕ)
     → Type 0
 PrintsUnread form.Json first path old new = Appends old new (unread first path)
+PrintsUnread form.JsonUnits first path old new = Appends old new (unread first path)
 PrintsUnread how first path old new = new ≡ old
 
 -- by the list of the file at a path, which ends with status 1 if it is refused or a segment is; or
@@ -87,20 +196,33 @@ document_start = codes "{\"files\":["
 abbrev pub document_end : List ℕ
 document_end = codes "\n]}\n"
 
+-- by one document of the lists of the files at these paths
+abbrev pub PrintsDocument : (Text → List ℕ → Type 0) → ListForm → List Text → ℕ
+    → Option (List ℕ) → Option (List ℕ) → Type 0
+PrintsDocument Reads how paths status old new =
+    (started : Option (List ℕ)) × (ended : Option (List ℕ))
+    × Appends old started document_start
+    × PrintsFiles Reads how true paths status started ended
+    × Appends ended new document_end
+
 -- by the lists of the files at these paths; or by one document of them
 abbrev pub PrintsLists : (Text → List ℕ → Type 0) → ListForm → List Text → ℕ
     → Option (List ℕ) → Option (List ℕ) → Type 0
 PrintsLists Reads form.Json paths status old new =
-    (started : Option (List ℕ)) × (ended : Option (List ℕ))
-    × Appends old started document_start
-    × PrintsFiles Reads form.Json true paths status started ended
-    × Appends ended new document_end
+    PrintsDocument Reads form.Json paths status old new
+PrintsLists Reads form.JsonUnits paths status old new =
+    PrintsDocument Reads form.JsonUnits paths status old new
 PrintsLists Reads how paths status old new = PrintsFiles Reads how true paths status old new
 
 -- how a list is printed
 abbrev pub list_form : Bool → ListForm
 list_form false = form.Lines
 list_form true = form.Json
+
+-- how the lists of files are printed that have their units
+abbrev pub units_form : Bool → ListForm
+units_form false = form.Units
+units_form true = form.JsonUnits
 
 -- by a report of a host and libraries; or by the lists of these files, each with its units by
 -- themselves
@@ -109,22 +231,23 @@ abbrev pub PrintsCheck : (Text → List ℕ → Type 0) → Bool → Text → Li
 PrintsCheck Reads false path paths strict json status old new =
     PrintsTextOf Reads (kind.Check (form_of json)) strict path paths status old new
 PrintsCheck Reads true path paths strict json status old new =
-    PrintsLists Reads form.Units (path ∷ paths) status old new
+    PrintsLists Reads (units_form json) (path ∷ paths) status old new
 
 -- by what the command that is named prints of the files that are named for it, which ends with this
--- status
+-- status; of standard error it says only what a link prints there
 abbrev pub Prints : (Text → List ℕ → Type 0) → (Text → List ℕ → Type 0)
-    → Option (Text × List Row) → ℕ → Option (List ℕ) → Option (List ℕ) → Type 0
-Prints Reads Writes named status old new = (rows : List Row) × (path : Text) × (
-    ((named ≡ Some (codes "link", rows)) × (status ≡ 0)
-    × (first_of (codes "HOST") rows ≡ Some path)
-    × (out : Text) × (first_of (codes "OUT") rows ≡ Some out)
-    × PrintsLine Reads Writes path (libraries_of rows) out old new)
+    → (Text → Bool → Type 0) → Option (Text × List Row) → ℕ → Option (List ℕ)
+    → Option (List ℕ) → Option (List ℕ) → Option (List ℕ) → Type 0
+Prints Reads Writes Leads named status old new old_err new_err =
+    (rows : List Row) × (path : Text) × (
+    ((named ≡ Some (codes "link", rows)) × (first_of (codes "HOST") rows ≡ Some path)
+    × LinksOrRefuses Reads Writes Leads rows path status old new old_err new_err)
     ⊎ ((named ≡ Some (codes "map", rows)) × (first_of (codes "HOST") rows ≡ Some path)
-    × PrintsTextOf Reads (map_kind (has_references rows) (is_json rows)) false path
+    × PrintsOrRefuses Reads (map_kind (has_references rows) (is_json rows)) (is_json rows) path
     (libraries_of rows) status old new)
     ⊎ ((named ≡ Some (codes "show", rows)) × (first_of (codes "FILE") rows ≡ Some path)
-    × PrintsTextOf Reads (kind.Show (form_of (is_json rows))) false path [] status old new)
+    × PrintsOrRefuses Reads (kind.Show (form_of (is_json rows))) (is_json rows) path [] status
+    old new)
     ⊎ ((named ≡ Some (codes "check", rows)) × (first_of (codes "HOST") rows ≡ Some path)
     × PrintsCheck Reads (is_unit rows) path (libraries_of rows) (is_strict rows)
     (is_json rows) status old new)

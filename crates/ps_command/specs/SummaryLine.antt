@@ -1,6 +1,6 @@
 -- What is printed on standard output once a file is linked.
 -- Source: this project's profile.
-use Rattle.std.specs.Prelude.{ℕ, List, ◌++◌, codes, decimal}
+use Rattle.std.specs.Prelude.{ℕ, Bool, false, true, List, ◌++◌, codes, decimal}
 use Rattle.ps_linkfile.specs.declared.summary.Summary.{Summary}
 
 -- `segments S private words P blocks B` and a line end
@@ -8,3 +8,14 @@ abbrev pub summary_line : Summary → List ℕ
 summary_line s =
     codes "segments " ++ (decimal s.segments ++ (codes " private words " ++ (decimal s.private_words
     ++ (codes " blocks " ++ (decimal s.blocks ++ codes "\n")))))
+
+-- `{"segments":S,"private_words":P,"blocks":B}` and a line end
+abbrev pub summary_json : Summary → List ℕ
+summary_json s =
+    codes "{\"segments\":" ++ (decimal s.segments ++ (codes ",\"private_words\":"
+    ++ (decimal s.private_words ++ (codes ",\"blocks\":" ++ (decimal s.blocks ++ codes "}\n")))))
+
+-- the summary as a line, or as a document
+abbrev pub summary_text : Bool → Summary → List ℕ
+summary_text false s = summary_line s
+summary_text true s = summary_json s

@@ -1,15 +1,15 @@
 //! What the command line accepts, as a table, and the command of clap that it makes.
 ghost use Rattle.std.specs.Prelude.{◌≡◌, IfOk, fold};
-ghost use Rattle.clap.specs.Words.{App, app_of};
-ghost use Rattle.ps_command.specs.CommandLine.{IsArgument, IsMade, app_in, bare_app, files_rule, flag_rule, pslink_app, rule_in, with_form};
+ghost use Rattle.clap.specs.Words.{App, app_of, new_app, rule_of};
+ghost use Rattle.ps_command.specs.CommandLine.{IsArgument, IsMade, app_in, bare_app, files_rule, flag_rule, lettered, pslink_app, rule_in, value_rule, with_form};
 
-use Argument::{AnyFiles, File, Files, Flag};
+use Argument::{AnyFiles, File, Files, Flag, Value};
 use clap::{Arg, ArgAction, Command};
 use std::alloc::{AllocError, Global};
 
 /// What the help of the program ends with.
 const ENDING: &str = "Example:
-  pslink link host.code linked.code library.code
+  pslink link -o linked.code host.code library.code
 
 Exit status:
   0  the command was done
@@ -20,18 +20,26 @@ Exit status:
 
 A name that begins with a dash is given as ./-name, or after --. See pslink(1).";
 
+/// What the help of `link` names as its usage: with OUT by its option, and as the file after HOST.
+const LINK_USAGE: &str = "pslink link [OPTIONS] -o <OUT> <HOST> [LIB]...
+       pslink link [OPTIONS] <HOST> <OUT> [LIB]...";
+
 /// What the help of `link` ends with.
 const LINK_ENDING: &str = "Example:
-  pslink link host.code linked.code library.code
+  pslink link -o linked.code host.code library.code
 
 OUT is opened once everything was checked, and is written in place. If a write fails,
 OUT has the first part of the linked file. A linked file is no host any more, so keep
 the host:
-  pslink link host.code linked.new library.code &&
+  pslink link -o linked.new host.code library.code &&
       mv linked.new linked.code
-The second file is always OUT. If it is forgotten, the first LIB is taken as OUT, and
-is overwritten if the link succeeds. With /dev/stdout as OUT the summary and the file
-are mixed: use /dev/fd/3 and 3>&1. A file is read from a pipe as /dev/stdin.
+With --map FILE the map is written to FILE once OUT is whole: what map would print of
+the same files. FILE may be neither OUT nor a file of the link.
+The summary is printed on standard error where the OUT of -o or FILE is standard
+output, as /dev/stdout. A file is read from a pipe as /dev/stdin.
+
+Without -o the file after HOST is OUT. If it is forgotten there, the first LIB is taken
+as OUT, and is overwritten if the link succeeds.
 
 Exit status:
   0  the command was done
@@ -48,7 +56,8 @@ const MAP_ENDING: &str = "Example:
 
 With --references a line follows for each place at which the link stores bytes: its
 offset in the code and in the linked file, the bytes there before and after the link,
-and the record. With --json the same values are printed as one JSON document.
+and the record. With --json the same values are printed as one JSON document, and so is
+the fault of files that are refused.
 
 Exit status:
   0  the map was printed
@@ -63,7 +72,8 @@ A name that begins with a dash is given as ./-name, or after --. See pslink(1)."
 const SHOW_ENDING: &str = "Example:
   pslink show library.code
 
-With --json the same values are printed as one JSON document.
+With --json the same values are printed as one JSON document, and so is the fault of a
+file that is refused.
 
 Exit status:
   0  the segments were printed
@@ -87,8 +97,7 @@ the warnings and the report are printed as one JSON document.
 With --unit, HOST and each LIB are files of any kind. They are listed as by list, and
 after the lines of each file comes a line of each unit that it has, with its first
 fault in a link with a host that would define each name: so a unit can be checked
-before there is a host. The other options then change nothing, and a file without a
-unit is refused.
+before there is a host. A file without a unit is refused.
 
 Exit status:
   0  the files link, and there may be warnings
@@ -128,8 +137,10 @@ enum Argument {
     Files(&'static str, &'static str),
     /// Files, of which none has to be named.
     AnyFiles(&'static str, &'static str),
-    /// An option without a value.
-    Flag(&'static str, &'static str),
+    /// An option without a value: its name, and its letter if it has one.
+    Flag(&'static str, Option<char>, &'static str),
+    /// An option with a value: the value, its name, and its letter if it has one.
+    Value(&'static str, &'static str, Option<char>, &'static str),
 }
 
 /// What the help of a command ends with: the table of the commands names the texts and does not hold
@@ -154,6 +165,14 @@ impl Ending {
             Ending::List => LIST_ENDING,
         }
     }
+
+    /// What the help names as the usage; none where clap makes it of the arguments.
+    fn usage(self) -> Option<&'static str> {
+        match self {
+            Ending::Link => Some(LINK_USAGE),
+            Ending::Map | Ending::Show | Ending::Check | Ending::List => None,
+        }
+    }
 }
 
 /// A command: its name, what the help says of it and ends with, and its arguments.
@@ -170,7 +189,7 @@ const HOST: Argument = File("HOST", "The code file that holds the host program")
 
 const LIBRARIES: Argument = AnyFiles("LIB", "A library to search for units, in the order given");
 
-const JSON: Argument = Flag("json", "Prints the same values as one JSON document");
+const JSON: Argument = Flag("json", None, "Prints the same values as one JSON document");
 
 const LINK: CommandForm = CommandForm {
     name: "link",
@@ -178,8 +197,47 @@ const LINK: CommandForm = CommandForm {
     ending: Ending::Link,
     arguments: &[
         HOST,
-        File("OUT", "The code file to write; it may be HOST"),
         LIBRARIES,
+        Value(
+            "OUT",
+            "output",
+            Some('o'),
+            "The code file to write; it may be HOST",
+        ),
+        Value(
+            "FILE",
+            "map",
+            None,
+            "Writes the map of the link to FILE, too",
+        ),
+        Flag(
+            "references",
+            None,
+            "Writes to FILE what the link stores at each place, too",
+        ),
+        Flag(
+            "json",
+            None,
+            "Prints the summary and writes the map as JSON documents",
+        ),
+        Flag("quiet", Some('q'), "Prints no summary"),
+    ],
+};
+
+const CHECK: CommandForm = CommandForm {
+    name: "check",
+    about: "Says in words what is wrong with the files and what looks wrong",
+    ending: Ending::Check,
+    arguments: &[
+        HOST,
+        LIBRARIES,
+        Flag("strict", None, "Ends with status 1 on a warning too"),
+        Flag(
+            "unit",
+            None,
+            "Lists each file, and what refuses each of its units by itself",
+        ),
+        JSON,
     ],
 };
 
@@ -195,6 +253,7 @@ static FORMS: [CommandForm; 5] = [
             LIBRARIES,
             Flag(
                 "references",
+                None,
                 "Prints what the link stores at each place, too",
             ),
             JSON,
@@ -212,21 +271,7 @@ static FORMS: [CommandForm; 5] = [
             JSON,
         ],
     },
-    CommandForm {
-        name: "check",
-        about: "Says in words what is wrong with the files and what only looks right",
-        ending: Ending::Check,
-        arguments: &[
-            HOST,
-            LIBRARIES,
-            Flag("strict", "Ends with status 1 on a warning too"),
-            Flag(
-                "unit",
-                "Lists each file, and what refuses each of its units by itself",
-            ),
-            JSON,
-        ],
-    },
+    CHECK,
     CommandForm {
         name: "list",
         about: "Prints a line of each file and of each of its segments, made for grep",
@@ -251,6 +296,11 @@ pub(crate) fn command<'a>(heap: Global) -> Result<Command<'a>, AllocError>
 /// The command `link` with the name that its usage has.
 pub(crate) fn link_usage<'a>(heap: Global) -> Result<Command<'a>, AllocError> {
     command_of(heap, &LINK)?.bin_name("pslink link")
+}
+
+/// The command `check` with the name that its usage has.
+pub(crate) fn check_usage<'a>(heap: Global) -> Result<Command<'a>, AllocError> {
+    command_of(heap, &CHECK)?.bin_name("pslink check")
 }
 
 /// The program, of which a command is required, without its commands.
@@ -295,13 +345,24 @@ fn with_command<'a>(
 fn command_of<'a>(heap: Global, form: &CommandForm) -> Result<Command<'a>, AllocError>
     ensures { IfOk result (IsMade (app_in form.now)) }
 {
-    let mut command = Command::new(heap, form.name)
-        .about(form.about)
-        .after_help(form.ending.text());
+    let mut command = bare_command_of(heap, form);
     for argument in form.arguments {
         command = command.arg(argument_of(heap, *argument))?;
     }
     Ok(command)
+}
+
+/// The command of this form without its arguments.
+fn bare_command_of<'a>(heap: Global, form: &CommandForm) -> Command<'a>
+    ensures { IsMade (new_app form.now.name.now) result }
+{
+    let command = Command::new(heap, form.name)
+        .about(form.about)
+        .after_help(form.ending.text());
+    match form.ending.usage() {
+        Some(usage) => command.override_usage(usage),
+        None => command,
+    }
 }
 
 /// The argument of this form.
@@ -312,7 +373,8 @@ fn argument_of<'a>(heap: Global, form: Argument) -> Arg<'a>
         File(name, help) => file(heap, name, help, ArgAction::Set, true),
         Files(name, help) => file(heap, name, help, ArgAction::Append, true),
         AnyFiles(name, help) => file(heap, name, help, ArgAction::Append, false),
-        Flag(name, help) => flag(heap, name, help),
+        Flag(name, letter, help) => flag(heap, name, letter, help),
+        Value(id, name, letter, help) => value(heap, id, name, letter, help),
     }
 }
 
@@ -333,11 +395,40 @@ fn file<'a>(
 }
 
 /// An option without a value.
-fn flag<'a>(heap: Global, name: &'a str, help: &'a str) -> Arg<'a>
-    ensures { IsArgument (flag_rule name.entry.now) result }
+fn flag<'a>(heap: Global, name: &'a str, letter: Option<char>, help: &'a str) -> Arg<'a>
+    ensures { IsArgument (flag_rule name.entry.now letter) result }
 {
-    Arg::new(heap, name)
+    let arg = Arg::new(heap, name)
         .long(name)
         .action(ArgAction::SetTrue)
-        .help(help)
+        .help(help);
+    with_letter(arg, letter)
+}
+
+/// An option whose value has this name.
+fn value<'a>(
+    heap: Global,
+    id: &'a str,
+    name: &'a str,
+    letter: Option<char>,
+    help: &'a str,
+) -> Arg<'a>
+    ensures { IsArgument (value_rule id.entry.now name.entry.now letter) result }
+{
+    let arg = Arg::new(heap, id)
+        .long(name)
+        .action(ArgAction::Set)
+        .help(help);
+    with_letter(arg, letter)
+}
+
+/// The option with this letter, if it has one.
+fn with_letter<'a>(arg: Arg<'a>, letter: Option<char>) -> Arg<'a>
+    ensures rule { rule_of result ≡ lettered letter (rule_of arg.entry) }
+    ensures own { result.global ≡ arg.entry.global }
+{
+    match letter {
+        Some(letter) => arg.short(letter),
+        None => arg,
+    }
 }

@@ -1,8 +1,8 @@
 //! Files that are read whole.
-ghost use Rattle.std.specs.Prelude.{◌≡◌, ◌≤◌, ℕ, List, length, map, IfErr, IfOk, IfSome, OnOk, ⊤};
+ghost use Rattle.std.specs.Prelude.{◌≡◌, ◌≤◌, ℕ, Bool, List, length, map, IfErr, IfOk, IfSome, OnOk, ⊤};
 ghost use Rattle.std.specs.List.{AllZip};
 ghost use Rattle.ps_command.specs.Causes.{read_error};
-ghost use Rattle.ps_command.specs.FilesRead.{IsReadFault, IsTooLong, Reads};
+ghost use Rattle.ps_command.specs.FilesRead.{IsReadFault, IsTooLong, LinksFiles, Reads};
 ghost use Rattle.ps_command.specs.declared.files.FileFault.TheVariants.{Memory};
 
 use crate::error::{Cause, FileError};
@@ -76,12 +76,16 @@ pub trait CodeFiles {
     // Holds of a path and of what was created there, as it was when it was closed.
     ghost closed: { Self → List ℕ → Self.Created → Type 0 };
 
+    // Holds of a path and of whether it was found to lead to standard output.
+    ghost leads: { Self → List ℕ → Bool → Type 0 };
+
     /// Opens the file at `path` to be read.
     fn open(&self, path: &str) -> io::Result<Self::Opened>
         ensures { IfOk result (opened self.now path.now) };
 
-    /// Creates or empties the file at `path`.
+    /// Creates or empties the file at `path`. It is called only where files that were read link.
     fn create(&self, path: &str) -> io::Result<Self::Created>
+        requires { LinksFiles (Reads (opened self.now) Self.Opened.remaining) }
         ensures { IfOk result (λ file. created self.now path.now file) };
 
     /// Closes the file that was created at `path`: no more is written to it.
@@ -91,6 +95,10 @@ pub trait CodeFiles {
     /// Both paths lead to one file, as two names of it or a link do. Where no file is, or no regular
     /// one, they do not.
     fn lead_to_one_file(&self, path: &str, other: &str) -> bool;
+
+    /// The path leads to what standard output is: a file, a pipe or a terminal.
+    fn leads_to_output(&self, path: &str) -> bool
+        ensures { leads self.now path.now result };
 
     /// How many bytes `file` is said to have, and 0 where nothing is said of it. A read may give
     /// more bytes than that, or less.
@@ -108,6 +116,8 @@ impl<R: Files> CodeFiles for R {
 
     ghost closed = { λ rt path file. ⊤ };
 
+    ghost leads = { λ rt path found. ⊤ };
+
     fn open(&self, path: &str) -> io::Result<R::File> {
         fs::open(self, path)
     }
@@ -121,13 +131,17 @@ impl<R: Files> CodeFiles for R {
         file.flush()
     }
 
-    // A pipe or a terminal may well be read and written. An inode is 0 where none is known.
+    // A pipe or a terminal may well be read and written.
     fn lead_to_one_file(&self, path: &str, other: &str) -> bool {
         match (fs::metadata(self, path), fs::metadata(self, other)) {
-            (Ok(one), Ok(two)) => {
-                let node = one.ino();
-                one.is_file() && node != 0 && node == two.ino() && one.dev() == two.dev()
-            }
+            (Ok(one), Ok(two)) => one.is_file() && are_one(&one, &two),
+            _ => false,
+        }
+    }
+
+    fn leads_to_output(&self, path: &str) -> bool {
+        match (fs::metadata(self, path), fs::metadata(self, OUTPUT)) {
+            (Ok(one), Ok(two)) => are_one(&one, &two),
             _ => false,
         }
     }
@@ -141,6 +155,15 @@ impl<R: Files> CodeFiles for R {
             _ => 0,
         }
     }
+}
+
+/// The path that leads to standard output.
+const OUTPUT: &str = "/dev/stdout";
+
+/// Two files are one, by their inode, which is 0 where none is known, and its device.
+fn are_one(one: &fs::Metadata, two: &fs::Metadata) -> bool {
+    let node = one.ino();
+    node != 0 && node == two.ino() && one.dev() == two.dev()
 }
 
 /// The first of the paths that leads to the file at `out`.

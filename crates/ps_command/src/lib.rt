@@ -6,9 +6,12 @@ mod command_line;
 mod ended;
 mod error;
 mod files;
+mod linking;
 mod lists;
 mod output;
+mod prepared;
 mod process;
+mod refusal;
 mod request;
 mod running;
 

@@ -2,7 +2,7 @@
 ghost use Rattle.std.specs.Prelude.{◌≡◌, IfOk, OnOk, if◌then◌else◌, map, true};
 ghost use Rattle.std.specs.Io.KnownBytes.{Appends};
 ghost use Rattle.ps_listing.specs.FileLists.{is_refused_in, listed};
-ghost use Rattle.ps_command.specs.Printed.{IsListed, PrintsFiles, PrintsLists, PrintsUnread};
+ghost use Rattle.ps_command.specs.Printed.{IsListed, PrintsDocument, PrintsFiles, PrintsLists, PrintsUnread};
 ghost use Rattle.ps_command.specs.Causes.{unread_error};
 ghost use Rattle.ps_command.specs.FilesRead.{Reads};
 ghost use Rattle.ps_command.specs.Statuses.{ended_status};
@@ -48,7 +48,7 @@ fn print_unread<O: Write>(
 {
     match how {
         ListForm::Lines | ListForm::Units => Ok(()),
-        ListForm::Json => write_text(&UnreadItem { first, path }, out),
+        ListForm::Json | ListForm::JsonUnits => write_text(&UnreadItem { first, path }, out),
     }
 }
 
@@ -135,22 +135,23 @@ fn print_files<'a, R: CodeFiles, A: Allocator + Copy, O: Write, E: Write>(
     Ok(ended)
 }
 
-/// Prints one JSON document of the lists of the files, and reports each that cannot be read. Returns
-/// the worst end of all.
+/// Prints one JSON document of the lists of the files in this form, and reports each that cannot be
+/// read. Returns the worst end of all.
 fn print_document<'a, R: CodeFiles, A: Allocator + Copy, O: Write, E: Write>(
     rt: &R,
     alloc: A,
     paths: &[&'a str],
+    how: ListForm,
     out: &mut O,
     err: &mut E,
 ) -> Result<Ended, WriteFault>
-    ensures ok { IfOk result (λ ended. PrintsLists (Reads (R.opened rt.now) R.Opened.remaining)
-        ListForm.Json (map (λ path. path.now) paths.now) (ended_status ended) (O.contents out.old)
+    ensures ok { IfOk result (λ ended. PrintsDocument (Reads (R.opened rt.now) R.Opened.remaining)
+        how (map (λ path. path.now) paths.now) (ended_status ended) (O.contents out.old)
         (O.contents out.new)) }
     ensures silent { IfOk result (λ ended. ended_status ended ≡ 0 → err.new ≡ err.old) }
 {
     write_all_of(out, b"{\"files\":[")?;
-    let ended = print_files(rt, alloc, paths, ListForm::Json, out, err)?;
+    let ended = print_files(rt, alloc, paths, how, out, err)?;
     write_all_of(out, b"\n]}\n")?;
     Ok(ended)
 }
@@ -172,7 +173,7 @@ pub(crate) fn print_lists<'a, R: CodeFiles, A: Allocator + Copy, O: Write, E: Wr
     ensures silent { IfOk result (λ ended. ended_status ended ≡ 0 → err.new ≡ err.old) }
 {
     match how {
-        ListForm::Json => print_document(rt, alloc, paths, out, err),
+        ListForm::Json | ListForm::JsonUnits => print_document(rt, alloc, paths, how, out, err),
         ListForm::Lines | ListForm::Units => print_files(rt, alloc, paths, how, out, err),
     }
 }

@@ -1,10 +1,10 @@
 //! The command that a process was started with.
-ghost use Rattle.std.specs.Prelude.{◌≡◌, ◌≢◌, ◌≤◌, ◌⊎◌, IfErr, IfOk, map, string_bytes};
+ghost use Rattle.std.specs.Prelude.{◌≡◌, ◌≢◌, ◌≤◌, ◌⊎◌, List, ℕ, IfErr, IfOk, map, string_bytes, true};
 ghost use Rattle.std.specs.Process.{exit_status};
 ghost use Rattle.ps_command.specs.CommandLine.{AreAccepted, named_in};
-ghost use Rattle.ps_command.specs.Printed.{Prints};
+ghost use Rattle.ps_command.specs.Printed.{Prints, TellsOnError};
 ghost use Rattle.ps_command.specs.FilesRead.{Reads, Writes};
-ghost use Rattle.ps_command.specs.Requests.{NamesCheck, NamesList};
+ghost use Rattle.ps_command.specs.Requests.{NamesCheck, NamesDocument, NamesList};
 
 use crate::error::{CommandError, UsageError, WrongArgument};
 use crate::files::CodeFiles;
@@ -28,8 +28,12 @@ pub fn run_process<R: CodeFiles + Env + AllocGlobal, O: Write, E: Write>(
     err: &mut E,
 ) -> ExitCode
     ensures known { exit_status result ≤ 4 }
-    ensures silent { exit_status result ≡ 0 → err.new ≡ err.old }
-    // Status 1 leaves anything there only if the report of a check or a list names the refusal.
+    // Nothing is written to `err` where the command was done, but for the summary of a link whose
+    // file was found to go to standard output.
+    ensures silent { exit_status result ≡ 0 → (err.new ≡ err.old)
+        ⊎ ((path : List ℕ) × R.leads rt.now path true) }
+    // Status 1 leaves anything there only if the report of a check, a list or a document names the
+    // refusal.
     ensures unprinted { exit_status result ≢ 0 → exit_status result ≢ 1 → exit_status result ≢ 3
         → out.new ≡ out.old }
 {
@@ -132,19 +136,23 @@ fn run_args<R: CodeFiles + AllocGlobal, O: Write, E: Write>(
     err: &mut E,
 ) -> ExitCode
     ensures known { exit_status result ≤ 4 }
-    ensures silent { exit_status result ≡ 0 → err.new ≡ err.old }
+    ensures silent { exit_status result ≡ 0 → (err.new ≡ err.old)
+        ⊎ TellsOnError (R.leads rt.now) (named_in (map string_bytes given.now)) }
     ensures printed { AreAccepted (map string_bytes given.now) → exit_status result ≡ 0
         → Prints (Reads (R.opened rt.now) R.Opened.remaining)
-        (Writes (R.created rt.now) (R.closed rt.now) R.Created.contents)
-        (named_in (map string_bytes given.now)) 0 (O.contents out.old) (O.contents out.new) }
+        (Writes (R.created rt.now) (R.closed rt.now) R.Created.contents) (R.leads rt.now)
+        (named_in (map string_bytes given.now)) 0 (O.contents out.old) (O.contents out.new)
+        (E.contents err.old) (E.contents err.new) }
     ensures reported { AreAccepted (map string_bytes given.now) → exit_status result ≡ 1
         → (out.new ≡ out.old) ⊎ Prints (Reads (R.opened rt.now) R.Opened.remaining)
-        (Writes (R.created rt.now) (R.closed rt.now) R.Created.contents)
-        (named_in (map string_bytes given.now)) 1 (O.contents out.old) (O.contents out.new) }
+        (Writes (R.created rt.now) (R.closed rt.now) R.Created.contents) (R.leads rt.now)
+        (named_in (map string_bytes given.now)) 1 (O.contents out.old) (O.contents out.new)
+        (E.contents err.old) (E.contents err.new) }
     ensures unprinted { exit_status result ≢ 0 → exit_status result ≢ 3
         → (out.new ≡ out.old)
         ⊎ ((exit_status result ≡ 1) × (NamesCheck (named_in (map string_bytes given.now))
-        ⊎ NamesList (named_in (map string_bytes given.now)))) }
+        ⊎ NamesList (named_in (map string_bytes given.now))
+        ⊎ NamesDocument (named_in (map string_bytes given.now)))) }
 {
     match slices(rt.alloc(), given) {
         Ok(args) => ExitCode::from(run(rt, rt.alloc(), args.as_slice(), out, err)),

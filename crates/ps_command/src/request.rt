@@ -1,10 +1,10 @@
 //! What the arguments of a command line ask the program to do.
-ghost use Rattle.std.specs.Prelude.{◌≡◌, IfErr, IfOk, Some, [], codes, map, unwrap_or};
+ghost use Rattle.std.specs.Prelude.{◌≡◌, IfErr, IfOk, None, Some, [], ◌∷◌, codes, false, is_some, map, option_map, unwrap_or};
 ghost use Rattle.clap.specs.Words.{FailsBy, all_of, first_of, found_of, kind_of, rows_of, subcommand_rows_of};
 ghost use Rattle.ps_command.specs.CommandLine.{AreAccepted, AskForText, faults_in, named_in, texts};
-ghost use Rattle.ps_command.specs.Requests.{Answers, IsAsked, IsNamedCommand, IsTask, NamesInputs, has_flag as has_flag_spec};
+ghost use Rattle.ps_command.specs.Requests.{Answers, IsAsked, IsNamedCommand, IsTask, NamesInputs, IsApart, IsUnread, has_flag as has_flag_spec, is_library, out_among};
 
-use crate::command_line::{command, link_usage};
+use crate::command_line::{check_usage, command, link_usage};
 use crate::error::UsageError;
 use crate::files::{self, CodeFiles};
 use clap::error::ErrorKind;
@@ -27,11 +27,8 @@ pub(crate) enum Request<'a, A: Allocator> {
 /// Source: this project's profile.
 #[derive(Drop)]
 pub(crate) enum Task<'a, A: Allocator> {
-    /// Links the inputs, and writes the linked file to `out`.
-    Link {
-        inputs: Inputs<'a, A>,
-        out: &'a str,
-    },
+    /// Links files, and writes the linked file.
+    Link(Link<'a, A>),
     /// Prints the map of a link of the inputs, and with `references` what the link stores; with
     /// `json` as JSON.
     Map {
@@ -46,7 +43,7 @@ pub(crate) enum Task<'a, A: Allocator> {
     },
     /// Prints the report of a check of the inputs, with `json` as JSON; if it is `strict`, a
     /// warning is reported by the status too. With `unit` a list of each of the inputs, with its
-    /// units by themselves, and neither a report nor JSON.
+    /// units by themselves, and no report; then it is not strict.
     Check {
         inputs: Inputs<'a, A>,
         strict: bool,
@@ -69,8 +66,28 @@ pub(crate) struct Inputs<'a, A: Allocator> {
     pub(crate) libraries: Vec<&'a str, A>,
 }
 
+/// A link: its files, the file to write, and what is printed.
+/// Source: this project's profile.
+#[derive(Drop)]
+pub(crate) struct Link<'a, A: Allocator> {
+    pub(crate) inputs: Inputs<'a, A>,
+    /// The path of the file to write.
+    pub(crate) out: &'a str,
+    /// The option names that path, and not its place after the host.
+    pub(crate) by_option: bool,
+    /// The path of the file to which the map is written too.
+    pub(crate) map: Option<&'a str>,
+    /// The map has what the link stores, too.
+    pub(crate) references: bool,
+    /// The summary and the map are documents.
+    pub(crate) json: bool,
+    /// No summary is printed.
+    pub(crate) quiet: bool,
+}
+
 /// Reads the arguments, of which the first is the program's name. A link whose OUT is a library too,
-/// at this path or at another that leads there, is wrong usage.
+/// at this path or at another that leads there, is wrong usage, and so is one whose map would be written
+/// to a file of it, or that has no map to write what it stores to; and a check of units that is strict.
 /// Source: this project's profile.
 pub(crate) fn parse<'a, R: CodeFiles + AllocGlobal, A: Allocator + Copy>(
     rt: &R,
@@ -139,15 +156,135 @@ fn link_of<'a, R: CodeFiles + AllocGlobal, A: Allocator + Copy>(
         (Some (codes "link", rows_of (found_of found.now)))) }
 {
     let heap = rt.alloc();
-    let inputs = inputs_of(heap, alloc, found)?;
-    let out = file_of(heap, found, "OUT")?;
-    if inputs.libraries.contains(&out) {
-        return Err(written_library(heap, out, out));
+    let Inputs {
+        host,
+        mut libraries,
+    } = inputs_of(heap, alloc, found)?;
+    let out = out_of(heap, found, &mut libraries)?;
+    let by_option = is_given(found, "OUT");
+    let map = value_of(found, "FILE");
+    let references = has_flag(found, "references");
+    let json = has_flag(found, "json");
+    let quiet = has_flag(found, "quiet");
+    let link = Link {
+        inputs: Inputs { host, libraries },
+        out,
+        by_option,
+        map,
+        references,
+        json,
+        quiet,
+    };
+    check_out(rt, heap, &link)?;
+    check_map(rt, heap, &link)?;
+    Ok(Task::Link(link))
+}
+
+/// Refuses a link that would write a library of it.
+fn check_out<R: CodeFiles, A: Allocator>(
+    rt: &R,
+    heap: Global,
+    link: &Link<'_, A>,
+) -> Result<(), UsageError>
+    ensures { IfOk result (λ _. IsUnread link.now) }
+{
+    match overwritten(rt, link.inputs.libraries.as_slice(), link.out) {
+        Some(library) => Err(written_library(heap, link.out, library)),
+        None => Ok(()),
     }
-    match files::first_to(rt, inputs.libraries.as_slice(), out) {
-        Some(library) => Err(written_library(heap, out, library)),
-        None => Ok(Task::Link { inputs, out }),
+}
+
+/// Refuses a link whose map would be written to a file of it, and one that is to write what it stores
+/// and has no map.
+fn check_map<R: CodeFiles, A: Allocator>(
+    rt: &R,
+    heap: Global,
+    link: &Link<'_, A>,
+) -> Result<(), UsageError>
+    ensures { IfOk result (λ _. IsApart link.now) }
+{
+    match link.map {
+        Some(file) => check_map_file(rt, heap, link, file),
+        None => check_references(heap, link.references),
     }
+}
+
+/// Refuses a link without a map that is to write what it stores.
+fn check_references(heap: Global, references: bool) -> Result<(), UsageError>
+    ensures { IfOk result (λ _. references ≡ false) }
+{
+    if references {
+        return Err(references_alone(heap));
+    }
+    Ok(())
+}
+
+/// Refuses a link whose map would be written to a file of it, by its path or by another that leads
+/// there.
+fn check_map_file<R: CodeFiles, A: Allocator>(
+    rt: &R,
+    heap: Global,
+    link: &Link<'_, A>,
+    file: &str,
+) -> Result<(), UsageError>
+    ensures own { IfOk result (λ _. is_library file.now
+        (link.now.out.now ∷ link.now.inputs.host.now ∷ []) ≡ false) }
+    ensures libraries { IfOk result (λ _. is_library file.now
+        (map (λ path. path.now) link.now.inputs.libraries.items) ≡ false) }
+{
+    let own = [link.out, link.inputs.host];
+    if let Some(other) = overwritten(rt, &own, file) {
+        return Err(written_by_map(heap, file, other));
+    }
+    match overwritten(rt, link.inputs.libraries.as_slice(), file) {
+        Some(other) => Err(written_by_map(heap, file, other)),
+        None => Ok(()),
+    }
+}
+
+/// The path of the file to write: that which the option names, or else the first of these libraries,
+/// which is then none of them.
+// clap's `required_unless_present` would say when OUT has to be named. What its contracts say of
+// arguments that are accepted holds of commands without such a rule.
+fn out_of<'a, A: Allocator>(
+    heap: Global,
+    found: &ArgMatches<'a>,
+    libraries: &mut Vec<&'a str, A>,
+) -> Result<&'a str, UsageError>
+    ensures { IfOk result (λ out. out_among
+        (first_of (codes "OUT") (rows_of (found_of found.now)))
+        (map (λ path. path.now) libraries.old.items)
+        ≡ Some (out.now, map (λ path. path.now) libraries.new.items)) }
+{
+    match found.get_str("OUT") {
+        Some(out) => Ok(out),
+        None => first_as_out(heap, libraries),
+    }
+}
+
+/// The first of these, which is then none of them.
+fn first_as_out<'a, A: Allocator>(
+    heap: Global,
+    libraries: &mut Vec<&'a str, A>,
+) -> Result<&'a str, UsageError>
+    ensures { IfOk result (λ out. out_among None (map (λ path. path.now) libraries.old.items)
+        ≡ Some (out.now, map (λ path. path.now) libraries.new.items)) }
+{
+    if libraries.is_empty() {
+        return Err(missing_out(heap));
+    }
+    Ok(libraries.remove(0))
+}
+
+/// The first of these files that is written at `out`, by its path or by another that leads there.
+fn overwritten<'a, R: CodeFiles>(rt: &R, libraries: &[&'a str], out: &'a str) -> Option<&'a str>
+    ensures { result ≡ None → is_library out.entry.now (map (λ path. path.now) libraries.now)
+        ≡ false }
+{
+    if libraries.contains(&out) {
+        return Some(out);
+    }
+    files::first_to(rt, libraries, out)
 }
 
 fn map_of<'a, A: Allocator + Copy>(
@@ -192,6 +329,9 @@ fn check_of<'a, A: Allocator + Copy>(
     let strict = has_flag(found, "strict");
     let unit = has_flag(found, "unit");
     let json = has_flag(found, "json");
+    if strict && unit {
+        return Err(strict_units(heap));
+    }
     Ok(Task::Check {
         inputs,
         strict,
@@ -220,6 +360,21 @@ fn has_flag(found: &ArgMatches<'_>, name: &str) -> bool
         Some(value) => value == "true",
         None => false,
     }
+}
+
+/// An argument of this name is given.
+fn is_given(found: &ArgMatches<'_>, name: &str) -> bool
+    ensures { result ≡ is_some (first_of name.now (rows_of (found_of found.now))) }
+{
+    found.get_str(name).is_some()
+}
+
+/// The value that is given for an argument, if there is one.
+fn value_of<'a>(found: &ArgMatches<'a>, name: &str) -> Option<&'a str>
+    ensures { option_map (λ value. value.now) result
+        ≡ first_of name.now (rows_of (found_of found.now)) }
+{
+    found.get_str(name)
 }
 
 fn inputs_of<'a, A: Allocator + Copy>(
@@ -252,6 +407,50 @@ fn missing_argument(heap: Global) -> UsageError {
         ErrorKind::MissingSubcommand,
         "a command and its files have to be named",
     )
+}
+
+/// The error of a link of which no file to write is named.
+fn missing_out(heap: Global) -> UsageError {
+    usage_error(
+        link_usage(heap),
+        ErrorKind::MissingRequiredArgument,
+        "the following required arguments were not provided:\n  <OUT>",
+    )
+}
+
+/// The error of a check of units that is to be strict: no list has a warning.
+fn strict_units(heap: Global) -> UsageError {
+    usage_error(
+        check_usage(heap),
+        ErrorKind::ArgumentConflict,
+        "the argument '--strict' cannot be used with '--unit'",
+    )
+}
+
+/// The error of a link that is to write to its map what it stores, and has none.
+fn references_alone(heap: Global) -> UsageError {
+    usage_error(
+        link_usage(heap),
+        ErrorKind::MissingRequiredArgument,
+        "the following required arguments were not provided:\n  --map <FILE>",
+    )
+}
+
+/// The error of arguments that name the file of the map as another file of the link too.
+fn written_by_map(heap: Global, file: &str, other: &str) -> UsageError {
+    match written_by_map_text(heap, file, other) {
+        Ok(text) => usage_error(link_usage(heap), ErrorKind::ValueValidation, text.as_str()),
+        Err(error) => UsageError::from(error),
+    }
+}
+
+fn written_by_map_text(heap: Global, file: &str, other: &str) -> Result<String, AllocError> {
+    if file == other {
+        return format!(in heap;
+            "invalid value '{file}' for '--map <FILE>': it is named as another file too"
+        );
+    }
+    format!(in heap; "invalid value '{file}' for '--map <FILE>': it is the file '{other}'")
 }
 
 /// The error of arguments that name the file to write as a library too, at this path or another.

@@ -6,6 +6,7 @@ mod files;
 mod inputs;
 mod libraries;
 mod linking;
+mod mapping;
 mod memory;
 mod outcome;
 mod printing;

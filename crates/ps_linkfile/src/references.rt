@@ -8,6 +8,7 @@ ghost use Rattle.ps_linkfile.specs.LinkedFile.{LinkedFile};
 ghost use Rattle.ps_linkfile.specs.MapText.{map_of};
 ghost use Rattle.ps_linkfile.specs.Outcomes.{HasUsedNumber, IsUnprepared, NamesFirst};
 ghost use Rattle.ps_linkfile.specs.ReferencesJson.{IsReferencesJson, referenced_json, references_text};
+ghost use Rattle.ps_linkfile.specs.Writing.{StandsFor};
 ghost use Rattle.ps_linkfile.specs.declared.cause.Cause.TheVariants.{Reference};
 ghost use Rattle.ps_linkfile.specs.ReferencesText.{bytes_at as bytes_at_spec, item_end as item_end_spec, stored_rows, place_in, record_in, references_in, references_of};
 
@@ -167,6 +168,16 @@ impl<'a, A: Allocator + Copy> Model for ReferenceMap<'a, A> {
     ghost view = { λ m. record { plan = m.linked; all_stored = m.all_stored.items } };
 }
 
+impl<'a, A: Allocator + Copy> ReferenceMap<'a, A> {
+    /// The link itself, whose linked file can be written too.
+    /// Source: this project's profile.
+    pub fn linked(&self) -> &Linked<'a, A>
+        ensures { result.now ≡ self.now.plan }
+    {
+        &self.linked
+    }
+}
+
 /// The map of a link and its references: its lines and those of the references, or one JSON document of
 /// the same values, which has of each name the eight characters and all its bytes in hexadecimal digits.
 #[derive(Drop)]
@@ -213,6 +224,7 @@ pub fn prepare_references<'a, A: Allocator + Copy>(
     ensures json { IfOk result (λ map. IsReferencesJson host.now (contents libs.now)
         (referenced_json map)) }
     ensures accepted { IfOk result (λ _. NoneStands host.now (contents libs.now)) }
+    ensures stands { IfOk result (λ map. StandsFor host.now (contents libs.now) map.plan) }
     ensures linked { IfOk result (λ _. (file : List ℕ)
         × LinkedFile host.now (contents libs.now) file) }
     ensures error { IfErr result (IsUnprepared host.now (contents libs.now)) }

@@ -4,10 +4,11 @@ use Rattle.std.specs.Prelude.{min, nat_le}
 use Rattle.std.proofs.lemmas.Bool.Decides.{nat_tests}
 use Rattle.std.proofs.lemmas.List.{append_assoc, drop_all, drop_more}
 use Rattle.ps_resolve.specs.Sources.{contents}
+use Rattle.ps_writing.specs.JsonText.{line_end}
 use Rattle.ps_writing.specs.declared.rows.Form.TheVariants.{Lines}
 use Rattle.ps_listing.specs.FileLists.{AreListed, Listed, listed, listed_from, listed_units}
 use Rattle.ps_listing.specs.ListText.{listed_in}
-use Rattle.ps_listing.specs.LoneText.{lone_text}
+use Rattle.ps_listing.specs.LoneText.{listed_with_units, lone_text}
 use Rattle.ps_listing.specs.declared.lists.ListForm.{ListForm}
 use Rattle.ps_listing.specs.declared.lists.ListForm.TheVariants as form
 
@@ -69,6 +70,12 @@ pub units_listed : (first : Bool) (l : Listed) → l.how ≡ form.Units
     → listed_in Lines l.path l.phrase l.file ++ lone_text l.path (listed_units l.how l.file)
     ≡ listed first l
 units_listed first l h = rw h refl
+
+-- the same of one in a document
+pub item_with_units : (first : Bool) (l : Listed) → l.how ≡ form.JsonUnits
+    → line_end first ++ listed_with_units l.path l.phrase l.file (listed_units l.how l.file)
+    ≡ listed first l
+item_with_units first l h = rw h refl
 
 -- the files from i on are file i and those behind it
 pub items_left : (first : Bool) (files : List Listed) (i : ℕ) (one : Listed)

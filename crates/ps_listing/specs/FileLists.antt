@@ -12,7 +12,7 @@ use Rattle.ps_writing.specs.JsonText.{line_end}
 use Rattle.ps_writing.specs.declared.rows.Form.TheVariants.{Lines, Json}
 use Rattle.ps_listing.specs.Listed.{is_refused}
 use Rattle.ps_listing.specs.ListText.{listed_in, unread_json_of}
-use Rattle.ps_listing.specs.LoneText.{has_no_sound, lone_text, lone_units}
+use Rattle.ps_listing.specs.LoneText.{has_no_sound, listed_with_units, lone_text, lone_units}
 use Rattle.ps_listing.specs.declared.lone.LoneUnit.{LoneUnit}
 use Rattle.ps_listing.specs.declared.lists.ListForm.{ListForm}
 use Rattle.ps_listing.specs.declared.lists.ListForm.TheVariants as form
@@ -50,14 +50,17 @@ abbrev pub listed_units : ListForm → List ℕ → List LoneUnit
 listed_units form.Lines file = []
 listed_units form.Json file = []
 listed_units form.Units file = lone_units file
+listed_units form.JsonUnits file = lone_units file
 
--- what is listed of a file: its lines; in a document an item, the first or another; or its lines and
--- those of its units
+-- what is listed of a file: its lines; in a document an item, the first or another; its lines and
+-- those of its units; or an item that has its units
 abbrev pub listed_as : ListForm → Bool → List ℕ → List ℕ → List ℕ → List ℕ
 listed_as form.Lines first path phrase file = listed_in Lines path phrase file
 listed_as form.Json first path phrase file = line_end first ++ listed_in Json path phrase file
 listed_as form.Units first path phrase file =
     listed_in Lines path phrase file ++ lone_text path (lone_units file)
+listed_as form.JsonUnits first path phrase file =
+    line_end first ++ listed_with_units path phrase file (lone_units file)
 
 abbrev pub listed : Bool → Listed → List ℕ
 listed first l = listed_as l.how first l.path l.phrase l.file
@@ -71,6 +74,7 @@ abbrev pub is_refused_as_listed : ListForm → List ℕ → List ℕ → Bool
 is_refused_as_listed form.Lines phrase file = is_refused phrase file
 is_refused_as_listed form.Json phrase file = is_refused phrase file
 is_refused_as_listed form.Units phrase file = has_no_sound (lone_units file)
+is_refused_as_listed form.JsonUnits phrase file = has_no_sound (lone_units file)
 
 abbrev pub is_refused_in : Listed → Bool
 is_refused_in l = is_refused_as_listed l.how l.phrase l.file
@@ -85,6 +89,7 @@ abbrev pub lists_in : ListForm → List Listed → List ℕ
 lists_in form.Lines ls = listed_from true ls
 lists_in form.Units ls = listed_from true ls
 lists_in form.Json ls = codes "{\"files\":[" ++ listed_from true ls ++ codes "\n]}\n"
+lists_in form.JsonUnits ls = codes "{\"files\":[" ++ listed_from true ls ++ codes "\n]}\n"
 
 -- these are the files at these paths, one for one, each with some phrase for what it is
 abbrev pub AreListed : ListForm → List (List ℕ) → List (List ℕ) → List Listed → Type 0

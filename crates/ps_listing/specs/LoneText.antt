@@ -1,6 +1,6 @@
--- The units of a file by themselves, and a line of each, made for grep.
+-- The units of a file by themselves: a line of each, made for grep, and an item of a JSON document.
 -- Source: this project's profile.
-use Rattle.std.specs.Prelude.{ℕ, ◌||◌, List, [], ◌∷◌, ◌++◌, codes, Bool, Option, Some, None, Result, Ok, Err, is_some, length, ◌==◌}
+use Rattle.std.specs.Prelude.{ℕ, ◌||◌, List, [], ◌∷◌, ◌++◌, codes, Bool, true, false, Option, Some, None, Result, Ok, Err, is_some, length, ◌==◌}
 use Rattle.std.specs.List.{filter_map, flat_map, list_any}
 use Rattle.ps_words.specs.FaultText.{part_text}
 use Rattle.ps_words.specs.declared.fault.Reason.{Reason}
@@ -11,9 +11,13 @@ use Rattle.ps_codefile.specs.declared.entry.Role.TheVariants as role
 use Rattle.ps_resolve.specs.LoneUnits.{lone_fault}
 use Rattle.ps_resolve.specs.Readings.{HostFiles, opened_host}
 use Rattle.ps_resolve.specs.Sources.{opened_files}
-use Rattle.ps_writing.specs.declared.rows.Form.TheVariants.{Lines}
+use Rattle.ps_codefile.specs.Opened.{opened}
+use Rattle.ps_writing.specs.JsonText.{line_end}
+use Rattle.ps_writing.specs.Rows.{InSlot, value_in}
+use Rattle.ps_writing.specs.declared.rows.Form.TheVariants.{Json}
 use Rattle.ps_writing.specs.Lines.{line, shown_name, two_digits}
-use Rattle.ps_listing.specs.ListText.{refused_words, shown_path}
+use Rattle.ps_listing.specs.Listed.{values_of}
+use Rattle.ps_listing.specs.ListText.{fault_in, file_in, no_fault_in, refused_words, segments_as, shown_path}
 use Rattle.ps_listing.specs.declared.lone.LoneUnit.{LoneUnit}
 
 -- the unit in a slot of this role, where the file has its code
@@ -69,3 +73,25 @@ lone_line path u = line (shown_path path
 -- the lines of units
 abbrev pub lone_text : List ℕ → List LoneUnit → List ℕ
 lone_text path units = flat_map (lone_line path) units
+
+-- the item of a unit, the first of its list or not, as
+-- `{"slot":2,"name":"UTIL    ","name_hex":"5554494C20202020","fault":null}`
+abbrev pub lone_fault_member : List ℕ → Option Fault → List ℕ
+lone_fault_member name None = no_fault_in Json
+lone_fault_member name (Some f) = fault_in Json (Some name) f
+
+abbrev pub lone_item : Bool → LoneUnit → List ℕ
+lone_item first u = line_end first ++ value_in Json (InSlot (codes ": slot ") u.slot u.name)
+    ++ lone_fault_member u.name u.fault ++ codes "}"
+
+-- the items of units, of which the first is that of the list or not
+abbrev pub lone_items : Bool → List LoneUnit → List ℕ
+lone_items first [] = []
+lone_items first (u ∷ us) = lone_item first u ++ lone_items false us
+
+-- the item of a file, which has its units too
+unfoldable pub listed_with_units : List ℕ → List ℕ → List ℕ → List LoneUnit → List ℕ
+listed_with_units path phrase file units =
+    file_in Json path phrase (values_of (length file) (opened file))
+    ++ segments_as Json path phrase (opened file)
+    ++ codes "\n],\"units\":[" ++ lone_items true units ++ codes "\n]}"

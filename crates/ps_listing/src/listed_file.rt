@@ -3,7 +3,9 @@ ghost use Rattle.std.specs.Prelude.{◌≡◌};
 ghost use Rattle.ps_writing.specs.Adding.{Adds};
 ghost use Rattle.ps_listing.specs.Listed.{is_refused as is_refused_spec, is_refused_as as is_refused_as_spec, values_of as values_of_spec};
 ghost use Rattle.ps_listing.specs.ListText.{file_in, listed_in, segments_as, unread_json_of};
+ghost use Rattle.ps_listing.specs.LoneText.{listed_with_units};
 
+use crate::lone::{LoneUnit, add_unit_items};
 use crate::parts::{add_fault_or_none, add_length, add_order, add_path, add_purpose, add_type};
 use crate::segments::{add_segments, has_refused};
 use ps_codefile::{Dict, open};
@@ -106,6 +108,26 @@ pub(crate) fn add_listed<S: TextWriter>(
     add_file(text, form, path, phrase, values);
     add_segments_of(text, form, path, phrase, &opened);
     add_by_form(text, form, b"", b"\n]}");
+}
+
+/// Adds the item of a file, which has its units by themselves too.
+pub(crate) fn add_listed_with_units<S: TextWriter>(
+    text: &mut S,
+    path: &str,
+    phrase: &str,
+    file: &[u8],
+    units: &[LoneUnit],
+)
+    ensures { Adds S.added text.old
+        (listed_with_units path.now phrase.now file.now units.now) text.new }
+{
+    let opened = open(file);
+    let values = values_of(file.len(), &opened);
+    add_file(text, Form::Json, path, phrase, values);
+    add_segments_of(text, Form::Json, path, phrase, &opened);
+    text.add(b"\n],\"units\":[");
+    add_unit_items(text, units);
+    text.add(b"\n]}");
 }
 
 /// Adds the item of the file at a path at which nothing could be read: all its members but the path are

@@ -3,9 +3,9 @@ ghost use Rattle.std.specs.Prelude.{◌≡◌, IfOk, true};
 ghost use Rattle.ps_writing.specs.Adding.{Adds};
 ghost use Rattle.ps_listing.specs.FileLists.{listed, listed_from, listed_units};
 ghost use Rattle.ps_listing.specs.ListText.{listed_in};
-ghost use Rattle.ps_listing.specs.LoneText.{lone_text};
+ghost use Rattle.ps_listing.specs.LoneText.{listed_with_units, lone_text};
 
-use crate::listed_file::{add_listed, add_unread, is_refused};
+use crate::listed_file::{add_listed, add_listed_with_units, add_unread, is_refused};
 use crate::lone::{LoneUnit, add_unit_lines, has_no_sound, lone_units};
 use crate::phrases;
 use ps_writing::{Form, Text, TextWriter, separator};
@@ -21,6 +21,8 @@ pub enum ListForm {
     Json,
     /// The lines, and after those of each file a line of each of its units by itself.
     Units,
+    /// The same values as these lines as one JSON document.
+    JsonUnits,
 }
 
 /// The units of a file by themselves, where they are listed.
@@ -33,7 +35,7 @@ fn units_in<A: Allocator + Copy>(
 {
     match how {
         ListForm::Lines | ListForm::Json => Ok(Vec::new(alloc)),
-        ListForm::Units => lone_units(alloc, file),
+        ListForm::Units | ListForm::JsonUnits => lone_units(alloc, file),
     }
 }
 
@@ -95,7 +97,7 @@ impl<'a, A: Allocator + Copy> ListedFile<'a, A> {
     {
         match self.how {
             ListForm::Lines | ListForm::Json => is_refused(self.phrase.as_str(), self.file),
-            ListForm::Units => has_no_sound(self.units.as_slice()),
+            ListForm::Units | ListForm::JsonUnits => has_no_sound(self.units.as_slice()),
         }
     }
 
@@ -115,6 +117,15 @@ impl<'a, A: Allocator + Copy> ListedFile<'a, A> {
         add_unit_lines(text, self.path, self.units.as_slice());
     }
 
+    /// Adds its item, which has its units too.
+    fn add_with_units<S: TextWriter>(&self, text: &mut S)
+        ensures { Adds S.added text.old (listed_with_units self.now.path self.now.phrase
+            self.now.file (listed_units self.now.how self.now.file)) text.new }
+    {
+        let units = self.units.as_slice();
+        add_listed_with_units(text, self.path, self.phrase.as_str(), self.file, units);
+    }
+
     /// Adds what is listed of it, as the first or after another.
     fn add_item<S: TextWriter>(&self, text: &mut S, first: bool)
         ensures { Adds S.added text.old (listed first self.now) text.new }
@@ -128,6 +139,10 @@ impl<'a, A: Allocator + Copy> ListedFile<'a, A> {
             ListForm::Units => {
                 self.add_in(text, Form::Lines);
                 self.add_units(text);
+            }
+            ListForm::JsonUnits => {
+                text.add(separator(first));
+                self.add_with_units(text);
             }
         }
     }
@@ -144,7 +159,7 @@ impl<'a, A: Allocator + Copy> ListedFile<'a, A> {
 /// fault by itself.
 ///
 /// The item: what is before it, and one object with the values of the lines, of each name the eight
-/// characters and all its bytes in hexadecimal digits.
+/// characters and all its bytes in hexadecimal digits. With units it has a list of them too.
 /// Source: UCSD Pascal II.0 manual, code file format; RFC 8259; the text is this project's profile.
 #[derive(Drop)]
 pub struct ListItem<'l, 'a, A: Allocator + Copy = Global> {
@@ -200,7 +215,7 @@ impl<A: Allocator + Copy> Text for Lists<'_, A> {
     fn add_to<S: TextWriter>(&self, text: &mut S) {
         match self.how {
             ListForm::Lines | ListForm::Units => add_items(text, self.files.as_slice()),
-            ListForm::Json => {
+            ListForm::Json | ListForm::JsonUnits => {
                 text.add(b"{\"files\":[");
                 add_items(text, self.files.as_slice());
                 text.add(b"\n]}\n");

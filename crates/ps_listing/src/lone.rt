@@ -5,15 +5,16 @@ ghost use Rattle.ps_writing.specs.Adding.{Adds};
 ghost use Rattle.ps_words.specs.FaultText.{part_text};
 ghost use Rattle.ps_resolve.specs.LoneUnits.{IsSoundUnit};
 ghost use Rattle.ps_resolve.specs.Sources.{opened_files};
-ghost use Rattle.ps_listing.specs.LoneText.{has_no_sound as has_no_sound_spec, is_refused_unit, lone_line, lone_text, lone_unit as lone_unit_spec, lone_units as lone_units_spec, lone_words, units_of as units_of_spec};
+ghost use Rattle.ps_listing.specs.LoneText.{has_no_sound as has_no_sound_spec, is_refused_unit, lone_fault_member, lone_item, lone_items, lone_line, lone_text, lone_unit as lone_unit_spec, lone_units as lone_units_spec, lone_words, units_of as units_of_spec};
 
 use crate::escapes::add_path;
-use crate::parts::add_refused;
+use crate::parts::{add_fault, add_no_fault, add_refused};
 use ps_codefile::Role;
 use ps_codefile::dictionary_layout::SLOTS;
 use ps_resolve::{HostReading, lone_fault, read};
 use ps_words::{Fault, Name};
-use ps_writing::{TextWriter, add_number, add_slot_name};
+use ps_writing::RowPart::InSlot;
+use ps_writing::{Form, TextWriter, add_number, add_part, add_slot_name, separator};
 use std::alloc::{AllocError, Allocator};
 
 /// A unit whose code a file has, and what is wrong with it by itself.
@@ -155,5 +156,37 @@ pub(crate) fn add_unit_lines<S: TextWriter>(text: &mut S, path: &str, units: &[L
 {
     for unit in units {
         add_line(text, path, unit);
+    }
+}
+
+/// Adds the fault of a unit of this name, or that there is none.
+fn add_fault_member<S: TextWriter>(text: &mut S, name: Name, fault: Option<Fault>)
+    ensures { Adds S.added text.old (lone_fault_member name fault) text.new }
+{
+    match fault {
+        None => add_no_fault(text, Form::Json),
+        Some(fault) => add_fault(text, Form::Json, Some(name), fault),
+    }
+}
+
+/// Adds the item of a unit, the first of its list or not.
+fn add_unit_item<S: TextWriter>(text: &mut S, first: bool, unit: &LoneUnit)
+    ensures { Adds S.added text.old (lone_item first unit.now) text.new }
+{
+    text.add(separator(first));
+    add_part(text, Form::Json, InSlot(b": slot ", unit.slot, unit.name));
+    add_fault_member(text, unit.name, unit.fault);
+    text.add(b"}");
+}
+
+/// Adds an item of each unit of a file: its slot, its name, and its fault by itself.
+#[tactic(auto, using(std::proofs::lemmas::List::drop_more, ps_writing::proofs::Written::all_written, ps_writing::proofs::Written::none_yet, ps_writing::proofs::Written::some_more, crate::proofs::UnitsListed::items_left, crate::proofs::UnitsListed::items_over))]
+pub(crate) fn add_unit_items<S: TextWriter>(text: &mut S, units: &[LoneUnit])
+    ensures { Adds S.added text.old (lone_items true units.now) text.new }
+{
+    let mut first = true;
+    for unit in units {
+        add_unit_item(text, first, unit);
+        first = false;
     }
 }

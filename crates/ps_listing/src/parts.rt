@@ -140,7 +140,7 @@ pub(crate) fn add_refused<S: TextWriter>(text: &mut S, fault: Fault)
 }
 
 /// Adds why a file is refused, or a segment of this name.
-fn add_fault<S: TextWriter>(text: &mut S, form: Form, name: Option<Name>, fault: Fault)
+pub(crate) fn add_fault<S: TextWriter>(text: &mut S, form: Form, name: Option<Name>, fault: Fault)
     ensures { Adds S.added text.old (fault_in form name fault) text.new }
 {
     match form {
@@ -153,7 +153,7 @@ fn add_fault<S: TextWriter>(text: &mut S, form: Form, name: Option<Name>, fault:
 }
 
 /// Adds that there is no fault.
-fn add_no_fault<S: TextWriter>(text: &mut S, form: Form)
+pub(crate) fn add_no_fault<S: TextWriter>(text: &mut S, form: Form)
     ensures { Adds S.added text.old (no_fault_in form) text.new }
 {
     add_by_form(text, form, b"", b",\"fault\":null");

@@ -2,9 +2,10 @@
 use super::outcome::gives;
 use super::wanted::Text;
 use super::wanted::Text::{
-    CheckHelp, Help, LinkHelp, MapHelp, NoArgs, NoCheckedFile, NoCheckedHost, NoCommand, NoFile,
-    NoHost, NoHostAndOut, NoListedFile, NoOut, NotThere, NotThereToCheck, Nothing, OutIsLibrary,
-    ShowHelp, TwoFiles, UnknownOption, UnknownOptionOfMap, Version,
+    CheckHelp, EmptyOut, Help, LinkHelp, MapHelp, NoArgs, NoCheckedFile, NoCheckedHost, NoCommand,
+    NoFile, NoHost, NoLinkedHost, NoListedFile, NoOut, NotListed, NotThere, NotThereToCheck,
+    Nothing, OutIsLibrary, ShowHelp, StrictUnits, TwoFiles, TwoOuts, UnknownOption,
+    UnknownOptionOfMap, Version,
 };
 
 pub const VERSION: &str = "pslink 0.3.0\n";
@@ -17,7 +18,7 @@ Commands:
   link   Links a host with the units that it uses, and writes the linked file
   map    Prints where a link would put each segment and private variable, and writes no file
   show   Prints the segments of one code file and the link information of each
-  check  Says in words what is wrong with the files and what only looks right
+  check  Says in words what is wrong with the files and what looks wrong
   list   Prints a line of each file and of each of its segments, made for grep
   help   Print this message or the help of the given subcommand(s)
 
@@ -26,7 +27,7 @@ Options:
   -V, --version  Print version
 
 Example:
-  pslink link host.code linked.code library.code
+  pslink link -o linked.code host.code library.code
 
 Exit status:
   0  the command was done
@@ -40,27 +41,36 @@ A name that begins with a dash is given as ./-name, or after --. See pslink(1).
 
 pub const LINK_HELP: &str = "Links a host with the units that it uses, and writes the linked file
 
-Usage: pslink link <HOST> <OUT> [LIB]...
+Usage: pslink link [OPTIONS] -o <OUT> <HOST> [LIB]...
+       pslink link [OPTIONS] <HOST> <OUT> [LIB]...
 
 Arguments:
   <HOST>    The code file that holds the host program
-  <OUT>     The code file to write; it may be HOST
   [LIB]...  A library to search for units, in the order given
 
 Options:
-  -h, --help  Print help
+  -o, --output <OUT>  The code file to write; it may be HOST
+      --map <FILE>    Writes the map of the link to FILE, too
+      --references    Writes to FILE what the link stores at each place, too
+      --json          Prints the summary and writes the map as JSON documents
+  -q, --quiet         Prints no summary
+  -h, --help          Print help
 
 Example:
-  pslink link host.code linked.code library.code
+  pslink link -o linked.code host.code library.code
 
 OUT is opened once everything was checked, and is written in place. If a write fails,
 OUT has the first part of the linked file. A linked file is no host any more, so keep
 the host:
-  pslink link host.code linked.new library.code &&
+  pslink link -o linked.new host.code library.code &&
       mv linked.new linked.code
-The second file is always OUT. If it is forgotten, the first LIB is taken as OUT, and
-is overwritten if the link succeeds. With /dev/stdout as OUT the summary and the file
-are mixed: use /dev/fd/3 and 3>&1. A file is read from a pipe as /dev/stdin.
+With --map FILE the map is written to FILE once OUT is whole: what map would print of
+the same files. FILE may be neither OUT nor a file of the link.
+The summary is printed on standard error where the OUT of -o or FILE is standard
+output, as /dev/stdout. A file is read from a pipe as /dev/stdin.
+
+Without -o the file after HOST is OUT. If it is forgotten there, the first LIB is taken
+as OUT, and is overwritten if the link succeeds.
 
 Exit status:
   0  the command was done
@@ -91,7 +101,8 @@ Example:
 
 With --references a line follows for each place at which the link stores bytes: its
 offset in the code and in the linked file, the bytes there before and after the link,
-and the record. With --json the same values are printed as one JSON document.
+and the record. With --json the same values are printed as one JSON document, and so is
+the fault of files that are refused.
 
 Exit status:
   0  the map was printed
@@ -117,7 +128,8 @@ Options:
 Example:
   pslink show library.code
 
-With --json the same values are printed as one JSON document.
+With --json the same values are printed as one JSON document, and so is the fault of a
+file that is refused.
 
 Exit status:
   0  the segments were printed
@@ -129,7 +141,7 @@ Exit status:
 A name that begins with a dash is given as ./-name, or after --. See pslink(1).
 ";
 
-pub const CHECK_HELP: &str = "Says in words what is wrong with the files and what only looks right
+pub const CHECK_HELP: &str = "Says in words what is wrong with the files and what looks wrong
 
 Usage: pslink check [OPTIONS] <HOST> [LIB]...
 
@@ -155,8 +167,7 @@ the warnings and the report are printed as one JSON document.
 With --unit, HOST and each LIB are files of any kind. They are listed as by list, and
 after the lines of each file comes a line of each unit that it has, with its first
 fault in a link with a host that would define each name: so a unit can be checked
-before there is a host. The other options then change nothing, and a file without a
-unit is refused.
+before there is a host. A file without a unit is refused.
 
 Exit status:
   0  the files link, and there may be warnings
@@ -186,16 +197,17 @@ For more information, try '--help'.
 pub const NO_OUT: &str = "error: the following required arguments were not provided:
   <OUT>
 
-Usage: pslink link <HOST> <OUT> [LIB]...
+Usage: pslink link [OPTIONS] -o <OUT> <HOST> [LIB]...
+       pslink link [OPTIONS] <HOST> <OUT> [LIB]...
 
 For more information, try '--help'.
 ";
 
-pub const NO_HOST_AND_OUT: &str = "error: the following required arguments were not provided:
+pub const NO_LINKED_HOST: &str = "error: the following required arguments were not provided:
   <HOST>
-  <OUT>
 
-Usage: pslink link <HOST> <OUT> [LIB]...
+Usage: pslink link [OPTIONS] -o <OUT> <HOST> [LIB]...
+       pslink link [OPTIONS] <HOST> <OUT> [LIB]...
 
 For more information, try '--help'.
 ";
@@ -265,9 +277,36 @@ For more information, try '--help'.
 
 pub const OUT_IS_LIBRARY: &str = "error: invalid value 'b' for '<OUT>': it is named as a library too
 
-Usage: pslink link <HOST> <OUT> [LIB]...
+Usage: pslink link [OPTIONS] -o <OUT> <HOST> [LIB]...
+       pslink link [OPTIONS] <HOST> <OUT> [LIB]...
 
 For more information, try '--help'.
+";
+
+pub const TWO_OUTS: &str = "error: the argument '--output <OUT>' cannot be used multiple times
+
+Usage: pslink link [OPTIONS] -o <OUT> <HOST> [LIB]...
+       pslink link [OPTIONS] <HOST> <OUT> [LIB]...
+
+For more information, try '--help'.
+";
+
+pub const EMPTY_OUT: &str = "error: a value is required for '--output <OUT>' but none was supplied
+
+For more information, try '--help'.
+";
+
+pub const STRICT_UNITS: &str = "error: the argument '--strict' cannot be used with '--unit'
+
+Usage: pslink check [OPTIONS] <HOST> [LIB]...
+
+For more information, try '--help'.
+";
+
+pub const NOT_LISTED: &str = "{\"files\":[
+{\"path\":\"not-there\",\"length\":null,\"type\":null,\"order\":null,\"contents\":null,\"fault\":null,\"segments\":[
+]}
+]}
 ";
 
 pub const NOT_THERE: &str = "pslink: cannot read not-there\n";
@@ -276,7 +315,7 @@ pub const NOT_THERE_TO_CHECK: &str = "pslink: cannot read not-there (no such fil
 
 /// Args, and the status and the two texts that they give. HOST may be OUT or a library, and no file
 /// of these is there.
-static ROWS: [(&str, u8, Text, Text); 33] = [
+static ROWS: [(&str, u8, Text, Text); 53] = [
     ("pslink --help", 0, Help, Nothing),
     ("pslink -h", 0, Help, Nothing),
     ("pslink link --help", 0, LinkHelp, Nothing),
@@ -295,7 +334,7 @@ static ROWS: [(&str, u8, Text, Text); 33] = [
     ("pslink frob", 2, Nothing, NoCommand),
     ("pslink --frob", 2, Nothing, UnknownOption),
     ("pslink map --frob a", 2, Nothing, UnknownOptionOfMap),
-    ("pslink link", 2, Nothing, NoHostAndOut),
+    ("pslink link", 2, Nothing, NoLinkedHost),
     ("pslink link host", 2, Nothing, NoOut),
     ("pslink map", 2, Nothing, NoHost),
     ("pslink show", 2, Nothing, NoFile),
@@ -312,6 +351,41 @@ static ROWS: [(&str, u8, Text, Text); 33] = [
     ("pslink link a b b", 2, Nothing, OutIsLibrary),
     ("pslink link a b c d b", 2, Nothing, OutIsLibrary),
     ("pslink link b b c b c", 2, Nothing, OutIsLibrary),
+    ("pslink link -o out", 2, Nothing, NoLinkedHost),
+    ("pslink link --output out", 2, Nothing, NoLinkedHost),
+    ("pslink link -q", 2, Nothing, NoLinkedHost),
+    ("pslink link host -q", 2, Nothing, NoOut),
+    ("pslink link host -o", 2, Nothing, EmptyOut),
+    ("pslink link -o a -o b host", 2, Nothing, TwoOuts),
+    ("pslink link -o a host --output=b", 2, Nothing, TwoOuts),
+    ("pslink link -o b a b", 2, Nothing, OutIsLibrary),
+    ("pslink link a b -ob", 2, Nothing, OutIsLibrary),
+    (
+        "pslink link a -q c --output=b -- d b",
+        2,
+        Nothing,
+        OutIsLibrary,
+    ),
+    ("pslink link -o not-there not-there b", 3, Nothing, NotThere),
+    ("pslink link not-there -o not-there", 3, Nothing, NotThere),
+    ("pslink link not-there b c --output d", 3, Nothing, NotThere),
+    ("pslink link not-there -qo d -- b", 3, Nothing, NotThere),
+    ("pslink link -o -q not-there b", 2, Nothing, EmptyOut),
+    ("pslink check --unit --strict a", 2, Nothing, StrictUnits),
+    ("pslink check a b --strict --unit", 2, Nothing, StrictUnits),
+    (
+        "pslink check --strict --json --unit a",
+        2,
+        Nothing,
+        StrictUnits,
+    ),
+    ("pslink check --unit not-there", 3, Nothing, NotThereToCheck),
+    (
+        "pslink check --unit --json not-there",
+        3,
+        NotListed,
+        NotThereToCheck,
+    ),
     ("pslink link not-there not-there b", 3, Nothing, NotThere),
     ("pslink link not-there b not-there", 3, Nothing, NotThere),
     ("pslink link not-there b ./b B bb", 3, Nothing, NotThere),

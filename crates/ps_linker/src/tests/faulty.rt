@@ -110,6 +110,8 @@ impl<R: Files> CodeFiles for Faulty<'_, R> {
 
     ghost closed = { λ rt path file. ⊤ };
 
+    ghost leads = { λ rt path found. ⊤ };
+
     fn open(&self, path: &str) -> io::Result<FaultyFile<R::File>> {
         let inner = fs::open(self.inner, path)?;
         Ok(self.faulty(inner))
@@ -128,6 +130,11 @@ impl<R: Files> CodeFiles for Faulty<'_, R> {
 
     fn lead_to_one_file(&self, path: &str, other: &str) -> bool {
         self.inner.lead_to_one_file(path, other)
+    }
+
+    // Such a path stands for one that leads to standard output.
+    fn leads_to_output(&self, path: &str) -> bool {
+        path.starts_with("to-output")
     }
 
     fn length_hint(file: &FaultyFile<R::File>) -> usize {

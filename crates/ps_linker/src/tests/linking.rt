@@ -93,7 +93,8 @@ static LED_OUT: [(&str, &Image); 1] = [("led-out", &LIBRARY)];
 const LEADS_TO_LIBRARY: &str =
     "error: invalid value 'led-out' for '<OUT>': it is the library 'led-library'
 
-Usage: pslink link <HOST> <OUT> [LIB]...
+Usage: pslink link [OPTIONS] -o <OUT> <HOST> [LIB]...
+       pslink link [OPTIONS] <HOST> <OUT> [LIB]...
 
 For more information, try '--help'.
 ";
@@ -101,7 +102,8 @@ For more information, try '--help'.
 const IS_LIBRARY: &str =
     "error: invalid value 'led-library' for '<OUT>': it is named as a library too
 
-Usage: pslink link <HOST> <OUT> [LIB]...
+Usage: pslink link [OPTIONS] -o <OUT> <HOST> [LIB]...
+       pslink link [OPTIONS] <HOST> <OUT> [LIB]...
 
 For more information, try '--help'.
 ";
@@ -109,7 +111,8 @@ For more information, try '--help'.
 const SPELLS_LIBRARY: &str =
     "error: invalid value './led-library' for '<OUT>': it is the library 'led-library'
 
-Usage: pslink link <HOST> <OUT> [LIB]...
+Usage: pslink link [OPTIONS] -o <OUT> <HOST> [LIB]...
+       pslink link [OPTIONS] <HOST> <OUT> [LIB]...
 
 For more information, try '--help'.
 ";

@@ -107,7 +107,7 @@ const LINK_IN_PLACE: &str = "pslink link memory-in-place memory-out";
 
 /// The args, whether OUT is there before, what is printed, what OUT then has, and how many
 /// allocations are refused at least.
-static ROWS: [(&str, bool, Text, Option<&Image>, u64); 8] = [
+static ROWS: [(&str, bool, Text, Option<&Image>, u64); 10] = [
     (
         LINK_IN_PLACE,
         false,
@@ -121,6 +121,20 @@ static ROWS: [(&str, bool, Text, Option<&Image>, u64); 8] = [
         Text::SummaryOfPair,
         Some(&LINKED_PAIR),
         5,
+    ),
+    (
+        "pslink link -o memory-out --json memory-host memory-library",
+        true,
+        Text::JsonSummary,
+        Some(&LINKED_PAIR),
+        5,
+    ),
+    (
+        "pslink link -o memory-out --map memory-map --references memory-host memory-library",
+        true,
+        Text::SummaryOfPair,
+        Some(&LINKED_PAIR),
+        10,
     ),
     (
         "pslink map memory-host memory-library",
@@ -173,7 +187,10 @@ fn each_allocation_is_refused(rt: HostRuntime) {
         let refused = refused_allocations(&rt, *args, *was_there, printed.text(), *linked);
         says(&rt, (*least..1000).contains(&refused), &(*args, refused));
     }
-    clean(&rt, "memory-in-place memory-host memory-library memory-out");
+    clean(
+        &rt,
+        "memory-in-place memory-host memory-library memory-out memory-map",
+    );
 }
 
 #[test]

@@ -25,8 +25,11 @@ static STUCK: [(&str, &Image); 3] = [
 
 const STUCK_LINK: &str = "pslink link stuck-in-place stuck-out";
 
-static STUCK_COMMANDS: [&str; 6] = [
+static STUCK_COMMANDS: [&str; 9] = [
     STUCK_LINK,
+    "pslink link --json -o stuck-out stuck-in-place",
+    "pslink link --json -o stuck-none stuck-host",
+    "pslink map --json stuck-host",
     "pslink map stuck-host stuck-library",
     "pslink map --references stuck-host stuck-library",
     "pslink show stuck-library",

@@ -1,5 +1,5 @@
 //! The texts that are wanted of a run, so that a table names them and does not hold them.
-use super::{args, inputs, memory, printing};
+use super::{args, inputs, mapping, memory, printing};
 
 /// A text that is wanted.
 #[derive(Clone, Copy)]
@@ -13,7 +13,7 @@ pub enum Text {
     CheckHelp,
     NoArgs,
     NoCommand,
-    NoHostAndOut,
+    NoLinkedHost,
     NoOut,
     NoHost,
     NoCheckedFile,
@@ -24,10 +24,15 @@ pub enum Text {
     UnknownOptionOfMap,
     TwoFiles,
     OutIsLibrary,
+    TwoOuts,
+    EmptyOut,
+    StrictUnits,
+    NotListed,
     NotThere,
     NotThereToCheck,
     SummaryInPlace,
     SummaryOfPair,
+    JsonSummary,
     MapOfPair,
     ReferencesOfPair,
     JsonOfPair,
@@ -57,7 +62,7 @@ impl Text {
             Text::CheckHelp => args::CHECK_HELP,
             Text::NoArgs => args::NO_ARGS,
             Text::NoCommand => args::NO_COMMAND,
-            Text::NoHostAndOut => args::NO_HOST_AND_OUT,
+            Text::NoLinkedHost => args::NO_LINKED_HOST,
             Text::NoOut => args::NO_OUT,
             Text::NoHost => args::NO_HOST,
             Text::NoCheckedFile => args::NO_CHECKED_FILE,
@@ -68,9 +73,14 @@ impl Text {
             Text::UnknownOptionOfMap => args::UNKNOWN_OPTION_OF_MAP,
             Text::TwoFiles => args::TWO_FILES,
             Text::OutIsLibrary => args::OUT_IS_LIBRARY,
+            Text::TwoOuts => args::TWO_OUTS,
+            Text::EmptyOut => args::EMPTY_OUT,
+            Text::StrictUnits => args::STRICT_UNITS,
+            Text::NotListed => args::NOT_LISTED,
             Text::NotThere => args::NOT_THERE,
             Text::NotThereToCheck => args::NOT_THERE_TO_CHECK,
             Text::SummaryInPlace => inputs::SUMMARY_IN_PLACE,
+            Text::JsonSummary => mapping::JSON_SUMMARY,
             Text::SummaryOfPair => inputs::SUMMARY_OF_PAIR,
             Text::MapOfPair => inputs::MAP_OF_PAIR,
             Text::ReferencesOfPair => inputs::REFERENCES_OF_PAIR,

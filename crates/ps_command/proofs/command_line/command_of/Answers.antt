@@ -1,14 +1,13 @@
-use Rattle.std.proofs.Common.{◌≡◌, ◌∙◌, ◌+◌, ◌||◌, ap, ap₂, drop, fold, rules, sym}
+use Rattle.std.proofs.Common.{◌≡◌, ◌∙◌, ◌+◌, ◌||◌, ap, ap₂, drop, fold, sym}
 use Rattle.std.proofs.lemmas.List.{at_drop_all, at_drop_more}
-use Rattle.clap.specs.Words.{App, app_of, new_app, with_rule}
+use Rattle.clap.specs.Words.{App, app_of, with_rule}
 use Rattle.ps_command.specs.CommandLine.{with_argument}
 use Rattle.ps_command.proofs.command_line.command_of.Goals as goal
 
 pub loop-argument-init : goal.loop-argument-init
 loop-argument-init c =
-    let form = c.args.form.now in
-    let bare : app_of c.after_help-command.result ≡ new_app form.name.now = search rules in
-    (ap (λ (app : App). fold with_argument app form.arguments.now) bare, search rules)
+    let bare = c.bare_command_of-command.ensures in
+    (ap (λ (app : App). fold with_argument app c.args.form.now.arguments.now) bare.0, bare.1)
 
 pub loop-argument-preserved : goal.loop-argument-preserved
 loop-argument-preserved c =

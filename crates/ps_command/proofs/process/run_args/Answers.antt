@@ -12,3 +12,9 @@ returns-in-Ok-clause-printed g c taken zero =
     let same = ap (map (λ arg. arg.now)) c.as_slice.ensures.value ∙ c.in-Ok.ensures in
     let is_zero : c.run.result ≡ 0 = search rules in
     (rw same at c.run.ensures.printed) taken is_zero
+
+pub returns-in-Ok-clause-silent : goal.returns-in-Ok-clause-silent
+returns-in-Ok-clause-silent g c zero =
+    let same = ap (map (λ arg. arg.now)) c.as_slice.ensures.value ∙ c.in-Ok.ensures in
+    let is_zero : c.run.result ≡ 0 = search rules in
+    (rw same at c.run.ensures.silent) is_zero

@@ -8,5 +8,10 @@ returns-in_ok-perform-in-Task-clause-ok g c taken =
 
 pub returns-in_ok-perform-in-Task-clause-checked :
     goal.returns-in_ok-perform-in-Task-clause-checked
-returns-in_ok-perform-in-Task-clause-checked g c = only_checks _ _ _ _ _ _
+returns-in_ok-perform-in-Task-clause-checked g c = only_checks _ _
+    (g.R.CodeFiles.leads c.args.rt.now) _ _ _ _ _ _
     (c.in_ok-perform-in-Task.ensures.ok _ (rw c.in-Task.is at c.in_ok-text.ensures.asked))
+
+pub returns-in_ok-perform-in-Task-clause-silent : goal.returns-in_ok-perform-in-Task-clause-silent
+returns-in_ok-perform-in-Task-clause-silent g c =
+    c.in_ok-perform-in-Task.ensures.silent _ (rw c.in-Task.is at c.in_ok-text.ensures.asked)

@@ -1,15 +1,44 @@
 use Rattle.std.proofs.Common.{◌∙◌, [], ap, map, refl, sym, inl, inr}
 use Rattle.std.proofs.lemmas.Result.{IfOk-weaker}
+use Rattle.ps_command.proofs.Linked.{tells}
 use Rattle.ps_command.proofs.running.perform.Goals as goal
 
-pub returns-in_ok-link-in-Link-clause-ok : goal.returns-in_ok-link-in-Link-clause-ok
-returns-in_ok-link-in-Link-clause-ok g c named is =
+pub returns-in-Link-clause-ok : goal.returns-in-Link-clause-ok
+returns-in-Link-clause-ok g c named is =
     let task = rw c.in-Link.is at is in
-    let printed = rw task.2.1 at c.in_ok-link-in-Link.ensures.ok in (
+    IfOk-weaker c.link.result _ _ (λ ended printed. (
       task.0,
-      c.in-Link.inputs.host.now,
-      inl (task.1, refl, task.2.0, c.in-Link.path.now, task.3, printed),
-    )
+      c.in-Link.asked.inputs.host.now,
+      inl (task.1, task.2.host, printed),
+    ))
+    (c.link.ensures.ok task.0 task.2)
+
+pub returns-in-Link-clause-silent : goal.returns-in-Link-clause-silent
+returns-in-Link-clause-silent g c named is =
+    let task = rw c.in-Link.is at is in
+    IfOk-weaker c.link.result _ _ (λ ended quiet zero. elim (quiet zero) [
+      | inl same ↦ inl same
+      | inr where_to ↦ inr (tells (g.R.CodeFiles.leads c.args.rt.now) c.in-Link.asked task.0 task.2 named task.1 where_to)
+    ])
+    c.link.ensures.silent
+
+pub returns-in-Map-clause-silent : goal.returns-in-Map-clause-silent
+returns-in-Map-clause-silent g c named is =
+    IfOk-weaker c.print.result _ _ (λ ended quiet zero. inl (quiet zero)) c.print.ensures.silent
+
+pub returns-in-Show-clause-silent : goal.returns-in-Show-clause-silent
+returns-in-Show-clause-silent g c named is =
+    IfOk-weaker c.print-in-Show.result _ _ (λ ended quiet zero. inl (quiet zero))
+    c.print-in-Show.ensures.silent
+
+pub returns-then-unit-clause-silent : goal.returns-then-unit-clause-silent
+returns-then-unit-clause-silent g c named is =
+    IfOk-weaker c.check_units.result _ _ (λ ended quiet zero. inl (quiet zero))
+    c.check_units.ensures.silent
+
+pub returns-else-unit-clause-silent : goal.returns-else-unit-clause-silent
+returns-else-unit-clause-silent g c named is =
+    IfOk-weaker c.check.result _ _ (λ ended quiet zero. inl (quiet zero)) c.check.ensures.silent
 
 pub returns-in-Map-clause-ok : goal.returns-in-Map-clause-ok
 returns-in-Map-clause-ok g c named is =
@@ -44,7 +73,8 @@ returns-then-unit-clause-ok g c named is =
       inr (inr (inr (inl (
         task.1,
         task.2.0,
-        rw (sym task.4 ∙ c.if-unit.true) (rw task.2.1 at printed),
+        rw (sym task.4 ∙ c.if-unit.true)
+            (rw (c.units_form.ensures, task.2.1, task.5) at printed),
       )))),
     ))
     c.check_units.ensures.ok

@@ -5,6 +5,10 @@ pub returns-in-Ok-clause-printed : goal.returns-in-Ok-clause-printed
 returns-in-Ok-clause-printed g c taken zero =
     rw (sym c.status.ensures.value ∙ zero) at (c.in-Ok.ensures.ok taken)
 
+pub returns-in-Ok-clause-silent : goal.returns-in-Ok-clause-silent
+returns-in-Ok-clause-silent g c zero =
+    c.in-Ok.ensures.silent (sym c.status.ensures.value ∙ zero)
+
 pub returns-in-Ok-clause-reported : goal.returns-in-Ok-clause-reported
 returns-in-Ok-clause-reported g c taken one =
     inr (rw (sym c.status.ensures.value ∙ one) at (c.in-Ok.ensures.ok taken))

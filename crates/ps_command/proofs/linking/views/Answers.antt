@@ -1,6 +1,6 @@
 use Rattle.std.proofs.Common.{◌∙◌, ◌++◌, ◌∷◌, [], ℕ, Bor, List, Vec, ap, ap₂, map, sym}
 use Rattle.std.proofs.lemmas.List.{map-append, map_more, take_all}
-use Rattle.ps_command.proofs.running.views.Goals as goal
+use Rattle.ps_command.proofs.linking.views.Goals as goal
 
 pub loop-content-init : goal.loop-content-init
 loop-content-init g c = ap (map (λ (view : Bor (List ℕ)). view.now)) c.new-views.ensures.items

@@ -1,6 +1,6 @@
 -- What each file so far has.
 use Rattle.std.proofs.Common.{◌≡◌, map, take}
-use Rattle.ps_command.proofs.running.views.Given as goal
+use Rattle.ps_command.proofs.linking.views.Given as goal
 
 abbrev pub invariant-loop-content : goal.invariant-loop-content
 invariant-loop-content g l = map (λ view. view.now) l.views.items
