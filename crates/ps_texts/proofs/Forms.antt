@@ -5,6 +5,7 @@ use Rattle.ps_writing.specs.declared.rows.Form.TheVariants.{Lines, Json}
 use Rattle.ps_linkfile.specs.MapText.{map_of}
 use Rattle.ps_linkfile.specs.ReferencesJson.{IsReferencesJson, Referenced, referenced_in}
 use Rattle.ps_linkfile.specs.ReferencesText.{references_of}
+use Rattle.ps_resolve.specs.Standing.{NoneStands, NoneStandsInReading}
 use Rattle.ps_texts.specs.Texts.{references_text}
 
 pub references_by : (form : Form) (host : List ℕ) (libs : List (List ℕ)) (r : Referenced)
@@ -13,3 +14,8 @@ pub references_by : (form : Form) (host : List ℕ) (libs : List (List ℕ)) (r 
     → referenced_in form r ≡ references_text form host libs
 references_by Lines host libs r lines document = lines
 references_by Json host libs r lines document = document
+
+-- where no fault applies, none of reading does
+pub none_in_reading : (host : List ℕ) (libs : List (List ℕ)) → NoneStands host libs
+    → NoneStandsInReading host libs
+none_in_reading host libs none step f reading stands = none step f stands

@@ -56,8 +56,8 @@ IsTextOf kind.Had strict paths host libs status text =
 
 -- the text that a value has
 abbrev pub bytes_in : {A : Type 0} → FilesText A → List ℕ
-bytes_in (text.Map form linked) = map_as form linked
-bytes_in (text.References form map) = referenced_in form map
+bytes_in (text.Map form linked) = map_as form linked.value
+bytes_in (text.References form map) = referenced_in form map.value
 bytes_in (text.Show form file) = show_as form file
 bytes_in (text.Report form report) = printed_report form (reported report)
 bytes_in (text.Findings form report) = printed_findings form (reported report)

@@ -61,13 +61,14 @@ impl From<LinkError> for Unmade {
     }
 }
 
-/// A text of files. It has views of them, and no copy.
+/// A text of files. It has views of them, and no copy. What is large of it is in memory, so that it takes
+/// little of the stack where it is handed on.
 #[derive(Drop)]
 pub enum FilesText<'a, A: Allocator + Copy = Global> {
     /// The map of a link.
-    Map(Form, Linked<'a, A>),
+    Map(Form, Box<Linked<'a, A>, A>),
     /// The map of a link, and each place at which it stores bytes.
-    References(Form, ReferenceMap<'a, A>),
+    References(Form, Box<ReferenceMap<'a, A>, A>),
     /// What a file has.
     Show(Form, ShownFile<'a>),
     /// The report of a check.
@@ -87,10 +88,14 @@ impl<A: Allocator + Copy> Text for FilesText<'_, A> {
         match self {
             FilesText::Map(form, linked) => LinkMap {
                 form: *form,
-                linked,
+                linked: &**linked,
             }
             .add_to(text),
-            FilesText::References(form, map) => References { form: *form, map }.add_to(text),
+            FilesText::References(form, map) => References {
+                form: *form,
+                map: &**map,
+            }
+            .add_to(text),
             FilesText::Show(form, file) => Show { form: *form, file }.add_to(text),
             FilesText::Report(form, report) => PrintedReport {
                 form: *form,
@@ -130,8 +135,16 @@ impl<A: Allocator + Copy> FilesText<'_, A> {
     }
 }
 
+/// A value in memory.
+fn boxed<T: Drop, A: Allocator + Copy>(alloc: A, value: T) -> Result<Box<T, A>, AllocError>
+    ensures { IfOk result (λ kept. kept.value ≡ value) }
+{
+    Ok(Box::new(alloc, value)?)
+}
+
 /// The map of a link.
 #[inline(never)]
+#[tactic(auto, using(crate::proofs::Forms::none_in_reading))]
 fn map_of<'a, A: Allocator + Copy>(
     alloc: A,
     form: Form,
@@ -143,13 +156,14 @@ fn map_of<'a, A: Allocator + Copy>(
         (contents files.now.libs.now)) }
 {
     match prepare(alloc, files.host, files.libs) {
-        Ok(linked) => Ok(FilesText::Map(form, linked)),
+        Ok(linked) => Ok(FilesText::Map(form, boxed(alloc, linked)?)),
         Err(error) => Err(Unmade::from(error)),
     }
 }
 
 /// The map of a link, and what it stores.
 #[inline(never)]
+#[tactic(auto, using(crate::proofs::Forms::none_in_reading))]
 fn references_of<'a, A: Allocator + Copy>(
     alloc: A,
     form: Form,
@@ -161,7 +175,7 @@ fn references_of<'a, A: Allocator + Copy>(
         (contents files.now.libs.now)) }
 {
     match prepare_references(alloc, files.host, files.libs) {
-        Ok(map) => Ok(FilesText::References(form, map)),
+        Ok(map) => Ok(FilesText::References(form, boxed(alloc, map)?)),
         Err(error) => Err(Unmade::from(error)),
     }
 }
