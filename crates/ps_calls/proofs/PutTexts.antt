@@ -25,8 +25,8 @@ long_named (kind.References form) given names host libs room t same is = is
 long_named (kind.Show form) given names host libs room t same is = is
 long_named (kind.Check form) given names host libs room t same is =
     subst (λ (n : List (List ℕ)). IsLong (kind.Check form) n host libs room t) (same refl) is
-long_named (kind.Looks form) given names host libs room t same is =
-    subst (λ (n : List (List ℕ)). IsLong (kind.Looks form) n host libs room t) (same refl) is
+long_named (kind.Findings form) given names host libs room t same is =
+    subst (λ (n : List (List ℕ)). IsLong (kind.Findings form) n host libs room t) (same refl) is
 long_named (kind.List how) given names host libs room t same is =
     subst (λ (n : List (List ℕ)). IsLong (kind.List how) n host libs room t) (same refl) is
 long_named kind.Wanted given names host libs room t same is = is
