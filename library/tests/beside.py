@@ -3,6 +3,7 @@
 files of .ci/report, with its report, and some of them in each text; and the longest linked file, 500 libraries, a fault in library 300, and a map and a show of more than 64 KiB, whose
 answers are worked out here too. Leaves these files in FOLDER, for .ci/library to measure. Prints what is otherwise.
 Usage: beside.py PSLINK PROGRAM LINKED FOLDER: the program, program.c as it was built, and to what the sample pair is linked"""
+import json
 import pathlib
 import runpy
 import sys
@@ -49,11 +50,20 @@ def long_cases():
     yield ("a long map and a long show", [large.host_of_definitions(5000), large.library_of_operands()], {})
 
 
+def without_refusal(command, answer):
+    """The answer of the program without the document of a refusal, which names the fault of the line: the library has its parts."""
+    if answer.status != 1 or "--json" not in command or not answer.printed.startswith('{"path":'):
+        return answer
+    fault = json.loads(answer.printed)["fault"]
+    is_same = answer.error.startswith(f"pslink: refused {fault['number']} {fault['reason']} ")
+    return answer._replace(printed="") if is_same else answer
+
+
 def differences(pslink, others, what, command, files, wanted=None):
     """What the program answers otherwise than is wanted, and others than the program. Python is given the bytes of the files."""
     word, *flags = command.split()
     host, *libraries = files[:1] if word == "show" else files
-    answer = pslink(word, host, libraries, *flags)
+    answer = without_refusal(command, pslink(word, host, libraries, *flags))
     if wanted is not None and answer != wanted:
         yield f"{what}: {command}: the program answers {str(answer)[:300]}"
     names = ["HOST", *(f"LIB{k}" for k in range(1, 1 + len(libraries)))]
