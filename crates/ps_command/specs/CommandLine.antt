@@ -99,8 +99,10 @@ abbrev pub rule_in : Argument → Rule
 rule_in (argument.File name help) = files_rule name.now Set true
 rule_in (argument.Files name help) = files_rule name.now Append true
 rule_in (argument.AnyFiles name help) = files_rule name.now Append false
-rule_in (argument.Flag name letter help) = flag_rule name.now letter
-rule_in (argument.Value id name letter help) = value_rule id.now name.now letter
+rule_in (argument.Flag name help) = flag_rule name.now None
+rule_in (argument.LetteredFlag name letter help) = flag_rule name.now (Some letter)
+rule_in (argument.Value id name help) = value_rule id.now name.now None
+rule_in (argument.LetteredValue id name letter help) = value_rule id.now name.now (Some letter)
 
 -- a command with the argument of a row too
 abbrev pub with_argument : App → Argument → App

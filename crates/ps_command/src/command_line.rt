@@ -1,9 +1,9 @@
 //! What the command line accepts, as a table, and the command of clap that it makes.
-ghost use Rattle.std.specs.Prelude.{◌≡◌, IfOk, fold};
-ghost use Rattle.clap.specs.Words.{App, app_of, new_app, rule_of};
-ghost use Rattle.ps_command.specs.CommandLine.{IsArgument, IsMade, app_in, bare_app, files_rule, flag_rule, lettered, pslink_app, rule_in, value_rule, with_form};
+ghost use Rattle.std.specs.Prelude.{◌≡◌, IfOk, None, Some, fold};
+ghost use Rattle.clap.specs.Words.{App, app_of, new_app};
+ghost use Rattle.ps_command.specs.CommandLine.{IsArgument, IsMade, app_in, bare_app, files_rule, flag_rule, pslink_app, rule_in, value_rule, with_form};
 
-use Argument::{AnyFiles, File, Files, Flag, Value};
+use Argument::{AnyFiles, File, Files, Flag, LetteredFlag, LetteredValue, Value};
 use clap::{Arg, ArgAction, Command};
 use std::alloc::{AllocError, Global};
 
@@ -137,10 +137,14 @@ enum Argument {
     Files(&'static str, &'static str),
     /// Files, of which none has to be named.
     AnyFiles(&'static str, &'static str),
-    /// An option without a value: its name, and its letter if it has one.
-    Flag(&'static str, Option<char>, &'static str),
-    /// An option with a value: the value, its name, and its letter if it has one.
-    Value(&'static str, &'static str, Option<char>, &'static str),
+    /// An option without a value.
+    Flag(&'static str, &'static str),
+    /// An option without a value, and its letter.
+    LetteredFlag(&'static str, char, &'static str),
+    /// An option with a value: the value, and its name.
+    Value(&'static str, &'static str, &'static str),
+    /// An option with a value, and its letter.
+    LetteredValue(&'static str, &'static str, char, &'static str),
 }
 
 /// What the help of a command ends with: the table of the commands names the texts and does not hold
@@ -189,7 +193,7 @@ const HOST: Argument = File("HOST", "The code file that holds the host program")
 
 const LIBRARIES: Argument = AnyFiles("LIB", "A library to search for units, in the order given");
 
-const JSON: Argument = Flag("json", None, "Prints the same values as one JSON document");
+const JSON: Argument = Flag("json", "Prints the same values as one JSON document");
 
 const LINK: CommandForm = CommandForm {
     name: "link",
@@ -198,29 +202,22 @@ const LINK: CommandForm = CommandForm {
     arguments: &[
         HOST,
         LIBRARIES,
-        Value(
+        LetteredValue(
             "OUT",
             "output",
-            Some('o'),
+            'o',
             "The code file to write; it may be HOST",
         ),
-        Value(
-            "FILE",
-            "map",
-            None,
-            "Writes the map of the link to FILE, too",
-        ),
+        Value("FILE", "map", "Writes the map of the link to FILE, too"),
         Flag(
             "references",
-            None,
             "Writes to FILE what the link stores at each place, too",
         ),
         Flag(
             "json",
-            None,
             "Prints the summary and writes the map as JSON documents",
         ),
-        Flag("quiet", Some('q'), "Prints no summary"),
+        LetteredFlag("quiet", 'q', "Prints no summary"),
     ],
 };
 
@@ -231,10 +228,9 @@ const CHECK: CommandForm = CommandForm {
     arguments: &[
         HOST,
         LIBRARIES,
-        Flag("strict", None, "Ends with status 1 on a warning too"),
+        Flag("strict", "Ends with status 1 on a warning too"),
         Flag(
             "unit",
-            None,
             "Lists each file, and what refuses each of its units by itself",
         ),
         JSON,
@@ -253,7 +249,6 @@ static FORMS: [CommandForm; 5] = [
             LIBRARIES,
             Flag(
                 "references",
-                None,
                 "Prints what the link stores at each place, too",
             ),
             JSON,
@@ -373,8 +368,10 @@ fn argument_of<'a>(heap: Global, form: Argument) -> Arg<'a>
         File(name, help) => file(heap, name, help, ArgAction::Set, true),
         Files(name, help) => file(heap, name, help, ArgAction::Append, true),
         AnyFiles(name, help) => file(heap, name, help, ArgAction::Append, false),
-        Flag(name, letter, help) => flag(heap, name, letter, help),
-        Value(id, name, letter, help) => value(heap, id, name, letter, help),
+        Flag(name, help) => flag(heap, name, help),
+        LetteredFlag(name, letter, help) => flag_by_letter(heap, name, letter, help),
+        Value(id, name, help) => value(heap, id, name, help),
+        LetteredValue(id, name, letter, help) => value_by_letter(heap, id, name, letter, help),
     }
 }
 
@@ -395,40 +392,41 @@ fn file<'a>(
 }
 
 /// An option without a value.
-fn flag<'a>(heap: Global, name: &'a str, letter: Option<char>, help: &'a str) -> Arg<'a>
-    ensures { IsArgument (flag_rule name.entry.now letter) result }
+fn flag<'a>(heap: Global, name: &'a str, help: &'a str) -> Arg<'a>
+    ensures { IsArgument (flag_rule name.entry.now None) result }
 {
-    let arg = Arg::new(heap, name)
+    Arg::new(heap, name)
         .long(name)
         .action(ArgAction::SetTrue)
-        .help(help);
-    with_letter(arg, letter)
+        .help(help)
+}
+
+/// The same with a letter.
+fn flag_by_letter<'a>(heap: Global, name: &'a str, letter: char, help: &'a str) -> Arg<'a>
+    ensures { IsArgument (flag_rule name.entry.now (Some letter)) result }
+{
+    flag(heap, name, help).short(letter)
 }
 
 /// An option whose value has this name.
-fn value<'a>(
+fn value<'a>(heap: Global, id: &'a str, name: &'a str, help: &'a str) -> Arg<'a>
+    ensures { IsArgument (value_rule id.entry.now name.entry.now None) result }
+{
+    Arg::new(heap, id)
+        .long(name)
+        .action(ArgAction::Set)
+        .help(help)
+}
+
+/// The same with a letter.
+fn value_by_letter<'a>(
     heap: Global,
     id: &'a str,
     name: &'a str,
-    letter: Option<char>,
+    letter: char,
     help: &'a str,
 ) -> Arg<'a>
-    ensures { IsArgument (value_rule id.entry.now name.entry.now letter) result }
+    ensures { IsArgument (value_rule id.entry.now name.entry.now (Some letter)) result }
 {
-    let arg = Arg::new(heap, id)
-        .long(name)
-        .action(ArgAction::Set)
-        .help(help);
-    with_letter(arg, letter)
-}
-
-/// The option with this letter, if it has one.
-fn with_letter<'a>(arg: Arg<'a>, letter: Option<char>) -> Arg<'a>
-    ensures rule { rule_of result ≡ lettered letter (rule_of arg.entry) }
-    ensures own { result.global ≡ arg.entry.global }
-{
-    match letter {
-        Some(letter) => arg.short(letter),
-        None => arg,
-    }
+    value(heap, id, name, help).short(letter)
 }

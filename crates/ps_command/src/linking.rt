@@ -151,6 +151,7 @@ fn place_of<R: CodeFiles>(
 }
 
 /// The option names OUT, and OUT leads to standard output.
+#[inline(never)]
 fn leads_by_option<R: CodeFiles>(rt: &R, by_option: bool, out: &str) -> bool
     ensures leads { result ≡ true → (by_option ≡ true) × R.leads rt.now out.now true }
     ensures apart { result ≡ false → by_option ≡ true → R.leads rt.now out.now false }
@@ -163,6 +164,7 @@ fn leads_by_option<R: CodeFiles>(rt: &R, by_option: bool, out: &str) -> bool
 }
 
 /// Where a summary is printed whose map goes to this file, if there is one.
+#[inline(never)]
 fn place_beside<R: CodeFiles>(rt: &R, map: Option<&str>) -> Place
     ensures { IsBeside (R.leads rt.now) (option_map (λ path. path.now) map.entry) result }
 {
@@ -247,6 +249,7 @@ fn write_map<'a, R: CodeFiles, A: Allocator + Copy>(
 
 /// Creates or empties the file at `path`, writes the map of a link to it in this form, and closes it.
 /// The linked file is whole at `out`, and stays so: where the path leads there too, no map is written.
+#[inline(never)]
 fn write_map_to<'a, R: CodeFiles, A: Allocator + Copy>(
     rt: &R,
     prepared: &Prepared<'_, A>,

@@ -36,6 +36,7 @@ impl Text for Refusal<'_> {
 }
 
 /// Prints the document of files that are refused for this fault.
+#[inline(never)]
 fn print_refusal<O: Write>(
     files: &NamedFiles<'_>,
     fault: Fault,
