@@ -31,10 +31,10 @@ use std::io::Write;
 ///
 /// `link` writes the linked file to OUT, which is opened only once all is read and checked, and
 /// prints its summary to `out`, or to `err` where OUT is named by its option and leads to standard
-/// output; with `--quiet` it prints none. `map` prints the map of the link, and with `--references` what the
-/// link stores, `show` what one code file has, `check` a report on the files for a person, and
-/// `list` a line of each file and of each of its segments. With `--json` these four print one JSON
-/// document of the same values. Each file is opened at the path that is named and read to its end,
+/// output; with `--quiet` it prints none. `map` prints the map of the link, and with `--references`
+/// what the link stores, `show` what one code file has, `check` a report on the files for a person,
+/// and `list` a line of each file and of each of its segments. With `--json` each of the five prints
+/// one JSON document of the same values, `link` in place of its summary. Each file is opened at the path that is named and read to its end,
 /// the libraries in the order in which they are named.
 ///
 /// The status is 0 where the command was done, or where the help or the version was requested; 1
@@ -87,7 +87,7 @@ pub fn run<R: CodeFiles + AllocGlobal, A: Allocator + Copy, O: Write, E: Write>(
         (E.contents err.old) (E.contents err.new) }
 
     // The status of a check is 1 only where its report was printed, and as that says: where the files
-    // are refused, or, if it is strict, where a line begins with `warning: `.
+    // are refused, or, if it is strict, where a definition warns of them.
     ensures checked { AreAccepted (texts args.now) → NamesCheck (named_in (texts args.now))
         → result ≡ 1 → Prints (Reads (R.opened rt.now) R.Opened.remaining)
         (Writes (R.created rt.now) (R.closed rt.now) R.Created.contents) (R.leads rt.now)

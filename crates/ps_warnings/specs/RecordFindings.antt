@@ -38,7 +38,7 @@ high_as next name (PrivRef words refs) = None
 high_as next name (ConstDef value) = None
 high_as next name (Eof at) = None
 
--- a look at a record, with the record's index
+-- what is found of a record, with the record's index
 abbrev pub at_index : ℕ → Option Finding → Option (ℕ × Finding)
 at_index i found = option_map (λ l. (i, l)) found
 
