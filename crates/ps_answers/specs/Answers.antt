@@ -1,5 +1,4 @@
 -- What an answer says of a call, and which fault a refusal reports.
--- Source: this project's profile.
 use Rattle.std.specs.Prelude.{◌≡◌, ℕ, ◌==◌, ◌⊎◌, if◌then◌else◌, List, [], ◌∷◌, ◌++◌, Option, Some, None, option_map, unwrap_or, is_some}
 use Rattle.ps_words.specs.FaultText.{number_of, kind_of, reason_of, fault_text}
 use Rattle.ps_words.specs.declared.fault.Reason.{Reason}

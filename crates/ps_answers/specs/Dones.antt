@@ -1,5 +1,4 @@
 -- What a link that was done leaves in the caller's room.
--- Source: this project's profile.
 use Rattle.std.specs.Prelude.{◌≡◌, ℕ, List, length}
 use Rattle.ps_linkfile.specs.LinkedFile.{LinkedFile, summary_of}
 use Rattle.ps_answers.specs.Rooms.{RoomBeginsWith}

@@ -1,5 +1,4 @@
 -- The libraries of a call: one after another in one buffer, with their lengths beside.
--- Source: this project's profile.
 use Rattle.std.specs.Prelude.{ℕ, List, [], ◌∷◌, take, drop}
 
 -- the parts of these lengths, from the first byte on

@@ -1,5 +1,4 @@
 -- The answer of a call, by what becomes of it.
--- Source: this project's profile.
 use Rattle.std.specs.Prelude.{ℕ, Result, Ok, Err}
 use Rattle.ps_answers.specs.Answers.{bare, linked_answer, text_answer, refusal, small_answer}
 use Rattle.ps_answers.specs.declared.answer.TheConstants.{WRONG_LENGTHS, NO_MEMORY, WRONG_NAMES}

@@ -1,5 +1,4 @@
 -- What becomes of a room of the caller.
--- Source: this project's profile.
 use Rattle.std.specs.Prelude.{◌≡◌, ℕ, List, ◌++◌, length, drop}
 
 -- the room begins with these bytes, and what is after them is as before

@@ -1,5 +1,4 @@
 -- Why nothing is made of files, and why a call leaves the caller's room as it was.
--- Source: this project's profile.
 use Rattle.std.specs.Prelude.{◌≡◌, ◌≢◌, ℕ, ◌<◌, ◌≤◌, List, length, sum}
 use Rattle.ps_words.specs.declared.fault.Fault.{Fault}
 use Rattle.ps_resolve.specs.FaultNames.{fault_name}

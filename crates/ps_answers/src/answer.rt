@@ -5,38 +5,30 @@ use crate::outcome::{Done, NotDone, Unmade, Unput, WrongInputs};
 use ps_words::{Fault, Name, Reason};
 
 /// The status of a call that was done.
-/// Source: this project's profile.
 pub const DONE: u32 = 0;
 
 /// The status of a call whose files are refused.
-/// Source: this project's profile.
 pub const REFUSED: u32 = 1;
 
 /// The status of a call whose lengths do not add up to what is given, or that has not one name for
 /// each file.
-/// Source: this project's profile.
 pub const WRONG_LENGTHS: u32 = 2;
 
 /// The status of a call to which memory was refused.
-/// Source: this project's profile.
 pub const NO_MEMORY: u32 = 4;
 
 /// The status of a call that was given too little room for its result.
-/// Source: this project's profile.
 pub const TOO_SMALL: u32 = 5;
 
 /// The status of a call of which a name is no UTF-8.
-/// Source: this project's profile.
 pub const WRONG_NAMES: u32 = 6;
 
 /// The status of a call for a text that there is not, or that has no such form.
-/// Source: this project's profile.
 pub const WRONG_TEXT: u32 = 7;
 
 /// What a call answers: its status, and what goes with that status. All else is 0.
 ///
 /// `include/pslink.h` has the same fields.
-/// Source: this project's profile.
 #[repr(C)]
 #[derive(Clone, Copy, Debug, PartialEq, Eq)]
 pub struct Answer {
@@ -86,7 +78,6 @@ impl Answer {
     ghost use Rattle.ps_answers.specs.Outcomes.{answer_of, done_answer, not_done_answer, unput_answer};
 
     /// This status, and 0 in every other field.
-    /// Source: this project's profile.
     pub fn bare(status: u32) -> Answer
         ensures { result ≡ bare_spec status }
     {
@@ -162,7 +153,6 @@ impl Answer {
     }
 
     /// The answer of a call: its status, and what goes with that status.
-    /// Source: this project's profile.
     pub fn of(outcome: Result<Done, NotDone>) -> Answer
         ensures { result ≡ answer_of outcome }
     {
@@ -174,7 +164,6 @@ impl Answer {
 
     /// The answer of files that are refused for this fault: `REFUSED`, the parts of the fault, and
     /// the name of what it is about, where it has one.
-    /// Source: this project's profile.
     pub fn refusal(fault: Fault, name: Option<Name>) -> Answer
         ensures { result ≡ refusal_spec fault name }
     {
@@ -198,7 +187,6 @@ impl Answer {
 
     /// The fault that a refusal reports, whole; `None` of any other answer, and of one whose number
     /// is none of a fault's.
-    /// Source: this project's profile.
     pub fn refusal_fault(&self) -> Option<Fault>
         ensures { result ≡ refusal_fault_spec self.now }
     {

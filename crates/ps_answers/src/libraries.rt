@@ -7,16 +7,13 @@ use smallvec::SmallVec;
 use std::alloc::{AllocError, Global};
 
 /// How many libraries have a place on the stack. More of them request memory before they are read.
-/// Source: this project's profile.
 pub const LIBRARIES_IN_PLACE: usize = 256;
 
 /// How many libraries are few: a call with no more of them has a smaller table of them, and one with
 /// a single library has the smallest.
-/// Source: this project's profile.
 pub const FEW_LIBRARIES: usize = 16;
 
 /// The parts of a buffer, each as a slice, of which so many have a place on the stack.
-/// Source: this project's profile.
 pub type Parts<'a, const N: usize> = SmallVec<&'a [u8], N>;
 
 /// Whether the lengths add up to this total.
@@ -38,7 +35,6 @@ pub fn add_up(lengths: &[usize], total: usize) -> bool
 /// As many as `N` of them have a place on the stack, and more are listed in memory. With an `N` of 0
 /// each list is in memory, and a long one takes no more of the stack than a short one. Memory is
 /// requested only for more than `N` parts.
-/// Source: this project's profile.
 pub fn split<'a, const N: usize>(
     alloc: Global,
     bytes: &'a [u8],

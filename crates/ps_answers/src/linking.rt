@@ -13,7 +13,6 @@ use ps_words::BLOCK_SIZE;
 use std::alloc::Global;
 
 /// How many bytes a linked file has at most.
-/// Source: this project's profile.
 pub const LINKED_MAX: usize = BLOCK_SIZE * MAX_FILE_BLOCKS;
 
 /// Links a host and these libraries into the room.

@@ -10,7 +10,6 @@ use ps_words::{Fault, Name};
 use std::alloc::AllocError;
 
 /// What was put in the caller's room.
-/// Source: this project's profile.
 #[derive(Clone, Copy)]
 pub enum Done {
     /// A linked file of so many bytes, which has this summary.
@@ -20,7 +19,6 @@ pub enum Done {
 }
 
 /// Why files are refused.
-/// Source: this project's profile.
 #[derive(Clone, Copy)]
 pub struct Refusal {
     /// The fault.
@@ -175,7 +173,6 @@ fn refusal_for(host: &[u8], libs: &[&[u8]], fault: Fault) -> Refusal
 
 /// Why a step with these files, which writes nothing, made nothing: the fault for which they are
 /// refused, with the name of what it is about, or `NoMemory`, also of an error of a write.
-/// Source: this project's profile.
 // A function by itself, so that only a call that is refused has what it needs of the stack.
 #[inline(never)]
 pub fn unmade_for(host: &[u8], libs: &[&[u8]], error: LinkError) -> Unmade

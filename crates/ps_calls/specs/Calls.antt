@@ -1,5 +1,4 @@
 -- What the exports leave in the caller's memory.
--- Source: this project's profile.
 use Rattle.std.specs.Prelude.{◌≡◌, ℕ, ◌<◌, Bool, List, [], length, Option, Some, None, Result, IfErr, IfOk}
 use Rattle.ps_resolve.specs.FaultNames.{fault_name}
 use Rattle.ps_resolve.specs.FaultParts.{HasItsParts}

@@ -1,5 +1,4 @@
 -- What a check finds and leaves in the caller's room, and why it leaves nothing.
--- Source: this project's profile.
 use Rattle.std.specs.Prelude.{◌≡◌, ℕ, ◌+◌, ◌<◌, ⊤, All, Bool, IsUtf8, List, length, sum}
 use Rattle.ps_report.specs.Reports.{IsReport}
 use Rattle.ps_report.specs.Reported.{Reported, warning_count}

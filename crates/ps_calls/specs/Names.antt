@@ -1,5 +1,4 @@
 -- The names of faults and the sentences on them, what statuses say, and the release.
--- Source: this project's profile.
 use Rattle.std.specs.Prelude.{ℕ, ◌==◌, if◌then◌else◌, List, [], ◌∷◌, ◌++◌, codes, Option, Some, None}
 use Rattle.ps_explained.specs.Sentences.{meaning_of, remedy_of}
 use Rattle.ps_words.specs.FaultText.{name_of, reason_of}

@@ -1,5 +1,4 @@
 -- What is made of files, as text, and why it is not.
--- Source: this project's profile.
 use Rattle.std.specs.Prelude.{◌≡◌, ℕ, ◌+◌, ⊤, All, Bool, true, false, IsUtf8, List, length, sum}
 use Rattle.ps_resolve.specs.FaultNames.{fault_name}
 use Rattle.ps_texts.specs.Kinds.{needs_names}

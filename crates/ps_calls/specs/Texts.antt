@@ -1,5 +1,4 @@
 -- What a text leaves in the caller's room, and why a map or a show leaves it as it was.
--- Source: this project's profile.
 use Rattle.std.specs.Prelude.{◌≡◌, ℕ, List, [], length, Some, None}
 use Rattle.ps_resolve.specs.FaultNames.{fault_name}
 use Rattle.ps_resolve.specs.Standing.{NoneStands}

@@ -10,7 +10,6 @@ use ps_words::Name;
 /// What a check answers: its status, and what goes with that status. All else is 0.
 ///
 /// `include/pslink.h` has the same fields, as `pslink_check_answer`.
-/// Source: this project's profile.
 #[repr(C)]
 #[derive(Clone, Copy, Debug, PartialEq, Eq)]
 pub struct CheckAnswer {
@@ -51,7 +50,6 @@ impl CheckAnswer {
     }
 
     /// The answer of a check: its status, and what goes with that status.
-    /// Source: this project's profile.
     pub fn of(outcome: Result<Found, NotChecked>) -> CheckAnswer
         ensures { result ≡ check_answer_of outcome }
     {

@@ -15,7 +15,6 @@ use ps_words::Name;
 use std::alloc::{AllocError, Global};
 
 /// What a check found, whose report was put in the caller's room.
-/// Source: this project's profile.
 #[derive(Clone, Copy)]
 pub struct Found {
     /// Whether the files are linked: what they come to, or the first fault of all.
@@ -139,7 +138,6 @@ fn report_on<'a>(
 /// do not add up to the length of `libs` or of `names`, and where there is not one name for
 /// each file; `Wrong` names where they do, and a name is no UTF-8; `NoMemory` where memory was
 /// refused; and `TooSmall` where the report is longer than the room.
-/// Source: this project's profile.
 pub fn check(
     alloc: Global,
     host: &[u8],

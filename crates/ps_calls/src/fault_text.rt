@@ -11,7 +11,6 @@ use itoa::Buffer;
 use ps_words::{Fault, Reason};
 
 /// How many bytes the text of a fault has at most, the closing 0 counted.
-/// Source: this project's profile.
 pub const FAULT_TEXT_MAX: usize = 160;
 
 /// A text with room for the longest.
@@ -90,7 +89,6 @@ fn text_of(fault: Fault) -> Text
 
 /// Puts the text of a fault in the room where it fits, with a closing 0, and writes nothing where it
 /// does not. Returns how many bytes it has, the closing 0 counted, at most `FAULT_TEXT_MAX`.
-/// Source: this project's profile.
 pub fn put_fault(fault: Fault, room: &mut [u8]) -> usize
     ensures size { result ≡ length (closed_text fault) }
     ensures most { result ≤ FAULT_TEXT_MAX }

@@ -5,47 +5,36 @@ ghost use Rattle.ps_calls.specs.Kinds.{form_of as form_of_spec, kind_in as kind_
 use ps_texts::{Form, ListForm, TextKind};
 
 /// The number of the map of a link.
-/// Source: this project's profile.
 pub const TEXT_MAP: u32 = 0;
 
 /// That of the map and its references.
-/// Source: this project's profile.
 pub const TEXT_REFERENCES: u32 = 1;
 
 /// That of what a code file has.
-/// Source: this project's profile.
 pub const TEXT_SHOW: u32 = 2;
 
 /// That of the report of a check.
-/// Source: this project's profile.
 pub const TEXT_CHECK: u32 = 3;
 
 /// That of the list of each file.
-/// Source: this project's profile.
 pub const TEXT_LIST: u32 = 4;
 
 /// That of the list of each file with its units by themselves.
-/// Source: this project's profile.
 pub const TEXT_UNITS: u32 = 5;
 
 /// That of what looks wrong, one by one.
-/// Source: this project's profile.
 pub const TEXT_LOOKS: u32 = 6;
 
 /// The number of the form of lines.
-/// Source: this project's profile.
 pub const LINES: u32 = 0;
 
 /// That of a JSON document.
-/// Source: this project's profile.
 pub const JSON: u32 = 1;
 
 /// The number of the units that a link wants from libraries.
-/// Source: this project's profile.
 pub const UNITS_WANTED: u32 = 0;
 
 /// That of the units whose code a file has.
-/// Source: this project's profile.
 pub const UNITS_HAD: u32 = 1;
 
 /// The form of this number.
@@ -97,7 +86,6 @@ fn kind_in(what: u32, form: Form) -> Option<TextKind>
 
 /// The text with this number, in the form with this one; `None` where there is no such text, or it
 /// has no such form.
-/// Source: this project's profile.
 pub fn text_kind(what: u32, form: u32) -> Option<TextKind>
     ensures { result ≡ text_kind_spec what form }
 {
@@ -108,7 +96,6 @@ pub fn text_kind(what: u32, form: u32) -> Option<TextKind>
 }
 
 /// The names of the units with this number; `None` where there is none.
-/// Source: this project's profile.
 pub fn units_kind(which: u32) -> Option<TextKind>
     ensures { result ≡ units_kind_spec which }
 {

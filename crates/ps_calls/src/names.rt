@@ -13,7 +13,6 @@ const RELEASE: &str = "0.3.0";
 
 /// The release of pslink as a number: 10000 times its first part, 100 times its second, and its
 /// third.
-/// Source: this project's profile.
 pub const RELEASE_NUMBER: u32 = 300;
 
 /// The name of the fault of this number; nothing where there is none.
@@ -67,7 +66,6 @@ fn put_closed(text: &str, room: &mut [u8]) -> usize
 /// Puts the name of the fault of this number in the room where it fits, with a closing 0, and writes
 /// nothing where it does not. Returns how many bytes it has, the closing 0 counted, at most
 /// `FAULT_TEXT_MAX`; 0 where there is no such fault, and then writes nothing.
-/// Source: this project's profile.
 pub fn put_fault_name(number: u8, room: &mut [u8]) -> usize
     ensures size { result ≡ length (closed (fault_name number)) }
     ensures most { result ≤ FAULT_TEXT_MAX }
@@ -79,7 +77,6 @@ pub fn put_fault_name(number: u8, room: &mut [u8]) -> usize
 }
 
 /// Puts what a status says in the room, as `put_fault_name` a name: 0 where no call answers it.
-/// Source: this project's profile.
 pub fn put_status_text(status: u32, room: &mut [u8]) -> usize
     ensures size { result ≡ length (closed (status_text_spec status)) }
     ensures most { result ≤ FAULT_TEXT_MAX }
@@ -91,7 +88,6 @@ pub fn put_status_text(status: u32, room: &mut [u8]) -> usize
 }
 
 /// Puts the release of pslink in the room, as `put_fault_name` a name.
-/// Source: this project's profile.
 pub fn put_release(room: &mut [u8]) -> usize
     ensures size { result ≡ length (closed release) }
     ensures most { result ≤ FAULT_TEXT_MAX }

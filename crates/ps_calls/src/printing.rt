@@ -118,7 +118,6 @@ fn names_for<'a>(
 /// and a name is no UTF-8; `Refused` as `map`, of a map and its references, as `show`, of what a file
 /// has, and where the host cannot be opened, of names of units; `NoMemory` where memory was refused;
 /// and `TooSmall` where the text is longer than the room.
-/// Source: this project's profile.
 pub fn text(
     alloc: Global,
     kind: TextKind,

@@ -8,7 +8,6 @@ use arrayvec::ArrayString;
 use ps_explained::{meaning_of, remedy_of};
 
 /// How many bytes a sentence of a fault has at most, the closing 0 counted.
-/// Source: this project's profile.
 pub const SENTENCE_MAX: usize = 256;
 
 /// Puts sentences in the room, as a name is put.
@@ -34,7 +33,6 @@ fn put_sentences(text: &str, room: &mut [u8]) -> usize
 /// fits, with a closing 0, and writes nothing where it does not: a sentence of ASCII. Returns how
 /// many bytes it has, the closing 0 counted, at most `SENTENCE_MAX`; 0 where there is no such fault,
 /// and then writes nothing.
-/// Source: this project's profile.
 pub fn put_fault_meaning(number: u8, room: &mut [u8]) -> usize
     ensures size { result ≡ length (closed (fault_meaning number)) }
     ensures most { result ≤ SENTENCE_MAX }
@@ -47,7 +45,6 @@ pub fn put_fault_meaning(number: u8, room: &mut [u8]) -> usize
 
 /// Puts what to do about the fault of this number in the room, as `put_fault_meaning` what is wrong:
 /// sentences in which `the file` is the file at fault.
-/// Source: this project's profile.
 pub fn put_fault_remedy(number: u8, room: &mut [u8]) -> usize
     ensures size { result ≡ length (closed (fault_remedy number)) }
     ensures most { result ≤ SENTENCE_MAX }

@@ -68,7 +68,6 @@ fn map_in<const N: usize>(
 
 /// Puts the map of a link in the room, as text. The inputs are those of `link`, and so are the
 /// refusals, each said of the map in place of the linked file.
-/// Source: this project's profile.
 pub fn map(
     alloc: Global,
     host: &[u8],

@@ -1,6 +1,5 @@
 -- How a file is read by itself: in the order that its kind words show, and where these are all 0 in
 -- the order in which it has a code.
--- Source: this project's profile.
 use Rattle.std.specs.Prelude.{ℕ, ◌&&◌, not, if◌then◌else◌, List, Bool, false, Result, Ok, Err}
 use Rattle.std.specs.List.{list_any}
 use Rattle.std.specs.Option.{option_map_or}

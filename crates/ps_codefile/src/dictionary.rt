@@ -66,7 +66,6 @@ impl<'a> Dict<'a> {
     ///
     /// Refuses `ShortFile` under 512 bytes, `NoOrder` where the kind words show both
     /// orders, and `NoHost` where all of them are 0, so that no slot has a host segment.
-    /// Source: this project's profile.
     pub fn read(file: &'a [u8]) -> Result<Dict<'a>, Reason>
         ensures { result ≡ opened_alone file.now }
     {
@@ -92,7 +91,6 @@ impl<'a> Dict<'a> {
     /// Refuses `ShortFile` under 512 bytes, `NoOrder` where the kind words show both
     /// orders, and `OrderMismatch` where they show the order that is not the host's.
     /// A file whose kind words are all 0 takes the host's order.
-    /// Source: this project's profile.
     pub fn read_beside(file: &'a [u8], host: Order) -> Result<Dict<'a>, Reason>
         ensures { result ≡ opened_beside host file.now }
     {
@@ -111,7 +109,6 @@ impl<'a> Dict<'a> {
     }
 
     /// A copy, which borrows the same file.
-    /// Source: this project's profile.
     pub fn copy(&self) -> Dict<'a>
         ensures { result ≡ self.now }
     {
@@ -160,7 +157,6 @@ impl<'a> Dict<'a> {
     }
 
     /// Bytes 256 to 511, which a linked file takes unread from its host.
-    /// Source: this project's profile.
     pub fn tail(&self) -> &'a [u8]
         ensures { result.now ≡ tail_of self.now.file }
     {
@@ -174,7 +170,6 @@ impl<'a> Dict<'a> {
     /// of length 0 is `Empty`. The rest are filled, and their kind decides: 0 `Plain`,
     /// 1 `Host`, 3 `Unit`. Refuses `SegmentProcedure` for kind 2, `NativeSegment` for 4,
     /// `Intrinsic` for 5 to 7 and `UnknownKind` above.
-    /// Source: this project's profile.
     #[inline(always)]
     pub fn role(&self, slot: u8) -> Result<Role, Reason>
         requires { slot < SLOTS }
@@ -186,7 +181,6 @@ impl<'a> Dict<'a> {
     /// The slot is neither wanted nor empty, whatever its kind: its length is not 0, nor its
     /// address where its kind is 3. Whether its code can be read is another question, which
     /// `code` answers.
-    /// Source: this project's profile.
     #[inline(always)]
     pub fn filled(&self, slot: u8) -> bool
         requires { slot < SLOTS }

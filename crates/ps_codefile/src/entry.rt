@@ -47,7 +47,6 @@ pub enum Role {
 impl Role {
     /// The references of a segment of this role are to be resolved: it is the host's own or a
     /// unit's.
-    /// Source: this project's profile.
     pub fn needs_linking(self) -> bool
         ensures { result ≡ needs_linking_spec self }
     {
@@ -78,8 +77,6 @@ fn all_are(name: &Name, byte: u8) -> bool
 }
 
 /// The name is eight blanks or eight zero bytes.
-///
-/// Source: this project's profile.
 pub fn is_nameless(name: &Name) -> bool
     ensures { result ≡ nameless_spec name.now }
 {

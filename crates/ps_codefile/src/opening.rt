@@ -12,7 +12,6 @@ use ps_words::{Order, Reason};
 
 impl Dict<'_> {
     /// The code of a slot is in the file, from its first byte to its last.
-    /// Source: this project's profile.
     pub fn is_in_file(&self, slot: u8) -> bool
         requires { slot < SLOTS }
         ensures { result ≡ is_ok (code_of self.now.file
@@ -25,7 +24,6 @@ impl Dict<'_> {
     }
 
     /// The slot is filled, its entry has a name, and its code is in the file.
-    /// Source: this project's profile.
     pub fn is_whole(&self, slot: u8) -> bool
         requires { slot < SLOTS }
         ensures { result ≡ is_whole_spec self.now.order self.now.file slot }
@@ -43,7 +41,6 @@ impl Dict<'_> {
     }
 
     /// Some slot is filled, with a name, and has its code in the file.
-    /// Source: this project's profile.
     pub fn has_code(&self) -> bool
         ensures { result ≡ has_code_spec self.now.order self.now.file }
     {
@@ -77,7 +74,6 @@ fn order_by_codes(file: &[u8]) -> Order
 /// little-endian if both have one or none has.
 ///
 /// Refuses `ShortFile` under 512 bytes, and `NoOrder` where the kind words show both orders.
-/// Source: this project's profile.
 #[tactic(auto, unfolding(crate::specs::Opened::opened))]
 pub fn open(file: &[u8]) -> Result<Dict<'_>, Reason>
     ensures { result ≡ opened file.now }

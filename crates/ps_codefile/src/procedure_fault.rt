@@ -24,7 +24,6 @@ pub enum ProcedureFault {
 
 impl ProcedureFault {
     /// The reason of the refusal: `NativeProcedure` of a native procedure, else `BadProcDict`.
-    /// Source: this project's profile.
     pub fn reason(self) -> Reason
         ensures { result ≡ reason_of self }
     {

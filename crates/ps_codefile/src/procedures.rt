@@ -262,7 +262,6 @@ impl<'a> ProcedureDictionary<'a> {
     }
 
     /// The procedure tables, with the word of each procedure at hand.
-    /// Source: this project's profile.
     pub fn procs(&self) -> Procs<'a>
         ensures { result ≡ self.now }
     {
@@ -402,7 +401,6 @@ impl<'a> Procs<'a> {
 
     /// The place is one that no operand may cover: a byte of the procedure dictionary, or one
     /// of the ten bytes of an attribute table. No place past the code is.
-    /// Source: this project's profile.
     #[tactic(auto, using(crate::proofs::Tables::any_table))]
     pub fn is_reserved(&self, place: usize) -> bool
         ensures { result ≡ is_reserved_spec self.now.order self.now.code place }
@@ -428,7 +426,6 @@ impl<'a> Procs<'a> {
 
     /// Sets the elements of the reserved places to `mark`, in a list that has an element for each
     /// byte of the code.
-    /// Source: this project's profile.
     #[tactic(auto, using(crate::proofs::Tables::any_table))]
     pub fn mark_reserved<T: Copy>(&self, marks: &mut [T], mark: T)
         requires { length marks.old ≡ length self.now.code }

@@ -1,5 +1,4 @@
 -- Why a file cannot be read, and what is reported of it and of a command that was not done.
--- Source: this project's profile.
 use Rattle.std.specs.Prelude.{ℕ, List}
 use Rattle.std.specs.Borrow.{Bor}
 use Rattle.std.specs.declared.io.ErrorKind.{ErrorKind}

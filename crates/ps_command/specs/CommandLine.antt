@@ -1,6 +1,5 @@
 -- The command line of `pslink`, as clap's contracts see it: the commands, and the arguments of
 -- each.
--- Source: this project's profile.
 use Rattle.std.specs.Prelude.{◌≡◌, ◌⊎◌, Bool, List, [], ◌∷◌, Option, ℕ, fold, map, false, true, None, Some, codes}
 use Rattle.std.specs.Borrow.{Bor}
 use Rattle.clap.specs.Words.{App, Kinds, Row, Rule, Text, app_of, fault_of, new_app, new_rule, rule_of, subcommand_of, takes, with_rule, with_subcommand}

@@ -1,5 +1,4 @@
 -- Files that are read and written: what a program that opens paths got of them, and what it wrote.
--- Source: this project's profile.
 use Rattle.std.specs.Prelude.{◌≡◌, ◌<◌, ℕ, List, Option, IfSome, length, ⊤}
 use Rattle.std.specs.Io.KnownBytes.{Appends}
 use Rattle.std.specs.List.{AllZip}

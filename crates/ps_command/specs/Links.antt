@@ -1,5 +1,4 @@
 -- What a link does with files that were read: what it writes, and where its summary is printed.
--- Source: this project's profile.
 use Rattle.std.specs.Prelude.{◌≡◌, ℕ, Bool, List, Option, None, Some, option_map, ⊤, true}
 use Rattle.std.specs.Borrow.{Bor}
 use Rattle.std.specs.Io.KnownBytes.{Appends}

@@ -1,5 +1,4 @@
 -- A link that was prepared, with what its map is to have.
--- Source: this project's profile.
 use Rattle.std.specs.Prelude.{ℕ, List}
 use Rattle.ps_resolve.specs.Plans.{Planned}
 use Rattle.ps_linkfile.specs.MapText.{map_as}

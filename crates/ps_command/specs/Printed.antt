@@ -1,7 +1,6 @@
 -- What is printed on standard output once a command is done, by the command and the files that are
 -- named, and what a link has written. `Reads` says of a path and of bytes that they were read
 -- there, and `Writes` that a file which was created there took them.
--- Source: this project's profile.
 use Rattle.std.specs.Prelude.{◌≡◌, ◌⊎◌, ◌++◌, ◌∷◌, [], if◌then◌else◌, ℕ, Bool, true, false, List, Option, None, Some, IfSome, IsSomeAnd, codes, max, ⊤}
 use Rattle.std.specs.List.{AllZip}
 use Rattle.std.specs.Io.KnownBytes.{Appends}

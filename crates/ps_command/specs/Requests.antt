@@ -1,5 +1,4 @@
 -- What a request stands for, by the command and the files that clap finds named in the arguments.
--- Source: this project's profile.
 use Rattle.std.specs.Prelude.{◌≡◌, Bool, true, false, List, [], ◌∷◌, Option, None, Some, codes, is_some, map, option_map, unwrap_or, ⊤}
 use Rattle.std.specs.Borrow.{Bor}
 use Rattle.std.specs.List.{list_any}

@@ -1,6 +1,5 @@
 -- What the process ends with: 0 done, 1 refused, 2 usage, 3 a file or standard output, 4 out of
 -- memory.
--- Source: this project's profile.
 use Rattle.std.specs.Prelude.{ℕ}
 use Rattle.ps_command.specs.declared.ended.Ended.{Ended}
 use Rattle.ps_command.specs.declared.ended.Ended.TheVariants as ended

@@ -1,5 +1,4 @@
 -- What is printed on standard output once a file is linked.
--- Source: this project's profile.
 use Rattle.std.specs.Prelude.{ℕ, Bool, false, true, List, ◌++◌, codes, decimal}
 use Rattle.ps_linkfile.specs.declared.summary.Summary.{Summary}
 

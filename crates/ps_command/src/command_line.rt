@@ -128,7 +128,6 @@ Exit status, the greatest that applies:
 A name that begins with a dash is given as ./-name, or after --. See pslink(1).";
 
 /// An argument of a command: its name, and what the help says of it.
-/// Source: this project's profile.
 #[derive(Clone, Copy)]
 enum Argument {
     /// A file that has to be named.
@@ -149,7 +148,6 @@ enum Argument {
 
 /// What the help of a command ends with: the table of the commands names the texts and does not hold
 /// them.
-/// Source: this project's profile.
 #[derive(Clone, Copy)]
 enum Ending {
     Link,
@@ -180,7 +178,6 @@ impl Ending {
 }
 
 /// A command: its name, what the help says of it and ends with, and its arguments.
-/// Source: this project's profile.
 #[derive(Clone, Copy)]
 struct CommandForm {
     name: &'static str,

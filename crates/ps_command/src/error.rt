@@ -25,7 +25,6 @@ use std::io::{self, Write};
 use thiserror::Error;
 
 /// Why a file cannot be read, as far as the system says.
-/// Source: this project's profile.
 #[derive(Clone, Copy)]
 pub(crate) enum Cause {
     Missing,
@@ -40,7 +39,6 @@ pub(crate) enum Cause {
 
 impl Cause {
     /// The cause that is of this kind of the system's errors: a path below a file names no file.
-    /// Source: this project's profile.
     pub(crate) fn of(kind: io::ErrorKind) -> Cause
         ensures { result ≡ cause_of kind }
     {
@@ -69,7 +67,6 @@ impl fmt::Display for Cause {
 
 /// The first argument that is not UTF-8, counted as a shell's `$1`, so that 0 is the program's name;
 /// none where that is not known. Its text is the end of the line that reports it.
-/// Source: this project's profile.
 #[derive(Clone, Copy)]
 pub(crate) struct WrongArgument(pub(crate) Option<usize>);
 
@@ -242,7 +239,6 @@ impl From<LinkError> for RunError<'_> {
 }
 
 /// Each text that the program writes to standard error, with what the text names.
-/// Source: this project's profile.
 #[derive(Drop, Error)]
 pub(crate) enum CommandError<'a> {
     /// The files are refused.
@@ -322,7 +318,6 @@ impl<'a> From<RunError<'a>> for CommandError<'a> {
 
 impl CommandError<'_> {
     /// What the process ends with.
-    /// Source: this project's profile.
     pub(crate) fn status(&self) -> u8
         ensures { result ≡ status_of self.now }
     {
@@ -339,7 +334,6 @@ impl CommandError<'_> {
     }
 
     /// Writes the text, and returns the status. If the text cannot be written, that is ignored.
-    /// Source: this project's profile.
     pub(crate) fn report<E: Write>(&self, err: &mut E) -> u8
         ensures { result ≡ status_of self.now }
     {

@@ -59,7 +59,6 @@ impl FileFault {
 
 /// Opens the files of a command. What runs a command is generic over it, so that contracts say of
 /// bytes at which path they were read or written: no contract says what a file of the system holds.
-/// Source: this project's profile.
 pub trait CodeFiles {
     /// A file that is read.
     type Opened: Read + Drop;
@@ -167,7 +166,6 @@ fn are_one(one: &fs::Metadata, two: &fs::Metadata) -> bool {
 }
 
 /// The first of the paths that leads to the file at `out`.
-/// Source: this project's profile.
 pub(crate) fn first_to<'a, R: CodeFiles>(rt: &R, paths: &[&'a str], out: &str) -> Option<&'a str> {
     for path in paths {
         if rt.lead_to_one_file(out, path) {
@@ -178,7 +176,6 @@ pub(crate) fn first_to<'a, R: CodeFiles>(rt: &R, paths: &[&'a str], out: &str) -
 }
 
 /// What the files of a host and of its libraries hold.
-/// Source: this project's profile.
 #[derive(Drop)]
 pub(crate) struct InputBytes<A: Allocator> {
     pub(crate) host: Vec<u8, A>,
@@ -186,7 +183,6 @@ pub(crate) struct InputBytes<A: Allocator> {
 }
 
 /// Reads the host and then each library, in their order.
-/// Source: this project's profile.
 pub(crate) fn read_inputs<'a, R: CodeFiles, A: Allocator + Copy>(
     rt: &R,
     alloc: A,
@@ -208,7 +204,6 @@ pub(crate) fn read_inputs<'a, R: CodeFiles, A: Allocator + Copy>(
 }
 
 /// Reads the file at `path` to its end.
-/// Source: this project's profile.
 pub(crate) fn read<R: CodeFiles, A: Allocator + Copy>(
     rt: &R,
     alloc: A,

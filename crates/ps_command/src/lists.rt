@@ -158,7 +158,6 @@ fn print_document<'a, R: CodeFiles, A: Allocator + Copy, O: Write, E: Write>(
 
 /// Prints what is listed of each file in this form, one after another, as JSON one document, and
 /// reports each that cannot be read. Returns the worst end of all.
-/// Source: this project's profile.
 pub(crate) fn print_lists<'a, R: CodeFiles, A: Allocator + Copy, O: Write, E: Write>(
     rt: &R,
     alloc: A,

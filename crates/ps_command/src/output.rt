@@ -11,7 +11,6 @@ use std::fmt::Write as _;
 use std::io::Write;
 
 /// Writes all of `text`. No write is repeated after an error: then a prefix of it was written.
-/// Source: this project's profile.
 pub(crate) fn print<O: Write>(out: &mut O, text: &[u8]) -> Result<(), WriteFault>
     ensures all { OnOk result (Appends (O.contents out.old) (O.contents out.new) text.now) }
     ensures prefix { OnErr result (AppendsPrefix (O.contents out.old) (O.contents out.new)
@@ -21,7 +20,6 @@ pub(crate) fn print<O: Write>(out: &mut O, text: &[u8]) -> Result<(), WriteFault
 }
 
 /// Adds the summary of a link to `text`, as a line, or with `json` as a document.
-/// Source: this project's profile.
 pub(crate) fn add_summary<A: Allocator>(
     text: &mut String<A>,
     json: bool,

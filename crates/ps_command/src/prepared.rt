@@ -17,7 +17,6 @@ use std::alloc::Allocator;
 use std::io::Write;
 
 /// A link that was prepared: its linked file can be written, and its map.
-/// Source: this project's profile.
 #[derive(Drop)]
 pub(crate) enum Prepared<'a, A: Allocator + Copy> {
     Linked(Linked<'a, A>),

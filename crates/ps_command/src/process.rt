@@ -21,7 +21,7 @@ use std::rt::Env;
 /// The arguments are those of the process, the program's name first. If one of them is not UTF-8, the
 /// status is 2, but for `list`: it lists a file with such a name as one that cannot be read, and the
 /// others. If there is no memory for the arguments, the status is 4. With status 2 or 4 nothing is
-/// written to `out`, and one line to `err`. Source: this project's profile.
+/// written to `out`, and one line to `err`.
 pub fn run_process<R: CodeFiles + Env + AllocGlobal, O: Write, E: Write>(
     rt: &R,
     out: &mut O,

@@ -12,7 +12,6 @@ use clap::{ArgMatches, Command};
 use std::alloc::{AllocError, Allocator, Global};
 
 /// What the arguments of a command line ask the program to do.
-/// Source: this project's profile.
 #[derive(Drop)]
 pub(crate) enum Request<'a, A: Allocator> {
     /// Prints the help, whose words are clap's.
@@ -24,7 +23,6 @@ pub(crate) enum Request<'a, A: Allocator> {
 }
 
 /// What a command says, with the files and the flags that are named for it.
-/// Source: this project's profile.
 #[derive(Drop)]
 pub(crate) enum Task<'a, A: Allocator> {
     /// Links files, and writes the linked file.
@@ -59,7 +57,6 @@ pub(crate) enum Task<'a, A: Allocator> {
 }
 
 /// The paths of a host and of the libraries, in the order in which units are looked up in them.
-/// Source: this project's profile.
 #[derive(Drop)]
 pub(crate) struct Inputs<'a, A: Allocator> {
     pub(crate) host: &'a str,
@@ -67,7 +64,6 @@ pub(crate) struct Inputs<'a, A: Allocator> {
 }
 
 /// A link: its files, the file to write, and what is printed.
-/// Source: this project's profile.
 #[derive(Drop)]
 pub(crate) struct Link<'a, A: Allocator> {
     pub(crate) inputs: Inputs<'a, A>,
@@ -88,7 +84,6 @@ pub(crate) struct Link<'a, A: Allocator> {
 /// Reads the arguments, of which the first is the program's name. A link whose OUT is a library too,
 /// at this path or at another that leads there, is wrong usage, and so is one whose map would be written
 /// to a file of it, or that has no map to write what it stores to; and a check of units that is strict.
-/// Source: this project's profile.
 pub(crate) fn parse<'a, R: CodeFiles + AllocGlobal, A: Allocator + Copy>(
     rt: &R,
     alloc: A,

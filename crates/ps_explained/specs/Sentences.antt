@@ -1,5 +1,4 @@
 -- What is wrong and what to do about it, by the number of a fault: the rows of two tables.
--- Source: this project's profile.
 use Rattle.std.specs.Prelude.{ℕ, Bool, List, [], ◌&&◌, get_or, map, nat_le}
 use Rattle.ps_explained.specs.declared.sentences.TheConstants.{MEANINGS, REMEDIES}
 

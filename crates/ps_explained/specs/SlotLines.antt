@@ -1,5 +1,4 @@
 -- The lines of a text that begin with `slot `.
--- Source: this project's profile.
 use Rattle.std.specs.Prelude.{◌≡◌, ℕ, ◌==◌, not, if◌then◌else◌, Bool, List, [], ◌∷◌, ◌++◌, codes}
 use Rattle.std.specs.List.{filter, list_all, starts_with}
 

@@ -9,8 +9,6 @@ use ps_segments::{NamedFiles, ReadSegment, SegmentPart, in_slot};
 use ps_words::{Fault, Name, Reason};
 
 /// A fault, and what of the files it is about.
-///
-/// Source: this project's profile.
 #[derive(Clone, Copy)]
 pub struct Case<'c, 'a> {
     /// The files.
@@ -27,7 +25,6 @@ pub struct Case<'c, 'a> {
 
 impl<'c, 'a> Case<'c, 'a> {
     /// The case of this fault, of the segments of a reading.
-    /// Source: this project's profile.
     pub fn new(
         inputs: &'c NamedFiles<'a>,
         reading: &'c Reading<'a>,
@@ -62,7 +59,6 @@ impl<'c, 'a> Case<'c, 'a> {
     }
 
     /// The name of the segment of its slot.
-    /// Source: this project's profile.
     pub fn name(&self) -> Option<Name> {
         match self.segment {
             Some(segment) => Some(segment.name),
@@ -97,7 +93,6 @@ impl<'c, 'a> Case<'c, 'a> {
     }
 
     /// The first library that has a host program.
-    /// Source: this project's profile.
     pub fn host_among_libraries(&self) -> Option<usize> {
         for file in 1..=self.inputs.libs.len() {
             if matches!(self.inputs.file_type(file), FileType::Code(CodeFile::Host)) {
@@ -117,7 +112,6 @@ impl<'c, 'a> Case<'c, 'a> {
     }
 
     /// The name of the unit that is missing.
-    /// Source: this project's profile.
     pub fn missing_unit(&self) -> Option<Name> {
         match self.fault.rec {
             Some(_) => Some(self.record()?.name),
@@ -126,7 +120,6 @@ impl<'c, 'a> Case<'c, 'a> {
     }
 
     /// The earlier slot that has a host program, or a unit of the name, and the name of its segment.
-    /// Source: this project's profile.
     pub fn earlier_entry(&self) -> Option<(u8, ShownName)> {
         let dict = Dict::read(self.inputs.host).ok()?;
         let (slot, name) = (self.fault.slot?, self.entry()?.name);

@@ -14,12 +14,9 @@ use ps_words::Reason;
 use std::fmt::{self, Formatter, Write};
 
 /// A refusal in words. Its text is lines, each with its end.
-///
-/// Source: this project's profile.
 #[derive(Clone, Copy)]
 pub struct Explanation<'c, 'a>(
     /// The fault, and the files that are refused for it.
-    /// Source: this project's profile.
     pub Case<'c, 'a>,
 );
 

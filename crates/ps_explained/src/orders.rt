@@ -6,12 +6,9 @@ use std::fmt::{self, Display, Formatter};
 
 /// What a file says of its byte order, or what it is where it is no code file. Its text is a phrase,
 /// as `little-endian`.
-///
-/// Source: this project's profile.
 #[derive(Clone, Copy)]
 pub struct OrderOf<'a>(
     /// The whole file.
-    /// Source: this project's profile.
     pub &'a [u8],
 );
 

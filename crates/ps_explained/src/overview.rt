@@ -111,7 +111,6 @@ fn file_lines<A: Allocator>(alloc: A, inputs: &NamedFiles<'_>) -> Result<String<
 /// `reading` is what was read of the files of `inputs`, and `list` what `ps_segments::segments_of`
 /// gives for them. Where they were read without a fault, the lines that begin with `slot ` are those
 /// of the segments of the link, by slot. Returns an error where memory was refused.
-/// Source: this project's profile.
 pub fn overview_of<A: Allocator + Copy>(
     alloc: A,
     inputs: &NamedFiles<'_>,

@@ -17,7 +17,6 @@ impl<'a> Case<'_, 'a> {
     }
 
     /// The earlier record of the name, with its index.
-    /// Source: this project's profile.
     pub fn earlier_record(&self) -> Option<(usize, LinkRecord<'a>)> {
         let sort = match self.fault.reason {
             Reason::DoubledPrivate => Sort::Private,
@@ -30,7 +29,6 @@ impl<'a> Case<'_, 'a> {
     }
 
     /// The record by which a unit itself defines the name.
-    /// Source: this project's profile.
     pub fn own_definition(&self, name: &Name) -> Option<usize> {
         match self.segment {
             Some(unit) if unit.part.is_unit() => {

@@ -35,7 +35,6 @@ impl<'a> Case<'_, 'a> {
     }
 
     /// The earlier reference that covers a byte of this one, and its record.
-    /// Source: this project's profile.
     pub fn earlier_reference(&self) -> Option<(ReferenceAt, LinkRecord<'a>)> {
         let Fault {
             file,

@@ -9,7 +9,6 @@ ghost use Rattle.ps_explained.specs.Sentences.{is_printed, remedy_of as remedy_o
 const ROWS: usize = 1 + 35;
 
 /// How many bytes a sentence has at most.
-/// Source: this project's profile.
 pub const SENTENCE_LEN: usize = 200;
 
 /// What is wrong, by the number of the fault.
@@ -176,7 +175,6 @@ fn row(table: &[&'static str], number: u8) -> &'static str
 
 /// What is wrong where files are refused for the fault of this number, in a sentence of ASCII; nothing
 /// where there is no such fault.
-/// Source: this project's profile.
 pub fn meaning_of(number: u8) -> &'static str
     ensures sentence { result.now ≡ meaning_of_spec number }
     ensures short { length result.now ≤ SENTENCE_LEN }
@@ -187,7 +185,6 @@ pub fn meaning_of(number: u8) -> &'static str
 
 /// What to do about the fault of this number, in sentences of ASCII; nothing where there is no such
 /// fault.
-/// Source: this project's profile.
 pub fn remedy_of(number: u8) -> &'static str
     ensures sentence { result.now ≡ remedy_of_spec number }
     ensures short { length result.now ≤ SENTENCE_LEN }

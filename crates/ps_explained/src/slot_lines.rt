@@ -17,7 +17,6 @@ fn is_slot_line(line: &str) -> bool
 
 /// What goes before a line that would begin as it must not: two blanks where it `begins` so, and
 /// nothing else.
-/// Source: this project's profile.
 pub fn indent(begins: bool) -> &'static str
     ensures { result.now ≡ indent_spec begins }
 {

@@ -1,5 +1,4 @@
 -- Names as they ought to be written, and names that differ only in what a careless hand changes.
--- Source: this project's profile.
 use Rattle.std.specs.Prelude.{ℕ, ◌==◌, ◌%◌, ◌&&◌, not, if◌then◌else◌, Bool, List, map}
 use Rattle.std.specs.Char.{to_ascii_uppercase}
 use Rattle.std.specs.Str.{bytes_eq}

@@ -1,5 +1,4 @@
 -- How names and paths are shown in a line for a person.
--- Source: this project's profile.
 use Rattle.std.specs.Prelude.{ℕ, ◌==◌, ◌&&◌, ◌||◌, ◌+◌, ◌/◌, ◌%◌, not, if◌then◌else◌, Bool, false, Option, Some, None, List, [], ◌∷◌, ◌++◌, length, nat_le, nat_lt, chars}
 use Rattle.std.specs.Char.{encode_utf8, is_ascii_graphic, is_control}
 use Rattle.std.specs.Fmt.{digits}

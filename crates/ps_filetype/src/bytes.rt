@@ -21,7 +21,6 @@ pub(crate) fn is_one_byte(bytes: &[u8]) -> bool
 }
 
 /// The byte that bytes are throughout, if there is one.
-/// Source: this project's profile.
 pub fn only_byte(bytes: &[u8]) -> Option<u8> {
     if is_one_byte(bytes) {
         bytes.first().copied()

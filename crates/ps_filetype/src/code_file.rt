@@ -15,8 +15,6 @@ use ps_codefile::{Dict, Entry, Role, is_nameless, open};
 use ps_words::{Name, Order, Reason, WORD_LEN, get};
 
 /// What a code file is for, by the kinds of its segments.
-///
-/// Source: this project's profile.
 #[derive(Clone, Copy)]
 pub enum CodeFile {
     /// It has a host program.
@@ -103,7 +101,7 @@ impl CodeFile {
     /// A code file has a filled entry of a kind up to 7 with a name that is not blank and of which
     /// ASCII prints each byte. Where all kinds are 0, as in a linked file, it has a code that is
     /// whole in the file and has a name. What it is for is said by each entry that is filled or
-    /// wants a unit. Source: this project's profile.
+    /// wants a unit.
     #[tactic(auto, unfolding(crate::specs::CodeFiles::code_file))]
     pub fn of(dict: &Dict<'_>) -> Option<CodeFile>
         ensures { result ≡ code_file dict.now.order dict.now.file }
@@ -116,7 +114,6 @@ impl CodeFile {
     }
 
     /// The word for it: `host`, `library`, `linked` or `mixed`.
-    /// Source: this project's profile.
     pub fn word(self) -> &'static str
         ensures { result.now ≡ code_file_word self }
     {
@@ -210,7 +207,7 @@ pub(crate) fn code_file_of(bytes: &[u8]) -> Option<CodeFile>
 /// Its entries say what it is for, as for [`CodeFile::of`]; it is no file of release III.0 or IV.0,
 /// it is not one byte throughout, and its bytes are not exchanged in pairs: so are those of a file
 /// of which each code that is to be linked has its numbers right where they are exchanged, and not
-/// as they are. Source: this project's profile.
+/// as they are.
 #[tactic(auto, unfolding(crate::specs::CodeTypes::is_code_type))]
 pub fn is_code_type(bytes: &[u8]) -> bool
     ensures { result ≡ is_code_type_spec bytes.now }
@@ -323,7 +320,6 @@ fn has_numbers(order: Order, code: &[u8], count: u8, after: usize) -> bool
 
 /// The bytes of a code are exchanged in pairs: its numbers are as they ought to be where the other
 /// byte of each pair is read.
-/// Source: this project's profile.
 #[tactic(auto, unfolding(crate::specs::CodeTypes::is_swapped))]
 pub fn is_swapped(order: Order, code: &[u8]) -> bool
     ensures { result ≡ is_swapped_spec order code.now }

@@ -11,8 +11,6 @@ use ps_words::Name;
 use std::fmt::{self, Formatter};
 
 /// What a file is, as far as a few of its bytes say. Its text is a phrase, as `a gzip file`.
-///
-/// Source: this project's profile.
 #[derive(Clone, Copy)]
 pub enum FileType {
     /// A code file.
@@ -53,7 +51,6 @@ pub enum FileType {
 
 impl FileType {
     /// What the file with these bytes is.
-    /// Source: this project's profile.
     pub fn of(bytes: &[u8]) -> FileType {
         if bytes.is_empty() {
             return FileType::Empty;
@@ -86,7 +83,6 @@ impl FileType {
     }
 
     /// The file is a code file as it ought to be.
-    /// Source: this project's profile.
     pub fn is_code(&self) -> bool {
         matches!(self, FileType::Code(_))
     }

@@ -11,8 +11,6 @@ const MANY_RETURNS: usize = 8;
 const MANY_FEEDS: usize = 16;
 
 /// How the bytes 0A and 0D of a file stand as if they were the ends of lines.
-///
-/// Source: this project's profile.
 #[derive(Clone, Copy)]
 pub enum LineEnds {
     /// Each 0A comes after a 0D.

@@ -9,8 +9,6 @@ use std::fmt::{self, Formatter};
 
 /// A name in a line for a person: without the blanks that fill it up, or, where it is blank or has
 /// a byte that ASCII does not print, in quotes with each such byte as `\x` and two digits.
-///
-/// Source: this project's profile.
 #[derive(Clone, Copy)]
 pub struct ShownName(pub Name);
 

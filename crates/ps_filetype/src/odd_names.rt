@@ -8,8 +8,6 @@ use std::fmt::{self, Formatter};
 use std::ops::RangeInclusive;
 
 /// How a name is odd.
-///
-/// Source: this project's profile.
 #[derive(Clone, Copy)]
 pub enum Oddity {
     HighBytes,
@@ -30,7 +28,6 @@ impl fmt::Display for Oddity {
 }
 
 /// One of these bytes is in the name.
-/// Source: this project's profile.
 pub fn has_any(name: &Name, bytes: RangeInclusive<u8>) -> bool {
     for byte in name {
         if bytes.contains(byte) {
@@ -42,7 +39,6 @@ pub fn has_any(name: &Name, bytes: RangeInclusive<u8>) -> bool {
 
 /// How a name is odd; none where it is as a compiler writes it, or no name. Small letters are odd
 /// only where other names have capitals.
-/// Source: this project's profile.
 pub fn oddity_of(name: &Name, are_small: bool) -> Option<Oddity> {
     if is_nameless(name) || !has_any(name, 0..=0x1F) && !has_any(name, b'a'..=0xFF) {
         None
@@ -71,8 +67,6 @@ fn plain_byte(byte: u8) -> u8
 
 /// A name as it ought to be written where a careless hand wrote it in small letters, with high bits
 /// set, or with zeros for blanks.
-///
-/// Source: this project's profile.
 pub fn plain(name: &Name) -> Name
     ensures { result ≡ plain_spec name.now }
 {
@@ -84,8 +78,6 @@ pub fn plain(name: &Name) -> Name
 }
 
 /// The names differ, and only in small letters, high bits, or zeros where blanks are expected.
-///
-/// Source: this project's profile.
 pub fn is_near(a: &Name, b: &Name) -> bool
     ensures { result ≡ is_near_spec a.now b.now }
 {

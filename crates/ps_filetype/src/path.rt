@@ -8,8 +8,6 @@ use std::fmt::{self, Formatter};
 
 /// A path in a line for a person: as it is, or, where it has a hidden character, in quotes with
 /// each of these escaped. So it never ends the line, and no part of it looks like another text.
-///
-/// Source: this project's profile.
 #[derive(Clone, Copy)]
 pub struct ShownPath<'a>(pub &'a str);
 

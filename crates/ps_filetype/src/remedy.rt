@@ -6,8 +6,6 @@ use std::fmt::{self, Formatter};
 
 /// What to do with a file of this type so that a code file is given. Its text is one sentence, or
 /// two.
-///
-/// Source: this project's profile.
 #[derive(Clone, Copy)]
 pub struct Remedy<'a> {
     pub file_type: FileType,

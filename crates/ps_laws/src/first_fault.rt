@@ -15,7 +15,6 @@ use ps_linkinfo::one_reading;
 /// missing unit has no record just where its slot wants the unit. None is computed with the number
 /// 30, which is no longer used. That no fault is computed for the steps of reading says that none
 /// applies in them.
-/// Source: this project's profile.
 pub fn first_of_all()
     ensures some { (host : List ℕ) (libs : List (List ℕ)) (f : Fault)
         → first_fault host libs ≡ Some f → IsFirst host libs f }

@@ -8,7 +8,6 @@ use ps_linkinfo::one_reading;
 /// said plainly: the number of the slot, the data size of the host's outer block, what a reference
 /// becomes, or else the input's byte. There is one linked byte at each place, and no place of a
 /// segment is covered twice, by two references or by a reference and the number or the data size.
-/// Source: this project's profile.
 pub fn bytes_are_linked()
     ensures made { (host : List ℕ) (libs : List (List ℕ)) → NoneStands host libs
         → HaveLinkedBytes host libs }
@@ -22,7 +21,6 @@ pub fn bytes_are_linked()
 
 /// The offset that runs along with the records of a link is, at each record, the base offset of the
 /// host's end mark and the words of all privates before it, by slot and then by record.
-/// Source: this project's profile.
 pub fn offsets_are_sums()
     ensures { (host : List ℕ) (libs : List (List ℕ)) → HaveSummedOffsets host libs }
 {}

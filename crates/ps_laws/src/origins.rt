@@ -13,7 +13,6 @@ use ps_linkinfo::one_reading;
 /// entry of its slot; one of role Wanted is, in the first library that has a filled entry of its
 /// name, the only such entry, a unit's. Its code is that entry's slice of its file, and its
 /// records, where it is linked, are those that the bytes after that code spell.
-/// Source: this project's profile.
 pub fn segments_have_origins()
     ensures one_each { (host : List ℕ) (libs : List (List ℕ))
         → NoneStands host libs → HaveOneEach host (segments_of host libs) }

@@ -12,7 +12,6 @@ ghost use Rattle.ps_resolve.specs.RequestedUnits.{AreAddedUnits, AreOnlyUnits, H
 /// earlier name. The k-th name takes the k-th empty slot from 7 to 15, and its segment is that of
 /// the first library that has a filled entry of the name. There is just one such queue, and one
 /// such list of segments. Each unit that a record requests then is a segment of the link.
-/// Source: this project's profile.
 pub fn added_units()
     ensures units { (host : List ℕ) (libs : List (List ℕ)) → reading_fault host libs ≡ None
         → AreAddedUnits host libs }

@@ -1,6 +1,5 @@
 -- The map of a link: its segments by slot, the definitions in record order, the privates by slot
 -- and then by record, and what is free after them.
--- Source: this project's profile.
 use Rattle.std.specs.Prelude.{ℕ, ◌+◌, List, [], ◌∷◌, ◌++◌, length, map, codes}
 use Rattle.ps_resolve.specs.Sources.{Segment, order_of, host_records}
 use Rattle.ps_resolve.specs.Added.{segments}

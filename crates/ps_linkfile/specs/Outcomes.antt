@@ -1,5 +1,4 @@
 -- What a link leaves in its writer, and what each of its errors says.
--- Source: this project's profile.
 use Rattle.std.specs.Prelude.{◌≡◌, ◌≢◌, ℕ, List, Option, Some, None, ⊤}
 use Rattle.std.specs.Io.KnownBytes.{Appends}
 use Rattle.ps_words.specs.FaultText.{number_of}

@@ -1,6 +1,5 @@
 -- What a link stores in each segment: by slot and then by place, a row for the number of the
 -- segment, for the data size of the host's outer block, and for each reference.
--- Source: this project's profile.
 use Rattle.std.specs.Prelude.{ℕ, ◌+◌, ◌*◌, ◌==◌, if◌then◌else◌, Bool, false, List, [], ◌∷◌, ◌++◌, length, map, take, drop, codes, Option, Some, None}
 use Rattle.std.specs.List.{flat_map, enumerate_from, filter, list_any, range_with_len}
 use Rattle.std.specs.Option.{option_or}

@@ -1,6 +1,5 @@
 -- What a code file has: its byte order, its sixteen slots, and the link information of each segment
 -- that is to be linked, record by record.
--- Source: this project's profile.
 use Rattle.std.specs.Prelude.{◌≡◌, ℕ, ◌==◌, ◌&&◌, ◌||◌, if◌then◌else◌, List, [], ◌∷◌, ◌++◌, length, map, nat_lt, codes, not, Bool, Option, Some, None, Ok, Err}
 use Rattle.std.specs.List.{flat_map, enumerate_from, filter, list_any}
 use Rattle.std.specs.Str.{bytes_eq}

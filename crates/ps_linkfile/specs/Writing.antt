@@ -1,5 +1,4 @@
 -- The file that a plan of a link stands for, and what a plan is owed so that it can be written.
--- Source: this project's profile.
 use Rattle.std.specs.Prelude.{◌≡◌, ℕ, ◌+◌, ◌<◌, ◌≤◌, List, [], ◌∷◌, ◌++◌, length, map, All, ⊤}
 use Rattle.ps_words.specs.Edits.{AreEdits}
 use Rattle.ps_words.specs.declared.order.Order.{Order}

@@ -15,7 +15,6 @@ const MAX_SEGMENTS: usize = SLOT_COUNT;
 
 /// How many blocks a linked file has at most: one for its segment dictionary, and those of the
 /// longest code in each slot.
-/// Source: this project's profile.
 pub const MAX_FILE_BLOCKS: usize = 1 + MAX_SEGMENTS * MAX_CODE_BLOCKS;
 
 /// The blocks of a linked file.

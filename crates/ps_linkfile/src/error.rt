@@ -9,8 +9,6 @@ use std::alloc::AllocError;
 use thiserror::Error;
 
 /// Why there is no linked file, or only a prefix of it.
-///
-/// Source: this project's profile.
 #[derive(Debug, Drop, Error)]
 pub enum LinkError {
     /// The files are refused for this fault, the first of all. Nothing was written.

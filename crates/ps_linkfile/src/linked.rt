@@ -27,7 +27,6 @@ use std::marker::Model;
 
 /// A link that was checked and can be written, any number of times. It has views of the inputs, and
 /// no copy of them.
-/// Source: this project's profile.
 #[derive(Drop)]
 pub struct Linked<'a, A: Allocator + Copy = Global> {
     plan: Plan<'a, A>,
@@ -48,7 +47,6 @@ impl<'a, A: Allocator + Copy> Linked<'a, A> {
     /// What the linked file has, in numbers, before it is written: its segments, the words of all
     /// its private variables, and its blocks of 512 bytes, the segment dictionary's counted, of
     /// which there are at most `MAX_FILE_BLOCKS`. So many bytes `write` writes.
-    /// Source: this project's profile.
     #[tactic(auto, using(crate::proofs::Blocks::few_codes, crate::proofs::Blocks::few_blocks))]
     pub fn summary(&self) -> Summary
         ensures value { result ≡ summary_in self.now }
@@ -65,7 +63,6 @@ impl<'a, A: Allocator + Copy> Linked<'a, A> {
     ///
     /// Refuses `Device` where a write returned an error, which is not repeated, and `Stalled` where
     /// a write of at least one byte took none. The writer then has a prefix of the linked file.
-    /// Source: this project's profile.
     #[tactic(auto, using(ps_writing::proofs::Prefixes::on_err_always))]
     pub fn write<W: Write>(&self, out: &mut W) -> Result<Summary, WriteFault>
         ensures file { OnOk result (Appends (W.contents out.old) (W.contents out.new)
@@ -86,7 +83,6 @@ impl<'a, A: Allocator + Copy> Linked<'a, A> {
     /// error, which is not repeated: `errors` has then risen by one, and `stalls` not. Refuses
     /// `Stalled` where a write of at least one byte took none: `stalls` has then risen by one, and
     /// `errors` not. The writer then has a prefix of the linked file.
-    /// Source: this project's profile.
     #[tactic(auto, using(ps_writing::proofs::Prefixes::on_err_always, ps_writing::proofs::Rising::by_pieces))]
     pub fn write_told<W: ToldWriter>(&self, out: &mut W) -> Result<Summary, WriteFault>
         requires { AreAtMost (W.counts out.old) 4294967296 }
@@ -131,7 +127,6 @@ impl<'a, A: Allocator + Copy> Linked<'a, A> {
 /// `host` and each of `libs` are whole code files; of the libraries that have a unit, the first is
 /// used. Refuses `Refused` with the first fault of all, and `Memory` where memory was refused,
 /// which is requested only once the files were read and have no fault.
-/// Source: this project's profile.
 pub fn prepare<'a, A: Allocator + Copy>(
     alloc: A,
     host: &'a [u8],

@@ -7,7 +7,6 @@ use ps_resolve::slot_names_are_whole;
 
 /// The linked file of a host and its libraries is one list and no other, and it is there wherever
 /// no fault applies.
-/// Source: this project's profile.
 pub fn linked_file_is_one()
     ensures one { (host : List ℕ) (libs : List (List ℕ)) (file : List ℕ)
         → LinkedFile host libs file → file ≡ linked_file host libs }

@@ -189,7 +189,6 @@ impl<A: Allocator + Copy> Text for LinkMap<'_, '_, A> {
 /// `host` and each of `libs` are whole code files; of the libraries that have a unit, the first is
 /// used. Refuses what `link` refuses: `Refused` with the first fault of all, and `Memory` where
 /// memory was refused, which is requested only once the files were read and have no fault.
-/// Source: this project's profile.
 pub fn map_text<'a, A: Allocator + Copy>(
     alloc: A,
     host: &'a [u8],

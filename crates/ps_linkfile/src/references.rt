@@ -153,7 +153,6 @@ fn add_references<S: TextWriter, A: Allocator>(
 }
 
 /// The map of a link that was checked, and what the link stores: each operand, number and data size.
-/// Source: this project's profile.
 #[derive(Drop)]
 pub struct ReferenceMap<'a, A: Allocator + Copy = Global> {
     linked: Linked<'a, A>,
@@ -170,7 +169,6 @@ impl<'a, A: Allocator + Copy> Model for ReferenceMap<'a, A> {
 
 impl<'a, A: Allocator + Copy> ReferenceMap<'a, A> {
     /// The link itself, whose linked file can be written too.
-    /// Source: this project's profile.
     pub fn linked(&self) -> &Linked<'a, A>
         ensures { result.now ≡ self.now.plan }
     {
@@ -213,7 +211,6 @@ impl<A: Allocator + Copy> Text for References<'_, '_, A> {
 /// `host` and each of `libs` are whole code files; of the libraries that have a unit, the first is
 /// used. Refuses what `prepare` refuses: `Refused` with the first fault of all, and `Memory` where
 /// memory was refused, which is requested only once the files were read and have no fault.
-/// Source: this project's profile.
 pub fn prepare_references<'a, A: Allocator + Copy>(
     alloc: A,
     host: &'a [u8],

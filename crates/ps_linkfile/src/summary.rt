@@ -1,6 +1,4 @@
 /// What a linked file has, in numbers.
-///
-/// Source: this project's profile.
 #[derive(Clone, Copy, Debug, PartialEq, Eq)]
 pub struct Summary {
     /// How many segments it has: slots of the host that have a code, at most 16.

@@ -1,5 +1,4 @@
 -- What a walk over link information has left to give.
--- Source: this project's profile.
 use Rattle.std.specs.Prelude.{List, [], ◌∷◌, ◌++◌, drop, map, if◌then◌else◌, Option, Some, None, Result, Ok, Err, filter_map}
 use Rattle.std.specs.Result.{result_ok}
 use Rattle.ps_linkinfo.specs.Records.{reading}

@@ -1,5 +1,4 @@
 -- Records with their indices.
--- Source: this project's profile.
 use Rattle.std.specs.Prelude.{ℕ, ◌+◌, List, [], ◌∷◌}
 use Rattle.ps_linkinfo.specs.declared.record.LinkRecord.{LinkRecord as Record}
 

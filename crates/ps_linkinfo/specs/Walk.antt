@@ -1,6 +1,5 @@
 -- A walk over link information, record by record: where it is, what it may give next, which records
 -- it has given.
--- Source: this project's profile.
 use Rattle.std.specs.Prelude.{◌≡◌, ℕ, ◌+◌, ◌-◌, ◌/◌, if◌then◌else◌, length, List, drop, Bool, true, false, Option, Some, None, Result, Ok, Err}
 use Rattle.ps_words.specs.declared.order.Order.{Order}
 use Rattle.ps_words.specs.declared.fault.Reason.{Reason}

@@ -80,7 +80,6 @@ impl<'a> LinkInformation<'a> {
     }
 
     /// No records at all, not even an EOFMARK.
-    /// Source: this project's profile.
     pub fn none() -> Self
         ensures { result ≡ [] }
     {
@@ -116,8 +115,6 @@ impl<'a> LinkInformation<'a> {
 
     /// The records up to the EOFMARK or up to the first fault, whichever comes first. It takes no
     /// memory.
-    ///
-    /// Source: this project's profile.
     pub fn up_to_fault(order: Order, bytes: &'a [u8]) -> Self
         ensures { result ≡ (reading order bytes.now).0 }
     {
@@ -126,7 +123,6 @@ impl<'a> LinkInformation<'a> {
     }
 
     /// A copy of the link information, which borrows the same bytes.
-    /// Source: this project's profile.
     pub fn copy(&self) -> LinkInformation<'a>
         ensures { result ≡ self.now }
     {
@@ -134,7 +130,6 @@ impl<'a> LinkInformation<'a> {
     }
 
     /// How many records there are, the EOFMARK included. They are walked, since no link asks.
-    /// Source: this project's profile.
     pub fn len(&self) -> usize
         ensures { result ≡ length self.now }
     {
@@ -146,7 +141,6 @@ impl<'a> LinkInformation<'a> {
     }
 
     /// There is no record, not even an EOFMARK.
-    /// Source: this project's profile.
     pub fn is_empty(&self) -> bool
         ensures { result ≡ (length self.now == 0) }
     {
@@ -207,7 +201,6 @@ impl<'a> LinkInformation<'a> {
 
     /// The state of a hash of the names of the records that define a name or request a private:
     /// eight bytes each, in the order of the records, and nothing else.
-    /// Source: this project's profile.
     #[tactic(auto, using(crate::proofs::Digests::all_left, crate::proofs::Digests::taken, crate::proofs::Digests::passed))]
     pub fn digest(&self) -> DefaultHasher
         ensures { result ≡ digest_of self.now }
@@ -222,7 +215,6 @@ impl<'a> LinkInformation<'a> {
     }
 
     /// Each record with its index, from 0.
-    /// Source: this project's profile.
     pub fn records(&self) -> NumberedRecords<'a>
         ensures { result ≡ numbered_spec 0 self.now }
     {

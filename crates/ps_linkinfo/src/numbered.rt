@@ -14,8 +14,6 @@ use std::marker::Model;
 ///
 /// It takes no memory, and walks by [`Records`](crate::Records): a fault after the records is not
 /// given.
-///
-/// Source: this project's profile.
 #[derive(Drop)]
 pub struct NumberedRecords<'a> {
     records: Records<'a>,

@@ -8,7 +8,6 @@ use ps_words::{Order, Reason};
 use std::alloc::{AllocFailed, Allocator};
 
 /// Why no list of records was read.
-/// Source: this project's profile.
 #[derive(Clone, Copy, Debug, PartialEq, Eq)]
 pub enum ReadStop {
     /// A fault occurs in place of a record. `rec` records precede it, so `rec` is the index, from

@@ -10,7 +10,6 @@ ghost use Rattle.ps_linkinfo.specs.Left.{items_of, items_left, records_left, fau
 
 /// Bytes spell one list of records at most, and none where a fault stops their reading; and
 /// `reading` computes which of the two it is.
-/// Source: this project's profile.
 pub fn one_reading()
     ensures one { (order : ByteOrder) (bytes : List ℕ) (rs others : List Record)
         → Spells order bytes rs → Spells order bytes others → others ≡ rs }
@@ -24,7 +23,6 @@ pub fn one_reading()
 {}
 
 /// The name of each record that is read has eight bytes.
-/// Source: this project's profile.
 pub fn names_are_whole()
     ensures { (order : ByteOrder) (bytes : List ℕ)
         → All (λ r. length r.name ≡ 8) (reading order bytes).0 }
@@ -32,7 +30,6 @@ pub fn names_are_whole()
 
 /// A walk from the start has all items of the reading to give: its records, then its fault, if any.
 /// A walk has one item at most for each 16 bytes, and one for a fault.
-/// Source: this project's profile.
 pub fn walk_from_start()
     ensures items { (order : ByteOrder) (bytes : List ℕ)
         → items_left (whole_walk order bytes) ≡ items_of (reading order bytes) }
@@ -47,7 +44,6 @@ pub fn walk_from_start()
 
 /// The records that a walk has given are those whose spellings, one after another, are the first
 /// `used` of its bytes.
-/// Source: this project's profile.
 pub fn walk_so_far()
     ensures start { (order : ByteOrder) (bytes : List ℕ) → HasGiven (whole_walk order bytes) [] }
     ensures more { (old new : Walk) (rs : List Record) (r : Record)

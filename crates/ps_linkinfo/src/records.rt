@@ -39,7 +39,6 @@ impl<'a> Model for Records<'a> {
 
 impl<'a> Records<'a> {
     /// A walk that begins at the first of the bytes.
-    /// Source: this project's profile.
     pub fn new(order: Order, bytes: &'a [u8]) -> Self
         ensures { result ≡ whole_walk order bytes.now }
     {
@@ -52,7 +51,6 @@ impl<'a> Records<'a> {
     }
 
     /// How many bytes the records given so far take. A fault takes none.
-    /// Source: this project's profile.
     pub fn used(&self) -> usize
         ensures { result ≡ self.now.used }
     {

@@ -44,7 +44,6 @@ fn is_named(entry: &LinkRecord<'_>, name: &Name, sort: Sort) -> bool
 
 impl<'a> LinkInformation<'a> {
     /// The record with this index, from 0; `None` where there are not so many.
-    /// Source: this project's profile.
     pub fn record(&self, rec: usize) -> Option<LinkRecord<'a>>
         ensures { result ≡ slice_get self.now rec }
     {
@@ -57,7 +56,6 @@ impl<'a> LinkInformation<'a> {
     }
 
     /// The first record of this name and sort, with its index from 0.
-    /// Source: this project's profile.
     pub fn find(&self, name: &Name, sort: Sort) -> Option<(usize, LinkRecord<'a>)>
         ensures { result ≡ first_named name.now sort (numbered_records 0 self.now) }
     {

@@ -1,5 +1,4 @@
 -- What files have, as values: those of a file, and those of each of its segments.
--- Source: this project's profile.
 use Rattle.std.specs.Prelude.{ℕ, ◌==◌, ◌||◌, not, is_none, is_err, if◌then◌else◌, List, [], length, Bool, true, false, Option, Some, None, Result, Ok, Err}
 use Rattle.std.specs.List.{filter_map, list_any}
 use Rattle.ps_words.specs.FaultPlaces.{in_file, in_slot}

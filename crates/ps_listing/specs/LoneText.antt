@@ -1,5 +1,4 @@
 -- The units of a file by themselves: a line of each, made for grep, and an item of a JSON document.
--- Source: this project's profile.
 use Rattle.std.specs.Prelude.{ℕ, ◌||◌, List, [], ◌∷◌, ◌++◌, codes, Bool, true, false, Option, Some, None, Result, Ok, Err, is_some, length, ◌==◌}
 use Rattle.std.specs.List.{filter_map, flat_map, list_any}
 use Rattle.ps_words.specs.FaultText.{part_text}

@@ -18,7 +18,6 @@ use ps_writing::{Form, TextWriter, add_number, add_part, add_slot_name, separato
 use std::alloc::{AllocError, Allocator};
 
 /// A unit whose code a file has, and what is wrong with it by itself.
-/// Source: this project's profile.
 #[derive(Clone, Copy, Debug, PartialEq, Eq)]
 pub struct LoneUnit {
     /// The slot of its entry in the segment dictionary, 0 to 15.
@@ -106,7 +105,6 @@ fn has_refused(units: &[LoneUnit]) -> bool
 }
 
 /// There is no unit, or one that has a fault.
-/// Source: this project's profile.
 pub fn has_no_sound(units: &[LoneUnit]) -> bool
     ensures { result ≡ has_no_sound_spec units.now }
 {

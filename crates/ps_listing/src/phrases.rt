@@ -6,7 +6,7 @@ use std::fmt::Write as _;
 /// What the file with these bytes is, as `a gzip file`; nothing where it is a code file as it ought
 /// to be.
 ///
-/// Refused where memory was. Source: this project's profile.
+/// Refused where memory was.
 pub fn phrase<A: Allocator + Copy>(alloc: A, file: &[u8]) -> Result<String<A>, AllocError> {
     let mut phrase = String::new(alloc);
     let file_type = FileType::of(file);

@@ -33,7 +33,6 @@ fn has_host(file: &[u8]) -> bool
 
 /// Some of these files has a host program: its list says that it is a host. A file that cannot be
 /// opened has none.
-/// Source: this project's profile.
 pub fn has_host_among(libs: &[&[u8]]) -> bool
     ensures { result ≡ has_host_among_spec (contents libs.now) }
 {

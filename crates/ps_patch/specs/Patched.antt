@@ -1,5 +1,4 @@
 -- A segment's code after one of its edits, and in whole blocks after all of them.
--- Source: this project's profile.
 use Rattle.std.specs.Prelude.{ℕ, ◌-◌, if◌then◌else◌, List, find, slice_index, length, nat_lt}
 use Rattle.std.specs.Option.{option_map_or}
 use Rattle.ps_words.specs.Edits.{covers, patched_byte, place_of, stored_bytes}

@@ -1,5 +1,4 @@
 -- What a patcher works on and how far it is, and what it knows of the edits that it is done with.
--- Source: this project's profile.
 use Rattle.std.specs.Prelude.{◌≡◌, ℕ, ◌+◌, ◌<◌, ◌≤◌, List, [], ◌∷◌, drop, find, length, ⊤}
 use Rattle.ps_words.specs.Edits.{AreEdits, covers, place_of, width}
 use Rattle.ps_words.specs.declared.order.Order.{Order}

@@ -11,7 +11,6 @@ use std::marker::Model;
 ///
 /// Contracts see the byte order, the code, the edits and the position, which is the number of
 /// bytes of the code that were given.
-/// Source: this project's profile.
 #[derive(Drop)]
 pub struct Patcher<'a> {
     order: Order,
@@ -150,7 +149,6 @@ impl<'a> Patcher<'a> {
     /// Words are stored in the given order, operands in their one form. The edits have to lie
     /// inside the code, in ascending order of place, no two on one byte, and each BIG value has
     /// to be at most `MAX_OPERAND`.
-    /// Source: this project's profile.
     pub fn new(order: Order, code: &'a [u8], edits: &'a [Edit]) -> Self
         requires { AreEdits (length code.now) edits.now }
         ensures { result ≡ record {
@@ -174,7 +172,6 @@ impl<'a> Patcher<'a> {
     ///
     /// The position moves on by that number. An operand or a word across two blocks is stored in
     /// both.
-    /// Source: this project's profile.
     pub fn fill(&mut self, block: &mut [u8; BLOCK_SIZE]) -> usize
         ensures block { (k : ℕ) → k < 512 → slice_index block.new k
             ≡ patched_or_zero self.old.order self.old.code self.old.edits (self.old.position + k) }

@@ -24,7 +24,6 @@ pub(crate) fn store_at(order: Order, bytes: &mut [u8], at: usize, edit: Edit)
 /// Words are stored in the given order, operands in their one form. The edits have to lie inside
 /// the code, in ascending order of place, no two on one byte, and each BIG value has to be at
 /// most `MAX_OPERAND`.
-/// Source: this project's profile.
 pub fn apply(order: Order, code: &mut [u8], edits: &[Edit])
     requires { AreEdits (length code.old) edits.now }
     ensures bytes { (p : ℕ) → slice_index code.new p ≡ patched_byte order code.old edits.now p }

@@ -1,6 +1,5 @@
 -- Units that only a unit names: which names are looked up in the libraries, which empty slot each
 -- takes, the segments that are added so, and then all segments of a link.
--- Source: this project's profile.
 use Rattle.std.specs.Prelude.{◌≡◌, ◌⊎◌, ◌≤◌, ℕ, ◌+◌, ◌==◌, ◌||◌, if◌then◌else◌, List, [], ◌∷◌, ◌++◌, length, map, slice_get, All, Bool, true, Option, Some, None, is_some, bytes_eq}
 use Rattle.std.specs.List.{range_with_len, list_any, filter, filter_map, flat_map, find}
 use Rattle.std.specs.Map.{lookup}

@@ -1,5 +1,4 @@
 -- The name of what a fault is about: that of the record that is at fault, or that of the slot.
--- Source: this project's profile.
 use Rattle.std.specs.Prelude.{ℕ, if◌then◌else◌, List, Option, Some, None, Result, Ok, Err, nat_le, option_and_then, slice_get, unwrap_or}
 use Rattle.std.specs.List.{find}
 use Rattle.std.specs.Option.{option_map, option_map_or}

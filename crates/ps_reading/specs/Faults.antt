@@ -1,6 +1,5 @@
 -- The faults of reading the files of a link, step by step: of each step the first fault in its own
 -- order, and a later step is looked at only where no earlier one has a fault.
--- Source: this project's profile.
 use Rattle.std.specs.Prelude.{ℕ, ◌==◌, ◌&&◌, not, if◌then◌else◌, List, length, Bool, false, Option, Some, None, Ok, Err, option_and_then, bytes_eq}
 use Rattle.std.specs.List.{range_with_len, list_any, find, enumerate_from}
 use Rattle.std.specs.Option.{option_map, option_map_or, option_or}

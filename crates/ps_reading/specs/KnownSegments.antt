@@ -1,5 +1,4 @@
 -- What is known of the segments that were read, and which of them is in which slot.
--- Source: this project's profile.
 use Rattle.std.specs.Prelude.{◌≡◌, ◌≤◌, ◌*◌, ◌==◌, nat_lt, if◌then◌else◌, ℕ, All, List, [], ◌∷◌, length, drop, Bool, true, false, Option, Some, None, ◌&&◌, ◌+◌, map, Result, ⊤, ◌<◌}
 use Rattle.std.specs.List.{find, filter_map, list_any, Contains}
 use Rattle.std.specs.Option.{option_or}

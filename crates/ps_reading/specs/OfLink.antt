@@ -1,5 +1,4 @@
 -- What is known of each segment of a link whose files were read without a fault.
--- Source: this project's profile.
 use Rattle.std.specs.Prelude.{◌≡◌, ◌⊎◌, ◌<◌, ℕ, List, [], take, slice_get, true, false, Ok, Some, None, All}
 use Rattle.ps_words.specs.declared.order.Order.{Order}
 use Rattle.ps_codefile.specs.Dictionary.{entry_at, code_of, information_of}

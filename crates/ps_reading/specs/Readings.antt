@@ -1,6 +1,5 @@
 -- What is read of each slot of a host, also after the first fault, and the names that are
 -- requested.
--- Source: this project's profile.
 use Rattle.std.specs.Prelude.{◌≡◌, ◌≤◌, ℕ, ◌==◌, ◌++◌, if◌then◌else◌, List, [], length, take, slice_get, All, false, Option, Some, None, Result, Ok, Err, is_none, option_and_then}
 use Rattle.std.specs.List.{enumerate_from, filter_map, find}
 use Rattle.std.specs.Option.{option_map, option_map_or, option_or}

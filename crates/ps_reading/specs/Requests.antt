@@ -1,6 +1,5 @@
 -- Requests for a unit: who requests it, the slot that it takes, when it is missing, and its
 -- segment.
--- Source: this project's profile.
 use Rattle.std.specs.Prelude.{ℕ, ◌||◌, List, Bool, true, Option, is_none, option_and_then, option_map}
 use Rattle.ps_words.specs.FaultPlaces.{in_record, in_slot}
 use Rattle.ps_words.specs.declared.order.Order.{Order}

@@ -1,5 +1,4 @@
 -- Searches for the first fault in a list of things that are looked at one after another.
--- Source: this project's profile.
 use Rattle.std.specs.Prelude.{List, [], ◌∷◌, Bool, true, false, Option, Some, None}
 use Rattle.std.specs.Option.{option_or}
 

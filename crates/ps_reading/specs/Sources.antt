@@ -1,6 +1,5 @@
 -- The segments that the host's own slots have in a linked file, and where each comes from: the host
 -- file, and for a wanted unit the first library that has a filled entry of its name.
--- Source: this project's profile.
 use Rattle.std.specs.Prelude.{ℕ, ◌+◌, ◌&&◌, if◌then◌else◌, List, [], ◌∷◌, slice_get, map, Bool, false, Option, Some, None, unwrap_or, option_and_then, bytes_eq}
 use Rattle.std.specs.Borrow.{Bor}
 use Rattle.std.specs.List.{list_any, filter_map, find, enumerate_from}

@@ -6,7 +6,6 @@ ghost use Rattle.ps_words.specs.FaultPlaces.{in_record};
 use ps_words::{Fault, Reason};
 
 /// Where a segment is.
-/// Source: this project's profile.
 #[derive(Clone, Copy, Debug, PartialEq, Eq)]
 pub struct SegmentAt {
     /// The file that it comes from: 0 is the host file, k the k-th library, from 1.
@@ -16,7 +15,6 @@ pub struct SegmentAt {
 }
 
 /// Where a record is.
-/// Source: this project's profile.
 #[derive(Clone, Copy, Debug, PartialEq, Eq)]
 pub struct RecordAt {
     /// Its segment.
@@ -26,7 +24,6 @@ pub struct RecordAt {
 }
 
 /// Where a reference is.
-/// Source: this project's profile.
 #[derive(Clone, Copy, Debug, PartialEq, Eq)]
 pub struct ReferenceAt {
     /// Its record.
@@ -37,7 +34,6 @@ pub struct ReferenceAt {
 
 /// Where an entry of a segment dictionary is. Its slot there need not be that of its segment in the
 /// host, so it is no `SegmentAt`.
-/// Source: this project's profile.
 #[derive(Clone, Copy, Debug, PartialEq, Eq)]
 pub struct EntryAt {
     /// The file: 0 is the host file, k the k-th library, from 1.
@@ -48,7 +44,6 @@ pub struct EntryAt {
 
 impl SegmentAt {
     /// Where the record of this index, from 0, of the segment's link information is.
-    /// Source: this project's profile.
     pub fn record(self, rec: usize) -> RecordAt
         ensures { result ≡ record { segment = self; rec = rec } }
     {
@@ -58,7 +53,6 @@ impl SegmentAt {
 
 impl RecordAt {
     /// The fault of the record that has this reason.
-    /// Source: this project's profile.
     pub fn fault(self, reason: Reason) -> Fault
         ensures { result ≡ in_record self.segment.file self.segment.slot self.rec reason }
     {

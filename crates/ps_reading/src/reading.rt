@@ -60,7 +60,6 @@ fn slot_name(host: &HostSlots, segments: &[Segment], slot: u8) -> Name
 
 /// The names of all slots, 0 to 15, in the linked file of this host: of each slot that one of these
 /// segments is in that segment's name, and of the others the host's own.
-/// Source: this project's profile.
 pub fn slot_names(host: &HostSlots, segments: &[Segment]) -> [Name; SLOT_COUNT]
     ensures { result ≡ slot_names_spec host.now.file segments.now }
 {
@@ -87,7 +86,6 @@ fn files_fault(host: &HostSlots, libs: &[&[u8]]) -> Option<Fault>
 }
 
 /// What was requested in the rounds that add units to the own segments of a host.
-/// Source: this project's profile.
 #[derive(Drop)]
 pub struct AddedUnits {
     /// The empty slots that a unit may be added in, 7 to 15, ascending.
@@ -104,7 +102,6 @@ pub struct AddedUnits {
 /// Reads the own slots of a host and its libraries: fills the table, which has to be empty, with the
 /// own segments that have no fault, by slot ascending, and returns the first fault: of the slots, of
 /// the want of a host segment, of the libraries, or of the sources of the slots.
-/// Source: this project's profile.
 pub fn read_own<'a>(
     host: &HostSlots<'a>,
     libs: &'a [&'a [u8]],
@@ -125,7 +122,6 @@ pub fn read_own<'a>(
 /// the table, each in its place by slot, and returns what was requested, with the fault of the first
 /// unit that cannot be added. A function by itself, so that the queue takes room of the stack only
 /// until it returns.
-/// Source: this project's profile.
 #[inline(never)]
 pub fn read_added<'a>(
     host: &HostSlots<'a>,
@@ -258,7 +254,6 @@ impl<'a> HostReading<'a> {
     /// The first fault of the host and its libraries, in their order: of the host's slots, of its
     /// want of a host segment, of the libraries, of the sources of its slots, and of the units that
     /// are added.
-    /// Source: this project's profile.
     pub fn fault(&self) -> Option<Fault>
         ensures { result ≡ host_reading_fault self.now.order self.now.file self.now.libs }
     {
@@ -283,7 +278,6 @@ impl<'a> HostReading<'a> {
     }
 
     /// What a slot of the host, 0 to 15, is for, or why its kind is refused.
-    /// Source: this project's profile.
     pub fn role(&self, slot: u8) -> Result<Role, Reason>
         requires { slot < SLOTS }
         ensures { result ≡ role_of (entry_at self.now.order self.now.file slot) }
@@ -293,7 +287,6 @@ impl<'a> HostReading<'a> {
 
     /// The request for a unit that a slot, 0 to 15, has, if it has one: its own, where it wants a unit,
     /// or that of a name that is requested, which takes the slot if it is empty.
-    /// Source: this project's profile.
     #[tactic(auto, using(crate::proofs::ReadingSlots::request_by))]
     pub fn request(&self, slot: u8) -> Option<Request>
         requires { slot < SLOTS }
@@ -323,7 +316,6 @@ impl<'a> HostReading<'a> {
 
     /// What was read of a slot, 0 to 15: its segment, or the first fault of its source or of the
     /// unit that would be added there; `None` where it has none of its own and no unit is added.
-    /// Source: this project's profile.
     #[tactic(auto, using(crate::proofs::EachSegment::find_has))]
     pub fn segment(&self, slot: u8) -> Option<Result<&Segment<'a>, Fault>>
         requires { slot < SLOTS }
@@ -357,7 +349,6 @@ impl<'a> HostReading<'a> {
 
     /// Where the segment of a slot, 0 to 15, comes from, also where it is refused: `None` where it
     /// has none, or where no library has the unit that it wants or that is requested.
-    /// Source: this project's profile.
     pub fn source(&self, slot: u8) -> Option<EntryAt>
         requires { slot < SLOTS }
         ensures { option_map (λ p. (p.file, p.index)) result ≡ slot_entry self.now.order
@@ -377,7 +368,6 @@ impl<'a> HostReading<'a> {
 
     /// The library of this index, from 0, read beside the host, or why it cannot be opened; `None`
     /// where there are not so many.
-    /// Source: this project's profile.
     pub fn library(&self, index: usize) -> Option<Result<Dict<'a>, Reason>>
         ensures { result
             ≡ option_map (opened_beside self.now.order) (slice_get self.now.libs index) }
@@ -390,7 +380,6 @@ impl<'a> HostReading<'a> {
 
     /// The names that are requested and that no unit of the host has, each with the UNITREF record
     /// that first gave it, in that order; of more than ten the first ten.
-    /// Source: this project's profile.
     pub fn requested(&self) -> &[UnitReference]
         ensures { result.now
             ≡ read_requests self.now.order self.now.file (opened_files self.now.order self.now.libs) }
@@ -399,7 +388,6 @@ impl<'a> HostReading<'a> {
     }
 
     /// The segments that have no fault, by slot ascending.
-    /// Source: this project's profile.
     pub fn segments(&self) -> &[Segment<'a>]
         ensures { result.now
             ≡ all_read self.now.order self.now.file (opened_files self.now.order self.now.libs) }
@@ -409,7 +397,6 @@ impl<'a> HostReading<'a> {
 }
 
 /// What was read of the files of a link.
-/// Source: this project's profile.
 #[derive(Drop)]
 pub struct Reading<'a> {
     file: &'a [u8],
@@ -431,8 +418,6 @@ impl<'a> Model for Reading<'a> {
 
 /// Reads a host file and the libraries that have the units it wants, in their order. It takes no
 /// memory, and refuses nothing: what is wrong with the files is in what it returns.
-///
-/// Source: this project's profile.
 pub fn read<'a>(host: &'a [u8], libs: &'a [&'a [u8]]) -> Reading<'a>
     ensures { result ≡ record { host = host.now; libs = contents libs.now } }
 {
@@ -450,7 +435,6 @@ pub fn read<'a>(host: &'a [u8], libs: &'a [&'a [u8]]) -> Reading<'a>
 impl<'a> Reading<'a> {
     /// The host as it was read, or why it cannot be opened: `ShortFile`, `NoOrder`, or `NoHost`
     /// where all its kinds are 0.
-    /// Source: this project's profile.
     pub fn host(&self) -> Result<&HostReading<'a>, Reason>
         ensures opened { IfOk result (λ host. opened_host self.now.host self.now.libs
             ≡ Ok host.now) }
@@ -465,7 +449,6 @@ impl<'a> Reading<'a> {
 
     /// The first fault of reading the files: of the host, its slots, the want of a host segment,
     /// the libraries, the sources of the slots, and the units that are added.
-    /// Source: this project's profile.
     #[tactic(auto, using(crate::proofs::ReadingSlots::fault_of_host))]
     pub fn fault(&self) -> Option<Fault>
         ensures { result ≡ reading_fault self.now.host self.now.libs }
@@ -478,7 +461,6 @@ impl<'a> Reading<'a> {
 
     /// The segments that have no fault, by slot ascending: those of the link, where reading has no
     /// fault, and none where the host cannot be opened.
-    /// Source: this project's profile.
     pub fn segments(&self) -> &[Segment<'a>]
         ensures read { result.now ≡ segments_read self.now.host self.now.libs }
         ensures all { reading_fault self.now.host self.now.libs ≡ None → result.now

@@ -8,7 +8,6 @@ use ps_linkinfo::names_are_whole;
 
 /// The names of the sixteen slots of a linked file have 128 bytes, eight each, where the host has a
 /// whole segment dictionary.
-/// Source: this project's profile.
 #[tactic(auto, using(crate::proofs::WholeNames::names_whole))]
 pub fn slot_names_are_whole()
     ensures { (order : ByteOrder) (host : List ℕ) (libs : List (List ℕ)) → 512 ≤ length host

@@ -1,5 +1,4 @@
 -- Libraries that stand elsewhere in a command, and segments whose files have other numbers so.
--- Source: this project's profile.
 use Rattle.std.specs.Prelude.{ℕ, ◌+◌, ◌-◌, ◌==◌, if◌then◌else◌, List, nat_lt}
 use Rattle.ps_resolve.specs.Sources.{Segment}
 use Rattle.ps_resolve.specs.Standing.Sources.{HasEntry}

@@ -1,5 +1,4 @@
 -- Links whose segments are the same, from whichever files they come.
--- Source: this project's profile.
 use Rattle.std.specs.Prelude.{◌≡◌, ℕ, ◌<◌, List, map, false, None}
 use Rattle.ps_codefile.specs.Dictionary.{name_at, tail_of}
 use Rattle.ps_resolve.specs.Sources.{Segment, order_of}

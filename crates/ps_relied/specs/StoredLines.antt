@@ -1,5 +1,4 @@
 -- What the lines of the references of a link say of its codes.
--- Source: this project's profile.
 use Rattle.std.specs.Prelude.{◌≡◌, ℕ, ◌+◌, ◌*◌, ◌<◌, ◌≤◌, List, length, take, drop, All, slice_get, slice_index, Some}
 use Rattle.ps_codefile.specs.Dictionary.{block_len}
 use Rattle.ps_resolve.specs.LinkedBytes.{segments_of}

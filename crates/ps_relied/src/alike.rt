@@ -18,7 +18,6 @@ use ps_linkinfo::one_reading;
 /// slots, and the codes and records of their units are. Addresses, the text of an interface, and
 /// blocks that no entry has may differ. So may what follows an end mark: the records are the same
 /// with anything behind it.
-/// Source: this project's profile.
 pub fn what_is_not_read()
     ensures linked { (host other : List ℕ) (libs others : List (List ℕ)) (file : List ℕ)
         → AreFilesAlike host other libs others

@@ -10,7 +10,6 @@ use ps_laws::first_of_all;
 /// A library that gives nothing may be left out. Where no segment of the link is of it, and the
 /// files link, they link to the same bytes without it; the segments are the same, and the number of
 /// each file after it is one less.
-/// Source: this project's profile.
 pub fn library_is_left_out()
     ensures linked { (host lib file : List ℕ) (before after : List (List ℕ))
         → All (λ s. s.file ≢ library_file (length before))
@@ -31,7 +30,6 @@ pub fn library_is_left_out()
 /// Neighbours may be exchanged. Two libraries that follow one another and have no filled entry of
 /// one name: exchanged, the files link to the same bytes, or are refused both times. The segments
 /// are the same, but for the two numbers of their files.
-/// Source: this project's profile.
 pub fn neighbours_are_exchanged()
     ensures linked { (host lib next file : List ℕ) (before after : List (List ℕ))
         → HaveNoNameInCommon (order_of host) lib next

@@ -10,7 +10,6 @@ use ps_linkfile::linked_file_is_one;
 /// A link is what its segments are. Where two links have the same segments, by slot, name, role,
 /// code and records, and hosts of one byte order with the same names and the same tail of their
 /// dictionaries, the linked files are the same, from whichever files the segments come.
-/// Source: this project's profile.
 pub fn link_is_its_segments()
     ensures { (host other : List ℕ) (libs others : List (List ℕ)) (file : List ℕ)
         → LinkedFile host libs file → NoneStands other others → HaveSameHeads host other

@@ -12,7 +12,6 @@ use std::fmt::{self, Formatter};
 /// Whether a link of the files is done.
 ///
 /// Its text is one line: `links: ` and the summary, or the line of the refusal.
-/// Source: this project's profile.
 #[derive(Clone, Copy, Debug, PartialEq, Eq)]
 pub enum Verdict {
     /// The files are linked, and their linked file has so much.
@@ -23,7 +22,6 @@ pub enum Verdict {
 
 impl Verdict {
     /// The fault for which the files are refused.
-    /// Source: this project's profile.
     pub fn fault(&self) -> Option<Fault>
         ensures { result ≡ fault_of self.now }
     {
@@ -72,7 +70,6 @@ fn refusal(error: LinkError) -> Result<Verdict, AllocError>
 /// `host` and each of `libs` are whole code files, the libraries in the order in which units are
 /// looked up in them. Returns an error only where memory was refused, which is requested only once
 /// the files were read and have no fault: of files that have one the verdict is never an error.
-/// Source: this project's profile.
 pub fn verdict_of<A: Allocator + Copy>(
     alloc: A,
     host: &[u8],

@@ -1,5 +1,4 @@
 -- The first fault of all: what is looked at while the files are read, and what is looked at then.
--- Source: this project's profile.
 pub use Rattle.ps_reading.specs.Readings.{reading_rest}
 unfoldable pub use Rattle.ps_reading.specs.Readings.{reading_fault}
 use Rattle.std.specs.Prelude.{ℕ, List, Option}

@@ -1,6 +1,5 @@
 -- What of the records of a link a fault is about: the earlier reference that covers a place, and
 -- the words of the privates before a record.
--- Source: this project's profile.
 use Rattle.std.specs.Prelude.{ℕ, ◌+◌, ◌==◌, ◌&&◌, if◌then◌else◌, List, [], length, take, sum_by, nat_lt, Bool, false, Option}
 use Rattle.std.specs.List.{find, range_with_len}
 use Rattle.std.specs.Option.{option_map, option_map_or}

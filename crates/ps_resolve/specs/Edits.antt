@@ -1,5 +1,4 @@
 -- Edits of a segment: why they are not found, and which edit may be beside those of the references.
--- Source: this project's profile.
 use Rattle.std.specs.Prelude.{◌≡◌, ℕ, ◌+◌, ◌-◌, ◌≤◌, List, length, Bool, true, false, Option, Some, None, ⊤, option_map}
 use Rattle.ps_words.specs.Edits.{IsStorable, covers, place_of, width}
 use Rattle.ps_words.specs.declared.order.Order.{Order}

@@ -1,6 +1,5 @@
 -- Which parts a fault that applies is reported with: the slot, the record, the reference, and the
 -- file that is at fault.
--- Source: this project's profile.
 use Rattle.std.specs.Prelude.{◌≡◌, ◌≢◌, ◌↔◌, ℕ, ◌≤◌, List, Some, None, is_some, true}
 use Rattle.ps_words.specs.FaultPlaces.{has_slot, has_record, has_reference, is_of_host, is_of_library}
 use Rattle.ps_words.specs.FaultText.{number_of}

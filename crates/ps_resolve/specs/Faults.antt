@@ -1,7 +1,6 @@
 -- The faults of a link once its files were read, step by step: of each step the first fault in its
 -- own order, and a later step is looked at only where no earlier one has a fault. Those of reading
 -- are passed on.
--- Source: this project's profile.
 pub use Rattle.ps_reading.specs.Faults.{host_fault, is_role, slot_reason, library_reason, library_fault, entries_reason, entry_fault, information_fault, code_fault, request_fault, role_fault, source_fault}
 unfoldable pub use Rattle.ps_reading.specs.Faults.{slots_fault, no_host_fault, libraries_fault, sources_fault}
 use Rattle.std.specs.Prelude.{ℕ, ◌+◌, List, [], ◌∷◌, map, nat_lt, Option, Some, None, option_and_then}

@@ -1,5 +1,4 @@
 -- Which of two keys is the smaller.
--- Source: this project's profile.
 use Rattle.std.specs.Prelude.{◌≡◌, ◌⊎◌, ℕ, ◌<◌, List, [], ◌∷◌}
 
 -- a has the smaller number at the first place where they differ

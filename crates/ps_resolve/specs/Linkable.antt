@@ -1,5 +1,4 @@
 -- What is known of the segments of a link, once the files were read without a fault.
--- Source: this project's profile.
 pub use Rattle.ps_reading.specs.KnownSegments.{AreSlots, AscendFrom, HasOneHost}
 use Rattle.std.specs.Prelude.{◌≡◌, ℕ, ◌+◌, ◌≤◌, List, length, map, true, Some, All}
 use Rattle.ps_words.specs.declared.order.Order.{Order}

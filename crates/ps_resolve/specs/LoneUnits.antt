@@ -1,6 +1,5 @@
 -- A unit by itself: the first fault that it has in a link with a host that would define each name
 -- that it requests, each as a public with the base offset 1.
--- Source: this project's profile.
 use Rattle.std.specs.Prelude.{◌≡◌, ℕ, if◌then◌else◌, true, List, Option, Some, None, Result, Ok, Err, IsErr}
 use Rattle.std.specs.Option.{option_and_then, option_or}
 use Rattle.ps_words.specs.declared.order.Order.{Order}

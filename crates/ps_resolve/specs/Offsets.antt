@@ -1,6 +1,5 @@
 -- The privates of an allotment: that each begins where the words of all before it end, that they
 -- are by slot and then by record, and the offset of one of them.
--- Source: this project's profile.
 use Rattle.std.specs.Prelude.{◌≡◌, ℕ, ◌+◌, ◌<◌, ◌==◌, ◌&&◌, ◌||◌, List, [], ◌∷◌, length, take, sum_by, slice_index_or, find, nat_le, nat_lt, Bool, true, Option, ⊤, option_map}
 use Rattle.ps_resolve.specs.declared.allotment.Private.{Private}
 

@@ -1,5 +1,4 @@
 -- A plan of a link: its segments, and the edits that link them.
--- Source: this project's profile.
 use Rattle.std.specs.Prelude.{◌≡◌, ℕ, ◌+◌, ◌<◌, List, [], ◌∷◌, length, map, IsPermutation, ⊤, Some, None}
 use Rattle.ps_words.specs.Edits.{AreEdits, patched_byte}
 use Rattle.ps_words.specs.declared.order.Order.{Order}

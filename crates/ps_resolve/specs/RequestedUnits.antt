@@ -1,6 +1,5 @@
 -- Units that only a unit names, said plainly: which names are requested and in which order, which
 -- slot each takes, and where its segment comes from.
--- Source: this project's profile.
 use Rattle.std.specs.Prelude.{◌≡◌, ◌⊎◌, ℕ, ◌+◌, ◌<◌, List, [], ◌∷◌, ◌++◌, length, map, slice_get, true, Ok, Some}
 use Rattle.ps_words.specs.declared.order.Order.{Order}
 use Rattle.ps_codefile.specs.Dictionary.{entry_at, code_of, information_of}

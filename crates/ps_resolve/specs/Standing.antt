@@ -1,6 +1,5 @@
 -- Which faults apply, a clause for each number, step by step; their keys, and which is the first of
 -- all.
--- Source: this project's profile.
 use Rattle.std.specs.Prelude.{◌≡◌, ◌⊎◌, ℕ, List, true}
 use Rattle.ps_resolve.specs.First.{Before}
 use Rattle.ps_reading.specs.Sources.{order_of}

@@ -1,5 +1,4 @@
 -- What a table of places stands for.
--- Source: this project's profile.
 use Rattle.std.specs.Prelude.{◌≡◌, ℕ, ◌<◌, ◌||◌, List, length}
 use Rattle.std.specs.List.{list_any}
 use Rattle.ps_codefile.specs.Procedures.{is_reserved, ProcedureTables}

@@ -15,7 +15,6 @@ use std::marker::Model;
 
 /// The greatest base offset in words that may be free after a private: one that a BIG operand can
 /// hold.
-/// Source: this project's profile.
 pub const MAX_NEXT_FREE: usize = MAX_OPERAND as usize;
 
 /// A private variable of a segment, which its PRIVREF record requests. A link may have millions, so
@@ -112,7 +111,6 @@ pub(crate) fn allot<A: Allocator + Copy>(
 
 /// The private variables of all linked segments, one after another, in the order of the segments'
 /// slots and then of the records.
-/// Source: this project's profile.
 #[derive(Drop)]
 pub struct Allotment<A: Allocator = Global> {
     privates: Vec<Private, A>,
@@ -204,8 +202,6 @@ impl<A: Allocator + Copy> Allotment<A> {
     /// one of its segment has its name, and then `NoRoom` where the offset after it is over
     /// `MAX_NEXT_FREE`, with the file and the slot of its segment. Returns `Memory` only where
     /// memory was refused, and there is a private.
-    ///
-    /// Source: this project's profile.
     pub fn build(alloc: A, next: u16, segments: &[Linkage]) -> Result<Self, Stop>
         requires { AscendFrom 0 (map (λ s. s.slot) segments.now) }
         ensures names { IfOk result (λ _. HaveDistinctPrivates
@@ -255,7 +251,6 @@ impl<A: Allocator + Copy> Allotment<A> {
     /// The base offset in words, 0 to `MAX_NEXT_FREE`, of the private that a record requests: the
     /// record of index `rec`, from 0, of the segment in slot `slot`. `None` where that is no PRIVREF
     /// record.
-    /// Source: this project's profile.
     pub fn offset(&self, slot: u8, rec: usize) -> Option<u16>
         ensures { result ≡ offset_listed slot rec self.now.privates }
     {
@@ -268,7 +263,6 @@ impl<A: Allocator + Copy> Allotment<A> {
     }
 
     /// All of them, by slot and then by record.
-    /// Source: this project's profile.
     pub fn privates(&self) -> &[Private]
         ensures { result.now ≡ self.now.privates }
     {
@@ -276,7 +270,6 @@ impl<A: Allocator + Copy> Allotment<A> {
     }
 
     /// How many words all of them take, 0 to `MAX_NEXT_FREE`.
-    /// Source: this project's profile.
     pub fn words(&self) -> u16
         ensures { result ≡ self.now.words }
     {

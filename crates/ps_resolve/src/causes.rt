@@ -75,7 +75,6 @@ fn covering_in(
 /// place and whose operand has a byte of this operand; `None` where there is none.
 ///
 /// `records` are the segment's, and `operand` is that of the reference at `place`.
-/// Source: this project's profile.
 pub fn covering_reference(
     records: &LinkInformation<'_>,
     place: ReferenceAt,

@@ -205,7 +205,6 @@ impl<A: Allocator + Copy> Definitions<A> {
     }
 
     /// How many definitions there are.
-    /// Source: this project's profile.
     pub fn len(&self) -> usize
         ensures { result ≡ length self.now }
     {
@@ -213,7 +212,6 @@ impl<A: Allocator + Copy> Definitions<A> {
     }
 
     /// There is no definition.
-    /// Source: this project's profile.
     pub fn is_empty(&self) -> bool
         ensures { result ≡ (length self.now == 0) }
     {
@@ -222,7 +220,6 @@ impl<A: Allocator + Copy> Definitions<A> {
 
     /// The name and the definition of index `i`, from 0, in the order of the records; `i` is below
     /// `len`.
-    /// Source: this project's profile.
     pub fn at(&self, i: usize) -> (Name, Def)
         requires { i < length self.now }
         ensures { slice_get self.now i ≡ Some result }

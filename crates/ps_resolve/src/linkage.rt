@@ -7,7 +7,6 @@ use ps_words::{Fault, Order, Reason};
 use std::alloc::{AllocError, AllocFailed};
 
 /// The link information of a segment, and where a fault of it is.
-/// Source: this project's profile.
 #[derive(Clone, Copy)]
 pub struct Linkage<'a> {
     /// The file that the segment comes from: 0 is the host file, k the k-th library, from 1.
@@ -33,7 +32,6 @@ impl<'a> Linkage<'a> {
 }
 
 /// Why nothing was built.
-/// Source: this project's profile.
 #[derive(Drop)]
 pub enum Stop {
     /// The inputs have this fault.

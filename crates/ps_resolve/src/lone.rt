@@ -79,7 +79,6 @@ fn placing_fault<A: Allocator + Copy>(
 /// base offsets are 1 and more, and one that has none may be refused for what a host defines. A
 /// wanted unit is looked for in the libraries that were read beside the file. Returns an error only
 /// where memory was refused, which is requested only for a unit that was read without a fault.
-/// Source: this project's profile.
 pub fn lone_fault<A: Allocator + Copy>(
     alloc: A,
     reading: &HostReading<'_>,

@@ -14,7 +14,6 @@ use std::marker::Model;
 /// A plan of a link: its segments, and what is stored in the code of each.
 ///
 /// It holds views of the inputs, and no copy of them.
-/// Source: this project's profile.
 #[derive(Drop)]
 pub struct Plan<'a, A: Allocator + Copy = Global> {
     pub(crate) host: &'a [u8],
@@ -61,7 +60,6 @@ impl<'a, A: Allocator + Copy> Plan<'a, A> {
     }
 
     /// The segments of the linked file, by slot ascending, as the files have them.
-    /// Source: this project's profile.
     pub fn sources(&self) -> &[Source<'a>]
         ensures sources { result.now ≡ self.now.sources }
         ensures count { length result.now ≡ length self.now.edits }
@@ -75,7 +73,6 @@ impl<'a, A: Allocator + Copy> Plan<'a, A> {
     /// A linked segment has the Byte edit of its number and one edit for each of its references,
     /// the host's segment the Word edit of its data size too, also where they change nothing. A
     /// segment that is linked already has none.
-    /// Source: this project's profile.
     pub fn edits(&self, k: usize) -> &[Edit]
         requires { k < length self.now.edits }
         ensures { slice_get self.now.edits k ≡ Some result.now }
@@ -84,7 +81,6 @@ impl<'a, A: Allocator + Copy> Plan<'a, A> {
     }
 
     /// The definitions of the host's segment.
-    /// Source: this project's profile.
     pub fn definitions(&self) -> &Definitions<A>
         ensures { result.now ≡ self.now.definitions }
     {
@@ -92,7 +88,6 @@ impl<'a, A: Allocator + Copy> Plan<'a, A> {
     }
 
     /// The private variables of all segments.
-    /// Source: this project's profile.
     pub fn allotment(&self) -> &Allotment<A>
         ensures privates { result.now.privates ≡ self.now.privates }
         ensures words { result.now.words ≡ self.now.private_words }
@@ -102,7 +97,6 @@ impl<'a, A: Allocator + Copy> Plan<'a, A> {
     }
 
     /// How many words all private variables take, 0 to `MAX_NEXT_FREE`.
-    /// Source: this project's profile.
     pub fn private_words(&self) -> u16
         ensures { result ≡ self.now.private_words }
     {

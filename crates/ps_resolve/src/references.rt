@@ -23,7 +23,6 @@ use ps_words::{Edit, MAX_OPERAND, MAX_WORD, Reason, get_big};
 use std::alloc::Allocator;
 
 /// What a reference's operand becomes: the number of a slot, or its displacement and a base.
-/// Source: this project's profile.
 #[derive(Clone, Copy)]
 pub enum Target {
     /// A byte, which becomes the number of the slot.

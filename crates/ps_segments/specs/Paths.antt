@@ -1,5 +1,4 @@
 -- The files of a check: their paths, by their numbers, and the order in which they are read.
--- Source: this project's profile.
 use Rattle.std.specs.Prelude.{ℕ, List, [], ◌∷◌, slice_get, unwrap_or}
 use Rattle.std.specs.Option.{option_map_or}
 use Rattle.std.specs.Result.{result_ok}

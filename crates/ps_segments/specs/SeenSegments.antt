@@ -1,6 +1,5 @@
 -- The segments of a link as they were read: of each slot of the host its segment, also where it is
 -- refused, and then the first unit for which no slot is left.
--- Source: this project's profile.
 use Rattle.std.specs.Prelude.{ℕ, ◌+◌, ◌&&◌, if◌then◌else◌, List, [], ◌∷◌, ◌++◌, nat_lt, slice_get, Bool, true, false, Option, Some, None, Result, Ok, Err, codes, filter_map, is_some, option_and_then}
 use Rattle.std.specs.List.{cons_option, list_any}
 use Rattle.std.specs.Option.{option_map, option_map_or}

@@ -1,5 +1,4 @@
 -- What a segment of a link is, in words.
--- Source: this project's profile.
 use Rattle.std.specs.Prelude.{ℕ, List, ◌++◌, Bool, true, false, codes, decimal}
 use Rattle.ps_filetype.specs.Shown.{shown_name}
 use Rattle.ps_segments.specs.declared.segments.SegmentPart.{SegmentPart}

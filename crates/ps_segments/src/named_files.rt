@@ -11,7 +11,6 @@ use ps_words::Order;
 ///
 /// `host` and each of `libs` are whole code files, the libraries in the order in which units are
 /// looked up in them.
-/// Source: this project's profile.
 #[derive(Clone, Copy)]
 pub struct NamedFiles<'a> {
     pub host_path: &'a str,
@@ -22,7 +21,6 @@ pub struct NamedFiles<'a> {
 
 impl<'a> NamedFiles<'a> {
     /// The path of a file; none where there is no such file.
-    /// Source: this project's profile.
     pub fn path(&self, file: usize) -> &'a str
         ensures { result.now
             ≡ path_of (self.now.host_path.now ∷ contents self.now.paths.now) file }
@@ -37,13 +35,11 @@ impl<'a> NamedFiles<'a> {
     }
 
     /// What a file is.
-    /// Source: this project's profile.
     pub fn file_type(&self, file: usize) -> FileType {
         FileType::of(self.bytes(file))
     }
 
     /// The bytes of a file; none where there is no such file.
-    /// Source: this project's profile.
     pub fn bytes(&self, file: usize) -> &'a [u8]
         ensures { result.now ≡ file_at self.now.host.now (contents self.now.libs.now) file }
     {
@@ -64,7 +60,6 @@ impl<'a> NamedFiles<'a> {
     }
 
     /// The byte order of the host; little-endian where it shows none.
-    /// Source: this project's profile.
     pub fn order(&self) -> Order
         ensures { result ≡ host_order self.now.host.now }
     {

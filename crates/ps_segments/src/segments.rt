@@ -22,8 +22,6 @@ use std::alloc::{AllocError, Allocator};
 use std::fmt::{self, Formatter};
 
 /// What a segment of a link is. Its text is a phrase, as `the host program`.
-///
-/// Source: this project's profile.
 #[derive(Clone, Copy)]
 pub enum SegmentPart {
     /// Linked already.
@@ -57,7 +55,6 @@ impl SegmentPart {
     }
 
     /// It is a unit.
-    /// Source: this project's profile.
     pub fn is_unit(self) -> bool
         ensures { result ≡ is_unit_spec self }
     {
@@ -68,7 +65,6 @@ impl SegmentPart {
     }
 
     /// It is a unit that a record requests.
-    /// Source: this project's profile.
     pub fn is_added(self) -> bool
         ensures { result ≡ is_added_spec self }
     {
@@ -94,8 +90,6 @@ impl fmt::Display for SegmentPart {
 }
 
 /// A segment of a link, as it was read.
-///
-/// Source: this project's profile.
 #[derive(Clone, Copy)]
 pub struct ReadSegment<'a> {
     /// Its slot in the host; none where no empty slot is left for it.
@@ -424,8 +418,6 @@ fn unit_without_slot<'a>(host: &HostReading<'a>, added: usize) -> Option<ReadSeg
 }
 
 /// The first segment of the list that has this slot of the host.
-///
-/// Source: this project's profile.
 pub fn in_slot<'a>(list: &[ReadSegment<'a>], slot: u8) -> Option<ReadSegment<'a>> {
     for segment in list {
         if segment.slot == Some(slot) {
@@ -436,8 +428,6 @@ pub fn in_slot<'a>(list: &[ReadSegment<'a>], slot: u8) -> Option<ReadSegment<'a>
 }
 
 /// The segment of the host program.
-///
-/// Source: this project's profile.
 pub fn host_of<'a>(list: &[ReadSegment<'a>]) -> Option<ReadSegment<'a>>
     ensures { option_map seen result ≡ find (λ s. is_host_part s.part) (map seen list.now) }
 {
@@ -453,7 +443,6 @@ pub fn host_of<'a>(list: &[ReadSegment<'a>]) -> Option<ReadSegment<'a>>
 /// None where the host cannot be read.
 ///
 /// Returns an error where memory was refused.
-/// Source: this project's profile.
 pub fn segments_of<'a, A: Allocator + Copy>(
     alloc: A,
     inputs: &NamedFiles<'a>,

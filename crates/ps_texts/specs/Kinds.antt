@@ -1,5 +1,4 @@
 -- The texts that there are.
--- Source: this project's profile.
 use Rattle.std.specs.Prelude.{Bool, true, false}
 use Rattle.ps_texts.specs.declared.kinds.TextKind.{TextKind}
 use Rattle.ps_texts.specs.declared.kinds.TextKind.TheVariants as kind

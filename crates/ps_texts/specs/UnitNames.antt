@@ -1,5 +1,4 @@
 -- The names of units, eight bytes each, one after another.
--- Source: this project's profile.
 use Rattle.std.specs.Prelude.{ℕ, List, [], ◌++◌, Result, Ok, Err}
 use Rattle.std.specs.List.{flat_map}
 use Rattle.ps_words.specs.declared.order.Order.{Order}

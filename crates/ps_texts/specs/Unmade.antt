@@ -1,5 +1,4 @@
 -- Why a text is not made: files that are refused, or want of memory.
--- Source: this project's profile.
 use Rattle.std.specs.Prelude.{◌≡◌, ℕ, ⊤, List, Some, Err}
 use Rattle.ps_words.specs.FaultPlaces.{in_file}
 use Rattle.ps_words.specs.declared.fault.Fault.{Fault}

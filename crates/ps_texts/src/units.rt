@@ -67,7 +67,7 @@ fn add_requested<A: Allocator>(
 /// those that a record requests, of the host or of a unit that was found, and that no unit of the
 /// host has, each once, in the order of their requests; of more than ten of these the first ten.
 ///
-/// Refused where memory was. Source: this project's profile.
+/// Refused where memory was.
 #[tactic(auto, unfolding(crate::specs::UnitNames::units_wanted))]
 pub fn units_wanted<A: Allocator>(alloc: A, host: &HostReading) -> Result<Vec<u8, A>, AllocError>
     ensures { IfOk result (λ names. names.items ≡ units_wanted_spec host.now) }

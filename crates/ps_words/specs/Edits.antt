@@ -1,6 +1,5 @@
 -- Edits of a segment's code: where each is, what it stores, and the byte that is found at a place
 -- after them.
--- Source: this project's profile.
 use Rattle.std.specs.Prelude.{ℕ, ◌+◌, ◌-◌, ◌≤◌, ◌&&◌, List, [], ◌∷◌, slice_index, nat_le, nat_lt, Bool, ⊤, All, find}
 use Rattle.std.specs.Option.{option_map_or}
 use Rattle.ps_words.specs.Words.{word_bytes, operand_bytes}

@@ -1,6 +1,5 @@
 -- Where a fault occurs: in a file as a whole, in a slot of the host, in a record of that slot's
 -- link information, or in a reference of that record.
--- Source: this project's profile.
 use Rattle.std.specs.Prelude.{ℕ, ◌==◌, ◌&&◌, ◌||◌, not, nat_le, if◌then◌else◌, Bool, true, false, Option, Some, None}
 use Rattle.ps_words.specs.declared.fault.Reason.{Reason}
 use Rattle.ps_words.specs.declared.fault.Reason.TheVariants as reason

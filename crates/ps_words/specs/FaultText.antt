@@ -1,5 +1,4 @@
 -- Numbers and names of the reasons, and the text of a fault.
--- Source: this project's profile.
 use Rattle.std.specs.Prelude.{ℕ, ◌==◌, List, [], ◌∷◌, ◌++◌, codes, decimal, Option, Some, None}
 use Rattle.std.specs.List.{find}
 use Rattle.ps_words.specs.declared.fault.Reason.{Reason}

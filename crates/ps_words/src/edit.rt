@@ -6,7 +6,6 @@ ghost use Rattle.ps_words.specs.Edits.{place_of, width as width_spec};
 /// `place` is the byte offset, from 0, of the first byte to be stored from the segment's first
 /// byte. What is stored is the final content: for an operand, its displacement included. A link may
 /// have hundreds of thousands of edits: the narrow field is first, so that one takes 16 bytes.
-/// Source: this project's profile.
 #[derive(Clone, Copy, Debug, PartialEq, Eq)]
 pub enum Edit {
     /// A BIG operand, in two bytes, the high byte first in either byte order.
@@ -36,7 +35,6 @@ pub enum Edit {
 
 impl Edit {
     /// The byte offset, from 0, of the first byte that it stores.
-    /// Source: this project's profile.
     pub fn place(&self) -> usize
         ensures { result ≡ place_of self.now }
     {
@@ -46,7 +44,6 @@ impl Edit {
     }
 
     /// How many bytes it stores: 1 or 2.
-    /// Source: this project's profile.
     pub fn width(&self) -> usize
         ensures { result ≡ width_spec self.now }
     {

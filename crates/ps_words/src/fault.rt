@@ -7,7 +7,6 @@ use std::fmt;
 /// Why files are refused: each reason has a number, 1 to 35, and a name, that of its variant.
 ///
 /// The reason's text is its name.
-/// Source: this project's profile.
 #[derive(Clone, Copy, Debug, PartialEq, Eq)]
 pub enum Reason {
     /// 1: the file has fewer than 512 bytes, so it has no whole segment dictionary.
@@ -90,7 +89,6 @@ pub enum Reason {
 
 impl Reason {
     /// The reason's number, 1 to 35.
-    /// Source: this project's profile.
     pub fn number(self) -> u8
         ensures { result ≡ number_of self }
     {
@@ -134,7 +132,6 @@ impl Reason {
     }
 
     /// The reason's name, which is that of its variant.
-    /// Source: this project's profile.
     pub fn name(self) -> &'static str
         ensures { result.now ≡ name_of self }
     {
@@ -183,7 +180,6 @@ impl Reason {
     /// this kind word, which is that of an entry, and any other reason has none.
     ///
     /// `None` where no reason has the number.
-    /// Source: this project's profile.
     pub fn from_number(number: u8, kind: u16) -> Option<Reason>
         ensures { result ≡ reason_of number kind }
     {
@@ -231,7 +227,6 @@ impl Reason {
 
     /// The kind word that the reason carries: that of an entry that is no unit, any but 3. `None`
     /// of every reason but `NotAUnit`.
-    /// Source: this project's profile.
     pub fn kind(self) -> Option<u16>
         ensures { result ≡ kind_of self }
     {
@@ -255,7 +250,6 @@ impl fmt::Display for Reason {
 /// Its text is `refused N NAME`, then ` kind K` for an entry that is no unit, then ` file F`, and
 /// then ` slot S`, ` record R` and ` reference I`, each where the fault has it. All numbers are
 /// plain decimal.
-/// Source: this project's profile.
 #[derive(Clone, Copy, Debug, PartialEq, Eq)]
 pub struct Fault {
     /// Why the files are refused.
@@ -273,7 +267,6 @@ pub struct Fault {
 
 impl Fault {
     /// A fault of a file as a whole: 0 is the host file, k the k-th library, from 1.
-    /// Source: this project's profile.
     pub fn in_file(file: usize, reason: Reason) -> Fault
         ensures { result ≡ in_file_spec file reason }
     {
@@ -287,7 +280,6 @@ impl Fault {
     }
 
     /// A fault of a segment of the file, by its slot in the host's segment dictionary, 0 to 15.
-    /// Source: this project's profile.
     pub fn in_slot(file: usize, slot: u8, reason: Reason) -> Fault
         ensures { result ≡ in_slot_spec file slot reason }
     {
@@ -298,7 +290,6 @@ impl Fault {
     }
 
     /// A fault of the record of this index, from 0, in the link information of the slot's segment.
-    /// Source: this project's profile.
     pub fn in_record(file: usize, slot: u8, rec: usize, reason: Reason) -> Fault
         ensures { result ≡ in_record_spec file slot rec reason }
     {
@@ -309,7 +300,6 @@ impl Fault {
     }
 
     /// A fault of the reference of this index, from 0, of a record.
-    /// Source: this project's profile.
     pub fn in_reference(
         file: usize,
         slot: u8,
@@ -328,7 +318,6 @@ impl Fault {
     /// The index, from 0, of the fault's record, where that record could be read.
     ///
     /// `None` of a fault that has no record, and of those that say why a record cannot be read.
-    /// Source: this project's profile.
     pub fn read_record(self) -> Option<usize>
         ensures { result ≡ read_record_spec self }
     {

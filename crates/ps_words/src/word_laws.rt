@@ -25,7 +25,6 @@ pub fn operands_read_back()
 {}
 
 /// A law: edits that are apart patch a code alike in whatever order they are listed.
-/// Source: this project's profile.
 pub fn edits_patch_alike_in_any_order()
     ensures { (order : AnOrder) (code : List ℕ) (edits listed : List AnEdit) (p : ℕ)
         → AreApart 0 edits → IsPermutation edits listed
@@ -33,7 +32,6 @@ pub fn edits_patch_alike_in_any_order()
 {}
 
 /// A law: of edits that are apart, each stores its bytes at the places that it covers.
-/// Source: this project's profile.
 pub fn edits_store_where_they_cover()
     ensures { (order : AnOrder) (code : List ℕ) (edits : List AnEdit) (edit : AnEdit) (p : ℕ)
         → AreApart 0 edits → Contains edits edit → IsTrue (covers p edit)
@@ -41,7 +39,6 @@ pub fn edits_store_where_they_cover()
 {}
 
 /// A law: a place that no edit covers keeps its byte.
-/// Source: this project's profile.
 pub fn edits_keep_what_they_do_not_cover()
     ensures { (order : AnOrder) (code : List ℕ) (edits : List AnEdit) (p : ℕ)
         → All (λ edit. ¬ IsTrue (covers p edit)) edits

@@ -1,5 +1,4 @@
 -- Text that is added to a writer, a piece at a time.
--- Source: this project's profile.
 use Rattle.std.specs.Prelude.{◌≡◌, ℕ, List, ◌++◌, Option, Some, None, ⊤}
 use Rattle.std.specs.Io.KnownBytes.{Appends}
 use Rattle.ps_writing.specs.Prefixes.{AppendsPrefix}

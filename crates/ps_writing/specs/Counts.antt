@@ -1,5 +1,4 @@
 -- How often a writer was called, and how its counts rise.
--- Source: this project's profile.
 use Rattle.std.specs.Prelude.{◌≡◌, ℕ, ◌+◌, ◌-◌, ◌^◌, ◌<◌, ◌≤◌, ◌==◌, min, Bool, true, false, ◌&&◌, nat_lt, if◌then◌else◌, Result, Ok, Err, ⊤}
 use Rattle.ps_writing.specs.declared.counts.Counts.{Counts}
 use Rattle.ps_writing.specs.declared.write_fault.WriteFault.{WriteFault}

@@ -1,5 +1,4 @@
 -- Lines of text, as map and show print them: names, numbers and reasons.
--- Source: this project's profile.
 use Rattle.std.specs.Prelude.{ℕ, ◌+◌, ◌/◌, ◌%◌, ◌&&◌, if◌then◌else◌, List, [], ◌∷◌, ◌++◌, map, nat_le, nat_lt, codes, decimal}
 use Rattle.std.specs.List.{flat_map}
 use Rattle.ps_words.specs.FaultText.{number_of, name_of}

@@ -1,5 +1,4 @@
 -- What a write that failed leaves in its writer.
--- Source: this project's profile.
 use Rattle.std.specs.Prelude.{ℕ, List, Option, take}
 use Rattle.std.specs.Io.KnownBytes.{Appends}
 

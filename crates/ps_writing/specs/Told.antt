@@ -1,5 +1,4 @@
 -- What is known of a writer that was made to count.
--- Source: this project's profile.
 use Rattle.ps_writing.specs.declared.counts.Counts.{Counts}
 use Rattle.ps_writing.specs.declared.told.Counting.{Counting}
 

@@ -1,8 +1,6 @@
 use std::io;
 
 /// How often a writer was called, and with what results. A count that has reached `u64::MAX` stays.
-///
-/// Source: this project's profile.
 #[derive(Clone, Copy, Debug, PartialEq, Eq)]
 pub struct Counts {
     /// How many writes there were.
@@ -21,7 +19,6 @@ impl Counts {
     ghost use Rattle.ps_writing.specs.Counts.{no_counts, saturated_after};
 
     /// The counts before the first write, which are 0.
-    /// Source: this project's profile.
     pub fn new() -> Counts
         ensures { result ≡ no_counts }
     {

@@ -26,7 +26,6 @@ pub(crate) fn hex_digits(byte: u8) -> [u8; 2]
 }
 
 /// Adds these bytes in hexadecimal digits, two of each byte.
-/// Source: this project's profile.
 #[tactic(auto, using(crate::proofs::Written::all_written, crate::proofs::Written::none_yet, crate::proofs::Written::items_over))]
 pub fn add_hex<S: TextWriter>(text: &mut S, bytes: &[u8])
     ensures { Adds S.added text.old (flat_map hex_byte bytes.now) text.new }

@@ -8,7 +8,6 @@ use itoa::{Buffer, Integer};
 use ps_words::{Name, Reason};
 
 /// Adds a number after this text.
-/// Source: this project's profile.
 #[inline(always)]
 pub fn add_number<S: TextWriter, I: Integer>(text: &mut S, before: &[u8], number: I)
     ensures { Adds S.added text.old (before.now ++ I.text number) text.new }
@@ -30,7 +29,6 @@ pub(crate) fn shown_code(byte: u8) -> u8
 
 /// A name as a line shows it, in eight characters: a byte that ASCII does not print is a question
 /// mark.
-/// Source: this project's profile.
 pub fn shown_codes(name: Name) -> [u8; 8]
     ensures { result ≡ shown_name name }
 {
@@ -48,7 +46,6 @@ pub fn shown_codes(name: Name) -> [u8; 8]
 }
 
 /// A number below 100, as that of a slot, in two digits.
-/// Source: this project's profile.
 pub fn two_digits(number: u8) -> [u8; 2]
     ensures { result ≡ two_digits_spec number }
 {
@@ -56,7 +53,6 @@ pub fn two_digits(number: u8) -> [u8; 2]
 }
 
 /// Adds a slot, which is below 100, and a name after this text.
-/// Source: this project's profile.
 #[inline(always)]
 pub fn add_slot_name<S: TextWriter>(text: &mut S, before: &[u8], slot: u8, name: Name)
     ensures { Adds S.added text.old

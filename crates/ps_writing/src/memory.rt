@@ -31,7 +31,6 @@ impl<A: Allocator + Copy> TextWriter for InMemory<A> {
 }
 
 /// The text, in memory. Returns an error where memory was refused, and then keeps none.
-/// Source: this project's profile.
 pub fn in_memory<A: Allocator + Copy, T: Text>(alloc: A, text: &T) -> Result<Vec<u8, A>, AllocError>
     ensures { IfOk result (λ made. made.items ≡ T.bytes text.now) }
 {

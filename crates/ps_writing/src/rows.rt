@@ -27,8 +27,6 @@ pub enum Form {
 }
 
 /// A value of a row, with its word.
-///
-/// Source: this project's profile.
 #[derive(Clone, Copy)]
 pub enum RowPart<'w> {
     /// What a row begins with: a slot and a name, in a line after the word and a blank.
@@ -223,7 +221,6 @@ fn add_in_item<S: TextWriter>(text: &mut S, part: RowPart)
 }
 
 /// Adds a value of a row.
-/// Source: this project's profile.
 #[inline(always)]
 pub fn add_part<S: TextWriter>(text: &mut S, form: Form, part: RowPart)
     ensures { Adds S.added text.old (value_in form (value_of part.entry)) text.new }
@@ -235,7 +232,6 @@ pub fn add_part<S: TextWriter>(text: &mut S, form: Form, part: RowPart)
 }
 
 /// What a line has, or what a document has in its place.
-/// Source: this project's profile.
 pub fn by_form<'w>(form: Form, line: &'w [u8], item: &'w [u8]) -> &'w [u8]
     ensures { result.now ≡ by_form_spec form line.now item.now }
 {
@@ -246,7 +242,6 @@ pub fn by_form<'w>(form: Form, line: &'w [u8], item: &'w [u8]) -> &'w [u8]
 }
 
 /// Adds what a line has, or what a document has in its place.
-/// Source: this project's profile.
 pub fn add_by_form<S: TextWriter>(text: &mut S, form: Form, line: &[u8], item: &[u8])
     ensures { Adds S.added text.old (by_form_spec form line.now item.now) text.new }
 {
@@ -268,7 +263,6 @@ pub fn add_fault<S: TextWriter>(text: &mut S, form: Form, fault: Fault, name: Na
 }
 
 /// Adds what is before the row of this index, from 0.
-/// Source: this project's profile.
 pub fn begin_row<S: TextWriter>(text: &mut S, form: Form, index: usize)
     ensures { Adds S.added text.old (by_form_spec form [] (separator_spec index)) text.new }
 {
@@ -276,7 +270,6 @@ pub fn begin_row<S: TextWriter>(text: &mut S, form: Form, index: usize)
 }
 
 /// Adds what is after a row.
-/// Source: this project's profile.
 pub fn end_row<S: TextWriter>(text: &mut S, form: Form)
     ensures { Adds S.added text.old (by_form_spec form (codes "\n") (codes "}")) text.new }
 {

@@ -4,8 +4,6 @@ ghost use Rattle.ps_writing.specs.Adding.{Adds};
 
 /// Takes text until it fails, and none from then on. So a text is added without a test at each of
 /// its pieces, and whether it was taken is known at the end.
-///
-/// Source: this project's profile.
 pub trait TextWriter {
     // This text was added to the writer as it was at first, and it is now as it is.
     ghost added: { Self → List ℕ → Self → Type 0 };
@@ -20,8 +18,6 @@ pub trait TextWriter {
 }
 
 /// What has a text.
-///
-/// Source: this project's profile.
 pub trait Text {
     ghost bytes: { Self → List ℕ };
 

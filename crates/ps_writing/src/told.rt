@@ -10,8 +10,6 @@ use std::io;
 use std::io::Write;
 
 /// A writer that counts the writes made by `told_write`, and reports the counts.
-///
-/// Source: this project's profile.
 pub trait ToldWriter: Write {
     /// The four counts.
     ghost counts: { Self → Counts };
@@ -47,8 +45,6 @@ pub trait ToldWriter: Write {
 }
 
 /// Any writer, made to count. Its plain `write` and `flush` are the writer's, and count nothing.
-///
-/// Source: this project's profile.
 #[derive(Drop)]
 pub struct Counting<W: Write> {
     inner: W,
@@ -59,7 +55,6 @@ impl<W: Write> Counting<W> {
     ghost use Rattle.ps_writing.specs.Told.{counts_of, inner_of};
 
     /// Makes `inner` count, from 0 on.
-    /// Source: this project's profile.
     pub fn new(inner: W) -> Self
         ensures inner { inner_of result ≡ inner }
         ensures counts { counts_of result ≡ no_counts }
@@ -71,7 +66,6 @@ impl<W: Write> Counting<W> {
     }
 
     /// Gives the writer back.
-    /// Source: this project's profile.
     pub fn into_inner(self) -> W
         ensures { result ≡ inner_of self }
     {

@@ -11,8 +11,6 @@ use std::io::Write;
 
 /// Writes to a writer and keeps its counts: `Counts`, beside any writer, or `ByWriter`, where
 /// the writer counts by itself.
-///
-/// Source: this project's profile.
 pub trait WriteCounter<W: Write> {
     /// The counts of the writer.
     ghost counts: { Self → W → Counts };
@@ -44,8 +42,6 @@ impl<W: Write> WriteCounter<W> for Counts {
 }
 
 /// The counter of a writer that counts by itself.
-///
-/// Source: this project's profile.
 #[derive(Clone, Copy)]
 pub struct ByWriter;
 

@@ -2,8 +2,6 @@ use std::io;
 use thiserror::Error;
 
 /// Why a writer did not take all that was written to it.
-///
-/// Source: this project's profile.
 #[derive(Debug, Drop, Error)]
 pub enum WriteFault {
     /// A write returned this error, of whatever kind. It was not repeated.

@@ -16,7 +16,6 @@ use std::io::Write;
 /// no write failed. Refuses `Device` where a write returned an error, which is not repeated: that
 /// was one write, and none stalled. Refuses `Stalled` where a write of at least one byte took none:
 /// that was one write, and none returned an error. The writer then has a prefix of the bytes.
-/// Source: this project's profile.
 pub fn write_all<W: Write, T: WriteCounter<W>>(
     out: &mut W,
     counter: &mut T,

@@ -76,7 +76,6 @@ pub extern "C" fn pslink_link_nonnull(
 ///
 /// The inputs are those of `pslink_link_nonnull`, and so are the answers, each said of the map in
 /// place of the linked file. A map of any length can be `TOO_SMALL` for `out`.
-/// Source: this project's profile.
 #[unsafe(no_mangle)]
 pub extern "C" fn pslink_map_nonnull(
     alloc: Global,
@@ -156,7 +155,6 @@ pub extern "C" fn pslink_show_nonnull(
 /// or `name_lengths` to that of `names`, and where there is not one name for each file;
 /// `WRONG_NAMES` where they do, and a name is no UTF-8; `NO_MEMORY` where memory was refused; and
 /// `TOO_SMALL` where `out` is shorter than the report. Never answers `REFUSED`.
-/// Source: this project's profile.
 #[unsafe(no_mangle)]
 pub extern "C" fn pslink_check_nonnull(
     alloc: Global,
@@ -277,7 +275,6 @@ pub extern "C" fn pslink_units_nonnull(
 ///
 /// Where `out` is shorter, nothing is written. Returns 0, and writes nothing, where the answer is
 /// of no refusal.
-/// Source: this project's profile.
 #[unsafe(no_mangle)]
 pub extern "C" fn pslink_fault_text_nonnull(answer: &Answer, out: &mut [u8]) -> usize
     ensures size { IfSome (refusal_fault answer.now) (λ fault. result ≡ length (closed_text fault)) }
@@ -299,7 +296,6 @@ pub extern "C" fn pslink_fault_text_nonnull(answer: &Answer, out: &mut [u8]) -> 
 ///
 /// Where `out` is shorter, nothing is written. Returns 0, and writes nothing, where there is no
 /// such fault.
-/// Source: this project's profile.
 #[unsafe(no_mangle)]
 pub extern "C" fn pslink_fault_name_nonnull(fault: u8, out: &mut [u8]) -> usize
     ensures size { result ≡ length (closed (fault_name fault)) }
@@ -314,7 +310,6 @@ pub extern "C" fn pslink_fault_name_nonnull(fault: u8, out: &mut [u8]) -> usize
 /// Puts what is wrong, where files are refused for the fault of this number, in `out`, as
 /// `pslink_fault_name_nonnull` a name: a sentence of ASCII, of at most `SENTENCE_MAX` bytes with the
 /// closing 0.
-/// Source: this project's profile.
 #[unsafe(no_mangle)]
 pub extern "C" fn pslink_fault_meaning_nonnull(fault: u8, out: &mut [u8]) -> usize
     ensures size { result ≡ length (closed (fault_meaning fault)) }
@@ -328,7 +323,6 @@ pub extern "C" fn pslink_fault_meaning_nonnull(fault: u8, out: &mut [u8]) -> usi
 
 /// Puts what to do about the fault of this number in `out`, as `pslink_fault_meaning_nonnull` what is
 /// wrong: sentences in which `the file` is the file at fault.
-/// Source: this project's profile.
 #[unsafe(no_mangle)]
 pub extern "C" fn pslink_fault_remedy_nonnull(fault: u8, out: &mut [u8]) -> usize
     ensures size { result ≡ length (closed (fault_remedy fault)) }
@@ -342,7 +336,6 @@ pub extern "C" fn pslink_fault_remedy_nonnull(fault: u8, out: &mut [u8]) -> usiz
 
 /// Puts what a status says in `out`, as `pslink_fault_name_nonnull` a name. Returns 0, and writes
 /// nothing, where no call answers it.
-/// Source: this project's profile.
 #[unsafe(no_mangle)]
 pub extern "C" fn pslink_status_text_nonnull(status: u32, out: &mut [u8]) -> usize
     ensures size { result ≡ length (closed (status_text status)) }
@@ -355,7 +348,6 @@ pub extern "C" fn pslink_status_text_nonnull(status: u32, out: &mut [u8]) -> usi
 }
 
 /// Puts the release of pslink in `out`, as `pslink_fault_name_nonnull` a name.
-/// Source: this project's profile.
 #[unsafe(no_mangle)]
 pub extern "C" fn pslink_release_nonnull(out: &mut [u8]) -> usize
     ensures size { result ≡ length (closed release) }
@@ -367,7 +359,6 @@ pub extern "C" fn pslink_release_nonnull(out: &mut [u8]) -> usize
 }
 
 /// The version of the interface.
-/// Source: this project's profile.
 #[unsafe(no_mangle)]
 pub extern "C" fn pslink_version() -> u32
     ensures { result ≡ 2 }
@@ -377,7 +368,6 @@ pub extern "C" fn pslink_version() -> u32
 
 /// The release of pslink as a number: 10000 times its first part, 100 times its second, and its
 /// third.
-/// Source: this project's profile.
 #[unsafe(no_mangle)]
 pub extern "C" fn pslink_release_number() -> u32
     ensures { result ≡ RELEASE_NUMBER }

@@ -14,7 +14,6 @@ use std::cell::Cell;
 ///
 /// Each call of `allocate`, `grow` and `shrink` is an allocation, and they are numbered from 1. It
 /// is handed out as `&refusing`, which is `Copy`.
-/// Source: this project's profile.
 #[derive(Drop)]
 pub struct Refusing<B: Allocator> {
     inner: B,
@@ -23,7 +22,6 @@ pub struct Refusing<B: Allocator> {
 
 impl<B: Allocator> Refusing<B> {
     /// Refuses the allocation of that number alone; none where it is 0.
-    /// Source: this project's profile.
     pub fn once(inner: B, allocation: u64) -> Refusing<B> {
         Refusing {
             inner,
@@ -32,7 +30,6 @@ impl<B: Allocator> Refusing<B> {
     }
 
     /// Refuses the allocation of that number and each later one.
-    /// Source: this project's profile.
     pub fn from(inner: B, allocation: u64) -> Refusing<B> {
         Refusing {
             inner,
@@ -41,20 +38,17 @@ impl<B: Allocator> Refusing<B> {
     }
 
     /// How many allocations were requested, those that were refused among them.
-    /// Source: this project's profile.
     pub fn allocations(&self) -> u64 {
         self.gate.allocations.get()
     }
 
     /// How many bytes the allocations requested in all, those that were refused among them. One
     /// that makes a block longer requests all bytes of the longer one.
-    /// Source: this project's profile.
     pub fn bytes(&self) -> u64 {
         self.gate.bytes.get()
     }
 
     /// Whether an allocation was refused.
-    /// Source: this project's profile.
     pub fn has_refused(&self) -> bool {
         self.gate.refused.get()
     }

@@ -1,5 +1,4 @@
 -- The phrases in which faults are reported.
--- Source: this project's profile.
 use Rattle.std.specs.Prelude.{◌≡◌, ℕ, ◌<◌, List, slice_get, Some}
 use Rattle.ps_words.specs.declared.fault.Fault.{Fault}
 

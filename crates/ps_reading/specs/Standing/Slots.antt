@@ -1,5 +1,4 @@
 -- Faults of the slots of the host's segment dictionary.
--- Source: this project's profile.
 use Rattle.std.specs.Prelude.{◌≡◌, ◌⊎◌, ℕ, ◌<◌, List, Ok, Err}
 use Rattle.ps_codefile.specs.Dictionary.{entry_at, role_of}
 use Rattle.ps_codefile.specs.declared.entry.Role.{Role}

@@ -20,15 +20,12 @@ use ps_linkinfo::{LinkInformation, LinkRecord};
 use ps_words::{Fault, Name, Reason};
 
 /// How many units may be added: one in each slot from the first on.
-/// Source: this project's profile.
 pub const MAX_ADDED: usize = (SLOTS - FIRST_ADDED) as usize;
 
 /// How many names are kept: those that may have a slot, and the first that has none.
-/// Source: this project's profile.
 pub const MAX_REQUESTED: usize = MAX_ADDED + 1;
 
 /// A UNITREF record: the name that it requests, and where it is.
-/// Source: this project's profile.
 #[derive(Clone, Copy)]
 pub struct UnitReference {
     /// The name of a unit.

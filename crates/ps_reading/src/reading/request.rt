@@ -15,7 +15,6 @@ use ps_codefile::{Dict, Role, is_nameless};
 use ps_words::{Fault, Name, Reason};
 
 /// Who requests a unit.
-/// Source: this project's profile.
 #[derive(Clone, Copy)]
 pub enum Requester {
     /// The slot of the host that wants it, which is the slot that it takes.
@@ -25,7 +24,6 @@ pub enum Requester {
 }
 
 /// A request for a unit.
-/// Source: this project's profile.
 #[derive(Clone, Copy)]
 pub struct Request {
     /// The name of the unit.

@@ -83,7 +83,6 @@ impl<'a> Segment<'a> {
     }
 
     /// What its slot is for; never `Empty`. An added unit has the role of a wanted one.
-    /// Source: this project's profile.
     pub fn role(&self) -> Role
         ensures { result ≡ self.now.role }
     {
@@ -91,7 +90,6 @@ impl<'a> Segment<'a> {
     }
 
     /// It was added in an empty slot, for a UNITREF.
-    /// Source: this project's profile.
     pub fn added(&self) -> bool
         ensures { result ≡ self.now.added }
     {
@@ -99,7 +97,6 @@ impl<'a> Segment<'a> {
     }
 
     /// The file that its code comes from: 0 for the host, k for the k-th library, from 1.
-    /// Source: this project's profile.
     pub fn file(&self) -> usize
         ensures { result ≡ self.now.file }
     {
@@ -107,7 +104,6 @@ impl<'a> Segment<'a> {
     }
 
     /// The slot of its entry in that file, 0 to 15.
-    /// Source: this project's profile.
     pub fn index(&self) -> u8
         ensures { result ≡ self.now.index }
     {
@@ -147,7 +143,6 @@ impl<'a> Segment<'a> {
 
     /// What only a segment has whose references are resolved; `None` for one that is linked
     /// already, and so has no records.
-    /// Source: this project's profile.
     pub fn resolvable(&self) -> Option<Resolvable<'_, 'a>>
         ensures linked { is_some result ≡ needs_linking_spec self.now.role }
         ensures records { option_map_or (λ c. c.records.now) result [] ≡ self.now.records }
@@ -173,7 +168,6 @@ impl<'a> Segment<'a> {
     }
 
     /// Where it is: its file, and its slot in the host.
-    /// Source: this project's profile.
     pub fn place(&self) -> SegmentAt
         ensures { result ≡ record { file = self.now.file; slot = self.now.slot } }
     {
@@ -193,7 +187,6 @@ impl<'a> Segment<'a> {
 
     /// Whether one of these segments has references to resolve, as this one has, and its link
     /// information begins in the same block of the same file. Both then have the same records.
-    /// Source: this project's profile.
     #[tactic(auto, using(crate::proofs::SharedRecords::found))]
     pub fn shares_with(&self, segments: &[Segment<'a>]) -> bool
         ensures linked { result ≡ true → needs_linking_spec self.now.role ≡ true }

@@ -11,7 +11,6 @@ use ps_words::{Fault, Name, Order, Reason};
 use std::marker::Model;
 
 /// The number of the host among the files of a link.
-/// Source: this project's profile.
 pub const HOST_FILE: usize = 0;
 
 /// The number of a library among the files of a link: the first library is file 1. `library` is its
@@ -45,7 +44,6 @@ impl<'a> Model for HostSlots<'a> {
 
 impl<'a> HostSlots<'a> {
     /// The slots of this dictionary.
-    /// Source: this project's profile.
     pub fn of(dict: Dict<'a>) -> HostSlots<'a>
         ensures { result ≡ dict.entry }
     {

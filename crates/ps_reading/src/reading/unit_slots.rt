@@ -19,7 +19,6 @@ pub fn is_same_name(name: Name, other: Name) -> bool
 
 /// The slots of units by the units' names. They are close together, since each UNITREF record of a
 /// link is looked up in them.
-/// Source: this project's profile.
 #[derive(Drop)]
 pub struct UnitSlots {
     by_name: ArrayVec<(Name, u8), SLOT_COUNT>,
@@ -35,7 +34,6 @@ impl Model for UnitSlots {
 
 impl UnitSlots {
     /// Those of the units among these segments, of which there are sixteen at most.
-    /// Source: this project's profile.
     pub fn of(segments: &[Segment]) -> UnitSlots
         requires { length segments.now ≤ SLOT_COUNT }
         ensures { result ≡ units_of segments.now }
@@ -50,7 +48,6 @@ impl UnitSlots {
     }
 
     /// The slot of the first unit of this name, 0 to 15; `None` where no unit has the name.
-    /// Source: this project's profile.
     pub fn slot_of(&self, name: Name) -> Option<u8>
         ensures { result ≡ lookup (bytes_eq name) self.now }
     {

@@ -1,5 +1,4 @@
 -- The fault of the data size of the host's outer block.
--- Source: this project's profile.
 use Rattle.std.specs.Prelude.{◌≡◌, ℕ, ◌<◌, List, Some}
 use Rattle.ps_codefile.specs.Procedures.{table_of}
 use Rattle.ps_reading.specs.Added.{segments}

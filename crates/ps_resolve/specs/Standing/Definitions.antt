@@ -1,5 +1,4 @@
 -- Faults of the definitions, which are records of the host's segment.
--- Source: this project's profile.
 use Rattle.std.specs.Prelude.{◌≡◌, ℕ, List, slice_get, Bool, true, Some}
 use Rattle.ps_linkinfo.specs.declared.record.Body.{Body}
 use Rattle.ps_linkinfo.specs.declared.record.LinkRecord.{LinkRecord as Record}

@@ -1,5 +1,4 @@
 -- Faults of the host file by itself.
--- Source: this project's profile.
 use Rattle.std.specs.Prelude.{◌≡◌, ℕ, ◌<◌, ◌≤◌, List, length}
 use Rattle.ps_codefile.specs.Dictionary.{Zero, Mixed, file_order}
 use Rattle.ps_words.specs.FaultPlaces.{in_file}

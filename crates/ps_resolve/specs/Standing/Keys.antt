@@ -1,6 +1,5 @@
 -- The steps of a link, each of which looks for the faults of one kind of place, and the key of a
 -- fault by which the first is known.
--- Source: this project's profile.
 use Rattle.std.specs.Prelude.{ℕ, ◌+◌, List, [], ◌∷◌, Bool, true, false, Option, Some, None, unwrap_or}
 use Rattle.ps_words.specs.declared.fault.Reason.{Reason}
 use Rattle.ps_words.specs.declared.fault.Fault.{Fault}

@@ -1,5 +1,4 @@
 -- Faults of the private variables, and where each of them lies.
--- Source: this project's profile.
 use Rattle.std.specs.Prelude.{nat_lt, ◌==◌, ◌≡◌, ℕ, ◌+◌, ◌<◌, List, [], take, true, if◌then◌else◌, flat_map}
 use Rattle.ps_linkinfo.specs.declared.record.LinkRecord.{LinkRecord as Record}
 use Rattle.ps_reading.specs.Sources.{Segment, host_records}

@@ -1,5 +1,4 @@
 -- Faults of the references: of the record, and of each place that it names.
--- Source: this project's profile.
 use Rattle.std.specs.Prelude.{◌≡◌, ◌≢◌, ◌⊎◌, ℕ, ◌+◌, ◌<◌, ◌≤◌, List, [], ◌∷◌, length, slice_get, true, Some, Ok}
 use Rattle.ps_codefile.specs.Procedures.{is_reserved}
 use Rattle.ps_linkinfo.specs.Operands.{operand_width}

@@ -1,5 +1,4 @@
 -- Faults of the units that only a unit names, each of which is added in a round of its own.
--- Source: this project's profile.
 use Rattle.std.specs.Prelude.{◌≡◌, ◌⊎◌, ℕ, ◌≤◌, List, length, slice_get, take, true, Some, None}
 use Rattle.ps_codefile.specs.Dictionary.{entry_at, is_nameless}
 use Rattle.ps_reading.specs.Sources.{unit_source, file_at}

@@ -1,5 +1,4 @@
 -- What is said of a segment of the link.
--- Source: this project's profile.
 use Rattle.std.specs.Prelude.{◌≡◌, ℕ, ◌<◌, List, Some}
 use Rattle.ps_reading.specs.Sources.{Segment, host_of}
 use Rattle.ps_reading.specs.Added.{segments, segment_at}

@@ -1,6 +1,5 @@
 -- Faults of what a slot's segment comes from: the library's entries of its name, its code, its
 -- procedure tables and its link information.
--- Source: this project's profile.
 use Rattle.std.specs.Prelude.{◌≡◌, ◌≢◌, ◌⊎◌, ℕ, ◌+◌, ◌-◌, ◌*◌, ◌<◌, ◌≤◌, List, length, slice_get, slice_index, Bool, true, Some, Ok, Err}
 use Rattle.ps_codefile.specs.Dictionary.{entry_at, is_filled, code_of, information_of}
 use Rattle.ps_codefile.specs.Procedures.{table_of, procedures, content_of, dictionary_start, dictionary_len}
