@@ -202,6 +202,11 @@ def swapped(file):
     return b"".join(file[at : at + 2][::-1] for at in range(0, len(file), 2))
 
 
+def later_host():
+    """The sample host with the version of release III.0 in the word of its segment."""
+    return changed(HOST, (256, bytes(32)), (258, word(3 << 13 | 1)))
+
+
 UTIL, DEMO = "  segment UTIL, of slot 07 of the host", "  segment DEMO, of slot 01 of the host"
 AUX = "  segment AUX, of slot 08 of the host"
 again = lambda path: f"  Copy {path} again, as binary, or compile it again. Damage is in DAMAGED FILES of pslink(1)."
@@ -209,6 +214,9 @@ LEFT = "bytes of the file are left for it"
 GIVE = "  Give a library that has it, after HOST."
 WANTED = ["  No library has the unit that the slot wants.", GIVE]
 REQUESTED = ["  No library has the unit that the UNITREF in this record requests.", GIVE]
+NO_CODE = ["  The host is no code file of release II.0, so nothing is said of its segments."]
+LATER = "a code file of release III.0, which is not supported"
+COMPILE = "  Compile the program of HOST by a compiler of release II.0, and give the code file that it makes."
 NOT_READ = ["  The code is damaged: a part of it was not read, or never written.", "  Copy HOST again, as binary."]
 
 
@@ -234,7 +242,12 @@ def faults():
         (7, changed(HOST, (194, b"\2")), [LIBRARY], [DEMO]),
         (8, changed(HOST, (194, b"\4")), [LIBRARY], [DEMO]),
         (9, changed(HOST, (194, b"\5")), [LIBRARY], [DEMO, "  its kind is 5"]),
-        (10, changed(HOST, (194, b"\x08")), [LIBRARY], [DEMO, "  its kind is 8", "note: HOST: it may be no code file of a known form"]),
+        (10, changed(HOST, (194, b"\x08")), [LIBRARY], ["  it is no code file of a known form"], *NO_CODE, again("HOST")),
+        (10, changed(HOST, *entry(3, "OTHER", 8, 9, 18)), [LIBRARY], ["  segment OTHER, of slot 03 of the host", "  its kind is 8"]),
+        # hosts of release III.0: nothing is said of their segments, but of a library that is no code file and of one that is refused
+        (13, later_host(), [bytes(2048)], [f"  it is {LATER}", "note: LIB1: it may be a file of the byte 00 alone"], *NO_CODE, COMPILE),
+        (13, later_host(), [USING], [UTIL, "  record 0: UNITREF AUX", "  LIB1 has UTIL", f"note: HOST: it may be {LATER}"], REQUESTED[0], COMPILE),
+        (3, later_host(), [changed(LIBRARY, (196, b"\0\3"))], ["  it is big-endian; the host is little-endian", f"note: HOST: it may be {LATER}"], COMPILE),
         (11, HOST, unit((10, word(23))), [UTIL, f"  entry 02 has 23 {extent} 512 to 535; the file has 1536"]),
         (12, changed(HOST, (4, word(0))), [LIBRARY], [DEMO, f"  entry 01 has 18 {extent} 0 to 18; the file has 1536"]),
         (13, HOST, [], [UTIL, "  no library is given"], *WANTED),
@@ -260,13 +273,15 @@ def faults():
         (17, HOST, [changed(dead_unit(), (CODE + 1054, word(5000)))], [UTIL, "  the table of procedure 1 lies outside the code", "  bytes 512 to 1023 of its code are all E5: they may not have been read"]),
         (18, HOST, unit((CODE + 18, b"\0")), [UTIL, "  the table of procedure 1 has the number 0, native code"]),
         (18, native_host(), [LIBRARY], [DEMO, "  the table of procedure 2 has the number 0, native code", "  bytes 512 to 1023 of its code are all 00: they may not have been read"], *NOT_READ),
-        (18, swapped(HOST), [swapped(LIBRARY)], ["  segment EDOM, of slot 01 of the host", "  the table of procedure 1 has the number 0, native code", "note: LIB1: it may be a code file whose bytes are exchanged in pairs"], "  The bytes of the code are exchanged in pairs.", "  Exchange the bytes again: dd conv=swab if=HOST of=FILE. Then give FILE."),
+        (18, swapped(HOST), [swapped(LIBRARY)], ["  it is a code file whose bytes are exchanged in pairs", "note: LIB1: it may be a code file whose bytes are exchanged in pairs"], *NO_CODE, "  Exchange the bytes again: dd conv=swab if=HOST of=FILE. Then give FILE."),
+        # a library whose bytes are exchanged, of a host that is a code file
+        (18, SAMPLES["big_host.code"], [swapped(unit_with(m.UNIT_LINKS, slot=1)).replace(b"TULI", b"UTIL")], ["  segment UTIL, of slot 07 of the host", "  the table of procedure 1 has the number 0, native code"], "  The bytes of the code are exchanged in pairs.", "  Exchange the bytes again: dd conv=swab if=LIB1 of=FILE. Then give FILE."),
         (19, HOST, [LIBRARY[:1103]], [UTIL, f"  record 2: 15 {LEFT}"]),
-        (20, HOST, unit((LINKS + 8, b"\x0f")), [UTIL, f"  record 0: type 15, and then the word 2; 512 {LEFT}"]),
-        (20, HOST, [changed(LIBRARY[: LINKS + 16], (LINKS + 8, b"\x0f"))], [UTIL, f"  record 0: type 15, and then the word 2; 16 {LEFT}"]),
-        (21, HOST, unit((LINKS + 8, b"\2")), [UTIL, f"  record 0: type 2, and then the word 2; 512 {LEFT}"]),
-        (22, HOST, unit((LINKS + 8, b"\x0b")), [UTIL, f"  record 0: type 11, and then the word 2; 512 {LEFT}"]),
-        (23, HOST, unit((LINKS + 32 + 10, b"\1")), [UTIL, f"  record 1: type 4, and then the word 1; 480 {LEFT}"]),
+        (20, HOST, unit((LINKS + 8, b"\x0f")), [UTIL, f"  record 0: type 15, and its word A is 2; 512 {LEFT}"]),
+        (20, HOST, [changed(LIBRARY[: LINKS + 16], (LINKS + 8, b"\x0f"))], [UTIL, f"  record 0: type 15, and its word A is 2; 16 {LEFT}"]),
+        (21, HOST, unit((LINKS + 8, b"\2")), [UTIL, f"  record 0: type 2, and its word A is 2; 512 {LEFT}"]),
+        (22, HOST, unit((LINKS + 8, b"\x0b")), [UTIL, f"  record 0: type 11, and its word A is 2; 512 {LEFT}"]),
+        (23, HOST, unit((LINKS + 32 + 10, b"\1")), [UTIL, f"  record 1: type 4, and its word A is 1; 480 {LEFT}"]),
         (24, host_with([m.publ_def("COUNT", 3), m.record("COUNT", 8, 1), m.eof_mark(8)]), [LIBRARY], [DEMO, "  record 1: CONSTDEF COUNT", "  the earlier one is record 0: PUBLDEF COUNT"]),
         (25, HOST, [unit_with([STATE, m.priv_ref("STATE", 1, []), END])], [UTIL, "  record 1: PRIVREF STATE", "  the earlier one is record 0: PRIVREF STATE"]),
         (26, HOST, [unit_with([m.priv_ref("FIRST", 2, []), m.priv_ref("STATE", 32758, []), END])], [UTIL, "  record 1: PRIVREF STATE", "  it takes 32758 words from base offset 10 on"]),
@@ -336,7 +351,6 @@ def forms():
     """What is given in place of a code file: what it is, its bytes, and what to do with it."""
     boot = bytes(range(1, 256)) * 4
     head = "  Remove the header: tail -c +{} @ > FILE. Then give FILE."
-    decode = "  Decode @ by {}, and give what comes out."
     source = "  Give the code file that the compiler made of @, or of its program."
     lost = "  Copy @ again: nothing of the code file is in it."
     return [
@@ -357,9 +371,10 @@ def forms():
         ("a disk image, of the volume DISK", volume(boot), "  Take the code file off the volume in @, as binary, and give that."),
         ("a text", text_of(20), source),
         ("a text", text_of(20, b"\r\n"), source),
-        ("a text in base64", base64.encodebytes(HOST), decode.format("base64 -d")),
-        ("a uuencoded text", uuencoded(HOST), decode.format("uudecode")),
-        ("a dump in hexadecimal digits", dump(HOST), "  Turn @ into bytes again, as by xxd -r, and give what comes out."),
+        # a file that was encoded as a text, or a dump of it, is a text
+        ("a text", base64.encodebytes(HOST), source),
+        ("a text", uuencoded(HOST), source),
+        ("a text", dump(HOST), source),
         ("a text of a p-System", bytes(1024) + text_of(8, b"\r").ljust(1024, b"\0"), source),
         ("a file whose line ends were converted: each 0A in it comes after a 0D", b"\1" * 200 + b"\r\n\2" * 40 + b"\3" * 600, "  Copy @ again, as binary, so that no line end is converted."),
         ("a file whose line ends were converted: it has bytes 0D and none 0A", b"\1" * 200 + b"\r\2" * 40 + b"\3" * 600, "  Copy @ again, as binary, so that no line end is converted."),
