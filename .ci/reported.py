@@ -111,6 +111,7 @@ MIXED = [f"SLDC {number}" for number in random.Random(39).choices(range(128), k=
 AGAIN = MIXED[:128] * 6
 AUX_UNIT, OTHER_UNIT = (m.Segment(name, m.UNITSEG, m.UNIT, m.UNIT_LINKS) for name in ("AUX", "OTHER"))
 AUX_FILE = m.code_file({3: AUX_UNIT})
+TOOL = LIBRARY.replace(b"UTIL", b"TOOL")
 # a host that wants two units of four private words each, and a library that has both
 TWO_WANTED = m.code_file({**m.HOST, 8: m.Segment("AUX", m.UNITSEG, m.WANTED)})
 TWO_UNITS = m.code_file({**m.LIBRARY, 3: AUX_UNIT})
@@ -255,6 +256,10 @@ def faults():
         (13, HOST, [LIBRARY.replace(b"UTIL    ", b"UTIL\0\0\0\0")], [UTIL, f'  LIB1 has "UTIL\\x00\\x00\\x00\\x00" (which {near})', 'note: LIB1: the name "UTIL\\x00\\x00\\x00\\x00" is padded with zeros where blanks are expected: it may not be found'], *WANTED),
         (13, HOST, [m.code_file({3: AUX_UNIT, 5: OTHER_UNIT}), m.code_file({1: m.Segment("DEMO", m.LINKED, m.PROGRAM)})], [UTIL, "  LIB1 has AUX, OTHER", "  LIB2 has no unit"], *WANTED),
         (13, HOST, [bytes(2048), LIBRARY.replace(b"UTIL", b"TOOL")], [UTIL, "  LIB1 is a file of the byte 00 alone", "  LIB2 has TOOL"], WANTED[0], "  Copy LIB1 again: nothing of the code file is in it."),
+        # the first library that is no code file is not always the first one; what a library only wants it has not
+        (13, HOST, [TOOL, bytes(2048)], [UTIL, "  LIB1 has TOOL", "  LIB2 is a file of the byte 00 alone"], WANTED[0], "  Copy LIB2 again: nothing of the code file is in it."),
+        (13, HOST, [changed(TOOL, *entry(5, "UTIL", 3, 0, 0))], [UTIL, "  LIB1 has TOOL"], *WANTED),
+        (14, HOST, [changed(TOOL, *entry(5, "UTIL", 2, 9, 24), *entry(6, "UTIL", 3, 0, 0))], [UTIL, "  entry 05 has the name, of kind 2: a segment procedure"], "  Give the unit's library before LIB1, or remove that segment from LIB1."),
         (13, HOST, [USING], [UTIL, "  record 0: UNITREF AUX", "  LIB1 has UTIL"], *REQUESTED),
         (13, HOST, [BLANK_LIBRARY], [UTIL, '  record 0: UNITREF ""', '  LIB1 has UTIL, ""'], *REQUESTED),
         *((13, HOST, [AUX_FILE] * count, [UTIL, *(f"  LIB{k} has AUX" for k in range(1, 17)), *rest], *WANTED)
@@ -289,6 +294,9 @@ def faults():
         (28, HOST, [unit_with([m.publ_ref("Count", [1]), END])], [UTIL, "  record 0: PUBLREF Count", "  the host has PUBLDEF COUNT, record 0", "note: LIB1, segment UTIL, record 0: the name Count has small letters, and other names have capitals: it may not be found"]),
         (28, HOST, [unit_with([m.publ_ref("OTHER", [1]), END]), LIBRARY, LIBRARY], [UTIL, "  record 0: PUBLREF OTHER"]),
         (28, HOST, [unit_with([m.publ_ref("OWN", [1]), m.publ_def("OWN", 1), END])], [UTIL, "  record 0: PUBLREF OWN", "  the unit itself has a PUBLDEF of it, record 1, which is not used: the host program has to define it", "warning: LIB1, segment UTIL, record 1: the unit refers to OWN and defines it itself: only the host program defines variables"]),
+        # a definition of nearly the name is any record of the host; a unit's constant is no variable
+        (28, host_with([m.publ_def("OTHER", 3), m.publ_def("COUNT", 4), m.eof_mark(8)]), [unit_with([m.publ_ref("Count", [1]), END])], [UTIL, "  record 0: PUBLREF Count", "  the host has PUBLDEF COUNT, record 1", "note: LIB1, segment UTIL, record 0: the name Count has small letters, and other names have capitals: it may not be found"]),
+        (28, HOST, [unit_with([m.publ_ref("OWN", [1]), m.record("OWN", 8, 1), END])], [UTIL, "  record 0: PUBLREF OWN", "warning: LIB1, segment UTIL, record 1: the unit refers to OWN and defines it itself: only the host program defines variables"]),
         (29, host_with([m.record("COUNT", 8, 3), m.eof_mark(8)]), [LIBRARY], [UTIL, "  record 0: PUBLREF COUNT", "  the host has CONSTDEF COUNT, record 0"]),
         (31, HOST, [unit_with([m.publ_ref("COUNT", [1, 23]), END])], [UTIL, "  record 0: PUBLREF COUNT", "  reference 1: byte 23 of the code, where these bytes stand: 01", "  the code has 24 bytes"]),
         (31, HOST, [unit_with([m.publ_ref("COUNT", [24]), END])], [UTIL, "  record 0: PUBLREF COUNT", "  reference 0: byte 24 of the code, where these bytes stand: none", "  the code has 24 bytes"]),
@@ -465,6 +473,9 @@ def warnings():
         *(([f"harmless: LIB1: slot 04 is of kind {kind}, an intrinsic unit of Apple Pascal or its data"], HOST, unit(*entry(4, "TURTLE", kind, address, length)))
           for kind, address, length in ((5, 9, 24), (6, 0, 200), (7, 0, 200), (7, 0, 23))),
         ([odd("demo", "has small letters, and other names have capitals")], changed(HOST, (72, b"demo")), [LIBRARY]),
+        # a unit that the host wants by an odd name, which is that of the library too
+        ([odd("Util", "has small letters, and other names have capitals"), odd("Util", "has small letters, and other names have capitals").replace("HOST", "LIB1")],
+         HOST.replace(b"UTIL", b"Util"), [LIBRARY.replace(b"UTIL", b"Util")]),
         ([odd('"DEMO\\x00\\x00\\x00\\x00"', "is padded with zeros where blanks are expected")], changed(plain, (72, b"DEMO\0\0\0\0")), [LIBRARY]),
         ([odd('"DEM\\x01"', "has control bytes")], changed(plain, (75, b"\1")), [LIBRARY]),
         ([odd('"DEM\\x7f"', "has control bytes")], changed(plain, (75, b"\x7f")), [LIBRARY]),
@@ -508,7 +519,7 @@ def warnings():
         ([f"note: HOST, segment TOOLS: {no_end}"], changed(plain, (end - 1, b"\0")), [three]),
         ([f"note: HOST, segment TOOLS: {no_end}"], changed(plain, (end - 1, b"\xc8")), [three]),
         (["note: HOST, segment TOOLS: the attribute table of procedure 1 says that it is procedure 3: the code may be damaged"], changed(plain, (end - 6, b"\3")), [three]),
-        ([clear(1)], HOST, unit((CODE + 1, b"\0"))),
+        *(([clear(1)], HOST, unit((CODE + 1, bytes([byte])))) for byte in (0, 0x3F, 0x40, 0x7E)),
         ([f"warning: {in_unit}, record 1: the operand at byte 4 is word 2 of a variable that has 2"], HOST, [unit_with([COUNT, m.priv_ref("STATE", 2, [4]), END])]),
         ([f"warning: {in_unit}, record 1: the operand at byte 4 is word 1 of a variable that has 0"], HOST, [changed(unit_with([COUNT, m.priv_ref("STATE", 0, [4]), END]), (CODE + 5, b"\1"))]),
         ([f"harmless: {in_unit}, record 1: the unit defines MORE, which has no effect: only the host program defines variables"], HOST, [unit_with([COUNT, m.publ_def("MORE", 3), END])]),
@@ -558,6 +569,9 @@ def quiet():
         (with_native(400), [LIBRARY]),
         (changed(HOST, (256, b"PROGRAM DEMO, FOR ALL MACHINES.")), [changed(LIBRARY, (256, b"FG" * 16))]),
         (changed(HOST, (256, b"\0\x17" * 16)), [changed(LIBRARY, (256, b"\x20\x07" * 16))]),
+        # one byte 1A, and blanks in the second half of a dictionary
+        (HOST, [LIBRARY + b"\x1a"]),
+        (changed(HOST, (384, b" " * 128)), [LIBRARY]),
         # less than 32 line ends
         *((HOST, [changed(LIBRARY, (600, line * 31))]) for line in (b"\r\n", b"\n", b"\r")),
         # texts of blanks, and of no operation
