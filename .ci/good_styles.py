@@ -62,6 +62,12 @@ def written():
     ]  # fmt: skip
 
 
+# Of the styles below those that a file can have at once.
+AT_ONCE = """short_end clear_bits free_words free_bytes other_numbers odd_tables one_table between operand_numbers host_numbers free_records
+several empty_records unit_definitions high_mark no_procedures other_kinds linked_parts linked_library anywhere empty_addresses free_texts
+gaps half host_refs in_place old_mark noted""".split()
+
+
 def allowed():
     """The styles that FORMAT.md allows besides: a note may be said of those that have `noted`."""
     return [
@@ -93,6 +99,7 @@ def allowed():
         Style("addresses in empty slots", empty_addresses=True, half=True),
         Style("any text addresses", free_texts=True),
         Style("blocks between segments", gaps=True, old_records=True, noted=True),
+        *(Style(f"all that is allowed at once, {order}-endian", order=order, **dict.fromkeys(AT_ONCE, True)) for order in ("little", "big")),
     ]  # fmt: skip
 
 
@@ -149,7 +156,7 @@ PERMISSIONS = {
     "neither reads nor changes a lex level": ["any words in tables"],
     "accepts procedures in any order": ["plain", "bytes between procedures"],
     "two of any value, then its number": ["units without procedures"],
-    "**What is not checked**": ["any bytes as instructions", "any words in tables", "bytes between procedures"],
+    "**What is not checked**": ["all that is allowed at once, little-endian", "all that is allowed at once, big-endian", "any bytes as instructions", "any words in tables", "bytes between procedures"],
     "A reference may point to any byte": ["any bytes as instructions"],
     "compares it with nothing": ["a high end mark"],
     "Its value is not used": ["any words in records"],
