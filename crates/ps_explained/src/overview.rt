@@ -142,7 +142,7 @@ fn add_files<A: Allocator + Copy>(
 
 /// Adds what each slot of the host is for, and what libraries have that is not used. Where the files
 /// were read without a fault, each segment of the link has its line, and no other line begins as
-/// those do. Nothing is said of the slots of a host that is refused and no code file.
+/// those do.
 fn add_segments<A: Allocator + Copy>(
     alloc: A,
     text: &mut String<A>,
@@ -155,9 +155,6 @@ fn add_segments<A: Allocator + Copy>(
         (segment_lines (inputs.now.host_path.now ∷ contents inputs.now.paths.now)
         reading.now.host reading.now.libs) (string_bytes text.new)) }
 {
-    if reading.fault().is_some() && !inputs.file_type(0).is_code() {
-        return Ok(());
-    }
     add_each(alloc, text, inputs, reading, list)?;
     let lines = lines_after(alloc, inputs, reading, list)?;
     add_other_lines(text, lines.as_str())

@@ -11,7 +11,7 @@ use crate::release::later_release;
 use ps_codefile::code_layout::NUMBERS;
 use ps_codefile::dictionary_layout::SLOTS;
 use ps_codefile::kinds::{HOSTSEG, LAST_INTRINSIC, LINKED, UNITSEG};
-use ps_codefile::{Dict, Entry, Role, is_nameless, open};
+use ps_codefile::{Dict, Entry, ProcedureDictionary, Role, is_nameless, open};
 use ps_words::{Name, Order, Reason, WORD_LEN, get};
 
 /// What a code file is for, by the kinds of its segments.
@@ -380,16 +380,22 @@ pub(crate) fn is_swapped_file(bytes: &[u8]) -> bool
     }
 }
 
-/// The code of a slot ends with a procedure dictionary: it has a table, and each has its number.
+/// A code ends with a procedure dictionary: it has a table, and each is in the code and has its
+/// number.
+fn ends_with_dictionary(order: Order, code: &[u8]) -> bool
+    requires { 2 ≤ length code.now }
+{
+    ProcedureDictionary::read(order, code, false).is_ok()
+        && has_numbers(order, code, code[code.len() - 1], 0)
+}
+
+/// So does that of a slot.
 fn has_dictionary(dict: &Dict<'_>, slot: u8) -> bool
     requires { slot < SLOTS }
 {
     match dict.code(slot) {
-        Ok(code) => match code.last() {
-            Some(count) => has_numbers(dict.order(), code, *count, 0),
-            None => false,
-        },
-        Err(_) => false,
+        Ok(code) if NUMBERS <= code.len() => ends_with_dictionary(dict.order(), code),
+        _ => false,
     }
 }
 
