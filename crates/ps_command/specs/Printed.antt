@@ -49,7 +49,8 @@ IsPlace Leads quiet by_option out map place.Error =
     (quiet ≡ false) × (((by_option ≡ true) × Leads out true)
     ⊎ IsSomeAnd map (λ file. Leads file true))
 
--- the same of the file of the map alone
+-- where a line beside the file of a map goes: on standard error if that file leads to standard
+-- output, and else on standard output
 abbrev pub IsBeside : (Text → Bool → Type 0) → Option Text → Place → Type 0
 IsBeside Leads map place.Nowhere = ⊥
 IsBeside Leads map place.Output = IfSome map (λ file. Leads file false)

@@ -333,7 +333,6 @@ fn with_command<'a>(
     app.subcommand(command_of(heap, form)?)
 }
 
-/// The command of this form.
 fn command_of<'a>(heap: Global, form: &CommandForm) -> Result<Command<'a>, AllocError>
     ensures { IfOk result (IsMade (app_in form.now)) }
 {
@@ -357,7 +356,6 @@ fn bare_command_of<'a>(heap: Global, form: &CommandForm) -> Command<'a>
     }
 }
 
-/// The argument of this form.
 fn argument_of<'a>(heap: Global, form: Argument) -> Arg<'a>
     ensures { IsArgument (rule_in form) result }
 {
@@ -398,7 +396,7 @@ fn flag<'a>(heap: Global, name: &'a str, help: &'a str) -> Arg<'a>
         .help(help)
 }
 
-/// The same with a letter.
+/// A flag with a letter too.
 fn flag_by_letter<'a>(heap: Global, name: &'a str, letter: char, help: &'a str) -> Arg<'a>
     ensures { IsArgument (flag_rule name.entry.now (Some letter)) result }
 {
@@ -415,7 +413,7 @@ fn value<'a>(heap: Global, id: &'a str, name: &'a str, help: &'a str) -> Arg<'a>
         .help(help)
 }
 
-/// The same with a letter.
+/// An option with a value, and a letter too.
 fn value_by_letter<'a>(
     heap: Global,
     id: &'a str,

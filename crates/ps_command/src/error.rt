@@ -252,7 +252,7 @@ pub(crate) enum CommandError<'a> {
     NotText(WrongArgument),
     #[error("pslink: cannot read {}", ShownPath(.path))]
     Read { path: &'a str },
-    /// The same where the cause is named too.
+    /// A file that cannot be read, with the cause.
     #[error("pslink: cannot read {} ({cause})", ShownPath(.path))]
     Unreadable { path: &'a str, cause: Cause },
     #[error("pslink: {} is longer than 67108864 bytes", ShownPath(.path))]

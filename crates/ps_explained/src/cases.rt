@@ -15,7 +15,6 @@ pub struct Case<'c, 'a> {
     pub inputs: &'c NamedFiles<'a>,
     /// The segments of the link.
     pub list: &'c [ReadSegment<'a>],
-    /// The fault.
     pub fault: Fault,
     /// The segment of its slot.
     pub segment: Option<ReadSegment<'a>>,

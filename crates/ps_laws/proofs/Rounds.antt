@@ -143,7 +143,7 @@ RoundsHave order host libs k r =
     (o : Option Place) × Least Earlier (FromRound order host libs k) o
     × (option_map (λ (x : Place). x.1) o ≡ r.fault)
 
--- that of a round without a fault is that of the rounds after it
+-- the fault of a round without one is that of the rounds after it
 round_more : (order : Order) (host : List ℕ) (libs : List (List ℕ)) (k : ℕ)
     (s : Segment) (rest : RoundsOutcome) → ((f : Fault) → InRound order host libs k f → ⊥)
     → RoundsHave order host libs (k + 1) rest → RoundsHave order host libs k (after s rest)

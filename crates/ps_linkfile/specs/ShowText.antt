@@ -41,7 +41,7 @@ slot_row slot e = InSlot (codes "slot ") slot e.name ∷ Number (codes "kind") e
     ∷ Number (codes "address") e.address ∷ Number (codes "length") e.length
     ∷ Number (codes "text") e.text ∷ []
 
--- that of an entry, but for the end of an item, in which the link information follows
+-- the row of an entry, but for the end of an item, in which the link information follows
 abbrev pub entry_in : Form → ℕ → Entry → List ℕ
 entry_in form slot e = by_form form [] (separator slot) ++ values_in form (slot_row slot e)
     ++ by_form form (codes "\n") []

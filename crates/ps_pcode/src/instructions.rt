@@ -60,7 +60,6 @@ fn big_end(high: u8, before: usize) -> usize
     before + 2 + usize::from(TWO_BYTES <= high)
 }
 
-/// An instruction.
 #[derive(Clone, Copy)]
 pub(crate) struct Instruction {
     operands: Operands,

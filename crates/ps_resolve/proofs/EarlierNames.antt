@@ -91,7 +91,7 @@ distinct_names rs ys moved ascends rec r there h =
     distinct = IsDistinct-IsPermutation is_same flips ys (private_numbers rs)
         (IsPermutation-sym (private_numbers rs) ys moved) sorted
 
--- and where their numbers, sorted, do not ascend, two are equal
+-- where the numbers of privates, sorted, do not ascend, two are equal
 pub shared : (rs : List Record) (ys : List ℕ) → IsPermutation (private_numbers rs) ys
     → IsSorted nat_cmp ys → (IsStrictlyIncreasing ys → ⊥)
     → IsDistinct (λ x y. x == y) (private_numbers rs) → ⊥
@@ -138,7 +138,7 @@ pub record Stands (all : List Record) (n : ℕ) (rs : List Record) : Type 0 wher
   pub whole : all ≡ prefix ++ rs
   pub count : n ≡ length prefix
 
--- and so are, after one more, those from the next index on
+-- what stands of the records from an index on stands from the next one on
 abbrev pub further : (all : List Record) (n : ℕ) (r : Record) (rs : List Record)
     → Stands all n (r ∷ rs) → Stands all (n + 1) rs
 further all n r rs s = record {

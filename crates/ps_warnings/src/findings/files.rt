@@ -61,7 +61,6 @@ fn type_finding(context: &Context<'_, '_>, file: usize, bytes: &[u8]) -> Option<
     Some(FileFinding::NoCodeFile { file_type })
 }
 
-/// Looks at a code file.
 fn look_at_code_file<'a, A: Allocator>(
     findings: &mut Findings<'a, A>,
     context: &Context<'_, 'a>,
