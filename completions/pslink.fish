@@ -7,7 +7,7 @@ complete -c pslink -f
 complete -c pslink -n "not __fish_seen_subcommand_from $commands" -a link -d 'Links a host with the units that it uses, and writes the linked file'
 complete -c pslink -n "not __fish_seen_subcommand_from $commands" -a map -d 'Prints where a link would put each segment and private variable, and writes no file'
 complete -c pslink -n "not __fish_seen_subcommand_from $commands" -a show -d 'Prints the segments of one code file and the link information of each'
-complete -c pslink -n "not __fish_seen_subcommand_from $commands" -a check -d 'Says in words what is wrong with the files and what looks wrong'
+complete -c pslink -n "not __fish_seen_subcommand_from $commands" -a check -d 'Says in words whether the files link, what is wrong and what looks wrong'
 complete -c pslink -n "not __fish_seen_subcommand_from $commands" -a list -d 'Prints a line of each file and of each of its segments, made for grep'
 complete -c pslink -n "not __fish_seen_subcommand_from $commands" -a help -d 'Print this message or the help of the given subcommand(s)'
 complete -c pslink -n "not __fish_seen_subcommand_from $commands" -s V -l version -d 'Print version'
