@@ -8,7 +8,7 @@ use Rattle.ps_codefile.specs.Procedures.{content_of, is_placed, numbers, procedu
 use Rattle.ps_codefile.specs.Places.{HasTables, HasWords, IsWhole, passes}
 use Rattle.ps_codefile.proofs.Alls.{all_at}
 
--- one of these numbers has a table whose place passes a test just where one of their tables does
+-- the table of some number passes a test just where one of the tables of all numbers does
 any_of : (test : ℕ → Bool) (f : ℕ → Option ℕ) (ns : List ℕ)
     → list_any (λ n. passes test (f n)) ns ≡ list_any test (filter_map f ns)
 any_of test f [] = refl

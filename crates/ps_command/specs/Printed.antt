@@ -29,8 +29,8 @@ use Rattle.ps_command.specs.Requests.{files_of, has_output, has_references, is_j
 use Rattle.ps_command.specs.declared.linking.Place.{Place}
 use Rattle.ps_command.specs.declared.linking.Place.TheVariants as place
 
--- it holds of a host that was read at its path and of libraries that were read at theirs, one for
--- one in their order, and of their linked file
+-- some link has this: of a host that was read at its path and of libraries that were read at
+-- theirs, one for one in their order, and of their linked file
 abbrev pub SomeLink : (Text → List ℕ → Type 0) → Text → List Text
     → (List ℕ → List (List ℕ) → List ℕ → Type 0) → Type 0
 SomeLink Reads path paths Holds =

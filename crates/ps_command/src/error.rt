@@ -30,7 +30,7 @@ pub(crate) enum Cause {
     Missing,
     Folder,
     Forbidden,
-    /// Its name is not UTF-8, and stands with a zero byte at its end, which no path has.
+    /// The name is not UTF-8, and stands with a zero byte at its end, which no path has.
     NotText,
     /// Memory for its bytes, or for what is said of it, was refused.
     Memory,

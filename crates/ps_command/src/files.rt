@@ -45,7 +45,7 @@ impl From<AllocError> for FileFault {
 }
 
 impl FileFault {
-    /// This fault, of the file at `path`.
+    /// The error of this fault, of the file at `path`.
     fn at<'a>(self, path: &'a str) -> FileError<'a>
         ensures { result ≡ read_error path.entry self }
     {

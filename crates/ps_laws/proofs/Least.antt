@@ -8,11 +8,11 @@ pub data Least {X : Type 0} (IsBefore : X → X → Type 0) (Stands : X → Type
   this : (x : X) → Stands x → ((y : X) → Stands y → (y ≡ x) ⊎ IsBefore x y)
       → Least IsBefore Stands (Some x)
 
--- of two faults of one step, the first has the smaller key
+-- the first of two faults of one step has the smaller key
 abbrev pub Precedes : Step → Fault → Fault → Type 0
 Precedes step f g = Before (key step f) (key step g)
 
--- of two keys not each is before the other
+-- two keys are not each before the other
 pub not_both : (a b : List ℕ) → Before a b → Before b a → ⊥
 not_both [] b h k = h
 not_both (x ∷ a) [] h k = h

@@ -22,7 +22,7 @@ RoundHas order host libs g left f =
 reads : (f : Fault) → 13 ≤ rank f.reason → record_read f.reason f.rec ≡ part f.rec
 reads f h = grind arith
 
--- that a unit is missing comes before it
+-- the fault that a unit is missing comes before the round's others
 missing_first : (k : ℕ) (g : UnitReference) (f : Fault) → 13 ≤ rank f.reason
     → Precedes (OfAdded k)
     (in_record g.at.segment.file g.at.segment.slot g.at.rec reason.MissingUnit) f

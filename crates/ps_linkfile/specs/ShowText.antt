@@ -54,7 +54,7 @@ unfoldable pub unit_names : Order → List ℕ → List (List ℕ)
 unit_names order file = map (λ slot. (entry_at order file slot).name)
     (filter (is_role is_unit order file) slots)
 
--- one of these units has the name
+-- a unit of these has the name
 abbrev pub is_listed : List (List ℕ) → List ℕ → Bool
 is_listed units name = list_any (λ unit. bytes_eq unit name) units
 

@@ -198,7 +198,7 @@ pub(crate) fn unit_names(dict: &Dict) -> ArrayVec<Name, SLOT_COUNT>
     names
 }
 
-/// One of these units has the name.
+/// A unit of these has the name.
 pub(crate) fn is_listed(units: &[Name], name: Name) -> bool
     ensures { result ≡ is_listed_spec units.now name }
 {

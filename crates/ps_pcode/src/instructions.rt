@@ -101,7 +101,7 @@ impl Instruction {
         }
     }
 
-    /// It goes to one of several places, by an index.
+    /// The instruction goes to one of several places, by an index.
     pub(crate) fn is_case(self) -> bool {
         matches!(self.operands, Operands::Case)
     }

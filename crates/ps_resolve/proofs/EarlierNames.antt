@@ -33,7 +33,7 @@ pub more_numbers : (xs : List ℕ) (r : Record) (rs : List Record)
     → xs ++ private_numbers (r ∷ rs) ≡ (xs ++ number r ∷ []) ++ private_numbers rs
 more_numbers xs r rs h = grind (arith, append_assoc)
 
--- these numbers and those of the records that are left are all
+-- the numbers of all privates: these, and those of the records that are left
 abbrev pub AreNumbers : List Record → List ℕ → ℕ → List Record → Type 0
 AreNumbers all xs n rs = xs ++ private_numbers rs ≡ private_numbers all
 
@@ -110,7 +110,7 @@ counted rs =
     let own : Record → Bool = λ r. is_private_reference r.body in
     length-map (filter own rs) number ∙ length-filter own rs
 
--- of fewer than two privates none has the name of an earlier one
+-- no private has the name of an earlier one, where there are fewer than two
 pub few_privates : (rs : List Record) → privates_in rs < 2
     → HaveNoNamesakes is_private_reference rs
 few_privates rs few =

@@ -118,7 +118,7 @@ abbrev pub HaveOneEach : List ℕ → List Segment → Type 0
 HaveOneEach host segs = (slot : ℕ) → slot < SLOTS
     → (HasRole (order_of host) host slot Empty → ⊥) → HasOne segs slot
 
--- they are by slot, ascending, so no two have one slot; each slot is below SLOTS
+-- the segments are by slot, ascending, so no two have one slot; each slot is below SLOTS
 abbrev pub AreBySlot : List Segment → Type 0
 AreBySlot segs =
     ((i j : ℕ) (s q : Segment) → i < j → slice_get segs i ≡ Some s

@@ -138,7 +138,8 @@ pub(crate) trait RequestsPrivates {
     fn place(&self) -> SegmentAt
         ensures { result ≡ (owner self.now).0 };
 
-    /// Its link information; `None` where it is linked already, so that it has no records.
+    /// The link information of the owner; `None` where it is linked already, so that it has no
+    /// records.
     fn records(&self) -> Option<LinkInformation<'_>>
         ensures { unwrap_or result [] ≡ (owner self.now).1 };
 }

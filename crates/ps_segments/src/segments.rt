@@ -108,7 +108,8 @@ pub struct ReadSegment<'a> {
 }
 
 impl<'a> ReadSegment<'a> {
-    /// Its records, up to the first that cannot be read; none where they are not to be read.
+    /// The records of the segment, up to the first that cannot be read; none where they are not to
+    /// be read.
     /// Source: the published II.0 Linker source.
     pub fn records(&self) -> LinkInformation<'a>
         ensures { result ≡ (seen self.now).records }
