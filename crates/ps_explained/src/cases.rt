@@ -110,7 +110,6 @@ impl<'c, 'a> Case<'c, 'a> {
         }
     }
 
-    /// The name of the unit that is missing.
     pub fn missing_unit(&self) -> Option<Name> {
         match self.fault.rec {
             Some(_) => Some(self.record()?.name),

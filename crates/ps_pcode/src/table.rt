@@ -186,7 +186,6 @@ pub(crate) enum Release {
 }
 
 impl Row {
-    /// The row of an opcode in a release.
     pub(crate) fn of(opcode: u8, release: Release) -> Row {
         if matches!(release, Release::Earlier) {
             if let Some(row) = row_in(&EARLIER, opcode) {

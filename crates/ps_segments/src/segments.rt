@@ -54,7 +54,6 @@ impl SegmentPart {
         matches!(self, SegmentPart::Host)
     }
 
-    /// The segment is a unit.
     pub fn is_unit(self) -> bool
         ensures { result ≡ is_unit_spec self }
     {
@@ -485,7 +484,6 @@ fn slots_taken(host: &HostReading<'_>) -> usize
     taken
 }
 
-/// Adds a segment, if there is one.
 fn add_segment<'a, A: Allocator>(
     list: &mut Vec<ReadSegment<'a>, A>,
     segment: Option<ReadSegment<'a>>,
@@ -509,7 +507,6 @@ fn push_segment<'a, A: Allocator>(
     Ok(list.push(segment)?)
 }
 
-/// The segments that have slots.
 fn segments_in_slots<'a, A: Allocator + Copy>(
     alloc: A,
     inputs: &NamedFiles<'a>,
