@@ -15,7 +15,6 @@ pub struct Case<'c, 'a> {
     pub inputs: &'c NamedFiles<'a>,
     /// The segments of the link.
     pub list: &'c [ReadSegment<'a>],
-    /// The fault.
     pub fault: Fault,
     /// The segment of its slot.
     pub segment: Option<ReadSegment<'a>>,
@@ -121,7 +120,6 @@ impl<'c, 'a> Case<'c, 'a> {
         }
     }
 
-    /// The name of the unit that is missing.
     pub fn missing_unit(&self) -> Option<Name> {
         match self.fault.rec {
             Some(_) => Some(self.record()?.name),

@@ -275,7 +275,7 @@ fn has_number(order: Order, code: &[u8], after: usize, number: usize) -> bool
         && (!has_table(order, code, number) || has_number_behind(order, code, after, number))
 }
 
-/// So it is with each of so many procedures, from 1 on.
+/// Each of so many procedures, from 1 on, has its number behind its table.
 fn have_numbers(order: Order, code: &[u8], count: usize, after: usize) -> bool
     requires few { count ≤ 255 }
     requires near { after ≤ 1 }
@@ -339,7 +339,7 @@ fn is_swapped_code(dict: &Dict<'_>, slot: u8) -> bool
     }
 }
 
-/// So are those of a slot, if it is to be linked.
+/// The bytes of a slot's code are swapped, if it is to be linked.
 fn is_swapped_slot(dict: &Dict<'_>, slot: u8) -> bool
     requires { slot < SLOTS }
     ensures { result ≡ is_swapped_slot_spec dict.now.order dict.now.file slot }
@@ -347,7 +347,7 @@ fn is_swapped_slot(dict: &Dict<'_>, slot: u8) -> bool
     !is_linkable(dict, slot) || is_swapped_code(dict, slot)
 }
 
-/// So are those of each slot.
+/// The bytes of each slot's code are swapped, if it is to be linked.
 fn are_swapped(dict: &Dict<'_>) -> bool
     ensures { result ≡ list_all (is_swapped_slot_spec dict.now.order dict.now.file) slots }
 {

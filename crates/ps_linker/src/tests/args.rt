@@ -18,7 +18,7 @@ Commands:
   link   Links a host with the units that it uses, and writes the linked file
   map    Prints where a link would put each segment and private variable, and writes no file
   show   Prints the segments of one code file and the link information of each
-  check  Says in words what is wrong with the files and what looks wrong
+  check  Says in words whether the files link, what is wrong and what looks wrong
   list   Prints a line of each file and of each of its segments, made for grep
   help   Print this message or the help of the given subcommand(s)
 
@@ -141,7 +141,8 @@ Exit status:
 A name that begins with a dash is given as ./-name, or after --. See pslink(1).
 ";
 
-pub const CHECK_HELP: &str = "Says in words what is wrong with the files and what looks wrong
+pub const CHECK_HELP: &str =
+    "Says in words whether the files link, what is wrong and what looks wrong
 
 Usage: pslink check [OPTIONS] <HOST> [LIB]...
 
@@ -162,7 +163,7 @@ The report is for a person: the files, where each segment comes from, whether th
 are linked, and if not what is wrong and what to do. A line that begins with
 'warning: ' reports what looks wrong and is no fault, one with 'harmless: ' what changes
 no link, and one with 'note: ' a guess. No file is written. With --json the verdict,
-the warnings and the report are printed as one JSON document.
+what is found and the report are printed as one JSON document.
 
 With --unit, HOST and each LIB are files of any kind. They are listed as by list, and
 after the lines of each file comes a line of each unit that it has, with its first

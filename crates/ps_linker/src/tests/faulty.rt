@@ -132,7 +132,7 @@ impl<R: Files> CodeFiles for Faulty<'_, R> {
         self.inner.lead_to_one_file(path, other)
     }
 
-    // Such a path stands for one that leads to standard output.
+    // A path that begins so stands for one that leads to standard output.
     fn leads_to_output(&self, path: &str) -> bool {
         path.starts_with("to-output")
     }

@@ -69,7 +69,7 @@ pub(crate) fn links(rt: &(impl Abort + AllocGlobal), what: &str, files: &Link<'_
     holds(rt, out.as_slice() == files.linked, what)
 }
 
-/// The same of a host and one library.
+/// Links a host and one library, and compares the answer.
 pub(crate) fn links_pair(
     rt: &(impl Abort + AllocGlobal),
     what: &str,

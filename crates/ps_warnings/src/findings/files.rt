@@ -66,7 +66,6 @@ fn is_explained(context: &Context<'_, '_>, fault: Fault, file: usize) -> bool {
     }
 }
 
-/// Looks at a code file.
 fn look_at_code_file<'a, A: Allocator>(
     findings: &mut Findings<'a, A>,
     context: &Context<'_, 'a>,
