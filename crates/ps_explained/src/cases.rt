@@ -91,6 +91,16 @@ impl<'c, 'a> Case<'c, 'a> {
         }
     }
 
+    /// The fault is in a host that is no code file, though it can be read as one: nothing is said of
+    /// its segments.
+    pub(crate) fn is_in_no_code_file(&self) -> bool {
+        let is_of_file = matches!(
+            self.fault.reason,
+            Reason::ShortFile | Reason::NoOrder | Reason::NoHost
+        );
+        self.fault.file == 0 && !is_of_file && !self.inputs.file_type(0).is_code()
+    }
+
     /// The first library that has a host program.
     pub fn host_among_libraries(&self) -> Option<usize> {
         for file in 1..=self.inputs.libs.len() {
