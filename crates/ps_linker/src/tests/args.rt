@@ -2,10 +2,10 @@
 use super::outcome::gives;
 use super::wanted::Text;
 use super::wanted::Text::{
-    CheckHelp, EmptyOut, Help, LinkHelp, MapHelp, NoArgs, NoCheckedFile, NoCheckedHost, NoCommand,
-    NoFile, NoHost, NoLinkedHost, NoListedFile, NoOut, NotListed, NotThere, NotThereToCheck,
-    Nothing, OutIsLibrary, ShowHelp, StrictUnits, TwoFiles, TwoOuts, UnknownOption,
-    UnknownOptionOfMap, Version,
+    CheckHelp, EmptyOut, Help, LinkHelp, ListHelp, MapHelp, NoArgs, NoCheckedFile, NoCheckedHost,
+    NoCommand, NoFile, NoHost, NoLinkedHost, NoListedFile, NoOut, NotListed, NotThere,
+    NotThereToCheck, Nothing, OutIsLibrary, ShowHelp, StrictUnits, TwoFiles, TwoOuts,
+    UnknownOption, UnknownOptionOfMap, Version,
 };
 
 pub const VERSION: &str = "pslink 0.3.0\n";
