@@ -1,7 +1,8 @@
 //! The definitions of a link, computed on small files: what is refused there, which fault is
 //! reported if several apply, what is read after a fault, what a unit by itself is refused for, what
-//! is written, and what map and show print. Each function's
-//! contract states examples. Its body is empty, or calls the laws of which they are instances.
+//! is written, and what map and show print. Each function's contract states examples. Its body is
+//! empty, or calls the laws of which they are instances. One returns what a caller knows of a
+//! source.
 #![tactic(auto)]
 
 mod added_units;
@@ -27,6 +28,7 @@ mod refused_tables;
 mod refused_types;
 mod relied;
 mod roles;
+mod sources;
 mod texts;
 mod whole_links;
 
@@ -53,5 +55,6 @@ pub use refused_tables::faults_of_tables;
 pub use refused_types::faults_of_types;
 pub use relied::{what_is_not_to_be_relied_on, what_may_be_relied_on};
 pub use roles::roles_of_slots;
+pub use sources::is_linked_by_role;
 pub use texts::{json_documents, map_texts, reference_texts, show_texts};
 pub use whole_links::{facts_of_all_segments, lists_of_no_link};
