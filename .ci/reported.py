@@ -265,7 +265,8 @@ def faults():
         *((13, HOST, [AUX_FILE] * count, [UTIL, *(f"  LIB{k} has AUX" for k in range(1, 17)), *rest], *WANTED)
           for count, rest in ((16, []), (17, ["  there is 1 more library"]), (18, ["  there are 2 more libraries"]))),
         (14, HOST, unit((196, b"\4")), [UTIL, "  entry 02 has the name, of kind 4: a separate segment"], "  Give the unit's library before LIB1, or remove that segment from LIB1."),
-        (14, HOST, unit((196, b"\6")), [UTIL, "  entry 02 has the name, of kind 6: an intrinsic unit of Apple Pascal, or its data"], "  Compile it as a regular unit of II.0, or give the library of such a unit before LIB1."),
+        *((14, HOST, unit((196, bytes([kind]))), [UTIL, f"  entry 02 has the name, of kind {kind}: an intrinsic unit of Apple Pascal, or its data"],
+           "  Compile it as a regular unit of II.0, or give the library of such a unit before LIB1.") for kind in (5, 6, 7)),
         *((14, HOST, unit((196, bytes([kind]))), [UTIL, f"  entry 02 has the name, of kind {kind}: {word}", *rest], "  Give the unit's library before LIB1, or remove that segment from LIB1.")
           for kind, word, *rest in ((1, "a host program"), (2, "a segment procedure"), (8, "no kind of II.0", "note: LIB1: it may be no code file of a known form"))),
         (14, HOST, [LINKED], [UTIL, "  entry 07 has the name, of kind 0: a linked segment"], "  LIB1 is linked already: leave it out."),
