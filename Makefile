@@ -32,16 +32,14 @@ BINARY = $(PROGRAM)/out/ps_linker
 SIDE ?= 2
 CONFIG = $(LIB)/cmake/pslink
 # man NAME finds pslink(3) for each function of the header
-CALLS = pslink_link pslink_map pslink_check pslink_show pslink_text pslink_units pslink_link_files pslink_map_files pslink_check_files \
-	pslink_text_files pslink_fault_text pslink_fault_name pslink_fault_meaning pslink_fault_remedy pslink_status_text \
-	pslink_release pslink_release_number pslink_version
+CALLS = pslink_link pslink_text pslink_fault pslink_fault_text pslink_status pslink_release_number
 # what the documents link to, beside them
 # (and not what someone linked there)
 SAMPLES = README.md make_samples.py relink.py compare.py big_host.code big_host.map big_library.code host.code host.map library.code \
 	nine.code nine.map procedures.code procedures.map two_units.code two_units.map used.code using.code using.map
 BESIDE = README.md CHANGES.md LICENSE NOTICES $(addprefix samples/,$(SAMPLES)) $(wildcard docs/*.md docs/*.json man/pslink.*) include/pslink.h \
 	$(addprefix bindings/python/,pyproject.toml build_backend.py LICENSE pslink/__init__.py pslink/py.typed) \
-	$(addprefix bindings/rust/,Cargo.toml build.rs LICENSE src/lib.rs src/look.rs src/raw.rs src/reason.rs tests/calls.rs) \
+	$(addprefix bindings/rust/,Cargo.toml build.rs LICENSE src/lib.rs src/file.rs src/finding.rs src/name.rs src/raw.rs src/reason.rs tests/calls.rs) \
 	$(wildcard bindings/rust/tests/samples/*)
 
 .PHONY: try try-test demo build lib test bench vectors install install-program install-built install-built-program install-texts uninstall dist
@@ -125,8 +123,8 @@ install-built: install-built-program
 	for call in $(CALLS); do echo '.so man3/pslink.3' >"$(DESTDIR)$(MAN)/man3/$$call.3" && chmod 644 "$(DESTDIR)$(MAN)/man3/$$call.3" || exit 1; done
 	install -m 644 include/pslink.h "$(DESTDIR)$(INCLUDE)/pslink.h"
 	install -m 644 $(LIBRARY)/libpslink.a "$(DESTDIR)$(LIB)/libpslink.a"
-	install -m 755 $(LIBRARY)/libpslink.so.2 "$(DESTDIR)$(LIB)/libpslink.so.2"
-	ln -sf libpslink.so.2 "$(DESTDIR)$(LIB)/libpslink.so"
+	install -m 755 $(LIBRARY)/libpslink.so.3 "$(DESTDIR)$(LIB)/libpslink.so.3"
+	ln -sf libpslink.so.3 "$(DESTDIR)$(LIB)/libpslink.so"
 	sed -e 's|@PREFIX@|$(AT)|' -e 's|@LIBDIR@|$(LIB)|' -e 's|@VERSION@|$(VERSION)|' library/pslink.pc.in >"$(DESTDIR)$(LIB)/pkgconfig/pslink.pc"
 	sed -e 's|@INCLUDE@|$(INCLUDE)|' library/pslinkConfig.cmake.in >"$(DESTDIR)$(CONFIG)/pslinkConfig.cmake"
 	sed -e 's|@VERSION@|$(VERSION)|' rules/pslink-config-version.cmake.in >"$(DESTDIR)$(CONFIG)/pslinkConfigVersion.cmake"
@@ -136,7 +134,7 @@ install-built: install-built-program
 uninstall:
 	rm -f "$(DESTDIR)$(AT)/bin/pslink" "$(DESTDIR)$(INCLUDE)/pslink.h" "$(DESTDIR)$(INCLUDE)/pslink.mk"
 	rm -f "$(DESTDIR)$(BASH_FOLDER)/pslink" "$(DESTDIR)$(ZSH_FOLDER)/_pslink" "$(DESTDIR)$(FISH_FOLDER)/pslink.fish"
-	for name in libpslink.a libpslink.so libpslink.so.2 pkgconfig/pslink.pc; do rm -f "$(DESTDIR)$(LIB)/$$name" || exit 1; done
+	for name in libpslink.a libpslink.so libpslink.so.3 pkgconfig/pslink.pc; do rm -f "$(DESTDIR)$(LIB)/$$name" || exit 1; done
 	for name in man1/pslink.1 man3/pslink.3 man5/pslink.5 $(CALLS:%=man3/%.3); do rm -f "$(DESTDIR)$(MAN)/$$name" || exit 1; done
 	rm -rf "$(DESTDIR)$(DOC)" "$(DESTDIR)$(CONFIG)"
 
@@ -152,5 +150,5 @@ dist: build lib
 	sed -i -e 's|^prefix=.*|prefix=$${pcfiledir}/../..|' -e 's|^libdir=.*|libdir=$${prefix}/lib|' -e 's|"||g' "$(PACKED)/lib/pkgconfig/pslink.pc"
 	sed -i 's|"/usr/local/include"|"../include"|' "$(PACKED)/lib/cmake/pslink/pslinkConfig.cmake"
 	sed -i 's|"/usr/local/bin" ||' "$(PACKED)/lib/cmake/pslink/pslink-config.cmake"
-	library/needs "$(PACKED)/bin/pslink" "$(PACKED)/lib/libpslink.so.2" | tee "$(PACKED)/NEEDS"
+	library/needs "$(PACKED)/bin/pslink" "$(PACKED)/lib/libpslink.so.3" | tee "$(PACKED)/NEEDS"
 	tar --sort=name --owner=0 --group=0 --numeric-owner --mtime=@$${SOURCE_DATE_EPOCH:-$$(git log -1 --format=%ct 2>/dev/null || date +%s)} -C "$(PACKED)" -czf "$(TARBALL)" --transform='s|^[.]|$(DIST)|' .
