@@ -76,8 +76,11 @@ build:
 test:
 	.ci/run
 
+# (where no file is newer than what was built, the library is not built again)
 lib:
-	library/build
+	@if [ ! -e $(LIBRARY)/libpslink.a ] || [ -n "$$(find crates crates.txt library include -newer $(LIBRARY)/libpslink.a -type f ! -path '*/out/*')" ]; then \
+	    library/build; \
+	fi
 
 bench: build lib
 	python3 bench/large_files.py "$(BINARY)"
@@ -94,7 +97,7 @@ install-program: build install-built-program
 
 # what is built already, put in place: the program, its manual pages and the documents
 install-built-program: install-texts
-	install -d "$(DESTDIR)$(AT)/bin" "$(DESTDIR)$(MAN)/man1" "$(DESTDIR)$(MAN)/man5"
+	library/folders "$(DESTDIR)" "$(DOC)" "$(AT)/bin" "$(MAN)/man1" "$(MAN)/man5"
 	install -m 755 "$(BINARY)" "$(DESTDIR)$(AT)/bin/pslink"
 	install -m 644 man/pslink.1 "$(DESTDIR)$(MAN)/man1/pslink.1"
 	install -m 644 man/pslink.5 "$(DESTDIR)$(MAN)/man5/pslink.5"
@@ -102,8 +105,7 @@ install-built-program: install-texts
 
 # the test vectors, and what shells, make and CMake read
 install-texts:
-	install -d "$(DESTDIR)$(INCLUDE)" "$(DESTDIR)$(CONFIG)" "$(DESTDIR)$(DOC)/vectors"
-	install -d "$(DESTDIR)$(BASH_FOLDER)" "$(DESTDIR)$(ZSH_FOLDER)" "$(DESTDIR)$(FISH_FOLDER)"
+	library/folders "$(DESTDIR)" "$(DOC)" "$(DOC)/vectors" "$(INCLUDE)" "$(CONFIG)" "$(BASH_FOLDER)" "$(ZSH_FOLDER)" "$(FISH_FOLDER)"
 	vectors/make_vectors.py "$(DESTDIR)$(DOC)/vectors"
 	install -m 644 vectors/README.md "$(DESTDIR)$(DOC)/vectors/README.md"
 	chmod -R u=rwX,go=rX "$(DESTDIR)$(DOC)/vectors"
@@ -118,7 +120,7 @@ install-texts:
 
 # that and the library
 install-built: install-built-program
-	install -d "$(DESTDIR)$(INCLUDE)" "$(DESTDIR)$(LIB)/pkgconfig" "$(DESTDIR)$(CONFIG)" "$(DESTDIR)$(MAN)/man3"
+	library/folders "$(DESTDIR)" "$(DOC)" "$(INCLUDE)" "$(LIB)/pkgconfig" "$(CONFIG)" "$(MAN)/man3"
 	install -m 644 man/pslink.3 "$(DESTDIR)$(MAN)/man3/pslink.3"
 	for call in $(CALLS); do echo '.so man3/pslink.3' >"$(DESTDIR)$(MAN)/man3/$$call.3" && chmod 644 "$(DESTDIR)$(MAN)/man3/$$call.3" || exit 1; done
 	install -m 644 include/pslink.h "$(DESTDIR)$(INCLUDE)/pslink.h"
@@ -130,13 +132,14 @@ install-built: install-built-program
 	sed -e 's|@VERSION@|$(VERSION)|' rules/pslink-config-version.cmake.in >"$(DESTDIR)$(CONFIG)/pslinkConfigVersion.cmake"
 	chmod 644 "$(DESTDIR)$(LIB)/pkgconfig/pslink.pc" "$(DESTDIR)$(CONFIG)"/*.cmake
 
-# what install-built puts in place, and the folders that are pslink's own
+# what install-built puts in place, the folders that are pslink's own, and those that it made and that are empty now
 uninstall:
 	rm -f "$(DESTDIR)$(AT)/bin/pslink" "$(DESTDIR)$(INCLUDE)/pslink.h" "$(DESTDIR)$(INCLUDE)/pslink.mk"
 	rm -f "$(DESTDIR)$(BASH_FOLDER)/pslink" "$(DESTDIR)$(ZSH_FOLDER)/_pslink" "$(DESTDIR)$(FISH_FOLDER)/pslink.fish"
 	for name in libpslink.a libpslink.so libpslink.so.3 pkgconfig/pslink.pc; do rm -f "$(DESTDIR)$(LIB)/$$name" || exit 1; done
 	for name in man1/pslink.1 man3/pslink.3 man5/pslink.5 $(CALLS:%=man3/%.3); do rm -f "$(DESTDIR)$(MAN)/$$name" || exit 1; done
-	rm -rf "$(DESTDIR)$(DOC)" "$(DESTDIR)$(CONFIG)"
+	made=$$(sort -ru "$(DESTDIR)$(DOC)/FOLDERS" 2>/dev/null); rm -rf "$(DESTDIR)$(DOC)" "$(DESTDIR)$(CONFIG)" && \
+	    printf '%s\n' "$$made" | while IFS= read -r folder; do rmdir "$(DESTDIR)$$folder" 2>/dev/null || :; done
 
 # the program, the library and all that is read beside them, in one file, and what they need; the files have the time of the
 # commit that they are of, so that cargo, make and ninja see a newer archive. (Of pcfiledir, pkg-config itself marks a blank.)
@@ -144,7 +147,7 @@ dist: build lib
 	rm -rf "$(PACKED)"
 	$(MAKE) --no-print-directory install-built PREFIX=/usr/local LIBDIR=/usr/local/lib DESTDIR="$(PACKED)/root"
 	mv "$(PACKED)"/root/usr/local/* "$(PACKED)"
-	rm -r "$(PACKED)/root" "$(PACKED)/share/doc/pslink/include"
+	rm -r "$(PACKED)/root" "$(PACKED)/share/doc/pslink/include" "$(PACKED)/share/doc/pslink/FOLDERS"
 	mv "$(PACKED)"/share/doc/pslink/* "$(PACKED)"
 	rm -r "$(PACKED)/share/doc"
 	sed -i -e 's|^prefix=.*|prefix=$${pcfiledir}/../..|' -e 's|^libdir=.*|libdir=$${prefix}/lib|' -e 's|"||g' "$(PACKED)/lib/pkgconfig/pslink.pc"
