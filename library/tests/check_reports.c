@@ -224,7 +224,7 @@ static void check_names(void)
 /* What files without names are called, up to a number of four digits. */
 static void check_numbers(void)
 {
-    static unsigned char room[1 << 17];
+    static unsigned char room[1 << 19];
     static pslink_file files[1002];
     char line[80];
     pslink_answer answer;
