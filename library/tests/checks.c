@@ -195,6 +195,11 @@ static void check_order(void)
         check(pslink_link(files, 3, out, sizeof out, &answer) == PSLINK_DONE && answer.size == linked.length, "two libraries are not linked", k);
         check((memcmp(out, linked.bytes, linked.length) == 0) == (k == 0), "of two libraries another is used", k);
     }
+    memcpy(other, library.bytes, library.length);
+    other[196] = 4; /* the kind of the unit's entry */
+    check(link_two(host, changed, out, sizeof out, &answer) == PSLINK_REFUSED && answer.fault == PSLINK_FAULT_NOT_A_UNIT &&
+              answer.file == 1 && answer.kind == 4 && answer.slot == 7,
+          "what is no unit has another kind", answer.fault);
     for (k = 1; k <= 3; k++) {
         pslink_file files[4] = {host, library, library, library};
 
@@ -367,6 +372,7 @@ static void check_too_long(void)
           "a library that is too long is taken", 1);
     check(pslink_link(too_long, 3, NULL, 0, &answer) == PSLINK_NO_MEMORY, "libraries that are too long are taken", 2);
     check(pslink_link(too_long, SIZE_MAX, NULL, 0, &answer) == PSLINK_NO_MEMORY, "too many libraries are taken", 3);
+    check(pslink_link(&host, SIZE_MAX / (2 * sizeof(size_t)) + 2, NULL, 0, &answer) == PSLINK_NO_MEMORY, "too many libraries are taken", 4);
 #if PSLINK_LINKED_MAX != 1025 * 512 || PSLINK_FAULT_TEXT_MAX < 125 || PSLINK_FAULT_MISSING_UNIT != 13
     check(0, "the constants are others", 0);
 #endif

@@ -140,10 +140,10 @@ def _load():
     except AttributeError as error:
         raise ImportError(f"{path} is no library of pslink {__version__}: {error}") from error
     release = library.pslink_release_number()
-    if release // 100 != _RELEASE // 100:
-        raise ImportError(f"{path} has another interface: it is of release {release}, and this package of {_RELEASE}")
     if release < _RELEASE:
         raise ImportError(f"{path} is of an earlier release than {__version__}: {release}, and not {_RELEASE}")
+    if release // 100 != _RELEASE // 100:
+        raise ImportError(f"{path} has another interface: it is of release {release}, and this package of {_RELEASE}")
     return library
 
 
