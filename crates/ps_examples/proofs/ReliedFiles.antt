@@ -1,14 +1,14 @@
 -- Files that are read like the samples, and libraries that have no name in common.
-use Rattle.ps_examples.proofs.Vocabulary.{◌≡◌, ℕ, ◌<◌, List, [], ◌∷◌, map, Bool, true, false, refl, sym, ap, subst, ◌∙◌, arith, ◌==◌, ◌&&◌, not, slice_get, All, ◌≢◌, entry_at, is_filled, host, library, put_at, aux, demo_segment, util_segment, Segment, library_file, HasEntry, Little, SLOTS}
+use Rattle.ps_examples.proofs.Vocabulary.{◌≡◌, ℕ, zero, suc, ◌<◌, List, [], ◌∷◌, map, Bool, true, false, refl, sym, ap, subst, ◌∙◌, arith, ◌==◌, ◌&&◌, not, slice_get, All, ◌≢◌, entry_at, is_filled, host, library, put_at, aux, demo_segment, util_segment, Segment, library_file, HasEntry, Little, SLOTS}
 use Rattle.std.specs.List.{range_with_len}
 use Rattle.std.proofs.lemmas.Bool.Decides.{Decides-eqb}
 use Rattle.std.proofs.lemmas.List.Elements.{All-cons, All-nil}
 use Rattle.ps_examples.specs.ReadAlike.{library_elsewhere}
-use Rattle.ps_examples.proofs.NotLinked.{util_aux}
 use Rattle.ps_examples.proofs.SegmentOrigins.{any_below, fails}
 use Rattle.ps_relied.proofs.StoredLines.{made_at}
 use Rattle.ps_relied.specs.Alike.{IsReadAlike, AreReadAlike, AreFilesAlike, HasSameCode, HasSameRecords}
-use Rattle.ps_relied.specs.Numbered.{HaveNoNameInCommon}
+use Rattle.ps_relied.specs.Used.{AreUsedAlike, IsLookedForIn}
+use Rattle.ps_examples.proofs.NotLinked.{same, util_aux}
 
 -- functions that give the same list give the same at each place
 same_at : {A : Type 0} (f g : ℕ → A) → map f (range_with_len 0 SLOTS)
@@ -66,7 +66,8 @@ one_name file all name t =
     ap (λ k. (entry_at Little file k).name) (sym (only_filled file all t.0 t.1 t.2.0)) ∙ t.2.1
 
 -- the library and one of AUX have no name in common
-pub util_or_aux : HaveNoNameInCommon Little library of_aux
+pub util_or_aux : (name : List ℕ) → HasEntry Little name library → HasEntry Little name of_aux
+    → ⊥
 util_or_aux name p q = util_aux (one_name library refl name p ∙ sym (one_name of_aux refl name q))
 
 -- no segment of these is of file 1
@@ -77,3 +78,31 @@ not_of_file_1 = All-cons (λ (s : Segment). s.file ≢ library_file 0) demo_segm
     (All-cons (λ (s : Segment). s.file ≢ library_file 0) (record util_segment { file = 2 }) []
     (λ e. let h : 2 ≡ 1 = e in omega (arith, h))
     (All-nil (λ (s : Segment). s.file ≢ library_file 0)))
+
+-- the library with another code of its unit
+abbrev pub of_other_code : List ℕ
+of_other_code = put_at 518 (0 ∷ 0 ∷ []) library
+
+-- no unit is taken from file 2
+not_in_file_2 : (name : List ℕ) → IsLookedForIn (demo_segment ∷ util_segment ∷ []) 2 name → ⊥
+not_in_file_2 name (zero, s, e, p) =
+    let role = ap (λ (x : Segment). x.role) (same demo_segment s e) ∙ p.0 in cc
+not_in_file_2 name (suc zero, s, e, p) =
+    let file : 1 ≡ s.file = ap (λ (x : Segment). x.file) (same util_segment s e) in
+    let low = p.2 in omega (arith, file, low)
+not_in_file_2 name (suc (suc k), s, e, p) = cc
+
+-- the second library may have another code of the unit that the first gives
+pub used_alike : AreUsedAlike Little (demo_segment ∷ util_segment ∷ []) 1 (library ∷ library ∷ [])
+    (library ∷ of_other_code ∷ [])
+used_alike = (
+  record {
+    opened = refl;
+    entries = λ name looked. record {
+      named = λ i h. refl;
+      kinds = λ i h e. refl;
+      units = λ i h e k. (refl, refl);
+    };
+  },
+  (record { opened = refl; entries = λ name looked. absurd (not_in_file_2 name looked) }, tt),
+)

@@ -7,6 +7,7 @@ ghost use Rattle.ps_relied.specs.Alike.{AreFilesAlike};
 ghost use Rattle.ps_relied.specs.Numbered.{exchanged, renumbered, without, HaveNoNameInCommon};
 ghost use Rattle.ps_relied.specs.SameSegments.{AreSameSegments, HaveSameHeads};
 ghost use Rattle.ps_relied.specs.StoredLines.{all_stored, AreMadeByLines, IsLine};
+ghost use Rattle.ps_relied.specs.Used.{AreUsedAlike};
 ghost use Rattle.ps_resolve.specs.AllFaults.{first_fault};
 ghost use Rattle.ps_resolve.specs.LinkedBytes.{segments_of};
 ghost use Rattle.ps_words.specs.FaultPlaces.{in_file, in_slot};
@@ -16,13 +17,14 @@ ghost use Rattle.ps_words.specs.declared.order.Order.TheVariants.{Little};
 use ps_laws::first_of_all;
 use ps_linkfile::linked_file_is_one;
 use ps_relied::{
-    library_is_left_out, link_is_its_segments, neighbours_are_exchanged, references_make_the_file,
-    what_is_not_read,
+    library_is_appended, library_is_left_out, link_is_its_segments, neighbours_are_exchanged,
+    references_make_the_file, what_is_not_read, what_is_not_used,
 };
 
 /// What a build may rely on, of the host and its library: the lines of the references and the bytes
 /// that they make; a unit in other blocks of its library, a text address and a byte after an end
-/// mark; a library that gives nothing, or stands elsewhere; and a unit in another slot.
+/// mark; a library that gives nothing, is appended, or stands elsewhere; another code of a unit that
+/// an earlier library gives; and a unit in another slot.
 pub fn what_may_be_relied_on()
     ensures made_by_its_lines { AreMadeByLines host (library ∷ []) (linked_pair Little) }
     ensures a_line { IsLine (all_stored host (library ∷ [])) 7 1 (128 ∷ 3 ∷ []) }
@@ -32,8 +34,15 @@ pub fn what_may_be_relied_on()
     ensures without_one { LinkedFile host (library ∷ []) (linked_pair Little) }
     ensures its_number { segments_of host (library ∷ []) ≡ map (renumbered (without 1))
         (segments_of host (put_at 80 aux library ∷ library ∷ [])) }
-    ensures apart { HaveNoNameInCommon Little library (put_at 80 aux library) }
+    ensures appended { LinkedFile host (library ∷ put_at 80 aux library ∷ []) (linked_pair Little) }
+    ensures apart { HaveNoNameInCommon Little
+        (segments_of host (library ∷ put_at 80 aux library ∷ [])) library
+        (put_at 80 aux library) }
     ensures exchanged { LinkedFile host (put_at 80 aux library ∷ library ∷ [])
+        (linked_pair Little) }
+    ensures used_alike { AreUsedAlike Little (segments_of host (library ∷ library ∷ [])) 1
+        (library ∷ library ∷ []) (library ∷ put_at 518 (0 ∷ 0 ∷ []) library ∷ []) }
+    ensures not_used { LinkedFile host (library ∷ put_at 518 (0 ∷ 0 ∷ []) library ∷ [])
         (linked_pair Little) }
     ensures same_segments { AreSameSegments (segments_of host (library ∷ []))
         (segments_of host (library_of_the_last ∷ [])) }
@@ -41,17 +50,19 @@ pub fn what_may_be_relied_on()
 {
     first_of_all();
     linked_file_is_one();
+    library_is_appended();
     library_is_left_out();
     link_is_its_segments();
     neighbours_are_exchanged();
     references_make_the_file();
     what_is_not_read();
+    what_is_not_used();
 }
 
 /// What the laws do not say: that a line names only bytes that change, or bytes of the input; that
 /// a host's tail is not read; that a library may be left out that gives a segment, or that cannot be
-/// opened; that libraries may be exchanged that have a unit in common; and that the same segments
-/// make one file for hosts of other tails.
+/// opened; that libraries may be exchanged that have a unit in common; that a unit which is used may
+/// change; and that the same segments make one file for hosts of other tails.
 pub fn what_is_not_to_be_relied_on()
     ensures a_line_of_a_byte_that_stays { IsLine (all_stored host (library ∷ [])) 1 16 (1 ∷ []) }
     ensures a_byte_of_the_input { slice_index library 514 ≡ 0 }
@@ -66,7 +77,10 @@ pub fn what_is_not_to_be_relied_on()
         ≡ linked_pair Little }
     ensures the_other_of_two { linked_file host (put_at 518 (0 ∷ 0 ∷ []) library ∷ library ∷ [])
         ≡ linked_other_library }
-    ensures a_name_in_common { HaveNoNameInCommon Little library
+    ensures a_name_in_common { HaveNoNameInCommon Little
+        (segments_of host (library ∷ put_at 518 (0 ∷ 0 ∷ []) library ∷ [])) library
         (put_at 518 (0 ∷ 0 ∷ []) library) → ⊥ }
+    ensures a_unit_that_is_used { AreUsedAlike Little (segments_of host (library ∷ [])) 1
+        (library ∷ []) (put_at 518 (0 ∷ 0 ∷ []) library ∷ []) → ⊥ }
     ensures another_head { HaveSameHeads host (put_at 300 (43 ∷ []) host) → ⊥ }
 {}

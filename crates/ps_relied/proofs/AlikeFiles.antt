@@ -1,79 +1,47 @@
 -- Files that are read alike link to the same bytes, or have the same first fault.
 use Rattle.ps_codefile.specs.declared.entry.Role.TheVariants as role
 use Rattle.ps_words.specs.declared.fault.Reason.TheVariants as reason
-use Rattle.ps_relied.proofs.Vocabulary.{AreFilesAlike, AreReadAlike, AreSameSegments, Bool, Both, Fault, HasSameCode, HasSameRecords, IsReadAlike, List, None, Option, Order, Reason, Result, Role, SLOTS, Some, [], and_left, ap, arith, both, both_none, bytes_eq, chosen_file, chosen_library, clipped, entries_reason, entry_at, enumerate_from, false, fault_if, file_at, find, find_in, find_passes, first_fault, first_of, has_entry, host_fault, if◌then◌else◌, in_file, in_slot, in_slots, information_block, is_filled, is_host, is_named, is_unit, kind_is, libraries_fault, library_fault, library_file, linking_fault, list_any, map, name_at, needs_linking, neither, no_host_fault, not, option_and_then, option_map, option_map_or, option_or, order_of, range_with_len, reading_fault, reading_rest, refl, result_err, result_ok, same_clipped, segments, segments_of, slots, slots_fault, sym, true, ℕ, ◌&&◌, ◌+◌, ◌<◌, ◌==◌, ◌∙◌, ◌∷◌, ◌≡◌}
-use Rattle.ps_relied.proofs.SameSearches.{AreChosenAlike, AreMoved, Change, IsFound, linking_moved, refiled, renewed, rest_moved, same_roles, segments_moved}
+use Rattle.ps_relied.proofs.Vocabulary.{AreFilesAlike, AreReadAlike, AreSameSegments, Bool, Both, Fault, HaveSameEntries, IsReadAlike, List, None, Option, Order, Reason, Result, Role, Some, [], and_left, arith, both, both_none, bytes_eq, enumerate_from, false, fault_if, find, first_fault, first_of, has_entry, host_fault, if◌then◌else◌, in_file, in_slot, is_host, is_unit, libraries_fault, library_fault, linking_fault, list_any, map, name_at, neither, no_host_fault, not, option_map, option_map_or, option_or, order_of, range_with_len, reading_fault, reading_rest, refl, result_err, result_ok, same_clipped, segments, segments_of, slots, slots_fault, sym, true, ℕ, ◌&&◌, ◌+◌, ◌∙◌, ◌∷◌, ◌≡◌}
+use Rattle.ps_relied.proofs.SameEntries.{IsSame, found_alike, same_search, unmoved}
+use Rattle.ps_relied.proofs.SameSearches.{AreMoved, Change, IsFound, linking_moved, refiled, renewed, rest_moved, same_roles, segments_moved}
 use Rattle.ps_relied.proofs.SameFile.{same_renewed}
 
--- 1. what is looked up in the entries of two libraries that are read alike
+-- 1. libraries that are read alike have the same entries of each name
 same_test : (b c : Bool) (x y name : List ℕ) → b ≡ c → (b ≡ true → x ≡ y)
-    → (c && bytes_eq y name) ≡ (b && bytes_eq x name)
+    → (b && bytes_eq x name) ≡ (c && bytes_eq y name)
 same_test b c x y name e h = grind arith
 
-module _ (order : Order) (file other : List ℕ) (like : IsReadAlike order file other)
-    (name : List ℕ) where
-  named : clipped false (is_named order name other) ≡ clipped false (is_named order name file)
-  named = same_clipped false _ _
-      (λ i h. same_test _ _ _ _ name (like.filled i h) (like.names i h))
-
-  same_search : (has_entry order name other ≡ has_entry order name file)
-      × (find (is_named order name other) slots ≡ find (is_named order name file) slots)
-  same_search = (λ j. list_any (named j) slots, λ j. find (named j) slots)
-
-  -- an entry that is found is filled
-  filled_at : (i : ℕ) → find (is_named order name file) slots ≡ Some i
-      → (i < SLOTS) × (is_filled (entry_at order file i) ≡ true)
-  filled_at i e = let at = find_in (is_named order name file) slots i e in
-      let passes = find_passes (is_named order name file) slots i e in
-      (in_slots i at, and_left _ _ passes)
-
-  same_reasons : entries_reason order name other ≡ entries_reason order name file
-  same_reasons = λ j. if list_any (λ i. named j i
-      && list_any (named j) (range_with_len 0 i)) slots
-      then Some reason.DoubledUnit else ((λ j. kind_in other (same_search.1 j))
-      ∙ go (find (is_named order name file) slots) refl) j
-    where
-      kind_in : List ℕ → Option ℕ → Option Reason
-      kind_in lib o = option_and_then (λ i. let kind = (entry_at order lib i).kind in
-          fault_if (not (kind == 3)) (reason.NotAUnit kind)) o
-
-      go : (o : Option ℕ) → find (is_named order name file) slots ≡ o
-          → kind_in other o ≡ kind_in file o
-      go None e = refl
-      go (Some i) e = let at = filled_at i e in
-          ap (λ kind. fault_if (not (kind == 3)) (reason.NotAUnit kind))
-          (sym (like.kinds i at.0 at.1))
-
-  same_unit : (i : ℕ) → find (is_named order name file) slots ≡ Some i
-      → entries_reason order name file ≡ None
-      → HasSameCode order file other i × HasSameRecords order file other i
-  same_unit i e fine = let at = filled_at i e in
-      like.units i at.0 at.1 (kind_is order name file i fine e)
+same_entries : (order : Order) (lib other : List ℕ) → IsReadAlike order lib other
+    → (name : List ℕ) → HaveSameEntries order name lib other
+same_entries order lib other like name = record {
+  named = λ i h. same_test _ _ _ _ name (like.filled i h) (like.names i h);
+  kinds = λ i h e. like.kinds i h (and_left _ _ e);
+  units = λ i h e k. like.units i h (and_left _ _ e) k;
+}
 
 -- 2. libraries that are read alike, one by one: the faults of all are the same, and for each name
 -- the same one is chosen
-abbrev IsSame : Order → ℕ × List ℕ → ℕ × List ℕ → Type 0
-IsSame order a b = (b.0 ≡ a.0) × IsReadAlike order a.1 b.1
-
 same_libraries : (order : Order) (name : List ℕ) (n : ℕ) (libs others : List (List ℕ))
     → AreReadAlike order libs others
     → (first_of (library_fault order) (enumerate_from n others)
-    ≡ first_of (library_fault order) (enumerate_from n libs)) × Both (IsSame order)
+    ≡ first_of (library_fault order) (enumerate_from n libs)) × Both (IsSame order name)
     (find (λ (lib : ℕ × List ℕ). has_entry order name lib.1) (enumerate_from n libs))
     (find (λ (lib : ℕ × List ℕ). has_entry order name lib.1) (enumerate_from n others))
 same_libraries order name n [] [] t = (refl, neither)
 same_libraries order name n [] (y ∷ ys) t = absurd t
 same_libraries order name n (x ∷ xs) [] t = absurd t
 same_libraries order name n (x ∷ xs) (y ∷ ys) t =
-    let later = same_libraries order name (n + 1) xs ys t.1 in (
+    let later = same_libraries order name (n + 1) xs ys t.1 in
+    let like = same_entries order x y t.0 name in (
       rw (← t.0.opened, later.0) refl,
-      rw ((same_search order x y t.0 name).0) (go (has_entry order name x) _ _ later.1),
+      rw (same_search order name x y like).0 (go like (has_entry order name x) _ _ later.1),
     )
   where
-    go : (b : Bool) (o p : Option (ℕ × List ℕ)) → Both (IsSame order) o p
-        → Both (IsSame order) (if b then Some (n, x) else o) (if b then Some (n, y) else p)
-    go true o p later = both (n, x) (n, y) (refl, t.0)
-    go false o p later = later
+    go : HaveSameEntries order name x y → (b : Bool) (o p : Option (ℕ × List ℕ))
+        → Both (IsSame order name) o p → Both (IsSame order name)
+        (if b then Some (n, x) else o) (if b then Some (n, y) else p)
+    go like true o p later = both (n, x) (n, y) (refl, like)
+    go like false o p later = later
 
 or_same : {A : Type 0} (a b x y : Option A) → b ≡ a → (a ≡ None → y ≡ x)
     → option_or b y ≡ option_or a x
@@ -86,35 +54,11 @@ module _ (host other : List ℕ) (libs others : List (List ℕ))
 
   -- 3. all is the same but the blocks of link information
   abbrev change : Change
-  change = record {
-    order = order;
-    host = host;
-    libs = libs;
-    other = other;
-    others = others;
-    number = λ k. k;
-    same_host = refl;
-    block = λ r k i b. information_block (entry_at order (file_at other others k) i)
-        (needs_linking r);
-  }
+  change = unmoved host other libs others
 
   found : (name : List ℕ) → IsFound change name
-  found name = go (chosen_library order name libs) (chosen_library order name others) refl
+  found name = found_alike host other libs others name
       (same_libraries order name 0 libs others alike.libraries).1
-    where
-      go : (o p : Option (ℕ × List ℕ)) → chosen_library order name others ≡ p
-          → Both (IsSame order) o p → Both (AreChosenAlike change name) o p
-      go o p e neither = neither
-      go o p e (both a b t) = both a b (record {
-        file = λ j. library_file (t.0 j);
-        index = (same_search order a.1 b.1 t.1 name).1;
-        reasons = same_reasons order a.1 b.1 t.1 name;
-        source = λ i at fine. let same = same_unit order a.1 b.1 t.1 name i at fine in record {
-          code = same.0;
-          records = λ n. same.1;
-          behind = rw (← t.0, chosen_file order name others b.0 b.1 other e) refl;
-        };
-      })
 
   all : AreMoved change
   all = record {

@@ -2,7 +2,10 @@ pub mod Vocabulary
 pub mod ChangedLists
 pub mod SameSearches
 pub mod SameFile
+pub mod SameEntries
 pub mod AlikeFiles
+pub mod Kept
 pub mod Rearranged
+pub mod UsedAlike
 pub mod Information
 pub mod StoredLines

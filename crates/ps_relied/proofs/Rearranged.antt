@@ -1,17 +1,11 @@
 -- Links whose libraries stand elsewhere, or one of which is left out.
 use Rattle.ps_codefile.specs.declared.entry.Role.TheVariants as role
-use Rattle.ps_relied.proofs.Vocabulary.{All, AreSameSegments, Bool, Both, HaveNoNameInCommon, In, List, None, Ok, Option, Order, Reason, SLOTS, Segment, Some, UnitReference, [], added_at, ap, arith, both, both_none, chosen_library, empty_slot, entry_at, enumerate_from, exchanged, false, find, first_fault, first_of, found_added, has, has_entry, has_own, in_file, in_segments, is_some, length, libraries_fault, library_file, library_reason, list_any, list_any-append, map, name_at, name_placed, nat_tests, neither, of_all, option_map, option_or, order_of, own_made, queue_of, reading_fault, refl, renumbered, role_of, rounds_fine, segments_of, slice_get, some_mapped, source_of, sources_fine, subst, sym, true, unit_source, without, ℕ, ◌++◌, ◌+◌, ◌<◌, ◌∙◌, ◌∷◌, ◌≡◌, ◌≢◌, ◌≤◌}
-use Rattle.ps_relied.proofs.SameSearches.{AreChosenAlike, AreMoved, Change, IsFound, linking_moved, rest_moved, segments_moved}
+use Rattle.ps_relied.proofs.Vocabulary.{All, AreSameSegments, Bool, Both, HaveNoNameInCommon, In, IsOpened, List, None, Option, Segment, Some, [], ap, arith, both, chosen_library, enumerate_from, exchanged, false, find, first_fault, has, has_entry, is_some, length, library_file, list_any, list_any-append, map, nat_tests, neither, of_all, option_map, order_of, refl, renumbered, segments_of, some_mapped, true, unit_source, without, ℕ, ◌++◌, ◌+◌, ◌∙◌, ◌∷◌, ◌≡◌, ◌≢◌, ◌≤◌}
+use Rattle.ps_relied.proofs.Kept.{AllOpened, change_of, is_refused, still_links}
+use Rattle.ps_relied.proofs.SameSearches.{AreChosenAlike, Change, IsFound}
 use Rattle.ps_relied.proofs.SameFile.{same_renewed}
 
 -- 1. libraries by their numbers
--- none is refused, where each passes by itself
-are_opened : (reason : List ℕ → Option Reason) (n : ℕ) (libs : List (List ℕ))
-    → is_some (first_of (λ (lib : ℕ × List ℕ). option_map (in_file lib.0) (reason lib.1))
-    (enumerate_from n libs)) ≡ list_any (λ lib. is_some (reason lib)) libs
-are_opened reason n [] = refl
-are_opened reason n (lib ∷ libs) = grind (arith, are_opened reason (n + 1) libs)
-
 -- the first that passes of those that are numbered from n on
 abbrev chosen_from : (List ℕ → Bool) → ℕ → List (List ℕ) → Option (ℕ × List ℕ)
 chosen_from test n libs = find (λ (lib : ℕ × List ℕ). test lib.1) (enumerate_from n libs)
@@ -55,6 +49,20 @@ module _ (test : List ℕ → Bool) where
       let rest = λ (no : test x ≡ false). left (n + 1) spot before after lib (omega (arith, e))
       (λ h. other (rw no h)) in grind (arith, nat_tests, rest)
 
+-- where none of them passes, none of those passes that are left, or stand elsewhere
+none_swapped : (test : List ℕ → Bool) (before after : List (List ℕ)) (a b : List ℕ)
+    → list_any test (before ++ (a ∷ b ∷ after)) ≡ false
+    → list_any test (before ++ (b ∷ a ∷ after)) ≡ false
+none_swapped test before after a b t = grind (arith, list_any-append test)
+
+none_left : (test : List ℕ → Bool) (before after : List (List ℕ)) (a : List ℕ)
+    → list_any test (before ++ (a ∷ after)) ≡ false → list_any test (before ++ after) ≡ false
+none_left test before after a t = grind (arith, list_any-append test)
+
+none_more : (test : List ℕ → Bool) (libs : List (List ℕ)) (a : List ℕ) → test a ≡ false
+    → list_any test libs ≡ false → list_any test (libs ++ a ∷ []) ≡ false
+none_more test libs a e t = grind (arith, list_any-append test)
+
 -- what is kept: no fault, and the segments but for the numbers of their files
 pub record IsKept (number : ℕ → ℕ)
     (host : List ℕ) (libs others : List (List ℕ)) : Type 0 where
@@ -67,30 +75,20 @@ module _ (host : List ℕ) (libs others : List (List ℕ)) (number place : ℕ �
     (same_host : number 0 ≡ 0)
     (places : (k : ℕ) → library_file (place k) ≡ number (library_file k))
     (none : first_fault host libs ≡ None)
-    (opened : (test : List ℕ → Bool) → list_any test libs ≡ false
-    → list_any test others ≡ false)
+    (opened : AllOpened host libs others)
     (chosen : (name : List ℕ) (s : Segment) → In s (segments_of host libs)
+    → s.role ≡ role.Wanted → s.name ≡ name
     → unit_source (order_of host) name libs ≡ Some (s.file, s.index)
     → chosen_library (order_of host) name others
     ≡ placed place (chosen_library (order_of host) name libs)) where
-  abbrev order : Order
-  order = order_of host
-
   abbrev change : Change
-  change = record {
-    order = order_of host;
-    host = host;
-    libs = libs;
-    other = host;
-    others = others;
-    number = number;
-    same_host = same_host;
-    block = λ r k i b. b;
-  }
+  change = change_of host libs others number same_host (λ r k i b. b)
 
-  found : (name : List ℕ) (s : Segment) → In s (segments_of host libs)
-      → unit_source order name libs ≡ Some (s.file, s.index) → IsFound change name
-  found name s t source = rw (chosen name s t source) (go (chosen_library order name libs))
+  found : (name : List ℕ) (s : Segment) → In s (segments_of host libs) → s.role ≡ role.Wanted
+      → s.name ≡ name → unit_source (order_of host) name libs ≡ Some (s.file, s.index)
+      → IsFound change name
+  found name s t wanted is source =
+      rw (chosen name s t wanted is source) (go (chosen_library (order_of host) name libs))
     where
       go : (o : Option (ℕ × List ℕ)) → Both (AreChosenAlike change name) o (placed place o)
       go None = neither
@@ -101,50 +99,14 @@ module _ (host : List ℕ) (libs others : List (List ℕ)) (number place : ℕ �
         source = λ i at fine. record { code = refl; records = λ n. refl; behind = refl };
       })
 
-  read : reading_fault host libs ≡ None
-  unfolding first_fault
-  read = (both_none (reading_fault host libs) _ none).0
-
-  of_slots : (slot : ℕ) → slot < SLOTS → role_of (entry_at order host slot) ≡ Ok role.Wanted
-      → IsFound change (name_at host slot)
-  of_slots slot inside wants =
-      let own = has_own order host libs (sources_fine host libs read) slot inside role.Wanted wants
-      (λ e. cc) in
-      let t = own_made order host libs slot own.0 own.1 in
-      let is : role.Wanted ≡ t.0 = grind (arith, wants, t.1) in
-      found (name_at host slot) own.0 (in_segments order host libs slot own.0 inside
-      (ap (λ o. option_or o (added_at order host libs slot)) own.1))
-      (ap (λ r. source_of order host libs slot r) is ∙ (t.4
-      ∙ (λ j. Some ((sym t.3.is j).file, (sym t.3.is j).index))))
-
-  of_queue : (k : ℕ) (g : UnitReference) → slice_get (queue_of order host libs) k ≡ Some g
-      → IsFound change g.name
-  of_queue k g e =
-      let t = name_placed order host libs (rounds_fine host libs read) k g e in
-      let b = (empty_slot order host k t.0.slot t.1.slot).1 in
-      subst (λ name. IsFound change name) t.1.name (found t.0.name t.0 (in_segments order host libs
-      t.0.slot t.0 (omega (arith, b)) (found_added order host libs k t.0 t.1.there)) t.1.source)
-
   pub kept : IsKept number host libs others
-  unfolding first_fault reading_fault libraries_fault
   kept =
-      let moved : AreMoved change = record {
-        roles = λ slot h. refl;
-        names = λ slot h. refl;
-        own = λ slot h r e o. record { code = refl; records = λ n. refl; behind = refl };
-        found = of_slots;
-        fits = of_queue;
-      } in
-      let was = are_opened (library_reason order) 1 libs in
-      let now = are_opened (library_reason order) 1 others in
-      let fine = opened (λ lib. is_some (library_reason order lib)) in
-      let same = segments_moved change moved (grind (arith, both_none)) in
-      let rest = rest_moved change moved in
-      let linking = linking_moved change (segments_of host libs) in
+      let all = still_links host libs others number same_host (λ r k i b. b) none opened
+      (λ r i. refl) found in
       record {
-        fine = grind (arith, both_none);
-        same = same_renewed change (segments_of host libs) (segments_of host others) same;
-        segments = same;
+        fine = all.0;
+        same = same_renewed change (segments_of host libs) (segments_of host others) all.1;
+        segments = all.1;
       }
 
 module _ (host : List ℕ) (before after : List (List ℕ)) (lib : List ℕ) where
@@ -154,16 +116,17 @@ module _ (host : List ℕ) (before after : List (List ℕ)) (lib : List ℕ) whe
   -- 3. neighbours are exchanged
   pub exchanged_kept : (next : List ℕ)
       → first_fault host (before ++ (lib ∷ next ∷ after)) ≡ None
-      → HaveNoNameInCommon (order_of host) lib next
-      → IsKept (exchanged (library_file spot)) host (before ++ (lib ∷ next ∷ after))
+      → HaveNoNameInCommon (order_of host) (segments_of host (before ++ (lib ∷ next ∷ after)))
+      lib next → IsKept (exchanged (library_file spot)) host (before ++ (lib ∷ next ∷ after))
       (before ++ (next ∷ lib ∷ after))
   exchanged_kept next none apart = kept host (before ++ (lib ∷ next ∷ after))
       (before ++ (next ∷ lib ∷ after)) (exchanged (library_file spot)) (exchanged spot)
       (grind (arith, nat_tests)) (λ k. grind (arith, nat_tests)) none
-      (λ test t. grind (arith, list_any-append test))
-      (λ name s t source. let is_there = has (order_of host) name in
+      (none_swapped (is_refused host) before after lib next)
+      (λ name s t wanted is source. let is_there = has (order_of host) name in
       swapped (has_entry (order_of host) name) 0 spot before after lib next (omega arith)
-      (λ p q. apart name ((is_there lib).0 p) ((is_there next).0 q)))
+      (λ p q. apart name (t.0, s, t.1, (wanted, is)) ((is_there lib).0 p)
+      ((is_there next).0 q)))
 
   -- 4. a library is left out
   pub left_out : first_fault host (before ++ (lib ∷ after)) ≡ None
@@ -173,9 +136,44 @@ module _ (host : List ℕ) (before after : List (List ℕ)) (lib : List ℕ) whe
   left_out none gives = kept host (before ++ (lib ∷ after)) (before ++ after)
       (without (library_file spot)) (without spot)
       (grind (arith, nat_tests)) (λ k. grind (arith, nat_tests)) none
-      (λ test t. grind (arith, list_any-append test))
-      (λ name s t source. left (has_entry (order_of host) name) 0 spot before after lib
+      (none_left (is_refused host) before after lib)
+      (λ name s t wanted is source. left (has_entry (order_of host) name) 0 spot before after lib
       (omega arith) (λ e. of_all (λ (q : Segment). q.file ≢ library_file spot)
       (segments_of host (before ++ (lib ∷ after))) gives t.0 s t.1
       (λ j. ((some_mapped {X = ℕ} {Y = ℕ × ℕ} (λ i. (library_file spot, i)) _
       (s.file, s.index) (rw e at source)).2 j).0)))
+
+-- 5. a library is appended
+-- what is found is found first, whatever follows
+found_before : (test : List ℕ → Bool) (n : ℕ) (libs : List (List ℕ)) (lib : List ℕ)
+    → (chosen_from test n libs ≡ None → ⊥)
+    → chosen_from test n (libs ++ lib ∷ []) ≡ placed (λ k. k) (chosen_from test n libs)
+found_before test n [] lib found = absurd (found refl)
+found_before test n (x ∷ libs) lib found =
+    let rest = λ (no : test x ≡ false). found_before test (n + 1) libs lib
+    (λ e. found (rw no e)) in grind (arith, rest)
+
+module _ (host : List ℕ) (libs : List (List ℕ)) (lib : List ℕ) where
+  abbrev more : List (List ℕ)
+  more = libs ++ lib ∷ []
+
+  appended_all : first_fault host libs ≡ None → IsOpened (order_of host) lib
+      → IsKept (λ k. k) host libs more
+  appended_all none opened = kept host libs more (λ k. k) (λ k. k) refl (λ k. refl) none
+      (none_more (is_refused host) libs lib (ap is_some opened))
+      (λ name s t wanted is source. found_before (has_entry (order_of host) name) 0 libs lib
+      (λ e. let bad : None ≡ Some (s.file, s.index) = rw e at source in cc))
+
+  -- the segments with the numbers that they have
+  same_numbers : (segs : List Segment) → map (renumbered (λ k. k)) segs ≡ segs
+  same_numbers [] = refl
+  same_numbers (s ∷ segs) = λ j. s ∷ same_numbers segs j
+
+  pub appended_fine : first_fault host libs ≡ None → IsOpened (order_of host) lib
+      → first_fault host more ≡ None
+  appended_fine none opened = (appended_all none opened).fine
+
+  pub appended_same : first_fault host libs ≡ None → IsOpened (order_of host) lib
+      → segments_of host more ≡ segments_of host libs
+  appended_same none opened =
+      (appended_all none opened).segments ∙ same_numbers (segments_of host libs)

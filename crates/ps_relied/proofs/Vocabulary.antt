@@ -13,8 +13,8 @@ pub use Rattle.ps_linkfile.proofs.Vocabulary.{LinkedFile, StoredIn, block_len, b
 pub use Rattle.ps_linkfile.specs.ReferencesText.{cause_width, is_word_at, records_at}
 pub use Rattle.ps_linkfile.specs.declared.cause.Cause.{Cause}
 pub use Rattle.ps_linkinfo.specs.Records.{AreSpelled, IsBody, size_of}
-pub use Rattle.ps_relied.specs.Alike.{AreFilesAlike, AreReadAlike, HasSameCode, HasSameRecords, IsReadAlike, is_in_place}
-pub use Rattle.ps_relied.specs.Numbered.{HaveNoNameInCommon, exchanged, renumbered, without}
+pub use Rattle.ps_relied.specs.Alike.{AreFilesAlike, AreReadAlike, HasSameCode, HasSameRecords, HaveSameEntries, IsReadAlike, is_in_place}
+pub use Rattle.ps_relied.specs.Numbered.{HaveNoNameInCommon, IsOpened, exchanged, renumbered, without}
 pub use Rattle.ps_relied.specs.SameSegments.{AreSameSegments, HaveSameHeads, of_any_file}
 pub use Rattle.ps_relied.specs.StoredLines.{AreMadeByLines, IsLine, IsMadeByLines, all_stored}
 pub use Rattle.ps_resolve.proofs.ReadingLibraries.{chosen_file}

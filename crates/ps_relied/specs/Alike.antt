@@ -9,7 +9,7 @@ use Rattle.ps_codefile.specs.Roles.{needs_linking}
 use Rattle.ps_codefile.specs.declared.entry.Role.{Role}
 use Rattle.ps_codefile.specs.declared.entry.Role.TheVariants.{Empty, Wanted, Plain, Host, Unit}
 use Rattle.ps_linkinfo.specs.Records.{reading}
-use Rattle.ps_resolve.specs.Sources.{order_of}
+use Rattle.ps_resolve.specs.Sources.{is_named, order_of}
 use Rattle.ps_relied.specs.SameSegments.{HaveSameHeads}
 use Rattle.ps_codefile.specs.declared.dictionary_layout.TheConstants.{SLOTS}
 
@@ -18,11 +18,21 @@ abbrev pub HasSameCode : Order → List ℕ → List ℕ → ℕ → Type 0
 HasSameCode order file other i =
     code_of file (entry_at order file i) ≡ code_of other (entry_at order other i)
 
--- its link information has the same records, or the same before the same fault: what follows an end
--- mark is not read
+-- two files' link information has the same records, or the same before the same fault: what follows
+-- an end mark is not read
 abbrev pub HasSameRecords : Order → List ℕ → List ℕ → ℕ → Type 0
 HasSameRecords order file other i = reading order (information_of file (entry_at order file i))
     ≡ reading order (information_of other (entry_at order other i))
+
+-- Two libraries have the same entries of a name: the same slots are filled with it. Such a slot has
+-- the same kind, and that of a unit (kind 3) the same code and records.
+pub record HaveSameEntries (order : Order) (name lib other : List ℕ) : Type 0 where
+  pub named : (i : ℕ) → i < SLOTS → is_named order name lib i ≡ is_named order name other i
+  pub kinds : (i : ℕ) → i < SLOTS → is_named order name lib i ≡ true
+      → (entry_at order lib i).kind ≡ (entry_at order other i).kind
+  pub units : (i : ℕ) → i < SLOTS → is_named order name lib i ≡ true
+      → (entry_at order lib i).kind ≡ 3
+      → HasSameCode order lib other i × HasSameRecords order lib other i
 
 -- Two libraries are refused for the same reason, or both are opened. The same slots are filled;
 -- such a slot has the same name and kind, and that of a unit (kind 3) the same code and records.

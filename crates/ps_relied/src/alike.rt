@@ -12,12 +12,13 @@ use ps_laws::first_of_all;
 use ps_linkinfo::one_reading;
 
 /// What is not read does not matter. Two hosts, and their libraries one by one, that are read alike
-/// link to the same bytes, or have the same first fault. Hosts are read alike if the names and the
-/// roles of their slots, the codes and records of the segments in place, and the bytes after the
-/// text addresses are the same. Libraries are read alike if the names and kinds of their filled
-/// slots, and the codes and records of their units are. Addresses, the text of an interface, and
-/// blocks that no entry has may differ. So may what follows an end mark: the records are the same
-/// with anything behind it.
+/// link to the same bytes, or have the same first fault. Files that are read alike are both opened, or
+/// refused for the same reason. Hosts are read alike if the byte order, the names and the roles of
+/// their slots, the codes and records of the segments in place, and the bytes after the text
+/// addresses are the same. Libraries are read alike if the names and kinds of their filled slots,
+/// and the codes and records of their units are. Addresses, the text of an interface, and blocks
+/// that no entry has may differ. So may what follows an end mark: the records are the same with
+/// anything behind it.
 pub fn what_is_not_read()
     ensures linked { (host other : List ℕ) (libs others : List (List ℕ)) (file : List ℕ)
         → AreFilesAlike host other libs others

@@ -257,6 +257,12 @@ big in-place | records 2; PUBLDEF COUNT value 3; EOFMARK next 40000 \
 | slot 1 file 0 entry 1 length 18: Word { value: 10, place: 4 } Byte { value: 1, place: 16 }; \
 slot 7 file 0 entry 7 length 24: Big { value: 3, place: 1 } Byte { value: 7, place: 22 }; \
 definitions 1 privates 0 words 0 next 40000 data 10
+pair | size 1541; slot 8 address 3 length 5; code 3 0 0102030405 \
+| slot 1 file 0 entry 1 length 18: Word { value: 18, place: 4 } Byte { value: 1, place: 16 }; \
+slot 7 file 1 entry 2 length 24: \
+Big { value: 3, place: 1 } Big { value: 10, place: 4 } Byte { value: 7, place: 22 }; \
+slot 8 plain file 0 entry 8 length 5:; \
+definitions 1 privates 1 words 4 next 12 data 18
 used-unit | - | slot 1 file 0 entry 1 length 18: Word { value: 18, place: 4 } Byte { value: 1, place: 16 }; \
 slot 7 file 1 entry 2 length 24: Byte { value: 8, place: 2 } Byte { value: 7, place: 22 }; \
 slot 8 added file 1 entry 3 length 24: \

@@ -2,7 +2,7 @@ use Rattle.ps_examples.proofs.Vocabulary.{ℕ, List, [], ◌∷◌, refl, host, 
 use Rattle.ps_resolve.specs.Faults.{slots_fault, no_host_fault, libraries_fault, sources_fault, linking_fault, definitions_fault, privates_fault, data_fault, references_fault}
 use Rattle.ps_examples.specs.Expected.{linked_pair}
 use Rattle.ps_examples.specs.ReadAlike.{library_elsewhere}
-use Rattle.ps_examples.proofs.ReliedFiles.{of_aux, library_alike, host_alike, util_or_aux, not_of_file_1}
+use Rattle.ps_examples.proofs.ReliedFiles.{of_aux, of_other_code, library_alike, host_alike, util_or_aux, used_alike, not_of_file_1}
 use Rattle.ps_examples.proofs.relied.what_may_be_relied_on.Goals as goal
 use Rattle.ps_linkfile.specs.LinkedFile.{LinkedFile, dictionary, all_pairs}
 use Rattle.ps_relied.specs.Alike.{AreFilesAlike}
@@ -40,9 +40,14 @@ returns c =
           not_of_file_1 behind;
       its_number = c.library_is_left_out.ensures.numbers host of_aux file [] (library ∷ [])
           not_of_file_1 behind;
-      apart = util_or_aux;
+      appended = c.library_is_appended.ensures.linked host of_aux file (library ∷ []) refl of_pair;
+      apart = λ name looked. util_or_aux name;
       exchanged = c.neighbours_are_exchanged.ensures.linked host library of_aux file [] []
-          util_or_aux before;
+          (λ name looked. util_or_aux name) before;
+      used_alike = used_alike;
+      not_used = c.what_is_not_used.ensures host (library ∷ library ∷ [])
+          (library ∷ of_other_code ∷ []) file used_alike
+          (there host (library ∷ library ∷ []) refl);
       same_segments = refl;
       linked_of_the_last = c.link_is_its_segments.ensures host host (library ∷ [])
           (library_of_the_last ∷ []) file of_pair

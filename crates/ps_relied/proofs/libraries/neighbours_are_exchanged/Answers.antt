@@ -15,7 +15,7 @@ returns-clause-linked c = λ host lib next file before after apart is.
 
 pub returns-clause-refused : goal.returns-clause-refused
 returns-clause-refused c = λ host lib next before after apart none file is. none file
-    (returns-clause-linked c host next lib file before after (λ name p q. apart name q p) is)
+    (returns-clause-linked c host next lib file before after (λ name looked p q. apart name looked q p) is)
 
 pub returns-clause-numbers : goal.returns-clause-numbers
 returns-clause-numbers c = λ host lib next file before after apart is.
