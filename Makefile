@@ -8,7 +8,7 @@
 # make uninstall PREFIX=/opt/pslink: removes what that installed
 # make dist: packs the same for people without the kit
 # make vectors: writes the cases of vectors/README.md
-# make bench: times links of large files, of malicious input, and in one process; with OTHER=ARCHIVE also those of another library with the same header
+# make bench: times links of large files, of malicious input, and in one process; with OTHER=ARCHIVE also those of another library, below the same library/pslink.c
 PREFIX ?= /usr/local
 LIBDIR ?= $(PREFIX)/lib
 # a relative path is one from this folder on
