@@ -1,5 +1,5 @@
-"""Good files: hosts and libraries as compilers write them, made at random in many styles. Nothing of them is damaged, and all that
-docs/FORMAT.md allows or says is ignored may be there. The instructions are written from their names, by the tables of a later and
+"""Good files: hosts and libraries as compilers write them, made at random in the styles of good_styles.py. Nothing of them is damaged,
+and all that docs/FORMAT.md allows or says is ignored may be there. The instructions are written from their names, by the tables of a later and
 of an earlier release, apart from the table of crates/ps_pcode."""
 import dataclasses
 import random
@@ -61,6 +61,34 @@ class Style:
     padding: int = 0  # the byte that makes a length even
     numbers: bool = True  # each code has a segment number; without it is 0
     half: bool = False  # empty slots have names of zeros and kinds that say nothing, and wanted ones an address or a length
+    # what a UCSD compiler does not write: a note may be said of it, and no warning
+    noted: bool = False
+    clear_bits: bool = False  # bit 7 of an operand that a link fills in is 0
+    free_words: bool = False  # the words of tables that a link does not read, and lex levels, are any
+    free_bytes: bool = False  # bytes of any value are in place of instructions
+    other_numbers: bool = False  # tables have numbers of other procedures
+    odd_tables: bool = False  # tables at odd places
+    absent: bool = False  # procedures without a body
+    one_table: bool = False  # two procedures have one table
+    between: bool = False  # bytes between procedures
+    operand_numbers: bool = False  # the operand of a UNITREF has a number before the link
+    host_numbers: bool = False  # the host calls units by their numbers
+    free_records: bool = False  # words of records that a link ignores, and the rest of lists, are any
+    several: bool = False  # each reference has a record of its own
+    empty_records: bool = False  # records without references
+    no_words: bool = False  # private variables of no words
+    unit_definitions: bool = False  # definitions in units
+    high_mark: bool = False  # the end mark of the host is above what is free
+    no_mark: bool = False  # the zeros of the last block are the end mark of a unit
+    no_procedures: bool = False  # units without procedures
+    other_kinds: bool = False  # entries of libraries that are of other kinds
+    linked_parts: bool = False  # linked segments in the host
+    linked_library: bool = False  # a library that has linked segments alone
+    anywhere: bool = False  # segments are in any slots
+    empty_addresses: bool = False  # empty slots have addresses
+    free_texts: bool = False  # text addresses are any
+    gaps: bool = False  # blocks between the segments
+    short_end: bool = False  # the last block is short
 
 
 # Procedures ----------------------------------------------------------------------------------------------------------
@@ -112,7 +140,7 @@ class Procedure:
             kind = self.source.choice([kind for kind in ("publics", "privates") if self.names[kind]])
             words = self.names[kind]
             which = self.source.choice(list(words))
-            self.parts.append(("variable", self.codes[name], kind, which, self.source.randrange(words[which])))
+            self.parts.append(("variable", self.codes[name], kind, which, self.source.randrange(max(1, words[which]))))
         elif name == "LDO" and self.style.short and self.source.random() < 0.7:
             self.parts.append(("bytes", bytes([SLDO + self.source.randrange(16)])))
         else:
@@ -266,6 +294,9 @@ class Procedure:
     def call(self, _):
         if self.names["units"] and self.source.random() < 0.5:
             self.number_of_segment(self.source.choice(self.names["units"]), [self.codes["CXP"]], self.source.randrange(1, 9))
+            return
+        if self.style.host_numbers and self.names.get("numbers"):
+            self.op("CXP", self.source.choice(self.names["numbers"]), self.source.randrange(1, 9))
             return
         for _ in range(self.source.randrange(3)):
             self.word(1)
@@ -428,7 +459,7 @@ class Procedure:
             if part[0] == "label":
                 labels[part[1]] = place
             place += self.size(part, place)
-        leave, end = places[-1], place + place % 2
+        leave, end = places[-1], place + (0 if self.style.odd_tables else place % 2)
         table = []  # the targets of its jump table
 
         def operand(target, after):
@@ -440,7 +471,7 @@ class Procedure:
             return 246 - 2 * table.index(labels[target])
 
         word = lambda value: (value % 65536).to_bytes(2, self.style.order)
-        code = b""
+        code, filled = b"", len(out)
         for part, place in zip(self.parts, places):
             kind, *rest = part
             if kind == "bytes":
@@ -448,11 +479,11 @@ class Procedure:
             elif kind == "segment":
                 before, name, after = rest
                 out.append((UNITREF, name, place + len(before)))
-                code += before + b"\0" + after
+                code += before + (self.source.randbytes(1) if self.style.operand_numbers else b"\0") + after
             elif kind == "variable":
                 opcode, names, name, displacement = rest
                 out.append(({"publics": PUBLREF, "privates": PRIVREF}[names], name, place + 1))
-                code += bytes([opcode, 128 + displacement // 256, displacement % 256])
+                code += bytes([opcode, 128 * (not self.style.clear_bits) + displacement // 256, displacement % 256])
             elif kind == "constant":
                 code += bytes([rest[0], len(rest[1])]) + bytes(place % 2) + b"".join(map(word, rest[1]))
             elif kind == "jump":
@@ -463,11 +494,29 @@ class Procedure:
                 code += bytes([opcode]) + bytes(at - place - 1) + word(low) + word(low + len(targets) - 1)
                 code += bytes([jump, operand(other, at + 6)])
                 code += b"".join(word(at + 6 + 2 * k - labels[target]) for k, target in enumerate(targets))
+        code = self.with_any_bytes(code, start, out[filled:]) if self.style.free_bytes else code
         code += bytes([self.style.padding]) * (start + len(code) - end and 1)
         last = start + len(code) + 2 * len(table) + 8
         words = [last - 10 - 2 * k - target for k, target in reversed(list(enumerate(table)))]
-        words += [2 * self.locals, 2 * self.parameters, last - 4 - leave, last - 2 - start]
-        return code + b"".join(map(word, words)) + bytes([self.number, self.level]), last, len(table)
+        words += self.words_of_table(2 * self.locals, 2 * self.parameters, last - 4 - leave, last - 2 - start)
+        return code + b"".join(map(word, words)) + self.end_of_table(), last, len(table)
+
+    def with_any_bytes(self, code, start, out):
+        """The code with other bytes but for the operands that a link fills in."""
+        kept = {place - start + k for kind, _, place in out for k in range(1 if kind == UNITREF else 2)}
+        return bytes(byte if at in kept else self.source.randrange(256) for at, byte in enumerate(code))
+
+    def words_of_table(self, data, *others):
+        """The data size and the other words: a link reads the data size of the program's outer block alone."""
+        if not self.style.free_words:
+            return [data, *others]
+        any_word = lambda: self.source.randrange(65536)
+        return [data if self.level == 0 else any_word(), *(any_word() for _ in others)]
+
+    def end_of_table(self):
+        """The procedure number and the lex level."""
+        number = self.source.randrange(1, 256) if self.style.other_numbers else self.number
+        return bytes([number, self.source.randrange(256) if self.style.free_words else self.level])
 
 
 def procedure(source, style, number, calls, names, is_program=False, shortest=4):
@@ -519,12 +568,20 @@ class Maker:
                 return name
 
     def record(self, name, *words):
-        return name.encode().ljust(8)[:8] + b"".join(map(self.word, [*words, 0, 0, 0, 0][:4]))
+        rest = [self.source.randrange(65536) for _ in range(4)] if self.style.free_records else [0] * 4
+        return name.encode().ljust(8)[:8] + b"".join(map(self.word, [*words, *rest][:4]))
 
     def reference_record(self, kind, name, places, words=0):
         form = 1 if kind == UNITREF else 2
         listed = b"".join(map(self.word, places))
-        return self.record(name, kind, form, len(places), words) + listed + bytes(-len(listed) % 16)
+        rest = self.source.randbytes(-len(listed) % 16) if self.style.free_records else bytes(-len(listed) % 16)
+        return self.record(name, kind, form, len(places), *([words] if kind == PRIVREF or not self.style.free_records else [])) + listed + rest
+
+    def mark_of_unit(self, records):
+        """The end mark of a unit, whose value is not used; none where zeros of the last block follow."""
+        if self.style.no_mark and len(records) % BLOCK:
+            return b""
+        return self.mark(self.source.randrange(65536) if self.style.free_records else 0)
 
     def mark(self, following):
         if self.style.old_mark:
@@ -535,9 +592,15 @@ class Maker:
         """The code of a segment, and what a link fills in."""
         code, tables, out = b"", {}, []
         for one in [*procedures, *([program] if program else [])]:
+            code += self.source.randbytes(2 * self.source.randrange(1, 30)) if self.style.between else b""
             made, tables[one.number], _ = one.made(len(code), out)
             code += made
-        code += b"".join(self.word(len(code) + 2 * k - tables[n]) for k, n in enumerate(range(len(tables), 0, -1)))
+        code += bytes(len(code) % 2)
+        if self.style.one_table or self.style.absent:
+            one, other = self.source.sample(range(2, 1 + len(tables)), 2)
+            tables[one] = tables[other] if self.style.one_table else None
+        pointers = [(len(code) + 2 * k, tables[n]) for k, n in enumerate(range(len(tables), 0, -1))]
+        code += b"".join(self.word(0 if table is None else place - table) for place, table in pointers)
         return code + bytes([number if self.style.numbers else 0, len(tables)]), out
 
     def records_of(self, out, privates):
@@ -547,7 +610,9 @@ class Maker:
         self.source.shuffle(keys)
         for kind, name in keys:
             places = [place for other, named, place in out if (other, named) == (kind, name)]
-            if kind == PRIVREF or len(places) < 9 or self.source.random() < 0.5:
+            if self.style.several and kind != PRIVREF:
+                found += b"".join(self.reference_record(kind, name, [place]) for place in places)
+            elif kind == PRIVREF or len(places) < 9 or self.source.random() < 0.5:
                 found += self.reference_record(kind, name, places, privates.get(name, 0))
             else:  # two records of one name
                 found += self.reference_record(kind, name, places[:8]) + self.reference_record(kind, name, places[8:])
@@ -555,13 +620,29 @@ class Maker:
 
     def unit(self, name, publics, units, slot):
         """A unit that refers to these variables of the host, and to these units."""
-        privates = {self.name(): self.source.randrange(1, 200) for _ in range(self.source.randrange(1, 4))}
+        privates = {self.name(): 0 if self.style.no_words else self.source.randrange(1, 200) for _ in range(self.source.randrange(1, 4))}
         names = {"publics": publics, "privates": privates, "units": units, "own": name}
         count = self.source.randrange(9, 14)
         procedures = [procedure(self.source, self.style, number, count, names) for number in range(1, count + 1)]
         self.source.shuffle(procedures)
         code, out = self.segment_code(slot, procedures)
-        return Segment(name, UNITSEG, code, self.records_of(out, privates) + self.mark(0), self.interface() if self.style.text else b"")
+        records = self.records_of(out, privates)
+        if self.style.no_procedures and self.source.random() < 0.5:
+            code, records = self.source.randbytes(2 * self.source.randrange(1, 20)) + bytes([slot, 0]), b""
+        records += self.more_records(publics, units)
+        return Segment(name, UNITSEG, code, records + self.mark_of_unit(records), self.interface() if self.style.text else b"")
+
+    def more_records(self, publics, units):
+        """Records of a unit that need no code: without references, and definitions, which have no effect."""
+        found = b""
+        if self.style.empty_records:
+            found += b"".join(self.reference_record(UNITREF, unit, []) for unit in units)
+            found += self.reference_record(PUBLREF, self.source.choice(list(publics)), []) + self.reference_record(PRIVREF, self.name(), [], 5)
+        if self.style.unit_definitions:
+            for name in (self.name(), self.source.choice(list(publics)), "\0" * 8):
+                found += self.record(name, PUBLDEF, self.source.randrange(65536))
+            found += self.record(self.name(), CONSTDEF, self.source.randrange(65536))
+        return found
 
     def as_moved(self, unit, free):
         """The unit with the number of a slot that no entry of the library has."""
@@ -572,22 +653,23 @@ class Maker:
         page = b"".join(lines)[:1000]
         return page.ljust(1024, b"\0")
 
-    def host(self, name, publics, units, slot):
+    def host(self, name, publics, units, slot, numbers=()):
         """The host program: it defines these variables."""
-        names = {"publics": {}, "privates": {}, "units": units if self.style.host_refs else [], "own": ""}
+        names = {"publics": {}, "privates": {}, "units": units if self.style.host_refs else [], "own": "", "numbers": numbers}
         count = self.source.randrange(9, 14)
         procedures = [procedure(self.source, self.style, number, count, names) for number in range(2, count + 1)]
         program = procedure(self.source, self.style, 1, count, names, is_program=True)
         code, out = self.segment_code(slot, procedures, program)
         values = dict(publics)
         following = 1 + program.parameters + program.locals
+        end = following + (self.source.randrange(1, 3000) if self.style.high_mark else 0)
         records, value = b"", 3
         for defined, words in values.items():
             records += self.record(defined, PUBLDEF, value)
             value += words
         for _ in range(self.style.definitions):
             records += self.record(self.name(), *self.source.choice([(PUBLDEF, self.source.randrange(3, following)), (CONSTDEF, self.source.randrange(300))]))
-        return Segment(name, HOSTSEG, code, records + self.records_of(out, {}) + self.mark(following))
+        return Segment(name, HOSTSEG, code, records + self.records_of(out, {}) + self.mark(end))
 
     def assembled(self, slot):
         """An assembled procedure: native code, with long runs of zeros."""
@@ -596,6 +678,10 @@ class Maker:
         code += self.word(2) + bytes([slot, 1])
         kind = self.source.choice([SEPRTSEG, LINKED])
         return Segment(self.name(), kind, code, self.record(self.name(), 7, 4) + self.mark(0) if kind == SEPRTSEG else b"")
+
+    def linked_part(self):
+        """A linked segment, which a link copies whatever it has."""
+        return Segment(self.name(), LINKED, self.source.randbytes(self.source.randrange(1, 900)))
 
     def filled(self, part):
         """Whole blocks: the rest of the last has zeros, or what was there before."""
@@ -614,7 +700,9 @@ class Maker:
         return self.filled(records)
 
     def pair(self, one, pair):
-        """The address and the length of an entry: a wanted one has neither, or one of them."""
+        """The address and the length of an entry: a wanted one has neither, or one of them, and an empty one may have an address."""
+        if self.style.empty_addresses and not one:
+            return self.source.randrange(65536), 0
         if not self.style.half or not one or one.code:
             return pair
         return self.source.choice([pair, (self.source.randrange(1, 9), 0), (0, 2 * self.source.randrange(2, 900))])
@@ -628,16 +716,22 @@ class Maker:
 
     def file(self, slots):
         """The code file of these segments, by slot."""
-        blocks, entries = b"", {}
+        blocks, entries, used = b"", {}, 0
         for slot in self.source.sample(sorted(slots), len(slots)):
             one, text, address = slots[slot], 0, 0
+            blocks += self.source.randbytes(BLOCK * self.source.randrange(3)) if self.style.gaps else b""
             if one.text:
                 text = 1 + len(blocks) // BLOCK
                 blocks += one.text
+                used = len(blocks)
             if one.code:
                 address = 1 + len(blocks) // BLOCK
-                blocks += self.filled(one.code) + self.records_filled(one.records)
+                whole = blocks + self.filled(one.code)
+                used = len(whole + one.records) if one.records else len(blocks + one.code)
+                blocks = whole + self.records_filled(one.records)
+            text = self.source.randrange(65536) if self.style.free_texts else text
             entries[slot] = (address, len(one.code), text)
+        blocks = blocks[:used] if self.style.short_end else blocks
         pairs = b"".join(self.word(value) for slot in range(16) for value in self.pair(slots.get(slot), entries.get(slot, (0, 0, 0))[:2]))
         names = b"".join(slots[slot].name.encode().ljust(8)[:8] if slot in slots else self.blank() for slot in range(16))
         kinds = b"".join(self.word(slots[slot].kind if slot in slots else self.kind_of_empty()) for slot in range(16))
@@ -655,13 +749,18 @@ class Maker:
         added = [self.name() for _ in range(self.source.randrange(2))]
         slots = dict(zip([*wanted, *added], self.source.sample(range(7, 16), len(wanted + added))))
         at = self.source.choice([1, 1, 1, 2, 6])
-        host = {at: self.host(self.name(), publics, wanted, at)}
+        if self.style.anywhere:
+            at, *others = self.source.sample(range(16), 1 + len(wanted + added))
+            slots = dict(zip([*wanted, *added], others))
+        host = {at: self.host(self.name(), publics, wanted, at, [slots[name] for name in wanted])}
+        if self.style.linked_parts:
+            host[next(slot for slot in range(16) if slot not in [at, *slots.values()])] = self.linked_part()
         libraries = [{} for _ in range(self.source.randrange(1, 3))]
         for index, name in enumerate([*wanted, *added]):
             uses = added if index < len(wanted) else []
             in_host = self.style.in_place and index == 0
             library = self.source.choice(libraries)
-            free = [slot for slot in range(1, 16) if slot not in library]
+            free = [slot for slot in range(not self.style.anywhere, 16) if slot not in library]
             slot = slots[name] if in_host else self.source.choice(free)
             unit = self.unit(name, publics, [*uses, name] if self.source.random() < 0.5 else uses, slot)
             if name in wanted:
@@ -670,6 +769,8 @@ class Maker:
                 library[slot] = self.as_moved(unit, slots.values()) if self.style.moved else unit
         for library in libraries:
             self.add_others(library)
+        if self.style.linked_library:
+            libraries.append({slot: self.linked_part() for slot in self.source.sample(range(16), 3)})
         return self.file(host), [self.file(library) for library in libraries]
 
     def add_others(self, library):
@@ -681,70 +782,9 @@ class Maker:
         if self.style.empty_unit:
             slot = self.source.choice([slot for slot in free if slot not in library])
             library[slot] = Segment(self.name(), UNITSEG, bytes(4), self.mark(0))
+        if self.style.other_kinds:
+            kinds = [SEGPROC, SEPRTSEG, 5, 6, 7, self.source.randrange(8, 256)]
+            for kind, slot in zip(self.source.sample(kinds, 3), [slot for slot in range(16) if slot not in library]):
+                library[slot] = Segment(self.name(), kind, self.source.randbytes(self.source.randrange(1, 900)))
         if not library:
             library[1] = self.unit(self.name(), {self.name(): 3}, [], 1)
-
-
-# Styles --------------------------------------------------------------------------------------------------------------
-
-COMMENT = b"(c) 1979 Regents of the University of California. All rights reserved."
-
-
-def told(machine, version):
-    """What II.1 has of each slot: its number, a machine type and a version."""
-    kinds = {SEPRTSEG: 7}
-    return lambda source, slots: {256: [slot + 256 * (kinds.get(slots[slot], machine) + 32 * version) if slot in slots else 0 for slot in range(16)]}
-
-
-def text_at(*places):
-    return lambda source, slots: {place: COMMENT[: min(len(COMMENT), 40 if place < 432 else 80)] for place in places}
-
-
-def styles():
-    later = [
-        Style("plain"),
-        Style("plain, for a big-endian machine", order="big"),
-        Style("EXIT of procedures of units", exits=True),
-        Style("tabs and letters above 127 in strings", strings=bytes([9, 10, 12, 13, 27, *range(32, 127), *range(160, 256)])),
-        Style("a comment at 432", tail=text_at(432)),
-        Style("text at 256", tail=text_at(256)),
-        Style("text at 296 and at 432", tail=text_at(296, 432)),
-        Style("numbers, machines and versions of slots", tail=told(2, 1)),
-        Style("the same for a big-endian machine", order="big", tail=told(1, 2)),
-        Style("the same with assembled entries", tail=told(2, 2), assembled=True),
-        Style("blocks that are not cleared", cleared=False),
-        Style("old records after the end mark", old_records=True),
-        Style("words and a name in the end mark", old_mark=True),
-        Style("more than 31 definitions, and a block that is not cleared", old_records=True, definitions=40),
-        Style("assembled entries", assembled=True),
-        Style("assembled entries, and blocks that are not cleared", assembled=True, cleared=False),
-        Style("an empty unit", empty_unit=True),
-        Style("text of interfaces", text=True),
-        Style("units in the host", in_place=True),
-        Style("units that were moved to other slots", moved=True),
-        Style("names in small letters", small=True),
-        Style("names that are no identifiers", other_names=True),
-        Style("UNITREF records in the host", host_refs=True),
-        Style("operands of two bytes everywhere", long=True),
-        Style("no instructions of one byte", short=False),
-        Style("rows of constants", rows=True),
-        Style("returns in the middle", returns=True),
-        Style("values over jumps", held=True),
-        Style("all jumps by the table", tables=True),
-        Style("NOP as padding", padding=0xD7),
-        Style("segment number 0", numbers=False),
-        Style("empty slots and wanted ones with half of an entry", half=True),
-        Style("bytes from 288 on in the dictionary", tail=lambda source, slots: {288: source.randbytes(224)}),
-        Style("all at once", exits=True, cleared=False, old_mark=True, rows=True, returns=True, held=True, assembled=True, empty_unit=True, in_place=True, host_refs=True, definitions=35, tail=text_at(256, 432)),
-    ]  # fmt: skip
-    return later + [dataclasses.replace(style, name=f"{style.name}, earlier release", release="earlier") for style in later]
-
-
-STYLES = styles()
-
-
-def sets(count):
-    """So many sets of files: of each the style, the host and the libraries."""
-    for number in range(count):
-        style = STYLES[number % len(STYLES)]
-        yield (style.name, *Maker(style, random.Random(number)).files())

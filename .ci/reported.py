@@ -111,6 +111,7 @@ MIXED = [f"SLDC {number}" for number in random.Random(39).choices(range(128), k=
 AGAIN = MIXED[:128] * 6
 AUX_UNIT, OTHER_UNIT = (m.Segment(name, m.UNITSEG, m.UNIT, m.UNIT_LINKS) for name in ("AUX", "OTHER"))
 AUX_FILE = m.code_file({3: AUX_UNIT})
+TOOL = LIBRARY.replace(b"UTIL", b"TOOL")
 # a host that wants two units of four private words each, and a library that has both
 TWO_WANTED = m.code_file({**m.HOST, 8: m.Segment("AUX", m.UNITSEG, m.WANTED)})
 TWO_UNITS = m.code_file({**m.LIBRARY, 3: AUX_UNIT})
@@ -202,6 +203,11 @@ def swapped(file):
     return b"".join(file[at : at + 2][::-1] for at in range(0, len(file), 2))
 
 
+def later_host():
+    """The sample host with the version of release III.0 in the word of its segment."""
+    return changed(HOST, (256, bytes(32)), (258, word(3 << 13 | 1)))
+
+
 UTIL, DEMO = "  segment UTIL, of slot 07 of the host", "  segment DEMO, of slot 01 of the host"
 AUX = "  segment AUX, of slot 08 of the host"
 again = lambda path: f"  Copy {path} again, as binary, or compile it again. Damage is in DAMAGED FILES of pslink(1)."
@@ -209,6 +215,9 @@ LEFT = "bytes of the file are left for it"
 GIVE = "  Give a library that has it, after HOST."
 WANTED = ["  No library has the unit that the slot wants.", GIVE]
 REQUESTED = ["  No library has the unit that the UNITREF in this record requests.", GIVE]
+NO_CODE = ["  The host is no code file of release II.0, so nothing is said of its segments."]
+LATER = "a code file of release III.0, which is not supported"
+COMPILE = "  Compile the program of HOST by a compiler of release II.0, and give the code file that it makes."
 NOT_READ = ["  The code is damaged: a part of it was not read, or never written.", "  Copy HOST again, as binary."]
 
 
@@ -234,7 +243,12 @@ def faults():
         (7, changed(HOST, (194, b"\2")), [LIBRARY], [DEMO]),
         (8, changed(HOST, (194, b"\4")), [LIBRARY], [DEMO]),
         (9, changed(HOST, (194, b"\5")), [LIBRARY], [DEMO, "  its kind is 5"]),
-        (10, changed(HOST, (194, b"\x08")), [LIBRARY], [DEMO, "  its kind is 8", "note: HOST: it may be no code file of a known form"]),
+        (10, changed(HOST, (194, b"\x08")), [LIBRARY], ["  it is no code file of a known form"], *NO_CODE, again("HOST")),
+        (10, changed(HOST, *entry(3, "OTHER", 8, 9, 18)), [LIBRARY], ["  segment OTHER, of slot 03 of the host", "  its kind is 8"]),
+        # hosts of release III.0: nothing is said of their segments, but of a library that is no code file and of one that is refused
+        (13, later_host(), [bytes(2048)], [f"  it is {LATER}", "note: LIB1: it may be a file of the byte 00 alone"], *NO_CODE, COMPILE),
+        (13, later_host(), [USING], [UTIL, "  record 0: UNITREF AUX", "  LIB1 has UTIL", f"note: HOST: it may be {LATER}"], REQUESTED[0], COMPILE),
+        (3, later_host(), [changed(LIBRARY, (196, b"\0\3"))], ["  it is big-endian; the host is little-endian", f"note: HOST: it may be {LATER}"], COMPILE),
         (11, HOST, unit((10, word(23))), [UTIL, f"  entry 02 has 23 {extent} 512 to 535; the file has 1536"]),
         (12, changed(HOST, (4, word(0))), [LIBRARY], [DEMO, f"  entry 01 has 18 {extent} 0 to 18; the file has 1536"]),
         (13, HOST, [], [UTIL, "  no library is given"], *WANTED),
@@ -242,12 +256,17 @@ def faults():
         (13, HOST, [LIBRARY.replace(b"UTIL    ", b"UTIL\0\0\0\0")], [UTIL, f'  LIB1 has "UTIL\\x00\\x00\\x00\\x00" (which {near})', 'note: LIB1: the name "UTIL\\x00\\x00\\x00\\x00" is padded with zeros where blanks are expected: it may not be found'], *WANTED),
         (13, HOST, [m.code_file({3: AUX_UNIT, 5: OTHER_UNIT}), m.code_file({1: m.Segment("DEMO", m.LINKED, m.PROGRAM)})], [UTIL, "  LIB1 has AUX, OTHER", "  LIB2 has no unit"], *WANTED),
         (13, HOST, [bytes(2048), LIBRARY.replace(b"UTIL", b"TOOL")], [UTIL, "  LIB1 is a file of the byte 00 alone", "  LIB2 has TOOL"], WANTED[0], "  Copy LIB1 again: nothing of the code file is in it."),
+        # the first library that is no code file is not always the first one; what a library only wants it has not
+        (13, HOST, [TOOL, bytes(2048)], [UTIL, "  LIB1 has TOOL", "  LIB2 is a file of the byte 00 alone"], WANTED[0], "  Copy LIB2 again: nothing of the code file is in it."),
+        (13, HOST, [changed(TOOL, *entry(5, "UTIL", 3, 0, 0))], [UTIL, "  LIB1 has TOOL"], *WANTED),
+        (14, HOST, [changed(TOOL, *entry(5, "UTIL", 2, 9, 24), *entry(6, "UTIL", 3, 0, 0))], [UTIL, "  entry 05 has the name, of kind 2: a segment procedure"], "  Give the unit's library before LIB1, or remove that segment from LIB1."),
         (13, HOST, [USING], [UTIL, "  record 0: UNITREF AUX", "  LIB1 has UTIL"], *REQUESTED),
         (13, HOST, [BLANK_LIBRARY], [UTIL, '  record 0: UNITREF ""', '  LIB1 has UTIL, ""'], *REQUESTED),
         *((13, HOST, [AUX_FILE] * count, [UTIL, *(f"  LIB{k} has AUX" for k in range(1, 17)), *rest], *WANTED)
           for count, rest in ((16, []), (17, ["  there is 1 more library"]), (18, ["  there are 2 more libraries"]))),
         (14, HOST, unit((196, b"\4")), [UTIL, "  entry 02 has the name, of kind 4: a separate segment"], "  Give the unit's library before LIB1, or remove that segment from LIB1."),
-        (14, HOST, unit((196, b"\6")), [UTIL, "  entry 02 has the name, of kind 6: an intrinsic unit of Apple Pascal, or its data"], "  Compile it as a regular unit of II.0, or give the library of such a unit before LIB1."),
+        *((14, HOST, unit((196, bytes([kind]))), [UTIL, f"  entry 02 has the name, of kind {kind}: an intrinsic unit of Apple Pascal, or its data"],
+           "  Compile it as a regular unit of II.0, or give the library of such a unit before LIB1.") for kind in (5, 6, 7)),
         *((14, HOST, unit((196, bytes([kind]))), [UTIL, f"  entry 02 has the name, of kind {kind}: {word}", *rest], "  Give the unit's library before LIB1, or remove that segment from LIB1.")
           for kind, word, *rest in ((1, "a host program"), (2, "a segment procedure"), (8, "no kind of II.0", "note: LIB1: it may be no code file of a known form"))),
         (14, HOST, [LINKED], [UTIL, "  entry 07 has the name, of kind 0: a linked segment"], "  LIB1 is linked already: leave it out."),
@@ -260,13 +279,15 @@ def faults():
         (17, HOST, [changed(dead_unit(), (CODE + 1054, word(5000)))], [UTIL, "  the table of procedure 1 lies outside the code", "  bytes 512 to 1023 of its code are all E5: they may not have been read"]),
         (18, HOST, unit((CODE + 18, b"\0")), [UTIL, "  the table of procedure 1 has the number 0, native code"]),
         (18, native_host(), [LIBRARY], [DEMO, "  the table of procedure 2 has the number 0, native code", "  bytes 512 to 1023 of its code are all 00: they may not have been read"], *NOT_READ),
-        (18, swapped(HOST), [swapped(LIBRARY)], ["  segment EDOM, of slot 01 of the host", "  the table of procedure 1 has the number 0, native code", "note: LIB1: it may be a code file whose bytes are exchanged in pairs"], "  The bytes of the code are exchanged in pairs.", "  Exchange the bytes again: dd conv=swab if=HOST of=FILE. Then give FILE."),
+        (18, swapped(HOST), [swapped(LIBRARY)], ["  it is a code file whose bytes are exchanged in pairs", "note: LIB1: it may be a code file whose bytes are exchanged in pairs"], *NO_CODE, "  Exchange the bytes again: dd conv=swab if=HOST of=FILE. Then give FILE."),
+        # a library whose bytes are exchanged, of a host that is a code file
+        (18, SAMPLES["big_host.code"], [swapped(unit_with(m.UNIT_LINKS, slot=1)).replace(b"TULI", b"UTIL")], ["  segment UTIL, of slot 07 of the host", "  the table of procedure 1 has the number 0, native code"], "  The bytes of the code are exchanged in pairs.", "  Exchange the bytes again: dd conv=swab if=LIB1 of=FILE. Then give FILE."),
         (19, HOST, [LIBRARY[:1103]], [UTIL, f"  record 2: 15 {LEFT}"]),
-        (20, HOST, unit((LINKS + 8, b"\x0f")), [UTIL, f"  record 0: type 15, and then the word 2; 512 {LEFT}"]),
-        (20, HOST, [changed(LIBRARY[: LINKS + 16], (LINKS + 8, b"\x0f"))], [UTIL, f"  record 0: type 15, and then the word 2; 16 {LEFT}"]),
-        (21, HOST, unit((LINKS + 8, b"\2")), [UTIL, f"  record 0: type 2, and then the word 2; 512 {LEFT}"]),
-        (22, HOST, unit((LINKS + 8, b"\x0b")), [UTIL, f"  record 0: type 11, and then the word 2; 512 {LEFT}"]),
-        (23, HOST, unit((LINKS + 32 + 10, b"\1")), [UTIL, f"  record 1: type 4, and then the word 1; 480 {LEFT}"]),
+        (20, HOST, unit((LINKS + 8, b"\x0f")), [UTIL, f"  record 0: type 15, and its word A is 2; 512 {LEFT}"]),
+        (20, HOST, [changed(LIBRARY[: LINKS + 16], (LINKS + 8, b"\x0f"))], [UTIL, f"  record 0: type 15, and its word A is 2; 16 {LEFT}"]),
+        (21, HOST, unit((LINKS + 8, b"\2")), [UTIL, f"  record 0: type 2, and its word A is 2; 512 {LEFT}"]),
+        (22, HOST, unit((LINKS + 8, b"\x0b")), [UTIL, f"  record 0: type 11, and its word A is 2; 512 {LEFT}"]),
+        (23, HOST, unit((LINKS + 32 + 10, b"\1")), [UTIL, f"  record 1: type 4, and its word A is 1; 480 {LEFT}"]),
         (24, host_with([m.publ_def("COUNT", 3), m.record("COUNT", 8, 1), m.eof_mark(8)]), [LIBRARY], [DEMO, "  record 1: CONSTDEF COUNT", "  the earlier one is record 0: PUBLDEF COUNT"]),
         (25, HOST, [unit_with([STATE, m.priv_ref("STATE", 1, []), END])], [UTIL, "  record 1: PRIVREF STATE", "  the earlier one is record 0: PRIVREF STATE"]),
         (26, HOST, [unit_with([m.priv_ref("FIRST", 2, []), m.priv_ref("STATE", 32758, []), END])], [UTIL, "  record 1: PRIVREF STATE", "  it takes 32758 words from base offset 10 on"]),
@@ -274,6 +295,9 @@ def faults():
         (28, HOST, [unit_with([m.publ_ref("Count", [1]), END])], [UTIL, "  record 0: PUBLREF Count", "  the host has PUBLDEF COUNT, record 0", "note: LIB1, segment UTIL, record 0: the name Count has small letters, and other names have capitals: it may not be found"]),
         (28, HOST, [unit_with([m.publ_ref("OTHER", [1]), END]), LIBRARY, LIBRARY], [UTIL, "  record 0: PUBLREF OTHER"]),
         (28, HOST, [unit_with([m.publ_ref("OWN", [1]), m.publ_def("OWN", 1), END])], [UTIL, "  record 0: PUBLREF OWN", "  the unit itself has a PUBLDEF of it, record 1, which is not used: the host program has to define it", "warning: LIB1, segment UTIL, record 1: the unit refers to OWN and defines it itself: only the host program defines variables"]),
+        # a definition of nearly the name is any record of the host; a unit's constant is no variable
+        (28, host_with([m.publ_def("OTHER", 3), m.publ_def("COUNT", 4), m.eof_mark(8)]), [unit_with([m.publ_ref("Count", [1]), END])], [UTIL, "  record 0: PUBLREF Count", "  the host has PUBLDEF COUNT, record 1", "note: LIB1, segment UTIL, record 0: the name Count has small letters, and other names have capitals: it may not be found"]),
+        (28, HOST, [unit_with([m.publ_ref("OWN", [1]), m.record("OWN", 8, 1), END])], [UTIL, "  record 0: PUBLREF OWN", "warning: LIB1, segment UTIL, record 1: the unit refers to OWN and defines it itself: only the host program defines variables"]),
         (29, host_with([m.record("COUNT", 8, 3), m.eof_mark(8)]), [LIBRARY], [UTIL, "  record 0: PUBLREF COUNT", "  the host has CONSTDEF COUNT, record 0"]),
         (31, HOST, [unit_with([m.publ_ref("COUNT", [1, 23]), END])], [UTIL, "  record 0: PUBLREF COUNT", "  reference 1: byte 23 of the code, where these bytes stand: 01", "  the code has 24 bytes"]),
         (31, HOST, [unit_with([m.publ_ref("COUNT", [24]), END])], [UTIL, "  record 0: PUBLREF COUNT", "  reference 0: byte 24 of the code, where these bytes stand: none", "  the code has 24 bytes"]),
@@ -336,7 +360,6 @@ def forms():
     """What is given in place of a code file: what it is, its bytes, and what to do with it."""
     boot = bytes(range(1, 256)) * 4
     head = "  Remove the header: tail -c +{} @ > FILE. Then give FILE."
-    decode = "  Decode @ by {}, and give what comes out."
     source = "  Give the code file that the compiler made of @, or of its program."
     lost = "  Copy @ again: nothing of the code file is in it."
     return [
@@ -357,9 +380,10 @@ def forms():
         ("a disk image, of the volume DISK", volume(boot), "  Take the code file off the volume in @, as binary, and give that."),
         ("a text", text_of(20), source),
         ("a text", text_of(20, b"\r\n"), source),
-        ("a text in base64", base64.encodebytes(HOST), decode.format("base64 -d")),
-        ("a uuencoded text", uuencoded(HOST), decode.format("uudecode")),
-        ("a dump in hexadecimal digits", dump(HOST), "  Turn @ into bytes again, as by xxd -r, and give what comes out."),
+        # a file that was encoded as a text, or a dump of it, is a text
+        ("a text", base64.encodebytes(HOST), source),
+        ("a text", uuencoded(HOST), source),
+        ("a text", dump(HOST), source),
         ("a text of a p-System", bytes(1024) + text_of(8, b"\r").ljust(1024, b"\0"), source),
         ("a file whose line ends were converted: each 0A in it comes after a 0D", b"\1" * 200 + b"\r\n\2" * 40 + b"\3" * 600, "  Copy @ again, as binary, so that no line end is converted."),
         ("a file whose line ends were converted: it has bytes 0D and none 0A", b"\1" * 200 + b"\r\2" * 40 + b"\3" * 600, "  Copy @ again, as binary, so that no line end is converted."),
@@ -450,6 +474,9 @@ def warnings():
         *(([f"harmless: LIB1: slot 04 is of kind {kind}, an intrinsic unit of Apple Pascal or its data"], HOST, unit(*entry(4, "TURTLE", kind, address, length)))
           for kind, address, length in ((5, 9, 24), (6, 0, 200), (7, 0, 200), (7, 0, 23))),
         ([odd("demo", "has small letters, and other names have capitals")], changed(HOST, (72, b"demo")), [LIBRARY]),
+        # a unit that the host wants by an odd name, which is that of the library too
+        ([odd("Util", "has small letters, and other names have capitals"), odd("Util", "has small letters, and other names have capitals").replace("HOST", "LIB1")],
+         HOST.replace(b"UTIL", b"Util"), [LIBRARY.replace(b"UTIL", b"Util")]),
         ([odd('"DEMO\\x00\\x00\\x00\\x00"', "is padded with zeros where blanks are expected")], changed(plain, (72, b"DEMO\0\0\0\0")), [LIBRARY]),
         ([odd('"DEM\\x01"', "has control bytes")], changed(plain, (75, b"\1")), [LIBRARY]),
         ([odd('"DEM\\x7f"', "has control bytes")], changed(plain, (75, b"\x7f")), [LIBRARY]),
@@ -493,7 +520,7 @@ def warnings():
         ([f"note: HOST, segment TOOLS: {no_end}"], changed(plain, (end - 1, b"\0")), [three]),
         ([f"note: HOST, segment TOOLS: {no_end}"], changed(plain, (end - 1, b"\xc8")), [three]),
         (["note: HOST, segment TOOLS: the attribute table of procedure 1 says that it is procedure 3: the code may be damaged"], changed(plain, (end - 6, b"\3")), [three]),
-        ([clear(1)], HOST, unit((CODE + 1, b"\0"))),
+        *(([clear(1)], HOST, unit((CODE + 1, bytes([byte])))) for byte in (0, 0x3F, 0x40, 0x7E)),
         ([f"warning: {in_unit}, record 1: the operand at byte 4 is word 2 of a variable that has 2"], HOST, [unit_with([COUNT, m.priv_ref("STATE", 2, [4]), END])]),
         ([f"warning: {in_unit}, record 1: the operand at byte 4 is word 1 of a variable that has 0"], HOST, [changed(unit_with([COUNT, m.priv_ref("STATE", 0, [4]), END]), (CODE + 5, b"\1"))]),
         ([f"harmless: {in_unit}, record 1: the unit defines MORE, which has no effect: only the host program defines variables"], HOST, [unit_with([COUNT, m.publ_def("MORE", 3), END])]),
@@ -543,6 +570,9 @@ def quiet():
         (with_native(400), [LIBRARY]),
         (changed(HOST, (256, b"PROGRAM DEMO, FOR ALL MACHINES.")), [changed(LIBRARY, (256, b"FG" * 16))]),
         (changed(HOST, (256, b"\0\x17" * 16)), [changed(LIBRARY, (256, b"\x20\x07" * 16))]),
+        # one byte 1A, and blanks in the second half of a dictionary
+        (HOST, [LIBRARY + b"\x1a"]),
+        (changed(HOST, (384, b" " * 128)), [LIBRARY]),
         # less than 32 line ends
         *((HOST, [changed(LIBRARY, (600, line * 31))]) for line in (b"\r\n", b"\n", b"\r")),
         # texts of blanks, and of no operation

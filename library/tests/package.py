@@ -292,6 +292,7 @@ def of_installing():
         done = subprocess.run([*pip, "--target", FOLDER / "site", source], capture_output=True, text=True)
         check(done.returncode == 0, f"pip: {done.stderr[-300:]}")
     else:
+        print("left out: library: the package in Python by pip, since pip is not there")
         zipfile.ZipFile(FOLDER / build_backend.build_wheel(FOLDER)).extractall(FOLDER / "site")
     of_editable(build_backend, source)
     there = f"True {FOLDER}/site/pslink/__init__.py"
@@ -303,6 +304,8 @@ def of_installing():
         "by the loader": {"LD_LIBRARY_PATH": str(BUILT)},
         **({"by pkg-config": {"PKG_CONFIG_PATH": str(config)}} if shutil.which("pkg-config") else {}),
     }
+    if "by pkg-config" not in ways:
+        print("left out: library: the package in Python by pkg-config, since pkg-config is not there")
     for what, env in ways.items():
         check(imported(**env) == there, f"{what}: {imported(**env)}")
     check(imported(ISOLATED) == "ImportError", f"an isolated interpreter without a library: {imported(ISOLATED)}")

@@ -37,7 +37,7 @@ abbrev pub IsRefusedFor : List ℕ → List (List ℕ) → Refusal → Type 0
 IsRefusedFor host libs r = IsFirst host libs r.fault
     × HasItsParts (order_of host) host libs r.fault × (r.name ≡ fault_name host libs r.fault)
 
--- these bytes are so many, and more than there is room for
+-- the text has so many bytes, and more than there is room for
 abbrev pub IsAbove : List ℕ → List ℕ → TooSmall → Type 0
 IsAbove bytes room t = (t.size ≡ length bytes) × (length room < t.size)
 

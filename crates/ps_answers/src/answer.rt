@@ -77,7 +77,7 @@ impl Answer {
     ghost use Rattle.ps_answers.specs.Answers.{bare as bare_spec, refusal as refusal_spec, refusal_fault as refusal_fault_spec};
     ghost use Rattle.ps_answers.specs.Outcomes.{answer_of, done_answer, not_done_answer, unput_answer};
 
-    /// This status, and 0 in every other field.
+    /// The answer with this status, and 0 in every other field.
     pub fn bare(status: u32) -> Answer
         ensures { result ≡ bare_spec status }
     {

@@ -46,7 +46,7 @@ unprinted_of k room host libs lengths names name_lengths given (unput.Unmade NoM
 unprinted_of k room host libs lengths names name_lengths given (unput.TooSmall t) right same is =
     (right, long_named k given _ host _ room t same is)
 
--- the same of what it returns
+-- why a text was not put, as the call returns it
 pub unprinted : (k : TextKind) (room host libs lengths names name_lengths : List ℕ)
     (given : List (List ℕ)) (why : Unput) (result : Result Done NotDone)
     → IsErrAnd result (λ e. e ≡ not_done.Unput why)

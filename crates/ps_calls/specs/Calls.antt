@@ -103,7 +103,7 @@ pub record IsTextAnswered (k : TextKind)
   pub printed : IfOk outcome (IsPrinted k host libs lengths names name_lengths old new)
   pub not_done : IfErr outcome (WhyUnprinted k old host libs lengths names name_lengths)
 
--- the same of a call for a text that there may not be
+-- the answer of a call for a text that there may not be
 abbrev pub IsAnswered : Option TextKind → List ℕ → List ℕ → List ℕ → List ℕ
     → List ℕ → List ℕ → List ℕ → Answer → Type 0
 IsAnswered None host libs lengths names name_lengths old new answer = answer ≡ bare WRONG_TEXT

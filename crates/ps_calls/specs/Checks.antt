@@ -29,7 +29,7 @@ HasItsLengths libs lengths names name_lengths =
     (sum lengths ≡ length libs) × (length name_lengths ≡ 1 + length lengths)
     × (sum name_lengths ≡ length names)
 
--- and each name is UTF-8
+-- the lengths are right, and each name is UTF-8
 abbrev pub IsCheckable : List ℕ → List ℕ → List ℕ → List ℕ → Type 0
 IsCheckable libs lengths names name_lengths =
     (sum lengths ≡ length libs) × (length name_lengths ≡ 1 + length lengths)
@@ -69,12 +69,12 @@ abbrev pub WhyUnnamed : Type 0 → Unnamed → Type 0
 WhyUnnamed Names unnamed.WrongNames = Names → ⊥
 WhyUnnamed Names unnamed.NoMemory = ⊤
 
--- the same as an error of a call
+-- why there are no names, as an error of a call
 abbrev pub unnamed_call : Unnamed → NotDone
 unnamed_call unnamed.WrongNames = not_done.Wrong wrong.Names
 unnamed_call unnamed.NoMemory = not_done.Unput (unput.Unmade unmade.NoMemory)
 
--- and as one of a check
+-- why there are no names, as an error of a check
 abbrev pub unnamed_check : Unnamed → NotChecked
 unnamed_check unnamed.WrongNames = not_checked.Wrong wrong.Names
 unnamed_check unnamed.NoMemory = not_checked.NoMemory

@@ -23,7 +23,7 @@ fault_name number = name_or_nothing (reason_of number 0)
 abbrev pub fault_meaning : ℕ → List ℕ
 fault_meaning number = meaning_of number
 
--- and what to do about it
+-- what to do about the fault of this number
 abbrev pub fault_remedy : ℕ → List ℕ
 fault_remedy number = remedy_of number
 

@@ -35,24 +35,24 @@ abbrev pub WhyUnmade : TextKind → List ℕ → List (List ℕ) → Unmade → 
 WhyUnmade k host libs (Refused r) = IsRefusedFor k host libs r
 WhyUnmade k host libs NoMemory = ⊤
 
--- the same, with the name of what a fault is about
+-- why a text is not made, with the name of what a fault is about
 abbrev pub named_unmade : List ℕ → List (List ℕ) → TextUnmade → Unmade
 named_unmade host libs (text.Refused f) = Refused (refusal_of host libs f)
 named_unmade host libs text.Memory = NoMemory
 
--- the room begins with it
+-- the room begins with the text
 abbrev pub IsPut : TextKind → List (List ℕ) → List ℕ → List (List ℕ) → List ℕ
     → List ℕ → Done → Type 0
 IsPut k names host libs old new d = (text : List ℕ) × IsMade k names host libs text
     × RoomBeginsWith text old new × (d ≡ done.Text (length text))
 
--- it has so many bytes, and there is less room
+-- the text has so many bytes, and there is less room
 abbrev pub IsLong : TextKind → List (List ℕ) → List ℕ → List (List ℕ) → List ℕ
     → TooSmall → Type 0
 IsLong k names host libs room t = (text : List ℕ) × IsMade k names host libs text
     × IsAbove text room t
 
--- why it is not put in this room
+-- why a text is not put in this room
 abbrev pub WhyUnput : TextKind → List (List ℕ) → List ℕ → List (List ℕ) → List ℕ
     → Unput → Type 0
 WhyUnput k names host libs room (unput.Unmade why) = WhyUnmade k host libs why
@@ -65,7 +65,7 @@ HasNameLengths true count names name_lengths =
     (length name_lengths ≡ 1 + count) × (sum name_lengths ≡ length names)
 HasNameLengths false count names name_lengths = ⊤
 
--- and the names are UTF-8
+-- where a text needs names, they are UTF-8
 abbrev pub HasNames : Bool → List ℕ → List ℕ → Type 0
 HasNames true names name_lengths = All IsUtf8 (split names name_lengths)
 HasNames false names name_lengths = ⊤

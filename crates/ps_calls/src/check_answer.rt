@@ -23,7 +23,7 @@ pub struct CheckAnswer {
     pub written: usize,
     /// How many bytes the report has, of a check that was done or that was given too little room.
     pub needed: usize,
-    /// Of a check that was done, what a link of the same files answers, with no bytes written and
+    /// What a link of the same files answers, of a check that was done, with no bytes written and
     /// none needed: `DONE` with what the linked file has, or `REFUSED` with the first fault of all.
     /// Else it has the status of the check.
     pub verdict: Answer,

@@ -11,7 +11,7 @@ use std::alloc::{AllocError, AllocFailed, Global};
 /// Why there are no names.
 #[derive(Clone, Copy)]
 pub enum Unnamed {
-    /// One of them is no UTF-8.
+    /// A name is not UTF-8.
     WrongNames,
     /// Memory was refused.
     NoMemory,

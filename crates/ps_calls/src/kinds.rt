@@ -7,34 +7,34 @@ use ps_texts::{Form, ListForm, TextKind};
 /// The number of the map of a link.
 pub const TEXT_MAP: u32 = 0;
 
-/// That of the map and its references.
+/// The number of the map with its references.
 pub const TEXT_REFERENCES: u32 = 1;
 
-/// That of what a code file has.
+/// The number of the text of what a code file has.
 pub const TEXT_SHOW: u32 = 2;
 
-/// That of the report of a check.
+/// The number of the report of a check.
 pub const TEXT_CHECK: u32 = 3;
 
-/// That of the list of each file.
+/// The number of the list of each file.
 pub const TEXT_LIST: u32 = 4;
 
-/// That of the list of each file with its units by themselves.
+/// The number of the list of each file with its units by themselves.
 pub const TEXT_UNITS: u32 = 5;
 
-/// That of what looks wrong, one by one.
+/// The number of the text of what looks wrong, one by one.
 pub const TEXT_LOOKS: u32 = 6;
 
 /// The number of the form of lines.
 pub const LINES: u32 = 0;
 
-/// That of a JSON document.
+/// The number of the form of a JSON document.
 pub const JSON: u32 = 1;
 
 /// The number of the units that a link wants from libraries.
 pub const UNITS_WANTED: u32 = 0;
 
-/// That of the units whose code a file has.
+/// The number of the units whose code a file has.
 pub const UNITS_HAD: u32 = 1;
 
 /// The form of this number.

@@ -31,7 +31,7 @@ fn put_made(
     Ok(put(text.as_slice(), room)?)
 }
 
-/// The same, of files of which the first name is the host's.
+/// Puts a text of these files in the room; the first name is the host's.
 fn put_named(
     alloc: Global,
     kind: TextKind,

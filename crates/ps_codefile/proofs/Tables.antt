@@ -8,13 +8,13 @@ use Rattle.ps_codefile.specs.Procedures.{content_of, is_placed, numbers, procedu
 use Rattle.ps_codefile.specs.Places.{HasTables, HasWords, IsWhole, passes}
 use Rattle.ps_codefile.proofs.Alls.{all_at}
 
--- one of these numbers has a table whose place passes a test just where one of their tables does
+-- the table of some number passes a test just where one of the tables of all numbers does
 any_of : (test : ℕ → Bool) (f : ℕ → Option ℕ) (ns : List ℕ)
     → list_any (λ n. passes test (f n)) ns ≡ list_any test (filter_map f ns)
 any_of test f [] = refl
 any_of test f (n ∷ ns) = grind (arith, any_of test f ns)
 
--- and so for the numbers of all procedures
+-- the table of some procedure passes a test just where one of all tables does
 pub any_table : (test : ℕ → Bool) (order : Order) (code : List ℕ)
     → list_any (λ p. passes test (table_of order code p)) (numbers code)
     ≡ list_any test (tables order code)
@@ -25,7 +25,7 @@ pub count : (order : Order) (code words : List ℕ) → HasWords order code word
     → length words ≡ procedures code
 count order code words has = grind (arith, length-map-range_with_len)
 
--- that of procedure p
+-- the word of procedure p is the content of its word in the code
 pub word_at : (order : Order) (code words : List ℕ) (p d : ℕ) → HasWords order code words
     → 1 ≤ p → p ≤ procedures code → get_or words (p - 1) d ≡ content_of order code p
 word_at order code words p d has low high = grind (arith, get_or-map-range_with_len)
@@ -42,7 +42,7 @@ whole_table order code p has low high some =
           grind (arith, nat_tests, placed, some);
     }
 
--- so its word's content is not more than the word's place
+-- the content of a procedure's word is not more than the word's place
 pub below_table : (order : Order) (code : List ℕ) (p : ℕ) → HasTables order code → 1 ≤ p
     → p ≤ procedures code → (content_of order code p == 0) ≡ false
     → content_of order code p ≤ length code - 2 - 2 * p
@@ -58,7 +58,7 @@ whole_at order code words p d has low high some =
     (whole_table order code p has.tables low high
     (sym (ap (λ (w : ℕ). w == 0) (word_at order code words p d has low high)) ∙ some))
 
--- so the word's content is not more than the word's place
+-- the content of a word of these is not more than the word's place
 pub below_at : (order : Order) (code words : List ℕ) (p d : ℕ) → HasWords order code words
     → 1 ≤ p → p ≤ procedures code → (get_or words (p - 1) d == 0) ≡ false
     → get_or words (p - 1) d ≤ length code - 2 - 2 * p

@@ -164,7 +164,7 @@ abbrev pub opened_beside : Order → List ℕ → Result OpenedFile Reason
 opened_beside host file = if nat_lt (length file) block_len then Err reason.ShortFile
     else opened_beside_as host file (file_order file)
 
--- this is the result, its value seen through a view
+-- an answer is a result, its value seen through a view
 abbrev pub IsViewOf : {X Y E : Type 0} → (X → Y) → Result X E → Result Y E → Type 0
 IsViewOf view (Ok x) answer = answer ≡ Ok (view x)
 IsViewOf view (Err e) answer = answer ≡ Err e

@@ -24,7 +24,7 @@ pub record HasTables (order : Order) (code : List ℕ) : Type 0 where
   pub fits : dictionary_len code ≤ length code
   pub placed : list_all (is_placed order code) (numbers code) ≡ true
 
--- these are the words of the procedures of such a code
+-- the words of the procedures of a code whose tables are in place
 pub record HasWords (order : Order) (code : List ℕ) (words : List ℕ) : Type 0 where
   pub tables : HasTables order code
   pub all : words ≡ procedure_words order code

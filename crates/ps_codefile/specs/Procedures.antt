@@ -87,7 +87,7 @@ pub record ProcedureTables : Type 0 where
   pub order : Order
   pub code : List ℕ
 
--- this value, or the fault that there is
+-- the fault, if there is one, and else this value
 abbrev pub unless : {X : Type 0} → Option Reason → X → Result X Reason
 unless None x = Ok x
 unless (Some why) x = Err why

@@ -31,7 +31,7 @@ impl Dict<'_> {
         self.filled(slot) && !is_nameless(&self.entry(slot).name) && self.is_in_file(slot)
     }
 
-    /// So it is with one of the slots below `end`.
+    /// One of the slots below `end` is whole: filled, named, and its code is in the file.
     fn has_code_below(&self, end: u8) -> bool
         requires { end ≤ SLOTS }
         ensures { result ≡ list_any (is_whole_spec self.now.order self.now.file)

@@ -73,7 +73,7 @@ link_refused Writes Leads link paths host libs unmade.Memory (Ok e) old new old_
 link_refused Writes Leads link paths host libs why (Err e) old new old_err new_err can json is
     text = tt
 
--- and a text so
+-- where no text is made of files that are refused, it ends so
 pub text_refused : {E : Type 0} (k : TextKind) (strict json : Bool) (paths : List Text)
     (host : List ℕ) (libs : List (List ℕ)) (why : Unmade) (r : Result Ended E)
     (old new : Option (List ℕ)) → WhyUnmade k host libs why → IfOk r (λ _. json ≡ true)

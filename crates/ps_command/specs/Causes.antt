@@ -53,7 +53,7 @@ told_of_file (file.Read path cause) = error.Read path
 told_of_file (file.TooLong path) = error.TooLong path
 told_of_file file.Memory = error.Memory
 
--- the same where the cause is named
+-- what the program says of a file that it cannot read, the cause named
 abbrev pub told_with_cause : FileError → CommandError
 told_with_cause (file.Read path cause) = error.Unreadable path cause
 told_with_cause (file.TooLong path) = error.TooLong path

@@ -44,7 +44,7 @@ abbrev pub WritesMapOf : {A B : Type 0} → (Text → List ℕ → Type 0) → L
     → Type 0
 WritesMapOf Writes link p = WritesMapTo Writes link.map link.json p
 
--- of these files, the link ended so: its linked file and its map are written and its summary is
+-- how the link of these files ended: its linked file and its map are written and its summary is
 -- printed, or the document of its refusal is
 abbrev pub IsLinked : {A : Type 0} → (Text → List ℕ → Type 0) → (Text → Bool → Type 0) → Link A
     → List Text → List ℕ → List (List ℕ) → Ended → Option (List ℕ) → Option (List ℕ)

@@ -29,8 +29,8 @@ use Rattle.ps_command.specs.Requests.{files_of, has_output, has_references, is_j
 use Rattle.ps_command.specs.declared.linking.Place.{Place}
 use Rattle.ps_command.specs.declared.linking.Place.TheVariants as place
 
--- it holds of a host that was read at its path and of libraries that were read at theirs, one for
--- one in their order, and of their linked file
+-- some link has this: of a host that was read at its path and of libraries that were read at
+-- theirs, one for one in their order, and of their linked file
 abbrev pub SomeLink : (Text → List ℕ → Type 0) → Text → List Text
     → (List ℕ → List (List ℕ) → List ℕ → Type 0) → Type 0
 SomeLink Reads path paths Holds =
@@ -49,7 +49,8 @@ IsPlace Leads quiet by_option out map place.Error =
     (quiet ≡ false) × (((by_option ≡ true) × Leads out true)
     ⊎ IsSomeAnd map (λ file. Leads file true))
 
--- the same of the file of the map alone
+-- where a line beside the file of a map goes: on standard error if that file leads to standard
+-- output, and else on standard output
 abbrev pub IsBeside : (Text → Bool → Type 0) → Option Text → Place → Type 0
 IsBeside Leads map place.Nowhere = ⊥
 IsBeside Leads map place.Output = IfSome map (λ file. Leads file false)

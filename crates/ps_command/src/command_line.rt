@@ -92,7 +92,7 @@ The report is for a person: the files, where each segment comes from, whether th
 are linked, and if not what is wrong and what to do. A line that begins with
 'warning: ' reports what looks wrong and is no fault, one with 'harmless: ' what changes
 no link, and one with 'note: ' a guess. No file is written. With --json the verdict,
-the warnings and the report are printed as one JSON document.
+what is found and the report are printed as one JSON document.
 
 With --unit, HOST and each LIB are files of any kind. They are listed as by list, and
 after the lines of each file comes a line of each unit that it has, with its first
@@ -120,7 +120,7 @@ document.
 
 Exit status, the greatest that applies:
   0  all files were listed
-  1  a file or a segment is refused
+  1  a file or a segment is refused, or a file has no segment or is something else
   2  wrong usage
   3  a file could not be read, or standard output failed
   4  out of memory
@@ -220,7 +220,7 @@ const LINK: CommandForm = CommandForm {
 
 const CHECK: CommandForm = CommandForm {
     name: "check",
-    about: "Says in words what is wrong with the files and what looks wrong",
+    about: "Says in words whether the files link, what is wrong and what looks wrong",
     ending: Ending::Check,
     arguments: &[
         HOST,
@@ -333,7 +333,6 @@ fn with_command<'a>(
     app.subcommand(command_of(heap, form)?)
 }
 
-/// The command of this form.
 fn command_of<'a>(heap: Global, form: &CommandForm) -> Result<Command<'a>, AllocError>
     ensures { IfOk result (IsMade (app_in form.now)) }
 {
@@ -357,7 +356,6 @@ fn bare_command_of<'a>(heap: Global, form: &CommandForm) -> Command<'a>
     }
 }
 
-/// The argument of this form.
 fn argument_of<'a>(heap: Global, form: Argument) -> Arg<'a>
     ensures { IsArgument (rule_in form) result }
 {
@@ -398,7 +396,7 @@ fn flag<'a>(heap: Global, name: &'a str, help: &'a str) -> Arg<'a>
         .help(help)
 }
 
-/// The same with a letter.
+/// A flag with a letter too.
 fn flag_by_letter<'a>(heap: Global, name: &'a str, letter: char, help: &'a str) -> Arg<'a>
     ensures { IsArgument (flag_rule name.entry.now (Some letter)) result }
 {
@@ -415,7 +413,7 @@ fn value<'a>(heap: Global, id: &'a str, name: &'a str, help: &'a str) -> Arg<'a>
         .help(help)
 }
 
-/// The same with a letter.
+/// An option with a value, and a letter too.
 fn value_by_letter<'a>(
     heap: Global,
     id: &'a str,

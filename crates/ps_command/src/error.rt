@@ -30,7 +30,7 @@ pub(crate) enum Cause {
     Missing,
     Folder,
     Forbidden,
-    /// Its name is not UTF-8, and stands with a zero byte at its end, which no path has.
+    /// The name is not UTF-8, and stands with a zero byte at its end, which no path has.
     NotText,
     /// Memory for its bytes, or for what is said of it, was refused.
     Memory,
@@ -252,7 +252,7 @@ pub(crate) enum CommandError<'a> {
     NotText(WrongArgument),
     #[error("pslink: cannot read {}", ShownPath(.path))]
     Read { path: &'a str },
-    /// The same where the cause is named too.
+    /// A file that cannot be read, with the cause.
     #[error("pslink: cannot read {} ({cause})", ShownPath(.path))]
     Unreadable { path: &'a str, cause: Cause },
     #[error("pslink: {} is longer than 67108864 bytes", ShownPath(.path))]

@@ -45,7 +45,7 @@ impl From<AllocError> for FileFault {
 }
 
 impl FileFault {
-    /// The same of the file at `path`.
+    /// The error of this fault, of the file at `path`.
     fn at<'a>(self, path: &'a str) -> FileError<'a>
         ensures { result ≡ read_error path.entry self }
     {
@@ -91,7 +91,7 @@ pub trait CodeFiles {
     fn close(&self, path: &str, file: Self::Created) -> io::Result<()>
         ensures { OnOk result (closed self.now path.now file) };
 
-    /// Both paths lead to one file, as two names of it or a link do. Where no file is, or no regular
+    /// The paths lead to one file, as two names of it or a link do. Where no file is, or no regular
     /// one, they do not.
     fn lead_to_one_file(&self, path: &str, other: &str) -> bool;
 
@@ -224,7 +224,7 @@ pub(crate) fn read<R: CodeFiles, A: Allocator + Copy>(
     read_to_end(&mut file, alloc, hint)
 }
 
-/// The same with an error that names the path.
+/// Reads the file at `path`; an error names the path.
 pub(crate) fn read_at<'a, R: CodeFiles, A: Allocator + Copy>(
     rt: &R,
     alloc: A,

@@ -20,7 +20,7 @@ use std::io::Write;
 #[derive(Drop)]
 pub(crate) enum Prepared<'a, A: Allocator + Copy> {
     Linked(Linked<'a, A>),
-    /// Its map has what it stores, too.
+    /// A link whose map has what it stores, too.
     Referenced(ReferenceMap<'a, A>),
 }
 
@@ -45,7 +45,7 @@ pub(crate) fn prepare_link<'a, A: Allocator + Copy>(
     }
 }
 
-/// The same for a map without what the link stores.
+/// Prepares a link for a map without what it stores.
 fn linked<'a, A: Allocator + Copy>(
     alloc: A,
     host: &'a [u8],
@@ -63,7 +63,7 @@ fn linked<'a, A: Allocator + Copy>(
     }
 }
 
-/// The same for a map with what the link stores.
+/// Prepares a link for a map with what it stores.
 fn referenced<'a, A: Allocator + Copy>(
     alloc: A,
     host: &'a [u8],
@@ -86,7 +86,6 @@ impl<'a, A: Allocator + Copy> Prepared<'a, A> {
     ghost use Rattle.std.specs.Io.KnownBytes.{Appends};
     ghost use Rattle.ps_command.specs.Prepared.{map_bytes, plan_of};
 
-    /// The link.
     pub(crate) fn linked(&self) -> &Linked<'a, A>
         ensures { result.now ≡ plan_of self.now }
     {
@@ -96,7 +95,6 @@ impl<'a, A: Allocator + Copy> Prepared<'a, A> {
         }
     }
 
-    /// Writes the map.
     pub(crate) fn write_map<W: Write>(&self, form: Form, out: &mut W) -> Result<(), WriteFault>
         ensures { OnOk result (Appends (W.contents out.old) (W.contents out.new)
             (map_bytes form self.now)) }

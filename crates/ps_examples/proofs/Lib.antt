@@ -4,5 +4,4 @@ pub mod NotLinked
 pub mod NotOrigins
 pub mod NotWholeLinks
 pub mod NotAddedUnits
-pub mod NotBuilt
 pub mod ReliedFiles

@@ -2,9 +2,8 @@
 pub use Rattle.ps_codefile.specs.Dictionary.{code_of, entry_at, is_filled}
 pub use Rattle.ps_codefile.specs.declared.dictionary_layout.TheConstants.{SLOTS}
 pub use Rattle.ps_examples.specs.Files.{aux, blank_name, count, host, host_in, host_with_tools, host_without_7, library, library_in, library_naming_itself, library_of_the_last, library_of_used, library_of_used_big, nobody, put_at, state, tools, util, util_code, util_information, with_slot}
-pub use Rattle.ps_examples.specs.Owners.{aux_owner, defined_again, defined_once, duplicate_owner, first_private, plain_owner, second_private, third_private, util_owner}
 pub use Rattle.ps_examples.specs.Segments.{aux_reference, aux_segment, count_reference, count_segment, demo_segment, end_mark, named_segment, naming_segment, nobody_segment, pair, past_segment, self_segment, state_reference, three, tools_segment, using_segment, util_segment, with_constant, with_plain, with_unused}
-pub use Rattle.ps_linkinfo.specs.RecordCounts.{is_definition, is_private_reference, is_unit_reference}
+pub use Rattle.ps_linkinfo.specs.RecordCounts.{is_unit_reference}
 pub use Rattle.ps_linkinfo.specs.declared.record.Body.TheVariants.{ConstDef, Eof, PublDef, PublRef, UnitRef}
 pub use Rattle.ps_linkinfo.specs.declared.record.LinkRecord.{LinkRecord as Record}
 pub use Rattle.ps_resolve.specs.Origins.{AreAdded, AreOfRounds, AreOwn, AreRead, RequestsName, HasOne, HaveOneEach, IsAddedUnit, IsReadFrom, IsTaken, IsUnitOf}

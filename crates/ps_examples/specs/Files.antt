@@ -2,7 +2,7 @@
 -- has it, and what such files are changed by.
 -- Source: this project's examples.
 use Rattle.std.specs.Prelude.{ℕ, ◌+◌, ◌-◌, ◌*◌, ◌/◌, List, [], ◌∷◌, ◌++◌, length, replicate, take, drop}
-use Rattle.std.specs.List.{flat_map, range_with_len}
+use Rattle.std.specs.List.{flat_map}
 use Rattle.ps_words.specs.Words.{word_bytes}
 use Rattle.ps_words.specs.declared.order.Order.{Order}
 use Rattle.ps_words.specs.declared.order.Order.TheVariants.{Little, Big}
@@ -180,18 +180,6 @@ host_in_place order information =
     with_slot order 7 util 3 3 24 (host_in order)
     ++ filled_to 512 (put_at 22 (7 ∷ []) (util_code order)) ++ filled_to 512 information
 
--- a library with UTIL in slot 2, of this code, which takes one block
-abbrev pub library_having : List ℕ → List ℕ → List ℕ
-library_having code information = code_file
-    (with_slot Little 2 util 3 1 (length code) no_segments) code information
-
--- a code with two procedures: the second has this number in its table, and its word in the
--- procedure dictionary has this content
-abbrev pub two_procedures : ℕ → ℕ → List ℕ
-two_procedures number content =
-    zeros 18 ++ (1 ∷ 0 ∷ []) ++ zeros 8
-    ++ (number ∷ 0 ∷ content ∷ 0 ∷ 14 ∷ 0 ∷ 2 ∷ 2 ∷ [])
-
 -- the host file, which now wants AUX too, in slot 8
 abbrev pub wanting_aux : List ℕ → List ℕ
 wanting_aux file = with_slot Little 8 aux 3 0 0 file
@@ -235,12 +223,6 @@ library_of_used_big =
     with_slot Big 3 aux 3 3 24 (library_with Big (unit_ref Big aux (2 ∷ []) ++ eof_mark Big 0))
     ++ filled_to 512 (put_at 22 (3 ∷ []) (util_code Big))
     ++ filled_to 512 (util_information Big)
-
--- the host whose slots from 8 on, n of them, have a segment that is linked already, without a name:
--- the same five bytes in block 3
-abbrev pub filled_host : ℕ → List ℕ
-filled_host n = put_at 32 (flat_map (λ k. 3 ∷ 0 ∷ 5 ∷ 0 ∷ []) (range_with_len 0 n)) host
-    ++ (1 ∷ 2 ∷ 3 ∷ 4 ∷ 5 ∷ [])
 
 -- the library file, the code of whose UTIL has an odd length
 abbrev pub with_odd_util : List ℕ → List ℕ

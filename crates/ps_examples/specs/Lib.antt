@@ -2,5 +2,4 @@ pub mod Files
 pub mod Expected
 pub mod Texts
 pub mod Segments
-pub mod Owners
 pub mod ReadAlike

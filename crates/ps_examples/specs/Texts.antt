@@ -61,8 +61,8 @@ references_of_the_pair =
     ++ codes "reference 07 UTIL     at 4 file 1028 was 8002 is 800A PRIVREF STATE    record 1\n"
     ++ codes "number 07 UTIL     at 22 file 1046 was 02 is 07\n"
 
--- the same where UTIL names itself alone: the operand is the number of its slot; the data size is
--- stored as it was
+-- the references where UTIL names itself alone: the operand is the number of its slot; the data
+-- size is stored as it was
 abbrev pub references_of_a_unit_reference : List ℕ
 references_of_a_unit_reference =
     codes "data size 01 DEMO     at 4 file 516 was 0A00 is 0A00\n"
@@ -89,7 +89,7 @@ rows_of_the_pair =
 abbrev pub json_of_the_pair : List ℕ
 json_of_the_pair = rows_of_the_pair ++ codes "],\"next\":12,\"data\":18,\"blocks\":3}\n"
 
--- the same with what the link stores, but for the last item and what is before it
+-- the JSON of the map with what the link stores, but for the last item and what is before it
 abbrev pub items_of_the_pair : List ℕ
 items_of_the_pair = rows_of_the_pair
     ++ codes "],\"next\":12,\"data\":18,\"blocks\":3,\"references\":[\n"
@@ -142,7 +142,7 @@ links_of_the_library =
     ++ codes "1 PRIVREF STATE    words 4 at 4\n"
     ++ codes "2 EOFMARK next 0\n"
 
--- the same where the EOFMARK is truncated
+-- the link information of a show where the EOFMARK is truncated
 abbrev pub links_without_an_end : List ℕ
 links_without_an_end =
     codes "links 02\n"
@@ -150,7 +150,7 @@ links_without_an_end =
     ++ codes "1 PRIVREF STATE    words 4 at 4\n"
     ++ codes "2 fault 19 RecordsTruncated\n"
 
--- the same where the code is truncated
+-- the link information of a show where the code is truncated
 abbrev pub links_without_a_code : List ℕ
 links_without_a_code =
     codes "links 02\n"

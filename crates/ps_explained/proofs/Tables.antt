@@ -37,7 +37,7 @@ pub remedy_short : (text : List ℕ) (n : ℕ) → text ≡ remedy_of n
 remedy_short text n is = subst (λ (t : List ℕ). length t ≤ SENTENCE_LEN) (sym is)
     (short (remedy_of n) (row_passes is_short (map (λ row. row.now) REMEDIES) n refl refl))
 
--- and printed
+-- a meaning is of printed characters
 pub meaning_printed : (text : List ℕ) (n : ℕ) → text ≡ meaning_of n
     → list_all is_printed text ≡ true
 meaning_printed text n is = subst (λ (t : List ℕ). list_all is_printed t ≡ true) (sym is)
@@ -61,7 +61,7 @@ no_row f [] i le = refl
 no_row f (x ∷ xs) zero le = absurd (omega (arith, le))
 no_row f (x ∷ xs) (suc i) le = no_row f xs i (omega (arith, le))
 
--- so of what an index finds
+-- what an index finds, seen through f, is the item of the mapped list
 pub some_item : {X : Type 0} (f : X → List ℕ) (xs : List X) (i : ℕ) (r : Option (Bor X))
     (x : Bor X) → r ≡ Some x → IsItemAt xs i r → f x.now ≡ get_or (map f xs) i []
 some_item {X} f xs i r x is item =

@@ -15,7 +15,6 @@ pub struct Case<'c, 'a> {
     pub inputs: &'c NamedFiles<'a>,
     /// The segments of the link.
     pub list: &'c [ReadSegment<'a>],
-    /// The fault.
     pub fault: Fault,
     /// The segment of its slot.
     pub segment: Option<ReadSegment<'a>>,
@@ -92,6 +91,16 @@ impl<'c, 'a> Case<'c, 'a> {
         }
     }
 
+    /// The fault is in a host that is no code file, though it can be read as one: nothing is said of
+    /// its segments.
+    pub(crate) fn is_in_no_code_file(&self) -> bool {
+        let is_of_file = matches!(
+            self.fault.reason,
+            Reason::ShortFile | Reason::NoOrder | Reason::NoHost
+        );
+        self.fault.file == 0 && !is_of_file && !self.inputs.file_type(0).is_code()
+    }
+
     /// The first library that has a host program.
     pub fn host_among_libraries(&self) -> Option<usize> {
         for file in 1..=self.inputs.libs.len() {
@@ -111,7 +120,6 @@ impl<'c, 'a> Case<'c, 'a> {
         }
     }
 
-    /// The name of the unit that is missing.
     pub fn missing_unit(&self) -> Option<Name> {
         match self.fault.rec {
             Some(_) => Some(self.record()?.name),

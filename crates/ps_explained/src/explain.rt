@@ -24,6 +24,10 @@ impl fmt::Display for Explanation<'_, '_> {
     fn fmt<W: Write>(&self, f: &mut Formatter<W>) -> fmt::Result {
         let case = &self.0;
         writeln!(f, "  file {}", ShownPath(case.inputs.path(case.fault.file)))?;
+        if case.is_in_no_code_file() {
+            writeln!(f, "  it is {}", case.inputs.file_type(0))?;
+            return advice::write_advice(f, case);
+        }
         write_slot(f, case)?;
         write_record(f, case)?;
         references::write_reference(f, case)?;

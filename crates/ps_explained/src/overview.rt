@@ -87,7 +87,6 @@ impl fmt::Display for Origin<'_> {
     }
 }
 
-/// The line of each file.
 fn file_lines<A: Allocator>(alloc: A, inputs: &NamedFiles<'_>) -> Result<String<A>, AllocError> {
     let mut text = String::new(alloc);
     for file in 0..=inputs.libs.len() {
@@ -292,7 +291,6 @@ fn part_added(segments: &[LinkedSegment<'_>], requester: Option<UnitReference>) 
     }
 }
 
-/// What a segment of a link is.
 fn part_of(
     segments: &[LinkedSegment<'_>],
     requests: &[UnitReference],

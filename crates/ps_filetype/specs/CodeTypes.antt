@@ -49,7 +49,7 @@ has_versions order block first last = list_all (is_of_version order block first 
 abbrev pub is_four : Order → List ℕ → Bool
 is_four order block = word_at order block 510 == 1 && has_versions order block 4 7
 
--- it is that of a release III.0 or later
+-- the file is that of a release III.0 or later
 abbrev pub is_later_in : Order → List ℕ → Bool
 is_later_in order block = is_four order block || has_versions order block 3 3
 
@@ -84,7 +84,7 @@ has_number order code after number = has_word code number
     && (not (has_table order code number)
     || is_number_at code (word_place code number - distance order code number + after) number)
 
--- so it is with each of so many procedures, from 1 on, and one has a table
+-- each of so many procedures, from 1 on, has its number, and one has a table
 unfoldable pub has_numbers : Order → List ℕ → ℕ → ℕ → Bool
 has_numbers order code count after =
     list_all (λ k. has_number order code after (k + 1)) (range_with_len 0 count)
@@ -111,7 +111,7 @@ abbrev pub is_swapped_slot : Order → List ℕ → ℕ → Bool
 is_swapped_slot order file slot = not (is_linkable order file slot)
     || is_swapped_code order (code_of file (entry_at order file slot))
 
--- so are those of each such code, and there is one
+-- the codes of all slots that are to be linked have swapped bytes, and there is one
 unfoldable pub is_swapped_in : Order → List ℕ → Bool
 is_swapped_in order file = list_all (is_swapped_slot order file) slots
     && list_any (is_linkable order file) slots

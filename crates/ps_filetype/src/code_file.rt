@@ -11,7 +11,7 @@ use crate::release::later_release;
 use ps_codefile::code_layout::NUMBERS;
 use ps_codefile::dictionary_layout::SLOTS;
 use ps_codefile::kinds::{HOSTSEG, LAST_INTRINSIC, LINKED, UNITSEG};
-use ps_codefile::{Dict, Entry, Role, is_nameless, open};
+use ps_codefile::{Dict, Entry, ProcedureDictionary, Role, is_nameless, open};
 use ps_words::{Name, Order, Reason, WORD_LEN, get};
 
 /// What a code file is for, by the kinds of its segments.
@@ -218,19 +218,6 @@ pub fn is_code_type(bytes: &[u8]) -> bool
         && !is_swapped_file(bytes)
 }
 
-/// The file is a code file, and an entry with a name that can be read has its code whole in it.
-pub(crate) fn has_readable_code(bytes: &[u8]) -> bool {
-    let Ok(dict) = open(bytes) else {
-        return false;
-    };
-    for slot in 0..SLOTS {
-        if dict.is_whole(slot) && is_readable(&dict.entry(slot).name) {
-            return is_code_file(&dict);
-        }
-    }
-    false
-}
-
 /// The word of a procedure is in the code.
 fn has_word(code: &[u8], number: usize) -> bool
     requires { number ≤ 255 }
@@ -288,7 +275,7 @@ fn has_number(order: Order, code: &[u8], after: usize, number: usize) -> bool
         && (!has_table(order, code, number) || has_number_behind(order, code, after, number))
 }
 
-/// So it is with each of so many procedures, from 1 on.
+/// Each of so many procedures, from 1 on, has its number behind its table.
 fn have_numbers(order: Order, code: &[u8], count: usize, after: usize) -> bool
     requires few { count ≤ 255 }
     requires near { after ≤ 1 }
@@ -352,7 +339,7 @@ fn is_swapped_code(dict: &Dict<'_>, slot: u8) -> bool
     }
 }
 
-/// So are those of a slot, if it is to be linked.
+/// The bytes of a slot's code are swapped, if it is to be linked.
 fn is_swapped_slot(dict: &Dict<'_>, slot: u8) -> bool
     requires { slot < SLOTS }
     ensures { result ≡ is_swapped_slot_spec dict.now.order dict.now.file slot }
@@ -360,7 +347,7 @@ fn is_swapped_slot(dict: &Dict<'_>, slot: u8) -> bool
     !is_linkable(dict, slot) || is_swapped_code(dict, slot)
 }
 
-/// So are those of each slot.
+/// The bytes of each slot's code are swapped, if it is to be linked.
 fn are_swapped(dict: &Dict<'_>) -> bool
     ensures { result ≡ list_all (is_swapped_slot_spec dict.now.order dict.now.file) slots }
 {
@@ -391,4 +378,58 @@ pub(crate) fn is_swapped_file(bytes: &[u8]) -> bool
         Ok(dict) => is_swapped_in(&dict),
         Err(_) => false,
     }
+}
+
+/// A code ends with a procedure dictionary: it has a table, and each is in the code and has its
+/// number.
+fn ends_with_dictionary(order: Order, code: &[u8]) -> bool
+    requires { 2 ≤ length code.now }
+{
+    ProcedureDictionary::read(order, code, false).is_ok()
+        && has_numbers(order, code, code[code.len() - 1], 0)
+}
+
+/// So does that of a slot.
+fn has_dictionary(dict: &Dict<'_>, slot: u8) -> bool
+    requires { slot < SLOTS }
+{
+    match dict.code(slot) {
+        Ok(code) if NUMBERS <= code.len() => ends_with_dictionary(dict.order(), code),
+        _ => false,
+    }
+}
+
+/// The code of a slot says that it has no procedure, as that of a unit may.
+fn is_without_procedures(dict: &Dict<'_>, slot: u8) -> bool
+    requires { slot < SLOTS }
+{
+    match dict.code(slot) {
+        Ok(code) => code.last() == Some(&0),
+        Err(_) => false,
+    }
+}
+
+/// The code of a slot has its procedure dictionary, if it is to be linked and has a procedure.
+fn has_its_dictionary(dict: &Dict<'_>, slot: u8) -> bool
+    requires { slot < SLOTS }
+{
+    !is_linkable(dict, slot) || is_without_procedures(dict, slot) || has_dictionary(dict, slot)
+}
+
+/// The slot has a name that can be read, and its code is in the file with its procedure dictionary.
+fn is_found(dict: &Dict<'_>, slot: u8) -> bool
+    requires { slot < SLOTS }
+{
+    dict.is_whole(slot) && is_readable(&dict.entry(slot).name) && has_dictionary(dict, slot)
+}
+
+/// The file is a code file, and its codes have their procedure dictionaries: each that is to be
+/// linked, and one with a name that can be read.
+pub(crate) fn has_procedures(bytes: &[u8]) -> bool {
+    let Ok(dict) = open(bytes) else {
+        return false;
+    };
+    is_code_file(&dict)
+        && (0..SLOTS).all(|slot| has_its_dictionary(&dict, slot))
+        && (0..SLOTS).any(|slot| is_found(&dict, slot))
 }

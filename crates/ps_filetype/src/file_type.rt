@@ -34,10 +34,6 @@ pub enum FileType {
     /// A text of a p-System.
     SystemText,
     Text,
-    Base64,
-    Uuencode,
-    HexDump,
-    SRecords,
     /// A text in UTF-16.
     WideText,
     /// A file without a byte.
@@ -103,10 +99,6 @@ impl FileType {
             FileType::Later(Release::Four) => "a code file of release IV.0, which is not supported",
             FileType::SystemText => "a text of a p-System",
             FileType::Text => "a text",
-            FileType::Base64 => "a text in base64",
-            FileType::Uuencode => "a uuencoded text",
-            FileType::HexDump => "a dump in hexadecimal digits",
-            FileType::SRecords => "a text of S-records",
             FileType::WideText => "a text in UTF-16",
             FileType::Empty => "an empty file",
             FileType::Code(_)

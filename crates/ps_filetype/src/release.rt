@@ -131,7 +131,7 @@ fn is_of_version(order: Order, block: &[u8], first: u16, last: u16, slot: u8) ->
     }
 }
 
-/// So is each slot.
+/// Each slot is of a version from `first` to `last`.
 fn are_of_version(order: Order, block: &[u8], first: u16, last: u16) -> bool
     requires { 512 ≤ length block.now }
     ensures { result ≡ list_all (is_of_version_spec order block.now first last) slots }

@@ -39,12 +39,6 @@ impl Remedy<'_> {
                 "Take the code file off the volume in PATH, as binary, and give that.",
             FileType::SystemText | FileType::Text | FileType::WideText =>
                 "Give the code file that the compiler made of PATH, or of its program.",
-            FileType::Base64 => "Decode PATH by base64 -d, and give what comes out.",
-            FileType::Uuencode => "Decode PATH by uudecode, and give what comes out.",
-            FileType::HexDump =>
-                "Turn PATH into bytes again, as by xxd -r, and give what comes out.",
-            FileType::SRecords =>
-                "Turn PATH into bytes again, as by objcopy -I srec -O binary, and give what comes out.",
             FileType::Elf => "Give a code file of a p-System in place of PATH.",
             FileType::Empty | FileType::OneByte { .. } =>
                 "Copy PATH again: nothing of the code file is in it.",

@@ -1,5 +1,5 @@
 //! Files that are known by the bytes at a certain place.
-use crate::code_file::has_readable_code;
+use crate::code_file::has_procedures;
 use crate::file_type::FileType;
 use ps_words::BLOCK_SIZE;
 
@@ -18,10 +18,10 @@ pub(crate) fn by_first_bytes(bytes: &[u8]) -> Option<FileType> {
     }
 }
 
-/// A code file behind a header.
+/// A code file behind a header, whose codes have their procedure dictionaries.
 pub(crate) fn behind_header(bytes: &[u8]) -> Option<FileType> {
     for header in [MACBINARY, BLOCK_SIZE] {
-        if has_readable_code(bytes.get(header..)?) {
+        if has_procedures(bytes.get(header..)?) {
             return Some(match bytes {
                 [0, 1..=63, ..] if header == MACBINARY => FileType::MacBinary,
                 _ => FileType::Header { bytes: header },

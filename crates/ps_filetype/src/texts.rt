@@ -1,5 +1,7 @@
 //! Texts that are given in place of a code file.
+use crate::bytes::only_byte;
 use crate::file_type::FileType;
+use ps_words::BLOCK_SIZE;
 
 /// How many bytes of a text are looked at.
 const SAMPLE: usize = 512;
@@ -13,12 +15,6 @@ const INDENT: u8 = 0x10;
 /// The byte is one of a text.
 fn is_text(byte: u8) -> bool {
     matches!(byte, b'\t' | b'\n' | b'\r' | 0x0C | 0x1A | b' '..=b'~' | 0x80..=0xFF)
-}
-
-/// A dump begins with the place of its first byte, and what ends that.
-fn is_dump(sample: &[u8]) -> bool {
-    let end = sample.get(7..).unwrap_or(&[]);
-    sample.starts_with(b"0000000") && matches!(end, [b':' | b' ', ..] | [b'0', b':' | b' ', ..])
 }
 
 /// How many bytes above 7F a text may have, of each four.
@@ -46,55 +42,44 @@ fn is_utf_16(sample: &[u8]) -> bool {
     }
 }
 
-/// The text begins with a record of S-records: S, a digit, and digits in pairs.
-fn is_s_record(sample: &[u8]) -> bool {
-    let Some([b'S', b'0'..=b'9', digits @ ..]) = sample.get(..10) else {
-        return false;
-    };
-    for digit in digits {
-        if !digit.is_ascii_hexdigit() {
-            return false;
-        }
-    }
-    true
-}
-
-/// The kind of text of a file that is one. Most bytes of a text are ASCII.
+/// The kind of text of a file that is one. Most bytes of a text are ASCII. A dump of a file, or a file
+/// that was encoded as a text, is a text like any other.
 pub(crate) fn text_type(bytes: &[u8]) -> Option<FileType> {
     let sample = bytes.get(..SAMPLE).unwrap_or(bytes);
-    let has_any = !sample.is_empty();
-    let (mut are_text, mut are_base64, mut are_hex) = (has_any, has_any, has_any);
-    let mut foreign = 0usize;
-    for byte in sample {
-        let is_end = matches!(*byte, b'\r' | b'\n');
-        let is_sign = matches!(*byte, b'+' | b'/' | b'=');
-        are_text = are_text && is_text(*byte);
-        are_base64 = are_base64 && (is_end || is_sign || byte.is_ascii_alphanumeric());
-        are_hex = are_hex && (is_end || *byte == b' ' || byte.is_ascii_hexdigit());
-        foreign = foreign.saturating_add(usize::from(!byte.is_ascii()));
-    }
+    let foreign = sample.iter().filter(|byte| !byte.is_ascii()).count();
     if is_utf_16(sample) {
         Some(FileType::WideText)
-    } else if !are_text || sample.len() / 4 * FOREIGN < foreign {
+    } else if sample.is_empty() || sample.len() / 4 * FOREIGN < foreign {
         None
-    } else if sample.starts_with(b"begin ") {
-        Some(FileType::Uuencode)
-    } else if is_s_record(sample) {
-        Some(FileType::SRecords)
-    } else if are_hex || is_dump(sample) {
-        Some(FileType::HexDump)
-    } else if are_base64 {
-        Some(FileType::Base64)
     } else {
-        Some(FileType::Text)
+        sample
+            .iter()
+            .all(|byte| is_text(*byte))
+            .then_some(FileType::Text)
     }
+}
+
+/// What the editor keeps before a text: its first word says if there is anything, and all of it is in
+/// the first block.
+fn is_editors(head: &[u8]) -> bool {
+    let is_flag = matches!(head, [0 | 1, 0, ..] | [0, 1, ..]);
+    is_flag && only_byte(head.get(BLOCK_SIZE..).unwrap_or(&[])) == Some(0)
 }
 
 /// The file has the two blocks of an editor and then lines of a p-System text.
+///
+/// Source: the text files of UCSD Pascal II.0.
 pub(crate) fn is_system_text(bytes: &[u8]) -> bool {
+    let Some((head, rest)) = bytes.split_at_checked(EDITOR) else {
+        return false;
+    };
+    is_editors(head) && are_lines(rest.get(..SAMPLE).unwrap_or(rest))
+}
+
+/// The bytes are lines of a p-System text, and one ends among them.
+fn are_lines(sample: &[u8]) -> bool {
     let (mut has_end, mut last) = (false, 0u8);
-    let rest = bytes.get(EDITOR..).unwrap_or(&[]);
-    for byte in rest.get(..SAMPLE).unwrap_or(rest) {
+    for byte in sample {
         let is_indent = *byte == INDENT || last == INDENT;
         if !is_indent && *byte != 0 && !(is_text(*byte) && *byte < 0x80 && *byte != b'\n') {
             return false;

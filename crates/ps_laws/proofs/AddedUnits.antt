@@ -27,7 +27,7 @@ split_at [] ys p a e = grind arith
 split_at (x ∷ xs) ys zero a e = inl e
 split_at {A} (x ∷ xs) ys (suc p) a e = grind (arith, split_at xs ys p a e)
 
--- those of one segment
+-- the reference is that of record j of these records of a segment
 abbrev IsOf : ℕ → ℕ → ℕ → List Record → UnitReference → ℕ → Type 0
 IsOf file slot n rs g j = (r : Record) × (slice_get rs j ≡ Some r)
     × (is_unit_reference r.body ≡ true) × (r.name ≡ g.name) × (g.at.rec ≡ n + j)
@@ -73,7 +73,7 @@ module _ (s : Segment) (ss : List Segment) where
   unfolding owner
   owner_later q = grind arith
 
--- each of them is of a UNITREF of its segment
+-- each reference to a unit is of a UNITREF of its segment
 of_place : (segs : List Segment) (p : ℕ) (g : UnitReference)
     → slice_get (all_unit_references segs) p ≡ Some g → (s : Segment)
     × (slice_get segs (owner segs p) ≡ Some s) × (d : ℕ) × IsOf s.file s.slot 0 s.records g d
@@ -99,7 +99,8 @@ requests_at (q ∷ ss) (suc j) rec name t =
     let at = right_at (references_of q) (all_unit_references ss) r.0 ∙ r.3 in
     (length (references_of q) + r.0, r.1, own, at, r.4, r.5)
 
--- they are in the order of their segments and, in each of these, of their records
+-- the references to units are in the order of their segments and, in each of these, of their
+-- records
 in_order : (segs : List Segment) (p q : ℕ) (g h : UnitReference) → p < q
     → slice_get (all_unit_references segs) p ≡ Some g
     → slice_get (all_unit_references segs) q ≡ Some h
@@ -156,12 +157,12 @@ module _ (units : List (List ℕ × ℕ)) where
       (if is_already_known units queue x.name then queue else queue ++ x ∷ []) gs p q
       (omega (arith, h))
 
-  -- of two names the earlier is that of the earlier reference
+  -- the earlier of two names is that of the earlier reference
   in_turn : (queue gs : List UnitReference) (j k p q : ℕ) (g h : UnitReference) → j < k
       → IsEarliest units queue gs j p g → IsEarliest units queue gs k q h → p < q
   in_turn queue gs j k p q g h l s t = grind (arith, cases_lt, longer_queue)
 
-  -- and no reference before it has its name
+  -- no reference before the earliest of a name has that name
   distinct : (queue gs : List UnitReference) (k p q : ℕ) (g h : UnitReference)
       → IsEarliest units queue gs k p g → q < p → slice_get gs q ≡ Some h
       → h.name ≢ g.name
@@ -258,7 +259,7 @@ module _ (order : Order) (host : List ℕ) (libs : List (List ℕ)) where
       (at.0, at.1, rw at.1 at parts.2)
   source_there slot other filled e = ((0, slot), refl, e)
 
-  -- so it has its own segment, where the sources have no fault
+  -- where the sources have no fault, each slot with a role has its own segment
   pub has_own : sources_fault order host libs ≡ None
       → (slot : ℕ) → slot < SLOTS → (r : Role) → HasRole order host slot r
       → r ≢ role.Empty → (s : Segment) × (own_segment order host libs slot ≡ Some s)

@@ -105,7 +105,7 @@ module _ (order : Order) (segs : List Segment) (s : Segment)
           → IsNumber s p f ⊎ (IsSize order segs s p f ⊎ IsOfReference segs s p f)
       go b h1 h2 h3 = grind (arith, is_number, same_Some, of_joined, is_size, is_reference)
 
-  -- and each of these has its edit
+  -- the place of a segment's number has an edit
   pub number_covers : (p : ℕ) → IsNumberPlace s p
       → In number (summed_edits order segs s) × (covers p number ≡ true)
   number_covers p n = grind arith

@@ -63,7 +63,7 @@ of_range a zero i j e = absurd (cc)
 of_range a (suc n) i zero e = grind arith
 of_range a (suc n) i (suc j) e = grind (arith, of_range (a + 1) n i j e)
 
--- those of a range that pass a test: they are in the range, and they ascend
+-- the items of a range that pass a test are in the range, and they ascend
 pub of_filter : (test : ℕ → Bool) (a n i j : ℕ) → slice_get (filter test
     (range_with_len a n)) j ≡ Some i → (a ≤ i) × (i < a + n) × (test i ≡ true)
 of_filter test a zero i j e = absurd (cc)
@@ -89,7 +89,7 @@ of_take (suc n) [] i x e = absurd (cc)
 of_take (suc n) (y ∷ xs) zero x e = (omega arith, e)
 of_take (suc n) (y ∷ xs) (suc i) x e = grind (arith, of_take n xs i x e)
 
--- and an item that is there
+-- an item before n is among the first n items
 pub in_front : {A : Type 0} (n : ℕ) (xs : List A) (i : ℕ) (x : A) → i < n
     → slice_get xs i ≡ Some x → slice_get (take n xs) i ≡ Some x
 in_front zero xs i x l e = absurd (omega (arith, l))

@@ -8,11 +8,11 @@ pub data Least {X : Type 0} (IsBefore : X → X → Type 0) (Stands : X → Type
   this : (x : X) → Stands x → ((y : X) → Stands y → (y ≡ x) ⊎ IsBefore x y)
       → Least IsBefore Stands (Some x)
 
--- of two faults of the same step, the first has the smaller key
+-- the first of two faults of one step has the smaller key
 abbrev pub Precedes : Step → Fault → Fault → Type 0
 Precedes step f g = Before (key step f) (key step g)
 
--- of two keys not each is before the other
+-- two keys are not each before the other
 pub not_both : (a b : List ℕ) → Before a b → Before b a → ⊥
 not_both [] b h k = h
 not_both (x ∷ a) [] h k = h
@@ -49,7 +49,7 @@ least_or (nothing n) (this x t l) apart =
 least_or (this x s l) p apart = this x (inl s)
     (λ y. elim [ inl u ↦ l y u | inr t ↦ inr (apart x y s t) ])
 
--- the same, where the second part is only looked at if the first has nothing
+-- the least of two parts, where the second is only looked at if the first has nothing
 pub least_or_then : {X : Type 0} {B : X → X → Type 0} {S T : X → Type 0} {o p : Option X}
     → Least B S o → (o ≡ None → Least B T p) → ((x y : X) → S x → T y → B x y)
     → Least B (λ x. S x ⊎ T x) (option_or o p)
@@ -63,7 +63,7 @@ pub least_if : {X : Type 0} {B : X → X → Type 0} {P : Type 0} (b : Bool) (x 
 least_if true x d = this x (refl, d.0 refl) (λ y t. inl t.0)
 least_if false x d = nothing (λ y t. false≢true (d.1 t.1))
 
--- the same seen through h
+-- the least, seen through h
 pub least_map : {A X : Type 0} {B : X → X → Type 0} {S : A → Type 0} {o : Option A}
     (h : A → X) → Least (λ a b. B (h a) (h b)) S o
     → Least B (λ x. (a : A) × (x ≡ h a) × S a) (option_map h o)
@@ -139,7 +139,7 @@ least_each {A} {X} {S} f n (a ∷ items) each apart =
         × (k : ℕ) × (c : A) × (k ≡ n + 1 + i) × (slice_get items i ≡ Some c) × S k c x)
     back x t = go x t.0 t.1 t.2 t.3 t.4 t.5
 
--- the same from 0
+-- the least of a list of items, numbered from 0
 pub least_items : {A X : Type 0} {B : X → X → Type 0} {S : ℕ → A → X → Type 0}
     (f : ℕ × A → Option X) (items : List A)
     → ((i : ℕ) (a : A) → slice_get items i ≡ Some a → Least B (S i a) (f (i, a)))

@@ -19,7 +19,7 @@ last_at (q ∷ []) h (suc k) r e is = absurd (cc)
 last_at (q ∷ p ∷ rs) h zero r e is = grind (arith, false≢true, same_Some)
 last_at (q ∷ p ∷ rs) h (suc k) r e is = grind (arith, last_at (p ∷ rs) h.1 k r e is)
 
--- and gives the base offset
+-- the last record gives the base offset
 base_in : (rs : List Record) → EndsOnce rs
     → (k : ℕ) × (r : Record) × (slice_get rs k ≡ Some r) × (r.body ≡ Eof (next_of rs))
 base_in [] h = absurd h

@@ -18,7 +18,7 @@ module _ (segs : List Segment) (queue : List UnitReference) (k : ℕ) where
       (λ names. slice_get names k) same ∙ slice_get-map (λ (h : UnitReference). h.name) queue k
       ∙ ap (option_map (λ (h : UnitReference). h.name)) e)
 
-  -- and none where no name is left
+  -- there is no segment where no name is left
   unnamed : map (λ (s : Segment). s.name) segs ≡ map (λ (h : UnitReference). h.name) queue
       → slice_get queue k ≡ None → slice_get segs k ≡ None
   unnamed same e = go (slice_get segs k) (sym (slice_get-map (λ (s : Segment). s.name) segs k)
@@ -54,7 +54,7 @@ module _ (order : Order) (host : List ℕ) (libs : List (List ℕ))
           (λ j l. sym (segs j l)) (λ j l. sym (queue j l)) g u ∙ sym u
       go None e None u = search (rules, arith)
 
-  -- and its segment
+  -- the segments at an index are the same where the names are
   segs_at : (k : ℕ) → slice_get Queue k ≡ slice_get other k
       → slice_get Segs k ≡ slice_get others k
   segs_at k same = go (slice_get Queue k) refl

@@ -71,7 +71,7 @@ alike : (g h : UnitReference) → g.name ≡ h.name → g.at.segment.file ≡ h.
     ≡ reference h.name h.at.segment.file h.at.segment.slot h.at.rec
 alike g h name file slot rec = cc
 
--- and are one reference
+-- two givers of one name are one reference
 same_reference : (segs : List Segment) (i j : ℕ) (g h : UnitReference) → IsGiver segs i g
     → IsGiver segs j h → g.name ≡ h.name → g ≡ h
 unfolding reference
@@ -207,7 +207,7 @@ made_alike : (s t : Segment) → s.slot ≡ t.slot → s.name ≡ t.name → s.r
     ≡ segment t.slot t.name t.role t.added t.file t.index t.code t.tables t.block t.records
 made_alike s t slot name role added file index code tables block records = cc
 
--- of one name and slot there is one segment from the first library that has the name
+-- one name and one slot have one segment of the first library that has the name
 pub same_segment : (order : Order) (libs : List (List ℕ)) (s t : Segment) → s.slot ≡ t.slot
     → s.name ≡ t.name → s.role ≡ t.role → s.added ≡ t.added → IsOfFirstLibrary
     order libs s → IsOfFirstLibrary order libs t → HasOneEntry order libs s.name → s ≡ t

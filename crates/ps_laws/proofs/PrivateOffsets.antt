@@ -18,11 +18,11 @@ module _ (slot rec : ℕ) (s : Segment) where
   of_lesser : s.slot < slot → records_before slot rec s ≡ s.records
   of_lesser h = rw (lt-ltb s.slot slot h) refl
 
-  -- of a greater slot no record is before
+  -- no record of a segment in a greater slot is before
   of_greater : slot < s.slot → records_before slot rec s ≡ []
   of_greater h = grind arith
 
--- of the slot itself as many records are before as the record's number says
+-- as many records of the slot itself are before as the record's number says
 of_same : (rec : ℕ) (s : Segment) → records_before s.slot rec s ≡ take rec s.records
 of_same rec s = grind arith
 
@@ -34,7 +34,7 @@ module _ (slot rec : ℕ) where
       → before slot rec (s ∷ ss) ≡ words (records_before slot rec s) + before slot rec ss
   next_segment s ss = grind (arith, sum_by-append)
 
-  -- of segments in greater slots no words are before
+  -- no words of segments in greater slots are before
   none_behind : (from : ℕ) (ss : List Segment)
       → slot < from → Ascends from ss → before slot rec ss ≡ 0
   none_behind from [] h a = refl

@@ -10,7 +10,7 @@ use Rattle.ps_resolve.specs.declared.allotment.TheConstants.{MAX_NEXT_FREE}
 pub use Rattle.ps_resolve.proofs.LookingBack.{more_words}
 use Rattle.ps_words.specs.declared.fault.Reason.TheVariants as reason
 
--- the same over all segments
+-- the first fault of the privates of a segment, with the offsets of all segments
 abbrev segment_fault : List Segment → Segment → Option Fault
 segment_fault segs s = first_of (record_fault (λ why rec. in_record s.file s.slot rec why)
     (λ n. private_offset segs s.slot n) s.records) (enumerate_from 0 s.records)

@@ -43,7 +43,7 @@ module _ (order : Order) (host : List ℕ) (libs : List (List ℕ)) where
       → is_role is_empty order host slot ≡ true → own_segment order host libs slot ≡ None
   not_own slot e = search rules
 
-  -- it is found there
+  -- the added segment at an index is found in its slot
   pub found_added : (j : ℕ) (s : Segment) → slice_get (added_segments order host libs) j
       ≡ Some s → segment_at order host libs s.slot ≡ Some s
   found_added j s e =

@@ -22,7 +22,7 @@ RoundHas order host libs g left f =
 reads : (f : Fault) → 13 ≤ rank f.reason → record_read f.reason f.rec ≡ part f.rec
 reads f h = grind arith
 
--- that a unit is missing comes before it
+-- the fault that a unit is missing comes before the round's others
 missing_first : (k : ℕ) (g : UnitReference) (f : Fault) → 13 ≤ rank f.reason
     → Precedes (OfAdded k)
     (in_record g.at.segment.file g.at.segment.slot g.at.rec reason.MissingUnit) f
@@ -143,7 +143,7 @@ RoundsHave order host libs k r =
     (o : Option Place) × Least Earlier (FromRound order host libs k) o
     × (option_map (λ (x : Place). x.1) o ≡ r.fault)
 
--- that of a round without a fault is that of the rounds after it
+-- the fault of a round without one is that of the rounds after it
 round_more : (order : Order) (host : List ℕ) (libs : List (List ℕ)) (k : ℕ)
     (s : Segment) (rest : RoundsOutcome) → ((f : Fault) → InRound order host libs k f → ⊥)
     → RoundsHave order host libs (k + 1) rest → RoundsHave order host libs k (after s rest)

@@ -240,7 +240,7 @@ module _ (law : OneStop) (spells : OneSpelling) (host : List ℕ) (libs : List (
                   (subst (λ (n : List ℕ). HasSlot order host n) known.name h);
             }
 
-  -- each of them
+  -- each segment of a link has a known origin
   known : (s : Segment) → IsSegment order host libs s → HasOrigin order host libs s
   known s t =
       let link = of_link host libs no_fault s t in

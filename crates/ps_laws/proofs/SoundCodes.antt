@@ -40,7 +40,7 @@ module _ (order : Order) (code : List ℕ) where
       → j < 2 → p + 8 ≡ t + j → is_reserved order code p ≡ true
   size_reserved t j p o e h k = grind arith
 
-  -- and they are apart
+  -- the place of the data size and that of the number are apart
   pub own_apart : (t j p : ℕ)
       → HasOuter order code t → j < 2 → p + 8 ≡ t + j → p + 2 ≡ length code → ⊥
   own_apart t j p o h k n = grind arith

@@ -22,7 +22,7 @@ Early slot n f = (unwrap_or f.slot f.file ≡ slot) × (part f.rec ≡ 0)
 abbrev pub Late : ℕ → ℕ → Fault → Type 0
 Late slot n f = (unwrap_or f.slot f.file ≡ slot) × (n ≤ rank f.reason)
 
--- of a slot's faults, one before rank n comes before one from it on
+-- a fault of a slot before rank n comes before one from rank n on
 pub early_late : (slot n : ℕ) (x y : Fault) → Early slot n x → Late slot n y
     → Precedes OfSources x y
 early_late slot n x y a b = grind arith

@@ -40,7 +40,7 @@ module _ (order : Order) (all : List Segment) where
       []) (records_summed (known_of all) s.code (λ n. private_offset all s.slot n) s.records 0 free
       (λ n. ap (λ m. private_offset all s.slot m) (omega arith) ∙ h n))
 
--- so are the edits of all segments of a link
+-- the edits of all segments of a link have summed offsets
 pub offsets : (host : List ℕ) (libs : List (List ℕ)) → HaveSummedOffsets host libs
 offsets host libs =
     let order = order_of host in

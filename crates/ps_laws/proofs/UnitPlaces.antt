@@ -6,8 +6,8 @@ use Rattle.ps_laws.proofs.Sources.{Found, IsChosen, chosen, is_chosen, named, en
 use Rattle.ps_laws.proofs.OneQueue.{HasOneEntry}
 use Rattle.ps_words.specs.declared.fault.Reason.TheVariants as reason
 
--- this library is at its number, and no smaller one has an entry of the name; in the library this
--- entry has the name
+-- a unit's place: this library is at its number, and no smaller one has an entry of the name; in
+-- the library this entry has the name
 pub record UnitPlace (order : Order) (name : List ℕ) (libs : List (List ℕ))
     (at : ℕ × ℕ) : Type 0 where
   pub number : ℕ
@@ -83,7 +83,7 @@ module _ (order : Order) (host : List ℕ) (libs : List (List ℕ)) (q : Request
   no_entry_fault fits = quiet (rw (request_parts order host libs q fits).1 at
       (entry_least order q.name libs q.slot))
 
-  -- and the unit is the only one of its name in the first library that has one
+  -- the unit is the only one of its name in the first library that has one
   pub unit_of : (at : ℕ × ℕ) → request_fault order host libs q ≡ None
       → unit_source order q.name libs ≡ Some at → IsUnitOf order host libs q.name at.0 at.1
   unit_of at fits e =

@@ -59,7 +59,7 @@ module _ (all : List Segment) (from block : ℕ) (o : Segment) (rest : List Segm
       → Left all (o.slot + 1) (block + blocks (length o.code)) rest
   left_more h = grind (arith, nat_tests, all_blocks-cons)
 
-  -- its code begins in this block
+  -- the code of a segment begins in this block
   pub first_block : Left all from block (o ∷ rest) → block_of all o.slot ≡ block
   first_block h = grind (arith, none_before)
 

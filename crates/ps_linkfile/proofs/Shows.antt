@@ -14,7 +14,7 @@ pub record Shows (short : Bool) (of : FileOrder) (file : List ℕ) (shown : File
   pub dict : o ≡ record { order = known_order of; file = file }
   pub sound : (if short then Some (in_file 0 reason.ShortFile) else order_fault of) ≡ None
 
--- so it can be shown
+-- a file whose order is known can be shown
 pub is_shown : (file : List ℕ) (found : Option Order) (o : OpenedFile)
     → Shows (ltb (length file) 512) (file_order file) file (order_shown found) o
     → IsShown found o
@@ -93,7 +93,7 @@ module _ (form : Form) (order : Order) (file : List ℕ) (slot : ℕ) where
   unfolding links_in
   links_of_fault why h k = rw (h, k) refl
 
-  -- that of a slot whose code is in the file
+  -- the link information of a slot whose code is in the file
   pub links_of_records : (code : List ℕ) → has_links (entry_at order file slot) ≡ true
       → code_of file (entry_at order file slot) ≡ Ok code → links_head form slot
       ++ (by_form form [] (codes ",\"fault\":null,\"records\":[")

@@ -21,11 +21,11 @@ module _ (ss : List Segment) (i : ℕ) (v : Segment) (lt : i < length ss) (is : 
     pub here : drop i ss ≡ v ∷ drop (i + 1) ss
     here = drop_more ss i v lt ∙ ap (λ s. s ∷ drop (i + 1) ss) (sym is)
 
-    -- its code is small
+    -- the code of a viewed segment is small
     pub size_at : All (λ s. length s.code ≤ MAX_CODE_LEN) ss → length v.code ≤ MAX_CODE_LEN
     size_at h = subst (λ (s : Segment). length s.code ≤ MAX_CODE_LEN) (sym is) (h i v lt)
 
-    -- its slot is one of sixteen
+    -- the slot of a viewed segment is one of sixteen
     pub slot_at : Ascend 0 ss → v.slot < SLOTS
     slot_at h = subst (λ (s : Segment). s.slot < SLOTS) (sym is) (slots_below 0 ss h i v lt)
 

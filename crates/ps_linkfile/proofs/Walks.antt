@@ -9,7 +9,7 @@ module _ (of_record : ℕ × Record → List ℕ)
   walked rec (Ok r ∷ items) = of_record (rec, r) ++ walked (rec + 1) items
   walked rec (Err why ∷ items) = of_fault rec (Some why) ++ walked rec items
 
-  -- that of a reading's items is that of its records and of its fault
+  -- the text of a reading's items is that of its records and of its fault
   pub walked_all : ((n : ℕ) → of_fault n None ≡ []) → (n : ℕ) (rs : List Record)
       (why : Option Reason) → walked n (items_of (rs, why))
       ≡ flat_map of_record (enumerate_from n rs) ++ of_fault (n + length rs) why

@@ -192,7 +192,7 @@ pub all_pairs_len : (order : Order) (all : List Segment) → length (all_pairs o
 unfolding all_pairs
 all_pairs_len order all = pairs_len order all
 
--- so they are the dictionary
+-- the bytes of block 0 are the dictionary
 pub dictionary_is : (order : Order) (all_names : List (List ℕ)) (host : List ℕ) (all : List
     Segment) (d pairs names tail : List ℕ) → d ≡ pairs ++ (names ++ (replicate 64 0 ++ tail))
     → pairs ≡ all_pairs order all → names ≡ flat_map (λ name. name) all_names
@@ -314,7 +314,7 @@ module _ (host : List ℕ) (libs : List (List ℕ)) where
             ∙ past order (get_or es k d) q beyond);
       }
 
-  -- and two linked files of them are the same list
+  -- two linked files of the same files are the same list
   pub one : AreOne → (f g : List ℕ)
       → LinkedFile host libs f → LinkedFile host libs g → f ≡ g
   one single f g h k = ext_get_or 0 f g (h.size ∙ sym k.size) (λ p lt.

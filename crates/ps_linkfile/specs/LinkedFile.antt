@@ -75,7 +75,7 @@ abbrev pub padded_code : Order → List ℕ → List Edit → List ℕ
 padded_code order code edits = map (patched_or_zero order code edits)
     (range_with_len 0 (block_len * blocks (length code)))
 
--- the same of a segment with its edits
+-- the code of a segment after its edits, padded to whole blocks
 abbrev pub padded_segment : Order → Segment × List Edit → List ℕ
 padded_segment order (s, edits) = padded_code order s.code edits
 
@@ -85,7 +85,8 @@ linked_file host libs = dictionary (order_of host)
     (slot_names host (segments (order_of host) host libs)) host (segments_of host libs)
     ++ flat_map (padded_segment (order_of host)) (linked_segments host libs)
 
--- its segments, the words of all privates, and its blocks, the dictionary's counted
+-- the summary of a link: its segments, the words of all privates, and its blocks, the dictionary's
+-- counted
 abbrev pub summary_of : List ℕ → List (List ℕ) → Summary
 summary_of host libs = record {
   segments = length (segments_of host libs);

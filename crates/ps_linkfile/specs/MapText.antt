@@ -26,7 +26,7 @@ segment_row block s =
     ∷ Short (codes "entry") s.index ∷ Number (codes "block") block
     ∷ Number (codes "length") (length s.code) ∷ Flag (codes "added") s.added ∷ []
 
--- that of one of these segments, whose codes are laid out by slot
+-- the row of one of these segments, whose codes are laid out by slot
 abbrev pub row_among : List Segment → Segment → List Value
 row_among segs s = segment_row (block_of segs s.slot) s
 
@@ -70,7 +70,7 @@ rows_of form host libs =
     (all_allotted (next_of records) (map owner_of segs))
     (next_of records + total_words segs) (data_size order segs)
 
--- that of the map that a plan stands for
+-- the rows of the map that a plan stands for
 abbrev pub plan_rows : Form → Planned → List ℕ
 plan_rows form plan =
     map_rows form plan.sources plan.definitions plan.privates plan.next_free plan.data_size

@@ -31,7 +31,8 @@ IsUnprepared host libs (Refused fault) = first_fault host libs ≡ Some fault
 IsUnprepared host libs Memory = reading_fault host libs ≡ None
 IsUnprepared host libs (Write fault) = ⊥
 
--- the same of a link that also writes: a write failed only where no fault applies
+-- why a link is not made: as it is not prepared, or a write failed, which it does only where no
+-- fault applies
 abbrev pub IsUnlinked : List ℕ → List (List ℕ) → LinkError → Type 0
 IsUnlinked host libs (Refused fault) = first_fault host libs ≡ Some fault
 IsUnlinked host libs Memory = reading_fault host libs ≡ None

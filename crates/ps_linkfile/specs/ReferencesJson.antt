@@ -16,7 +16,7 @@ pub record Referenced : Type 0 where
 abbrev pub referenced_in : Form → Referenced → List ℕ
 referenced_in form r = plan_rows form r.plan ++ references_in form r.all_stored
 
--- as text, and as a document
+-- the map with its references as text, and as a document
 abbrev pub references_text : Referenced → List ℕ
 references_text r = referenced_in Lines r
 

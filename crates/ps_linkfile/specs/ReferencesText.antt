@@ -130,7 +130,7 @@ abbrev pub stored_rows : Form → ℕ × StoredIn → List ℕ
 stored_rows form s = by_form form [] (separator s.0)
     ++ flat_map (place_in form s.1) (enumerate_from 0 s.1.causes)
 
--- those of all segments, by slot; in a document they are after the members of the map
+-- what is stored in all segments, by slot; in a document it is after the members of the map
 abbrev pub references_in : Form → List StoredIn → List ℕ
 references_in form all_stored = by_form form [] (codes ",\"references\":[")
     ++ flat_map (stored_rows form) (enumerate_from 0 all_stored)

@@ -41,7 +41,7 @@ slot_row slot e = InSlot (codes "slot ") slot e.name ∷ Number (codes "kind") e
     ∷ Number (codes "address") e.address ∷ Number (codes "length") e.length
     ∷ Number (codes "text") e.text ∷ []
 
--- that of an entry, but for the end of an item, in which the link information follows
+-- the row of an entry, but for the end of an item, in which the link information follows
 abbrev pub entry_in : Form → ℕ → Entry → List ℕ
 entry_in form slot e = by_form form [] (separator slot) ++ values_in form (slot_row slot e)
     ++ by_form form (codes "\n") []
@@ -54,7 +54,7 @@ unfoldable pub unit_names : Order → List ℕ → List (List ℕ)
 unit_names order file = map (λ slot. (entry_at order file slot).name)
     (filter (is_role is_unit order file) slots)
 
--- one of these units has the name
+-- a unit of these has the name
 abbrev pub is_listed : List (List ℕ) → List ℕ → Bool
 is_listed units name = list_any (λ unit. bytes_eq unit name) units
 

@@ -8,11 +8,11 @@ use ps_words::Name;
 /// Why a link stores bytes that begin at a place of a code.
 #[derive(Clone, Copy)]
 pub(crate) enum Cause {
-    /// They are the number of the segment.
+    /// The bytes are the number of the segment.
     Number,
-    /// They are the data size of the host's outer block.
+    /// The bytes are the data size of the host's outer block.
     DataSize,
-    /// They are the operand of a reference.
+    /// The bytes are the operand of a reference.
     Reference {
         /// The kind of its record.
         kind: Kind,

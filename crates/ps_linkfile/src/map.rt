@@ -64,7 +64,6 @@ fn kind_word(kind: DefKind) -> &'static [u8]
     }
 }
 
-/// Adds the row of a definition.
 fn add_definition<S: TextWriter>(text: &mut S, form: Form, index: usize, name: Name, def: Def)
     ensures { Adds S.added text.old (row_in form index (definition_row (name, def))) text.new }
 {
@@ -157,7 +156,6 @@ pub(crate) fn add_map<A: Allocator + Copy, S: TextWriter>(
 pub struct LinkMap<'l, 'a, A: Allocator + Copy = Global> {
     /// Lines, or a document.
     pub form: Form,
-    /// The link.
     pub linked: &'l Linked<'a, A>,
 }
 

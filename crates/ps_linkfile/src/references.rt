@@ -64,7 +64,6 @@ fn add_reference<S: TextWriter>(text: &mut S, form: Form, kind: Kind, name: Name
     add_by_form(text, form, b"", b"}");
 }
 
-/// Adds the record of a reference.
 fn add_record<S: TextWriter>(text: &mut S, form: Form, cause: Cause)
     ensures { Adds S.added text.old (record_in form cause) text.new }
 {
@@ -182,7 +181,6 @@ impl<'a, A: Allocator + Copy> ReferenceMap<'a, A> {
 pub struct References<'m, 'a, A: Allocator + Copy = Global> {
     /// Lines, or a document.
     pub form: Form,
-    /// The map with its references.
     pub map: &'m ReferenceMap<'a, A>,
 }
 

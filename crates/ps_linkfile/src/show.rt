@@ -106,7 +106,6 @@ impl<'a> ShownFile<'a> {
 pub struct Show<'f, 'a> {
     /// Lines, or a document.
     pub form: Form,
-    /// The file.
     pub file: &'f ShownFile<'a>,
 }
 
@@ -148,7 +147,6 @@ pub(crate) fn add_entry<S: TextWriter>(text: &mut S, form: Form, slot: u8, entry
     add_by_form(text, form, b"\n", b"");
 }
 
-/// Adds the line of a slot.
 #[tactic(auto, unfolding(crate::specs::ShowText::slot_line))]
 fn add_slot<S: TextWriter>(text: &mut S, dict: &Dict, slot: u8)
     requires { slot < SLOTS }
@@ -158,7 +156,6 @@ fn add_slot<S: TextWriter>(text: &mut S, dict: &Dict, slot: u8)
     add_entry(text, Form::Lines, slot, dict.entry(slot));
 }
 
-/// Adds the line of each slot.
 #[tactic(auto, using(ps_writing::proofs::Written::all_written, ps_writing::proofs::Written::none_yet, ps_writing::proofs::Written::slots_over))]
 fn add_slots<S: TextWriter>(text: &mut S, dict: &Dict)
     ensures { Adds S.added text.old
@@ -201,7 +198,7 @@ pub(crate) fn unit_names(dict: &Dict) -> ArrayVec<Name, SLOT_COUNT>
     names
 }
 
-/// One of these units has the name.
+/// A unit of these has the name.
 pub(crate) fn is_listed(units: &[Name], name: Name) -> bool
     ensures { result ≡ is_listed_spec units.now name }
 {

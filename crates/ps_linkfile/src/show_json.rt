@@ -22,7 +22,6 @@ pub(crate) fn add_order_member<S: TextWriter>(text: &mut S, order: Option<Order>
     }
 }
 
-/// Adds the item of each slot.
 #[tactic(auto, using(ps_writing::proofs::Written::all_written, ps_writing::proofs::Written::none_yet, ps_writing::proofs::Written::slots_over))]
 pub(crate) fn add_slot_items<S: TextWriter>(text: &mut S, dict: &Dict)
     ensures { Adds S.added text.old

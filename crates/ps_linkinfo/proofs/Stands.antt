@@ -33,7 +33,7 @@ spells_reads order x (r ∷ s ∷ rs) h e =
       spells_reads order (drop (size_of r) x) (s ∷ rs) h.1 e.1,
     )
 
--- so are records that are spelled and their fault
+-- records that are spelled, and then a fault, are read as they are
 pub stops_reads : (order : Order) (x : List ℕ) (rs : List Record) (why : Reason)
     → AreSpelled order x rs → AllByRecursion (λ r. is_eof r ≡ false) rs
     → bad order (drop (used_by rs) x) ≡ Some why → reading order x ≡ (rs, Some why)

@@ -111,7 +111,7 @@ pub walked_more : (order : Order) (bytes : List ℕ) (w v : Walk) (rs : List Rec
     → i ≡ Ok r → Walked order bytes v (rs ++ r ∷ [])
 walked_more order bytes w v rs i r h step is = grind (arith, append_assoc, goes_more)
 
--- and none of those before it is an EOFMARK
+-- none of the records before one that was walked is an EOFMARK
 pub walked_on : (order : Order) (bytes : List ℕ) (w v : Walk) (rs : List Record)
     (i : Result Record Reason) (r : Record) → Walked order bytes w rs → Steps w i v
     → i ≡ Ok r → AllByRecursion (λ r. is_eof r ≡ false) rs

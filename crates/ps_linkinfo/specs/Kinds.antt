@@ -35,7 +35,7 @@ kind_width kind.PublDef = 0
 kind_width kind.ConstDef = 0
 kind_width kind.Eof = 0
 
--- it defines a public variable of the host
+-- the record defines a public variable of the host
 abbrev pub defines_variable : Kind → Bool
 defines_variable kind.PublDef = true
 defines_variable kind.ConstDef = false
@@ -44,7 +44,7 @@ defines_variable kind.PublRef = false
 defines_variable kind.PrivRef = false
 defines_variable kind.Eof = false
 
--- it defines a name of the host
+-- the record defines a name of the host
 abbrev pub defines_name : Kind → Bool
 defines_name kind.PublDef = true
 defines_name kind.ConstDef = true
@@ -53,7 +53,7 @@ defines_name kind.PublRef = false
 defines_name kind.PrivRef = false
 defines_name kind.Eof = false
 
--- it requests a private variable, which is allotted
+-- the record requests a private variable, which is allotted
 abbrev pub requests_private : Kind → Bool
 requests_private kind.PrivRef = true
 requests_private kind.UnitRef = false
@@ -62,7 +62,7 @@ requests_private kind.PublDef = false
 requests_private kind.ConstDef = false
 requests_private kind.Eof = false
 
--- it requests a public variable
+-- the record requests a public variable
 abbrev pub requests_public : Kind → Bool
 requests_public kind.PublRef = true
 requests_public kind.UnitRef = false
@@ -71,7 +71,7 @@ requests_public kind.PublDef = false
 requests_public kind.ConstDef = false
 requests_public kind.Eof = false
 
--- it requests a unit
+-- the record requests a unit
 abbrev pub requests_unit : Kind → Bool
 requests_unit kind.UnitRef = true
 requests_unit kind.PublRef = false

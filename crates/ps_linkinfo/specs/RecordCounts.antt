@@ -73,7 +73,7 @@ with_declared_name s r = if declares_name r then sip.write s r.name else s
 abbrev pub digest_of : List Record → DefaultHasher
 digest_of rs = fold with_declared_name sip.initial rs
 
--- all of these counts, and the value of the EOFMARK
+-- the counts of all sorts of records, and the value of the EOFMARK
 abbrev pub record_counts_of : List Record → RecordCounts
 record_counts_of rs = record {
   records = length rs;
@@ -85,7 +85,7 @@ record_counts_of rs = record {
   next = next_of rs;
 }
 
--- these are the counts of the records but for their number, and the value of their EOFMARK
+-- the counts of the records but for their number, and the value of their EOFMARK
 pub record AreCounted (rs : List Record) (definitions privates publics units references next : ℕ)
     : Type 0 where
   pub are_definitions : definitions ≡ definitions_in rs

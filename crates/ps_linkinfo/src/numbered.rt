@@ -46,7 +46,6 @@ impl<'a> NumberedRecords<'a> {
         }
     }
 
-    /// The next record with its index.
     #[inline(always)]
     fn advance(&mut self) -> Option<(usize, LinkRecord<'a>)>
         ensures { YieldsFirst (λ rest. rest) self.old result self.new }

@@ -46,7 +46,7 @@ impl<'a> Body<'a> {
 /// Source: the published II.0 Linker source.
 #[derive(Debug, Drop)]
 pub struct LinkRecord<'a> {
-    /// Its name, padded with blanks. That of an EOFMARK means nothing.
+    /// The name of the record, padded with blanks. That of an EOFMARK means nothing.
     pub name: Name,
     /// What it says.
     pub body: Body<'a>,

@@ -10,13 +10,13 @@ use ps_words::Name;
 /// Source: the published II.0 Linker source.
 #[derive(Clone, Copy, Debug, PartialEq, Eq)]
 pub enum Sort {
-    /// It requests a public variable or a constant: PUBLREF.
+    /// A record that requests a public variable or a constant: PUBLREF.
     Request,
-    /// It defines a public variable: PUBLDEF.
+    /// A record that defines a public variable: PUBLDEF.
     Variable,
-    /// It defines a public variable or a constant: PUBLDEF or CONSTDEF.
+    /// A record that defines a public variable or a constant: PUBLDEF or CONSTDEF.
     Definition,
-    /// It has a private variable: PRIVREF.
+    /// A record that has a private variable: PRIVREF.
     Private,
 }
 

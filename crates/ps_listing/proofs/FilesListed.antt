@@ -29,7 +29,7 @@ module _ (how : ListForm) (all_paths all_files : List (List ℕ)) where
         (so_far.rest (one ∷ more) (one.phrase, more, are, rw (of_how, at_path, of_file) refl));
   }
 
-  -- the same for the file in this place among those that are lent
+  -- one file more is listed: the one at this index among those that are lent
   pub listed_more_at : (paths libs : List (Bor (List ℕ))) (i : ℕ) (none : Bor (List ℕ))
       (one : Listed) (before : List Listed) → one.how ≡ how
       → one.path ≡ (get_or paths i none).now → one.file ≡ (get_or libs i none).now
@@ -71,7 +71,7 @@ pub units_listed : (first : Bool) (l : Listed) → l.how ≡ form.Units
     ≡ listed first l
 units_listed first l h = rw h refl
 
--- the same of one in a document
+-- the item of a file with its units in a document
 pub item_with_units : (first : Bool) (l : Listed) → l.how ≡ form.JsonUnits
     → line_end first ++ listed_with_units l.path l.phrase l.file (listed_units l.how l.file)
     ≡ listed first l

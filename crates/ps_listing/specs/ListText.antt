@@ -90,12 +90,12 @@ abbrev pub refused_words : Fault → List ℕ
 refused_words f = codes ", refused " ++ decimal (number_of f.reason) ++ codes " "
     ++ name_of f.reason ++ record_words f.rec
 
--- the same, and `,"fault":{"number":19,..}`, with the name of what the fault is about
+-- the words of a refusal, or `,"fault":{"number":19,..}`, with the name of what the fault is about
 abbrev pub fault_in : Form → Option (List ℕ) → Fault → List ℕ
 fault_in Lines name f = refused_words f
 fault_in Json name f = codes ",\"fault\":" ++ fault_json name f
 
--- that there is no fault, which a line does not say
+-- the words where there is no fault: none in a line
 abbrev pub no_fault_in : Form → List ℕ
 no_fault_in form = by_form form [] (codes ",\"fault\":null")
 
@@ -118,7 +118,7 @@ abbrev pub use_in : Form → Bool → List ℕ → List ℕ
 use_in form first name = by_form form (codes ", uses ") (comma_unless first)
     ++ by_form form [] (codes "{") ++ name_in form name ++ by_form form [] (codes "}")
 
--- that of a record, where it is one that uses a unit
+-- the words of a record that uses a unit; none of another record
 abbrev pub use_of : Form → Bool → List ℕ → Body → List ℕ
 use_of form first name body = if is_unit_reference body then use_in form first name else []
 

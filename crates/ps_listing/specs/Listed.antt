@@ -81,7 +81,7 @@ values_of size (Err why) = record {
   fault = Some (in_file 0 why);
 }
 
--- those of one that could not be read
+-- the values of a file that could not be read
 abbrev pub no_values : FileValues
 no_values = record { size = None; order = None; purpose = None; fault = None }
 

@@ -17,11 +17,11 @@ use std::marker::Model;
 pub enum ListForm {
     /// A line of each file and of each of its segments.
     Lines,
-    /// The same values as one JSON document.
+    /// The values of the lines as one JSON document.
     Json,
     /// The lines, and after those of each file a line of each of its units by itself.
     Units,
-    /// The same values as these lines as one JSON document.
+    /// The values of these lines, those of the units too, as one JSON document.
     JsonUnits,
 }
 

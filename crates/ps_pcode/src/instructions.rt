@@ -60,7 +60,6 @@ fn big_end(high: u8, before: usize) -> usize
     before + 2 + usize::from(TWO_BYTES <= high)
 }
 
-/// An instruction.
 #[derive(Clone, Copy)]
 pub(crate) struct Instruction {
     operands: Operands,
@@ -102,7 +101,7 @@ impl Instruction {
         }
     }
 
-    /// It goes to one of several places, by an index.
+    /// The instruction goes to one of several places, by an index.
     pub(crate) fn is_case(self) -> bool {
         matches!(self.operands, Operands::Case)
     }

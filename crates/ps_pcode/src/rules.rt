@@ -32,7 +32,8 @@ pub(crate) struct ShownRules {
     /// Up to its first case an instruction begins where the one before ends, where the procedure is
     /// left, and where a short jump leads to.
     pub(crate) instructions: Shown,
-    /// The same holds from its first case on, and where a jump by the jump table leads to.
+    /// From its first case on an instruction begins there, too, and where a jump by the jump table
+    /// leads to.
     pub(crate) cases: Shown,
     /// A jump by the jump table leads to an instruction.
     pub(crate) table_jumps: Shown,

@@ -41,13 +41,14 @@ pub(crate) enum Operands {
 /// What an instruction does to the words of the evaluation stack.
 #[derive(Clone, Copy)]
 pub(crate) enum Effect {
-    /// It takes so many, and then puts so many there.
+    /// The instruction takes so many, and then puts so many there.
     Words(u8, u8),
-    /// It takes so many, and then puts as many there as its first operand says.
+    /// The instruction takes so many, and then puts as many there as its first operand says.
     Loads(u8),
-    /// It takes as many as its first operand says, and so many more.
+    /// The instruction takes as many as its first operand says, and so many more.
     Stores(u8),
-    /// It takes two values of the type that its first operand says, and puts a word there.
+    /// The instruction takes two values of the type that its first operand says, and puts a word
+    /// there.
     Compares,
     /// As many as a set has, or a procedure says that is not looked at.
     Unknown,
@@ -185,7 +186,6 @@ pub(crate) enum Release {
 }
 
 impl Row {
-    /// The row of an opcode in a release.
     pub(crate) fn of(opcode: u8, release: Release) -> Row {
         if matches!(release, Release::Earlier) {
             if let Some(row) = row_in(&EARLIER, opcode) {

@@ -20,7 +20,7 @@ pub put_after : (s x : Segment) (xs : List Segment) → x.slot ≤ s.slot
     → put_by_slot s (x ∷ xs) ≡ x ∷ put_by_slot s xs
 put_after s x xs h = grind arith
 
--- so where the first ones are not of later slots, it goes behind them
+-- where the first segments are not of later slots, a segment goes behind them
 pub put_behind : (s : Segment) (xs ys : List Segment) → All (λ x. x.slot ≤ s.slot) xs
     → put_by_slot s (xs ++ ys) ≡ xs ++ put_by_slot s ys
 put_behind s [] ys h = refl
@@ -29,7 +29,7 @@ put_behind s (x ∷ xs) ys h =
     ∙ ap (λ (zs : List Segment). x ∷ zs)
     (put_behind s xs ys (All-tail (λ (x : Segment). x.slot ≤ s.slot) x xs h))
 
--- so it is of segments of which the first i are not of later slots
+-- the first i of these segments are not of later slots
 abbrev pub AreBefore : ℕ → ℕ → List Segment → Type 0
 AreBefore slot i segs = All (λ s. s.slot ≤ slot) (take i segs)
 

@@ -45,7 +45,7 @@ IsFine order host libs q =
     × (option_and_then (code_fault order host libs q.slot role.Wanted)
     (unit_source order q.name libs) ≡ None)
 
--- so it is where the request has no fault
+-- a request without a fault is fine
 pub request_parts : (order : Order) (host : List ℕ) (libs : List (List ℕ)) (q : Request)
     → request_fault order host libs q ≡ None → IsFine order host libs q
 request_parts order host libs q = go (is_missing order libs q.name) refl
@@ -60,7 +60,7 @@ request_parts order host libs q = go (is_missing order libs q.name) refl
         → IsFine order host libs q
     go b h k = grind (arith, neither_first)
 
--- such a request has a source
+-- a request that is fine has a source
 pub unit_there : (order : Order) (name : List ℕ) (libs : List (List ℕ))
     → is_missing order libs name ≡ false → unit_source order name libs ≡ None → ⊥
 unit_there order name libs is none = grind (arith, is_none, unit_found)
@@ -239,7 +239,7 @@ module _ (order : Order) (host : List ℕ) (libs : List (List ℕ)) where
               h.many (rw h.queue_is e))
           at_name later (Some g) e = at_fault later g e (placed_fault order host libs g slot) refl
 
-      -- so it holds of all rounds
+      -- what holds from each round on holds of all rounds
       pub all_rounds : P 0 (rounds order host libs)
       all_rounds =
           let same = first_round order host libs in

@@ -106,7 +106,7 @@ module _ (units : List (List ℕ × ℕ)) where
   more_known queue gs [] h = All-nil (IsAlreadyKnown units (requested_from units queue gs))
   more_known queue gs (r ∷ rs) h = grind (arith, All-cons, known_behind, All-head, All-tail)
 
-  -- and after any names more
+  -- names that are known stay so after any names more
   pub still_known : (queue gs now : List UnitReference) (rs : List Record)
       → now ≡ take MAX_REQUESTED (requested_from units queue gs)
       → AreAlreadyKnown units queue rs → AreAlreadyKnown units now rs

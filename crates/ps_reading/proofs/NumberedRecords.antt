@@ -6,7 +6,7 @@ use Rattle.ps_linkinfo.specs.Numbered.{numbered_records}
 abbrev pub IsLeft : (ℕ → List Record → Type 0) → List (ℕ × Record) → Type 0
 IsLeft P left = (n : ℕ) × (rs : List Record) × (left ≡ numbered_records n rs) × P n rs
 
--- one of them was given
+-- a record was given, and the others are left
 pub one : {P : ℕ → List Record → Type 0} {left more : List (ℕ × Record)} {i : ℕ}
     {r : Record} → IsLeft P left → left ≡ (i, r) ∷ more
     → (rest : List Record) × (more ≡ numbered_records (i + 1) rest) × P i (r ∷ rest)

@@ -57,13 +57,13 @@ module _ (order : Order) (host : List ℕ) (libs : List (List ℕ)) where
       → slice_get (added_segments order host libs) j ≡ None
   none_after prefix k is many j low = grind (arith, slice_get_past)
 
-  -- and no name is left
+  -- no name is left
   no_name : (prefix : List Segment) (k : ℕ) → added_segments order host libs ≡ prefix
       → slice_get (requested_units order host libs prefix) k ≡ None
       → (j : ℕ) → k ≤ j → slice_get queue_of j ≡ None
   no_name prefix k is none j low = grind (arith, some_before)
 
-  -- so it is from each round on
+  -- each round from this one on has its turn
   abbrev HaveTurns : ℕ → RoundsOutcome → Type 0
   HaveTurns k r = (j : ℕ) → k ≤ j → HasTurn r.fault j
 

@@ -14,7 +14,7 @@ pub read_beside : (order : Order) (file : List ℕ) → library_reason order fil
     → opened_beside order file ≡ Ok (record { order = order; file = file })
 read_beside order file h = grind (arith, read_as)
 
--- so it is opened as it is
+-- a library without a fault is opened as it is
 pub opened_whole : (order : Order) (file : List ℕ) → library_reason order file ≡ None
     → opened_file order file ≡ file
 opened_whole order file h = grind (arith, read_beside)

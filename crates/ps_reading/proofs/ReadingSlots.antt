@@ -114,7 +114,7 @@ host_ok host libs v h = by (opened_alone host) refl
         rw (e, opened_host) at h in
         grind arith
 
--- so its first fault is that of the reading of its files
+-- the first fault of a host that is opened is that of the reading of its files
 pub fault_of_host : (host : List ℕ) (libs : List (List ℕ)) (v : HostFiles)
     → opened_host host libs ≡ Ok v → host_reading_fault v.order v.file v.libs
     ≡ reading_fault host libs
@@ -129,7 +129,7 @@ pub fault_of_none : (host : List ℕ) (libs : List (List ℕ)) (why : Reason)
     → opened_host host libs ≡ Err why → reading_fault host libs ≡ Some (in_file 0 why)
 fault_of_none host libs why h = host_refused host libs why (host_err host libs why h)
 
--- and it is the host file, in its own order
+-- the host that is opened is the host file, in its own order
 pub host_of_files : (host : List ℕ) (libs : List (List ℕ)) (v : HostFiles)
     → opened_host host libs ≡ Ok v → v
     ≡ record { order = order_of host; file = host; libs = libs }

@@ -30,8 +30,8 @@ pub all_with : {X : Type 0} (P : X → Type 0) (xs : List X) (o : Option X) → 
 all_with P xs None all h = All-append P xs [] all (All-nil P)
 all_with P xs (Some x) all h = All-append P xs (x ∷ []) all (All-cons P x [] h (All-nil P))
 
--- those so far and those left are the same in all, when the one of number i, if there is one, joins
--- those so far
+-- the items so far and those left are the same in all, when the one of number i, if there is one,
+-- joins those so far
 pub kept_on : {X : Type 0} (h : ℕ → Option X) (xs : List X) (o : Option X) (i n : ℕ) → i < n
     → o ≡ h i → xs ++ filter_map h (range_with_len i (n - i))
     ≡ (xs ++ option_to_list o) ++ filter_map h (range_with_len (i + 1) (n - (i + 1)))

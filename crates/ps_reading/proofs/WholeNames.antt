@@ -33,7 +33,7 @@ references_named file slot rec (r ∷ rs) all =
     { name = r.name; at = record { segment = record { file = file; slot = slot }; rec = rec } }) _
     (all 0 r (omega arith)) rest) (λ _. rest)
 
--- so it is with the UNITREF records of all segments
+-- the UNITREF records of all segments have whole names
 all_references_named : (ss : List Segment) → All HasWholeNames ss
     → All IsNamed (all_unit_references ss)
 all_references_named [] all = All-nil IsNamed

@@ -56,7 +56,8 @@ abbrev pub IsAlreadyKnown : List (List ℕ × ℕ) → List UnitReference → Li
 IsAlreadyKnown units queue r = is_unit_reference r.body ≡ true
     → is_already_known units queue r.name ≡ true
 
--- so it is with all of the records, or the queue has MAX_REQUESTED names, of which no more are kept
+-- each of the records names a unit that is known, or the queue has MAX_REQUESTED names, of which no
+-- more are kept
 abbrev pub AreAlreadyKnown : List (List ℕ × ℕ) → List UnitReference → List LinkRecord
     → Type 0
 AreAlreadyKnown units queue rs =

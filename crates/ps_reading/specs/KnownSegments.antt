@@ -51,7 +51,7 @@ abbrev pub has_records_at : ℕ → ℕ → List Segment → Bool
 has_records_at file block =
     list_any (λ s. needs_linking s.role && s.file == file && s.block == block)
 
--- This is what each slot of a host is for, or why its kind is refused.
+-- What each slot of a host is for, or why its kind is refused.
 abbrev pub AreSlots : OpenedFile → List (Result Role Reason) → Type 0
 AreSlots dict roles = roles ≡ map (λ slot. role_of (entry_at dict.order dict.file slot)) slots
 

@@ -56,7 +56,7 @@ pub record IsOfRound (order : Order) (host : List ℕ) (libs : List (List ℕ)) 
   pub is_added : s.added ≡ true
   pub source : unit_source order s.name libs ≡ Some (s.file, s.index)
 
--- All of it: the segment is that of its slot, and if it is a host's, it is the only one.
+-- A segment of a link: it is that of its slot, and if it is a host's, it is the only one.
 pub record IsOfLink (order : Order) (host : List ℕ) (libs : List (List ℕ))
     (s : Segment) : Type 0 where
   pub slot : s.slot < SLOTS
@@ -66,6 +66,6 @@ pub record IsOfLink (order : Order) (host : List ℕ) (libs : List (List ℕ))
   pub requested : IsOfSlot order host libs s
       ⊎ ((j : ℕ) × (g : UnitReference) × IsOfRound order host libs j g s)
 
--- So it is with all of these segments, which are those of a link.
+-- Each of these segments is one of a link.
 abbrev pub AreOfLink : List ℕ → List (List ℕ) → List Segment → Type 0
 AreOfLink host libs segs = All (IsOfLink (order_of host) host libs) segs

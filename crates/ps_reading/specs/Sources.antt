@@ -89,7 +89,7 @@ tables_of order code linked = if linked then Some (record { order = order; code 
 abbrev pub block_behind : ℕ → ℕ → Bool → ℕ
 block_behind address len linked = if linked then address + blocks len else 0
 
--- that of an entry's link information
+-- the block of an entry's link information
 abbrev pub information_block : Entry → Bool → ℕ
 information_block e linked = block_behind e.address e.length linked
 

@@ -40,7 +40,7 @@ spelled_more order (r ∷ rs) xs more (t, ts) =
           (spelled_more order rs (drop (size_of r) xs) more ts),
     )
 
--- so what follows an end mark is not read
+-- what follows an end mark is not read
 pub same_reading : OneSpelling → (order : Order) (read rest more : List ℕ) (rs : List Record)
     → Spells order read rs → reading order (read ++ rest) ≡ reading order (read ++ more)
 same_reading law order read rest more rs t = by rest ∙ sym (by more)

@@ -29,7 +29,7 @@ abbrev brought_in : Order → List ℕ → List (List ℕ) → Request → Optio
 brought_in order host libs q = option_and_then (segment_from order host libs q.slot q.name
     role.Wanted) (unit_source order q.name libs)
 
--- that of a slot of this role
+-- the segment of a slot of this role
 abbrev own_by : Order → List ℕ → List (List ℕ) → ℕ → Role → Option Segment
 own_by order host libs slot r = option_and_then (segment_from order host libs slot
     (entry_at order host slot).name r) (source_of order host libs slot r)
@@ -120,7 +120,7 @@ module _ (c : Change) where
   abbrev Moves : Option Fault → Option Fault → Option Segment → Option Segment → Type 0
   Moves f p o u = (p ≡ refiled f) × (f ≡ None → u ≡ option_map renewed o)
 
-  -- both, by what is read of the entry
+  -- the first fault of an entry, by what is read of it
   abbrev fault_by : ℕ → ℕ → Role → Result (List ℕ) Reason → (List ℕ
       → Option Reason)
       → List Record × Option Reason → Option Fault
@@ -181,7 +181,7 @@ module _ (c : Change) where
   parts_moved m p slot k j missing why at f g s t e same h =
       (grind (arith, h), λ n. grind (arith, h))
 
-  -- the same, who requests it here and there
+  -- the fault and the segment of a request move, who requests it here and there
   abbrev IsMoved : Request → Requester → Type 0
   IsMoved q by = Moves (mine request_fault q) (theirs request_fault (record q { requester = by }))
       (mine brought_in q) (theirs brought_in q)

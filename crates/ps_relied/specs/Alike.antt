@@ -18,8 +18,8 @@ abbrev pub HasSameCode : Order → List ℕ → List ℕ → ℕ → Type 0
 HasSameCode order file other i =
     code_of file (entry_at order file i) ≡ code_of other (entry_at order other i)
 
--- its link information has the same records, or the same before the same fault: what follows an end
--- mark is not read
+-- two files' link information has the same records, or the same before the same fault: what follows
+-- an end mark is not read
 abbrev pub HasSameRecords : Order → List ℕ → List ℕ → ℕ → Type 0
 HasSameRecords order file other i = reading order (information_of file (entry_at order file i))
     ≡ reading order (information_of other (entry_at order other i))

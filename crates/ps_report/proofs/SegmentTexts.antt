@@ -130,7 +130,7 @@ pub links_of : (host : List ℕ) (libs : List (List ℕ)) (verdict : Verdict)
 links_of host libs (Links s) right none = refl
 links_of host libs (Refused f) right none = absurd (none right.0.step f right.0.stands)
 
--- and no list of files is in the text
+-- no list of files is in the text of files that link
 pub no_lists : (verdict : Verdict) (libs : List (List ℕ)) → fault_of verdict ≡ None
     → lacks_host verdict libs ≡ false
 no_lists (Links s) libs e = refl

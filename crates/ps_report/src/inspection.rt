@@ -12,6 +12,7 @@ ghost use Rattle.ps_report.specs.Verdicts.{fault_of, verdict_name as verdict_nam
 use crate::names::verdict_name;
 use crate::verdict::Verdict;
 use ps_explained::{Case, Explanation, overview_of};
+use ps_filetype::is_code_type;
 use ps_resolve::{Reading, read};
 use ps_segments::{NamedFiles, ReadSegment, segments_of};
 use ps_warnings::{Findings, findings_of};
@@ -67,7 +68,8 @@ pub(crate) fn inspect<'a, A: Allocator + Copy>(
     let fault = verdict.fault();
     let name = verdict_name(&reading, verdict);
     let list = segments_of(alloc, &inputs, &reading)?;
-    let overview = overview_of(alloc, &inputs, &reading, list.as_slice())?;
+    let told = told_segments(&inputs, &reading, list.as_slice());
+    let overview = overview_of(alloc, &inputs, &reading, told)?;
     let explanation = explanation_of(alloc, &inputs, &reading, list.as_slice(), fault)?;
     let findings = findings_of(alloc, &inputs, list.as_slice(), fault)?;
     Ok(Inspection {
@@ -85,6 +87,20 @@ fn read_files<'a>(host: &'a [u8], libs: &'a [&'a [u8]]) -> Reading<'a>
     ensures { result ≡ record { host = host.now; libs = contents libs.now } }
 {
     read(host, libs)
+}
+
+/// The segments of which a report tells where the files are not read without a fault: none of a host
+/// that is no code file.
+fn told_segments<'l, 'a>(
+    inputs: &NamedFiles<'a>,
+    reading: &Reading<'a>,
+    list: &'l [ReadSegment<'a>],
+) -> &'l [ReadSegment<'a>] {
+    if reading.fault().is_some() && !is_code_type(inputs.host) {
+        &[]
+    } else {
+        list
+    }
 }
 
 /// What the fault is in these files, and what to do about it, in lines; empty where there is none.

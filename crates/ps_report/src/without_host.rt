@@ -11,7 +11,7 @@ use ps_listing::{ListForm, Lists, has_host_among};
 use ps_words::Reason;
 use std::alloc::{AllocError, Allocator};
 
-/// This is why the first file is no host.
+/// The reason says why the first file is no host.
 fn is_no_host_reason(reason: Reason) -> bool
     ensures { result ≡ is_no_host_reason_spec reason }
 {

@@ -48,7 +48,7 @@ pub none_left : (order : Order) (known : Known) (words free i : ℕ) (ss : List 
     → length ss ≤ i → LinkSegments order (edited_from order known words free (drop i ss)) []
 none_left order known words free i ss h = grind (arith, drop_all)
 
--- their slots
+-- the slots of the owners are those of the segments
 pub slots_are : (segs : List Segment) → map (λ o. o.0.slot) (map owner_of segs)
     ≡ map (λ s. s.slot) segs
 slots_are [] = refl

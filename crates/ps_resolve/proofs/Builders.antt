@@ -123,7 +123,7 @@ module _ (file slot : ℕ) (rs : List Record) where
       )
   stops_definitions Memory d = grind (arith, some_counted, definitions_counted)
 
-  -- the same, with the number of the record
+  -- why definitions stop, with the number of the record
   abbrev IsNamed : Stop → Type 0
   IsNamed (Refused fault) = (rec : ℕ) × (first_duplicate rs ≡ Some rec) × (fault ≡ told rec)
   IsNamed Memory = 0 < length (definitions rs)
@@ -364,7 +364,7 @@ words_allotted slot rec next (r ∷ rs) =
     (allotted_privates slot (rec + 1) (next + w) rs) in
     grind arith
 
--- and so have the privates of all segments
+-- the privates of all segments have the words of all
 pub summed : (next : ℕ) (ss : List Owner) → words_of_all (all_allotted next ss) ≡ all_words ss
 summed next [] = refl
 summed next (s ∷ ss) =
@@ -379,7 +379,7 @@ requested_allotted place rec next (r ∷ rs) =
     let rest = λ (n : ℕ). requested_allotted place (rec + 1) n rs in
     grind arith
 
--- and those of all segments, which are what all records request
+-- the privates of all segments are what all records request
 pub requested : (next : ℕ) (ss : List Owner)
     → map requested_of (all_allotted next ss) ≡ all_requested ss
 requested next [] = refl

@@ -33,7 +33,7 @@ pub more_numbers : (xs : List ℕ) (r : Record) (rs : List Record)
     → xs ++ private_numbers (r ∷ rs) ≡ (xs ++ number r ∷ []) ++ private_numbers rs
 more_numbers xs r rs h = grind (arith, append_assoc)
 
--- these numbers and those of the records that are left are all
+-- the numbers of all privates: these, and those of the records that are left
 abbrev pub AreNumbers : List Record → List ℕ → ℕ → List Record → Type 0
 AreNumbers all xs n rs = xs ++ private_numbers rs ≡ private_numbers all
 
@@ -91,7 +91,7 @@ distinct_names rs ys moved ascends rec r there h =
     distinct = IsDistinct-IsPermutation is_same flips ys (private_numbers rs)
         (IsPermutation-sym (private_numbers rs) ys moved) sorted
 
--- and where their numbers, sorted, do not ascend, two are equal
+-- where the numbers of privates, sorted, do not ascend, two are equal
 pub shared : (rs : List Record) (ys : List ℕ) → IsPermutation (private_numbers rs) ys
     → IsSorted nat_cmp ys → (IsStrictlyIncreasing ys → ⊥)
     → IsDistinct (λ x y. x == y) (private_numbers rs) → ⊥
@@ -110,7 +110,7 @@ counted rs =
     let own : Record → Bool = λ r. is_private_reference r.body in
     length-map (filter own rs) number ∙ length-filter own rs
 
--- of fewer than two privates none has the name of an earlier one
+-- no private has the name of an earlier one, where there are fewer than two
 pub few_privates : (rs : List Record) → privates_in rs < 2
     → HaveNoNamesakes is_private_reference rs
 few_privates rs few =
@@ -138,7 +138,7 @@ pub record Stands (all : List Record) (n : ℕ) (rs : List Record) : Type 0 wher
   pub whole : all ≡ prefix ++ rs
   pub count : n ≡ length prefix
 
--- and so are, after one more, those from the next index on
+-- what stands of the records from an index on stands from the next one on
 abbrev pub further : (all : List Record) (n : ℕ) (r : Record) (rs : List Record)
     → Stands all n (r ∷ rs) → Stands all (n + 1) rs
 further all n r rs s = record {

@@ -43,7 +43,7 @@ module _ (order : Order) (segs : List Segment) {own : Segment}
       (duplicate_fault 0 own.slot own.records) stop → AreStopped order segs stop
   definitions_stop stop d = grind (arith, stages, definitions_are)
 
-  -- its definitions, and the offset after its own data
+  -- the definitions of the host's segment, and the offset after its own data
   module _ {ds : List (List ℕ × Def)} (ds_are : ds ≡ definitions own.records)
       (once : first_duplicate own.records ≡ None) {next : ℕ}
       (next_is : next ≡ next_of own.records) where

@@ -33,7 +33,7 @@ abbrev pub is_again : (Body → Bool) → List Record → ℕ × Record → Bool
 is_again test records r = test r.1.body && list_any (λ q. test q.body && bytes_eq r.1.name q.name)
     (take r.0 records)
 
--- so it says whether the record is of the kind and has the name of an earlier one of the kind
+-- the test says whether the record is of the kind and has the name of an earlier one of the kind
 pub again : (test : Body → Bool) (records : List Record) (rec : ℕ) (r : Record)
     → Decides (is_again test records (rec, r)) (HasEarlierNamesake test records rec r)
 again test records rec r =

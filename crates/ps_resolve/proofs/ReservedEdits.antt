@@ -13,7 +13,7 @@ number_reserved order code h = grind arith
 module _ (order : Order) (known : Known) (code : List ℕ) (rs : List Record) (off slot : ℕ)
     (table : Option Edit) (h : 4 ≤ length code) (d : IfSome table (IsOfTable order code))
     (none : records_fault known (is_reserved order code) code 0 off [] rs ≡ None) where
-  -- all of them lie in the code
+  -- all edits of a segment lie in the code
   pub edits_inside : All (IsInside (length code))
       (Byte slot (length code - 2) ∷ (option_to_list table ++ records_edits known code off rs))
   edits_inside = grind (arith, All-append, All-nil, records_inside)

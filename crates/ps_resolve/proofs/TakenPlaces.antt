@@ -38,7 +38,7 @@ pub same_places : (code : List ℕ) (t : Target) (p x : ℕ)
     → covers p (edit_of code t x) ≡ is_in p (x, width_of t)
 same_places code t p x = grind arith
 
--- it lies in a table of the places of the code
+-- the operand lies in a table of the places of the code
 pub fits : (code : List ℕ) (t : Target) (x : ℕ) (ts : List PlaceState)
     → length ts ≡ length code → x + width_of t ≤ length code
     → place_of (edit_of code t x) + width (edit_of code t x) ≤ length ts

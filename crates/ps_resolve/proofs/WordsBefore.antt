@@ -20,7 +20,7 @@ counted all count words n r rs up lt =
     sum_by-cons (λ (q : Record). words_taken q.body) r (take (count - (n + 1)) rs) in
     omega (arith, whole, first)
 
--- it is not more than all
+-- the words so far and those of the next record that counts are not more than all
 pub within : (all : List Record) (count words n : ℕ) (r : Record) (rs : List Record)
     → AddUp all count words n (r ∷ rs) → n < count
     → words + words_taken r.body ≤ words_taken_by (take count all)

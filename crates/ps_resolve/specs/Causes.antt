@@ -26,7 +26,7 @@ covers operand body reference = option_map_or (share_a_byte operand)
 abbrev pub first_covering : Operand → ℕ → Body → Option ℕ
 first_covering operand n body = find (covers operand body) (range_with_len 0 n)
 
--- of a record with this index so many references are before this place
+-- how many references of a record with this index are before this place
 abbrev pub references_before : ReferenceAt → ℕ × Record → ℕ
 references_before place r = if nat_lt r.0 place.at.rec then length (refs_of r.1.body)
     else (if r.0 == place.at.rec then place.reference else 0)
@@ -43,7 +43,7 @@ abbrev pub first_before : ReferenceAt → Operand → List (ℕ × Record)
     → Option ReferenceAt
 first_before place operand rs = first_of (covering_in place operand) rs
 
--- those records of a segment that are before record `rec` of this slot
+-- the records of a segment that are before record `rec` of this slot
 abbrev pub records_before : ℕ → ℕ → Segment → List Record
 records_before slot rec s = if nat_lt s.slot slot then s.records
     else (if s.slot == slot then take rec s.records else [])

@@ -30,7 +30,7 @@ abbrev pub IsReference : Segment → ℕ → Record → ℕ → ℕ → Type 0
 IsReference s rec r i x = (slice_get s.records rec ≡ Some r)
     × (slice_get (refs_of r.body) i ≡ Some x)
 
--- and that operand covers place p
+-- the operand of a reference covers place p
 abbrev pub Reaches : Segment → ℕ → Record → ℕ → ℕ → ℕ → Type 0
 Reaches s rec r i x p = IsReference s rec r i x × Covers r.body x p
 

@@ -118,7 +118,7 @@ abbrev pub HaveOneEach : List ℕ → List Segment → Type 0
 HaveOneEach host segs = (slot : ℕ) → slot < SLOTS
     → (HasRole (order_of host) host slot Empty → ⊥) → HasOne segs slot
 
--- they are by slot, ascending, so no two have one slot; each slot is below SLOTS
+-- the segments are by slot, ascending, so no two have one slot; each slot is below SLOTS
 abbrev pub AreBySlot : List Segment → Type 0
 AreBySlot segs =
     ((i j : ℕ) (s q : Segment) → i < j → slice_get segs i ≡ Some s
@@ -133,8 +133,7 @@ AreOwn host segs = All (λ s. s.added ≡ false → IsOwn (order_of host) host s
 abbrev pub AreAdded : List ℕ → List Segment → Type 0
 AreAdded host segs = All (λ s. s.added ≡ true → IsAddedUnit (order_of host) host segs s) segs
 
--- those that were added are the ones of which `AddedUnits` says which name each has, and in which
--- order
+-- each added segment is the one of which `AddedUnits` says which name it has, and in which order
 abbrev pub AreOfRounds : List ℕ → List (List ℕ) → List Segment → Type 0
 AreOfRounds host libs segs =
     All (λ s. s.added ≡ true → SomeItem (added_segments (order_of host) host libs)

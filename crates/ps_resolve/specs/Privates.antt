@@ -60,7 +60,7 @@ private_fault rec next seen (r ∷ rs) =
           else private_fault (rec + 1) (next + words) (seen ++ r.name ∷ []) rs)
     ]
 
--- that fault in the records of a segment, with its file and its slot
+-- the first fault of privates in the records of a segment, with its file and its slot
 abbrev pub unallotted_fault : ℕ → ℕ → ℕ → List Record → Option Fault
 unallotted_fault file slot next rs = option_map (λ f. in_record file slot f.0 f.1)
     (private_fault 0 next [] rs)
@@ -72,7 +72,7 @@ unfit_reason duplicate p =
     option_or (fault_if (option_eq nat_eq duplicate (Some p.rec)) reason.DoubledPrivate)
     (fault_if (nat_lt MAX_NEXT_FREE (p.offset + p.words)) reason.NoRoom)
 
--- that fault, in a segment with this file and this slot
+-- the fault of a private, in a segment with this file and this slot
 abbrev pub unfit_fault : ℕ → ℕ → Option ℕ → Private → Option Fault
 unfit_fault file slot duplicate p = option_map (λ why. in_record file slot p.rec why)
     (unfit_reason duplicate p)

@@ -39,7 +39,7 @@ IsGiver segs i g =
     × ((j rec : ℕ) → Before (j ∷ rec ∷ []) (i ∷ g.at.rec ∷ [])
     → RequestsAt segs j rec g.name → ⊥)
 
--- both are givers of their names, g before h
+-- two references are givers of their names, g before h
 abbrev pub AreGiven : List Segment → UnitReference → UnitReference → Type 0
 AreGiven segs g h = (i : ℕ) × (j : ℕ) × IsGiver segs i g × IsGiver segs j h
     × Before (i ∷ g.at.rec ∷ []) (j ∷ h.at.rec ∷ [])

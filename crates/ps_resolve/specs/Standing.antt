@@ -57,7 +57,8 @@ NoneStandsInReading host libs = (step : Step) (f : Fault) → is_of_reading step
 abbrev pub NoneStands : List ℕ → List (List ℕ) → Type 0
 NoneStands host libs = (step : Step) (f : Fault) → FaultAt host libs step f → ⊥
 
--- it is, and its key is less than that of each other fault that applies, in whichever step
+-- the first fault: it applies, and its key is less than that of each other fault that applies, in
+-- whichever step
 pub record IsFirst (host : List ℕ) (libs : List (List ℕ)) (f : Fault) : Type 0 where
   pub step : Step
   pub stands : FaultAt host libs step f

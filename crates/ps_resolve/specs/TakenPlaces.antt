@@ -6,8 +6,7 @@ use Rattle.ps_resolve.specs.EditTables.{is_taken_at}
 use Rattle.ps_resolve.specs.Operands.{is_in}
 use Rattle.ps_resolve.specs.declared.edit_table.PlaceState.{PlaceState}
 
--- of the places of a code those are taken in the table that are reserved and those of these
--- operands
+-- the places that a table of a code has taken: those that are reserved and those of these operands
 abbrev pub AreTaken : ProcedureTables → List PlaceState → List (ℕ × ℕ) → Type 0
 AreTaken tables ts taken =
     (p : ℕ) → p < length tables.code

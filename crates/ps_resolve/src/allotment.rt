@@ -25,11 +25,11 @@ pub const MAX_NEXT_FREE: usize = MAX_OPERAND as usize;
 pub struct Private {
     /// The index, from 0, of its record in the segment's link information.
     pub rec: usize,
-    /// Its base offset in words, 0 to `MAX_NEXT_FREE`.
+    /// The base offset of the private in words, 0 to `MAX_NEXT_FREE`.
     pub offset: u16,
     /// How many words it takes, 0 to `MAX_NEXT_FREE`.
     pub words: u16,
-    /// Its name, which no other private of its segment has.
+    /// The name of the private, which no other private of its segment has.
     pub name: Name,
     /// The slot of its segment in the host's segment dictionary, 0 to 15.
     pub slot: u8,
@@ -131,14 +131,15 @@ impl<A: Allocator> Model for Allotment<A> {
 
 /// A segment that privates are allotted to.
 pub(crate) trait RequestsPrivates {
-    /// Its place, and its records.
+    /// The place of the owner, and its records.
     ghost owner: { Self → Owner };
 
     /// Where it is.
     fn place(&self) -> SegmentAt
         ensures { result ≡ (owner self.now).0 };
 
-    /// Its link information; `None` where it is linked already, so that it has no records.
+    /// The link information of the owner; `None` where it is linked already, so that it has no
+    /// records.
     fn records(&self) -> Option<LinkInformation<'_>>
         ensures { unwrap_or result [] ≡ (owner self.now).1 };
 }
@@ -262,7 +263,7 @@ impl<A: Allocator + Copy> Allotment<A> {
         }
     }
 
-    /// All of them, by slot and then by record.
+    /// All privates, by slot and then by record.
     pub fn privates(&self) -> &[Private]
         ensures { result.now ≡ self.now.privates }
     {

@@ -39,7 +39,7 @@ fn first_covering(operand: Operand, count: usize, entry: &LinkRecord<'_>) -> Opt
     None
 }
 
-/// Of a record with this index so many references are before this place.
+/// How many references of a record with this index are before this place.
 fn references_before(place: ReferenceAt, rec: usize, entry: &LinkRecord<'_>) -> usize
     ensures { result ≡ references_before_spec place (rec, entry.now) }
 {

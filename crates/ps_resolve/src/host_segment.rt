@@ -14,7 +14,7 @@ use ps_words::Order;
 pub(crate) struct HostSegment<'r, 'a> {
     /// The segment itself.
     pub(crate) segment: &'r Segment<'a>,
-    /// Its link information, read whole.
+    /// The link information of the segment, read whole.
     pub(crate) records: &'r LinkInformation<'a>,
     /// The place in its code of the attribute table of its outer block.
     pub(crate) outer_block: usize,

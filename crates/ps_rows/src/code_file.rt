@@ -124,7 +124,7 @@ impl CodeFile {
         self.state_change(rt, kind, words)
     }
 
-    /// The same of a statement that is no record.
+    /// Makes the change of a statement that is no record.
     fn state_change(
         &mut self,
         rt: &(impl Abort + AllocGlobal),
@@ -141,7 +141,7 @@ impl CodeFile {
         }
     }
 
-    /// The same of a statement that is about a whole part of the file.
+    /// Makes the change of a statement that is about a whole part of the file.
     fn state_part(&mut self, rt: &impl Abort, kind: &str, words: &mut SplitWhitespace<'_>) {
         match kind {
             "size" => self.size(rt, words),

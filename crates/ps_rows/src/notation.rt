@@ -9,7 +9,7 @@ pub fn holds(rt: &impl Abort, is_right: bool, what: &str) {
     assert!(rt; is_right, "{what}");
 }
 
-/// The same of a value.
+/// Asserts of a value what has to be right of it.
 pub fn holds_of<D: Debug>(rt: &impl Abort, is_right: bool, value: &D) {
     assert!(rt; is_right, "{value:?}");
 }

@@ -6,7 +6,6 @@ mod calls;
 mod changed_bytes;
 mod cuts;
 mod dictionary;
-mod entries;
 mod failing_texts;
 mod host_faults;
 mod in_place;

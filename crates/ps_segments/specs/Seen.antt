@@ -18,7 +18,7 @@ pub record Seen : Type 0 where
   pub file : Option ℕ
   pub records : List Record
 
--- its references are resolved
+-- the references of the segment are resolved
 abbrev pub part_needs_linking : SegmentPart → Bool
 part_needs_linking part.Plain = false
 part_needs_linking part.Host = true
@@ -44,7 +44,7 @@ seen s = record {
 abbrev pub has_slot : ℕ → Seen → Bool
 has_slot slot s = option_map_or (λ k. k == slot) s.slot false
 
--- it is the host program
+-- the segment is the host program
 abbrev pub is_host_part : SegmentPart → Bool
 is_host_part part.Plain = false
 is_host_part part.Host = true

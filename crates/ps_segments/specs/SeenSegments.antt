@@ -34,7 +34,8 @@ abbrev pub origin_in : ℕ → ℕ → Result OpenedFile Reason → Option (ℕ 
 origin_in file index (Ok f) = Some (file, records_at index f)
 origin_in file index (Err why) = None
 
--- so of an entry of a host or a library, which is read in the host's order
+-- where a segment comes from, and its records: an entry of a host or a library, which is read in
+-- the host's order
 unfoldable pub origin_of : List ℕ → List (List ℕ) → ℕ × ℕ
     → Option (ℕ × List Record)
 origin_of host libs at = if nat_lt at.1 SLOTS

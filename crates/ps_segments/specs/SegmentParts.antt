@@ -21,7 +21,7 @@ is_added part.Unit = false
 is_added part.Wanted = false
 is_added (part.Added requester rec) = true
 
--- it is a unit
+-- the segment is a unit
 abbrev pub is_unit : SegmentPart → Bool
 is_unit part.Plain = false
 is_unit part.Host = false

@@ -34,7 +34,6 @@ impl<'a> NamedFiles<'a> {
         }
     }
 
-    /// What a file is.
     pub fn file_type(&self, file: usize) -> FileType {
         FileType::of(self.bytes(file))
     }

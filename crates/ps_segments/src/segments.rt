@@ -37,7 +37,7 @@ pub enum SegmentPart {
 }
 
 impl SegmentPart {
-    /// Its references are resolved.
+    /// The references of the segment are resolved.
     fn needs_linking(self) -> bool
         ensures { result ≡ part_needs_linking self }
     {
@@ -47,14 +47,13 @@ impl SegmentPart {
         )
     }
 
-    /// It is the host program.
+    /// The segment is the host program.
     fn is_host(self) -> bool
         ensures { result ≡ is_host_part self }
     {
         matches!(self, SegmentPart::Host)
     }
 
-    /// It is a unit.
     pub fn is_unit(self) -> bool
         ensures { result ≡ is_unit_spec self }
     {
@@ -64,7 +63,7 @@ impl SegmentPart {
         )
     }
 
-    /// It is a unit that a record requests.
+    /// The segment is a unit that a record requests.
     pub fn is_added(self) -> bool
         ensures { result ≡ is_added_spec self }
     {
@@ -92,7 +91,7 @@ impl fmt::Display for SegmentPart {
 /// A segment of a link, as it was read.
 #[derive(Clone, Copy)]
 pub struct ReadSegment<'a> {
-    /// Its slot in the host; none where no empty slot is left for it.
+    /// The slot in the host; none where no empty slot is left for the segment.
     pub slot: Option<u8>,
     pub name: Name,
     pub part: SegmentPart,
@@ -101,14 +100,15 @@ pub struct ReadSegment<'a> {
     pub source: Option<(EntryAt, Entry)>,
     /// The order of its file's words.
     pub order: Order,
-    /// Its code, or why it has none: `MissingUnit` where no library has it.
+    /// The code of the segment, or why it has none: `MissingUnit` where no library has it.
     pub code: Result<&'a [u8], Reason>,
-    /// Its file from its link information on.
+    /// The file of the segment, from its link information on.
     pub after: &'a [u8],
 }
 
 impl<'a> ReadSegment<'a> {
-    /// Its records, up to the first that cannot be read; none where they are not to be read.
+    /// The records of the segment, up to the first that cannot be read; none where they are not to
+    /// be read.
     /// Source: the published II.0 Linker source.
     pub fn records(&self) -> LinkInformation<'a>
         ensures { result ≡ (seen self.now).records }
@@ -227,7 +227,7 @@ fn name_in(host: &HostReading<'_>, slot: u8) -> Name
     }
 }
 
-/// The same of a slot that there is.
+/// The name that a slot of the dictionary has or wants.
 fn name_by(host: &HostReading<'_>, slot: u8) -> Name
     requires { slot < SLOTS }
     ensures { result ≡ name_by_spec host.now slot (request_in host.now slot) }
@@ -246,7 +246,7 @@ fn is_for_unit(host: &HostReading<'_>, slot: u8) -> bool
     matches!(host.role(slot), Ok(Role::Unit | Role::Wanted))
 }
 
-/// It is a unit of this name.
+/// The segment of a slot is a unit of this name.
 fn is_unit_of(host: &HostReading<'_>, name: &Name, slot: u8) -> bool
     requires { slot < SLOTS }
     ensures { result ≡ is_unit_of_spec host.now name.now slot }
@@ -457,7 +457,7 @@ pub fn segments_of<'a, A: Allocator + Copy>(
     }
 }
 
-/// So of a host that was read.
+/// The segments of a link whose host was read.
 fn segments_in<'a, A: Allocator + Copy>(
     alloc: A,
     inputs: &NamedFiles<'a>,
@@ -484,7 +484,6 @@ fn slots_taken(host: &HostReading<'_>) -> usize
     taken
 }
 
-/// Adds a segment, if there is one.
 fn add_segment<'a, A: Allocator>(
     list: &mut Vec<ReadSegment<'a>, A>,
     segment: Option<ReadSegment<'a>>,
@@ -508,7 +507,6 @@ fn push_segment<'a, A: Allocator>(
     Ok(list.push(segment)?)
 }
 
-/// The segments that have slots.
 fn segments_in_slots<'a, A: Allocator + Copy>(
     alloc: A,
     inputs: &NamedFiles<'a>,

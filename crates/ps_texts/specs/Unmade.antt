@@ -46,7 +46,7 @@ abbrev pub WhyUnmade : TextKind → List ℕ → List (List ℕ) → Unmade → 
 WhyUnmade k host libs (Refused f) = CanRefuse k host libs f
 WhyUnmade k host libs Memory = CanLackMemory k host libs
 
--- that of a link that is only prepared; where nothing is written, no write fails
+-- why a text of a link that is only prepared is not made; where nothing is written, no write fails
 abbrev pub unmade_of : LinkError → Unmade
 unmade_of (link.Refused f) = Refused f
 unmade_of link.Memory = Memory

@@ -196,7 +196,6 @@ fn show_of<'a, A: Allocator + Copy>(
     }
 }
 
-/// The report of a check.
 #[inline(never)]
 fn report_of<'a, A: Allocator + Copy>(
     alloc: A,
@@ -224,7 +223,6 @@ fn findings_of<'a, A: Allocator + Copy>(
     Ok(FilesText::Findings(form, report))
 }
 
-/// The list of each file.
 #[inline(never)]
 fn lists_of<'a, A: Allocator + Copy>(
     alloc: A,

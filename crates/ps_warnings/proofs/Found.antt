@@ -38,7 +38,7 @@ pub only_found : (before : List FindingAt) (found new : List Stated) → before 
 unfolding about_link_in
 only_found before found new none is = (rw none at is).all
 
--- of all these findings, those that are left are still to be added
+-- all these findings: some were added, and those that are left are still to be
 pub record Owes (old : List Stated) (all left : List Stated) (new : List Stated) : Type 0 where
   pub done : List Stated
   pub split : done ++ left ≡ all

@@ -8,7 +8,7 @@ use Rattle.ps_resolve.specs.Sources.{contents}
 use Rattle.ps_segments.specs.Seen.{Seen, seen}
 use Rattle.ps_segments.specs.declared.segments.ReadSegment.{ReadSegment}
 
--- those that are left
+-- the segments that are left, as they are seen
 pub seen_left : (ss : List ReadSegment) (i : ℕ) (s : ReadSegment)
     → drop i ss ≡ s ∷ drop (i + 1) ss
     → drop i (map seen ss) ≡ seen s ∷ drop (i + 1) (map seen ss)

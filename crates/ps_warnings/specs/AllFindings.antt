@@ -20,7 +20,7 @@ unfoldable pub findings_of_file : List (List ℕ) → Option (List Record) → L
 findings_of_file paths host list order file = if is_code_type file.1
     then findings_of_code_file (path_of paths file.0) host list order file.1 file.0 else []
 
--- so in each of these files, the first of which is the host
+-- the findings in each of these files, the first of which is the host
 unfoldable pub findings_of_files : List (List ℕ) → Option (List Record) → List Seen → Order
     → List (List ℕ) → List Stated
 findings_of_files paths host list order files =

@@ -114,7 +114,7 @@ findings_of_entries path host list order bytes file =
     ++ flat_map (overlap_finding path order bytes (map (extent_at order bytes) slots))
     (map (extent_at order bytes) slots)
 
--- so in a file, of which the words are read in the host's order
+-- the findings in a code file, of which the words are read in the host's order
 unfoldable pub findings_of_code_file : List ℕ → Option (List Record) → List Seen → Order
     → List ℕ → ℕ → List Stated
 findings_of_code_file path host list order bytes file = option_map_or

@@ -38,7 +38,7 @@ about_link_in found = filter (λ s. is_about_link s.finding) (map stated found)
 abbrev pub about_link : {A : Type 0} → Findings A → List Stated
 about_link found = about_link_in found.list.items
 
--- these findings about the link are added, in their order, and no others
+-- what is found about the link is added, in its order, and nothing else
 pub record Adds (old found new : List Stated) : Type 0 where
   pub all : new ≡ old ++ found
 

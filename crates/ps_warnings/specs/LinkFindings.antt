@@ -20,7 +20,7 @@ abbrev pub taken_slot : ℕ → SegmentPart → Entry → Option Finding
 taken_slot slot what e = if is_added what && names_segment e
     then Some (which.Link (finding.TakenSlot slot e.name)) else None
 
--- so does the one that has this slot of the host, if it has one
+-- a unit with this slot of the host takes it from such an entry; one without a slot takes none
 abbrev pub taken_by : Order → List ℕ → Option ℕ → SegmentPart → Option Finding
 taken_by order host None what = None
 taken_by order host (Some slot) what = if nat_lt slot SLOTS

@@ -19,7 +19,8 @@ abbrev pub low_below : ℕ → ℕ → Option Finding
 low_below next size = if nat_lt next (size / 2) then Some (which.Record (finding.LowMark next size))
     else None
 
--- so it is of a host program with these records, if it has any and its data have a size
+-- the end mark of a host program with these records, if it is low: none without records, and none
+-- where its data have no size
 abbrev pub low_mark : List Record → Option ℕ → Option Finding
 low_mark rs None = None
 low_mark rs (Some size) = if length rs == 0 then None else low_below (next_of rs) size

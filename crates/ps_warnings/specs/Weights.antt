@@ -50,7 +50,7 @@ weight_of (finding.Code f) = Note
 weight_of (finding.Procedure f) = Note
 weight_of (finding.Operand f) = Note
 
--- it is a warning: it is certain, and the link is another one by it
+-- a warning: it is certain, and the link is another one by it
 abbrev pub is_certain_weight : Weight → Bool
 is_certain_weight Warning = true
 is_certain_weight Harmless = false

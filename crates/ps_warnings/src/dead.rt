@@ -56,8 +56,9 @@ pub fn dead_run(code: &[u8]) -> Option<CodeFinding> {
     Some(CodeFinding::DeadRun { start, end, byte })
 }
 
-/// The same of a segment of this kind, whose words are in this order. Zeros of native code are data:
-/// those of a segment that has a native procedure whose table is not among them.
+/// The first dead run of the code of a segment of this kind, whose words are in this order. Zeros
+/// of native code are data: those of a segment that has a native procedure whose table is not among
+/// them.
 pub(crate) fn unread_run(order: Order, kind: u16, code: &[u8]) -> Option<CodeFinding> {
     let DeadRun { start, end, byte } = DeadRun::first_in(code)?;
     let is_outside = match native_table(order, code) {

@@ -384,7 +384,7 @@ impl Finding {
         }
     }
 
-    /// It is a warning.
+    /// The finding is a warning.
     pub fn is_certain(&self) -> bool
         ensures { result ≡ is_certain_spec self.now }
     {

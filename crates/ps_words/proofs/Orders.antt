@@ -52,7 +52,7 @@ only_one (x ∷ es) from p apart a b (suc i, la, ea) (suc k, lb, eb) on_a on_b =
     only_one es (place_of x + width x) p apart.1 a b (i, omega arith, ea) (k, omega arith, eb) on_a
     on_b
 
--- so what is found there is the one that covers the place
+-- the edit that is found at a place is the one that covers it
 found_is : (es : List Edit) (e : Edit) (p : ℕ) → AreApart 0 es → Contains es e
     → covers p e ≡ true → find (covers p) es ≡ Some e
 found_is es e p apart is on = go (find (covers p) es) refl
@@ -74,7 +74,7 @@ pub kept_where_not_covered : (order : Order) (code : List ℕ) (es : List Edit) 
     → patched_byte order code es p ≡ slice_index code p
 kept_where_not_covered order code es p none = grind (arith, found)
 
--- of edits that are apart, the one that covers a place is the same in whatever order they are
+-- the one that covers a place, of edits that are apart, is the same in whatever order they are
 -- listed
 same_find : (es fs : List Edit) (p : ℕ) → AreApart 0 es → IsPermutation es fs
     → find (covers p) es ≡ find (covers p) fs
@@ -89,7 +89,7 @@ same_find es fs p apart perm = go (find (covers p) fs) (find (covers p) es) refl
     go (Some x) n e f = let h = found (covers p) fs x e in sym f ∙ found_is es x p apart
         (Contains-permutation fs es x (IsPermutation-sym es fs perm) h.0) h.1
 
--- so the byte at a place after the edits is the same in whatever order they are listed
+-- the byte at a place after the edits is the same in whatever order they are listed
 pub patched_alike : (order : Order) (code : List ℕ) (es fs : List Edit) (p : ℕ)
     → AreApart 0 es → IsPermutation es fs
     → patched_byte order code es p ≡ patched_byte order code fs p

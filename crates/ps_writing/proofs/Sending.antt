@@ -5,13 +5,13 @@ use Rattle.std.proofs.lemmas.Bool.{false≢true}
 use Rattle.ps_writing.specs.Adding.{IsSent, IsKept}
 use Rattle.ps_writing.proofs.Prefixes.{appends_none, appends_twice, prefix_last, prefix_then}
 
--- of what was gathered and of these bytes, some was sent, and the rest is gathered
+-- some of what was gathered and of these bytes was sent, and the rest is gathered
 abbrev pub Sends : Option (List ℕ) → Option (List ℕ) → List ℕ → List ℕ → List ℕ
     → Type 0
 Sends old new gathered bytes rest = (sent : List ℕ) × Appends old new sent
     × (sent ++ rest ≡ gathered ++ bytes)
 
--- both are sent
+-- what was gathered and these bytes are sent
 pub sends_both : (a b c : Option (List ℕ)) (gathered bytes none : List ℕ)
     → Appends a b gathered → none ≡ [] → Appends b c bytes → Sends a c gathered bytes none
 sends_both a b c gathered bytes none h e k = grind (arith, appends_twice, append-nil)
@@ -31,7 +31,7 @@ module _ (first old new : Option (List ℕ)) (text gathered bytes : List ℕ) wh
       (prefix_last first old new h.0 (gathered ++ bytes) h.1 k)
   sent_prefix (Some fault) e h k = absurd (false≢true (sym e))
 
-  -- so it does after a writer that had not failed took them, or failed
+  -- the text is sent after a writer that had not failed took more bytes, or failed
   pub sent_after : (rest : List ℕ) (before after : Option WriteFault) → is_some before ≡ false
       → IsSent first text old gathered before → IsSent old (gathered ++ bytes) new rest after
       → IsSent first (text ++ bytes) new rest after

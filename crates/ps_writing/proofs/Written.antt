@@ -25,7 +25,7 @@ module _ {S : Type 0} {added : S → List ℕ → S → Type 0} where
   pub adds_first : {a b : S} {xs : List ℕ} → Adds added a xs b → added a [] a → added a xs b
   adds_first {a = a} h e = h.after a [] e
 
--- of the text all, the rest is still to be added
+-- a part of the text was added, and the rest is still to be
 pub record Written {S : Type 0} (added : S → List ℕ → S → Type 0) (f : S)
     (all rest : List ℕ) (g : S) : Type 0 where
   pub done : List ℕ

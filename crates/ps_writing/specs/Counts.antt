@@ -102,12 +102,12 @@ pub record OneStall (old new : Counts) : Type 0 where
   pub errors : new.errors ≡ old.errors
   pub stalls : new.stalls ≡ old.stalls + 1
 
--- it holds where a write returned an error
+-- what holds where a write returned an error
 abbrev pub IfDevice : WriteFault → Type 0 → Type 0
 IfDevice (Device error) P = P
 IfDevice Stalled P = ⊤
 
--- it holds where a write stalled
+-- what holds where a write stalled
 abbrev pub IfStalled : WriteFault → Type 0 → Type 0
 IfStalled (Device error) P = ⊤
 IfStalled Stalled P = P

@@ -37,7 +37,7 @@ abbrev pub name_or_null : Option (List ℕ) → List ℕ
 name_or_null None = codes "null"
 name_or_null (Some name) = codes "{" ++ json_name name ++ codes "}"
 
--- the same two members, or both `null` where there is no name
+-- the two members of a name, or both `null` where there is none
 abbrev pub name_members : Option (List ℕ) → List ℕ
 name_members None = codes "\"name\":null,\"name_hex\":null"
 name_members (Some name) = json_name name

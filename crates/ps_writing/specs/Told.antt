@@ -6,6 +6,6 @@ use Rattle.ps_writing.specs.declared.told.Counting.{Counting}
 abbrev pub inner_of : {W : Type 0} → Counting W → W
 inner_of {W} writer = writer.inner
 
--- its own counts
+-- the counts of a writer that counts
 abbrev pub counts_of : {W : Type 0} → Counting W → Counts
 counts_of {W} writer = writer.counts

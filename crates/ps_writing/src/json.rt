@@ -205,7 +205,6 @@ pub(crate) fn add_references<S: TextWriter>(text: &mut S, refs: &Refs)
     text.add(b"]");
 }
 
-/// Adds each reference.
 #[tactic(auto, using(std::proofs::lemmas::List::drop_more, crate::proofs::Numbered::numbered_left, crate::proofs::Numbered::numbered_over, crate::proofs::Written::all_written, crate::proofs::Written::none_yet, crate::proofs::Written::some_more))]
 fn add_places<S: TextWriter>(text: &mut S, refs: &Refs)
     ensures { Adds S.added text.old
@@ -216,7 +215,6 @@ fn add_places<S: TextWriter>(text: &mut S, refs: &Refs)
     }
 }
 
-/// Adds a reference of this index.
 fn add_place<S: TextWriter>(text: &mut S, index: usize, place: u16)
     ensures { Adds S.added text.old (reference_item (index, place)) text.new }
 {

@@ -35,7 +35,6 @@ pub enum RowPart<'w> {
     OfKind(&'w [u8]),
     /// What the last row begins with.
     Total(&'w [u8], usize),
-    /// A number.
     Number(&'w [u8], usize),
     /// A number that a line has in two digits.
     Short(&'w [u8], u8),
@@ -45,7 +44,6 @@ pub enum RowPart<'w> {
     Record(usize),
     /// The kind of a record.
     Kind(&'w [u8]),
-    /// A name.
     Named(Name),
     /// The references of a record.
     References(&'w Refs<'w>),

@@ -46,7 +46,8 @@ fn send<W: Write>(out: &mut W, gathered: &mut Gathered, bytes: &[u8]) -> Result<
 /// A writer of text in front of a writer of bytes, which is not called again once it failed.
 struct Stream<'w, 'g, W: Write> {
     out: &'w mut W,
-    /// It stands with the caller, who writes what is left of it: so it is not copied.
+    /// What was gathered stands with the caller, who writes what is left of it: so it is not
+    /// copied.
     gathered: &'g mut Gathered,
     fault: Option<WriteFault>,
 }

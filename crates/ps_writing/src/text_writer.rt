@@ -21,7 +21,6 @@ pub trait TextWriter {
 pub trait Text {
     ghost bytes: { Self → List ℕ };
 
-    /// Adds the text.
     fn add_to<S: TextWriter>(&self, text: &mut S)
         ensures { Adds S.added text.old (bytes self.now) text.new };
 }

@@ -15,7 +15,7 @@ use Rattle.ps_answers.specs.declared.outcome.Done.TheVariants.{Linked, Text}
 use Rattle.ps_answers.specs.declared.outcome.Unmade.TheVariants.{Refused, NoMemory}
 use Rattle.ps_answers.specs.declared.outcome.Unput.TheVariants as unput
 
--- it was done
+-- the answer of a link that was done
 pub links : (host : List ℕ) (libs : List (List ℕ)) (old new : List ℕ) (a : Answer)
     (done : Done) → a ≡ done_answer done → IsLinked host libs old new done
     → Links host libs old new a
@@ -26,7 +26,7 @@ links host libs old new a done e h = record {
   told = e ∙ ap done_answer h.1.1.1;
 }
 
--- it was not
+-- the answer of a link that was not done
 pub not_linked : (a : Answer) (error : CallError) → a ≡ not_done_answer (not_done_of error)
     → a.status ≡ DONE → ⊥
 not_linked a call.WrongLengths e is = omega (arith, ap (λ (b : Answer). b.status) e, is)

@@ -22,6 +22,8 @@ pub(super) fn write_advice<W: fmt::Write>(
 /// What is wrong. Damaged code may be read as native code.
 fn wrong_in(case: &Case<'_, '_>) -> &'static str {
     match case.fault.reason {
+        _ if case.is_in_no_code_file() =>
+            "The host is no code file of release II.0, so nothing is said of its segments.",
         Reason::MissingUnit if case.fault.rec.is_some() =>
             "No library has the unit that the UNITREF in this record requests.",
         Reason::MissingUnit => "No library has the unit that the slot wants.",
@@ -96,8 +98,11 @@ fn write_of_file<W: fmt::Write>(f: &mut Formatter<W>, text: &str, path: &str) ->
     Ok(())
 }
 
-/// What to do about the fault.
+/// What to do about the fault: first about a host that is no code file.
 fn remedy_in<'a>(case: &Case<'_, 'a>) -> Advice<'a> {
+    if case.fault.reason != Reason::NoHost && !case.inputs.file_type(0).is_code() {
+        return Advice::of_file(case.inputs, 0);
+    }
     let text = match case.fault.reason {
         Reason::ShortFile | Reason::NoOrder | Reason::OrderMismatch | Reason::NoHost => {
             return remedy_of_file(case);
@@ -148,19 +153,11 @@ fn remedy_of_file<'a>(case: &Case<'_, 'a>) -> Advice<'a> {
             },
             None => Advice::of_file(inputs, file),
         },
-        Reason::OrderMismatch if inputs.file_type(file).is_code() => remedy_of_order(case),
-        _ => Advice::of_file(inputs, file),
-    }
-}
-
-/// What to do about files of two byte orders: the host may be the one that is exchanged.
-fn remedy_of_order<'a>(case: &Case<'_, 'a>) -> Advice<'a> {
-    match case.inputs.file_type(0) {
-        FileType::Swapped => Advice::of_file(case.inputs, 0),
-        _ => Advice::Sentence {
+        Reason::OrderMismatch if inputs.file_type(file).is_code() => Advice::Sentence {
             text: "Compile the file for the machine of the host.",
-            path: case.inputs.path(case.fault.file),
+            path: inputs.path(file),
         },
+        _ => Advice::of_file(inputs, file),
     }
 }
 

@@ -10,7 +10,7 @@ use ps_filetype::{CodeFile, FileType, ShownName, ShownPath, is_near};
 use ps_words::Name;
 use std::fmt::{self, Display, Formatter, Write};
 
-/// Of so many libraries a report says what units they have.
+/// A report says what units libraries have, of so many of them at most.
 const MOST_LIBRARIES: usize = 16;
 
 /// The length of the file, and what it is.

@@ -25,7 +25,7 @@ pub(super) fn write_unread<W: Write>(
     let format = get(order, rest, FORMAT_PLACE);
     writeln!(
         f,
-        "  record {rec}: type {kind}, and then the word {format}; {left} bytes of the file are left for it"
+        "  record {rec}: type {kind}, and its word A is {format}; {left} bytes of the file are left for it"
     )
 }
 

@@ -2,10 +2,10 @@
 use super::outcome::gives;
 use super::wanted::Text;
 use super::wanted::Text::{
-    CheckHelp, EmptyOut, Help, LinkHelp, MapHelp, NoArgs, NoCheckedFile, NoCheckedHost, NoCommand,
-    NoFile, NoHost, NoLinkedHost, NoListedFile, NoOut, NotListed, NotThere, NotThereToCheck,
-    Nothing, OutIsLibrary, ShowHelp, StrictUnits, TwoFiles, TwoOuts, UnknownOption,
-    UnknownOptionOfMap, Version,
+    CheckHelp, EmptyOut, Help, LinkHelp, ListHelp, MapHelp, NoArgs, NoCheckedFile, NoCheckedHost,
+    NoCommand, NoFile, NoHost, NoLinkedHost, NoListedFile, NoOut, NotListed, NotThere,
+    NotThereToCheck, Nothing, OutIsLibrary, ShowHelp, StrictUnits, TwoFiles, TwoOuts,
+    UnknownOption, UnknownOptionOfMap, Version,
 };
 
 pub const VERSION: &str = "pslink 0.3.0\n";
@@ -18,7 +18,7 @@ Commands:
   link   Links a host with the units that it uses, and writes the linked file
   map    Prints where a link would put each segment and private variable, and writes no file
   show   Prints the segments of one code file and the link information of each
-  check  Says in words what is wrong with the files and what looks wrong
+  check  Says in words whether the files link, what is wrong and what looks wrong
   list   Prints a line of each file and of each of its segments, made for grep
   help   Print this message or the help of the given subcommand(s)
 
@@ -141,7 +141,8 @@ Exit status:
 A name that begins with a dash is given as ./-name, or after --. See pslink(1).
 ";
 
-pub const CHECK_HELP: &str = "Says in words what is wrong with the files and what looks wrong
+pub const CHECK_HELP: &str =
+    "Says in words whether the files link, what is wrong and what looks wrong
 
 Usage: pslink check [OPTIONS] <HOST> [LIB]...
 
@@ -162,7 +163,7 @@ The report is for a person: the files, where each segment comes from, whether th
 are linked, and if not what is wrong and what to do. A line that begins with
 'warning: ' reports what looks wrong and is no fault, one with 'harmless: ' what changes
 no link, and one with 'note: ' a guess. No file is written. With --json the verdict,
-the warnings and the report are printed as one JSON document.
+what is found and the report are printed as one JSON document.
 
 With --unit, HOST and each LIB are files of any kind. They are listed as by list, and
 after the lines of each file comes a line of each unit that it has, with its first
@@ -172,6 +173,36 @@ before there is a host. A file without a unit is refused.
 Exit status:
   0  the files link, and there may be warnings
   1  the files are refused; with --strict, or there is a warning
+  2  wrong usage
+  3  a file could not be read, or standard output failed
+  4  out of memory
+
+A name that begins with a dash is given as ./-name, or after --. See pslink(1).
+";
+
+pub const LIST_HELP: &str = "Prints a line of each file and of each of its segments, made for grep
+
+Usage: pslink list [OPTIONS] <FILE>...
+
+Arguments:
+  <FILE>...  A file of any kind, as a host, a library, or a linked file
+
+Options:
+      --json  Prints the same values as one JSON document
+  -h, --help  Print help
+
+Example:
+  pslink list *.code | grep 'uses AUX'
+
+Each line begins with the name of its file: first a line of the file, and then one
+for each of its segments. A segment whose code, procedure tables or link information
+are refused ends with the number of the fault. A file that can't be read is reported,
+and those after it are listed. With --json the same values are printed as one JSON
+document.
+
+Exit status, the greatest that applies:
+  0  all files were listed
+  1  a file or a segment is refused
   2  wrong usage
   3  a file could not be read, or standard output failed
   4  out of memory
@@ -315,19 +346,21 @@ pub const NOT_THERE_TO_CHECK: &str = "pslink: cannot read not-there (no such fil
 
 /// Args, and the status and the two texts that they give. HOST may be OUT or a library, and no file
 /// of these is there.
-static ROWS: [(&str, u8, Text, Text); 53] = [
+static ROWS: [(&str, u8, Text, Text); 55] = [
     ("pslink --help", 0, Help, Nothing),
     ("pslink -h", 0, Help, Nothing),
     ("pslink link --help", 0, LinkHelp, Nothing),
     ("pslink map --help", 0, MapHelp, Nothing),
     ("pslink show --help", 0, ShowHelp, Nothing),
     ("pslink check --help", 0, CheckHelp, Nothing),
+    ("pslink list --help", 0, ListHelp, Nothing),
     ("pslink --version", 0, Version, Nothing),
     ("pslink help", 0, Help, Nothing),
     ("pslink help link", 0, LinkHelp, Nothing),
     ("pslink help map", 0, MapHelp, Nothing),
     ("pslink help show", 0, ShowHelp, Nothing),
     ("pslink help check", 0, CheckHelp, Nothing),
+    ("pslink help list", 0, ListHelp, Nothing),
     ("pslink help frob", 2, Nothing, NoCommand),
     ("pslink", 2, Nothing, NoArgs),
     ("", 2, Nothing, NoArgs),

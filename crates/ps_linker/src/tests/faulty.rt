@@ -15,6 +15,9 @@ pub type Faults = (u64, u64, usize);
 /// No file fails.
 pub const NO_FAULTS: Faults = (0, 0, usize::MAX);
 
+/// A file that may not be read.
+const FORBIDDEN: &str = "forbidden";
+
 /// The files of `inner`, of which the one that is opened as the `nth`, from 1, fails after so many
 /// reads and writes. A read gives 500 bytes at most, and a write takes so many.
 #[derive(Drop)]
@@ -113,6 +116,9 @@ impl<R: Files> CodeFiles for Faulty<'_, R> {
     ghost leads = { λ rt path found. ⊤ };
 
     fn open(&self, path: &str) -> io::Result<FaultyFile<R::File>> {
+        if path == FORBIDDEN {
+            return Err(io::Error::from(io::ErrorKind::PermissionDenied));
+        }
         let inner = fs::open(self.inner, path)?;
         Ok(self.faulty(inner))
     }
@@ -132,7 +138,7 @@ impl<R: Files> CodeFiles for Faulty<'_, R> {
         self.inner.lead_to_one_file(path, other)
     }
 
-    // Such a path stands for one that leads to standard output.
+    // A path that begins so stands for one that leads to standard output.
     fn leads_to_output(&self, path: &str) -> bool {
         path.starts_with("to-output")
     }

@@ -7,6 +7,7 @@ use super::inputs::{
 use super::outcome::{clean, clean_all, done_faulty, holds, says};
 use super::wanted::Text;
 use std::fs;
+use std::os::unix::fs::symlink;
 use std::process::Abort;
 use std::rt::Files;
 
@@ -26,8 +27,19 @@ const NOT_READ: &str = "pslink: cannot read opened-folder\n";
 
 const NOT_WRITTEN: &str = "pslink: cannot write opened-folder\n";
 
-/// The args, what is said, and how many files are opened to be written.
-static UNOPENED: [(&str, &str, u64); 6] = [
+const IS_MISSING: &str = "pslink: cannot read opened-missing (no such file)\n";
+
+const IS_BELOW_A_FILE: &str = "pslink: cannot read opened-host/below (no such file)\n";
+
+const IS_A_FOLDER: &str = "pslink: cannot read opened-folder (a folder)\n";
+
+const IS_FORBIDDEN: &str = "pslink: cannot read forbidden (no permission)\n";
+
+const LEADS_NOWHERE: &str = "pslink: cannot read opened-loop (the system gives another reason)\n";
+
+/// The args, what is said, and how many files are opened to be written. Where files are checked or
+/// listed, the cause is said too.
+static UNOPENED: [(&str, &str, u64); 13] = [
     ("pslink link opened-missing opened-out", MISSING, 0),
     (
         "pslink link opened-host opened-out opened-missing",
@@ -38,17 +50,25 @@ static UNOPENED: [(&str, &str, u64); 6] = [
     ("pslink show opened-missing", MISSING, 0),
     ("pslink link opened-host opened-folder", NOT_WRITTEN, 1),
     ("pslink link opened-folder opened-out", NOT_READ, 0),
+    ("pslink check opened-missing", IS_MISSING, 0),
+    ("pslink check opened-host/below", IS_BELOW_A_FILE, 0),
+    ("pslink check opened-host opened-folder", IS_A_FOLDER, 0),
+    ("pslink check opened-host forbidden", IS_FORBIDDEN, 0),
+    ("pslink check opened-loop", LEADS_NOWHERE, 0),
+    ("pslink list forbidden", IS_FORBIDDEN, 0),
+    ("pslink list opened-loop", LEADS_NOWHERE, 0),
 ];
 
 #[test]
 fn files_that_cannot_be_opened(rt: HostRuntime) {
     clean(&rt, "opened-missing opened-out");
     let _ = fs::create_dir(&rt, "opened-folder");
+    let _ = symlink(&rt, "opened-loop", "opened-loop");
     save_all(&rt, OPENED.as_slice());
     for (args, complaint, created) in &UNOPENED {
         complains(&rt, *args, *complaint, *created);
     }
-    clean(&rt, "opened-host");
+    clean(&rt, "opened-host opened-loop");
     let _ = fs::remove_dir(&rt, "opened-folder");
 }
 

@@ -27,7 +27,7 @@ static UNIT_WANTED: [Part; 4] = [
     (1040, b"        \x00\x00\x08\x00\x00\x00\x00\x00"),
 ];
 
-/// The same, and the unit in the host file, with one reference to the host's definition.
+/// The host with the unit in its own file, and one reference to the host's definition.
 static UNIT_IN_PLACE: [Part; 9] = [
     (28, b"\x03\x00\x18\x00"),
     (194, b"\x01\x00"),
@@ -77,7 +77,7 @@ static LIBRARY_UNIT: [Part; 9] = [
     (1088, b"        \x00\x00\x00\x00\x00\x00\x00\x00"),
 ];
 
-/// The same library with its words the other way round.
+/// The library with its words the other way round.
 static BIG_ENDIAN_UNIT: [Part; 9] = [
     (8, b"\x00\x01\x00\x18"),
     (80, b"UTIL    "),
@@ -124,14 +124,14 @@ static USING_UNIT: [Part; 4] = [
     ),
 ];
 
-/// Its link information: it names a second unit at byte 2 of its code.
+/// Link information that names a second unit at byte 2 of its segment's code.
 static USES_A_UNIT: [Part; 3] = [
     (1024, b"AUX     \x01\x00\x01\x00\x01\x00\x00\x00"),
     (1040, b"\x02\x00"),
     (1056, b"        \x00\x00\x00\x00\x00\x00\x00\x00"),
 ];
 
-/// The same with no place in its code.
+/// Link information that names a second unit at no place.
 static NAMES_A_UNIT: [Part; 2] = [
     (1024, b"AUX     \x01\x00\x01\x00\x00\x00\x00\x00"),
     (1040, b"        \x00\x00\x00\x00\x00\x00\x00\x00"),
@@ -223,7 +223,6 @@ impl Parts {
 pub struct Image(usize, Parts, Parts);
 
 impl Image {
-    /// The file.
     pub fn bytes<R: AllocGlobal + Abort>(&self, rt: &R) -> Vec<u8> {
         let Image(length, parts, more) = *self;
         let mut file = Vec::from_elem(rt.alloc(), 0, length).expect(rt, "no memory");
@@ -254,7 +253,6 @@ pub fn save_all<R: Files + AllocGlobal + Abort>(rt: &R, files: &[(&str, &Image)]
     }
 }
 
-/// Writes a file.
 pub fn save<R: Files + Abort>(rt: &R, path: &str, bytes: &[u8]) {
     says(rt, fs::write(rt, path, bytes).is_ok(), &path)
 }
@@ -326,8 +324,8 @@ private 07 STATE    offset 8 words 4
 next 12 data 18 blocks 3
 ";
 
-/// The same with its references: the data size grows by 8 bytes, COUNT has the value 3 and STATE
-/// the base offset 8.
+/// The map of the pair with its references: the data size grows by 8 bytes, COUNT has the value 3
+/// and STATE the base offset 8.
 pub const REFERENCES_OF_PAIR: &str = "segment 01 DEMO     file 0 entry 01 block 1 length 18
 segment 07 UTIL     file 1 entry 02 block 2 length 24
 public COUNT    value 3
@@ -340,7 +338,7 @@ reference 07 UTIL     at 4 file 1028 was 8002 is 800A PRIVREF STATE    record 1
 number 07 UTIL     at 22 file 1046 was 02 is 07
 ";
 
-/// The same as JSON.
+/// The map of the pair with its references, as JSON.
 pub const JSON_OF_PAIR: &str = "{\"segments\":[
 {\"slot\":1,\"name\":\"DEMO    \",\"name_hex\":\"44454D4F20202020\",\"file\":0,\"entry\":1,\"block\":1,\"length\":18,\"added\":false},
 {\"slot\":7,\"name\":\"UTIL    \",\"name_hex\":\"5554494C20202020\",\"file\":1,\"entry\":2,\"block\":2,\"length\":24,\"added\":false}
@@ -357,7 +355,7 @@ pub const JSON_OF_PAIR: &str = "{\"segments\":[
 ]}
 ";
 
-/// The same, where the host has a constant more.
+/// The map of the pair where the host has a constant more.
 pub const MAP_WITH_CONSTANT: &str = "segment 01 DEMO     file 0 entry 01 block 1 length 18
 segment 07 UTIL     file 1 entry 02 block 2 length 24
 public COUNT    value 3

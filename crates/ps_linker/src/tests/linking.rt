@@ -26,11 +26,24 @@ static FILES: [(&str, &Image); 7] = [
     ("link-cut", &CUT_LIBRARY),
 ];
 
-/// The arguments of a link that is refused, and what is said. OUT stays as before.
-static REFUSED: [(&str, &str); 3] = [
-    ("pslink link link-host link-out", MISSING),
-    ("pslink link link-short link-out", SHORT),
-    ("pslink link link-ending-host link-out link-cut", NO_END),
+const NOT_THERE: &str = "pslink: cannot read link-nowhere\n";
+
+/// The arguments of a link that is refused or of which a file is not there, the status, and what is
+/// said. OUT stays as before.
+static REFUSED: [(&str, u8, &str); 5] = [
+    ("pslink link link-host link-out", 1, MISSING),
+    ("pslink link link-short link-out", 1, SHORT),
+    ("pslink link link-ending-host link-out link-cut", 1, NO_END),
+    (
+        "pslink link link-host link-out link-library link-nowhere",
+        3,
+        NOT_THERE,
+    ),
+    (
+        "pslink link link-nowhere link-out link-library",
+        3,
+        NOT_THERE,
+    ),
 ];
 
 /// The arguments of a link, what is printed, OUT, and what OUT then has.
@@ -67,8 +80,8 @@ fn links_and_leaves_out_where_it_refuses(rt: HostRuntime) {
     save_text(&rt, "link-short", "a host under 512 bytes");
     save_text(&rt, "link-out", "as before");
     clean(&rt, "link-new");
-    for (args, complained) in &REFUSED {
-        gives(&rt, *args, 1, "", *complained);
+    for (args, status, complained) in &REFUSED {
+        gives(&rt, *args, *status, "", *complained);
         holds(&rt, "link-out", b"as before", *args);
     }
     for (args, summary, out, image) in &LINKED {

@@ -21,7 +21,7 @@ slots without a segment: 00 02 03 04 05 06 08 09 10 11 12 13 14 15
 links: segments 2 private words 4 blocks 3
 ";
 
-/// The same as JSON.
+/// The report as JSON.
 pub const JSON_REPORT: &str =
     "{\"links\":true,\"segments\":2,\"private_words\":4,\"blocks\":3,\"fault\":null,\"findings\":[
 ],\"report\":\"file 0 memory-host: 1536 bytes, little-endian\\nfile 1 memory-library: 1536 bytes, little-endian\\nslot 01 DEMO: the host program, from memory-host entry 01, 18 bytes\\nslot 07 UTIL: a unit that the host wants, from memory-library entry 02, 24 bytes\\nslots without a segment: 00 02 03 04 05 06 08 09 10 11 12 13 14 15\\nlinks: segments 2 private words 4 blocks 3\\n\"}

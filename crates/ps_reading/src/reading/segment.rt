@@ -157,7 +157,7 @@ impl<'a> Segment<'a> {
         })
     }
 
-    /// The same segment, as one that was added.
+    /// This segment, as one that was added.
     pub(crate) fn into_added(self) -> Segment<'a>
         ensures { result ≡ record self.entry { added = true } }
     {

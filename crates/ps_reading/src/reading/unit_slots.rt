@@ -33,7 +33,7 @@ impl Model for UnitSlots {
 }
 
 impl UnitSlots {
-    /// Those of the units among these segments, of which there are sixteen at most.
+    /// The slots of the units among these segments, of which there are sixteen at most.
     pub fn of(segments: &[Segment]) -> UnitSlots
         requires { length segments.now ≤ SLOT_COUNT }
         ensures { result ≡ units_of segments.now }

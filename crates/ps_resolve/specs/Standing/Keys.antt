@@ -32,7 +32,7 @@ turn OfPrivates = 8
 turn OfDataSize = 9
 turn OfReferences = 10
 
--- it is a step of reading: nothing is linked yet, and no memory is taken
+-- a step of reading: nothing is linked yet, and no memory is taken
 abbrev pub is_of_reading : Step → Bool
 is_of_reading OfHost = true
 is_of_reading OfSlots = true

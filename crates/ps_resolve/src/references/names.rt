@@ -23,8 +23,8 @@ pub(crate) struct LinkNames<'k, A: Allocator + Copy = Global> {
 /// What the names of references may stand for: definitions of the host's segment, and units.
 #[derive(Drop)]
 pub(crate) struct Names<'k, A: Allocator + Copy = Global> {
-    /// Those of a link. Without one each name stands for a public variable of that base offset, and
-    /// for a unit.
+    /// The names of a link. Without one each name stands for a public variable of that base offset,
+    /// and for a unit.
     pub(crate) link: Option<LinkNames<'k, A>>,
 }
 
@@ -38,7 +38,6 @@ impl<'k, A: Allocator + Copy> Model for Names<'k, A> {
 }
 
 impl<'k, A: Allocator + Copy> Names<'k, A> {
-    /// The slot of the unit of this name, where there is one.
     pub(crate) fn slot_of_unit(&self, name: Name) -> Option<u8>
         ensures { result ≡ known_unit self.now name }
     {
@@ -48,7 +47,6 @@ impl<'k, A: Allocator + Copy> Names<'k, A> {
         }
     }
 
-    /// The definition of this name, where there is one.
     pub(crate) fn definition_of(&self, name: &Name) -> Option<Def>
         ensures { result ≡ known_definition self.now name.now }
     {

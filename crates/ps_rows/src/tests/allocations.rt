@@ -56,7 +56,7 @@ fn is_refused(
     has_refused
 }
 
-/// The same, of a call that does grow.
+/// Refuses each allocation of a call that does grow.
 pub(crate) fn refuses_each_allocation(
     rt: &(impl Abort + AllocGlobal),
     what: &str,

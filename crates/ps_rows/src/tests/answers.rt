@@ -47,14 +47,13 @@ pub(crate) fn text_of_fault(alloc: Global, fault: Option<Fault>) -> Line {
     line
 }
 
-/// An error: the fault's text, or a word for each other one.
+/// An error: its text, or a word for each of a writer.
 pub(crate) fn text_of_error(alloc: Global, error: LinkError) -> Line {
     let mut line = Line::new(alloc);
     match error {
-        LinkError::Refused(fault) => line.shown(&fault),
-        LinkError::Memory => line.word(OUT_OF_MEMORY),
         LinkError::Write(WriteFault::Device(error)) => line.value("device error ", &error.kind()),
         LinkError::Write(WriteFault::Stalled) => line.word("stalled"),
+        error => line.shown(&error),
     }
     line
 }
@@ -69,7 +68,7 @@ pub(crate) fn links(rt: &(impl Abort + AllocGlobal), what: &str, files: &Link<'_
     holds(rt, out.as_slice() == files.linked, what)
 }
 
-/// The same of a host and one library.
+/// Links a host and one library, and compares the answer.
 pub(crate) fn links_pair(
     rt: &(impl Abort + AllocGlobal),
     what: &str,

@@ -32,7 +32,7 @@ fn expected(place: usize, byte: u8) -> Wanted {
     }
 }
 
-/// The same of the host segment's address and length.
+/// What is expected of a byte of the host segment's address and length.
 fn expected_of_host(place: usize, byte: u8) -> Wanted {
     let fault = match (place, byte) {
         (4, 0) => "12 BadAddress",
@@ -44,7 +44,7 @@ fn expected_of_host(place: usize, byte: u8) -> Wanted {
     Refused(fault, Some(1))
 }
 
-/// The same of the address and the length of an empty slot.
+/// What is expected of a byte of the address and the length of an empty slot.
 fn expected_of_pair(place: usize, byte: u8) -> Wanted {
     let slot = Some(place / 4);
     match (place % 4, byte) {
@@ -54,7 +54,7 @@ fn expected_of_pair(place: usize, byte: u8) -> Wanted {
     }
 }
 
-/// The same of the kinds.
+/// What is expected of a byte of the kinds.
 fn expected_of_kind(place: usize, byte: u8) -> Wanted {
     match (place, byte) {
         (194, 0) => Refused("4 NoHost", None),

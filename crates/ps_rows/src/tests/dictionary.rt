@@ -2,10 +2,10 @@
 ghost use Rattle.std.specs.Prelude.{◌<◌};
 
 use super::answers::is;
-use super::rows::{Row, check_all, fields};
+use super::rows::{Row, changes, check_all, fields};
 use super::tables::{HOST_TEXTS, LIBRARY_TEXTS};
 use crate::base::{HOST_RECORDS, UTIL, UTIL_ENTRY, demo_code, util_code};
-use crate::code_file::CodeFile;
+use crate::code_file::{Changes, CodeFile};
 use crate::information::Information;
 use crate::line::Line;
 use crate::notation::{holds, holds_of};
@@ -69,30 +69,44 @@ fn describe(alloc: Global, answer: Result<Dict<'_>, Reason>, order: Order) -> Li
 }
 
 /// Whether a file is read as a host, or beside a host, or beside one of the other byte order; the
-/// texts that it is made of; and its slots, or why it is not read.
+/// texts that it is made of; changes; and its slots, or why it is not read.
 static FILES: &str = "\
-host | HOST | slots 1 DEMO     Ok(Host) kind 1 address 1 length 18 code 18 after 512; \
-7 UTIL     Ok(Wanted) kind 3 address 0 length 0
-host | HOST HAS_UNIT | slots 1 DEMO     Ok(Host) kind 1 address 1 length 18 code 18 after 1536; \
+host | HOST HAS_UNIT | - | slots 1 DEMO     Ok(Host) kind 1 address 1 length 18 code 18 after 1536; \
 7 UTIL     Ok(Unit) kind 3 address 3 length 24 code 24 after 512;
-library | LIBRARY | slots 2 UTIL     Ok(Unit) kind 3 address 1 length 24 code 24 after 512;
-turned | LIBRARY | OrderMismatch
-library | LIBRARY SHORT | ShortFile
-turned | LIBRARY SHORT | ShortFile
-library | NO_NAMES | slots
-library | LINKED_SEGMENTS LINKED_OPERANDS \
-| slots 1 DEMO     Ok(Plain) kind 0 address 1 length 18 code 18 after 512; \
-7 UTIL     Ok(Plain) kind 0 address 2 length 24 code 24 after 0;
-host | LINKED_SEGMENTS LINKED_OPERANDS | NoHost";
+library | LIBRARY | slot 3 name TOOLS kind 0 address 1 length 5 \
+| slots 2 UTIL     Ok(Unit) kind 3 address 1 length 24 code 24 after 512; \
+3 TOOLS    Ok(Plain) kind 0 address 1 length 5 code 5 after 512;
+# zeros have each byte order
+library | NO_NAMES | - | slots
+turned | LIBRARY | - | OrderMismatch
+library | LIBRARY | size 511 | ShortFile
+# a unit whose name is eight zero bytes is not wanted
+host | HOST | slot 7 address 1; at 120 0000000000000000 \
+| slots 1 DEMO     Ok(Host) kind 1 address 1 length 18 code 18 after 512;
+host | HOST | slot 7 address 1 | slots 1 DEMO     Ok(Host) kind 1 address 1 length 18 code 18 after 512; \
+7 UTIL     Ok(Wanted) kind 3 address 1 length 0
+# the first and the last kind of a later release
+library | LIBRARY | slot 2 kind 5 \
+| slots 2 UTIL     Err(Intrinsic) kind 5 address 1 length 24 code 24 after 512;
+library | LIBRARY | slot 2 kind 7 \
+| slots 2 UTIL     Err(Intrinsic) kind 7 address 1 length 24 code 24 after 512;
+# two bytes are too few for a host segment and for a unit
+host | HOST | slot 1 length 2 \
+| slots 1 DEMO     Ok(Host) kind 1 address 1 length 2 code BadLength after 512; \
+7 UTIL     Ok(Wanted) kind 3 address 0 length 0
+library | LIBRARY | slot 2 length 2 \
+| slots 2 UTIL     Ok(Unit) kind 3 address 1 length 2 code BadLength after 512;";
 
 /// The slots of a file, in either byte order.
 struct FileRows;
 
 impl Row for FileRows {
     fn check<R: Abort + AllocGlobal>(&self, rt: &R, row: &str) {
-        let (kind, texts, wanted) = fields(rt, row);
-        has_slots(rt, (Order::Little, Order::Big), (kind, texts), wanted);
-        has_slots(rt, (Order::Big, Order::Little), (kind, texts), wanted)
+        let (kind, texts, rest) = fields(rt, row);
+        let (changed, wanted) = changes(rt, rest);
+        let file = (kind, texts, changed);
+        has_slots(rt, (Order::Little, Order::Big), file, wanted);
+        has_slots(rt, (Order::Big, Order::Little), file, wanted)
     }
 }
 
@@ -101,13 +115,13 @@ impl Row for FileRows {
 fn has_slots(
     rt: &(impl Abort + AllocGlobal),
     (order, other): (Order, Order),
-    (kind, texts): (&str, &str),
+    (kind, texts, changed): (&str, &str, Changes<'_>),
     wanted: &str,
 ) {
     let own = if kind == "turned" { other } else { order };
-    let file = CodeFile::new(rt, own, texts);
+    let file = CodeFile::new(rt, own, texts).with(rt, changed);
     let text = slots_of(rt.alloc(), file.as_slice(), kind, order);
-    is(rt, kind, text, wanted)
+    is(rt, changed, text, wanted)
 }
 
 /// The slots of a file of this kind, as text.

@@ -148,7 +148,7 @@ fn writing_grows_nothing(
     grows_nothing(rt, link, (&heap, &heap), asked, summary)
 }
 
-/// The same of a link that is prepared on `heap`, which counts as `counted` does.
+/// Checks that a link that is prepared on `heap`, which counts as `counted` does, grows nothing.
 fn grows_nothing<A: Allocator + Copy>(
     rt: &(impl Abort + AllocGlobal),
     link: &Link<'_>,

@@ -1,12 +1,20 @@
 //! Edits on codes, at once and block by block.
-ghost use Rattle.std.specs.Prelude.{[], ◌∷◌, length};
+ghost use Rattle.std.specs.Prelude.{◌≡◌, [], ◌∷◌, length};
 ghost use Rattle.ps_words.specs.Edits.{AreEdits};
+ghost use Rattle.ps_words.specs.declared.edit.Edit.TheVariants.{Big};
 
 use crate::information::put;
 use crate::notation::holds_of;
 use ps_patch::{Patcher, apply};
 use ps_words::{Edit, Order};
 use std::process::Abort;
+
+/// The value of an operand.
+const fn big(place: usize, value: u16) -> Edit
+    ensures { result ≡ Big value place }
+{
+    Edit::Big { place, value }
+}
 
 /// Checks what a code is with these edits.
 fn becomes(rt: &impl Abort, order: Order, code: &mut [u8], edits: &[Edit], wanted: &[u8])
@@ -20,10 +28,7 @@ fn becomes(rt: &impl Abort, order: Order, code: &mut [u8], edits: &[Edit], wante
 #[test]
 fn edits_at_once(rt: HostRuntime) {
     let mut code = [0xD7, 0x80, 0x02, 0xAB];
-    let edits = [Edit::Big {
-        place: 1,
-        value: 10,
-    }];
+    let edits = [big(1, 10)];
     let wanted = [0xD7, 0x80, 0x0A, 0xAB];
     becomes(&rt, Order::Little, &mut code, &edits, &wanted);
     becomes(&rt, Order::Big, &mut code, &[], &wanted)
@@ -46,37 +51,13 @@ fn a_word_at_once(rt: HostRuntime) {
 
 #[test]
 fn an_operand_and_a_byte_at_once(rt: HostRuntime) {
-    let edits = [
-        Edit::Big {
-            place: 0,
-            value: 258,
-        },
-        Edit::Byte { place: 2, value: 7 },
-    ];
+    let edits = [big(0, 258), Edit::Byte { place: 2, value: 7 }];
     becomes(
         &rt,
         Order::Little,
         &mut [0x00, 0x00, 0x05],
         &edits,
         &[0x81, 0x02, 0x07],
-    )
-}
-
-#[test]
-fn a_byte_and_a_word_at_once(rt: HostRuntime) {
-    let edits = [
-        Edit::Byte { place: 0, value: 9 },
-        Edit::Word {
-            place: 1,
-            value: 0x0102,
-        },
-    ];
-    becomes(
-        &rt,
-        Order::Little,
-        &mut [0x11, 0x22, 0x33],
-        &edits,
-        &[9, 2, 1],
     )
 }
 
@@ -144,10 +125,7 @@ fn an_operand_across_two_blocks(rt: HostRuntime) {
         b"\xA5\x81\x02\xD7\xAD\0\0\0\0\0\x06\0\x0A\x02\x01\0\x02\0\x07\x01",
     );
     let edits = [
-        Edit::Big {
-            place: 511,
-            value: 258,
-        },
+        big(511, 258),
         Edit::Byte {
             place: 528,
             value: 7,
@@ -159,14 +137,8 @@ fn an_operand_across_two_blocks(rt: HostRuntime) {
 
 #[test]
 fn operands_at_the_end_and_at_the_start_of_a_block(rt: HostRuntime) {
-    let end = Edit::Big {
-        place: 510,
-        value: 3,
-    };
+    let end = big(510, 3);
     fills_edited(&rt, Order::Little, end, &[0x80, 0x03]);
-    let start = Edit::Big {
-        place: 512,
-        value: 3,
-    };
+    let start = big(512, 3);
     fills_edited(&rt, Order::Big, start, &[0x80, 0x03])
 }

@@ -2,7 +2,6 @@
 use super::answers::{LITTLE, is};
 use super::rows::{Row, check_all, fields};
 use crate::base::{UTIL_ENTRY, demo_code, util_code};
-use crate::code_file::{Changes, CodeFile};
 use crate::line::Line;
 use crate::notation::{hex, holds, holds_of};
 use ps_codefile::Procs;
@@ -87,52 +86,29 @@ fn marks(rt: &impl Abort, code: &[u8], wanted: &[u8]) {
 
 #[test]
 fn reserved_places_are_marked(rt: HostRuntime) {
-    marks(&rt, &demo_code(LITTLE), b"----**************");
-    // the only table is at 9, the dictionary begins at 14, and three bytes are between them
-    let code = [
-        0xD7, 10, 0, 6, 0, 4, 0, 2, 0, 1, 0, 0xAB, 0xAB, 0xAB, 0, 0, 7, 0, 7, 2,
-    ];
-    marks(&rt, &code, b"-**********---******");
+    marks(&rt, &demo_code(LITTLE), b"----**************")
 }
 
 /// Codes in a byte order, of the host segment or of another one, in hexadecimal digits; and their
 /// procedures. The first are an instruction, a table of procedure 1, the words of procedures 2 and 1
 /// at 11 and 13, so that the tables stand at these minus their values, and the numbers of segment 7.
 static CODES: &str = "\
-little host | D7 0A 00 06 00 04 00 02 00 01 00 02 00 04 00 07 02 | 2 from 11, 1 at 9, 2 at 9; 1 17
-little host | D7 0A 00 06 00 04 00 02 00 01 00 00 00 04 00 07 02 | 2 from 11, 1 at 9; 1 17
 # procedure 1 has no body
 little unit | D7 0A 00 06 00 04 00 02 00 01 00 02 00 00 00 07 02 | 2 from 11, 2 at 9; 1 17
 little host | D7 0A 00 06 00 04 00 02 00 01 00 02 00 00 00 07 02 | BadProcDict
 # a table at 8 is whole, and byte 8 is 0; one at 7 is not
 little unit | D7 0A 00 06 00 04 00 02 00 01 00 00 00 05 00 07 02 | NativeProcedure
 little unit | D7 0A 00 06 00 04 00 02 00 01 00 00 00 06 00 07 02 | BadProcDict
-little unit | D7 0A 00 06 00 04 00 02 00 01 00 00 00 0D 00 07 02 | BadProcDict
-little unit | D7 0A 00 06 00 04 00 02 00 01 00 00 00 0E 00 07 02 | BadProcDict
-little unit | D7 0A 00 06 00 04 00 02 00 01 00 00 00 00 01 07 02 | BadProcDict
 # a table at 10 ends in the dictionary, whose first byte is 11
 little unit | D7 0A 00 06 00 04 00 02 00 01 00 00 00 03 00 07 02 | BadProcDict
-little unit | D7 0A 00 06 00 04 00 02 00 01 00 00 00 01 00 07 02 | BadProcDict
 # procedure 2 is native
 little host | D7 0A 00 06 00 04 00 02 00 01 00 03 00 04 00 07 02 | NativeProcedure
-little unit | D7 0A 00 06 00 04 00 02 00 01 00 03 00 00 00 07 02 | NativeProcedure
-little host | D7 0A 00 06 00 04 00 02 00 01 00 03 00 00 00 07 02 | BadProcDict
-little host | D7 0A 00 06 00 04 00 02 00 01 00 03 00 03 00 07 02 | BadProcDict
-little host | D7 0A 00 06 00 04 00 02 00 01 00 04 00 05 00 07 02 | BadProcDict
-# three bytes before the dictionary belong to nothing
-little host | D7 0A 00 06 00 04 00 02 00 01 00 AB AB AB 00 00 07 00 07 02 | 2 from 14, 1 at 9; 1 11 14 20
-# two tables in order, and turned round
+# two tables, and a byte between them that belongs to nothing
 little host | D7 0A 00 06 00 04 00 02 00 01 00 AB 0A 00 06 00 04 00 02 00 02 00 02 00 0F 00 07 02 \
 | 2 from 22, 1 at 9, 2 at 20; 1 11 12 28
-little host | D7 0A 00 06 00 04 00 02 00 01 00 AB 0A 00 06 00 04 00 02 00 02 00 0D 00 04 00 07 02 \
-| 2 from 22, 1 at 20, 2 at 9; 1 11 12 28
-# no procedures
-big unit | D7 07 00 | 0 from 1; 1 3
-big host | D7 07 00 | BadProcDict
-# a dictionary as long as the code, and longer ones
+# a dictionary as long as the code, and a longer one
 big unit | 00 00 07 01 | 1 from 0; 0 4
-big unit | 00 00 07 02 | BadProcDict
-big unit | 07 01 | BadProcDict";
+big unit | 00 00 07 02 | BadProcDict";
 
 /// The procedures of a code.
 struct CodeRows;
@@ -150,7 +126,6 @@ fn segment_of(rt: &impl Abort, segment: &str) -> (Order, bool) {
     match segment {
         "little host" => (LITTLE, true),
         "little unit" => (LITTLE, false),
-        "big host" => (BIG, true),
         _ => {
             holds(rt, segment == "big unit", segment);
             (BIG, false)
@@ -161,21 +136,4 @@ fn segment_of(rt: &impl Abort, segment: &str) -> (Order, bool) {
 #[test]
 fn tables_of_small_codes(rt: HostRuntime) {
     check_all(&rt, &CodeRows, CODES)
-}
-
-/// Checks the procedures of a code of another segment that is made by these changes.
-fn made_has(rt: &(impl Abort + AllocGlobal), order: Order, changes: Changes<'_>, wanted: &str) {
-    let code = CodeFile::new(rt, order, "").with(rt, changes);
-    has(rt, (order, code.as_slice(), false), wanted)
-}
-
-/// As many procedures as there can be, of which none has a table, and of which the last has one as
-/// far from the end as can be.
-#[test]
-fn as_many_procedures_as_there_can_be(rt: HostRuntime) {
-    let none = "fill 64 128 00; size 523; at 522 FF";
-    made_has(&rt, BIG, none, "255 from 11; 11 523");
-    let last = "size 70000; fill 0 69488 D7; fill 69488 2 FF; at 69999 FF";
-    let wanted = "255 from 69488, 255 at 3953; 3945 3955 69488 70000";
-    made_has(&rt, LITTLE, last, wanted)
 }

@@ -51,7 +51,7 @@ fn named(line: &mut Line, kind: &str, record: &LinkRecord<'_>) {
     line.name(&record.name)
 }
 
-/// The same of a definition, with its value.
+/// Adds a definition, with its value.
 fn defined(line: &mut Line, kind: &str, record: &LinkRecord<'_>, value: u16) {
     named(line, kind, record);
     line.number(" value ", value as usize)

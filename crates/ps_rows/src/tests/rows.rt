@@ -104,7 +104,7 @@ pub(crate) fn fields<'a>(rt: &impl Abort, row: &'a str) -> (&'a str, &'a str, &'
     (first, second, third)
 }
 
-/// The same where the field is of changes.
+/// The next field, which has changes, and the rest of the row.
 pub(crate) fn changes<'a>(rt: &impl Abort, row: &'a str) -> (Changes<'a>, &'a str) {
     match field(rt, row) {
         ("-", rest) => ("", rest),

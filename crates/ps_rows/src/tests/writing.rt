@@ -113,7 +113,7 @@ pub(crate) fn writes<T: Writing>(
     holds_of(rt, counted == counts, &counted)
 }
 
-/// The same of a linked file, which is written to a writer that counts as it does itself.
+/// Writes a linked file to a writer that counts as it does itself, and compares its counts.
 fn tells(
     rt: &(impl Abort + AllocGlobal),
     (linked, file): (&Linked<'_>, &[u8]),
@@ -279,7 +279,7 @@ fn writes_to_any_room(rt: &(impl Abort + AllocGlobal), files: &Link<'_>, linked:
 enum WriteCheck {
     /// This summary, of each writer.
     Each(&'static str),
-    /// The same, and the answers of writers of any room.
+    /// This summary, and the answers of writers of any room.
     AnyRoom(&'static str),
     /// The failures of its map and of the show of its host.
     Failures,

@@ -14,7 +14,7 @@ use crate::finding::FileFinding;
 use ps_codefile::Dict;
 use ps_codefile::dictionary_layout::SLOTS;
 use ps_filetype::{FileType, LineEnds, is_code_type};
-use ps_words::Reason;
+use ps_words::{Fault, Reason};
 use std::alloc::{AllocError, Allocator};
 
 /// The byte that CP/M pads files with.
@@ -45,23 +45,27 @@ pub(super) fn look_at<'a, A: Allocator>(
 
 /// What a file is that is no code file, where the fault's explanation does not say it.
 fn type_finding(context: &Context<'_, '_>, file: usize, bytes: &[u8]) -> Option<FileFinding> {
-    if let Some(fault) = context.fault {
-        match fault.reason {
-            Reason::MissingUnit => return None,
-            Reason::ShortFile
-            | Reason::NoOrder
-            | Reason::OrderMismatch
-            | Reason::NoHost
-            | Reason::NativeProcedure
-                if fault.file == file => return None,
-            _ => {}
+    match context.fault {
+        Some(fault) if is_explained(context, fault, file) => None,
+        _ => {
+            let file_type = FileType::of(bytes);
+            Some(FileFinding::NoCodeFile { file_type })
         }
     }
-    let file_type = FileType::of(bytes);
-    Some(FileFinding::NoCodeFile { file_type })
 }
 
-/// Looks at a code file.
+/// The explanation of the fault says what the file is, which is no code file.
+fn is_explained(context: &Context<'_, '_>, fault: Fault, file: usize) -> bool {
+    match fault.reason {
+        _ if fault.file == 0 && file == 0 => true,
+        // (of each library, but not where nothing is said of the segments of the host)
+        Reason::MissingUnit => file != 0 && (fault.file != 0 || is_code_type(context.inputs.host)),
+        Reason::ShortFile | Reason::NoOrder | Reason::OrderMismatch | Reason::NativeProcedure =>
+            fault.file == file,
+        _ => false,
+    }
+}
+
 fn look_at_code_file<'a, A: Allocator>(
     findings: &mut Findings<'a, A>,
     context: &Context<'_, 'a>,

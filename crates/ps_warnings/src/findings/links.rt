@@ -110,7 +110,7 @@ fn taken_slot(host: &Dict<'_>, slot: u8, part: SegmentPart) -> Option<Finding>
     }
 }
 
-/// The same of a unit that has this slot, if it has one.
+/// The slot that a unit takes from such an entry; one without a slot takes none.
 fn taken_by(host: &Dict<'_>, slot: Option<u8>, part: SegmentPart) -> Option<Finding>
     ensures { result ≡ taken_by_spec host.now.order host.now.file slot part }
 {

@@ -108,7 +108,6 @@ fn data_size(order: Order, code: &[u8]) -> Option<u16>
     }
 }
 
-/// The first record with an odd name.
 fn first_odd_name(records: &LinkInformation<'_>, are_small: bool) -> Option<(usize, NameFinding)> {
     for (rec, record) in records.records() {
         if !record.is_eof() {

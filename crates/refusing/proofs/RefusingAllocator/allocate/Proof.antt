@@ -1,4 +1,4 @@
--- It returns `Err` where the gate refuses, and else what the inner allocator returns. Assumes
+-- The allocator returns `Err` where the gate refuses, and else what the inner one returns. Assumes
 -- `Logic`.
 use Rattle.std.proofs.Common.{◌≡◌, ℕ, ◌+◌, ◌^◌, ◌<◌, true, false, List, [], ◌∷◌, Ok, Err, refl, w64, Bor, Bool}
 use seplogic.Ra.Ura.{Ura}

@@ -3,7 +3,7 @@ use Rattle.ps_codefile.specs.ProcedureFaults.{is_native}
 use Rattle.ps_codefile.specs.Procedures.{procedures}
 use Rattle.ps_codefile.proofs.procedures.ProcedureDictionary.first_native.Given as goal
 
--- none of the procedures before this one is native
+-- no procedure before this one is native
 abbrev pub invariant-loop-p : goal.invariant-loop-p
 invariant-loop-p l = record {
   low : 1 ≤ l.p;
