@@ -202,7 +202,7 @@ document.
 
 Exit status, the greatest that applies:
   0  all files were listed
-  1  a file or a segment is refused
+  1  a file or a segment is refused, or a file has no segment or is something else
   2  wrong usage
   3  a file could not be read, or standard output failed
   4  out of memory
