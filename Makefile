@@ -8,7 +8,7 @@
 # make uninstall PREFIX=/opt/pslink: removes what that installed
 # make dist: packs the same for people without the kit
 # make vectors: writes the cases of vectors/README.md
-# make bench: times links of large files, of malicious input, and in one process; with OTHER=ARCHIVE also those of another library with the same header
+# make bench: times links of large files, of malicious input, and in one process; with OTHER=ARCHIVE also those of another library, below the same library/pslink.c
 PREFIX ?= /usr/local
 LIBDIR ?= $(PREFIX)/lib
 # a relative path is one from this folder on
@@ -32,16 +32,14 @@ BINARY = $(PROGRAM)/out/ps_linker
 SIDE ?= 2
 CONFIG = $(LIB)/cmake/pslink
 # man NAME finds pslink(3) for each function of the header
-CALLS = pslink_link pslink_map pslink_check pslink_show pslink_text pslink_units pslink_link_files pslink_map_files pslink_check_files \
-	pslink_text_files pslink_fault_text pslink_fault_name pslink_fault_meaning pslink_fault_remedy pslink_status_text \
-	pslink_release pslink_release_number pslink_version
+CALLS = pslink_link pslink_text pslink_fault pslink_fault_text pslink_status pslink_release_number
 # what the documents link to, beside them
 # (and not what someone linked there)
 SAMPLES = README.md make_samples.py relink.py compare.py big_host.code big_host.map big_library.code host.code host.map library.code \
 	nine.code nine.map procedures.code procedures.map two_units.code two_units.map used.code using.code using.map
 BESIDE = README.md CHANGES.md LICENSE NOTICES $(addprefix samples/,$(SAMPLES)) $(wildcard docs/*.md docs/*.json man/pslink.*) include/pslink.h \
 	$(addprefix bindings/python/,pyproject.toml build_backend.py LICENSE pslink/__init__.py pslink/py.typed) \
-	$(addprefix bindings/rust/,Cargo.toml build.rs LICENSE src/lib.rs src/look.rs src/raw.rs src/reason.rs tests/calls.rs) \
+	$(addprefix bindings/rust/,Cargo.toml build.rs LICENSE src/lib.rs src/file.rs src/finding.rs src/name.rs src/raw.rs src/reason.rs tests/calls.rs) \
 	$(wildcard bindings/rust/tests/samples/*)
 
 .PHONY: try try-test demo build lib test bench vectors install install-program install-built install-built-program install-texts uninstall dist
@@ -78,8 +76,11 @@ build:
 test:
 	.ci/run
 
+# (where no file is newer than what was built, the library is not built again)
 lib:
-	library/build
+	@if [ ! -e $(LIBRARY)/libpslink.a ] || [ -n "$$(find crates crates.txt library include -newer $(LIBRARY)/libpslink.a -type f ! -path '*/out/*')" ]; then \
+	    library/build; \
+	fi
 
 bench: build lib
 	python3 bench/large_files.py "$(BINARY)"
@@ -96,7 +97,7 @@ install-program: build install-built-program
 
 # what is built already, put in place: the program, its manual pages and the documents
 install-built-program: install-texts
-	install -d "$(DESTDIR)$(AT)/bin" "$(DESTDIR)$(MAN)/man1" "$(DESTDIR)$(MAN)/man5"
+	library/folders "$(DESTDIR)" "$(DOC)" "$(AT)/bin" "$(MAN)/man1" "$(MAN)/man5"
 	install -m 755 "$(BINARY)" "$(DESTDIR)$(AT)/bin/pslink"
 	install -m 644 man/pslink.1 "$(DESTDIR)$(MAN)/man1/pslink.1"
 	install -m 644 man/pslink.5 "$(DESTDIR)$(MAN)/man5/pslink.5"
@@ -104,8 +105,7 @@ install-built-program: install-texts
 
 # the test vectors, and what shells, make and CMake read
 install-texts:
-	install -d "$(DESTDIR)$(INCLUDE)" "$(DESTDIR)$(CONFIG)" "$(DESTDIR)$(DOC)/vectors"
-	install -d "$(DESTDIR)$(BASH_FOLDER)" "$(DESTDIR)$(ZSH_FOLDER)" "$(DESTDIR)$(FISH_FOLDER)"
+	library/folders "$(DESTDIR)" "$(DOC)" "$(DOC)/vectors" "$(INCLUDE)" "$(CONFIG)" "$(BASH_FOLDER)" "$(ZSH_FOLDER)" "$(FISH_FOLDER)"
 	vectors/make_vectors.py "$(DESTDIR)$(DOC)/vectors"
 	install -m 644 vectors/README.md "$(DESTDIR)$(DOC)/vectors/README.md"
 	chmod -R u=rwX,go=rX "$(DESTDIR)$(DOC)/vectors"
@@ -120,25 +120,26 @@ install-texts:
 
 # that and the library
 install-built: install-built-program
-	install -d "$(DESTDIR)$(INCLUDE)" "$(DESTDIR)$(LIB)/pkgconfig" "$(DESTDIR)$(CONFIG)" "$(DESTDIR)$(MAN)/man3"
+	library/folders "$(DESTDIR)" "$(DOC)" "$(INCLUDE)" "$(LIB)/pkgconfig" "$(CONFIG)" "$(MAN)/man3"
 	install -m 644 man/pslink.3 "$(DESTDIR)$(MAN)/man3/pslink.3"
 	for call in $(CALLS); do echo '.so man3/pslink.3' >"$(DESTDIR)$(MAN)/man3/$$call.3" && chmod 644 "$(DESTDIR)$(MAN)/man3/$$call.3" || exit 1; done
 	install -m 644 include/pslink.h "$(DESTDIR)$(INCLUDE)/pslink.h"
 	install -m 644 $(LIBRARY)/libpslink.a "$(DESTDIR)$(LIB)/libpslink.a"
-	install -m 755 $(LIBRARY)/libpslink.so.2 "$(DESTDIR)$(LIB)/libpslink.so.2"
-	ln -sf libpslink.so.2 "$(DESTDIR)$(LIB)/libpslink.so"
+	install -m 755 $(LIBRARY)/libpslink.so.3 "$(DESTDIR)$(LIB)/libpslink.so.3"
+	ln -sf libpslink.so.3 "$(DESTDIR)$(LIB)/libpslink.so"
 	sed -e 's|@PREFIX@|$(AT)|' -e 's|@LIBDIR@|$(LIB)|' -e 's|@VERSION@|$(VERSION)|' library/pslink.pc.in >"$(DESTDIR)$(LIB)/pkgconfig/pslink.pc"
 	sed -e 's|@INCLUDE@|$(INCLUDE)|' library/pslinkConfig.cmake.in >"$(DESTDIR)$(CONFIG)/pslinkConfig.cmake"
 	sed -e 's|@VERSION@|$(VERSION)|' rules/pslink-config-version.cmake.in >"$(DESTDIR)$(CONFIG)/pslinkConfigVersion.cmake"
 	chmod 644 "$(DESTDIR)$(LIB)/pkgconfig/pslink.pc" "$(DESTDIR)$(CONFIG)"/*.cmake
 
-# what install-built puts in place, and the folders that are pslink's own
+# what install-built puts in place, the folders that are pslink's own, and those that it made and that are empty now
 uninstall:
 	rm -f "$(DESTDIR)$(AT)/bin/pslink" "$(DESTDIR)$(INCLUDE)/pslink.h" "$(DESTDIR)$(INCLUDE)/pslink.mk"
 	rm -f "$(DESTDIR)$(BASH_FOLDER)/pslink" "$(DESTDIR)$(ZSH_FOLDER)/_pslink" "$(DESTDIR)$(FISH_FOLDER)/pslink.fish"
-	for name in libpslink.a libpslink.so libpslink.so.2 pkgconfig/pslink.pc; do rm -f "$(DESTDIR)$(LIB)/$$name" || exit 1; done
+	for name in libpslink.a libpslink.so libpslink.so.3 pkgconfig/pslink.pc; do rm -f "$(DESTDIR)$(LIB)/$$name" || exit 1; done
 	for name in man1/pslink.1 man3/pslink.3 man5/pslink.5 $(CALLS:%=man3/%.3); do rm -f "$(DESTDIR)$(MAN)/$$name" || exit 1; done
-	rm -rf "$(DESTDIR)$(DOC)" "$(DESTDIR)$(CONFIG)"
+	made=$$(sort -ru "$(DESTDIR)$(DOC)/FOLDERS" 2>/dev/null); rm -rf "$(DESTDIR)$(DOC)" "$(DESTDIR)$(CONFIG)" && \
+	    printf '%s\n' "$$made" | while IFS= read -r folder; do rmdir "$(DESTDIR)$$folder" 2>/dev/null || :; done
 
 # the program, the library and all that is read beside them, in one file, and what they need; the files have the time of the
 # commit that they are of, so that cargo, make and ninja see a newer archive. (Of pcfiledir, pkg-config itself marks a blank.)
@@ -146,11 +147,11 @@ dist: build lib
 	rm -rf "$(PACKED)"
 	$(MAKE) --no-print-directory install-built PREFIX=/usr/local LIBDIR=/usr/local/lib DESTDIR="$(PACKED)/root"
 	mv "$(PACKED)"/root/usr/local/* "$(PACKED)"
-	rm -r "$(PACKED)/root" "$(PACKED)/share/doc/pslink/include"
+	rm -r "$(PACKED)/root" "$(PACKED)/share/doc/pslink/include" "$(PACKED)/share/doc/pslink/FOLDERS"
 	mv "$(PACKED)"/share/doc/pslink/* "$(PACKED)"
 	rm -r "$(PACKED)/share/doc"
 	sed -i -e 's|^prefix=.*|prefix=$${pcfiledir}/../..|' -e 's|^libdir=.*|libdir=$${prefix}/lib|' -e 's|"||g' "$(PACKED)/lib/pkgconfig/pslink.pc"
 	sed -i 's|"/usr/local/include"|"../include"|' "$(PACKED)/lib/cmake/pslink/pslinkConfig.cmake"
 	sed -i 's|"/usr/local/bin" ||' "$(PACKED)/lib/cmake/pslink/pslink-config.cmake"
-	library/needs "$(PACKED)/bin/pslink" "$(PACKED)/lib/libpslink.so.2" | tee "$(PACKED)/NEEDS"
+	library/needs "$(PACKED)/bin/pslink" "$(PACKED)/lib/libpslink.so.3" | tee "$(PACKED)/NEEDS"
 	tar --sort=name --owner=0 --group=0 --numeric-owner --mtime=@$${SOURCE_DATE_EPOCH:-$$(git log -1 --format=%ct 2>/dev/null || date +%s)} -C "$(PACKED)" -czf "$(TARBALL)" --transform='s|^[.]|$(DIST)|' .

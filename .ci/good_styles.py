@@ -69,20 +69,20 @@ gaps half host_refs in_place old_mark noted""".split()
 
 
 def allowed():
-    """The styles that FORMAT.md allows besides: a note may be said of those that have `noted`."""
+    """The styles that FORMAT.md allows besides. A note is said of sets of those that have `noted`, and .ci/good counts these."""
     return [
         Style("a short last block", short_end=True),
         Style("a short last block, for a big-endian machine", order="big", short_end=True),
-        Style("any bytes in the tail", tail=lambda source, slots: {256: source.randbytes(256)}, noted=True),
+        Style("any bytes in the tail", tail=lambda source, slots: {256: source.randbytes(256)}),
         Style("bit 7 of operands clear", clear_bits=True, noted=True),
-        Style("any words in tables", free_words=True, noted=True),
-        Style("any bytes as instructions", free_bytes=True, noted=True),
+        Style("any words in tables", free_words=True),
+        Style("any bytes as instructions", free_bytes=True),
         Style("any numbers in tables", other_numbers=True, noted=True),
-        Style("tables at odd places", odd_tables=True, noted=True),
+        Style("tables at odd places", odd_tables=True),
         Style("procedures without a body", absent=True),
         Style("two procedures of one table", one_table=True, noted=True),
-        Style("bytes between procedures", between=True, noted=True),
-        Style("numbers in the operands of UNITREF", operand_numbers=True, exits=True),
+        Style("bytes between procedures", between=True),
+        Style("numbers in the operands of UNITREF", operand_numbers=True, exits=True, noted=True),
         Style("numbers of units in the code of the host", host_numbers=True),
         Style("any words in records", free_records=True, old_mark=True, unit_definitions=True, definitions=5),
         Style("a record for each reference", several=True, host_refs=True),
@@ -92,13 +92,13 @@ def allowed():
         Style("a high end mark", high_mark=True),
         Style("zeros as the end mark of a unit", no_mark=True),
         Style("units without procedures", no_procedures=True),
-        Style("other kinds in libraries", other_kinds=True, noted=True),
+        Style("other kinds in libraries", other_kinds=True),
         Style("linked segments in the host", linked_parts=True, noted=True),
         Style("a library of linked segments", linked_library=True, noted=True),
         Style("segments in any slots", anywhere=True, in_place=True),
         Style("addresses in empty slots", empty_addresses=True, half=True),
         Style("any text addresses", free_texts=True),
-        Style("blocks between segments", gaps=True, old_records=True, noted=True),
+        Style("blocks between segments", gaps=True, old_records=True),
         *(Style(f"all that is allowed at once, {order}-endian", order=order, **dict.fromkeys(AT_ONCE, True)) for order in ("little", "big")),
     ]  # fmt: skip
 

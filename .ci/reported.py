@@ -297,7 +297,7 @@ def faults():
         (28, HOST, [unit_with([m.publ_ref("OWN", [1]), m.publ_def("OWN", 1), END])], [UTIL, "  record 0: PUBLREF OWN", "  the unit itself has a PUBLDEF of it, record 1, which is not used: the host program has to define it", "warning: LIB1, segment UTIL, record 1: the unit refers to OWN and defines it itself: only the host program defines variables"]),
         # a definition of nearly the name is any record of the host; a unit's constant is no variable
         (28, host_with([m.publ_def("OTHER", 3), m.publ_def("COUNT", 4), m.eof_mark(8)]), [unit_with([m.publ_ref("Count", [1]), END])], [UTIL, "  record 0: PUBLREF Count", "  the host has PUBLDEF COUNT, record 1", "note: LIB1, segment UTIL, record 0: the name Count has small letters, and other names have capitals: it may not be found"]),
-        (28, HOST, [unit_with([m.publ_ref("OWN", [1]), m.record("OWN", 8, 1), END])], [UTIL, "  record 0: PUBLREF OWN", "warning: LIB1, segment UTIL, record 1: the unit refers to OWN and defines it itself: only the host program defines variables"]),
+        (28, HOST, [unit_with([m.publ_ref("OWN", [1]), m.record("OWN", 8, 1), END])], [UTIL, "  record 0: PUBLREF OWN"]),
         (29, host_with([m.record("COUNT", 8, 3), m.eof_mark(8)]), [LIBRARY], [UTIL, "  record 0: PUBLREF COUNT", "  the host has CONSTDEF COUNT, record 0"]),
         (31, HOST, [unit_with([m.publ_ref("COUNT", [1, 23]), END])], [UTIL, "  record 0: PUBLREF COUNT", "  reference 1: byte 23 of the code, where these bytes stand: 01", "  the code has 24 bytes"]),
         (31, HOST, [unit_with([m.publ_ref("COUNT", [24]), END])], [UTIL, "  record 0: PUBLREF COUNT", "  reference 0: byte 24 of the code, where these bytes stand: none", "  the code has 24 bytes"]),

@@ -10,10 +10,9 @@
 
 #include "read_file.h"
 
-#define LIBRARIES 100
+#define FILES 101
 
-static pslink_file host, libs[LIBRARIES];
-static pslink_named_file named_host, named_libs[LIBRARIES];
+static pslink_file files[FILES];
 static unsigned char out[PSLINK_LINKED_MAX];
 
 static double microseconds(void)
@@ -24,18 +23,11 @@ static double microseconds(void)
     return 1e6 * (double)now.tv_sec + 1e-3 * (double)now.tv_nsec;
 }
 
-static pslink_named_file named(const char *path, pslink_file file)
-{
-    const pslink_named_file it = {path, file.bytes, file.length};
-
-    return it;
-}
-
 static uint32_t link_once(size_t count)
 {
     pslink_answer answer;
 
-    return pslink_link_files(host, libs, count, out, sizeof out, &answer);
+    return pslink_link(files, count, out, sizeof out, &answer);
 }
 
 #ifdef NO_CHECK
@@ -43,9 +35,9 @@ static uint32_t link_once(size_t count)
 #else
 static uint32_t check_once(size_t count)
 {
-    pslink_check_answer answer;
+    pslink_answer answer;
 
-    return pslink_check_files(named_host, named_libs, count, 0, out, sizeof out, &answer);
+    return pslink_text(PSLINK_CHECK, files, count, out, sizeof out, &answer);
 }
 #endif
 
@@ -56,15 +48,11 @@ int main(int argc, char **argv)
     size_t count = 0;
     double start;
 
-    if (turns < 1 || argc > LIBRARIES + 4)
+    if (turns < 1 || argc > FILES + 3)
         return 2;
     call = strcmp(argv[2], "check") == 0 ? check_once : link_once;
-    host = read_file(argv[3]);
-    named_host = named(argv[3], host);
-    for (; count + 4 < (size_t)argc; count++) {
-        libs[count] = read_file(argv[count + 4]);
-        named_libs[count] = named(argv[count + 4], libs[count]);
-    }
+    for (; count + 3 < (size_t)argc; count++)
+        files[count] = read_file(argv[count + 3]);
     start = microseconds();
     for (turn = 0; turn < turns; turn++)
         status = call(count);

@@ -2,7 +2,7 @@
 """Times links in one process, through the library in C, Python and Rust, beside runs of the program: the sample pair, the same
 host without a library, a file of no bytes, and sixteen segments all of whose bytes are operands; and checks of the first two.
 Where valgrind is there, also the instructions that a call in C takes; where there is no cargo, Rust is left out. The archive of
-another library that links as pslink.h says, if one is given, is measured beside, in C; it needs no checks.
+another library, if one is given, is measured beside, in C, below the same library/pslink.c: it needs pslink_link_nonnull alone.
 Usage: in_process.py PSLINK FOLDER [ARCHIVE]: the program, the folder with libpslink.a and libpslink.so.2, the other archive"""
 import os
 import re
@@ -17,6 +17,8 @@ from large_files import files_full_of_operands
 
 ROOT = Path(__file__).resolve().parent.parent
 RUNS = 20
+# library/pslink.c over another archive, without the functions that a link does not call
+OVER_OTHER = ["-DNO_CHECK", "-ffunction-sections", "-Wl,--gc-sections", f"-I{ROOT}/library", ROOT / "library/pslink.c"]
 MANIFEST = f"""[package]
 name = "in_process"
 version = "0.0.0"
@@ -127,7 +129,7 @@ def main():
     sys.dont_write_bytecode = True
     with tempfile.TemporaryDirectory() as name:
         folder = Path(name)
-        other = built_in_c(folder, others[0], "-DNO_CHECK") if others else None
+        other = built_in_c(folder, others[0], *OVER_OTHER) if others else None
         archive = built / "libpslink.a"
         report(folder, pslink, built_in_c(folder, archive), built_in_rust(folder, archive), other)
 

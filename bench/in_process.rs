@@ -3,8 +3,13 @@
 use std::hint::black_box;
 use std::time::Instant;
 
-fn link_once(files: &[Vec<u8>]) {
+fn files_of(files: &[Vec<u8>]) -> (pslink::File<'_>, Vec<pslink::File<'_>>) {
     let (host, libs) = files.split_first().expect("a host");
+    (host.into(), libs.iter().map(pslink::File::from).collect())
+}
+
+fn link_once(files: &[Vec<u8>]) {
+    let (host, libs) = files_of(files);
     match black_box(pslink::link(host, libs)) {
         Ok(_) | Err(pslink::Error::Refused(_)) => (),
         Err(error) => panic!("{error}"),
@@ -12,9 +17,8 @@ fn link_once(files: &[Vec<u8>]) {
 }
 
 fn check_once(files: &[Vec<u8>]) {
-    let named: Vec<(&str, &Vec<u8>)> = files.iter().map(|file| ("FILE", file)).collect();
-    let (host, libs) = named.split_first().expect("a host");
-    black_box(pslink::check(*host, libs, false)).expect("a report");
+    let (host, libs) = files_of(files);
+    black_box(pslink::check(host, libs)).expect("a report");
 }
 
 fn main() {

@@ -11,6 +11,7 @@ from pathlib import Path
 HERE = Path(__file__).resolve().parent
 VERSION = re.search(r'^version = "(.*)"$', (HERE / "pyproject.toml").read_text(), re.M)[1]
 SUMMARY = re.search(r'^description = "(.*)"$', (HERE / "pyproject.toml").read_text(), re.M)[1]
+LIBRARY = re.search(r'^_LIBRARY = "(.*)"$', (HERE / "pslink/__init__.py").read_text(), re.M)[1]
 INFO = f"pslink-{VERSION}.dist-info"
 METADATA = f"""Metadata-Version: 2.1
 Name: pslink
@@ -29,7 +30,12 @@ def recorded(name, data):
 
 
 def build_wheel(wheel_directory, config_settings=None, metadata_directory=None):
-    return packed(wheel_directory, {name: (HERE / name).read_bytes() for name in SOURCES if name.startswith("pslink/")})
+    """The package; and from an archive of pslink, where its shared object is: in the folder `lib` beside `bindings`."""
+    files = {name: (HERE / name).read_bytes() for name in SOURCES if name.startswith("pslink/")}
+    beside = HERE.parent.parent / "lib" / LIBRARY
+    if beside.is_file():
+        files["pslink/beside.txt"] = str(beside).encode()
+    return packed(wheel_directory, files)
 
 
 def build_editable(wheel_directory, config_settings=None, metadata_directory=None):

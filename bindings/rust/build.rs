@@ -1,5 +1,5 @@
-//! Finds `libpslink.a`: in the folder that PSLINK_LIB_DIR names, or else in that of pkg-config, or
-//! else in the usual ones. A relative PSLINK_LIB_DIR is one of the folder in which cargo was
+//! Finds `libpslink.a`: in the folder that PSLINK_LIB_DIR names, or else in `../../lib`, as in an archive
+//! of pslink that is unpacked, or else in that of pkg-config, or else in the usual ones. A relative PSLINK_LIB_DIR is one of the folder in which cargo was
 //! called, or else of this crate's.
 
 use std::env;
@@ -62,6 +62,11 @@ fn named(folder: &Path) -> Vec<PathBuf> {
 fn folders() -> Vec<PathBuf> {
     if let Some(folder) = env::var_os("PSLINK_LIB_DIR") {
         return named(Path::new(&folder));
+    }
+    let beside =
+        Path::new(&env::var_os("CARGO_MANIFEST_DIR").unwrap_or_default()).join("../../lib");
+    if beside.join(ARCHIVE).is_file() {
+        return vec![beside];
     }
     if let Some(folder) = of_pkg_config("pcfiledir") {
         depends_on_file(&folder.join("pslink.pc"));

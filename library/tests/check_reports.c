@@ -5,6 +5,7 @@
 #include <stdlib.h>
 #include <string.h>
 
+#include "bare.h"
 #include "filled_room.h"
 #include "read_file.h"
 #include "refusing_heap.h"
@@ -33,29 +34,29 @@ static const char alone[] =
     "  No library has the unit that the slot wants.\n"
     "  Give a library that has it, after HOST.\n";
 
-static pslink_named_file host, library;
+static pslink_file host, library;
 
-static int is_bare(const pslink_check_answer *answer, uint32_t status)
+/* The report of the pair, or of the host alone where `count` is 0. */
+static uint32_t make(size_t count, void *out, size_t size, pslink_answer *answer)
 {
-    pslink_check_answer bare;
+    const pslink_file files[2] = {host, library};
 
-    memset(&bare, 0, sizeof bare);
-    bare.status = status;
-    bare.verdict.status = status;
-    return memcmp(&bare, answer, sizeof bare) == 0;
+    return pslink_text(PSLINK_CHECK, files, 1 + count, out, size, answer);
 }
 
-/* The report of the pair as bytes and lengths, with these names. */
-static uint32_t check_pair(const char *names, size_t names_length, const size_t *name_lengths, size_t name_count, uint32_t strict,
-                           void *out, size_t size, pslink_check_answer *answer)
+/* Whether the verdict, with so many warnings, is that the pair is linked. */
+static int is_linked(const pslink_answer *answer, size_t warnings)
 {
-    return pslink_check_nonnull(host.bytes, host.length, library.bytes, library.length, &library.length, 1, names, names_length,
-                                name_lengths, name_count, strict, out, size, answer);
+    return answer->status == PSLINK_DONE && !has_fault(answer) && answer->segments == 2 && answer->private_words == 4 &&
+           answer->blocks == 3 && answer->warnings == warnings;
 }
 
-static uint32_t make(size_t count, void *out, size_t size, pslink_check_answer *answer)
+/* Whether it is that the host alone lacks its unit. */
+static int is_alone(const pslink_answer *answer)
 {
-    return pslink_check_files(host, &library, count, 0, out, size, answer);
+    return answer->status == PSLINK_DONE && answer->fault == PSLINK_FAULT_MISSING_UNIT && answer->file == 0 && answer->slot == 7 &&
+           answer->record == -1 && answer->reference == -1 && answer->kind == -1 && strcmp(answer->name, "UTIL    ") == 0 &&
+           answer->segments == 0 && answer->private_words == 0 && answer->blocks == 0 && answer->warnings == 0;
 }
 
 /* Room of each length up to that of the report and one more, of files that are linked and of a host that is refused. */
@@ -67,76 +68,80 @@ static void check_rooms(size_t count)
 
     for (size = 0; size <= length + 1; size++) {
         unsigned char *room = (unsigned char *)malloc(size + 1);
-        pslink_check_answer answer, bare;
+        pslink_answer answer;
         uint32_t status;
 
         if (room == NULL)
             exit(4);
         memset(room, FILLER, size + 1);
         memset(&answer, 0xFF, sizeof answer);
-        memset(&bare, 0, sizeof bare);
         status = make(count, size == 0 ? NULL : room, size, &answer);
         check(status == answer.status, "the status is not the answer's", size);
-        check(answer.needed == length, "another length is needed", size);
+        check(answer.size == length, "another length is needed", size);
         if (size < length) {
-            bare.status = bare.verdict.status = PSLINK_TOO_SMALL;
-            bare.needed = length;
-            check(memcmp(&answer, &bare, sizeof bare) == 0, "a room that is too small is taken", size);
+            check(is_small(&answer, length), "a room that is too small is taken", size);
             check(is_untouched(room, 0, size + 1), "a room that is too small is written to", size);
         } else {
-            check(status == PSLINK_DONE && answer.written == length, "room enough is not taken", size);
+            check(count == 1 ? is_linked(&answer, 0) : is_alone(&answer), "the verdict is another", count);
             check(memcmp(room, report, length) == 0, "the report is another", size);
             check(is_untouched(room, length, size + 1), "what is behind the report is written to", size);
-            check(answer.ends_with == (count == 0) && answer.warnings == 0, "what it ends with is another", count);
         }
         free(room);
     }
 }
 
-/* The verdict is what a link answers, which has the fault, whole. */
+/* The verdict is what a link answers, which has the fault, whole: of the lines and of the document. */
 static void check_verdicts(void)
 {
+    const pslink_file files[2] = {host, library};
     char text[PSLINK_FAULT_TEXT_MAX];
     static unsigned char room[ROOM];
-    pslink_check_answer answer;
+    pslink_answer answer;
+    uint32_t form;
 
-    make(1, room, sizeof room, &answer);
-    check(answer.verdict.status == PSLINK_DONE && answer.verdict.segments == 2 && answer.verdict.private_words == 4 &&
-              answer.verdict.blocks == 3 && answer.verdict.written == 0 && answer.verdict.needed == 0,
-          "the verdict of the pair is another", 1);
-    check(pslink_fault_text(&answer.verdict, text, sizeof text) == 0, "the pair has a fault", 1);
-    make(0, room, sizeof room, &answer);
-    check(answer.verdict.status == PSLINK_REFUSED && answer.verdict.fault == PSLINK_FAULT_MISSING_UNIT && answer.verdict.slot == 7,
-          "the verdict of the host alone is another", 0);
-    check(pslink_fault_text(&answer.verdict, text, sizeof text) != 0 && strcmp(text, "refused 13 MissingUnit file 0 slot 7") == 0,
-          "the fault of the host alone is another", 0);
-}
-
-/* The unit's private variable has two words, and the operand is the third: one warning, of which a strict check says 1. */
-static void check_strict(void)
-{
-    static unsigned char room[ROOM], other[1 << 16];
-    pslink_named_file warned = library;
-    pslink_check_answer answer;
-    int strict;
-
-    memcpy(other, library.bytes, library.length);
-    other[WORDS_OF_STATE] = 2;
-    warned.bytes = other;
-    for (strict = 0; strict < 3; strict++) {
-        uint32_t status = pslink_check_files(host, &warned, 1, strict, room, sizeof room, &answer);
-
-        check(status == PSLINK_DONE && answer.verdict.status == PSLINK_DONE && answer.warnings == 1, "there is another count of warnings",
-              answer.warnings);
-        check(answer.ends_with == (strict != 0), "strict is not heeded", (size_t)strict);
+    for (form = 0; form <= PSLINK_JSON; form += PSLINK_JSON) {
+        pslink_text(PSLINK_CHECK | form, files, 2, room, sizeof room, &answer);
+        check(is_linked(&answer, 0), "the verdict of the pair is another", form);
+        check(pslink_fault_text(&answer, text, sizeof text) == 0, "the pair has a fault", form);
+        pslink_text(PSLINK_CHECK | form, files, 1, room, sizeof room, &answer);
+        check(is_alone(&answer), "the verdict of the host alone is another", form);
+        check(pslink_fault_text(&answer, text, sizeof text) != 0 && strcmp(text, "refused 13 MissingUnit file 0 slot 7") == 0,
+              "the fault of the host alone is another", form);
     }
 }
 
-/* Each allocation refused in turn. */
-static void check_memory(size_t count)
+/* The unit's private variable has two words, and the operand is the third: one warning. */
+static void check_warnings(void)
+{
+    static unsigned char room[ROOM], other[1 << 16];
+    pslink_file files[2] = {host, library};
+    pslink_answer answer;
+    uint32_t form;
+
+    memcpy(other, library.bytes, library.length);
+    other[WORDS_OF_STATE] = 2;
+    files[1].bytes = other;
+    for (form = 0; form <= PSLINK_JSON; form += PSLINK_JSON) {
+        check(pslink_text(PSLINK_CHECK | form, files, 2, room, sizeof room, &answer) == PSLINK_DONE && answer.fault == 0 &&
+                  answer.warnings == 1,
+              "there is another count of warnings", answer.warnings);
+        check(pslink_text(PSLINK_FINDINGS | form, files, 2, room, sizeof room, &answer) == PSLINK_DONE && answer.warnings == 0,
+              "warnings are told of another text", answer.warnings);
+    }
+}
+
+/* A host alone has no map. */
+static int lacks_its_unit(uint32_t what, size_t count, uint32_t status)
+{
+    return status == PSLINK_REFUSED && (what & ~PSLINK_JSON) <= PSLINK_REFERENCES && count == 1;
+}
+
+/* Each allocation refused in turn, of each text in each form. */
+static void check_memory(uint32_t what, size_t count)
 {
     static unsigned char room[ROOM];
-    pslink_check_answer answer;
+    const pslink_file files[3] = {host, library, library};
+    pslink_answer answer;
     long turn;
 
     for (turn = 0; turn < 1000; turn++) {
@@ -145,147 +150,159 @@ static void check_memory(size_t count)
         memset(room, FILLER, sizeof room);
         asked = 0;
         refused_at = turn;
-        status = make(count, room, sizeof room, &answer);
+        status = pslink_text(what, files, count, room, sizeof room, &answer);
         refused_at = -1;
         if (asked <= turn) {
-            check(status == PSLINK_DONE && turn > 0, "with all memory it is not done", (size_t)turn);
+            check((status == PSLINK_DONE || lacks_its_unit(what, count, status)) && turn > 0, "with all memory it is not done", what);
             return;
         }
-        check(status == PSLINK_NO_MEMORY && is_bare(&answer, status), "memory is refused, and the answer is another",
-              (size_t)turn);
+        check(status == PSLINK_NO_MEMORY ? is_bare(&answer, status) : lacks_its_unit(what, count, status),
+              "memory is refused, and the answer is another", (size_t)turn);
         check(is_untouched(room, 0, sizeof room), "memory is refused, and the room is written to", (size_t)turn);
     }
-    check(0, "there is no end of memory that is asked for", count);
+    check(0, "there is no end of memory that is asked for", what);
 }
 
-/* Names that do not add up, are not one for each file, or are no UTF-8; and some that are right. */
+static void check_all_memory(void)
+{
+    uint32_t what;
+    size_t count;
+
+    for (what = PSLINK_MAP; what <= PSLINK_HAD; what++)
+        for (count = 1; count <= 3; count++) {
+            check_memory(what, count);
+            if (what != PSLINK_UNITS && what <= PSLINK_FINDINGS)
+                check_memory(what | PSLINK_JSON, count);
+        }
+}
+
+/* Names that are no UTF-8, are empty, or are not there; and some that are right. */
 static void check_names(void)
 {
     static const struct {
-        const char *names;
-        size_t names_length, lengths[3], count;
+        const char *host, *library;
         uint32_t status;
     } cases[] = {
-        {"HOSTLIB", 7, {4, 3}, 2, PSLINK_DONE},
-        {"", 0, {0, 0}, 2, PSLINK_DONE},
-        {"H\xC3\xA9LIB", 6, {3, 3}, 2, PSLINK_DONE},
-        {"\xF0\x9F\x92\xBE", 4, {4, 0}, 2, PSLINK_DONE},
-        {"HOSTLIB", 7, {4, 2}, 2, PSLINK_WRONG_LENGTHS},
-        {"HOSTLIB", 7, {4, 4}, 2, PSLINK_WRONG_LENGTHS},
-        {"HOSTLIB", 7, {SIZE_MAX, 8}, 2, PSLINK_WRONG_LENGTHS},
-        {"HOSTLIB", 7, {7}, 1, PSLINK_WRONG_LENGTHS},
-        {"HOSTLIB", 7, {4, 3, 0}, 3, PSLINK_WRONG_LENGTHS},
-        {"HOSTLIB", 7, {0}, 0, PSLINK_WRONG_LENGTHS},
-        {"\xFFLIB", 4, {1, 2}, 2, PSLINK_WRONG_LENGTHS},
-        {"H\xC3\xA9LIB", 6, {2, 4}, 2, PSLINK_WRONG_NAMES},
-        {"\xFFLIB", 4, {1, 3}, 2, PSLINK_WRONG_NAMES},
-        {"HOST\xC0\x80", 6, {4, 2}, 2, PSLINK_WRONG_NAMES},
-        {"HOST\xED\xA0\x80", 7, {4, 3}, 2, PSLINK_WRONG_NAMES},
+        {"HOST", "LIB", PSLINK_DONE},
+        {"", "", PSLINK_DONE},
+        {"H\xC3\xA9", "LIB", PSLINK_DONE},
+        {"\xF0\x9F\x92\xBE", "", PSLINK_DONE},
+        {NULL, NULL, PSLINK_DONE},
+        {"H\xC3", "\xA9LIB", PSLINK_WRONG_NAMES},
+        {"\xFF", "LIB", PSLINK_WRONG_NAMES},
+        {NULL, "\xFF", PSLINK_WRONG_NAMES},
+        {"HOST\xC0\x80", "", PSLINK_WRONG_NAMES},
+        {"HOST\xED\xA0\x80", "LIB", PSLINK_WRONG_NAMES},
     };
     static unsigned char room[ROOM];
-    pslink_check_answer answer;
-    pslink_answer text;
+    pslink_file files[2] = {host, library}, none = {NULL, NULL, 0};
+    pslink_answer answer;
+    uint32_t what;
     size_t k;
 
     for (k = 0; k < sizeof cases / sizeof *cases; k++) {
-        uint32_t status;
+        files[0].name = cases[k].host;
+        files[1].name = cases[k].library;
+        for (what = PSLINK_MAP; what <= PSLINK_HAD; what++) {
+            const int has_names = PSLINK_CHECK <= what && what <= PSLINK_FINDINGS;
+            uint32_t status;
 
-        memset(room, FILLER, sizeof room);
-        status = check_pair(cases[k].names, cases[k].names_length, cases[k].lengths, cases[k].count, 0, room, sizeof room, &answer);
-        check(status == cases[k].status, "names are taken otherwise", k);
-        check(status == PSLINK_DONE || (is_bare(&answer, status) && is_untouched(room, 0, sizeof room)),
-              "names that are not taken leave something", k);
-        status = pslink_text_nonnull(PSLINK_TEXT_LIST, PSLINK_JSON, host.bytes, host.length, library.bytes, library.length,
-                                     &library.length, 1, cases[k].names, cases[k].names_length, cases[k].lengths, cases[k].count,
-                                     room, sizeof room, &text);
-        check(status == cases[k].status && text.status == status, "names are taken otherwise for a list", k);
-        status = pslink_text_nonnull(PSLINK_TEXT_MAP, PSLINK_JSON, host.bytes, host.length, library.bytes, library.length,
-                                     &library.length, 1, cases[k].names, cases[k].names_length, cases[k].lengths, cases[k].count,
-                                     room, sizeof room, &text);
-        check(status == PSLINK_DONE, "names are looked at for a map", k);
+            memset(room, FILLER, sizeof room);
+            status = pslink_text(what, files, 2, room, sizeof room, &answer);
+            check(status == (has_names ? cases[k].status : PSLINK_DONE) && answer.status == status, "names are taken otherwise", k);
+            check(status == PSLINK_DONE || (is_bare(&answer, status) && is_untouched(room, 0, sizeof room)),
+                  "names that are not taken leave something", k);
+            if (what != PSLINK_UNITS && what <= PSLINK_FINDINGS)
+                check(pslink_text(what | PSLINK_JSON, files, 2, room, sizeof room, &answer) == status, "a document takes other names", k);
+        }
+        check(pslink_link(files, 2, room, sizeof room, &answer) == PSLINK_DONE, "names are looked at for a link", k);
     }
-    check(pslink_check(host.bytes, host.length, library.bytes, library.length - 1, &library.length, 1, "", 0, cases[1].lengths, 0, NULL,
-                       0, &answer) == PSLINK_WRONG_LENGTHS && is_bare(&answer, PSLINK_WRONG_LENGTHS),
-          "lengths that do not add up are taken", 0);
-    check(pslink_check(NULL, 0, NULL, 0, NULL, 0, NULL, 0, cases[1].lengths, 0, room, sizeof room, &answer) == PSLINK_DONE &&
-              answer.verdict.fault == PSLINK_FAULT_SHORT_FILE,
+    check(pslink_text(PSLINK_CHECK, &none, 1, room, sizeof room, &answer) == PSLINK_DONE && answer.fault == PSLINK_FAULT_SHORT_FILE,
           "nothing has no report", 0);
 }
 
-/* A text of the pair, in room that is just enough: it is what is given as its length. */
-static size_t text_of(uint32_t what, uint32_t form, size_t count, unsigned char *room, size_t size)
+/* What files without names are called, up to a number of four digits. */
+static void check_numbers(void)
 {
+    static unsigned char room[1 << 19];
+    static pslink_file files[1002];
+    char line[80];
+    pslink_answer answer;
+    size_t k;
+
+    for (k = 0; k < 1002; k++)
+        files[k] = library;
+    for (k = 0; k < 1002; k++)
+        files[k].name = NULL;
+    check(pslink_text(PSLINK_LIST, files, 1002, room, sizeof room - 1, &answer) == PSLINK_DONE, "a thousand files are not listed", 0);
+    room[answer.size] = 0;
+    for (k = 0; k < 1002; k++) {
+        snprintf(line, sizeof line, "%sfile %zu: little-endian, 1536 bytes, library\n", k == 0 ? "" : "\n", k);
+        check(strstr((const char *)room, line) != NULL, "a file without a name is called otherwise", k);
+    }
+}
+
+/* A text of the pair, in room that is just enough: it is what is given as its length. */
+static size_t text_of(uint32_t what, size_t count, unsigned char *room, size_t size)
+{
+    const pslink_file files[2] = {host, library};
     pslink_answer answer, again;
 
     memset(room, FILLER, size);
-    check(pslink_text_files(what, form, host, &library, count, NULL, 4096, &answer) == PSLINK_TOO_SMALL && answer.needed > 0 &&
-              answer.written == 0 && answer.needed < size,
+    check(pslink_text(what, files, 1 + count, NULL, 4096, &answer) == PSLINK_TOO_SMALL && answer.size > 0 && answer.size < size &&
+              is_small(&answer, answer.size),
           "no room is enough for a text", what);
-    check(pslink_text_files(what, form, host, &library, count, room, answer.needed - 1, &again) == PSLINK_TOO_SMALL &&
+    check(pslink_text(what, files, 1 + count, room, answer.size - 1, &again) == PSLINK_TOO_SMALL && is_small(&again, answer.size) &&
               is_untouched(room, 0, size),
           "a text is put where it does not fit", what);
-    check(pslink_text_files(what, form, host, &library, count, room, answer.needed, &again) == PSLINK_DONE &&
-              again.written == answer.needed && again.needed == answer.needed && is_untouched(room, answer.needed, size),
+    check(pslink_text(what, files, 1 + count, room, answer.size, &again) == PSLINK_DONE && again.size == answer.size &&
+              is_untouched(room, answer.size, size),
           "a text is put otherwise", what);
-    return answer.needed;
+    return answer.size;
 }
 
-/* Each text beside the call that there is for it, or by what it begins and ends with. */
+/* Each text beside another, or by what it begins and ends with. */
 static void check_texts(void)
 {
-    static const char list[] = "HOST: little-endian, 1536 bytes, host program\n";
+    static const char list[] = "HOST: little-endian, 1536 bytes, host", map[] = "segment 01 DEMO     file 0 ", show[] = "order little\n";
     static unsigned char room[ROOM], other[ROOM];
-    pslink_check_answer report;
+    pslink_file short_host = host;
     pslink_answer answer;
-    size_t size, names[2] = {4, 4};
-    uint32_t what, form;
+    size_t size;
+    uint32_t what;
 
-    size = text_of(PSLINK_TEXT_MAP, PSLINK_LINES, 1, room, sizeof room);
-    check(pslink_map(host.bytes, host.length, library.bytes, library.length, &library.length, 1, other, sizeof other, &answer) ==
-                  PSLINK_DONE && answer.written == size && memcmp(room, other, size) == 0,
-          "the map is another", size);
-    check(text_of(PSLINK_TEXT_REFERENCES, PSLINK_LINES, 1, room, sizeof room) > size && memcmp(room, other, size) == 0,
+    size = text_of(PSLINK_MAP, 1, other, sizeof other);
+    check(memcmp(other, map, strlen(map)) == 0, "the map is another", size);
+    check(text_of(PSLINK_REFERENCES, 1, room, sizeof room) > size && memcmp(room, other, size) == 0,
           "the map with its references does not begin with the map", size);
-    size = text_of(PSLINK_TEXT_SHOW, PSLINK_LINES, 1, room, sizeof room);
-    check(pslink_show(host.bytes, host.length, other, sizeof other, &answer) == PSLINK_DONE && answer.written == size &&
-              memcmp(room, other, size) == 0,
-          "the show is another", size);
-    size = text_of(PSLINK_TEXT_CHECK, PSLINK_LINES, 0, room, sizeof room);
-    check(make(0, other, sizeof other, &report) == PSLINK_DONE && report.written == size && memcmp(room, other, size) == 0,
-          "the report is another", size);
-    text_of(PSLINK_TEXT_LIST, PSLINK_LINES, 1, room, sizeof room);
-    check(strstr((const char *)room, "HOST: little-endian, 1536 bytes, ") == (const char *)room, "the list is another", sizeof list);
-    text_of(PSLINK_TEXT_UNITS, PSLINK_LINES, 1, room, sizeof room);
+    size = text_of(PSLINK_SHOW, 1, room, sizeof room);
+    check(memcmp(room, show, strlen(show)) == 0, "the show is another", size);
+    check(text_of(PSLINK_SHOW, 0, other, sizeof other) == size && memcmp(room, other, size) == 0, "libraries have part in a show", size);
+    size = text_of(PSLINK_CHECK, 0, room, sizeof room);
+    check(size == strlen(alone) && memcmp(room, alone, size) == 0, "the report is another", size);
+    text_of(PSLINK_LIST, 1, room, sizeof room);
+    check(memcmp(room, list, strlen(list)) == 0, "the list is another", sizeof list);
+    text_of(PSLINK_UNITS, 1, room, sizeof room);
     check(strstr((const char *)room, "LIB1: slot 02 UTIL     by itself, no fault\n") != NULL, "units by themselves are others", 0);
-    for (what = PSLINK_TEXT_MAP; what <= PSLINK_TEXT_LOOKS; what++) {
-        if (what == PSLINK_TEXT_UNITS)
+    for (what = PSLINK_MAP; what <= PSLINK_FINDINGS; what++) {
+        if (what == PSLINK_UNITS)
             continue;
-        size = text_of(what, PSLINK_JSON, 1, room, sizeof room);
+        size = text_of(what | PSLINK_JSON, 1, room, sizeof room);
         check(room[0] == '{' && memcmp(room + size - 2, "}\n", 2) == 0, "a document is none", what);
     }
-    for (what = 0; what < 9; what++)
-        for (form = 0; form < 4; form++) {
-            int is_there = what <= PSLINK_TEXT_LOOKS && form <= (what == PSLINK_TEXT_UNITS ? PSLINK_LINES : PSLINK_JSON);
-
-            memset(room, FILLER, sizeof room);
-            check((pslink_text(what, form, host.bytes, host.length, library.bytes, library.length, &library.length, 1, "HOSTLIB1", 8,
-                               names, room, sizeof room, &answer) == PSLINK_WRONG_TEXT) == !is_there,
-                  "a text that there is not is made", 10 * what + form);
-            check(is_there || is_untouched(room, 0, sizeof room), "a text that there is not is put", 10 * what + form);
-        }
-    check(pslink_text(PSLINK_TEXT_MAP, PSLINK_JSON, host.bytes, host.length, NULL, 0, NULL, 0, NULL, 0, NULL, room, sizeof room,
-                      &answer) == PSLINK_REFUSED && answer.fault == PSLINK_FAULT_MISSING_UNIT && answer.has_name == 1 &&
-              memcmp(answer.name, "UTIL    ", 8) == 0,
+    check(pslink_text(PSLINK_MAP | PSLINK_JSON, &host, 1, room, sizeof room, &answer) == PSLINK_REFUSED &&
+              answer.fault == PSLINK_FAULT_MISSING_UNIT && strcmp(answer.name, "UTIL    ") == 0,
           "a map that is refused has another name", answer.fault);
-    check(pslink_text(PSLINK_TEXT_SHOW, PSLINK_JSON, host.bytes, 511, NULL, 0, NULL, 0, NULL, 0, NULL, room, sizeof room, &answer) ==
-                  PSLINK_REFUSED && answer.fault == PSLINK_FAULT_SHORT_FILE && answer.has_name == 0,
+    short_host.length = 511;
+    check(pslink_text(PSLINK_SHOW | PSLINK_JSON, &short_host, 1, room, sizeof room, &answer) == PSLINK_REFUSED &&
+              answer.fault == PSLINK_FAULT_SHORT_FILE && answer.name[0] == 0,
           "a short file is shown", answer.fault);
 }
 
 /* What is found, one by one: nothing in the pair; and in a library that was padded, whose procedure has another number, whose private
  * variable has two words where the operand is the third, and whose first operand has lost its bit 7, what is harmless, a note, a warning
  * and a note, which are the last lines of the report. */
-static void check_looks(void)
+static void check_findings(void)
 {
     static const char none[] = "{\"findings\":[\n]}\n";
     static const char lines[] =
@@ -305,17 +322,16 @@ static void check_looks(void)
         "\"record\":0,\"text\":\"the operand at byte 1 may be damaged: its bit 7 is clear, and a compiler sets it\"}\n"
         "]}\n";
     static unsigned char room[ROOM], other[ROOM], file[1 << 16];
-    const pslink_named_file kept = library;
-    pslink_check_answer report;
+    const pslink_file kept = library, files[2] = {host, library};
     pslink_answer answer;
     size_t size;
 
     memset(&answer, 0xFF, sizeof answer);
     memset(room, FILLER, sizeof room);
-    check(pslink_text_files(PSLINK_TEXT_LOOKS, PSLINK_LINES, host, &library, 1, room, sizeof room, &answer) == PSLINK_DONE &&
-              answer.written == 0 && answer.needed == 0 && is_untouched(room, 0, sizeof room),
-          "something is found in the pair", answer.written);
-    size = text_of(PSLINK_TEXT_LOOKS, PSLINK_JSON, 1, room, sizeof room);
+    check(pslink_text(PSLINK_FINDINGS, files, 2, room, sizeof room, &answer) == PSLINK_DONE && answer.size == 0 &&
+              is_untouched(room, 0, sizeof room),
+          "something is found in the pair", answer.size);
+    size = text_of(PSLINK_FINDINGS | PSLINK_JSON, 1, room, sizeof room);
     check(size == strlen(none) && memcmp(room, none, size) == 0, "the document of nothing is another", size);
     memcpy(file, library.bytes, library.length);
     file[512 + 18] = 3;
@@ -324,12 +340,12 @@ static void check_looks(void)
     memset(file + library.length, 0x1A, 2);
     library.bytes = file;
     library.length += 2;
-    size = text_of(PSLINK_TEXT_LOOKS, PSLINK_LINES, 1, room, sizeof room);
+    size = text_of(PSLINK_FINDINGS, 1, room, sizeof room);
     check(size == strlen(lines) && memcmp(room, lines, size) == 0, "what is found is said otherwise", size);
-    check(make(1, other, sizeof other, &report) == PSLINK_DONE && report.warnings == 1 && report.written > size &&
-              memcmp(other + report.written - size, room, size) == 0,
-          "the report ends with other lines", report.written);
-    size = text_of(PSLINK_TEXT_LOOKS, PSLINK_JSON, 1, room, sizeof room);
+    check(make(1, other, sizeof other, &answer) == PSLINK_DONE && answer.warnings == 1 && answer.size > size &&
+              memcmp(other + answer.size - size, room, size) == 0,
+          "the report ends with other lines", answer.size);
+    size = text_of(PSLINK_FINDINGS | PSLINK_JSON, 1, room, sizeof room);
     check(size == strlen(items) && memcmp(room, items, size) == 0, "the document of what is found is another", size);
     library = kept;
 }
@@ -338,48 +354,25 @@ static void check_looks(void)
 static void check_units(void)
 {
     static unsigned char room[ROOM];
+    const pslink_file nothing = {NULL, NULL, 0};
     pslink_answer answer;
 
     memset(&answer, 0xFF, sizeof answer);
     memset(room, FILLER, sizeof room);
-    memset(&answer, 0xFF, sizeof answer);
-    check(pslink_units(PSLINK_UNITS_WANTED, host.bytes, host.length, NULL, 0, NULL, 0, NULL, 99, &answer) == PSLINK_TOO_SMALL &&
-              answer.needed == 8,
-          "the host wants another number of units", answer.needed);
-    check(pslink_units(PSLINK_UNITS_WANTED, host.bytes, host.length, NULL, 0, NULL, 0, room, sizeof room, &answer) == PSLINK_DONE &&
-              answer.written == 8 && memcmp(room, "UTIL    ", 8) == 0 && is_untouched(room, 8, sizeof room),
-          "the host wants another unit", answer.written);
-    check(pslink_units(PSLINK_UNITS_HAD, host.bytes, host.length, NULL, 0, NULL, 0, room, sizeof room, &answer) == PSLINK_DONE &&
-              answer.written == 0,
-          "the host has a unit", answer.written);
-    check(pslink_units(PSLINK_UNITS_HAD, library.bytes, library.length, NULL, 0, NULL, 0, room, sizeof room, &answer) ==
-                  PSLINK_DONE && answer.written == 8 && memcmp(room, "UTIL    ", 8) == 0,
-          "the library has other units", answer.written);
-    check(pslink_units(PSLINK_UNITS_WANTED, NULL, 0, NULL, 0, NULL, 0, room, sizeof room, &answer) == PSLINK_REFUSED &&
+    check(pslink_text(PSLINK_WANTED, &host, 1, NULL, 99, &answer) == PSLINK_TOO_SMALL && is_small(&answer, 8),
+          "the host wants another number of units", answer.size);
+    check(pslink_text(PSLINK_WANTED, &host, 1, room, 7, &answer) == PSLINK_TOO_SMALL && is_untouched(room, 0, sizeof room),
+          "a name is put where it does not fit", answer.size);
+    check(pslink_text(PSLINK_WANTED, &host, 1, room, 8, &answer) == PSLINK_DONE && answer.size == 8 &&
+              memcmp(room, "UTIL    ", 8) == 0 && is_untouched(room, 8, sizeof room),
+          "the host wants another unit", answer.size);
+    check(pslink_text(PSLINK_HAD, &host, 1, room, sizeof room, &answer) == PSLINK_DONE && answer.size == 0, "the host has a unit", answer.size);
+    check(pslink_text(PSLINK_HAD, &library, 1, room, sizeof room, &answer) == PSLINK_DONE && answer.size == 8 &&
+              memcmp(room, "UTIL    ", 8) == 0,
+          "the library has other units", answer.size);
+    check(pslink_text(PSLINK_WANTED, &nothing, 1, room, sizeof room, &answer) == PSLINK_REFUSED &&
               answer.fault == PSLINK_FAULT_SHORT_FILE && answer.file == 0,
           "nothing wants units", answer.fault);
-    check(pslink_units(2, host.bytes, host.length, NULL, 0, NULL, 0, room, sizeof room, &answer) == PSLINK_WRONG_TEXT,
-          "there are other units", 2);
-}
-
-/* Lengths that no block of memory can have. */
-static void check_too_long(void)
-{
-    const pslink_named_file too_long[2] = {{"A", library.bytes, PTRDIFF_MAX}, {"B", library.bytes, SIZE_MAX}};
-    pslink_check_answer answer;
-
-    check(pslink_check_files(host, too_long, 1, 0, NULL, 0, &answer) == PSLINK_NO_MEMORY && is_bare(&answer, PSLINK_NO_MEMORY),
-          "a library that is too long is taken", 1);
-    check(pslink_check_files(host, too_long, 2, 0, NULL, 0, &answer) == PSLINK_NO_MEMORY, "libraries that are too long are taken", 2);
-    check(pslink_check_files(host, too_long, SIZE_MAX, 0, NULL, 0, &answer) == PSLINK_NO_MEMORY, "too many libraries are taken", 3);
-}
-
-static pslink_named_file named(const char *name, const char *path)
-{
-    const pslink_file file = read_file(path);
-    const pslink_named_file it = {name, file.bytes, file.length};
-
-    return it;
 }
 
 int main(int argc, char **argv)
@@ -388,18 +381,19 @@ int main(int argc, char **argv)
 
     if (argc != 3)
         return 2;
-    host = named("HOST", argv[1]);
-    library = named("LIB1", argv[2]);
-    for (count = 0; count <= 1; count++) {
+    host = read_file(argv[1]);
+    library = read_file(argv[2]);
+    host.name = "HOST";
+    library.name = "LIB1";
+    for (count = 0; count <= 1; count++)
         check_rooms(count);
-        check_memory(count);
-    }
+    check_all_memory();
     check_verdicts();
-    check_strict();
+    check_warnings();
     check_names();
+    check_numbers();
     check_texts();
-    check_looks();
+    check_findings();
     check_units();
-    check_too_long();
     return failures != 0;
 }

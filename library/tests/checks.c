@@ -7,6 +7,7 @@
 #include <stdlib.h>
 #include <string.h>
 
+#include "bare.h"
 #include "filled_room.h"
 #include "read_file.h"
 #include "refusing_heap.h"
@@ -15,36 +16,38 @@
 
 static pslink_file host, library, linked, map, show;
 
-enum call { LINK, LINK_FILES, MAP, MAP_FILES, SHOW, CALLS };
+/* (with the library twice, the files are copied, and the first of the two is used) */
+enum call { LINK, LINK_COPIED, MAP, MAP_COPIED, SHOW, CALLS };
 
 static uint32_t make(enum call call, void *out, size_t size, pslink_answer *answer)
 {
+    const pslink_file files[3] = {host, library, library};
+
     switch (call) {
     case LINK:
-        return pslink_link(host.bytes, host.length, library.bytes, library.length, &library.length, 1, out, size, answer);
-    case LINK_FILES:
-        return pslink_link_files(host, &library, 1, out, size, answer);
+        return pslink_link(files, 2, out, size, answer);
+    case LINK_COPIED:
+        return pslink_link(files, 3, out, size, answer);
     case MAP:
-        return pslink_map(host.bytes, host.length, library.bytes, library.length, &library.length, 1, out, size, answer);
-    case MAP_FILES:
-        return pslink_map_files(host, &library, 1, out, size, answer);
+        return pslink_text(PSLINK_MAP, files, 2, out, size, answer);
+    case MAP_COPIED:
+        return pslink_text(PSLINK_MAP, files, 3, out, size, answer);
     default:
-        return pslink_show(library.bytes, library.length, out, size, answer);
+        return pslink_text(PSLINK_SHOW, &library, 1, out, size, answer);
     }
 }
 
 static const pslink_file *result_of(enum call call)
 {
-    return call == LINK || call == LINK_FILES ? &linked : call == SHOW ? &show : &map;
+    return call == LINK || call == LINK_COPIED ? &linked : call == SHOW ? &show : &map;
 }
 
-static int is_bare(const pslink_answer *answer, uint32_t status)
+/* The link of a host and one library. */
+static uint32_t link_two(pslink_file first, pslink_file second, void *out, size_t size, pslink_answer *answer)
 {
-    pslink_answer bare;
+    const pslink_file files[2] = {first, second};
 
-    memset(&bare, 0, sizeof bare);
-    bare.status = status;
-    return memcmp(&bare, answer, sizeof bare) == 0;
+    return pslink_link(files, 2, out, size, answer);
 }
 
 /* Room of each length up to that of the result and one more. */
@@ -64,12 +67,12 @@ static void check_rooms(enum call call)
         memset(&answer, 0xFF, sizeof answer);
         status = make(call, size == 0 ? NULL : room, size, &answer);
         check(status == answer.status, "the status is not the answer's", size);
-        check(answer.needed == result->length, "another length is needed", size);
+        check(answer.size == result->length, "another length is needed", size);
         if (size < result->length) {
-            check(status == PSLINK_TOO_SMALL, "a room that is too small is taken", size);
+            check(is_small(&answer, result->length), "a room that is too small is taken", size);
             check(is_untouched(room, 0, size + 1), "a room that is too small is written to", size);
         } else {
-            check(status == PSLINK_DONE && answer.written == result->length, "room enough is not taken", size);
+            check(status == PSLINK_DONE && answer.size == result->length && !has_fault(&answer), "room enough is not taken", size);
             check(memcmp(room, result->bytes, result->length) == 0, "the result is another", size);
             check(is_untouched(room, result->length, size + 1), "what is behind the result is written to", size);
         }
@@ -108,34 +111,41 @@ static void check_memory(enum call call)
     check(0, "there is no end of memory that is asked for", (size_t)call);
 }
 
-/* A refusal of up to 256 libraries requests no memory; of more it may. */
+/* A refusal of one library or none requests no memory; of up to 256 that of their copy alone; of more it may. */
 static void check_refusals(void)
 {
     static unsigned char room[100];
-    static char libs[300 * 512];
-    static size_t lengths[300];
+    static const char lib[512];
+    static pslink_file files[301];
     char text[PSLINK_FAULT_TEXT_MAX];
     pslink_answer answer;
     size_t count, size;
+    long turn;
 
-    for (count = 0; count < 300; count++)
-        lengths[count] = 512;
-    for (count = 0; count <= 300; count++) {
-        uint32_t status;
-
-        memset(room, FILLER, sizeof room);
-        asked = 0;
-        refused_at = 0;
-        status = pslink_link(host.bytes, host.length, libs, 512 * count, lengths, count, room, sizeof room, &answer);
-        refused_at = -1;
-        check(status == (count <= 256 ? PSLINK_REFUSED : PSLINK_NO_MEMORY), "without memory a refusal is another", count);
-        check(count > 256 || (asked == 0 && answer.fault == 13), "a refusal asks for memory", count);
-        check(is_untouched(room, 0, sizeof room), "a refusal writes to the room", count);
+    files[0] = host;
+    for (count = 1; count <= 300; count++) {
+        files[count].bytes = lib;
+        files[count].length = sizeof lib;
     }
-    check(pslink_link(host.bytes, host.length, libs, 512 * 300, lengths, 300, NULL, 0, &answer) == PSLINK_REFUSED,
-          "three hundred libraries are not read", 300);
-    check(answer.fault == 13 && answer.file == 0 && answer.has_slot == 1 && answer.slot == 7, "the fault is another", 300);
-    check(answer.has_name == 1 && memcmp(answer.name, "UTIL    ", 8) == 0, "the missing unit is another", 300);
+    for (count = 0; count <= 300; count++)
+        for (turn = 0; turn < 2; turn++) {
+            const int is_refused = count <= (turn == 0 ? 1 : 256);
+            uint32_t status;
+
+            memset(room, FILLER, sizeof room);
+            asked = 0;
+            refused_at = turn;
+            status = pslink_link(files, count + 1, room, sizeof room, &answer);
+            refused_at = -1;
+            check(status == (is_refused ? PSLINK_REFUSED : PSLINK_NO_MEMORY), "without memory a refusal is another", count);
+            check(!is_refused || (asked == (count > 1) && answer.fault == 13), "a refusal asks for other memory", count);
+            check(is_untouched(room, 0, sizeof room), "a refusal writes to the room", count);
+        }
+    check(pslink_link(files, 301, NULL, 0, &answer) == PSLINK_REFUSED, "three hundred libraries are not read", 300);
+    check(answer.fault == 13 && answer.file == 0 && answer.slot == 7 && answer.kind == -1 && answer.record == -1 &&
+              answer.reference == -1 && answer.size == 0,
+          "the fault is another", 300);
+    check(strcmp(answer.name, "UTIL    ") == 0, "the missing unit is another", 300);
     size = pslink_fault_text(&answer, NULL, 0);
     check(size == sizeof "refused 13 MissingUnit file 0 slot 7", "the text has another length", size);
     memset(text, FILLER, sizeof text);
@@ -149,147 +159,165 @@ static void check_refusals(void)
 /* The fault of the second library, which is cut, has its file and nothing more. */
 static void check_file_of_a_fault(void)
 {
-    static const char wanted[] = "refused 1 ShortFile file 2";
+    static const char wanted[] = "refused 1 ShortFile file 2", lib[512];
     static unsigned char room[100];
-    static char libs[1022];
-    static const size_t lengths[2] = {512, 510};
+    const pslink_file files[3] = {host, {NULL, lib, 512}, {NULL, lib, 510}};
     char text[PSLINK_FAULT_TEXT_MAX];
     pslink_answer answer;
-    pslink_answer short_file;
 
     memset(room, FILLER, sizeof room);
-    check(pslink_link(host.bytes, host.length, libs, sizeof libs, lengths, 2, room, sizeof room, &answer) == PSLINK_REFUSED,
-          "a library that is cut is taken", 2);
-    memset(&short_file, 0, sizeof short_file);
-    short_file.status = PSLINK_REFUSED;
-    short_file.fault = 1;
-    short_file.file = 2;
-    check(memcmp(&answer, &short_file, sizeof answer) == 0, "the fault of a cut library is another", 2);
+    check(pslink_link(files, 3, room, sizeof room, &answer) == PSLINK_REFUSED, "a library that is cut is taken", 2);
+    check(answer.fault == 1 && answer.file == 2, "the fault of a cut library is another", 2);
+    answer.fault = 0;
+    answer.file = -1;
+    check(is_bare(&answer, PSLINK_REFUSED), "the fault of a cut library has more", 2);
+    answer.fault = 1;
+    answer.file = 2;
     check(is_untouched(room, 0, sizeof room), "a refusal writes to the room", 2);
     check(pslink_fault_text(&answer, text, sizeof text) == sizeof wanted && strcmp(text, wanted) == 0,
           "the text of a cut library is another", 2);
 }
 
-static void check_lengths(void)
+/* Libraries anywhere in memory, one of no bytes among them, are linked as by their order. */
+static void check_order(void)
 {
-    static const size_t wrong[][2] = {{1536, 1}, {1535, 0}, {SIZE_MAX, 1537}, {0, 0}, {1, 1536}};
-    char text[PSLINK_FAULT_TEXT_MAX];
+    static unsigned char out[ROOM], other[1 << 16];
+    pslink_file changed = library;
     pslink_answer answer;
     size_t k;
 
-    for (k = 0; k < sizeof wrong / sizeof *wrong; k++) {
-        check(pslink_link(host.bytes, host.length, library.bytes, library.length, wrong[k], 2, NULL, 0, &answer) ==
-                  PSLINK_WRONG_LENGTHS && is_bare(&answer, PSLINK_WRONG_LENGTHS),
-              "lengths that do not add up are taken", k);
-        check(pslink_map(host.bytes, host.length, library.bytes, library.length, wrong[k], 2, NULL, 0, &answer) ==
-                  PSLINK_WRONG_LENGTHS,
-              "lengths that do not add up are taken for a map", k);
+    memcpy(other, library.bytes, library.length);
+    other[512 + 4] ^= 1; /* an instruction of the unit, no operand of a reference */
+    changed.bytes = other;
+    for (k = 0; k < 2; k++) {
+        const pslink_file files[3] = {host, k == 0 ? library : changed, k == 0 ? changed : library};
+
+        check(pslink_link(files, 3, out, sizeof out, &answer) == PSLINK_DONE && answer.size == linked.length, "two libraries are not linked", k);
+        check((memcmp(out, linked.bytes, linked.length) == 0) == (k == 0), "of two libraries another is used", k);
     }
-    check(pslink_fault_text(&answer, text, sizeof text) == 0, "wrong lengths are told as a fault", 0);
-    check(pslink_link(NULL, 0, NULL, 0, NULL, 0, NULL, 0, &answer) == PSLINK_REFUSED && answer.fault == 1,
-          "nothing is not refused as a short file", 0);
-    check(pslink_show(NULL, 0, NULL, 0, &answer) == PSLINK_REFUSED && answer.fault == 1,
-          "nothing is shown", 0);
+    memcpy(other, library.bytes, library.length);
+    other[196] = 4; /* the kind of the unit's entry */
+    check(link_two(host, changed, out, sizeof out, &answer) == PSLINK_REFUSED && answer.fault == PSLINK_FAULT_NOT_A_UNIT &&
+              answer.file == 1 && answer.kind == 4 && answer.slot == 7,
+          "what is no unit has another kind", answer.fault);
+    for (k = 1; k <= 3; k++) {
+        pslink_file files[4] = {host, library, library, library};
+
+        files[k].bytes = NULL;
+        files[k].length = 0;
+        check(pslink_link(files, 4, out, sizeof out, &answer) == PSLINK_REFUSED && answer.fault == PSLINK_FAULT_SHORT_FILE &&
+                  answer.file == (ptrdiff_t)k,
+              "a library of no bytes is no short file", k);
+    }
+}
+
+/* What no caller may do has a status of its own, and nothing else. */
+static void check_misuse(void)
+{
+    const pslink_file files[3] = {{"HOST", NULL, 1536}, host, {NULL, NULL, 1}}, nothing = {NULL, NULL, 0};
+    static unsigned char room[100];
+    char text[PSLINK_FAULT_TEXT_MAX];
+    pslink_answer answer;
+    uint32_t what;
+
+    memset(room, FILLER, sizeof room);
+    check(pslink_link(NULL, 2, room, sizeof room, &answer) == PSLINK_MISUSE && is_bare(&answer, PSLINK_MISUSE), "no files are taken", 0);
+    check(pslink_link(files, 0, room, sizeof room, &answer) == PSLINK_MISUSE && is_bare(&answer, PSLINK_MISUSE), "no host is taken", 0);
+    check(pslink_link(files, 1, room, sizeof room, &answer) == PSLINK_MISUSE && is_bare(&answer, PSLINK_MISUSE), "no bytes are taken", 1);
+    check(pslink_link(files + 1, 2, room, sizeof room, &answer) == PSLINK_MISUSE && is_bare(&answer, PSLINK_MISUSE), "no bytes are taken", 2);
+    check(pslink_link(&host, 1, room, sizeof room, NULL) == PSLINK_MISUSE, "no answer is taken", 0);
+    for (what = 0; what < 1200; what++) {
+        const uint32_t number = what & ~PSLINK_JSON;
+        const int is_text = number <= PSLINK_HAD && (number == what || (number != PSLINK_UNITS && number <= PSLINK_FINDINGS));
+
+        check((pslink_text(what, &host, 1, NULL, 0, &answer) == PSLINK_MISUSE) == !is_text, "a text that there is not is made", what);
+        check(is_text || is_bare(&answer, PSLINK_MISUSE), "a text that there is not has an answer", what);
+        check(pslink_text(what, NULL, 1, room, sizeof room, &answer) == PSLINK_MISUSE, "no files are taken for a text", what);
+        check(pslink_text(what, files, 0, room, sizeof room, &answer) == PSLINK_MISUSE, "no host is taken for a text", what);
+        check(pslink_text(what, files + 1, 2, room, sizeof room, &answer) == PSLINK_MISUSE && is_bare(&answer, PSLINK_MISUSE),
+              "no bytes are taken for a text", what);
+        check(pslink_text(what, &host, 1, room, sizeof room, NULL) == PSLINK_MISUSE, "no answer is taken for a text", what);
+    }
+    check(pslink_text(UINT32_MAX, &host, 1, NULL, 0, &answer) == PSLINK_MISUSE, "a text that there is not is made", what);
+    check(is_untouched(room, 0, sizeof room), "a call that is none writes to the room", 0);
+    check(pslink_fault_text(&answer, text, sizeof text) == 0, "misuse is told as a fault", 0);
+    check(pslink_fault_text(NULL, text, sizeof text) == 0, "no answer is told as a fault", 0);
+    check(pslink_link(&nothing, 1, NULL, 0, &answer) == PSLINK_REFUSED && answer.fault == 1, "nothing is not refused as a short file", 0);
+    check(pslink_text(PSLINK_SHOW, &nothing, 1, NULL, 0, &answer) == PSLINK_REFUSED && answer.fault == 1, "nothing is shown", 0);
     memset(&answer, 0xFF, sizeof answer);
-    answer.status = PSLINK_REFUSED;
     check(pslink_fault_text(&answer, text, sizeof text) == 0, "a fault of no number has a text", 255);
-    check(pslink_version() == PSLINK_VERSION, "the version is another", pslink_version());
     check(pslink_release_number() == PSLINK_RELEASE_NUMBER, "the release is another", pslink_release_number());
 }
 
-/* NULL with a length above 0, as of a malloc that failed: the length is taken for 0. */
+/* NULL as of a malloc that failed: there is no room, whatever its length. */
 static void check_null(void)
 {
-    const size_t lengths[1] = {1536};
-    pslink_file none = {NULL, 1536}, one = {library.bytes, library.length};
+    const pslink_file one = {NULL, library.bytes, library.length}, none = {NULL, NULL, 0};
     pslink_answer answer;
 
-    check(pslink_link(host.bytes, host.length, library.bytes, library.length, &library.length, 1, NULL, 4096, &answer) ==
-                  PSLINK_TOO_SMALL && answer.needed == 1536 && answer.written == 0,
-          "no room is enough for a linked file", 0);
-    check(pslink_map(host.bytes, host.length, library.bytes, library.length, &library.length, 1, NULL, 4096, &answer) ==
-                  PSLINK_TOO_SMALL && answer.needed > 0,
-          "no room is enough for a map", 0);
-    check(pslink_show(host.bytes, host.length, NULL, 4096, &answer) == PSLINK_TOO_SMALL && answer.needed > 0,
-          "no room is enough for a show", 0);
-    check(pslink_link(NULL, 1536, library.bytes, library.length, &library.length, 1, NULL, 0, &answer) == PSLINK_REFUSED &&
-              answer.fault == PSLINK_FAULT_SHORT_FILE && answer.file == 0,
+    check(link_two(host, one, NULL, 4096, &answer) == PSLINK_TOO_SMALL && is_small(&answer, 1536), "no room is enough for a linked file", 0);
+    check(make(LINK_COPIED, NULL, 4096, &answer) == PSLINK_TOO_SMALL && is_small(&answer, 1536),
+          "no room is enough for a linked file, of files that are copied", 0);
+    check(make(MAP, NULL, 4096, &answer) == PSLINK_TOO_SMALL && answer.size > 0, "no room is enough for a map", 0);
+    check(pslink_text(PSLINK_SHOW, &host, 1, NULL, 4096, &answer) == PSLINK_TOO_SMALL && answer.size > 0, "no room is enough for a show", 0);
+    check(link_two(none, one, NULL, 0, &answer) == PSLINK_REFUSED && answer.fault == PSLINK_FAULT_SHORT_FILE && answer.file == 0,
           "a host that is not there is no short file", 0);
-    check(pslink_show(NULL, 1536, NULL, 0, &answer) == PSLINK_REFUSED && answer.fault == PSLINK_FAULT_SHORT_FILE,
-          "a file that is not there is no short file", 0);
-    check(pslink_link(host.bytes, host.length, NULL, 1536, lengths, 1, NULL, 0, &answer) == PSLINK_WRONG_LENGTHS,
-          "lengths of libraries that are not there add up", 0);
-    check(pslink_link(host.bytes, host.length, library.bytes, library.length, NULL, 1, NULL, 0, &answer) == PSLINK_WRONG_LENGTHS,
-          "lengths that are not there add up", 0);
-    check(pslink_link_files(none, &one, 1, NULL, 0, &answer) == PSLINK_REFUSED && answer.fault == PSLINK_FAULT_SHORT_FILE &&
-              answer.file == 0,
-          "a host that is not there is no short file, of libraries that are anywhere", 0);
-    check(pslink_link_files(host, &none, 1, NULL, 0, &answer) == PSLINK_REFUSED && answer.fault == PSLINK_FAULT_SHORT_FILE &&
-              answer.file == 1,
+    check(link_two(host, none, NULL, 0, &answer) == PSLINK_REFUSED && answer.fault == PSLINK_FAULT_SHORT_FILE && answer.file == 1,
           "a library that is not there is no short file", 1);
-    check(pslink_link_files(host, &one, 1, NULL, 4096, &answer) == PSLINK_TOO_SMALL && answer.needed == 1536,
-          "no room is enough for a linked file, of libraries that are anywhere", 0);
-    check(pslink_fault_name(PSLINK_FAULT_MISSING_UNIT, NULL, 100) == sizeof "MissingUnit", "a name is put where no room is", 0);
-    check(pslink_status_text(PSLINK_DONE, NULL, 100) == sizeof "done", "a text is put where no room is", 0);
-    check(pslink_release(NULL, 100) == sizeof PSLINK_RELEASE, "a release is put where no room is", 0);
 }
 
-/* The text of each fault with the largest numbers, and the names of faults and statuses, in rooms that are just enough. */
+/* The text of each fault with the largest numbers, and the names of faults and statuses. */
 static void check_texts(void)
 {
-    static const char *const statuses[] = {"done", "the files are refused",
-                                           "the lengths do not add up, or there is not one name for each file", NULL, "out of memory",
-                                           "the room is shorter than the result", "a name is no UTF-8",
-                                           "there is no such text, or it has no such form", NULL};
-    char text[PSLINK_FAULT_TEXT_MAX], wanted[2 * PSLINK_FAULT_TEXT_MAX], name[PSLINK_FAULT_TEXT_MAX];
+    static const char *const statuses[] = {"done", "the files are refused", "the call is not as pslink.h says", NULL, "out of memory",
+                                           "the room is shorter than the result", "a name of a file is no UTF-8", NULL, NULL};
+    char text[PSLINK_FAULT_TEXT_MAX], wanted[2 * PSLINK_FAULT_TEXT_MAX];
     pslink_answer answer;
     size_t longest = 0, size;
     uint32_t number;
 
     memset(&answer, 0xFF, sizeof answer);
-    answer.status = PSLINK_REFUSED;
-    for (number = 0; number < 256; number++) {
-        answer.fault = (uint8_t)number;
-        size = pslink_fault_name(answer.fault, name, sizeof name);
-        check((size != 0) == (1 <= number && number <= HIGHEST_FAULT), "a fault has no name, or what is none has one", number);
-        if (size == 0) {
-            check(pslink_fault_text(&answer, text, sizeof text) == 0, "what is no fault has a text", number);
+    answer.slot = 255;
+    answer.file = answer.record = answer.reference = PTRDIFF_MAX;
+    for (number = 0; number < 600; number++) {
+        const char *name = pslink_fault(number, PSLINK_NAME);
+
+        answer.fault = number;
+        answer.kind = number == PSLINK_FAULT_NOT_A_UNIT ? 65535 : -1;
+        check((name != NULL) == (1 <= number && number <= HIGHEST_FAULT), "a fault has no name, or what is none has one", number);
+        memset(text, FILLER, sizeof text);
+        if (name == NULL) {
+            check(pslink_fault_text(&answer, text, sizeof text) == 0 && is_untouched((unsigned char *)text, 0, sizeof text),
+                  "what is no fault has a text", number);
             continue;
         }
-        check(size == strlen(name) + 1, "a name is not closed", number);
-        snprintf(wanted, sizeof wanted, "refused %u %s%s file %zu slot 255 record %zu reference %zu", (unsigned)number, name,
-                 number == PSLINK_FAULT_NOT_A_UNIT ? " kind 65535" : "", SIZE_MAX, SIZE_MAX, SIZE_MAX);
+        snprintf(wanted, sizeof wanted, "refused %u %s%s file %td slot 255 record %td reference %td", (unsigned)number, name,
+                 number == PSLINK_FAULT_NOT_A_UNIT ? " kind 65535" : "", PTRDIFF_MAX, PTRDIFF_MAX, PTRDIFF_MAX);
         size = strlen(wanted) + 1;
         longest = size > longest ? size : longest;
-        memset(text, FILLER, sizeof text);
         check(pslink_fault_text(&answer, text, size - 1) == size && is_untouched((unsigned char *)text, 0, sizeof text),
               "a text is written where it does not fit", number);
+        check(pslink_fault_text(&answer, NULL, sizeof text) == size, "a text is written where no room is", number);
         check(pslink_fault_text(&answer, text, size) == size && strcmp(text, wanted) == 0, "a longest text is another", number);
         check(is_untouched((unsigned char *)text, size, sizeof text), "what is behind a text is written to", number);
     }
     check(longest > 100 && longest <= PSLINK_FAULT_TEXT_MAX, "the longest text has another length", longest);
-    check(pslink_fault_name(PSLINK_FAULT_MISSING_UNIT, name, sizeof name) == sizeof "MissingUnit" && strcmp(name, "MissingUnit") == 0,
-          "the name of a fault is another", PSLINK_FAULT_MISSING_UNIT);
-    check(pslink_fault_name(PSLINK_FAULT_MISSING_UNIT, NULL, 0) == sizeof "MissingUnit", "the length of a name is another", 0);
+    check(strcmp(pslink_fault(PSLINK_FAULT_MISSING_UNIT, PSLINK_NAME), "MissingUnit") == 0, "the name of a fault is another",
+          PSLINK_FAULT_MISSING_UNIT);
     for (number = 0; number < sizeof statuses / sizeof *statuses; number++) {
-        size = statuses[number] == NULL ? 0 : strlen(statuses[number]) + 1;
-        memset(text, FILLER, sizeof text);
-        check(pslink_status_text(number, text, sizeof text) == size && (size == 0 || strcmp(text, statuses[number]) == 0),
+        const char *said = pslink_status(number);
+
+        check(said == NULL ? statuses[number] == NULL : statuses[number] != NULL && strcmp(said, statuses[number]) == 0,
               "what a status says is another", number);
-        check(is_untouched((unsigned char *)text, size, sizeof text), "what is behind a status is written to", number);
-        check(size == 0 || (pslink_status_text(number, text + size, size - 1) == size &&
-                            is_untouched((unsigned char *)text, size, sizeof text)),
-              "what a status says is written where it does not fit", number);
     }
-    check(pslink_release(text, sizeof text) == sizeof PSLINK_RELEASE && strcmp(text, PSLINK_RELEASE) == 0,
-          "the release is another", 0);
+    check(pslink_status(UINT32_MAX) == NULL, "what is no status says something", UINT32_MAX);
 }
 
-/* What each fault means and what to do about it, in rooms that are just enough: ASCII that is printed. */
+/* What each fault means and what to do about it: ASCII that is printed. */
 static void check_sentences(void)
 {
     static const struct {
-        uint8_t fault;
+        uint32_t fault;
         const char *meaning, *remedy;
     } known[] = {
         {PSLINK_FAULT_SHORT_FILE, "The file has less than the 512 bytes of a segment dictionary.",
@@ -303,48 +331,49 @@ static void check_sentences(void)
          "The host has no empty slot from 7 to 15 left for the unit that the UNITREF in this record requests.",
          "Join two units into one, or take linked segments out of the host."},
     };
-    size_t (*const calls[2])(uint8_t, char *, size_t) = {pslink_fault_meaning, pslink_fault_remedy};
-    char text[PSLINK_SENTENCE_MAX];
-    size_t size, k, at;
-    uint32_t number;
+    uint32_t number, part;
+    size_t k;
 
-    for (k = 0; k < 2; k++)
-        for (number = 0; number < 256; number++) {
-            memset(text, FILLER, sizeof text);
-            size = calls[k]((uint8_t)number, text, sizeof text);
-            check((size != 0) == (1 <= number && number <= HIGHEST_FAULT), "a fault has no sentence, or what is none has one", number);
-            check(is_untouched((unsigned char *)text, size, sizeof text), "what is behind a sentence is written to", number);
-            check(size == 0 || (size == strlen(text) + 1 && text[size - 2] == '.'), "a sentence is not closed", number);
-            for (at = 0; at + 1 < size; at++)
-                check(text[at] >= ' ' && text[at] <= '~', "a sentence has a byte that is not printed", number);
-            memset(text, FILLER, sizeof text);
-            check(size == 0 || (calls[k]((uint8_t)number, text, size - 1) == size &&
-                                is_untouched((unsigned char *)text, 0, sizeof text)),
-                  "a sentence is written where it does not fit", number);
+    for (part = 0; part < 6; part++)
+        for (number = 0; number < 600; number++) {
+            const char *sentence = pslink_fault(number, part), *at;
+
+            check((sentence != NULL) == (1 <= number && number <= HIGHEST_FAULT && part <= PSLINK_REMEDY),
+                  "a fault has no sentence, or what is none has one", number);
+            if (sentence == NULL)
+                continue;
+            check(sentence == pslink_fault(number, part), "a sentence is elsewhere", number);
+            check(part == PSLINK_NAME || sentence[strlen(sentence) - 1] == '.', "a sentence does not end", number);
+            for (at = sentence; *at != 0; at++)
+                check(*at >= ' ' && *at <= '~', "a sentence has a byte that is not printed", number);
         }
+    check(pslink_fault(UINT32_MAX, PSLINK_NAME) == NULL && pslink_fault(1, UINT32_MAX) == NULL, "there is a fault of the highest number", 0);
     for (k = 0; k < sizeof known / sizeof *known; k++) {
-        check(pslink_fault_meaning(known[k].fault, text, sizeof text) == strlen(known[k].meaning) + 1 &&
-                  strcmp(text, known[k].meaning) == 0,
-              "what a fault means is another", known[k].fault);
-        check(pslink_fault_remedy(known[k].fault, text, sizeof text) == strlen(known[k].remedy) + 1 &&
-                  strcmp(text, known[k].remedy) == 0,
-              "what to do about a fault is another", known[k].fault);
+        check(strcmp(pslink_fault(known[k].fault, PSLINK_MEANING), known[k].meaning) == 0, "what a fault means is another", known[k].fault);
+        check(strcmp(pslink_fault(known[k].fault, PSLINK_REMEDY), known[k].remedy) == 0, "what to do about a fault is another",
+              known[k].fault);
     }
-    check(pslink_fault_remedy(PSLINK_FAULT_TWO_HOSTS, NULL, 100) == sizeof "Keep one of them in the file.",
-          "a sentence is put where no room is", 0);
 }
 
 /* Lengths that no block of memory can have. */
 static void check_too_long(void)
 {
-    const pslink_file too_long[2] = {{library.bytes, PTRDIFF_MAX}, {library.bytes, SIZE_MAX}};
+    const pslink_file too_long[3] = {host, {NULL, library.bytes, PTRDIFF_MAX}, {NULL, library.bytes, SIZE_MAX}};
     pslink_answer answer;
+    uint32_t what;
 
-    check(pslink_link_files(host, too_long, 1, NULL, 0, &answer) == PSLINK_NO_MEMORY && is_bare(&answer, PSLINK_NO_MEMORY),
+    for (what = PSLINK_MAP; what <= PSLINK_HAD; what++) {
+        check(pslink_text(what, too_long, 2, NULL, 0, &answer) == PSLINK_NO_MEMORY && is_bare(&answer, PSLINK_NO_MEMORY),
+              "a library that is too long is taken", what);
+        check(pslink_text(what, too_long, 3, NULL, 0, &answer) == PSLINK_NO_MEMORY, "libraries that are too long are taken", what);
+        check(pslink_text(what, too_long, SIZE_MAX, NULL, 0, &answer) == PSLINK_NO_MEMORY, "too many libraries are taken", what);
+    }
+    check(pslink_link(too_long, 2, NULL, 0, &answer) == PSLINK_NO_MEMORY && is_bare(&answer, PSLINK_NO_MEMORY),
           "a library that is too long is taken", 1);
-    check(pslink_map_files(host, too_long, 2, NULL, 0, &answer) == PSLINK_NO_MEMORY, "libraries that are too long are taken", 2);
-    check(pslink_map_files(host, too_long, SIZE_MAX, NULL, 0, &answer) == PSLINK_NO_MEMORY, "too many libraries are taken", 3);
-#if PSLINK_LINKED_MAX != 1025 * 512 || PSLINK_FAULT_TEXT_MAX < 125 || PSLINK_VERSION < 1 || PSLINK_FAULT_MISSING_UNIT != 13
+    check(pslink_link(too_long, 3, NULL, 0, &answer) == PSLINK_NO_MEMORY, "libraries that are too long are taken", 2);
+    check(pslink_link(too_long, SIZE_MAX, NULL, 0, &answer) == PSLINK_NO_MEMORY, "too many libraries are taken", 3);
+    check(pslink_link(&host, SIZE_MAX / (2 * sizeof(size_t)) + 2, NULL, 0, &answer) == PSLINK_NO_MEMORY, "too many libraries are taken", 4);
+#if PSLINK_LINKED_MAX != 1025 * 512 || PSLINK_FAULT_TEXT_MAX < 125 || PSLINK_FAULT_MISSING_UNIT != 13
     check(0, "the constants are others", 0);
 #endif
 }
@@ -401,7 +430,8 @@ int main(int argc, char **argv)
     }
     check_refusals();
     check_file_of_a_fault();
-    check_lengths();
+    check_order();
+    check_misuse();
     check_null();
     check_texts();
     check_sentences();

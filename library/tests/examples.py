@@ -1,7 +1,7 @@
 #!/usr/bin/env python3
 """Writes the examples of programs to a folder, for .ci/library to compile and run: header.c of include/pslink.h, whose function
-gets a main; embedding.c, embedding.py and embedding.rs of docs/EMBEDDING.md, its CMakeLists.txt, and report.c, found.c, found.py and why.c,
-whose functions get a main too; manual.c of man/pslink.3; and declarations.c, the declarations of that page. Prints where the page's
+gets a main; embedding.c, embedding.py and embedding.rs of docs/EMBEDDING.md, its CMakeLists.txt, and report.c, found.c and found.py, whose
+functions get a main too; manual.c of man/pslink.3; and declarations.c, the declarations of that page. Prints where the page's
 types are not those of the header. Usage: examples.py FOLDER"""
 import pathlib
 import re
@@ -9,12 +9,11 @@ import shlex
 import sys
 
 ROOT = pathlib.Path(__file__).resolve().parents[2]
-# (what callers have no interest in is left out)
-HEADER = (ROOT / "include/pslink.h").read_text().split("/* What follows is of no interest", 1)[0]
+HEADER = (ROOT / "include/pslink.h").read_text()
 PAGE = (ROOT / "man/pslink.3").read_text()
 ENDINGS = {"c": ".c", "python": ".py", "rust": ".rs"}
 # functions of examples, which get the main of this name beside, and the example's name
-FUNCTIONS = {"show_report": "report", "link_found": "found", "say_why": "why"}
+FUNCTIONS = {"show_report": "report", "link_found": "found"}
 
 
 def of_header():
@@ -64,7 +63,7 @@ def main():
     if not types(HEADER) or types(HEADER) != types(PAGE):
         print(f"the types of pslink(3) are {types(PAGE)}, and those of the header {types(HEADER)}")
         return 1
-    functions = set(re.findall(r"^static inline \w+ (pslink_\w+)\(", HEADER, re.M)) | {"pslink_version", "pslink_release_number"}
+    functions = set(re.findall(r"^(?:uint32_t|size_t|const char \*)\s*(pslink_\w+)\(", HEADER, re.M))
     named = set(re.findall(r"pslink_\w+", PAGE.split("\n.SH NAME\n", 1)[1].split("\n", 1)[0]))
     installed = set(re.search(r"^CALLS = (.*?[^\\])\n", (ROOT / "Makefile").read_text(), re.M | re.S)[1].split()) - {"\\"}
     if functions != named or functions != installed:

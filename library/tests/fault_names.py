@@ -18,27 +18,43 @@ SENTENCES = re.compile(r"^\| (\d+) \| ([^|]*\.) \| ([^|]*) \|$", re.M)
 RECORD = re.compile(r"^  record \d+: [A-Z]+ (.*)$", re.M)
 SEGMENT = re.compile(r"^  segment (.*), of slot \d\d of the host$", re.M)
 ROOM = 1 << 20
-TEXT_LIST, JSON, UNITS_WANTED, UNITS_HAD = 4, 1, 0, 1
+CHECK, LIST, WANTED, HAD, JSON = 3, 4, 7, 8, 256
+NAME, MEANING, REMEDY = 0, 1, 2
+
+
+class File(ctypes.Structure):
+    """pslink_file"""
+    _fields_ = [("name", ctypes.c_char_p), ("bytes", ctypes.c_char_p), ("length", ctypes.c_size_t)]
 
 
 class Answer(ctypes.Structure):
     """pslink_answer"""
-    _fields_ = [("status", ctypes.c_uint32), ("kind", ctypes.c_uint16), ("fault", ctypes.c_uint8), ("slot", ctypes.c_uint8),
-                *((f"has_{part}", ctypes.c_uint8) for part in ("kind", "slot", "record", "reference")),
-                ("private_words", ctypes.c_uint32),
-                *((part, ctypes.c_size_t) for part in ("file", "record", "reference", "segments", "blocks", "written", "needed")),
-                ("name", ctypes.c_uint8 * 8), ("has_name", ctypes.c_uint32), ("reserved", ctypes.c_uint32 * 7)]
+    _fields_ = [("status", ctypes.c_uint32), ("fault", ctypes.c_uint32),
+                *((part, ctypes.c_ssize_t) for part in ("file", "record", "reference")),
+                *((part, ctypes.c_int32) for part in ("slot", "kind")), ("name", ctypes.c_uint8 * 9),
+                *((part, ctypes.c_uint32) for part in ("segments", "private_words", "blocks", "warnings")),
+                ("size", ctypes.c_size_t), ("reserved", ctypes.c_uint32 * 8)]
+
+    def name_told(self):
+        """The name of what the fault is about, eight bytes, or None."""
+        return bytes(self.name)[:8] if any(self.name) else None
 
 
-class CheckAnswer(ctypes.Structure):
-    """pslink_check_answer"""
-    _fields_ = [("status", ctypes.c_uint32), ("ends_with", ctypes.c_uint32),
-                *((part, ctypes.c_size_t) for part in ("warnings", "written", "needed")),
-                ("verdict", Answer), ("reserved", ctypes.c_size_t * 4)]
+def made(library, what, room, host, libraries):
+    """What a text of these files is, and the answer."""
+    names = [b"HOST", *(b"LIB%d" % number for number in range(1, 1 + len(libraries)))]
+    files = (File * len(names))(*((name, data, len(data)) for name, data in zip(names, (host, *libraries))))
+    answer = Answer()
+    library.pslink_text(ctypes.c_uint32(what), files, ctypes.c_size_t(len(names)), room, ctypes.c_size_t(ROOM), ctypes.byref(answer))
+    return room.raw[: answer.size], answer
 
 
-def sizes(items):
-    return (ctypes.c_size_t * max(1, len(items)))(*map(len, items))
+def linked(library, room, host, libraries):
+    """The answer of a link."""
+    files = (File * (1 + len(libraries)))(*((None, data, len(data)) for data in (host, *libraries)))
+    answer = Answer()
+    library.pslink_link(files, ctypes.c_size_t(len(files)), room, ctypes.c_size_t(ROOM), ctypes.byref(answer))
+    return answer
 
 
 def shown(name):
@@ -53,40 +69,30 @@ def told(report):
 
 
 def differences(library, room, host, libraries):
-    names = [b"HOST", *(b"LIB%d" % number for number in range(1, 1 + len(libraries)))]
-    answer, one = CheckAnswer(), Answer()
-    joined, lengths = b"".join(libraries), sizes(libraries)
-    size = lambda number: ctypes.c_size_t(number)
-    files = (host, size(len(host)), joined, size(len(joined)), lengths, size(len(libraries)))
-    status = library.pslink_check_nonnull(*files, b"".join(names), size(sum(map(len, names))), sizes(names), size(len(names)), 0, room,
-                                          size(ROOM), ctypes.byref(answer))
-    report = room.raw[: answer.written].decode()
-    verdict = answer.verdict
-    library.pslink_link_nonnull(*files, room, size(ROOM), ctypes.byref(one))
-    if status != 0 or (one.status == 1) != (verdict.status == 1):
-        yield f"status {status}, {one.status} of a link, {verdict.status} of its verdict"
-    elif (one.has_name, bytes(one.name)) != (verdict.has_name, bytes(verdict.name)):
-        yield f"a link has the name {bytes(one.name)}, and its verdict {bytes(verdict.name)}"
-    elif verdict.has_name not in (0, 1) or not verdict.has_name and any(verdict.name):
-        yield f"has_name {verdict.has_name} and the name {bytes(verdict.name)}"
-    elif verdict.status == 1 and told(report) != (shown(bytes(verdict.name)) if verdict.has_name else None):
-        yield f"fault {verdict.fault} has the name {bytes(verdict.name)}, and the report says {told(report)}"
+    report, verdict = made(library, CHECK, room, host, libraries)
+    _, document = made(library, CHECK | JSON, room, host, libraries)
+    one = linked(library, room, host, libraries)
+    parts = [(it.fault, it.file, it.record, it.reference, it.slot, it.kind, bytes(it.name)) for it in (one, verdict, document)]
+    if verdict.status != 0 or document.status != 0 or (one.status == 1) != (verdict.fault != 0):
+        yield f"status {verdict.status}, {one.status} of a link, fault {verdict.fault} of its verdict"
+    elif len(set(parts)) != 1:
+        yield f"a link has {parts[0]}, its verdict {parts[1]}, and that of the document {parts[2]}"
+    elif verdict.warnings != document.warnings or verdict.warnings != len(re.findall(rb"^warning: ", report, re.M)):
+        yield f"{verdict.warnings} warnings are told, and {document.warnings} of the document"
+    elif verdict.name[8] != 0:
+        yield f"the name {bytes(verdict.name)} is not closed"
+    elif verdict.fault and told(report.decode()) != (shown(verdict.name_told()) if verdict.name_told() else None):
+        yield f"fault {verdict.fault} has the name {bytes(verdict.name)}, and the report says {told(report.decode())}"
 
 
 def unit_differences(library, room, host, libraries):
-    answer, size = Answer(), ctypes.c_size_t
-    joined, lengths = b"".join(libraries), sizes(libraries)
-    files = (host, size(len(host)), joined, size(len(joined)), lengths, size(len(libraries)))
     def units(which):
-        library.pslink_units_nonnull(which, *files, room, size(ROOM), ctypes.byref(answer))
-        return [room.raw[at : at + 8] for at in range(0, answer.written, 8)]
-    names = [b"N"] * (1 + len(libraries))
-    library.pslink_text_nonnull(TEXT_LIST, JSON, *files, b"".join(names), size(len(names)), sizes(names), size(len(names)), room,
-                                size(ROOM), ctypes.byref(answer))
-    listed = json.loads(room.raw[: answer.written])["files"][0]
+        names, _ = made(library, which, room, host, libraries)
+        return [names[at : at + 8] for at in range(0, len(names), 8)]
+    listed = json.loads(made(library, LIST | JSON, room, host, libraries)[0])["files"][0]
     if listed["fault"] is None and listed["type"] is None:
         of_role = lambda role: [bytes.fromhex(one["name_hex"]) for one in listed["segments"] if one["role"] == role]
-        wanted, had = units(UNITS_WANTED), units(UNITS_HAD)
+        wanted, had = units(WANTED), units(HAD)
         if had != of_role("unit") or wanted[: len(of_role("wanted"))] != of_role("wanted"):
             yield f"the units {wanted} are wanted and {had} had"
 
@@ -96,19 +102,18 @@ def below(heading):
     return (ROOT / "docs/LINKING.md").read_text().split(f"### {heading}\n", 1)[1].split("\n#", 1)[0]
 
 
-def fault_differences(library, room):
+def fault_differences(library):
     """What a number has another name or other sentences than in the tables, or has any without a row of it."""
     names = {int(number): name for number, name in NAMES.findall(below("When each fault occurs"))}
     rows = {int(number): sentences for number, *sentences in SENTENCES.findall(below("What to do about each fault"))}
     if not names or names.keys() != rows.keys():
         yield f"one table has the faults {sorted(names)}, and the other {sorted(rows)}"
+    library.pslink_fault.restype = ctypes.c_char_p
     for number in range(256):
-        size = library.pslink_fault_name_nonnull(ctypes.c_uint8(number), room, ctypes.c_size_t(ROOM))
-        if (room.value.decode() if size else "") != names.get(number, ""):
-            yield f"fault {number} has the name {room.value if size else b''}"
-        calls = library.pslink_fault_meaning_nonnull, library.pslink_fault_remedy_nonnull
-        put = [room.value.decode() if call(ctypes.c_uint8(number), room, ctypes.c_size_t(ROOM)) else "" for call in calls]
-        found = [text.replace(" in pslink(1)", "") for text in put]
+        said = [(library.pslink_fault(number, part) or b"").decode() for part in (NAME, MEANING, REMEDY)]
+        if said[0] != names.get(number, ""):
+            yield f"fault {number} has the name {said[0]}"
+        found = [text.replace(" in pslink(1)", "") for text in said[1:]]
         if found != rows.get(number, ["", ""]):
             yield f"fault {number} has the sentences {found}"
 
@@ -118,7 +123,7 @@ def main():
     room = ctypes.create_string_buffer(ROOM)
     sets = {(bytes(host), tuple(map(bytes, libraries))): None for host, libraries in runpy.run_path(str(ROOT / ".ci/report"))["sets"]()}
     found = [] if len(sets) >= 2000 else [f"there are {len(sets)} sets of files"]
-    found += fault_differences(library, room)
+    found += fault_differences(library)
     for number, (host, libraries) in enumerate(sets):
         for differ in (differences, unit_differences):
             found += [f"set {number}: {line}" for line in differ(library, room, host, libraries)]

@@ -5,22 +5,22 @@
 #define FILES 16
 
 static unsigned char bytes[FILES][1 << 16];
-static pslink_file files[FILES];
-static int count;
+static pslink_file shelf[FILES];
+static size_t count;
 
 /* The first file behind the host that has the unit of this name. */
-static int find(const uint8_t *name, pslink_file *library)
+static int find(const char *name, pslink_file *library)
 {
-    unsigned char names[16][8];
+    char names[16][8];
     pslink_answer answer;
-    size_t at;
-    int k;
+    size_t at, k;
 
     for (k = 1; k < count; k++) {
-        pslink_units(PSLINK_UNITS_HAD, files[k].bytes, files[k].length, NULL, 0, NULL, 0, names, sizeof names, &answer);
-        for (at = 0; at < answer.written / sizeof *names; at++) {
+        if (pslink_text(PSLINK_HAD, &shelf[k], 1, names, sizeof names, &answer) != PSLINK_DONE)
+            continue;
+        for (at = 0; at < answer.size / sizeof *names; at++) {
             if (memcmp(names[at], name, sizeof *names) == 0) {
-                *library = files[k];
+                *library = shelf[k];
                 return 1;
             }
         }
@@ -32,7 +32,7 @@ static int find(const uint8_t *name, pslink_file *library)
 int main(int argc, char **argv)
 {
     static unsigned char out[PSLINK_LINKED_MAX];
-    static pslink_file libs[FILES];
+    static pslink_file files[FILES];
     char text[PSLINK_FAULT_TEXT_MAX];
     pslink_answer answer;
 
@@ -45,12 +45,13 @@ int main(int argc, char **argv)
 
         if (stream == NULL)
             return 3;
-        files[count].bytes = bytes[count];
-        files[count].length = fread(bytes[count], 1, sizeof bytes[count], stream);
+        shelf[count].bytes = bytes[count];
+        shelf[count].length = fread(bytes[count], 1, sizeof bytes[count], stream);
         fclose(stream);
     }
-    if (link_found(files[0], find, libs, FILES, out, sizeof out, &answer) == PSLINK_DONE)
-        return fwrite(out, 1, answer.written, stdout) != answer.written || fflush(stdout) != 0;
+    files[0] = shelf[0];
+    if (link_found(files, FILES, find, out, sizeof out, &answer) == PSLINK_DONE)
+        return fwrite(out, 1, answer.size, stdout) != answer.size || fflush(stdout) != 0;
     if (pslink_fault_text(&answer, text, sizeof text) != 0)
         fprintf(stderr, "pslink: %s\n", text);
     return answer.status == PSLINK_REFUSED ? 1 : 4;

@@ -2,7 +2,7 @@
 """The Python package as a caller meets it: what it takes as a file, what it raises, that a refusal comes back from a pool of
 processes, that threads may call at once, what its hints are, that it is installed without a network, and how it finds the shared
 object.
-Prints what is otherwise. Usage: package.py LIBRARY OTHER EARLIER FOLDER: the folders of libpslink.so.2, of one of another version
+Prints what is otherwise. Usage: package.py LIBRARY OTHER EARLIER FOLDER: the folders of libpslink.so.3, of one of another interface
 and of one of an earlier release, and a new folder"""
 import array
 import ast
@@ -30,13 +30,14 @@ PACKAGE = ROOT / "bindings/python"
 sys.dont_write_bytecode = True
 sys.path.insert(0, str(PACKAGE))
 BUILT, OTHER, EARLIER, FOLDER = (pathlib.Path(path).resolve() for path in sys.argv[1:5])
-os.environ["PSLINK_LIBRARY"] = str(BUILT / "libpslink.so.2")
+os.environ["PSLINK_LIBRARY"] = str(BUILT / "libpslink.so.3")
 import pslink  # noqa: E402
 
 HOST, LIBRARY, USING, USED, BOTH = (ROOT / f"samples/{name}.code" for name in ("host", "library", "using", "used", "two_units"))
-UTIL, AUX = b"UTIL    ", b"AUX     "
+UTIL, AUX = "UTIL", "AUX"
+NAMED = {UTIL: b"UTIL    "}
 WORDS_OF_STATE = 1024 + 32 + 14  # where the library says how many words the private variable of record 1 has
-MISSING = ("refused 13 MissingUnit file 0 slot 7", 13, "MissingUnit", 0, None, 7, None, None, UTIL)
+MISSING = ("refused 13 MissingUnit file 0 slot 7", 13, "MissingUnit", 0, str(HOST), None, 7, None, None, UTIL)
 found = []
 
 
@@ -55,7 +56,7 @@ def raised(error, call, *arguments):
 
 
 def parts(fault):
-    return str(fault), fault.number, fault.name, fault.file, fault.kind, fault.slot, fault.record, fault.reference, fault.about
+    return str(fault), fault.number, fault.name, fault.file, fault.path, fault.kind, fault.slot, fault.record, fault.reference, fault.about
 
 
 def of_files():
@@ -65,6 +66,7 @@ def of_files():
     same = {
         "paths": (HOST, [LIBRARY]), "names": (str(HOST), [str(LIBRARY)]), "bytearrays": (bytearray(host), [bytearray(library)]),
         "views": (memoryview(host), (memoryview(library),)), "arrays": (array.array("H", host), iter([array.array("B", library)])),
+        "pairs": (("a", HOST), [("b", library)]), "pairs of paths": (("a", host), iter([("b", str(LIBRARY))])),
         "every second byte": (memoryview(b"".join(bytes([byte, 0]) for byte in host))[::2], [library]),
     }  # fmt: skip
     for what, (one, all_) in same.items():
@@ -80,6 +82,8 @@ def of_files():
         (pslink.link, host, str(LIBRARY)), (pslink.link, host, LIBRARY), (pslink.link, host, 5), (pslink.link, host, [5]),
         (pslink.link, None, []), (pslink.link, 1000, []), (pslink.link, [host], []), (pslink.map, host, library),
         (pslink.map, host, [None]), (pslink.show, 1000), (pslink.show, None), (pslink.show, [1, 2]),
+        (pslink.show, (host,)), (pslink.show, (b"name", host)), (pslink.show, ("a", "b", host)), (pslink.show, ("a", None)),
+        (pslink.show, ("a", ("b", host))), (pslink.check, host, [("a", 5)]),
     ]  # fmt: skip
     for call, *arguments in wrong:
         check(raised(TypeError, call, *arguments), f"{call.__name__}{arguments!r:.60} is no TypeError")
@@ -90,26 +94,28 @@ def of_files():
 def of_reports():
     host, library = HOST.read_bytes(), LIBRARY.read_bytes()
     report = pslink.check(host, [library])
-    check(report.text.startswith("file 0 HOST: 1536 bytes, little-endian\nfile 1 LIB1: 1536 bytes"), f"a report is {report.text}")
+    check(report.text.startswith("file 0 file 0: 1536 bytes, little-endian\nfile 1 file 1: 1536 bytes"), f"a report is {report.text}")
     check("\nlinks: segments 2 private words 4 blocks 3\n" in report.text, "the report has no line of the verdict")
-    check(report[1:] == (0, None, (2, 4, 3), True), f"what goes with a report is {report[1:]}")
+    check(report[1:] == (None, (2, 4, 3), ()) and report.ok and report.verdict == (2, 4, 3), f"what goes with a report is {report[1:]}")
+    check(report.warnings == report.notes == [], f"a report of the pair has {report.findings}")
     report = pslink.check(HOST)
     check(report.text.startswith(f"file 0 {HOST}: ") and parts(report.fault) == MISSING, f"the report of a path is {report}")
-    check((report.warnings, report.summary, report.ok) == (0, None, False), f"what goes with a refusal is {report[1:]}")
+    check((report.warnings, report.summary, report.ok) == ([], None, False), f"what goes with a refusal is {report[1:]}")
+    check(report.verdict is report.fault, "the verdict of a refusal is none")
     check(parts(pickle.loads(pickle.dumps(report)).fault) == MISSING, "a report that was pickled is another")
     # (its private variable has two words, and the operand is the third)
     warned = library[:WORDS_OF_STATE] + b"\2" + library[WORDS_OF_STATE + 1 :]
-    for strict in (False, True):
-        report = pslink.check(host, [warned], ["\N{FLOPPY DISK}", "two"], strict)
-        check((report.warnings, report.fault, report.ok) == (1, None, not strict), f"a warning is {report[1:]}")
-        check("file 0 \N{FLOPPY DISK}: " in report.text and "\nwarning: two, segment UTIL, record 1: " in report.text, f"its text is {report.text}")
+    report = pslink.check(("\N{FLOPPY DISK}", host), [("two", warned)])
+    check((len(report.warnings), report.notes, report.fault, report.ok) == (1, [], None, True), f"a warning is {report[1:]}")
+    check(report.findings == tuple(report.warnings), f"what is found is {report.findings}")
+    check("file 0 \N{FLOPPY DISK}: " in report.text and "\nwarning: two, segment UTIL, record 1: " in report.text, f"its text is {report.text}")
     check(pslink.check(host, [library]) and not pslink.check(host), "a report is true otherwise than where it is ok")
     check(pslink.check(host) == pslink.check(host) != pslink.check(host, [library]), "two reports are equal otherwise than by what they hold")
-    check(raised(ValueError, pslink.check, host, [library], ["one"]), "a name too few is no ValueError")
     check(raised(TypeError, pslink.check, host, library), "one library is a list for a report")
-    for names in ("12", b"12", 2, [b"one", b"two"], [1, 2]):
-        check(raised(TypeError, pslink.check, host, [library], names), f"names that are {names!r} are no TypeError")
-    undecoded = pslink.check(host, [library], ["\udcff", "two"])
+    for name in (b"two", 2, None, ["two"]):
+        check(raised(TypeError, pslink.check, host, [(name, library)]), f"a name that is {name!r} is no TypeError")
+    check(raised(ValueError, pslink.check, host, [("a\0b", library)]), "a name with a null character is no ValueError")
+    undecoded = pslink.check(("\udcff", host), [("two", library)])
     check(undecoded.text.startswith("file 0 \\udcff: "), f"a name that no text is has the report {undecoded.text:.40}")
 
 
@@ -130,7 +136,10 @@ def of_refusals():
     check(pslink.fault_meaning(28) == "The host program defines no such name.", f"fault 28 means {pslink.fault_meaning(28)}")
     for sentence in (pslink.fault_meaning, pslink.fault_remedy):
         check([sentence(n) for n in (-1, 0, 100, 255, 256, 1 << 40)] == [""] * 6, f"{sentence.__name__} has a sentence of no fault")
-    check(pslink.release() == pslink.__version__, f"the release is {pslink.release()}, and that of the package {pslink.__version__}")
+    named = raised(pslink.Refused, pslink.link, HOST.read_bytes(), [("two", LIBRARY.read_bytes()[:511])])
+    check((named.file, named.path, named.about) == (1, "two", None), f"the file at fault is {named.file}, {named.path}")
+    named = raised(pslink.Refused, pslink.show, b"")
+    check((named.file, named.path) == (0, "file 0"), f"the file at fault is {named.file}, {named.path}")
 
 
 def changed(file, **changes):
@@ -146,10 +155,10 @@ def of_what_is_at_fault():
     2 of the library, its kind at 196, and the name of its first record at 1024; the host has the same places.)"""
     host, library = HOST.read_bytes(), LIBRARY.read_bytes()
     cases = [
-        (1, None, b"", []), (2, None, changed(HOST, at192=b"\1\1"), []), (10, b"ODD     ", changed(HOST, at8=host[4:8], at80=b"ODD     ", at196=b"\x08"), [library]),
-        (11, b"DEMO    ", changed(HOST, at6=b"\x03"), [library]), (13, UTIL, host, []), (13, AUX, host, [USING]),
-        (14, UTIL, host, [changed(LIBRARY, at196=b"\x04")]), (15, UTIL, host, [changed(LIBRARY, at4=library[8:12], at72=UTIL, at194=b"\x03")]),
-        (28, b"XOUNT   ", host, [changed(LIBRARY, at1024=b"X")]),
+        (1, None, b"", []), (2, None, changed(HOST, at192=b"\1\1"), []), (10, "ODD", changed(HOST, at8=host[4:8], at80=b"ODD     ", at196=b"\x08"), [library]),
+        (11, "DEMO", changed(HOST, at6=b"\x03"), [library]), (13, UTIL, host, []), (13, AUX, host, [USING]),
+        (14, UTIL, host, [changed(LIBRARY, at196=b"\x04")]), (15, UTIL, host, [changed(LIBRARY, at4=library[8:12], at72=NAMED[UTIL], at194=b"\x03")]),
+        (28, "XOUNT", host, [changed(LIBRARY, at1024=b"X")]),
     ]  # fmt: skip
     for number, about, one, libs in cases:
         fault = raised(pslink.Refused, pslink.link, one, libs)
@@ -171,25 +180,29 @@ def of_texts():
     files = HOST, [LIBRARY]
     text = pslink.text
     check(text("map", *files) == pslink.map(*files) and text("show", HOST) == pslink.show(HOST), "the text of a map or a show is another")
-    check(text("check", *files, ["one", "two"]) == pslink.check(*files, ["one", "two"]).text, "the text of a report is another")
+    named = ("one", HOST), [("two", LIBRARY)]
+    check(text("check", *named) == pslink.check(*named).text, "the text of a report is another")
     check(text("references", *files).startswith(pslink.map(*files)), "a map with references has no map")
-    check(text("list", *files, ["one", "two"]).startswith("one: little-endian, 1536 bytes, host\n"), "a list names its files otherwise")
+    check(text("list", *named).startswith("one: little-endian, 1536 bytes, host\n"), "a list names its files otherwise")
     check(text("list", HOST).startswith(f"{HOST}: "), "a list of a path names it otherwise")
-    for what in ("map", "references", "show", "check", "list", "looks"):
+    for what in ("map", "references", "show", "check", "list", "findings"):
         json.loads(text(what, *files, json=True))
     document = json.loads(text("check", HOST, [changed(LIBRARY, at530=b"\3")], json=True))
     check([finding["weight"] for finding in document["findings"]] == ["note"], f"what is found is {document['findings']}")
     # (padding, a procedure of another number, a private variable of two words, and an operand without its bit 7)
     odd = changed(LIBRARY, at513=b"\0", at530=b"\3", **{f"at{WORDS_OF_STATE}": b"\2"}) + b"\x1a\x1a"
-    looks = [
+    findings = (
         ("harmless", "two\n", None, None, "its last 2 bytes are 1A: it was padded, as by CP/M"),
         ("note", "two\n", UTIL, None, "the attribute table of procedure 1 says that it is procedure 3: the code may be damaged"),
         ("warning", "two\n", UTIL, 1, "the operand at byte 4 is word 2 of a variable that has 2"),
         ("note", "two\n", UTIL, 0, "the operand at byte 1 may be damaged: its bit 7 is clear, and a compiler sets it"),
-    ]
-    check(pslink.looks(HOST, [odd], ["\N{FLOPPY DISK}", "two\n"]) == looks, f"what is found is {pslink.looks(HOST, [odd])}")
-    check(pslink.looks(*files) == [] and text("looks", *files) == "", "something is found in the pair")
-    check(text("looks", HOST, [odd], ["one", "two"]).splitlines() == pslink.check(HOST, [odd], ["one", "two"]).text.splitlines()[-4:], "the lines of what is found are others")
+    )
+    report = pslink.check(("\N{FLOPPY DISK}", HOST), [("two\n", odd)])
+    check(report.findings == findings, f"what is found is {report.findings}")
+    check((report.warnings, report.notes) == ([findings[2]], [findings[1], findings[3]]), f"of these are warnings {report.warnings}, and notes {report.notes}")
+    check(pslink.check(*files).findings == () and text("findings", *files) == "", "something is found in the pair")
+    lines = text("findings", ("one", HOST), [("two", odd)])
+    check(pslink.check(("one", HOST), [("two", odd)]).text.endswith(lines) and len(lines.splitlines()) == 4, "the lines of what is found are others")
     check(parts(raised(pslink.Refused, text, "map", HOST)) == MISSING, "the text of a map is of files that are refused")
     check(raised(ValueError, lambda: text("units", HOST, json=True)), "there is a document of units")
     check(raised(ValueError, text, "plan", HOST), "there is a text of another name")
@@ -228,6 +241,7 @@ def of_hints():
         if inspect.isfunction(it) or inspect.isclass(it):
             check(typing.get_type_hints(it.__init__ if name == "Refused" else it), f"{name} has no hints")
     types = {bytes, bytearray, memoryview, array.array, mmap.mmap, ctypes.Array, str, os.PathLike}
+    types |= {typing.Tuple[str, typing.Union[tuple(types)]]}
     check(set(typing.get_args(pslink.File)) == types, f"a file is {pslink.File}")
     for source in sorted(PACKAGE.rglob("*.py")):
         tree = ast.parse(source.read_text(), feature_version=(3, 8))
@@ -277,8 +291,27 @@ def of_editable(build_backend, source):
     """What `pip install -e` installs is the folder of the sources."""
     zipfile.ZipFile(FOLDER / build_backend.build_editable(FOLDER)).extractall(FOLDER / "editable")
     code = f"import site; site.addsitedir({str(FOLDER / 'editable')!r}); import pslink; print(pslink.__file__)"
-    said = imported(code, PYTHONPATH="", PSLINK_LIBRARY=str(BUILT / "libpslink.so.2"))
+    said = imported(code, PYTHONPATH="", PSLINK_LIBRARY=str(BUILT / "libpslink.so.3"))
     check(said == f"{source}/pslink/__init__.py", f"installed as editable: {said}")
+
+
+def of_archive():
+    """In an archive that is unpacked the package finds the shared object of the folder `lib` beside: where it lies, and installed from
+    there. PSLINK_LIBRARY comes before that, and where there is no such folder the system's loader."""
+    archive = FOLDER / "an archive"
+    shutil.copytree(PACKAGE, archive / "bindings/python", ignore=shutil.ignore_patterns("__pycache__"))
+    (archive / "lib").mkdir()
+    shutil.copy(BUILT / "libpslink.so.3", archive / "lib")
+    beside = {"PYTHONPATH": str(archive / "bindings/python")}
+    there = f"True {archive}/bindings/python/pslink/__init__.py"
+    check(imported(**beside) == there, f"beside the archive: {imported(**beside)}")
+    check(imported(**beside, PSLINK_LIBRARY="libc.so.6").startswith("ImportError: "), "PSLINK_LIBRARY does not come first")
+    make = "import build_backend, sys; print(build_backend.build_wheel(sys.argv[1]))"
+    words = [sys.executable, "-B", "-c", make, str(FOLDER)]
+    wheel = subprocess.run(words, capture_output=True, text=True, cwd=archive / "bindings/python", check=True).stdout.strip()
+    zipfile.ZipFile(FOLDER / wheel).extractall(FOLDER / "of archive")
+    said = imported(PYTHONPATH=str(FOLDER / "of archive"))
+    check(said == f"True {FOLDER}/of archive/pslink/__init__.py", f"installed from the archive: {said}")
 
 
 def of_installing():
@@ -300,7 +333,7 @@ def of_installing():
     config.mkdir()
     (config / "pslink.pc").write_text(f"libdir={BUILT}\nName: pslink\nDescription: pslink\nVersion: 0\nLibs:\n")
     ways = {
-        "by PSLINK_LIBRARY": {"PSLINK_LIBRARY": str(BUILT / "libpslink.so.2")},
+        "by PSLINK_LIBRARY": {"PSLINK_LIBRARY": str(BUILT / "libpslink.so.3")},
         "by the loader": {"LD_LIBRARY_PATH": str(BUILT)},
         **({"by pkg-config": {"PKG_CONFIG_PATH": str(config)}} if shutil.which("pkg-config") else {}),
     }
@@ -310,18 +343,18 @@ def of_installing():
         check(imported(**env) == there, f"{what}: {imported(**env)}")
     check(imported(ISOLATED) == "ImportError", f"an isolated interpreter without a library: {imported(ISOLATED)}")
     wrong = {
-        "of another version": str(OTHER / "libpslink.so.2"), "of something else": "libc.so.6",
+        "of another interface": str(OTHER / "libpslink.so.3"), "of something else": "libc.so.6",
         "that is not there": str(FOLDER / "not there"), "that is none": str(HOST),
     }  # fmt: skip
     for what, path in wrong.items():
         said = imported(PSLINK_LIBRARY=path)
         check(said.startswith("ImportError: "), f"a library {what}: {said}")
-    said = imported(PSLINK_LIBRARY=str(EARLIER / "libpslink.so.2"))
-    check(said.startswith(f"ImportError: {EARLIER}/libpslink.so.2 is of an earlier release than {pslink.__version__}: "), f"an earlier library: {said}")
+    said = imported(PSLINK_LIBRARY=str(EARLIER / "libpslink.so.3"))
+    check(said.startswith(f"ImportError: {EARLIER}/libpslink.so.3 is of an earlier release than {pslink.__version__}: "), f"an earlier library: {said}")
 
 
 def main():
-    for part in (of_files, of_reports, of_refusals, of_what_is_at_fault, of_texts, of_names, of_hints, of_threads, of_room, of_installing):
+    for part in (of_files, of_reports, of_refusals, of_what_is_at_fault, of_texts, of_names, of_hints, of_threads, of_room, of_archive, of_installing):
         part()
     for line in found:
         print(line)

@@ -13,12 +13,9 @@
 
 #define LIBRARIES 4096
 
-/* The host, and the libraries one after another, as pslink_link and pslink_map take them. */
+/* The host and the libraries, each called by its path. */
 struct files {
-    pslink_file host;
-    char *bytes;
-    size_t length;
-    size_t lengths[LIBRARIES];
+    pslink_file all[1 + LIBRARIES];
     size_t count;
 };
 
@@ -28,19 +25,18 @@ static void read_files(struct files *files, const char *host, char **libs, int c
 
     if (count > LIBRARIES)
         exit(2);
-    files->host = read_file(host);
-    files->bytes = NULL;
-    files->length = files->count = 0;
-    for (k = 0; k < count; k++) {
-        pslink_file file = read_file(libs[k]);
-        files->bytes = (char *)realloc(files->bytes, files->length + file.length + 1);
-        if (files->bytes == NULL)
-            exit(4);
-        memcpy(files->bytes + files->length, file.bytes, file.length);
-        files->length += file.length;
-        files->lengths[files->count++] = file.length;
-        free((void *)(uintptr_t)file.bytes);
-    }
+    files->all[0] = read_file(host);
+    for (k = 0; k < count; k++)
+        files->all[1 + k] = read_file(libs[k]);
+    files->count = 1 + (size_t)count;
+}
+
+static void free_files(const struct files *files)
+{
+    size_t k;
+
+    for (k = 0; k < files->count; k++)
+        free((void *)(uintptr_t)files->all[k].bytes);
 }
 
 static int refused(const pslink_answer *answer)
@@ -61,12 +57,6 @@ static char *grown(char *block, size_t size)
     return block;
 }
 
-static void link_to(const struct files *files, char *out, pslink_answer *answer)
-{
-    pslink_link(files->host.bytes, files->host.length, files->bytes, files->length, files->lengths, files->count, out,
-                PSLINK_LINKED_MAX, answer);
-}
-
 static int link_files(const struct files *files, const char *path)
 {
     char *out = grown(NULL, PSLINK_LINKED_MAX);
@@ -74,112 +64,52 @@ static int link_files(const struct files *files, const char *path)
     FILE *stream = NULL;
     int status = 3;
 
-    link_to(files, out, &answer);
+    pslink_link(files->all, files->count, out, PSLINK_LINKED_MAX, &answer);
     if (answer.status != PSLINK_DONE)
         status = refused(&answer);
-    else if ((stream = fopen(path, "wb")) != NULL && fwrite(out, 1, answer.written, stream) == answer.written && fclose(stream) == 0)
+    else if ((stream = fopen(path, "wb")) != NULL && fwrite(out, 1, answer.size, stream) == answer.size && fclose(stream) == 0)
         status = 0;
     if (status == 0)
-        printf("segments %zu private words %u blocks %zu\n", answer.segments, (unsigned)answer.private_words, answer.blocks);
+        printf("segments %u private words %u blocks %u\n", (unsigned)answer.segments, (unsigned)answer.private_words,
+               (unsigned)answer.blocks);
     free(out);
     return status;
 }
 
-static int print_text(const struct files *files, int is_map)
+/* The verdict of a report is what a link answers: the fault with its parts, or what the linked file has. */
+static int is_of_link(const pslink_answer *verdict, const struct files *files)
+{
+    char *out = grown(NULL, PSLINK_LINKED_MAX);
+    pslink_answer one;
+
+    pslink_link(files->all, files->count, out, PSLINK_LINKED_MAX, &one);
+    free(out);
+    return (one.status == PSLINK_REFUSED) == (verdict->fault != 0) && one.fault == verdict->fault && one.file == verdict->file &&
+           one.record == verdict->record && one.reference == verdict->reference && one.slot == verdict->slot &&
+           one.kind == verdict->kind && memcmp(one.name, verdict->name, sizeof one.name) == 0 && one.segments == verdict->segments &&
+           one.private_words == verdict->private_words && one.blocks == verdict->blocks;
+}
+
+/* Prints a text. Its status says whether the files are refused; of a report as lines, what the program's `check` ends with. */
+static int print_text(uint32_t what, const struct files *files, int strict)
 {
     char *out = NULL;
     size_t size = 0;
     pslink_answer answer;
     int status;
 
-    while ((is_map ? pslink_map(files->host.bytes, files->host.length, files->bytes, files->length, files->lengths, files->count, out,
-                                size, &answer)
-                   : pslink_show(files->host.bytes, files->host.length, out, size, &answer)) == PSLINK_TOO_SMALL &&
-           answer.needed > size) {
-        size = answer.needed;
+    while (pslink_text(what, files->all, files->count, out, size, &answer) == PSLINK_TOO_SMALL && answer.size > size) {
+        size = answer.size;
         out = grown(out, size);
     }
     if (answer.status != PSLINK_DONE)
         status = refused(&answer);
-    else
-        status = fwrite(out, 1, answer.written, stdout) == answer.written ? 0 : 3;
-    free(out);
-    return status;
-}
-
-/* The paths one after another, as pslink_check takes names. */
-static char *joined_names(const char *host, char **libs, size_t count, size_t *lengths)
-{
-    size_t length = lengths[0] = strlen(host), k;
-    char *names;
-
-    for (k = 0; k < count; k++)
-        length += lengths[k + 1] = strlen(libs[k]);
-    names = strcpy(grown(NULL, length + 1), host);
-    for (k = 0; k < count; k++)
-        strcat(names, libs[k]);
-    return names;
-}
-
-/* The fault of a verdict is that of a link, and so is what else it says. */
-static int is_of_link(const pslink_answer *verdict, const struct files *files)
-{
-    char *out = grown(NULL, PSLINK_LINKED_MAX);
-    pslink_answer answer;
-
-    link_to(files, out, &answer);
-    free(out);
-    answer.written = answer.needed = 0;
-    return memcmp(&answer, verdict, sizeof answer) == 0;
-}
-
-static int check_files(const struct files *files, const char *host, char **libs, int strict)
-{
-    static size_t name_lengths[LIBRARIES + 1];
-    char *names = joined_names(host, libs, files->count, name_lengths), *out = NULL;
-    size_t names_length = strlen(names), size = 0;
-    pslink_check_answer answer;
-    int status;
-
-    while (pslink_check(files->host.bytes, files->host.length, files->bytes, files->length, files->lengths, files->count, names,
-                        names_length, name_lengths, strict, out, size, &answer) == PSLINK_TOO_SMALL && answer.needed > size) {
-        size = answer.needed;
-        out = grown(out, size);
-    }
-    if (answer.status != PSLINK_DONE)
-        status = 16 + (int)answer.status;
-    else if (!is_of_link(&answer.verdict, files))
+    else if ((what & ~PSLINK_JSON) == PSLINK_CHECK && !is_of_link(&answer, files))
         status = 32;
+    else if (fwrite(out, 1, answer.size, stdout) != answer.size)
+        status = 3;
     else
-        status = fwrite(out, 1, answer.written, stdout) == answer.written ? (int)answer.ends_with : 3;
-    free(names);
-    free(out);
-    return status;
-}
-
-/* Prints a text of files that are anywhere. Its status says whether they were refused; of a report, a list and its units it is 0. */
-static int print_text_files(uint32_t what, uint32_t form, const struct files *files, const char *host, char **libs)
-{
-    static pslink_named_file named[LIBRARIES];
-    const pslink_named_file first = {host, files->host.bytes, files->host.length};
-    char *out = NULL;
-    size_t size = 0, at = 0, k;
-    pslink_answer answer;
-    int status;
-
-    for (k = 0; k < files->count; at += files->lengths[k++]) {
-        named[k].name = libs[k];
-        named[k].bytes = files->bytes + at;
-        named[k].length = files->lengths[k];
-    }
-    while (pslink_text_files(what, form, first, named, files->count, out, size, &answer) == PSLINK_TOO_SMALL && answer.needed > size) {
-        size = answer.needed;
-        out = grown(out, size);
-    }
-    if (answer.status != PSLINK_DONE)
-        status = refused(&answer);
-    else
-        status = fwrite(out, 1, answer.written, stdout) == answer.written ? 0 : 3;
+        status = what == PSLINK_CHECK && (answer.fault != 0 || (strict && answer.warnings != 0));
     free(out);
     return status;
 }
@@ -218,12 +148,12 @@ static struct request requested(char ***words, int *count)
 static uint32_t text_of(const struct request *it)
 {
     if (it->is_map)
-        return it->references ? PSLINK_TEXT_REFERENCES : PSLINK_TEXT_MAP;
+        return it->references ? PSLINK_REFERENCES : PSLINK_MAP;
     if (it->is_show)
-        return PSLINK_TEXT_SHOW;
+        return PSLINK_SHOW;
     if (it->is_list)
-        return PSLINK_TEXT_LIST;
-    return it->unit ? PSLINK_TEXT_UNITS : PSLINK_TEXT_CHECK;
+        return PSLINK_LIST;
+    return it->unit ? PSLINK_UNITS : PSLINK_CHECK;
 }
 
 /* The status of a command, of so many words. A file that cannot be read ends the program. */
@@ -238,14 +168,9 @@ static int command(char **words, int count)
     read_files(&files, words[0], words + first, count - first);
     if (it.is_link)
         status = link_files(&files, words[1]);
-    else if (it.json || it.references || it.unit || it.is_list)
-        status = print_text_files(text_of(&it), it.json ? PSLINK_JSON : PSLINK_LINES, &files, words[0], words + first);
-    else if (it.is_check)
-        status = check_files(&files, words[0], words + first, it.strict);
     else
-        status = print_text(&files, it.is_map);
-    free((void *)(uintptr_t)files.host.bytes);
-    free(files.bytes);
+        status = print_text(text_of(&it) | (it.json ? PSLINK_JSON : 0), &files, it.strict);
+    free_files(&files);
     return status;
 }
 

@@ -23,24 +23,28 @@ def of_link(host, libs):
         return str(fault)
 
 
-def checked(host, libs, names, strict):
+def checked(host, libs, strict):
     """What the program's check answers, whose verdict is that of a link."""
-    report = pslink.check(host, libs, names, strict)
+    report = pslink.check(host, libs)
     verdict = report.summary if report.fault is None else str(report.fault)
     wrong = "" if verdict == of_link(host, libs) else f"pslink: {verdict} is not the verdict of a link\n"
-    return 0 if report.ok else 1, report.text, wrong, None
+    said = sum(line.startswith("warning: ") for line in report.text.splitlines())
+    wrong += "" if len(report.warnings) == said else f"pslink: {len(report.warnings)} warnings are told, and {said} said\n"
+    return 0 if report.ok and not (strict and report.warnings) else 1, report.text, wrong, None
 
 
 def answer(command, host, libs, names=None, flags=()):
     """What the program answers: its status, its output and its error output, and of a link the file. (Of a report, a list and its
     units as texts the status is 0.)"""
     strict, texts = "--strict" in flags, [flag for flag in flags if flag != "--strict"]
+    if names is not None:
+        host, *libs = zip(names, [host, *libs])
     try:
         if texts or command == "list":
             what = {"--references": "references", "--unit": "units"}.get(texts[0] if texts else "", command)
-            return 0, pslink.text(what, host, libs, names, "--json" in texts), "", None
+            return 0, pslink.text(what, host, libs, "--json" in texts), "", None
         if command == "check":
-            return checked(host, libs, names, strict)
+            return checked(host, libs, strict)
         if command == "map":
             return 0, pslink.map(host, libs), "", None
         if command == "show":

@@ -8,7 +8,7 @@
 
 static pslink_file read_file(const char *path)
 {
-    pslink_file file = {NULL, 0};
+    pslink_file file = {path, NULL, 0};
     FILE *stream = fopen(path, "rb");
     long size;
     void *bytes;

@@ -2,8 +2,8 @@
 /* Calls the example of EMBEDDING.md, which stands above: the report on a host and one library, which are called by their paths. */
 int main(int argc, char **argv)
 {
-    static unsigned char files[2][1 << 16];
-    size_t lengths[2];
+    static unsigned char bytes[2][1 << 16];
+    pslink_file files[2];
     int k;
 
     if (argc != 3)
@@ -13,8 +13,10 @@ int main(int argc, char **argv)
 
         if (stream == NULL)
             return 3;
-        lengths[k] = fread(files[k], 1, sizeof files[k], stream);
+        files[k].name = argv[k + 1];
+        files[k].bytes = bytes[k];
+        files[k].length = fread(bytes[k], 1, sizeof bytes[k], stream);
         fclose(stream);
     }
-    return show_report(argv[1], files[0], lengths[0], argv[2], files[1], lengths[1]);
+    return show_report(files, 2);
 }

@@ -13,7 +13,7 @@
 #define FILLER 0x5A
 #define FILES 600
 
-static pslink_file host, libs[FILES];
+static pslink_file files[FILES];
 static size_t count;
 static unsigned char *stack;
 
@@ -32,53 +32,30 @@ static void *nothing(void *unused)
     return unused;
 }
 
-/* The names of units, of the host beside all libraries. */
-static void a_units_call(void *room)
-{
-    static unsigned char bytes[FILES << 10];
-    static size_t lengths[FILES];
-    size_t length = 0, k;
-    pslink_answer answer;
-
-    for (k = 0; k < count && length + libs[k].length <= sizeof bytes; k++) {
-        memcpy(bytes + length, libs[k].bytes, libs[k].length);
-        length += lengths[k] = libs[k].length;
-    }
-    pslink_units(PSLINK_UNITS_WANTED, host.bytes, host.length, bytes, length, lengths, k, room, PSLINK_LINKED_MAX, &answer);
-    pslink_units(PSLINK_UNITS_HAD, host.bytes, host.length, NULL, 0, NULL, 0, room, PSLINK_LINKED_MAX, &answer);
-}
-
+/* A link, a map and a show, and the names of units, of the host beside all libraries. */
 static void *all_calls(void *room)
 {
+    static const uint32_t texts[] = {PSLINK_MAP, PSLINK_SHOW, PSLINK_WANTED, PSLINK_HAD};
     pslink_answer answer;
     char text[PSLINK_FAULT_TEXT_MAX];
+    size_t k;
 
-    pslink_link_files(host, libs, count, room, PSLINK_LINKED_MAX, &answer);
+    pslink_link(files, count, room, PSLINK_LINKED_MAX, &answer);
     pslink_fault_text(&answer, text, sizeof text);
-    pslink_map_files(host, libs, count, room, PSLINK_LINKED_MAX, &answer);
-    pslink_show(host.bytes, host.length, room, PSLINK_LINKED_MAX, &answer);
-    a_units_call(room);
+    for (k = 0; k < sizeof texts / sizeof *texts; k++)
+        pslink_text(texts[k], files, count, room, PSLINK_LINKED_MAX, &answer);
     return room;
 }
 
 static void *a_check(void *room)
 {
-    static pslink_named_file named[FILES];
-    const pslink_named_file of_host = {"HOST", host.bytes, host.length};
-    pslink_check_answer answer;
-    pslink_answer one;
-    uint32_t what, form;
-    size_t k;
+    pslink_answer answer;
+    uint32_t what;
 
-    for (k = 0; k < count; k++) {
-        named[k].name = "LIBRARY";
-        named[k].bytes = libs[k].bytes;
-        named[k].length = libs[k].length;
+    for (what = PSLINK_MAP; what <= PSLINK_HAD; what++) {
+        pslink_text(what, files, count, room, PSLINK_LINKED_MAX, &answer);
+        pslink_text(what | PSLINK_JSON, files, count, room, PSLINK_LINKED_MAX, &answer);
     }
-    pslink_check_files(of_host, named, count, 1, room, PSLINK_LINKED_MAX, &answer);
-    for (what = PSLINK_TEXT_MAP; what <= PSLINK_TEXT_LOOKS; what++)
-        for (form = PSLINK_LINES; form <= PSLINK_JSON; form++)
-            pslink_text_files(what, form, of_host, named, count, room, PSLINK_LINKED_MAX, &one);
     return room;
 }
 
@@ -103,11 +80,10 @@ int main(int argc, char **argv)
     size_t of_nothing;
 
     stack = (unsigned char *)aligned_alloc(4096, STACK);
-    if (argc < 2 || argc > FILES + 2 || room == NULL || stack == NULL)
+    if (argc < 2 || argc > FILES + 1 || room == NULL || stack == NULL)
         return 2;
-    host = read_file(argv[1]);
-    for (; count + 2 < (size_t)argc; count++)
-        libs[count] = read_file(argv[count + 2]);
+    for (; count + 1 < (size_t)argc; count++)
+        files[count] = read_file(argv[count + 1]);
     /* (what a thread itself takes of its stack is counted once more, and taken off) */
     of_nothing = of_thread(nothing, room);
     printf("%zu %zu\n", of_thread(all_calls, room) - of_nothing, of_thread(a_check, room) - of_nothing);

@@ -1,52 +1,57 @@
 //! The Linker of UCSD Pascal II.0 for Pascal units, from memory to memory, over `libpslink.a`.
 //!
-//! A host is a whole code file, and so is each library; both are bytes.
+//! A host is a whole code file, and so is each library: a [`File`], which is made from bytes, or from
+//! a name and bytes.
 //!
 //! ```no_run
 //! fn main() -> Result<(), Box<dyn std::error::Error>> {
 //!     let host = std::fs::read("host.code")?;
 //!     let library = std::fs::read("library.code")?;
-//!     std::fs::write("linked.code", pslink::link(host, &[library])?)?;
+//!     std::fs::write("linked.code", pslink::link(&host, [(&library).into()])?)?;
 //!     Ok(())
 //! }
 //! ```
 
-mod look;
+mod file;
+mod finding;
+mod name;
 mod raw;
 mod reason;
 
-pub use look::{Look, Weight};
+pub use file::File;
+pub use finding::{Finding, Weight};
+pub use name::Name;
 pub use reason::Reason;
 
-use raw::{Answer, CheckAnswer, Joined, Kind};
+use raw::Answer;
+use std::ffi::{c_void, CStr, CString};
 use std::fmt;
 
-/// The version of the library's interface that this crate calls.
-pub const VERSION: u32 = 2;
+/// The first release of pslink whose archive this crate calls, as a number. Those of the same number
+/// but for its last two digits have the same interface.
+pub const RELEASE_NUMBER: u32 = 300;
 
 /// How many bytes a linked file has at most.
 pub const LINKED_MAX: usize = 524_800;
 
-/// How many bytes a text of the library has at most, its closing 0 counted.
+/// How many bytes the line of a fault has at most, its closing 0 counted.
 const FAULT_TEXT_MAX: usize = 160;
-
-/// How many bytes a sentence on a fault has at most, its closing 0 counted.
-const SENTENCE_MAX: usize = 256;
 
 /// Room for a text, at first.
 const TEXT_GUESS: usize = 4096;
 
 const DONE: u32 = 0;
 const REFUSED: u32 = 1;
+const MISUSE: u32 = 2;
 const NO_MEMORY: u32 = 4;
 const TOO_SMALL: u32 = 5;
-const WRONG_TEXT: u32 = 7;
 
-const UNITS_WANTED: u32 = 0;
-const UNITS_HAD: u32 = 1;
+const WANTED: u32 = 7;
+const HAD: u32 = 8;
 
-/// The libraries of a program that uses no unit.
-pub const NO_LIBRARIES: &[&[u8]] = &[];
+const NAME: u32 = 0;
+const MEANING: u32 = 1;
+const REMEDY: u32 = 2;
 
 /// The first fault of the files.
 ///
@@ -60,20 +65,19 @@ pub struct Fault {
     pub kind: Option<u16>,
     /// The file at fault: 0 is the host, k the k-th library, from 1.
     pub file: usize,
+    /// What texts call that file.
+    pub path: String,
     /// The slot of the host's segment dictionary, 0 to 15.
     pub slot: Option<u8>,
     /// The index of the record in its segment's link information, from 0.
     pub record: Option<usize>,
     /// The index of the reference in its record, from 0.
     pub reference: Option<usize>,
-    /// The name of the unit, the segment, the symbol or the variable that is at fault, eight bytes as
-    /// the files have them; after [`Reason::MissingUnit`] that of the unit to look for. Since 0.2.0.
+    /// The name of the unit, the segment, the symbol or the variable that is at fault; after
+    /// [`Reason::MissingUnit`] that of the unit to look for.
     pub about: Option<Name>,
     text: String,
 }
-
-/// A name of a code file: eight bytes, which blanks fill.
-pub type Name = [u8; 8];
 
 impl fmt::Display for Fault {
     fn fmt(&self, f: &mut fmt::Formatter<'_>) -> fmt::Result {
@@ -91,11 +95,12 @@ pub enum Error {
     Refused(Fault),
     /// Memory was refused.
     Memory,
-    /// The archive is of another version of the interface than [`VERSION`].
-    Version(u32),
-    /// The archive answered what that version does not.
+    /// The archive is of this release, which is earlier than [`RELEASE_NUMBER`] or has another
+    /// interface.
+    Release(u32),
+    /// The archive answered what that release does not.
     Unknown(u32),
-    /// There is no such text, or it has no such form. Since 0.2.0.
+    /// There is no such text, or it has no such form.
     NoText,
 }
 
@@ -104,8 +109,9 @@ impl fmt::Display for Error {
         match self {
             Error::Refused(fault) => fault.fmt(f),
             Error::Memory => f.write_str("out of memory"),
-            Error::Version(found) => {
-                write!(f, "libpslink.a has version {found}, and not {VERSION}")
+            Error::Release(found) => {
+                let last = RELEASE_NUMBER / 100 * 100 + 99;
+                write!(f, "libpslink.a is of release {found}, and not of one from {RELEASE_NUMBER} to {last}")
             }
             Error::Unknown(status) => {
                 write!(f, "libpslink.a answered {status}, which is no status")
@@ -138,36 +144,14 @@ pub struct Summary {
 impl Summary {
     fn of(answer: &Answer) -> Summary {
         Summary {
-            segments: answer.segments,
+            segments: answer.segments as usize,
             private_words: answer.private_words,
-            blocks: answer.blocks,
+            blocks: answer.blocks as usize,
         }
     }
 }
 
-/// The text that a call puts, with a closing 0, in room that is long enough for each.
-fn text_of<const MOST: usize>(call: impl FnOnce(&mut [u8]) -> usize) -> String {
-    let mut text = [0; MOST];
-    let size = call(&mut text);
-    let text = text.get(..size.saturating_sub(1)).unwrap_or_default();
-    String::from_utf8_lossy(text).into_owned()
-}
-
 impl Fault {
-    /// The fault of a refusal; `None` where its number is none of this version.
-    fn of(answer: &Answer) -> Option<Fault> {
-        Some(Fault {
-            reason: Reason::of_number(answer.fault)?,
-            kind: (answer.has_kind != 0).then_some(answer.kind),
-            file: answer.file,
-            slot: (answer.has_slot != 0).then_some(answer.slot),
-            record: (answer.has_record != 0).then_some(answer.record),
-            reference: (answer.has_reference != 0).then_some(answer.reference),
-            about: (answer.has_name != 0).then_some(answer.name),
-            text: text_of::<FAULT_TEXT_MAX>(|room| raw::fault_text(answer, room)),
-        })
-    }
-
     /// The number of the fault, that of a [`Reason`].
     #[must_use]
     pub fn number(&self) -> u8 {
@@ -175,98 +159,148 @@ impl Fault {
     }
 }
 
-/// An answer: how many bytes were written, how many the result has, and the fault of a refusal.
-trait Told: Default {
-    fn written(&self) -> usize;
-    fn needed(&self) -> usize;
-    fn fault(&self) -> Option<Fault>;
+/// The line of the fault that an answer has.
+fn line_of(answer: &Answer) -> String {
+    let mut line = [0u8; FAULT_TEXT_MAX];
+    // SAFETY: the pointer and the length are those of one array, and `answer` is borrowed.
+    let size = unsafe { raw::pslink_fault_text(answer, line.as_mut_ptr().cast(), line.len()) };
+    let line = line.get(..size.saturating_sub(1)).unwrap_or_default();
+    String::from_utf8_lossy(line).into_owned()
 }
 
-impl Told for Answer {
-    fn written(&self) -> usize {
-        self.written
-    }
-
-    fn needed(&self) -> usize {
-        self.needed
-    }
-
-    fn fault(&self) -> Option<Fault> {
-        Fault::of(self)
-    }
+/// A host and its libraries, as a call takes them.
+struct Files<'a> {
+    files: Vec<File<'a>>,
+    names: Vec<Option<CString>>,
 }
 
-impl Told for CheckAnswer {
-    fn written(&self) -> usize {
-        self.written
-    }
-
-    fn needed(&self) -> usize {
-        self.needed
-    }
-
-    // A check refuses nothing: its verdict has the fault.
-    fn fault(&self) -> Option<Fault> {
-        None
-    }
-}
-
-/// What a call puts in a room of so many bytes, or of as many as it then asks for.
-fn result<T: Told>(
-    mut size: usize,
-    call: impl Fn(&mut [u8], &mut T) -> u32,
-) -> Result<(Vec<u8>, T), Error> {
-    let version = raw::version();
-    if version != VERSION {
-        return Err(Error::Version(version));
-    }
-    loop {
-        let mut room = Vec::new();
-        room.try_reserve_exact(size).map_err(|_| Error::Memory)?;
-        room.resize(size, 0);
-        let mut answer = T::default();
-        match call(&mut room, &mut answer) {
-            DONE => {
-                room.truncate(answer.written());
-                room.shrink_to_fit();
-                return Ok((room, answer));
-            }
-            REFUSED => {
-                let fault = answer.fault().ok_or(Error::Unknown(REFUSED))?;
-                return Err(Error::Refused(fault));
-            }
-            TOO_SMALL if answer.needed() > size => size = answer.needed(),
-            NO_MEMORY => return Err(Error::Memory),
-            WRONG_TEXT => return Err(Error::NoText),
-            status => return Err(Error::Unknown(status)),
-        }
-    }
-}
-
-impl Joined {
-    fn new<L: AsRef<[u8]>>(libs: &[L]) -> Result<Joined, Error> {
-        let lengths: Vec<usize> = libs.iter().map(|lib| lib.as_ref().len()).collect();
-        let total = lengths
+impl<'a> Files<'a> {
+    fn new(host: impl Into<File<'a>>, libs: impl IntoIterator<Item = File<'a>>) -> Files<'a> {
+        let files: Vec<File> = std::iter::once(host.into()).chain(libs).collect();
+        // A name of C ends with the first null character: there is none left.
+        let closed = |name: &str| CString::new(name.replace('\0', "\u{FFFD}")).ok();
+        let names = files
             .iter()
-            .try_fold(0usize, |sum, length| sum.checked_add(*length));
-        let mut bytes = Vec::new();
-        bytes
-            .try_reserve_exact(total.ok_or(Error::Memory)?)
-            .map_err(|_| Error::Memory)?;
-        for lib in libs {
-            bytes.extend_from_slice(lib.as_ref());
+            .map(|file| file.name.as_deref().and_then(closed))
+            .collect();
+        Files { files, names }
+    }
+
+    fn length(&self) -> usize {
+        self.files
+            .iter()
+            .fold(0, |sum, file| sum.saturating_add(file.bytes.len()))
+    }
+
+    /// What texts call a file.
+    fn path(&self, number: usize) -> String {
+        let name = self.files.get(number).and_then(|file| file.name.as_deref());
+        name.map_or_else(|| format!("file {number}"), str::to_owned)
+    }
+
+    /// The fault that an answer has; `None` where its number is none of this release.
+    fn fault(&self, answer: &Answer) -> Option<Fault> {
+        let file = usize::try_from(answer.file).ok()?;
+        let name: [u8; 8] = answer.name[..8].try_into().ok()?;
+        Some(Fault {
+            reason: Reason::of_number(u8::try_from(answer.fault).ok()?)?,
+            kind: u16::try_from(answer.kind).ok(),
+            file,
+            path: self.path(file),
+            slot: u8::try_from(answer.slot).ok(),
+            record: usize::try_from(answer.record).ok(),
+            reference: usize::try_from(answer.reference).ok(),
+            about: (name != [0; 8]).then_some(Name(name)),
+            text: line_of(answer),
+        })
+    }
+
+    /// What a call puts in a room of so many bytes, or of as many as it then asks for.
+    fn made(
+        &self,
+        mut size: usize,
+        call: impl Fn(&[raw::File], &mut [u8], &mut Answer) -> u32,
+    ) -> Result<(Vec<u8>, Answer), Error> {
+        let release = release_number();
+        if release < RELEASE_NUMBER || release / 100 != RELEASE_NUMBER / 100 {
+            return Err(Error::Release(release));
         }
-        Ok(Joined { bytes, lengths })
+        let files: Vec<raw::File> = std::iter::zip(&self.files, &self.names)
+            .map(|(file, name)| raw::File {
+                name: name.as_ref().map_or(std::ptr::null(), |name| name.as_ptr()),
+                bytes: file.bytes.as_ptr().cast(),
+                length: file.bytes.len(),
+            })
+            .collect();
+        loop {
+            let mut room = Vec::new();
+            room.try_reserve_exact(size).map_err(|_| Error::Memory)?;
+            room.resize(size, 0);
+            let mut answer = Answer::default();
+            match call(&files, &mut room, &mut answer) {
+                DONE => {
+                    room.truncate(answer.size);
+                    room.shrink_to_fit();
+                    return Ok((room, answer));
+                }
+                REFUSED => {
+                    let fault = self.fault(&answer).ok_or(Error::Unknown(REFUSED))?;
+                    return Err(Error::Refused(fault));
+                }
+                TOO_SMALL if answer.size > size => size = answer.size,
+                NO_MEMORY => return Err(Error::Memory),
+                MISUSE => return Err(Error::NoText),
+                status => return Err(Error::Unknown(status)),
+            }
+        }
+    }
+
+    fn linked(&self) -> Result<(Vec<u8>, Answer), Error> {
+        // A linked file is longer than all that is linked only where segments share their code.
+        self.made(LINKED_MAX.min(self.length()), |files, room, answer| {
+            // SAFETY: each pointer and its length are those of one slice; the names end with a 0;
+            // `room` and `answer` are borrowed alone.
+            unsafe {
+                let out = room.as_mut_ptr().cast::<c_void>();
+                raw::pslink_link(files.as_ptr(), files.len(), out, room.len(), answer)
+            }
+        })
+    }
+
+    fn bytes_of(&self, what: u32) -> Result<(Vec<u8>, Answer), Error> {
+        self.made(TEXT_GUESS, |files, room, answer| {
+            // SAFETY: as in `linked`.
+            unsafe {
+                let out = room.as_mut_ptr().cast::<c_void>();
+                raw::pslink_text(what, files.as_ptr(), files.len(), out, room.len(), answer)
+            }
+        })
+    }
+
+    fn text(&self, what: Text, form: Form) -> Result<(String, Answer), Error> {
+        let (text, answer) = self.bytes_of(what as u32 | form as u32)?;
+        Ok((String::from_utf8_lossy(&text).into_owned(), answer))
+    }
+
+    fn units(&self, which: u32) -> Result<Vec<Name>, Error> {
+        let (names, _) = self.bytes_of(which)?;
+        let names = names.chunks_exact(8);
+        Ok(names
+            .filter_map(|name| Some(Name(name.try_into().ok()?)))
+            .collect())
     }
 }
 
 /// The linked file of a host and of the units that it uses, which the libraries have. Of the
-/// libraries that have a unit, the first is used. [`NO_LIBRARIES`] stands for none.
+/// libraries that have a unit, the first is used; `[]` stands for none.
 ///
 /// # Errors
 /// [`Error::Refused`] with the first fault, where the files do not link; [`Error::Memory`] where
-/// memory was refused; [`Error::Version`] where the archive is another.
-pub fn link<H: AsRef<[u8]>, L: AsRef<[u8]>>(host: H, libs: &[L]) -> Result<Vec<u8>, Error> {
+/// memory was refused; [`Error::Release`] where the archive is another.
+pub fn link<'a>(
+    host: impl Into<File<'a>>,
+    libs: impl IntoIterator<Item = File<'a>>,
+) -> Result<Vec<u8>, Error> {
     Ok(link_with_summary(host, libs)?.0)
 }
 
@@ -274,16 +308,11 @@ pub fn link<H: AsRef<[u8]>, L: AsRef<[u8]>>(host: H, libs: &[L]) -> Result<Vec<u
 ///
 /// # Errors
 /// Those of [`link`].
-pub fn link_with_summary<H: AsRef<[u8]>, L: AsRef<[u8]>>(
-    host: H,
-    libs: &[L],
+pub fn link_with_summary<'a>(
+    host: impl Into<File<'a>>,
+    libs: impl IntoIterator<Item = File<'a>>,
 ) -> Result<(Vec<u8>, Summary), Error> {
-    let (host, libs) = (host.as_ref(), Joined::new(libs)?);
-    // A linked file is longer than all that is linked only where segments share their code.
-    let size = LINKED_MAX.min(host.len().saturating_add(libs.bytes.len()));
-    let (linked, answer) = result(size, |room, answer: &mut Answer| {
-        raw::link(host, &libs.bytes, &libs.lengths, room, answer)
-    })?;
+    let (linked, answer) = Files::new(host, libs).linked()?;
     Ok((linked, Summary::of(&answer)))
 }
 
@@ -291,12 +320,11 @@ pub fn link_with_summary<H: AsRef<[u8]>, L: AsRef<[u8]>>(
 ///
 /// # Errors
 /// Those of [`link`].
-pub fn map<H: AsRef<[u8]>, L: AsRef<[u8]>>(host: H, libs: &[L]) -> Result<String, Error> {
-    let (host, libs) = (host.as_ref(), Joined::new(libs)?);
-    let (text, _) = result(TEXT_GUESS, |room, answer: &mut Answer| {
-        raw::map(host, &libs.bytes, &libs.lengths, room, answer)
-    })?;
-    Ok(String::from_utf8_lossy(&text).into_owned())
+pub fn map<'a>(
+    host: impl Into<File<'a>>,
+    libs: impl IntoIterator<Item = File<'a>>,
+) -> Result<String, Error> {
+    text(Text::Map, Form::Lines, host, libs)
 }
 
 /// What a check says of files.
@@ -305,51 +333,59 @@ pub fn map<H: AsRef<[u8]>, L: AsRef<[u8]>>(host: H, libs: &[L]) -> Result<String
 pub struct Report {
     /// The report, for a person.
     pub text: String,
-    /// How many warnings it has.
-    pub warnings: usize,
     /// What the linked file has, or why the files are refused.
     pub verdict: Result<Summary, Fault>,
-    /// Whether the files are linked, and, of a strict check, without a warning.
-    pub ok: bool,
+    /// What else is found, one by one, in the order of its lines.
+    pub findings: Vec<Finding>,
 }
 
-/// The name of each file, the host's first, and the libraries.
-fn joined<L: AsRef<[u8]>>(host: &str, libs: &[(&str, L)]) -> Result<(Joined, Joined), Error> {
-    let names: Vec<&str> = std::iter::once(host)
-        .chain(libs.iter().map(|lib| lib.0))
-        .collect();
-    let files: Vec<&[u8]> = libs.iter().map(|lib| lib.1.as_ref()).collect();
-    Ok((Joined::new(&names)?, Joined::new(&files)?))
+impl Report {
+    /// Whether the files are linked.
+    #[must_use]
+    pub fn ok(&self) -> bool {
+        self.verdict.is_ok()
+    }
+
+    /// The findings that are warnings: with one, the program's `check --strict` ends with 1.
+    pub fn warnings(&self) -> impl Iterator<Item = &Finding> {
+        self.of_weight(Weight::Warning)
+    }
+
+    /// The findings that are notes.
+    pub fn notes(&self) -> impl Iterator<Item = &Finding> {
+        self.of_weight(Weight::Note)
+    }
+
+    fn of_weight(&self, weight: Weight) -> impl Iterator<Item = &Finding> {
+        self.findings
+            .iter()
+            .filter(move |finding| finding.weight == weight)
+    }
 }
 
 /// The report on a host and its libraries: whether they are linked, and what is wrong with them.
-/// Each file goes with the name that the report has for it.
 ///
 /// # Errors
 /// Those of [`link`], but [`Error::Refused`]: a report is of files that are refused too.
-pub fn check<H: AsRef<[u8]>, L: AsRef<[u8]>>(
-    host: (&str, H),
-    libs: &[(&str, L)],
-    strict: bool,
+pub fn check<'a>(
+    host: impl Into<File<'a>>,
+    libs: impl IntoIterator<Item = File<'a>>,
 ) -> Result<Report, Error> {
-    let (names, files) = joined(host.0, libs)?;
-    let host = host.1.as_ref();
-    let (text, answer) = result(TEXT_GUESS, |room, answer: &mut CheckAnswer| {
-        raw::check(host, &files, &names, strict, room, answer)
-    })?;
-    let verdict = match answer.verdict.status {
-        REFUSED => Err(Fault::of(&answer.verdict).ok_or(Error::Unknown(REFUSED))?),
-        _ => Ok(Summary::of(&answer.verdict)),
+    let files = Files::new(host, libs);
+    let (text, answer) = files.text(Text::Check, Form::Lines)?;
+    let (document, _) = files.text(Text::Findings, Form::Json)?;
+    let verdict = match answer.fault {
+        0 => Ok(Summary::of(&answer)),
+        _ => Err(files.fault(&answer).ok_or(Error::Unknown(REFUSED))?),
     };
     Ok(Report {
-        text: String::from_utf8_lossy(&text).into_owned(),
-        warnings: answer.warnings,
+        text,
         verdict,
-        ok: answer.ends_with == 0,
+        findings: finding::findings_in(&document).ok_or(Error::Unknown(DONE))?,
     })
 }
 
-/// What [`text`] makes: what the program prints by its command of this name. Since 0.2.0.
+/// What [`text`] makes: what the program prints by its command of this name.
 #[derive(Clone, Copy, Debug, PartialEq, Eq, Hash)]
 #[non_exhaustive]
 #[repr(u32)]
@@ -366,11 +402,11 @@ pub enum Text {
     List = 4,
     /// That list, and what is wrong with the units of each file by themselves: lines alone.
     Units = 5,
-    /// What that report finds, one by one, as [`looks`].
-    Looks = 6,
+    /// What that report finds, one by one.
+    Findings = 6,
 }
 
-/// In which form [`text`] has it. Since 0.2.0.
+/// In which form [`text`] has it.
 #[derive(Clone, Copy, Debug, PartialEq, Eq, Hash)]
 #[non_exhaustive]
 #[repr(u32)]
@@ -378,117 +414,85 @@ pub enum Form {
     /// Lines, for a person.
     Lines = 0,
     /// One JSON document, which `docs/JSON.md` describes.
-    Json = 1,
+    Json = 256,
 }
 
-/// What the program prints of these files. Each goes with the name that a report or a list has for
-/// it. Of a list and of its units all files are equal; of a show there is one, `host`. Since 0.2.0.
+/// What the program prints of these files. Of a list and of its units all files are equal; of a show
+/// there is one, `host`.
 ///
 /// # Errors
 /// Those of [`link`], where [`Error::Refused`] is of a map, its references and a show alone;
 /// [`Error::NoText`] where the text has no such form.
-pub fn text<H: AsRef<[u8]>, L: AsRef<[u8]>>(
+pub fn text<'a>(
     what: Text,
     form: Form,
-    host: (&str, H),
-    libs: &[(&str, L)],
+    host: impl Into<File<'a>>,
+    libs: impl IntoIterator<Item = File<'a>>,
 ) -> Result<String, Error> {
-    let (names, files) = joined(host.0, libs)?;
-    let host = host.1.as_ref();
-    let kind = Kind {
-        what: what as u32,
-        form: form as u32,
-    };
-    let (text, _) = result(TEXT_GUESS, |room, answer: &mut Answer| {
-        raw::text(kind, host, &files, &names, room, answer)
-    })?;
-    Ok(String::from_utf8_lossy(&text).into_owned())
-}
-
-/// What a check of these files finds and is no fault, one by one: in each file, and then in the link.
-/// Each has a line of the report, in this order. Each file goes with the name that the report has for
-/// it. Since 0.2.0.
-///
-/// # Errors
-/// Those of [`check`].
-pub fn looks<H: AsRef<[u8]>, L: AsRef<[u8]>>(
-    host: (&str, H),
-    libs: &[(&str, L)],
-) -> Result<Vec<Look>, Error> {
-    let document = text(Text::Looks, Form::Json, host, libs)?;
-    look::looks_in(&document).ok_or(Error::Unknown(DONE))
-}
-
-/// The names in `which` of the two lists.
-fn units(which: u32, host: &[u8], libs: &Joined) -> Result<Vec<Name>, Error> {
-    const LENGTH: usize = std::mem::size_of::<Name>();
-    let (names, _) = result(16 * LENGTH, |room, answer: &mut Answer| {
-        raw::units(which, host, libs, room, answer)
-    })?;
-    let names = names.chunks_exact(LENGTH);
-    Ok(names.filter_map(|name| name.try_into().ok()).collect())
+    Ok(Files::new(host, libs).text(what, form)?.0)
 }
 
 /// The names of the units that a link takes from libraries, or would take if they had them: first
 /// those that the host's slots want, by slot, then those that only records request. Those that a
-/// unit uses are told where the libraries have that unit. Since 0.2.0.
+/// unit uses are told where the libraries have that unit.
 ///
 /// # Errors
 /// [`Error::Refused`] where the host cannot be opened; else as of [`link`].
-pub fn units_wanted<H: AsRef<[u8]>, L: AsRef<[u8]>>(
-    host: H,
-    libs: &[L],
+pub fn units_wanted<'a>(
+    host: impl Into<File<'a>>,
+    libs: impl IntoIterator<Item = File<'a>>,
 ) -> Result<Vec<Name>, Error> {
-    units(UNITS_WANTED, host.as_ref(), &Joined::new(libs)?)
+    Files::new(host, libs).units(WANTED)
 }
 
-/// The names of the units whose code a file has, by slot. Since 0.2.0.
+/// The names of the units whose code a file has, by slot.
 ///
 /// # Errors
 /// Those of [`units_wanted`].
-pub fn units_had<F: AsRef<[u8]>>(file: F) -> Result<Vec<Name>, Error> {
-    units(UNITS_HAD, file.as_ref(), &Joined::new(NO_LIBRARIES)?)
+pub fn units_had<'a>(file: impl Into<File<'a>>) -> Result<Vec<Name>, Error> {
+    Files::new(file, []).units(HAD)
 }
 
 /// What a code file has, of any contents, as text.
 ///
 /// # Errors
 /// [`Error::Refused`] with [`Reason::ShortFile`] or [`Reason::NoOrder`]; else as of [`link`].
-pub fn show<F: AsRef<[u8]>>(file: F) -> Result<String, Error> {
-    let file = file.as_ref();
-    let (text, _) = result(TEXT_GUESS, |room, answer: &mut Answer| {
-        raw::show(file, room, answer)
-    })?;
-    Ok(String::from_utf8_lossy(&text).into_owned())
+pub fn show<'a>(file: impl Into<File<'a>>) -> Result<String, Error> {
+    text(Text::Show, Form::Lines, file, [])
 }
 
-/// The release of the archive, as `0.3.0`.
-#[must_use]
-pub fn release() -> String {
-    text_of::<FAULT_TEXT_MAX>(raw::release)
-}
-
-/// The same as a number to compare, as 300: 10000 times its first part, 100 times its second, and
-/// its third. Since 0.2.0.
+/// The release of the archive as a number to compare, as 300: 10000 times its first part, 100 times
+/// its second, and its third.
 #[must_use]
 pub fn release_number() -> u32 {
-    raw::release_number()
+    // SAFETY: it reads nothing.
+    unsafe { raw::pslink_release_number() }
+}
+
+/// What the archive has of the fault of this number; empty where there is none.
+fn said(number: u8, part: u32) -> &'static str {
+    // SAFETY: what is not null is a text with a closing 0, which is never freed.
+    let said = unsafe {
+        let text = raw::pslink_fault(number.into(), part);
+        (!text.is_null()).then(|| CStr::from_ptr(text))
+    };
+    said.and_then(|text| text.to_str().ok()).unwrap_or_default()
 }
 
 /// What the library calls the fault of this number, as `MissingUnit`; empty where there is none.
 #[must_use]
-pub fn fault_name(number: u8) -> String {
-    text_of::<FAULT_TEXT_MAX>(|room| raw::fault_name(number, room))
+pub fn fault_name(number: u8) -> &'static str {
+    said(number, NAME)
 }
 
-/// What the fault of this number means, in a sentence; empty where there is none. Since 0.2.0.
+/// What the fault of this number means, in a sentence; empty where there is none.
 #[must_use]
-pub fn fault_meaning(number: u8) -> String {
-    text_of::<SENTENCE_MAX>(|room| raw::fault_meaning(number, room))
+pub fn fault_meaning(number: u8) -> &'static str {
+    said(number, MEANING)
 }
 
-/// What to do about it, in sentences in which `the file` is the one at fault. Since 0.2.0.
+/// What to do about it, in sentences in which `the file` is the one at fault.
 #[must_use]
-pub fn fault_remedy(number: u8) -> String {
-    text_of::<SENTENCE_MAX>(|room| raw::fault_remedy(number, room))
+pub fn fault_remedy(number: u8) -> &'static str {
+    said(number, REMEDY)
 }

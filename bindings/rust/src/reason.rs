@@ -116,16 +116,16 @@ impl Reason {
         self as u8
     }
 
-    /// What it means, in a sentence of the library. Since 0.2.0.
+    /// What it means, in a sentence of the library.
     #[must_use]
-    pub fn meaning(self) -> String {
+    pub fn meaning(self) -> &'static str {
         crate::fault_meaning(self.number())
     }
 
     /// What to do about it, in sentences in which `the file` is the one at fault;
-    /// [`check`](crate::check) says more of the files at hand. Since 0.2.0.
+    /// [`check`](crate::check) says more of the files at hand.
     #[must_use]
-    pub fn remedy(self) -> String {
+    pub fn remedy(self) -> &'static str {
         crate::fault_remedy(self.number())
     }
 

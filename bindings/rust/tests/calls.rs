@@ -1,6 +1,6 @@
 //! The calls over samples, which lie beside this file: the crate can be copied by itself.
 
-use pslink::{Error, Fault, Form, Look, Reason, Summary, Text, Weight, NO_LIBRARIES};
+use pslink::{Error, Fault, File, Finding, Form, Name, Reason, Summary, Text, Weight};
 use std::collections::HashSet;
 
 /// Where the library says how many words the private variable of record 1 has.
@@ -9,6 +9,13 @@ const WORDS_OF_STATE: usize = 1024 + 32 + 14;
 fn sample(name: &str) -> Vec<u8> {
     let path = format!("{}/tests/samples/{name}", env!("CARGO_MANIFEST_DIR"));
     std::fs::read(&path).unwrap_or_else(|error| panic!("{path}: {error}"))
+}
+
+const UTIL: Name = Name(*b"UTIL    ");
+
+/// The pair of samples as files, with these names.
+fn pair<'a>(host: &'a [u8], library: &'a [u8]) -> (File<'a>, [File<'a>; 1]) {
+    (("HOST", host).into(), [("LIB1", library).into()])
 }
 
 fn refused<T: std::fmt::Debug>(result: Result<T, Error>) -> Fault {
@@ -25,7 +32,7 @@ fn numbers(summary: Summary) -> (usize, u32, usize) {
 #[test]
 fn a_link_is_as_long_as_its_result() {
     let (linked, summary) =
-        pslink::link_with_summary(sample("host.code"), &[sample("library.code")]).unwrap();
+        pslink::link_with_summary(sample("host.code"), [sample("library.code").into()]).unwrap();
     assert_eq!(numbers(summary), (2, 4, 3));
     assert_eq!(linked.len(), 3 * 512);
     assert_eq!(linked.capacity(), linked.len());
@@ -38,14 +45,14 @@ fn a_link_is_as_long_as_its_result() {
         *b"\xA5\x80\x03\xAB\x80\x0A\xD7\xD7\xAD\0\0\0\0\0\x06\0\x10\0\x01\0\x02\0\x07\x01"
     );
     assert_eq!(
-        pslink::link(sample("host.code"), &[sample("library.code")]),
+        pslink::link(sample("host.code"), [sample("library.code").into()]),
         Ok(linked)
     );
 }
 
 #[test]
 fn the_map_is_that_of_the_samples() {
-    let map = pslink::map(sample("host.code"), &[sample("library.code")]).unwrap();
+    let map = pslink::map(sample("host.code"), [sample("library.code").into()]).unwrap();
     assert_eq!(map.as_bytes(), sample("host.map"));
 }
 
@@ -64,53 +71,82 @@ fn a_show_has_a_line_for_each_slot() {
 #[test]
 fn a_report_names_the_files_and_has_the_verdict() {
     let (host, mut library) = (sample("host.code"), sample("library.code"));
-    let report = pslink::check(("HOST", &host), &[("LIB1", &library)], true).unwrap();
+    let (first, libs) = pair(&host, &library);
+    let report = pslink::check(first, libs).unwrap();
     assert!(report
         .text
         .starts_with("file 0 HOST: 1536 bytes, little-endian\n"));
     assert!(report
         .text
         .ends_with("\nlinks: segments 2 private words 4 blocks 3\n"));
-    assert_eq!(
-        (report.warnings, report.verdict.map(numbers), report.ok),
-        (0, Ok((2, 4, 3)), true)
-    );
+    assert!(report.ok() && report.findings.is_empty());
+    assert_eq!(report.verdict.map(numbers), Ok((2, 4, 3)));
     // Its private variable has two words, and the operand is the third.
     library[WORDS_OF_STATE] = 2;
-    for strict in [false, true] {
-        let report = pslink::check(("one", &host), &[("two", &library)], strict).unwrap();
-        assert_eq!((report.warnings, report.ok), (1, !strict));
-        assert!(report
-            .text
-            .contains("\nwarning: two, segment UTIL, record 1: "));
-    }
-    let none: &[(&str, &[u8])] = &[];
-    let report = pslink::check(("HOST", &host), none, false).unwrap();
-    let fault = report.verdict.unwrap_err();
-    assert_eq!((fault.reason, report.ok), (Reason::MissingUnit, false));
+    let report = pslink::check(("one", &host), [("two", &library).into()]).unwrap();
+    assert!(report.ok());
+    assert_eq!((report.warnings().count(), report.notes().count()), (1, 0));
+    assert!(report
+        .text
+        .contains("\nwarning: two, segment UTIL, record 1: "));
+    let report = pslink::check(&host, []).unwrap();
+    assert!(!report.ok());
     assert!(report
         .text
         .contains("\npslink: refused 13 MissingUnit file 0 slot 7\n"));
+    let fault = report.verdict.unwrap_err();
+    assert_eq!(
+        (fault.reason, fault.path.as_str()),
+        (Reason::MissingUnit, "file 0")
+    );
+    let short = pslink::check(("HOST", &host), [("LIB1", &host[..511]).into()]).unwrap();
+    assert_eq!(short.verdict.unwrap_err().path, "LIB1");
 }
 
 #[test]
 fn files_are_anything_with_bytes() {
     let (host, library) = (sample("host.code"), sample("library.code"));
-    let linked = pslink::link(&host, &[&library]).unwrap();
+    let linked = pslink::link(&host, [(&library).into()]).unwrap();
+    let libs = vec![library.clone()];
     assert_eq!(
-        pslink::link(host.as_slice(), &[library.as_slice()]).unwrap(),
+        pslink::link(host.as_slice(), libs.iter().map(File::from)).unwrap(),
         linked
     );
     assert_eq!(
-        pslink::link(host.into_boxed_slice(), &[library]).unwrap(),
+        pslink::link(
+            &host.clone().into_boxed_slice(),
+            vec![File::from(library.as_slice())]
+        )
+        .unwrap(),
         linked
     );
-    assert!(pslink::link(sample("two_units.code"), NO_LIBRARIES).is_ok());
+    assert_eq!(
+        pslink::link(("a", host), [(String::from("b"), library).into()]).unwrap(),
+        linked
+    );
+    assert!(pslink::link(sample("two_units.code"), []).is_ok());
+}
+
+#[test]
+fn a_name_has_its_text() {
+    assert_eq!(UTIL.to_string(), "UTIL");
+    assert_eq!(format!("{UTIL:6}|"), "UTIL  |");
+    assert_eq!(UTIL, "UTIL");
+    assert_ne!(UTIL, "UTI");
+    assert_eq!(Name(*b" A\0\xFFB   ").to_string(), " A??B");
+    assert_eq!(Name(*b"        ").to_string(), "");
+    assert_eq!(Name(*b"        "), "");
+}
+
+#[test]
+fn a_null_character_of_a_name_is_shown() {
+    let report = pslink::check(("a\0b", b""), []).unwrap();
+    assert!(report.text.starts_with("file 0 a\u{FFFD}b: "));
 }
 
 #[test]
 fn a_refusal_has_the_parts_of_its_fault() {
-    let fault = refused(pslink::link(sample("host.code"), NO_LIBRARIES));
+    let fault = refused(pslink::link(sample("host.code"), []));
     assert_eq!(
         (fault.reason, fault.number(), fault.file),
         (Reason::MissingUnit, 13, 0)
@@ -119,7 +155,8 @@ fn a_refusal_has_the_parts_of_its_fault() {
         (fault.kind, fault.slot, fault.record, fault.reference),
         (None, Some(7), None, None)
     );
-    assert_eq!(fault.about, Some(*b"UTIL    "));
+    assert_eq!(fault.about, Some(UTIL));
+    assert_eq!(fault.path, "file 0");
     assert_eq!(fault.to_string(), "refused 13 MissingUnit file 0 slot 7");
     let error: Box<dyn std::error::Error> = Error::from(fault).into();
     assert_eq!(error.to_string(), "refused 13 MissingUnit file 0 slot 7");
@@ -130,7 +167,7 @@ fn a_refusal_has_the_parts_of_its_fault() {
     );
     let mut library = sample("library.code");
     library[196] = 4;
-    let no_unit = refused(pslink::link(sample("host.code"), &[library]));
+    let no_unit = refused(pslink::link(sample("host.code"), [library.into()]));
     assert_eq!(
         (no_unit.reason, no_unit.kind, no_unit.file),
         (Reason::NotAUnit, Some(4), 1)
@@ -140,14 +177,14 @@ fn a_refusal_has_the_parts_of_its_fault() {
 #[test]
 fn a_text_is_what_the_program_prints() {
     let (host, library) = (sample("host.code"), sample("library.code"));
-    let files = [("LIB1", &library)];
-    let text = |what, form| pslink::text(what, form, ("HOST", &host), &files).unwrap();
+    let (first, libs) = pair(&host, &library);
+    let text = |what, form| pslink::text(what, form, first.clone(), libs.clone()).unwrap();
     let map = text(Text::Map, Form::Lines);
     assert_eq!(map.as_bytes(), sample("host.map"));
     let references = text(Text::References, Form::Lines);
     assert!(references.len() > map.len() && references.starts_with(&map));
     assert_eq!(text(Text::Show, Form::Lines), pslink::show(&host).unwrap());
-    let report = pslink::check(("HOST", &host), &files, false).unwrap();
+    let report = pslink::check(first.clone(), libs.clone()).unwrap();
     assert_eq!(text(Text::Check, Form::Lines), report.text);
     assert!(text(Text::List, Form::Lines).starts_with("HOST: little-endian, 1536 bytes, host\n"));
     assert!(text(Text::Units, Form::Lines).contains("\nLIB1: little-endian, 1536 bytes, library\n"));
@@ -157,7 +194,7 @@ fn a_text_is_what_the_program_prints() {
         Text::Show,
         Text::Check,
         Text::List,
-        Text::Looks,
+        Text::Findings,
     ];
     for what in documents {
         let document = text(what, Form::Json);
@@ -167,18 +204,18 @@ fn a_text_is_what_the_program_prints() {
         );
     }
     assert_eq!(
-        pslink::text(Text::Units, Form::Json, ("HOST", &host), &files),
+        pslink::text(Text::Units, Form::Json, first.clone(), libs.clone()),
         Err(Error::NoText)
     );
-    let alone = pslink::text(Text::Map, Form::Lines, ("HOST", &host), &files[..0]);
+    let alone = pslink::text(Text::Map, Form::Lines, first.clone(), []);
     assert_eq!(refused(alone).number(), 13);
 }
 
 #[test]
 fn what_is_found_is_told_one_by_one() {
     let (host, mut library) = (sample("host.code"), sample("library.code"));
-    let none = pslink::looks(("HOST", &host), &[("LIB1", &library)]).unwrap();
-    assert_eq!(none, []);
+    let none = pslink::check(&host, [(&library).into()]).unwrap();
+    assert_eq!(none.findings, []);
     // Padding, a procedure of another number, a private variable of two words, and an operand without
     // its bit 7.
     library[530] = 3;
@@ -186,11 +223,12 @@ fn what_is_found_is_told_one_by_one() {
     library[WORDS_OF_STATE] = 2;
     library.extend([0x1A; 2]);
     let path = "a \"path\" \\ \u{1}\n\u{1F4BE}";
-    let looks = pslink::looks(("HOST", &host), &[(path, &library)]).unwrap();
-    let parts = |look: &Look| (look.weight, look.segment, look.record, look.text.clone());
-    let util = Some(*b"UTIL    ");
+    let report = pslink::check(("HOST", &host), [(path, &library).into()]).unwrap();
+    let parts = |one: &Finding| (one.weight, one.segment, one.record, one.text.clone());
+    let util = Some(UTIL);
+    assert_eq!((report.warnings().count(), report.notes().count()), (1, 2));
     assert_eq!(
-        looks.iter().map(parts).collect::<Vec<_>>(),
+        report.findings.iter().map(parts).collect::<Vec<_>>(),
         [
             (
                 Weight::Harmless,
@@ -220,7 +258,7 @@ fn what_is_found_is_told_one_by_one() {
             ),
         ]
     );
-    assert!(looks.iter().all(|look| look.path == path));
+    assert!(report.findings.iter().all(|one| one.path == path));
     assert_eq!(Weight::Warning.to_string(), "warning");
 }
 
@@ -246,14 +284,8 @@ fn each_reason_has_its_sentences() {
 #[test]
 fn the_units_of_a_host_and_of_a_library_are_named() {
     let host = sample("host.code");
-    assert_eq!(
-        pslink::units_wanted(&host, NO_LIBRARIES).unwrap(),
-        [*b"UTIL    "]
-    );
-    assert_eq!(
-        pslink::units_had(sample("library.code")).unwrap(),
-        [*b"UTIL    "]
-    );
+    assert_eq!(pslink::units_wanted(&host, []).unwrap(), [UTIL]);
+    assert_eq!(pslink::units_had(sample("library.code")).unwrap(), [UTIL]);
     let both = pslink::units_had(sample("two_units.code")).unwrap();
     assert_eq!(both.iter().collect::<HashSet<_>>().len(), 2);
     let none = refused(pslink::units_had(&host[..511]));
@@ -275,19 +307,19 @@ fn the_reasons_are_those_of_the_library() {
 
 #[test]
 fn the_release_is_that_of_this_crate() {
-    assert_eq!(pslink::release(), env!("CARGO_PKG_VERSION"));
-    let parts = pslink::release();
+    let parts = env!("CARGO_PKG_VERSION");
     let number = parts.split('.').fold(0, |number, part| {
         100 * number + part.parse::<u32>().unwrap()
     });
     assert_eq!(pslink::release_number(), number);
+    assert_eq!(pslink::RELEASE_NUMBER, number);
 }
 
 #[test]
 fn results_take_no_more_memory_than_they_are_long() {
     let (host, library) = (sample("host.code"), sample("library.code"));
     let linked: Vec<Vec<u8>> = (0..5000)
-        .map(|_| pslink::link(&host, &[&library]).unwrap())
+        .map(|_| pslink::link(&host, [(&library).into()]).unwrap())
         .collect();
     assert_eq!(linked.iter().map(Vec::capacity).sum::<usize>(), 5000 * 1536);
 }

@@ -28,7 +28,7 @@ pub const WRONG_TEXT: u32 = 7;
 
 /// What a call answers: its status, and what goes with that status. All else is 0.
 ///
-/// `include/pslink.h` has the same fields.
+/// `library/proved.h` has the same fields.
 #[repr(C)]
 #[derive(Clone, Copy, Debug, PartialEq, Eq)]
 pub struct Answer {

@@ -9,7 +9,7 @@ use ps_words::Name;
 
 /// What a check answers: its status, and what goes with that status. All else is 0.
 ///
-/// `include/pslink.h` has the same fields, as `pslink_check_answer`.
+/// `library/proved.h` has the same fields, as `proved_check`.
 #[repr(C)]
 #[derive(Clone, Copy, Debug, PartialEq, Eq)]
 pub struct CheckAnswer {

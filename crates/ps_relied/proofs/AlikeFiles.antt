@@ -1,5 +1,4 @@
 -- Files that are read alike link to the same bytes, or have the same first fault.
-use Rattle.ps_codefile.specs.declared.entry.Role.TheVariants as role
 use Rattle.ps_words.specs.declared.fault.Reason.TheVariants as reason
 use Rattle.ps_relied.proofs.Vocabulary.{AreFilesAlike, AreReadAlike, AreSameSegments, Bool, Both, Fault, HaveSameEntries, IsReadAlike, List, None, Option, Order, Reason, Result, Role, Some, [], and_left, arith, both, both_none, bytes_eq, enumerate_from, false, fault_if, find, first_fault, first_of, has_entry, host_fault, if◌then◌else◌, in_file, in_slot, is_host, is_unit, libraries_fault, library_fault, linking_fault, list_any, map, name_at, neither, no_host_fault, not, option_map, option_map_or, option_or, order_of, range_with_len, reading_fault, reading_rest, refl, result_err, result_ok, same_clipped, segments, segments_of, slots, slots_fault, sym, true, ℕ, ◌&&◌, ◌+◌, ◌∙◌, ◌∷◌, ◌≡◌}
 use Rattle.ps_relied.proofs.SameEntries.{IsSame, found_alike, same_search, unmoved}

@@ -1,5 +1,4 @@
 -- Libraries that have the same entries of a name: what is looked up in them is the same.
-use Rattle.ps_codefile.specs.declared.entry.Role.TheVariants as role
 use Rattle.ps_words.specs.declared.fault.Reason.TheVariants as reason
 use Rattle.ps_relied.proofs.Vocabulary.{Both, HasSameCode, HasSameRecords, HaveSameEntries, List, None, Option, Order, Reason, SLOTS, Some, ap, both, chosen_file, chosen_library, clipped, entries_reason, entry_at, false, fault_if, file_at, find, find_in, find_passes, has_entry, if◌then◌else◌, in_slots, information_block, is_named, kind_is, library_file, list_any, needs_linking, neither, not, option_and_then, order_of, range_with_len, refl, same_clipped, slots, sym, true, ℕ, ◌&&◌, ◌<◌, ◌==◌, ◌∙◌, ◌≡◌}
 use Rattle.ps_relied.proofs.SameSearches.{AreChosenAlike, Change, IsFound}

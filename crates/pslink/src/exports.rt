@@ -1,5 +1,5 @@
-//! What the library exports. C hands a slice over as a pointer and then a length, and a `Global` as
-//! nothing.
+//! What `library/pslink.c` calls, and the release, which the library exports too. C hands a slice
+//! over as a pointer and then a length, and a `Global` as nothing.
 ghost use Rattle.std.specs.Prelude.{◌≡◌, ◌≢◌, ◌==◌, ◌≤◌, ◌<◌, ◌⊎◌, [], All, IsUtf8, length, not, sum, None, IfNone, IfSome};
 ghost use Rattle.ps_resolve.specs.Standing.{NoneStandsInReading};
 ghost use Rattle.ps_linkfile.specs.ShowText.{show_fault};

@@ -2,7 +2,7 @@
 //! program prints of files, from memory to memory.
 //!
 //! Each export says by its contract what it leaves in the caller's memory, in the words of
-//! `ps_answers` and `ps_calls`, which do the calls. `include/pslink.h` has them as C sees them: a
+//! `ps_answers` and `ps_calls`, which do the calls. `library/proved.h` has them as C sees them: a
 //! slice is a pointer and a length.
 #![tactic(auto)]
 

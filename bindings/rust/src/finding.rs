@@ -3,8 +3,7 @@
 use crate::Name;
 use std::fmt;
 
-/// How much a [`Look`] weighs. Its text is the word that its line in the report begins with. Since
-/// 0.2.0; until 0.3.0 a warning was `Look` or `Damaged`, and many a note was one.
+/// How much a [`Finding`] weighs. Its text is the word that its line in the report begins with.
 #[derive(Clone, Copy, Debug, PartialEq, Eq, Hash)]
 #[non_exhaustive]
 pub enum Weight {
@@ -34,15 +33,15 @@ impl fmt::Display for Weight {
     }
 }
 
-/// What a check finds in files and is no fault. Since 0.2.0.
+/// What a check finds in files and is no fault.
 #[derive(Clone, Debug, PartialEq, Eq)]
 #[non_exhaustive]
-pub struct Look {
+pub struct Finding {
     /// How much it weighs.
     pub weight: Weight,
     /// What the report calls the file.
     pub path: String,
-    /// The name of the segment that it is in, eight bytes as the file has them.
+    /// The name of the segment that it is in.
     pub segment: Option<Name>,
     /// The index of the record in the segment's link information, from 0.
     pub record: Option<usize>,
@@ -117,10 +116,10 @@ impl Line<'_> {
         for (index, byte) in name.iter_mut().enumerate() {
             *byte = u8::from_str_radix(digits.get(2 * index..2 * index + 2)?, 16).ok()?;
         }
-        Some(Some(name))
+        Some(Some(Name(name)))
     }
 
-    fn look(mut self) -> Option<Look> {
+    fn finding(mut self) -> Option<Finding> {
         self.skip("{\"weight\":\"")?;
         let word = self.text()?;
         let weight = Weight::ALL.into_iter().find(|one| one.word() == word)?;
@@ -133,7 +132,7 @@ impl Line<'_> {
         self.skip(",\"text\":\"")?;
         let text = self.text()?;
         self.skip("}")?;
-        Some(Look {
+        Some(Finding {
             weight,
             path,
             segment,
@@ -144,10 +143,10 @@ impl Line<'_> {
 }
 
 /// The items of a document, each in a line of its own; `None` where one is none.
-pub(crate) fn looks_in(document: &str) -> Option<Vec<Look>> {
+pub(crate) fn findings_in(document: &str) -> Option<Vec<Finding>> {
     document
         .lines()
         .filter(|line| line.starts_with("{\"weight\":"))
-        .map(|line| Line(line).look())
+        .map(|line| Line(line).finding())
         .collect()
 }
