@@ -106,9 +106,10 @@ extern "C" {
                                 finds nothing */
 
 /* Names of units, eight bytes each as the files have them, one after another: `size / 8` of them. */
-#define PSLINK_WANTED 7u /* those that the slots of the host want, by slot, and then those that only
-                            records request, of the host or of a unit that was found, each once, in the
-                            order of their requests, ten of them at most */
+#define PSLINK_WANTED 7u /* those that the slots of the host want, by slot, and then those that
+                            records request for which the host has no unit, in the order of their
+                            requests, ten of them at most. A name that a slot wants may be among
+                            these again, if the libraries do not have it */
 #define PSLINK_HAD 8u    /* those of the units whose code files[0] has, by slot */
 
 /* PSLINK_MAP | PSLINK_JSON and so on: one JSON document in place of lines. PSLINK_UNITS, and the names
