@@ -457,7 +457,8 @@ def units_wanted(host: File, libs: Iterable[File] = ()) -> List[str]:
     """The names of the units that a link takes from libraries, or would take if they had them, as 'UTIL'.
 
     First those that the host's slots want, by slot, then those that records request, among which one that a slot
-    wants may be again, if no library has it. Those that a unit uses are told where the libraries have that unit. Raises Refused only where the host cannot be opened, and else what `link` raises.
+    wants may be again, if no library has it. Those that a unit uses are told where the libraries have that unit.
+    Raises Refused only where the host cannot be opened, and else what `link` raises.
     """
     return _Files(host, libs).units(_WANTED)
 

@@ -433,8 +433,9 @@ pub fn text<'a>(
 }
 
 /// The names of the units that a link takes from libraries, or would take if they had them: first
-/// those that the host's slots want, by slot, then those that only records request. Those that a
-/// unit uses are told where the libraries have that unit.
+/// those that the host's slots want, by slot, then those that records request, among which one
+/// that a slot wants may be again, if no library has it. Those that a unit uses are told where the
+/// libraries have that unit.
 ///
 /// # Errors
 /// [`Error::Refused`] where the host cannot be opened; else as of [`link`].
