@@ -68,6 +68,12 @@ def told(report):
     return found and found[1]
 
 
+def name_to_tell(library, room, host, verdict):
+    """The name that a report has to tell: nothing is said of the segments of a host that is something else than a code file."""
+    is_else = verdict.file == 0 and json.loads(made(library, LIST | JSON, room, host, ())[0])["files"][0]["type"] is not None
+    return shown(verdict.name_told()) if verdict.name_told() and not is_else else None
+
+
 def differences(library, room, host, libraries):
     report, verdict = made(library, CHECK, room, host, libraries)
     _, document = made(library, CHECK | JSON, room, host, libraries)
@@ -81,7 +87,7 @@ def differences(library, room, host, libraries):
         yield f"{verdict.warnings} warnings are told, and {document.warnings} of the document"
     elif verdict.name[8] != 0:
         yield f"the name {bytes(verdict.name)} is not closed"
-    elif verdict.fault and told(report.decode()) != (shown(verdict.name_told()) if verdict.name_told() else None):
+    elif verdict.fault and told(report.decode()) != name_to_tell(library, room, host, verdict):
         yield f"fault {verdict.fault} has the name {bytes(verdict.name)}, and the report says {told(report.decode())}"
 
 
