@@ -1,4 +1,3 @@
 pub mod Sentences
 pub mod SlotLines
 pub mod SegmentLines
-pub mod FileLines

@@ -2,4 +2,3 @@ pub mod CodeFiles
 pub mod Shown
 pub mod CodeTypes
 pub mod Names
-pub mod TypeWords

@@ -1,5 +1,4 @@
 pub mod Listed
 pub mod ListText
 pub mod LoneText
-pub mod Phrases
 pub mod FileLists
