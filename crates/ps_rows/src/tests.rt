@@ -31,7 +31,6 @@ mod rows;
 mod tables;
 mod texts;
 mod two_units;
-mod unit_names;
 mod words;
 mod writers;
 mod writing;

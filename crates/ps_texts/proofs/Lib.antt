@@ -1,3 +1,2 @@
-pub mod EachOnce
 pub mod SlotNames
 pub mod Forms

@@ -6,7 +6,6 @@
 mod kinds;
 mod texts;
 mod units;
-mod wanted_law;
 
 pub use kinds::TextKind;
 pub use ps_listing::ListForm;
@@ -14,4 +13,3 @@ pub use ps_segments::NamedFiles;
 pub use ps_writing::Form;
 pub use texts::{FilesText, Unmade, text_of};
 pub use units::{units_had, units_wanted};
-pub use wanted_law::wanted_units;
