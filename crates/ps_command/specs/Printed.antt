@@ -14,6 +14,7 @@ use Rattle.ps_writing.specs.declared.rows.Form.{Form}
 use Rattle.ps_writing.specs.declared.rows.Form.TheVariants.{Lines, Json}
 use Rattle.ps_linkfile.specs.LinkedFile.{LinkedFile, summary_of}
 use Rattle.ps_listing.specs.FileLists.{is_refused_as_listed, listed_as, unread}
+use Rattle.ps_listing.specs.Phrases.{IsPhrase}
 use Rattle.ps_listing.specs.declared.lists.ListForm.{ListForm}
 use Rattle.ps_listing.specs.declared.lists.ListForm.TheVariants as form
 use Rattle.ps_resolve.specs.FaultNames.{fault_name}
@@ -174,7 +175,7 @@ PrintsUnread how first path old new = new ≡ old
 abbrev pub IsListed : (Text → List ℕ → Type 0) → ListForm → Bool → Text → ℕ
     → Option (List ℕ) → Option (List ℕ) → Type 0
 IsListed Reads how first path status old new =
-    ((file : List ℕ) × (phrase : List ℕ) × Reads path file
+    ((file : List ℕ) × (phrase : List ℕ) × Reads path file × IsPhrase file phrase
     × (status ≡ (if is_refused_as_listed how phrase file then 1 else 0))
     × Appends old new (listed_as how first path phrase file))
     ⊎ ((status ≡ 3) × PrintsUnread how first path old new)

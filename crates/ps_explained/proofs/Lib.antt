@@ -3,3 +3,4 @@ pub mod OneLine
 pub mod SlotLines
 pub mod LineOfSegment
 pub mod LinesOfSegments
+pub mod FileLines

@@ -1,14 +1,15 @@
 -- The line of a segment is one line, and begins with `slot `.
-use Rattle.std.proofs.Common.{◌≡◌, ◌++◌, ◌∷◌, ◌+◌, ◌/◌, ◌%◌, ◌==◌, [], ℕ, List, true, not, codes, refl, arith}
+use Rattle.std.proofs.Common.{◌≡◌, ◌++◌, ◌∷◌, ◌+◌, ◌/◌, ◌%◌, ◌==◌, [], ℕ, Bool, List, true, false, not, codes, refl, arith}
 use Rattle.std.specs.Prelude.{Option, Some, None, decimal}
 use Rattle.std.specs.Str.{IsUtf8}
 use Rattle.ps_filetype.specs.Shown.{shown_name, shown_path}
-use Rattle.ps_explained.specs.SlotLines.{is_slot_line, one_line}
+use Rattle.ps_explained.specs.SlotLines.{AddsSlotLines, one_line}
 use Rattle.ps_segments.specs.SegmentParts.{part_words}
-use Rattle.ps_explained.specs.SegmentLines.{from_words, head_words, slot_words, two_digits}
+use Rattle.ps_explained.specs.SegmentLines.{absence_words, from_words, head_words, line_in_slot, slot_words, two_digits}
 use Rattle.ps_segments.specs.declared.segments.SegmentPart.{SegmentPart}
 use Rattle.ps_segments.specs.declared.segments.SegmentPart.TheVariants as part
 use Rattle.ps_explained.proofs.OneLine.{above, and_both, one_append, one_digits, one_name, one_path}
+use Rattle.ps_explained.proofs.SlotLines.{adds_line, adds_no_line}
 
 one_two : (n : ℕ) → one_line (two_digits n) ≡ true
 one_two n = and_both (not ((48 + n / 10) == 10)) (one_line ((48 + n % 10) ∷ []))
@@ -32,7 +33,7 @@ one_slot : (slot : Option ℕ) → one_line (slot_words slot) ≡ true
 one_slot None = refl
 one_slot (Some n) = one_append (codes "slot ") (two_digits n) refl (one_two n)
 
-one_head : (slot : Option ℕ) (name : List ℕ) (what : SegmentPart)
+pub one_head : (slot : Option ℕ) (name : List ℕ) (what : SegmentPart)
     → one_line (head_words slot name what) ≡ true
 one_head slot name what =
     one_append (slot_words slot) (32 ∷ (shown_name name ++ (codes ": " ++ part_words what)))
@@ -60,7 +61,23 @@ one_segment slot name what path index size text =
     one_append (head_words slot name what) (from_words path index size) (one_head slot name what)
     (one_from path index size text)
 
-pub begins : (slot : Option ℕ) (n : ℕ) (name : List ℕ) (what : SegmentPart) (more : List ℕ)
-    → slot ≡ Some n → is_slot_line (head_words slot name what ++ more) ≡ true
-begins None n name what more e = cc
-begins (Some m) n name what more e = refl
+one_why : (missing : Bool) (slot : Option ℕ) → one_line (absence_words missing slot) ≡ true
+one_why true slot = refl
+one_why false None = refl
+one_why false (Some n) = refl
+
+pub one_absent : (slot : Option ℕ) (name : List ℕ) (what : SegmentPart) (missing : Bool)
+    → one_line (head_words slot name what ++ absence_words missing slot) ≡ true
+one_absent slot name what missing =
+    one_append (head_words slot name what) (absence_words missing slot) (one_head slot name what)
+    (one_why missing slot)
+
+-- a line that begins with a slot is one of those lines, and one that begins with `no slot` is none
+pub adds_in_slot : (slot : Option ℕ) (name : List ℕ) (what : SegmentPart)
+    (more old new : List ℕ) → one_line (head_words slot name what ++ more) ≡ true
+    → new ≡ old ++ ((head_words slot name what ++ more) ++ 10 ∷ [])
+    → AddsSlotLines old (line_in_slot slot (head_words slot name what ++ more)) new
+adds_in_slot None name what more old new one is =
+    adds_no_line old (head_words None name what ++ more) new one refl is
+adds_in_slot (Some n) name what more old new one is =
+    adds_line old (head_words (Some n) name what ++ more) new one refl is

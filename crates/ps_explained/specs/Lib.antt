@@ -1,3 +1,4 @@
 pub mod Sentences
 pub mod SlotLines
 pub mod SegmentLines
+pub mod FileLines

@@ -1,9 +1,11 @@
 -- What a report says of each segment of a link: its slot and its name, what it is, and where its
 -- code comes from.
-use Rattle.std.specs.Prelude.{ℕ, ◌+◌, ◌/◌, ◌%◌, ◌==◌, if◌then◌else◌, List, [], ◌∷◌, ◌++◌, Option, Some, None, length, map, codes, decimal}
-use Rattle.std.specs.List.{find}
+use Rattle.std.specs.Prelude.{ℕ, ◌+◌, ◌/◌, ◌%◌, ◌==◌, if◌then◌else◌, Bool, true, false, List, [], ◌∷◌, ◌++◌, Option, Some, None, Result, Ok, Err, is_some, length, map, codes, decimal}
+use Rattle.std.specs.List.{find, flat_map}
 use Rattle.std.specs.Option.{option_map_or}
 use Rattle.std.specs.Str.{bytes_eq}
+use Rattle.ps_words.specs.declared.fault.Reason.{Reason}
+use Rattle.ps_words.specs.declared.fault.Reason.TheVariants as reason
 use Rattle.ps_codefile.specs.declared.entry.Role.{Role}
 use Rattle.ps_codefile.specs.declared.entry.Role.TheVariants as role
 use Rattle.ps_resolve.specs.Sources.{Segment, opened_files, order_of}
@@ -13,6 +15,7 @@ use Rattle.ps_reading.specs.declared.reading.added.UnitReference.{UnitReference}
 use Rattle.ps_filetype.specs.Shown.{shown_name, shown_path}
 use Rattle.ps_segments.specs.SegmentParts.{part_words}
 use Rattle.ps_segments.specs.Paths.{path_of}
+use Rattle.ps_segments.specs.Seen.{Origin, Seen}
 use Rattle.ps_segments.specs.declared.segments.SegmentPart.{SegmentPart}
 use Rattle.ps_segments.specs.declared.segments.SegmentPart.TheVariants as part
 
@@ -78,3 +81,36 @@ segment_lines paths host libs =
     let order = order_of host in
     lines_of_segments paths (segments order host libs)
     (read_requests order host (opened_files order libs))
+
+-- no library has the unit
+abbrev pub is_missing : Reason → Bool
+is_missing reason.MissingUnit = true
+is_missing why = false
+
+-- so of a segment that has a code, or none for a reason
+abbrev pub is_missing_code : {A : Type 0} → Result A Reason → Bool
+is_missing_code (Ok code) = false
+is_missing_code (Err why) = is_missing why
+
+-- why a segment comes from no file: no library has it, it has no slot, or it was not looked for
+abbrev pub absence_words : Bool → Option ℕ → List ℕ
+absence_words true slot = codes ", which no library has"
+absence_words false None = codes ", for which no slot is left"
+absence_words false (Some n) = codes ", not looked for after the fault"
+
+-- where a segment comes from, or why from nowhere
+abbrev pub origin_words : List (List ℕ) → Option ℕ → Result Origin Reason → List ℕ
+origin_words paths slot (Ok o) = from_words (path_of paths o.file) o.index o.size
+origin_words paths slot (Err why) = absence_words (is_missing why) slot
+
+-- the line of a segment as it was read, also where it is refused
+abbrev pub read_line : List (List ℕ) → Seen → List ℕ
+read_line paths s = head_words s.slot s.name s.part ++ origin_words paths s.slot s.origin
+
+-- of one that has a slot
+abbrev pub line_in_slot : Option ℕ → List ℕ → List (List ℕ)
+line_in_slot slot line = if is_some slot then line ∷ [] else []
+
+-- the line of each segment that was read and has a slot
+abbrev pub read_lines : List (List ℕ) → List Seen → List (List ℕ)
+read_lines paths list = flat_map (λ s. line_in_slot s.slot (read_line paths s)) list

@@ -5,6 +5,7 @@
 
 mod cases;
 mod explain;
+mod file_lines;
 mod orders;
 mod overview;
 mod privates;
@@ -15,7 +16,7 @@ mod slot_lines;
 
 pub use cases::Case;
 pub use explain::Explanation;
-pub use orders::OrderOf;
-pub use overview::overview_of;
+pub use orders::ByteOrder;
+pub use overview::{Overview, overview_of};
 pub use sentences::{SENTENCE_LEN, meaning_of, remedy_of};
 pub use slot_lines::indent;

@@ -1,32 +1,57 @@
 //! What a file says of its byte order.
+ghost use Rattle.std.specs.Prelude.{◌≡◌, Err, Some};
+ghost use Rattle.ps_codefile.specs.Dictionary.{opened_alone};
+ghost use Rattle.ps_explained.specs.FileLines.{IsByteOrder, order_words};
+
 use ps_codefile::Dict;
 use ps_filetype::FileType;
 use ps_words::{Order, Reason};
 use std::fmt::{self, Display, Formatter};
 
-/// What a file says of its byte order, or what it is where it is no code file. Its text is a phrase,
+/// What a file says of its byte order, or what it is where it cannot be opened. Its text is a phrase,
 /// as `little-endian`.
 #[derive(Clone, Copy)]
-pub struct OrderOf<'a>(
-    /// The whole file.
-    pub &'a [u8],
-);
+pub enum ByteOrder {
+    Known(Order),
+    /// All kinds of the code file are 0.
+    NoKind,
+    /// The file cannot be opened, and is this.
+    NotOpened(FileType),
+}
 
-impl fmt::Display for OrderOf<'_> {
+/// That of a file that cannot be opened for this reason.
+fn unopened(file: &[u8], reason: Reason) -> ByteOrder
+    requires { opened_alone file.now ≡ Err reason }
+    ensures { IsByteOrder file.now result }
+{
+    let file_type = FileType::of(file);
+    match reason {
+        Reason::NoHost if file_type.is_code() => ByteOrder::NoKind,
+        _ => ByteOrder::NotOpened(file_type),
+    }
+}
+
+impl ByteOrder {
+    /// That of a whole file.
+    pub fn of(file: &[u8]) -> ByteOrder
+        ensures { IsByteOrder file.now result }
+    {
+        match Dict::read(file) {
+            Ok(dict) => ByteOrder::Known(dict.order()),
+            Err(reason) => unopened(file, reason),
+        }
+    }
+}
+
+impl fmt::Display for ByteOrder {
+    ghost output = { λ order. Some (order_words order) };
+
     fn fmt<W: fmt::Write>(&self, f: &mut Formatter<W>) -> fmt::Result {
-        match Dict::read(self.0) {
-            Ok(dict) => match dict.order() {
-                Order::Little => f.write_str("little-endian"),
-                Order::Big => f.write_str("big-endian"),
-            },
-            Err(reason) => {
-                let file_type = FileType::of(self.0);
-                if reason == Reason::NoHost && file_type.is_code() {
-                    f.write_str("no byte order, since no segment has a kind")
-                } else {
-                    file_type.fmt(f)
-                }
-            }
+        match *self {
+            ByteOrder::Known(Order::Little) => f.write_str("little-endian"),
+            ByteOrder::Known(Order::Big) => f.write_str("big-endian"),
+            ByteOrder::NoKind => f.write_str("no byte order, since no segment has a kind"),
+            ByteOrder::NotOpened(file_type) => file_type.fmt(f),
         }
     }
 }

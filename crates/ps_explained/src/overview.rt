@@ -1,12 +1,15 @@
 //! The files, and the segments with where each comes from.
-ghost use Rattle.std.specs.Prelude.{◌≡◌, ◌∷◌, ◌++◌, [], IfOk, None, OnOk, Some, ℕ, length, string_bytes};
+ghost use Rattle.std.specs.Prelude.{◌≡◌, ◌∷◌, ◌++◌, [], IfOk, None, OnOk, Some, length, map, string_bytes};
 ghost use Rattle.ps_resolve.specs.AllFaults.{reading_fault};
 ghost use Rattle.ps_resolve.specs.Sources.{contents};
+ghost use Rattle.ps_words.specs.declared.fault.Fault.{Fault};
 ghost use Rattle.ps_segments.specs.Paths.{path_of};
-ghost use Rattle.ps_explained.specs.SegmentLines.{requester_of as requester_of_spec, from_words, head_words, lines_of_segments, name_in as name_in_spec, part_added as part_added_spec, part_as, segment_lines, slot_words, two_digits};
+ghost use Rattle.ps_segments.specs.Seen.{seen};
+ghost use Rattle.ps_explained.specs.FileLines.{AreFileLines};
+ghost use Rattle.ps_explained.specs.SegmentLines.{absence_words, from_words, head_words, is_missing as is_missing_spec, is_missing_code, line_in_slot, lines_of_segments, name_in as name_in_spec, part_added as part_added_spec, part_as, read_line, read_lines, requester_of as requester_of_spec, segment_lines, slot_words, two_digits};
 ghost use Rattle.ps_explained.specs.SlotLines.{AddsSlotLines, slot_lines};
 
-use crate::orders::OrderOf;
+use crate::file_lines::file_lines;
 use crate::slot_lines::add_other_lines;
 use ps_codefile::Role;
 use ps_codefile::dictionary_layout::SLOTS;
@@ -87,19 +90,13 @@ impl fmt::Display for Origin<'_> {
     }
 }
 
-fn file_lines<A: Allocator>(alloc: A, inputs: &NamedFiles<'_>) -> Result<String<A>, AllocError> {
-    let mut text = String::new(alloc);
-    for file in 0..=inputs.libs.len() {
-        let bytes = inputs.bytes(file);
-        writeln!(
-            text,
-            "file {file} {}: {} bytes, {}",
-            ShownPath(inputs.path(file)),
-            bytes.len(),
-            OrderOf(bytes)
-        )?;
-    }
-    Ok(text)
+/// What a report says of files and of segments, in lines.
+#[derive(Drop)]
+pub struct Overview<A: Allocator> {
+    /// A line of each file.
+    pub files: String<A>,
+    /// The segments with where each comes from, and what is not used.
+    pub segments: String<A>,
 }
 
 /// The files, and the segments with where each comes from, in lines for a person: a line of each
@@ -108,40 +105,37 @@ fn file_lines<A: Allocator>(alloc: A, inputs: &NamedFiles<'_>) -> Result<String<
 /// the first of them; the slots without a segment; and the first library from which nothing is taken.
 ///
 /// `reading` is what was read of the files of `inputs`, and `list` what `ps_segments::segments_of`
-/// gives for them. Where they were read without a fault, the lines that begin with `slot ` are those
-/// of the segments of the link, by slot. Returns an error where memory was refused.
+/// gives for them. The lines that begin with `slot ` are those of the segments: where the files were
+/// read without a fault, of the link; and else as they were read. Returns an error where memory was
+/// refused.
 pub fn overview_of<A: Allocator + Copy>(
     alloc: A,
     inputs: &NamedFiles<'_>,
     reading: &Reading<'_>,
     list: &[ReadSegment<'_>],
-) -> Result<String<A>, AllocError>
-    ensures { IfOk result (λ text. reading_fault reading.now.host reading.now.libs ≡ None
-        → slot_lines (string_bytes text) ≡ segment_lines
+) -> Result<Overview<A>, AllocError>
+    ensures files { IfOk result (λ made. AreFileLines
+        (inputs.now.host_path.now ∷ contents inputs.now.paths.now) 0
+        (inputs.now.host.now ∷ contents inputs.now.libs.now) (string_bytes made.files)) }
+    ensures silent { IfOk result (λ made. AddsSlotLines [] [] (string_bytes made.files)) }
+    ensures linked { IfOk result (λ made. reading_fault reading.now.host reading.now.libs ≡ None
+        → slot_lines (string_bytes made.segments) ≡ segment_lines
         (inputs.now.host_path.now ∷ contents inputs.now.paths.now)
         reading.now.host reading.now.libs) }
+    ensures read { IfOk result (λ made. (fault : Fault)
+        → reading_fault reading.now.host reading.now.libs ≡ Some fault
+        → slot_lines (string_bytes made.segments) ≡ read_lines
+        (inputs.now.host_path.now ∷ contents inputs.now.paths.now) (map seen list.now)) }
 {
-    let mut text = String::new(alloc);
-    add_files(alloc, &mut text, inputs)?;
-    add_segments(alloc, &mut text, inputs, reading, list)?;
-    Ok(text)
-}
-
-/// Adds a line for each file.
-fn add_files<A: Allocator + Copy>(
-    alloc: A,
-    text: &mut String<A>,
-    inputs: &NamedFiles<'_>,
-) -> Result<(), AllocError>
-    ensures { OnOk result (AddsSlotLines (string_bytes text.old) [] (string_bytes text.new)) }
-{
-    let lines = file_lines(alloc, inputs)?;
-    add_other_lines(text, lines.as_str())
+    let files = file_lines(alloc, inputs)?;
+    let mut segments = String::new(alloc);
+    add_segments(alloc, &mut segments, inputs, reading, list)?;
+    Ok(Overview { files, segments })
 }
 
 /// Adds what each slot of the host is for, and what libraries have that is not used. Where the files
-/// were read without a fault, each segment of the link has its line, and no other line begins as
-/// those do.
+/// were read without a fault, each segment of the link has its line, and else each as it was read;
+/// no other line begins as those do.
 fn add_segments<A: Allocator + Copy>(
     alloc: A,
     text: &mut String<A>,
@@ -149,10 +143,14 @@ fn add_segments<A: Allocator + Copy>(
     reading: &Reading<'_>,
     list: &[ReadSegment<'_>],
 ) -> Result<(), AllocError>
-    ensures { reading_fault reading.now.host reading.now.libs ≡ None
+    ensures linked { reading_fault reading.now.host reading.now.libs ≡ None
         → OnOk result (AddsSlotLines (string_bytes text.old)
         (segment_lines (inputs.now.host_path.now ∷ contents inputs.now.paths.now)
         reading.now.host reading.now.libs) (string_bytes text.new)) }
+    ensures read { (fault : Fault) → reading_fault reading.now.host reading.now.libs ≡ Some fault
+        → OnOk result (AddsSlotLines (string_bytes text.old)
+        (read_lines (inputs.now.host_path.now ∷ contents inputs.now.paths.now) (map seen list.now))
+        (string_bytes text.new)) }
 {
     add_each(alloc, text, inputs, reading, list)?;
     let lines = lines_after(alloc, inputs, reading, list)?;
@@ -167,10 +165,14 @@ fn add_each<A: Allocator + Copy>(
     reading: &Reading<'_>,
     list: &[ReadSegment<'_>],
 ) -> Result<(), AllocError>
-    ensures { reading_fault reading.now.host reading.now.libs ≡ None
+    ensures linked { reading_fault reading.now.host reading.now.libs ≡ None
         → OnOk result (AddsSlotLines (string_bytes text.old)
         (segment_lines (inputs.now.host_path.now ∷ contents inputs.now.paths.now)
         reading.now.host reading.now.libs) (string_bytes text.new)) }
+    ensures read { (fault : Fault) → reading_fault reading.now.host reading.now.libs ≡ Some fault
+        → OnOk result (AddsSlotLines (string_bytes text.old)
+        (read_lines (inputs.now.host_path.now ∷ contents inputs.now.paths.now) (map seen list.now))
+        (string_bytes text.new)) }
 {
     if reading.fault().is_some() {
         return add_read(alloc, text, inputs, list);
@@ -224,7 +226,7 @@ fn add_linked_segment<A: Allocator>(
     add_line(text, head, path, segment.index(), segment.code().len())
 }
 
-/// Adds the line of a segment.
+/// Adds the line of a segment that comes from an entry of a file.
 fn add_line<A: Allocator>(
     text: &mut String<A>,
     head: Head,
@@ -232,9 +234,8 @@ fn add_line<A: Allocator>(
     index: u8,
     size: usize,
 ) -> Result<(), AllocError>
-    ensures { (slot : ℕ) → head.slot ≡ Some slot
-        → OnOk result (AddsSlotLines (string_bytes text.old)
-        ((head_words head.slot head.name head.part ++ from_words path.now index size) ∷ [])
+    ensures { OnOk result (AddsSlotLines (string_bytes text.old) (line_in_slot head.slot
+        (head_words head.slot head.name head.part ++ from_words path.now index size))
         (string_bytes text.new)) }
 {
     push_line(text, head, Origin { path, index, size })
@@ -315,43 +316,120 @@ fn add_read<A: Allocator + Copy>(
     text: &mut String<A>,
     inputs: &NamedFiles<'_>,
     list: &[ReadSegment<'_>],
-) -> Result<(), AllocError> {
+) -> Result<(), AllocError>
+    ensures { OnOk result (AddsSlotLines (string_bytes text.old)
+        (read_lines (inputs.now.host_path.now ∷ contents inputs.now.paths.now) (map seen list.now))
+        (string_bytes text.new)) }
+{
     for segment in list {
-        add_segment(alloc, text, inputs, segment)?;
+        add_segment(text, inputs, segment)?;
+        let later = later_line_of(alloc, inputs, segment)?;
+        add_other_lines(text, later.as_str())?;
     }
     Ok(())
 }
 
-fn add_segment<A: Allocator + Copy>(
-    alloc: A,
+/// Adds the line of a segment as it was read.
+fn add_segment<A: Allocator>(
     text: &mut String<A>,
     inputs: &NamedFiles<'_>,
     segment: &ReadSegment<'_>,
-) -> Result<(), AllocError> {
+) -> Result<(), AllocError>
+    ensures { OnOk result (AddsSlotLines (string_bytes text.old) (line_in_slot segment.now.slot
+        (read_line (inputs.now.host_path.now ∷ contents inputs.now.paths.now) (seen segment.now)))
+        (string_bytes text.new)) }
+{
     let head = Head {
         slot: segment.slot,
         name: segment.name,
         part: segment.part,
     };
-    let Some((at, entry)) = &segment.source else {
-        let why = why_no_source(segment);
-        return writeln!(text, "{head}, {why}");
-    };
-    let size = usize::from(entry.length);
-    add_line(text, head, inputs.path(at.file), at.index, size)?;
-    let later = later_line(alloc, inputs, segment.name, at.file)?;
-    text.push_str(later.as_str())
+    match segment.source {
+        Some((at, entry)) => {
+            let path = inputs.path(at.file);
+            let size = usize::from(entry.length);
+            add_line(text, head, path, at.index, size)
+        }
+        None => add_absent(text, head, is_missing(segment.code)),
+    }
+}
+
+/// Which libraries after that of a segment have a unit of its name too, in a line, if some have.
+fn later_line_of<A: Allocator>(
+    alloc: A,
+    inputs: &NamedFiles<'_>,
+    segment: &ReadSegment<'_>,
+) -> Result<String<A>, AllocError> {
+    match segment.source {
+        Some((at, _)) => later_line(alloc, inputs, segment.name, at.file),
+        None => Ok(String::new(alloc)),
+    }
+}
+
+/// No library has a segment with this code, or none for this reason.
+fn is_missing(code: Result<&[u8], Reason>) -> bool
+    ensures { result ≡ is_missing_code code.entry }
+{
+    match code {
+        Ok(_) => false,
+        Err(reason) => is_missing_unit(reason),
+    }
+}
+
+/// The reason is that no library has the unit.
+fn is_missing_unit(reason: Reason) -> bool
+    ensures { result ≡ is_missing_spec reason }
+{
+    match reason {
+        Reason::MissingUnit => true,
+        _ => false,
+    }
 }
 
 /// Why a segment comes from no file.
-fn why_no_source(segment: &ReadSegment<'_>) -> &'static str {
-    if matches!(segment.code, Err(Reason::MissingUnit)) {
-        "which no library has"
-    } else if segment.slot.is_none() {
-        "for which no slot is left"
-    } else {
-        "not looked for after the fault"
+#[derive(Clone, Copy)]
+struct Absent {
+    is_missing: bool,
+    slot: Option<u8>,
+}
+
+impl fmt::Display for Absent {
+    ghost output = { λ absent. Some (absence_words absent.is_missing absent.slot) };
+
+    fn fmt<W: fmt::Write>(&self, f: &mut Formatter<W>) -> fmt::Result {
+        match (self.is_missing, self.slot) {
+            (true, _) => f.write_str(", which no library has"),
+            (false, None) => f.write_str(", for which no slot is left"),
+            (false, Some(_)) => f.write_str(", not looked for after the fault"),
+        }
     }
+}
+
+/// Adds the line of a segment that comes from no file.
+fn add_absent<A: Allocator>(
+    text: &mut String<A>,
+    head: Head,
+    is_missing: bool,
+) -> Result<(), AllocError>
+    ensures { OnOk result (AddsSlotLines (string_bytes text.old) (line_in_slot head.slot
+        (head_words head.slot head.name head.part ++ absence_words is_missing head.slot))
+        (string_bytes text.new)) }
+{
+    let slot = head.slot;
+    push_absent(text, head, Absent { is_missing, slot })
+}
+
+/// Adds what a segment is and why it comes from no file, in a line.
+fn push_absent<A: Allocator>(
+    text: &mut String<A>,
+    head: Head,
+    absent: Absent,
+) -> Result<(), AllocError>
+    ensures { OnOk result (string_bytes text.new ≡ string_bytes text.old
+        ++ (head_words head.slot head.name head.part
+        ++ (absence_words absent.is_missing absent.slot ++ 10 ∷ []))) }
+{
+    writeln!(text, "{head}{absent}")
 }
 
 /// Which libraries after that of a segment have a unit of its name too, in a line, if some have.

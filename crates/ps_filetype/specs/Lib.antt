@@ -2,3 +2,4 @@ pub mod CodeFiles
 pub mod Shown
 pub mod CodeTypes
 pub mod Names
+pub mod TypeWords

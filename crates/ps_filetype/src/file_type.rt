@@ -1,5 +1,9 @@
 //! What a file is.
-use crate::bytes::only_byte;
+ghost use Rattle.std.specs.Prelude.{◌≡◌, Some, false, is_some};
+ghost use Rattle.ps_filetype.specs.CodeTypes.{is_code_type};
+ghost use Rattle.ps_filetype.specs.TypeWords.{IsTypeOf, is_code as is_code_spec, plain_words, type_words, volume_words};
+
+use crate::bytes::{is_one_byte, only_byte};
 use crate::code_file::{CodeFile, code_file_of, is_swapped_file};
 use crate::images::{Image, image_of};
 use crate::line_ends::LineEnds;
@@ -45,46 +49,77 @@ pub enum FileType {
     Unknown,
 }
 
+/// What a code file as it ought to be is for; none where the file is no such file.
+#[tactic(auto, unfolding(crate::specs::CodeTypes::is_code_type))]
+fn code_type_of(bytes: &[u8]) -> Option<CodeFile>
+    ensures { is_some result ≡ is_code_type bytes.now }
+{
+    if is_one_byte(bytes) || later_release(bytes).is_some() {
+        return None;
+    }
+    if is_swapped_file(bytes) {
+        return None;
+    }
+    code_file_of(bytes)
+}
+
+/// What a file is that is no code file as it ought to be.
+fn other_type(bytes: &[u8]) -> FileType
+    ensures { is_code_spec result ≡ false }
+{
+    if bytes.is_empty() {
+        return FileType::Empty;
+    }
+    if let Some(byte) = only_byte(bytes) {
+        return FileType::OneByte { byte };
+    }
+    if let Some(release) = later_release(bytes) {
+        return FileType::Later(release);
+    }
+    if code_file_of(bytes).is_some() {
+        return FileType::Swapped;
+    }
+    if let Some(file_type) = by_first_bytes(bytes) {
+        return file_type;
+    }
+    if let Some((image, name)) = image_of(bytes) {
+        return FileType::Disk { image, name };
+    }
+    if let Some(file_type) = behind_header(bytes) {
+        return file_type;
+    }
+    if let Some(file_type) = text_type(bytes) {
+        return file_type;
+    }
+    match LineEnds::of(bytes) {
+        _ if is_system_text(bytes) => FileType::SystemText,
+        Some(line_ends) => FileType::Converted(line_ends),
+        None => FileType::Unknown,
+    }
+}
+
 impl FileType {
     /// What the file with these bytes is.
-    pub fn of(bytes: &[u8]) -> FileType {
-        if bytes.is_empty() {
-            return FileType::Empty;
-        }
-        if let Some(byte) = only_byte(bytes) {
-            return FileType::OneByte { byte };
-        }
-        if let Some(release) = later_release(bytes) {
-            return FileType::Later(release);
-        }
-        match code_file_of(bytes) {
-            Some(_) if is_swapped_file(bytes) => return FileType::Swapped,
-            Some(code_file) => return FileType::Code(code_file),
-            None => {}
-        }
-        if let Some(file_type) = by_first_bytes(bytes) {
-            return file_type;
-        }
-        if let Some((image, name)) = image_of(bytes) {
-            return FileType::Disk { image, name };
-        }
-        if let Some(file_type) = behind_header(bytes).or(text_type(bytes)) {
-            return file_type;
-        }
-        match LineEnds::of(bytes) {
-            _ if is_system_text(bytes) => FileType::SystemText,
-            Some(line_ends) => FileType::Converted(line_ends),
-            None => FileType::Unknown,
+    pub fn of(bytes: &[u8]) -> FileType
+        ensures { IsTypeOf bytes.now result }
+    {
+        match code_type_of(bytes) {
+            Some(code_file) => FileType::Code(code_file),
+            None => other_type(bytes),
         }
     }
 
     /// The file is a code file as it ought to be.
-    pub fn is_code(&self) -> bool {
+    pub fn is_code(&self) -> bool
+        ensures { result ≡ is_code_spec self.now }
+    {
         matches!(self, FileType::Code(_))
     }
 
     /// The phrase of a type that has no part.
-    fn phrase(&self) -> &'static str {
+    fn phrase(&self) -> &'static str
+        ensures { result.now ≡ plain_words self.now }
+    {
         match self {
             FileType::Swapped => "a code file whose bytes are exchanged in pairs",
             FileType::MacBinary => "a code file behind the 128 bytes of a MacBinary header",
@@ -111,7 +146,28 @@ impl FileType {
     }
 }
 
+/// The name of the volume of a disk image, where it has one.
+#[derive(Clone, Copy)]
+struct Volume(Option<Name>);
+
+impl fmt::Display for Volume {
+    ghost output = { λ volume. Some (volume_words volume.0) };
+
+    fn fmt<W: fmt::Write>(&self, f: &mut Formatter<W>) -> fmt::Result {
+        match self.0 {
+            Some(name) => {
+                let name = ShownName(name);
+                write!(f, ", of the volume {name}")
+            }
+            None => f.write_str(""),
+        }
+    }
+}
+
 impl fmt::Display for FileType {
+    ghost output = { λ file_type. Some (type_words file_type) };
+
+    #[tactic(auto, using(std::proofs::lemmas::Fmt::hex_byte))]
     fn fmt<W: fmt::Write>(&self, f: &mut Formatter<W>) -> fmt::Result {
         match *self {
             FileType::Code(code_file) => f.write_str(code_file.word()),
@@ -119,11 +175,8 @@ impl fmt::Display for FileType {
                 write!(f, "a code file behind a header of {bytes} bytes")
             }
             FileType::Disk { image, name } => {
-                f.write_str(image.phrase())?;
-                match name {
-                    Some(name) => write!(f, ", of the volume {}", ShownName(name)),
-                    None => Ok(()),
-                }
+                let (form, volume) = (image.phrase(), Volume(name));
+                write!(f, "{form}{volume}")
             }
             FileType::OneByte { byte } => write!(f, "a file of the byte {byte:02X} alone"),
             FileType::Converted(line_ends) => {

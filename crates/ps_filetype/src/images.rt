@@ -1,4 +1,7 @@
 //! Images of disks.
+ghost use Rattle.std.specs.Prelude.{◌≡◌};
+ghost use Rattle.ps_filetype.specs.TypeWords.{image_words};
+
 use ps_words::{Name, Order, get};
 
 /// Where the directory of a volume is: in block 2.
@@ -39,7 +42,9 @@ pub enum Image {
 
 impl Image {
     /// What a file of this form is.
-    pub(crate) fn phrase(self) -> &'static str {
+    pub(crate) fn phrase(self) -> &'static str
+        ensures { result.now ≡ image_words self }
+    {
         match self {
             Image::Blocks => "a disk image",
             Image::DosOrder => "a disk image with its sectors in the order of DOS 3.3",

@@ -1,4 +1,7 @@
 //! Line ends that a transfer has converted.
+ghost use Rattle.std.specs.Prelude.{◌≡◌, Some};
+ghost use Rattle.ps_filetype.specs.TypeWords.{line_end_words};
+
 use std::fmt::{self, Formatter};
 
 /// So many line feeds or carriage returns are no chance.
@@ -68,12 +71,23 @@ impl LineEnds {
     }
 }
 
-impl fmt::Display for LineEnds {
-    fn fmt<W: fmt::Write>(&self, f: &mut Formatter<W>) -> fmt::Result {
-        f.write_str(match self {
+impl LineEnds {
+    /// How they were converted.
+    fn words(self) -> &'static str
+        ensures { result.now ≡ line_end_words self }
+    {
+        match self {
             LineEnds::Pairs => "each 0A in it comes after a 0D",
             LineEnds::Returns => "it has bytes 0D and none 0A",
             LineEnds::Feeds => "it has bytes 0A and none 0D",
-        })
+        }
+    }
+}
+
+impl fmt::Display for LineEnds {
+    ghost output = { λ ends. Some (line_end_words ends) };
+
+    fn fmt<W: fmt::Write>(&self, f: &mut Formatter<W>) -> fmt::Result {
+        f.write_str(self.words())
     }
 }

@@ -1,4 +1,7 @@
 //! Files that are known by the bytes at a certain place.
+ghost use Rattle.std.specs.Prelude.{◌≡◌, IfSome, false};
+ghost use Rattle.ps_filetype.specs.TypeWords.{is_code};
+
 use crate::code_file::has_procedures;
 use crate::file_type::FileType;
 use ps_words::BLOCK_SIZE;
@@ -7,7 +10,9 @@ use ps_words::BLOCK_SIZE;
 const MACBINARY: usize = 128;
 
 /// What a file begins with that is no code file.
-pub(crate) fn by_first_bytes(bytes: &[u8]) -> Option<FileType> {
+pub(crate) fn by_first_bytes(bytes: &[u8]) -> Option<FileType>
+    ensures { IfSome result (λ t. is_code t ≡ false) }
+{
     match bytes {
         [0x1F, 0x8B, 8, ..] => Some(FileType::Gzip),
         [b'P', b'K', 3, 4, ..] | [b'P', b'K', 5, 6, ..] => Some(FileType::Zip),
@@ -19,7 +24,9 @@ pub(crate) fn by_first_bytes(bytes: &[u8]) -> Option<FileType> {
 }
 
 /// A code file behind a header, whose codes have their procedure dictionaries.
-pub(crate) fn behind_header(bytes: &[u8]) -> Option<FileType> {
+pub(crate) fn behind_header(bytes: &[u8]) -> Option<FileType>
+    ensures { IfSome result (λ t. is_code t ≡ false) }
+{
     for header in [MACBINARY, BLOCK_SIZE] {
         if has_procedures(bytes.get(header..)?) {
             return Some(match bytes {

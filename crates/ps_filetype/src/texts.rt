@@ -1,4 +1,7 @@
 //! Texts that are given in place of a code file.
+ghost use Rattle.std.specs.Prelude.{◌≡◌, IfSome, false};
+ghost use Rattle.ps_filetype.specs.TypeWords.{is_code};
+
 use crate::bytes::only_byte;
 use crate::file_type::FileType;
 use ps_words::BLOCK_SIZE;
@@ -44,18 +47,19 @@ fn is_utf_16(sample: &[u8]) -> bool {
 
 /// The kind of text of a file that is one. Most bytes of a text are ASCII. A dump of a file, or a file
 /// that was encoded as a text, is a text like any other.
-pub(crate) fn text_type(bytes: &[u8]) -> Option<FileType> {
+pub(crate) fn text_type(bytes: &[u8]) -> Option<FileType>
+    ensures { IfSome result (λ t. is_code t ≡ false) }
+{
     let sample = bytes.get(..SAMPLE).unwrap_or(bytes);
     let foreign = sample.iter().filter(|byte| !byte.is_ascii()).count();
     if is_utf_16(sample) {
         Some(FileType::WideText)
     } else if sample.is_empty() || sample.len() / 4 * FOREIGN < foreign {
         None
+    } else if sample.iter().all(|byte| is_text(*byte)) {
+        Some(FileType::Text)
     } else {
-        sample
-            .iter()
-            .all(|byte| is_text(*byte))
-            .then_some(FileType::Text)
+        None
     }
 }
 

@@ -8,6 +8,7 @@ use Rattle.ps_writing.specs.JsonText.{line_end}
 use Rattle.ps_writing.specs.declared.rows.Form.TheVariants.{Lines}
 use Rattle.ps_listing.specs.FileLists.{AreListed, Listed, listed, listed_from, listed_units}
 use Rattle.ps_listing.specs.ListText.{listed_in}
+use Rattle.ps_listing.specs.Phrases.{IsPhrase}
 use Rattle.ps_listing.specs.LoneText.{listed_with_units, lone_text}
 use Rattle.ps_listing.specs.declared.lists.ListForm.{ListForm}
 use Rattle.ps_listing.specs.declared.lists.ListForm.TheVariants as form
@@ -20,24 +21,25 @@ module _ (how : ListForm) (all_paths all_files : List (List ℕ)) where
 
   pub listed_more : (path file : List ℕ) (paths files : List (List ℕ)) (one : Listed)
       (before : List Listed) → one.how ≡ how → one.path ≡ path → one.file ≡ file
-      → FilesLeft (path ∷ paths) (file ∷ files) before
+      → IsPhrase file one.phrase → FilesLeft (path ∷ paths) (file ∷ files) before
       → FilesLeft paths files (before ++ one ∷ [])
-  listed_more path file paths files one before of_how at_path of_file so_far = record {
+  listed_more path file paths files one before of_how at_path of_file said so_far = record {
     rest = λ more are.
         subst (λ (ls : List Listed). AreListed how all_paths all_files ls)
         (sym (append_assoc before (one ∷ []) more))
-        (so_far.rest (one ∷ more) (one.phrase, more, are, rw (of_how, at_path, of_file) refl));
+        (so_far.rest (one ∷ more) (one.phrase, more, said, are, rw (of_how, at_path, of_file) refl));
   }
 
   -- one file more is listed: the one at this index among those that are lent
   pub listed_more_at : (paths libs : List (Bor (List ℕ))) (i : ℕ) (none : Bor (List ℕ))
       (one : Listed) (before : List Listed) → one.how ≡ how
       → one.path ≡ (get_or paths i none).now → one.file ≡ (get_or libs i none).now
+      → IsPhrase (get_or libs i none).now one.phrase
       → i < length paths → i < length libs
       → FilesLeft (contents (drop i paths)) (contents (drop i libs)) before
       → FilesLeft (contents (drop (i + 1) paths)) (contents (drop (i + 1) libs))
       (before ++ one ∷ [])
-  listed_more_at paths libs i none one before of_how at_path of_file in_paths in_libs so_far =
+  listed_more_at paths libs i none one before of_how at_path of_file said in_paths in_libs so_far =
       let more_paths = ap contents (drop_more paths i none in_paths) in
       let more_files = ap contents (drop_more libs i none in_libs) in
       let of_path = subst (λ (ps : List (List ℕ)). FilesLeft ps (contents (drop i libs)) before)
@@ -46,7 +48,7 @@ module _ (how : ListForm) (all_paths all_files : List (List ℕ)) where
       ((get_or paths i none).now ∷ contents (drop (i + 1) paths)) fs before) more_files of_path in
       listed_more (get_or paths i none).now (get_or libs i none).now
       (contents (drop (i + 1) paths)) (contents (drop (i + 1) libs)) one before of_how at_path
-      of_file here
+      of_file said here
 
 -- one of two lists ends where the shorter one does
 pub one_ends : {X Y : Type 0} (xs : List X) (ys : List Y) (n : ℕ)

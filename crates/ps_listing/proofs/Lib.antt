@@ -4,3 +4,4 @@ pub mod LinkedEntries
 pub mod FoundUnits
 pub mod FilesListed
 pub mod UnitsListed
+pub mod PhraseWords

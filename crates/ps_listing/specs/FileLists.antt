@@ -11,6 +11,7 @@ use Rattle.ps_writing.specs.JsonText.{line_end}
 use Rattle.ps_writing.specs.declared.rows.Form.TheVariants.{Lines, Json}
 use Rattle.ps_listing.specs.Listed.{is_refused}
 use Rattle.ps_listing.specs.ListText.{listed_in, unread_json_of}
+use Rattle.ps_listing.specs.Phrases.{IsPhrase}
 use Rattle.ps_listing.specs.LoneText.{has_no_sound, listed_with_units, lone_text, lone_units}
 use Rattle.ps_listing.specs.declared.lone.LoneUnit.{LoneUnit}
 use Rattle.ps_listing.specs.declared.lists.ListForm.{ListForm}
@@ -90,12 +91,13 @@ lists_in form.Units ls = listed_from true ls
 lists_in form.Json ls = codes "{\"files\":[" ++ listed_from true ls ++ codes "\n]}\n"
 lists_in form.JsonUnits ls = codes "{\"files\":[" ++ listed_from true ls ++ codes "\n]}\n"
 
--- these are the files at these paths, one for one, each with some phrase for what it is
+-- these are the files at these paths, one for one, each with a phrase for what it is
 abbrev pub AreListed : ListForm → List (List ℕ) → List (List ℕ) → List Listed → Type 0
 AreListed how [] files ls = ls ≡ []
 AreListed how (path ∷ paths) [] ls = ls ≡ []
 AreListed how (path ∷ paths) (file ∷ files) ls =
-    (phrase : List ℕ) × (rest : List Listed) × AreListed how paths files rest
+    (phrase : List ℕ) × (rest : List Listed) × IsPhrase file phrase
+    × AreListed how paths files rest
     × (ls ≡ record { how = how; path = path; phrase = phrase; file = file } ∷ rest)
 
 -- the text is the list of the files at these paths

@@ -1,4 +1,5 @@
 pub mod Listed
 pub mod ListText
 pub mod LoneText
+pub mod Phrases
 pub mod FileLists

@@ -65,6 +65,7 @@ impl<'a, A: Allocator> Model for ListedFile<'a, A> {
 impl<'a, A: Allocator + Copy> ListedFile<'a, A> {
     ghost use Rattle.std.specs.Prelude.{◌≡◌, IfOk};
     ghost use Rattle.ps_listing.specs.FileLists.{is_refused_in};
+    ghost use Rattle.ps_listing.specs.Phrases.{IsPhrase};
 
     /// What is listed of the file at `path`, a whole file of any contents.
     ///
@@ -78,6 +79,7 @@ impl<'a, A: Allocator + Copy> ListedFile<'a, A> {
         ensures how { IfOk result (λ l. l.how ≡ how) }
         ensures path { IfOk result (λ l. l.path ≡ path.now) }
         ensures file { IfOk result (λ l. l.file ≡ file.now) }
+        ensures phrase { IfOk result (λ l. IsPhrase file.now l.phrase) }
     {
         let phrase = phrases::phrase(alloc, file)?;
         let units = units_in(alloc, how, file)?;

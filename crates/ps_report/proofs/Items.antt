@@ -1,7 +1,7 @@
 -- The items of findings, each with its index, by the values of the findings.
 use Rattle.std.proofs.Common.{◌≡◌, ◌+◌, ◌++◌, ◌∷◌, [], ℕ, List, ap, map, refl}
 use Rattle.std.specs.List.{enumerate_from, flat_map}
-use Rattle.ps_report.specs.ReportJson.{item_json, items_json, list_json}
+use Rattle.ps_report.specs.ReportJson.{item_json, list_json}
 use Rattle.ps_report.specs.Reported.{said}
 use Rattle.ps_report.specs.declared.finding.SaidFinding.{SaidFinding}
 

@@ -10,7 +10,7 @@ use Rattle.ps_linkfile.specs.declared.summary.Summary.{Summary}
 use Rattle.ps_resolve.specs.Standing.{NoneStands}
 use Rattle.ps_explained.specs.SlotLines.{AddsSlotLines, one_line}
 use Rattle.ps_explained.proofs.OneLine.{one_append, one_digits}
-use Rattle.ps_explained.proofs.SlotLines.{adds_no_line, adds_then_none}
+use Rattle.ps_explained.proofs.SlotLines.{adds_no_line, adds_then, adds_then_none}
 use Rattle.ps_report.specs.Lists.{lacks_host}
 use Rattle.ps_report.specs.Verdicts.{IsVerdict, fault_of, verdict_line}
 use Rattle.ps_report.specs.FindingLines.{AddsWarnings, other_lines}
@@ -99,24 +99,13 @@ adds_verdict old new (Refused f) is =
       adds_no_warning old words new one refl is,
     )
 
--- the parts, one after another
-pub parts_are : (before : List ℕ) (verdict : Verdict)
-    (explanation lists ended told explained whole : List ℕ)
-    → ended ≡ before ++ codes "\n" → told ≡ ended ++ verdict_line verdict
-    → explained ≡ told ++ explanation → whole ≡ explained ++ lists
-    → whole ≡ before ++ (codes "\n" ++ verdict_line verdict) ++ explanation ++ lists
-parts_are before verdict explanation lists ended told explained whole a b c d =
-    let line = b ∙ (ap (λ (t : List ℕ). t ++ verdict_line verdict) a
-    ∙ append_assoc before (codes "\n") (verdict_line verdict)) in
-    d ∙ ap (λ (t : List ℕ). t ++ lists) (c ∙ ap (λ (t : List ℕ). t ++ explanation) line)
-
--- lines of segments, and four parts without one
-pub adds_five : (a b c d e f : List ℕ) (lines : List (List ℕ)) → AddsSlotLines a lines b
-    → AddsSlotLines b [] c → AddsSlotLines c [] d → AddsSlotLines d [] e
+-- lines of segments after a part without one, and three parts without one
+pub adds_five : (a b c d e f : List ℕ) (lines : List (List ℕ)) → AddsSlotLines a [] b
+    → AddsSlotLines b lines c → AddsSlotLines c [] d → AddsSlotLines d [] e
     → AddsSlotLines e [] f → AddsSlotLines a lines f
 adds_five a b c d e f lines p q r s t = adds_then_none a e f lines
     (adds_then_none a d e lines (adds_then_none a c d lines
-    (adds_then_none a b c lines p q) r) s) t
+    (adds_then a b c [] lines p q) r) s) t
 
 -- five parts without a warning
 pub none_in_five : (a b c d e f : List ℕ) → AddsWarnings a 0 b → AddsWarnings b 0 c

@@ -1,37 +1,116 @@
--- Where the line of the verdict and the lists of files are in the text of a report.
-use Rattle.std.proofs.Common.{◌≡◌, ◌∙◌, ◌++◌, ℕ, List, codes, ap}
+-- The parts of the text of a report, and where the line of its verdict is.
+use Rattle.std.proofs.Common.{◌≡◌, ◌∙◌, ◌++◌, ◌∷◌, ◌==◌, [], ℕ, Bool, List, true, false, append-nil, codes, ap, refl, subst, sym}
+use Rattle.std.specs.Prelude.{if◌then◌else◌}
+use Rattle.std.specs.List.{flat_map}
 use Rattle.std.proofs.lemmas.List.{append_assoc}
-use Rattle.ps_listing.specs.FileLists.{IsList}
-use Rattle.ps_listing.specs.declared.lists.ListForm.TheVariants.{Lines}
-use Rattle.ps_report.specs.Lists.{HasLists}
+use Rattle.ps_explained.specs.FileLines.{AreFileLines}
+use Rattle.ps_explained.specs.SlotLines.{indent, lines_of, with_first}
+use Rattle.ps_report.specs.FindingLines.{is_warning_line, other_line, other_lines}
+use Rattle.ps_report.specs.Reports.{Sections, front_of}
 use Rattle.ps_report.specs.Verdicts.{Tells, verdict_line}
-use Rattle.ps_report.specs.FindingLines.{other_lines}
 use Rattle.ps_report.specs.declared.verdict.Verdict.{Verdict}
 
--- the text of a report, by its parts
-abbrev pub in_parts : List ℕ → Verdict → List ℕ → List ℕ → List ℕ → List ℕ
-in_parts overview verdict explanation lists warned =
-    (overview ++ (codes "\n" ++ verdict_line verdict) ++ explanation ++ lists) ++ warned
+pub four : (a b c d e : List ℕ) → (a ++ (b ++ (c ++ d))) ++ e ≡ a ++ (b ++ (c ++ (d ++ e)))
+four a b c d e =
+    append_assoc a (b ++ (c ++ d)) e
+    ∙ ap (λ (t : List ℕ). a ++ t) (append_assoc b (c ++ d) e
+    ∙ ap (λ (t : List ℕ). b ++ t) (append_assoc c d e))
 
-pub told_in : (overview : List ℕ) (verdict : Verdict) (explanation lists warned text : List ℕ)
-    → text ≡ in_parts overview verdict explanation lists warned
+-- the parts, one after another
+pub parts_are : (verdict : Verdict) (files segments explanation lists : List ℕ)
+    (empty first second told explained whole : List ℕ) → empty ≡ []
+    → first ≡ empty ++ files → second ≡ first ++ segments
+    → told ≡ second ++ verdict_line verdict → explained ≡ told ++ explanation
+    → whole ≡ explained ++ lists
+    → whole ≡ files ++ (segments ++ (verdict_line verdict ++ (explanation ++ lists)))
+parts_are verdict files segments explanation lists empty first second told explained whole
+    none a b c d e =
+    let line = verdict_line verdict in
+    let one : first ≡ files = a ∙ ap (λ (t : List ℕ). t ++ files) none in
+    let two : second ≡ files ++ segments = b ∙ ap (λ (t : List ℕ). t ++ segments) one in
+    let three : told ≡ files ++ (segments ++ line) =
+    c ∙ (ap (λ (t : List ℕ). t ++ line) two ∙ append_assoc files segments line) in
+    let said : explained ≡ files ++ (segments ++ (line ++ explanation)) =
+    d ∙ (ap (λ (t : List ℕ). t ++ explanation) three
+    ∙ (append_assoc files (segments ++ line) explanation
+    ∙ ap (λ (t : List ℕ). files ++ t) (append_assoc segments line explanation))) in
+    e ∙ (ap (λ (t : List ℕ). t ++ lists) said ∙ four files segments line explanation lists)
+
+-- lines end with the end of a line
+abbrev Ended : List ℕ → Type 0
+Ended text = (before : List ℕ) × (text ≡ before ++ codes "\n")
+
+ended_after : (more text : List ℕ) → Ended text → Ended (more ++ text)
+ended_after more text is = (
+  more ++ is.0,
+  ap (λ (t : List ℕ). more ++ t) is.1 ∙ sym (append_assoc more is.0 (codes "\n")),
+)
+
+ended_line : (line : List ℕ) → Ended (other_line line)
+unfolding other_line
+ended_line line = (
+  indent (is_warning_line line) ++ line,
+  sym (append_assoc (indent (is_warning_line line)) line (codes "\n")),
+)
+
+ended_lines : (line : List ℕ) (lines : List (List ℕ)) → Ended (flat_map other_line (line ∷ lines))
+ended_lines line [] = let is = ended_line line in
+    (is.0, append-nil (other_line line) ∙ is.1)
+ended_lines line (next ∷ lines) =
+    ended_after (other_line line) (flat_map other_line (next ∷ lines)) (ended_lines next lines)
+
+ended_first : (b : ℕ) (lines : List (List ℕ)) → Ended (flat_map other_line (with_first b lines))
+ended_first b [] = ended_lines (b ∷ []) []
+ended_first b (line ∷ lines) = ended_lines (b ∷ line) lines
+
+ended_text : (b : ℕ) (text : List ℕ) → Ended (other_lines (b ∷ text))
+unfolding other_lines
+ended_text b text = by (b == 10)
+  where
+    by : (t : Bool) → Ended (flat_map other_line
+        (if t then [] ∷ lines_of text else with_first b (lines_of text)))
+    by true = ended_lines [] (lines_of text)
+    by false = ended_first b (lines_of text)
+
+no_lines : other_lines [] ≡ []
+unfolding other_lines
+no_lines = refl
+
+ended_both : (b : ℕ) (text more : List ℕ)
+    → Ended (other_lines (b ∷ text) ++ other_lines more)
+ended_both b text [] = let is = ended_text b text in (
+  is.0,
+  ap (λ (t : List ℕ). other_lines (b ∷ text) ++ t) no_lines
+      ∙ (append-nil (other_lines (b ∷ text)) ∙ is.1),
+)
+ended_both b text (c ∷ more) =
+    ended_after (other_lines (b ∷ text)) (other_lines (c ∷ more)) (ended_text c more)
+
+-- the lines of the files and of the segments end so
+ended_files : (paths : List (List ℕ)) (file : List ℕ) (files : List (List ℕ))
+    (text more : List ℕ) → AreFileLines paths 0 (file ∷ files) text
+    → Ended (other_lines text ++ other_lines more)
+ended_files paths file files text more are =
+    subst (λ (t : List ℕ). Ended (other_lines t ++ other_lines more)) (sym are.4)
+    (ended_both 102 _ more)
+
+pub told_in : (paths : List (List ℕ)) (file : List ℕ) (files : List (List ℕ))
+    (verdict : Verdict) (s : Sections) (found text : List ℕ)
+    → AreFileLines paths 0 (file ∷ files) s.files → text ≡ front_of verdict s ++ found
     → Tells text verdict
-told_in overview verdict explanation lists warned text is =
-    let line = codes "\n" ++ verdict_line verdict in
-    let after = explanation ++ (lists ++ warned) in
-    let joined = append_assoc (overview ++ line ++ explanation) lists warned
-    ∙ (append_assoc (overview ++ line) explanation (lists ++ warned)
-    ∙ append_assoc overview line after) in (
-      overview,
-      after,
-      is ∙ (joined ∙ ap (λ (l : List ℕ). overview ++ l)
-          (append_assoc (codes "\n") (verdict_line verdict) after)),
+told_in paths file files verdict s found text are is =
+    let first = other_lines s.files in
+    let second = other_lines s.segments in
+    let line = verdict_line verdict in
+    let rest = other_lines s.explanation ++ other_lines s.lists in
+    let ended = ended_files paths file files s.files s.segments are in
+    let joined : (first ++ (second ++ (line ++ rest))) ++ found
+    ≡ (first ++ second) ++ (line ++ (rest ++ found)) =
+    ap (λ (t : List ℕ). t ++ found) (sym (append_assoc first second (line ++ rest)))
+    ∙ (append_assoc (first ++ second) (line ++ rest) found
+    ∙ ap (λ (t : List ℕ). (first ++ second) ++ t) (append_assoc line rest found)) in (
+      ended.0,
+      rest ++ found,
+      is ∙ (joined ∙ (ap (λ (t : List ℕ). t ++ (line ++ (rest ++ found))) ended.1
+          ∙ append_assoc ended.0 (codes "\n") (line ++ (rest ++ found)))),
     )
-
-pub lists_in : (paths files : List (List ℕ)) (overview : List ℕ) (verdict : Verdict)
-    (explanation lists warned text : List ℕ)
-    → text ≡ in_parts overview verdict explanation (other_lines lists) warned
-    → IsList Lines paths files lists → HasLists paths files text
-lists_in paths files overview verdict explanation lists warned text is are =
-    let before = overview ++ (codes "\n" ++ verdict_line verdict) ++ explanation in
-    (before, lists, warned, are, is ∙ append_assoc before (other_lines lists) warned)

@@ -1,5 +1,5 @@
 -- The lines of a report that begin with `warning: `: those of its warnings, and no others.
-use Rattle.std.specs.Prelude.{◌≡◌, ℕ, ◌+◌, ◌==◌, Bool, true, false, List, ◌∷◌, [], ◌++◌, codes, length}
+use Rattle.std.specs.Prelude.{◌≡◌, ℕ, ◌+◌, ◌==◌, Bool, List, ◌∷◌, [], ◌++◌, codes, length}
 use Rattle.std.specs.List.{before_first, filter, flat_map, starts_with}
 use Rattle.ps_explained.specs.SlotLines.{indent, lines_of}
 use Rattle.ps_warnings.specs.Weights.{weight_of, weight_word}

@@ -1,10 +1,8 @@
 -- Files without a host among them, of which a report has the lists.
-use Rattle.std.specs.Prelude.{◌≡◌, ◌&&◌, not, ℕ, Bool, true, false, List, ◌++◌}
+use Rattle.std.specs.Prelude.{◌&&◌, not, ℕ, Bool, true, false, List}
 use Rattle.ps_words.specs.declared.fault.Reason.{Reason}
 use Rattle.ps_words.specs.declared.fault.Reason.TheVariants as reason
-use Rattle.ps_listing.specs.FileLists.{IsList, has_host_among}
-use Rattle.ps_listing.specs.declared.lists.ListForm.TheVariants.{Lines}
-use Rattle.ps_report.specs.FindingLines.{other_lines}
+use Rattle.ps_listing.specs.FileLists.{has_host_among}
 use Rattle.ps_report.specs.declared.verdict.Verdict.{Verdict}
 use Rattle.ps_report.specs.declared.verdict.Verdict.TheVariants.{Links, Refused}
 
@@ -21,10 +19,3 @@ is_no_host (Refused f) = is_no_host_reason f.reason
 -- no file is a host: neither the first, for which the files are refused, nor a library
 abbrev pub lacks_host : Verdict → List (List ℕ) → Bool
 lacks_host verdict libs = is_no_host verdict && not (has_host_among libs)
-
--- the text has the lists of these files, of which a line that begins as that of a warning is
--- indented
-abbrev pub HasLists : List (List ℕ) → List (List ℕ) → List ℕ → Type 0
-HasLists paths files text =
-    (before : List ℕ) × (lists : List ℕ) × (after : List ℕ) × IsList Lines paths files lists
-    × (text ≡ before ++ (other_lines lists ++ after))

@@ -1,18 +1,26 @@
 -- The report of a check of files at these paths, the host's first, and what is printed of it.
-use Rattle.std.specs.Prelude.{◌≡◌, ◌<◌, ℕ, Bool, true, List, ◌∷◌, ◌++◌, length, map}
+use Rattle.std.specs.Prelude.{◌≡◌, ◌<◌, ℕ, Bool, true, false, if◌then◌else◌, List, [], ◌∷◌, ◌++◌, Some, None, length}
+use Rattle.ps_words.specs.declared.fault.Fault.{Fault}
+use Rattle.ps_resolve.specs.AllFaults.{reading_fault}
 use Rattle.ps_resolve.specs.Standing.{NoneStands}
+use Rattle.ps_filetype.specs.CodeTypes.{is_code_type}
+use Rattle.ps_segments.specs.Seen.{Seen}
 use Rattle.ps_segments.specs.SeenSegments.{seen_segments}
-use Rattle.ps_explained.specs.SegmentLines.{segment_lines}
+use Rattle.ps_explained.specs.FileLines.{AreFileLines}
+use Rattle.ps_explained.specs.SegmentLines.{read_lines, segment_lines}
 use Rattle.ps_explained.specs.SlotLines.{slot_lines}
 use Rattle.ps_warnings.specs.AllFindings.{link_findings_of, link_warnings_of}
 use Rattle.ps_warnings.specs.Found.{about_link_in}
 use Rattle.ps_writing.specs.declared.rows.Form.{Form}
 use Rattle.ps_writing.specs.declared.rows.Form.TheVariants.{Lines, Json}
-use Rattle.ps_report.specs.Lists.{HasLists, lacks_host}
-use Rattle.ps_report.specs.FindingLines.{finding_lines, warnings_in}
+use Rattle.ps_listing.specs.FileLists.{IsList}
+use Rattle.ps_listing.specs.declared.lists.ListForm.TheVariants as list
+use Rattle.ps_report.specs.Lists.{lacks_host}
+use Rattle.ps_report.specs.FindingLines.{finding_lines, other_lines, warnings_in}
 use Rattle.ps_report.specs.ReportJson.{findings_json, report_json}
 use Rattle.ps_report.specs.Reported.{ArePlaced, Reported, findings_in, warning_count}
-use Rattle.ps_report.specs.Verdicts.{IsVerdict, Tells, check_status, verdict_name}
+use Rattle.ps_report.specs.Verdicts.{IsVerdict, Tells, check_status, fault_of, verdict_line, verdict_name}
+use Rattle.ps_report.specs.declared.verdict.Verdict.{Verdict}
 
 -- How many warnings a check of these files has: those that the definitions give, for the segments of
 -- the link as they were read.
@@ -24,6 +32,40 @@ warnings_of_files paths host libs =
 abbrev pub HasWarning : List (List ℕ) → List ℕ → List (List ℕ) → Type 0
 HasWarning paths host libs = 0 < warnings_of_files paths host libs
 
+-- Of the segments of a host as they were read, those of which a report tells where there is a
+-- fault of reading: none of a host that is no code file.
+abbrev pub told_of : List ℕ → List Seen → List Seen
+told_of host list = if is_code_type host then list else []
+
+-- What the text of a report has before its findings, besides the line of its verdict.
+pub record Sections : Type 0 where
+  pub files : List ℕ
+  pub segments : List ℕ
+  pub explanation : List ℕ
+  pub lists : List ℕ
+
+-- The sections of the report of these files, with this verdict.
+pub record AreSections (paths : List (List ℕ)) (host : List ℕ) (libs : List (List ℕ))
+    (verdict : Verdict) (s : Sections) : Type 0 where
+  -- a line of each file
+  pub files : AreFileLines paths 0 (host ∷ libs) s.files
+  -- the lines that begin with `slot ` are those of the segments: of the link, where the files were
+  -- read without a fault, and else as they were read
+  pub linked : reading_fault host libs ≡ None
+      → slot_lines s.segments ≡ segment_lines paths host libs
+  pub read : (f : Fault) → reading_fault host libs ≡ Some f
+      → slot_lines s.segments ≡ read_lines paths (told_of host (seen_segments host libs))
+  -- where the files are linked, nothing is explained
+  pub silent : fault_of verdict ≡ None → s.explanation ≡ []
+  -- where no file is a host, the list of each, and else no list
+  pub listed : lacks_host verdict libs ≡ true → IsList list.Lines paths (host ∷ libs) s.lists
+  pub unlisted : lacks_host verdict libs ≡ false → s.lists ≡ []
+
+-- the text up to the findings: no line of it begins as that of a warning
+abbrev pub front_of : Verdict → Sections → List ℕ
+front_of verdict s = other_lines s.files ++ (other_lines s.segments ++ (verdict_line verdict
+    ++ (other_lines s.explanation ++ other_lines s.lists)))
+
 -- The report of these files.
 pub record IsReport (paths : List (List ℕ)) (host : List ℕ) (libs : List (List ℕ))
     (r : Reported) : Type 0 where
@@ -32,10 +74,11 @@ pub record IsReport (paths : List (List ℕ)) (host : List ℕ) (libs : List (Li
   pub right : IsVerdict host libs r.verdict
   pub line : Tells r.text r.verdict
   pub name : r.name ≡ verdict_name host libs r.verdict
+  -- the text is the sections, with the line of the verdict, and a line of each finding
+  pub made : (s : Sections) × AreSections paths host libs r.verdict s
+      × (r.text ≡ front_of r.verdict s ++ finding_lines r.findings)
   -- where the files are linked, the lines that begin with `slot ` are those of the segments
   pub segments : NoneStands host libs → slot_lines r.text ≡ segment_lines paths host libs
-  -- where no file is a host, the text has the list of each
-  pub lists : lacks_host r.verdict libs ≡ true → HasLists paths (host ∷ libs) r.text
   -- the findings about the link are those that their definitions give, in order, each with its
   -- place, for the segments of the link as they were read
   pub findings : about_link_in (findings_in r.findings)
@@ -44,8 +87,7 @@ pub record IsReport (paths : List (List ℕ)) (host : List ℕ) (libs : List (Li
   pub warnings : warning_count r.findings ≡ warnings_of_files paths host libs
   -- each finding is said to be where it is
   pub placed : ArePlaced r.findings
-  -- the text ends with their lines, and so many lines begin with `warning: ` as there are warnings
-  pub ends : (front : List ℕ) × (r.text ≡ front ++ finding_lines r.findings)
+  -- so many lines of the text begin with `warning: ` as there are warnings
   pub counted : warnings_in r.text ≡ warning_count r.findings
 
 -- A report as it is printed: its text, or the document.

@@ -1,17 +1,21 @@
 //! What is found in a host and its libraries.
-ghost use Rattle.std.specs.Prelude.{◌≡◌, ◌∷◌, [], IfOk, None, string_bytes};
+ghost use Rattle.std.specs.Prelude.{◌≡◌, ◌∷◌, [], IfOk, None, Some, map, string_bytes};
 ghost use Rattle.ps_resolve.specs.AllFaults.{reading_fault};
 ghost use Rattle.ps_resolve.specs.Sources.{contents};
 ghost use Rattle.ps_warnings.specs.AllFindings.{link_findings_of};
 ghost use Rattle.ps_warnings.specs.Found.{about_link};
+ghost use Rattle.ps_segments.specs.Seen.{seen};
 ghost use Rattle.ps_segments.specs.SeenSegments.{seen_segments};
-ghost use Rattle.ps_explained.specs.SegmentLines.{segment_lines};
-ghost use Rattle.ps_explained.specs.SlotLines.{slot_lines};
+ghost use Rattle.ps_explained.specs.FileLines.{AreFileLines};
+ghost use Rattle.ps_explained.specs.SegmentLines.{read_lines, segment_lines};
+ghost use Rattle.ps_explained.specs.SlotLines.{AddsSlotLines, slot_lines};
+ghost use Rattle.ps_words.specs.declared.fault.Fault.{Fault as Why};
+ghost use Rattle.ps_report.specs.Reports.{told_of};
 ghost use Rattle.ps_report.specs.Verdicts.{fault_of, verdict_name as verdict_name_spec};
 
 use crate::names::verdict_name;
 use crate::verdict::Verdict;
-use ps_explained::{Case, Explanation, overview_of};
+use ps_explained::{Case, Explanation, Overview, overview_of};
 use ps_filetype::is_code_type;
 use ps_resolve::{Reading, read};
 use ps_segments::{NamedFiles, ReadSegment, segments_of};
@@ -24,7 +28,7 @@ use std::fmt::Write as _;
 #[derive(Drop)]
 pub(crate) struct Inspection<'a, A: Allocator> {
     /// The files, and the segments with where each comes from, in lines.
-    pub overview: String<A>,
+    pub overview: Overview<A>,
     /// The name of what the fault is about, where there is one and it has a name.
     pub name: Option<Name>,
     /// What the fault is in these files, and what to do about it, in lines; empty where there is
@@ -47,9 +51,18 @@ pub(crate) fn inspect<'a, A: Allocator + Copy>(
     libs: &'a [&'a [u8]],
     verdict: Verdict,
 ) -> Result<Inspection<'a, A>, AllocError>
-    ensures segments { IfOk result (λ found. reading_fault host.now (contents libs.now) ≡ None
-        → slot_lines (string_bytes found.overview) ≡ segment_lines
+    ensures files { IfOk result (λ found. AreFileLines (host_path.now ∷ contents paths.now) 0
+        (host.now ∷ contents libs.now) (string_bytes found.overview.files)) }
+    ensures silent { IfOk result (λ found. AddsSlotLines [] []
+        (string_bytes found.overview.files)) }
+    ensures linked { IfOk result (λ found. reading_fault host.now (contents libs.now) ≡ None
+        → slot_lines (string_bytes found.overview.segments) ≡ segment_lines
         (host_path.now ∷ contents paths.now) host.now (contents libs.now)) }
+    ensures read { IfOk result (λ found. (why : Why)
+        → reading_fault host.now (contents libs.now) ≡ Some why
+        → slot_lines (string_bytes found.overview.segments) ≡ read_lines
+        (host_path.now ∷ contents paths.now)
+        (told_of host.now (seen_segments host.now (contents libs.now)))) }
     ensures name { IfOk result (λ found. found.name
         ≡ verdict_name_spec host.now (contents libs.now) verdict) }
     ensures explanation { IfOk result (λ found. fault_of verdict ≡ None
@@ -89,18 +102,30 @@ fn read_files<'a>(host: &'a [u8], libs: &'a [&'a [u8]]) -> Reading<'a>
     read(host, libs)
 }
 
-/// The segments of which a report tells where the files are not read without a fault: none of a host
-/// that is no code file.
+/// The segments of which a report tells where the files are not read without a fault.
 fn told_segments<'l, 'a>(
     inputs: &NamedFiles<'a>,
     reading: &Reading<'a>,
     list: &'l [ReadSegment<'a>],
-) -> &'l [ReadSegment<'a>] {
-    if reading.fault().is_some() && !is_code_type(inputs.host) {
-        &[]
+) -> &'l [ReadSegment<'a>]
+    ensures { (why : Why) → reading_fault reading.now.host reading.now.libs ≡ Some why
+        → map seen result.now ≡ told_of inputs.now.host.now (map seen list.now) }
+{
+    if reading.fault().is_some() {
+        told_after_fault(inputs, list)
     } else {
         list
     }
+}
+
+/// So where there is a fault: none of a host that is no code file.
+fn told_after_fault<'l, 'a>(
+    inputs: &NamedFiles<'a>,
+    list: &'l [ReadSegment<'a>],
+) -> &'l [ReadSegment<'a>]
+    ensures { map seen result.now ≡ told_of inputs.now.host.now (map seen list.now) }
+{
+    if is_code_type(inputs.host) { list } else { &[] }
 }
 
 /// What the fault is in these files, and what to do about it, in lines; empty where there is none.

@@ -1,12 +1,12 @@
 //! The report of a check.
-ghost use Rattle.std.specs.Prelude.{◌≡◌, ◌↔◌, ◌⊎◌, ◌∷◌, ◌++◌, [], IfOk, List, OnOk, codes, false, map, true, string_bytes, ℕ};
+ghost use Rattle.std.specs.Prelude.{◌≡◌, ◌↔◌, ◌⊎◌, ◌∷◌, ◌++◌, [], IfOk, OnOk, false, map, true, string_bytes};
 ghost use Rattle.ps_resolve.specs.Sources.{contents};
 ghost use Rattle.ps_resolve.specs.Standing.{NoneStands};
 ghost use Rattle.ps_explained.specs.SlotLines.{AddsSlotLines, slot_lines};
 ghost use Rattle.ps_report.specs.Reported.{reported, said, warning_count};
-ghost use Rattle.ps_report.specs.Reports.{HasWarning, IsReport};
+ghost use Rattle.ps_report.specs.Reports.{HasWarning, IsReport, front_of};
 ghost use Rattle.ps_report.specs.Verdicts.{IsRefused, check_status, verdict_line};
-ghost use Rattle.ps_report.specs.FindingLines.{AddsWarnings, finding_lines, other_lines};
+ghost use Rattle.ps_report.specs.FindingLines.{AddsWarnings, finding_lines};
 
 use crate::finding::{SaidFinding, said_findings};
 use crate::inspection::{Inspection, inspect};
@@ -101,7 +101,8 @@ pub fn check<'a, A: Allocator + Copy>(
     let inspection = inspect(alloc, host_path, paths, host, libs, verdict)?;
     let lists = lists_without_host(alloc, verdict, host_path, paths, host, libs)?;
     let parts = Sections {
-        overview: inspection.overview.as_str(),
+        files: inspection.overview.files.as_str(),
+        segments: inspection.overview.segments.as_str(),
         explanation: inspection.explanation.as_str(),
         lists: lists.as_str(),
     };
@@ -134,25 +135,10 @@ fn lines_of_findings<A: Allocator + Copy>(
 /// What a report has before and after the line of its verdict, in lines, but for its warnings.
 #[derive(Clone, Copy)]
 struct Sections<'t> {
-    overview: &'t str,
+    files: &'t str,
+    segments: &'t str,
     explanation: &'t str,
     lists: &'t str,
-}
-
-/// Ends the last line of a text, where it has no end.
-fn end_line<A: Allocator>(text: &mut String<A>) -> Result<(), AllocError>
-    ensures ended { OnOk result ((before : List ℕ)
-        × (string_bytes text.new ≡ before ++ codes "\n")) }
-    ensures lines { OnOk result (AddsSlotLines (string_bytes text.old) []
-        (string_bytes text.new)) }
-    ensures warnings { OnOk result (AddsWarnings (string_bytes text.old) 0
-        (string_bytes text.new)) }
-{
-    if text.as_str().ends_with('\n') {
-        return Ok(());
-    }
-    text.push_str("\n")?;
-    Ok(())
 }
 
 /// Adds the line of the verdict.
@@ -181,17 +167,20 @@ fn with_verdict<A: Allocator>(
     verdict: Verdict,
     parts: Sections<'_>,
 ) -> Result<String<A>, AllocError>
-    ensures parts { IfOk result (λ text. (before : List ℕ)
-        × (string_bytes text ≡ before ++ (codes "\n" ++ verdict_line verdict)
-        ++ other_lines parts.entry.explanation.now ++ other_lines parts.entry.lists.now)) }
+    ensures parts { IfOk result (λ text. string_bytes text ≡ front_of verdict (record {
+      files = parts.entry.files.now;
+      segments = parts.entry.segments.now;
+      explanation = parts.entry.explanation.now;
+      lists = parts.entry.lists.now;
+    })) }
     ensures warnings { IfOk result (λ text. AddsWarnings [] 0 (string_bytes text)) }
-    ensures lines { IfOk result (λ text. parts.entry.explanation.now ≡ []
-        → parts.entry.lists.now ≡ []
-        → AddsSlotLines [] (slot_lines parts.entry.overview.now) (string_bytes text)) }
+    ensures lines { IfOk result (λ text. slot_lines parts.entry.files.now ≡ []
+        → parts.entry.explanation.now ≡ [] → parts.entry.lists.now ≡ []
+        → AddsSlotLines [] (slot_lines parts.entry.segments.now) (string_bytes text)) }
 {
     let mut text = String::new(alloc);
-    add_other_lines(&mut text, parts.overview)?;
-    end_line(&mut text)?;
+    add_other_lines(&mut text, parts.files)?;
+    add_other_lines(&mut text, parts.segments)?;
     add_verdict(&mut text, verdict)?;
     add_other_lines(&mut text, parts.explanation)?;
     add_other_lines(&mut text, parts.lists)?;

@@ -10,8 +10,8 @@ use Rattle.ps_codefile.specs.Dictionary.{IsViewOf, OpenedFile, code_of, entry_at
 use Rattle.ps_linkinfo.specs.Records.{reading}
 use Rattle.ps_linkinfo.specs.declared.record.LinkRecord.{LinkRecord as Record}
 use Rattle.ps_resolve.specs.Readings.{HostFiles}
-use Rattle.ps_segments.specs.Seen.{Seen, part_needs_linking, records_in, seen}
-use Rattle.ps_segments.specs.SeenSegments.{records_at, seen_with, taken_of, takes_slot}
+use Rattle.ps_segments.specs.Seen.{Origin, Seen, origin_by, part_needs_linking, records_in, seen}
+use Rattle.ps_segments.specs.SeenSegments.{origin_in, seen_with, taken_of, takes_slot}
 use Rattle.ps_segments.specs.declared.segments.SegmentPart.{SegmentPart}
 use Rattle.ps_segments.specs.declared.segments.ReadSegment.{ReadSegment}
 
@@ -26,19 +26,21 @@ none_of true rs = refl
 none_of false rs = refl
 
 -- what is seen of a segment that comes from no entry
-pub seen_none : (slot : Option ℕ) (name : List ℕ) (part : SegmentPart) (rs : List Record)
-    → ◌≡◌ {A = Seen} (record {
+pub seen_none : (slot : Option ℕ) (name : List ℕ) (part : SegmentPart) (why : Reason)
+    (rs : List Record) → ◌≡◌ {A = Seen} (record {
       slot = slot;
       name = name;
       part = part;
+      origin = Err why;
       file = None;
       records = if part_needs_linking part && false then rs else [];
-    }) (seen_with slot name part None)
+    }) (seen_with slot name part (Err why))
 unfolding seen_with
-seen_none slot name part rs = ap (λ (l : List Record). record {
+seen_none slot name part why rs = ap (λ (l : List Record). record {
   slot = slot;
   name = name;
   part = part;
+  origin = Err why;
   file = None;
   records = l;
 }) (none_of (part_needs_linking part) rs)
@@ -49,14 +51,20 @@ pub ok_is : (r : Result (Bor (List ℕ)) Reason) (answer : Result (List ℕ) Rea
 ok_is (Ok code) answer is = sym (ap is_ok is)
 ok_is (Err why) answer is = sym (ap is_ok is)
 
+-- that a segment comes from there
+abbrev pub there : ℕ → ℕ → ℕ → Result Origin Reason
+there file index size = Ok (record { file = file; index = index; size = size })
+
 -- what is seen of one that comes from an entry of a file
 pub seen_entry : (s : ReadSegment) (file index : ℕ) (f : OpenedFile)
-    → option_map (λ o. o.0.file) s.source ≡ Some file → s.order ≡ f.order
+    → option_map (λ o. o.0.file) s.source ≡ Some file
+    → origin_by s.source s.code ≡ there file index (entry_at f.order f.file index).length
+    → s.order ≡ f.order
     → is_ok s.code ≡ is_ok (code_of f.file (entry_at f.order f.file index))
     → s.after.now ≡ information_of f.file (entry_at f.order f.file index)
-    → seen s ≡ seen_with s.slot s.name s.part (Some (file, records_at index f))
+    → seen s ≡ seen_with s.slot s.name s.part (origin_in file index (Ok f))
 unfolding seen_with
-seen_entry s file index f place order code after =
+seen_entry s file index f place origin order code after =
     let b = part_needs_linking s.part in
     let e = entry_at f.order f.file index in
     let k = is_ok (code_of f.file e) in
@@ -64,19 +72,29 @@ seen_entry s file index f place order code after =
       slot = s.slot;
       name = s.name;
       part = s.part;
+      origin = origin_by s.source s.code;
       file = o;
       records = records_in s;
     }) place
+    ∙ (ap (λ (o : Result Origin Reason). record {
+      slot = s.slot;
+      name = s.name;
+      part = s.part;
+      origin = o;
+      file = Some file;
+      records = records_in s;
+    }) origin
     ∙ ap (λ (l : List Record). record {
       slot = s.slot;
       name = s.name;
       part = s.part;
+      origin = there file index (entry_at f.order f.file index).length;
       file = Some file;
       records = l;
     }) (ap (λ (c : Bool). if b && c then (reading s.order s.after.now).0 else []) code
     ∙ (ap (λ (o : Order). if b && k then (reading o s.after.now).0 else []) order
     ∙ (ap (λ (x : List ℕ). if b && k then (reading f.order x).0 else []) after
-    ∙ both b k (reading f.order (information_of f.file e)).0)))
+    ∙ both b k (reading f.order (information_of f.file e)).0))))
 
 -- no more slots are taken than there are
 pub taken_few : (h : HostFiles) (ss : List ℕ) → taken_of h ss ≤ length ss

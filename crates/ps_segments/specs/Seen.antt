@@ -1,20 +1,31 @@
 -- The segments of a link as they were read, as far as findings about the link depend on them.
-use Rattle.std.specs.Prelude.{ℕ, ◌==◌, ◌&&◌, if◌then◌else◌, List, [], Bool, true, false, Option}
+use Rattle.std.specs.Prelude.{ℕ, ◌==◌, ◌&&◌, if◌then◌else◌, List, [], Bool, true, false, Option, Some, None, Result, Ok, Err}
 use Rattle.std.specs.List.{find}
 use Rattle.std.specs.Option.{option_map, option_map_or}
 use Rattle.std.specs.Result.{is_ok}
+use Rattle.ps_words.specs.declared.fault.Reason.{Reason}
+use Rattle.ps_words.specs.declared.fault.Reason.TheVariants.{NoSlot}
+use Rattle.ps_codefile.specs.declared.entry.Entry.{Entry}
+use Rattle.ps_reading.specs.declared.locations.EntryAt.{EntryAt}
 use Rattle.ps_linkinfo.specs.Records.{reading}
 use Rattle.ps_linkinfo.specs.declared.record.LinkRecord.{LinkRecord as Record}
 use Rattle.ps_segments.specs.declared.segments.SegmentPart.{SegmentPart}
 use Rattle.ps_segments.specs.declared.segments.SegmentPart.TheVariants as part
 use Rattle.ps_segments.specs.declared.segments.ReadSegment.{ReadSegment}
 
--- what is seen of a segment: its slot in the host, its name, what it is, the file that it comes
--- from, and its records, up to the first that cannot be read
+-- where a segment comes from: its file, its entry there, and the length of its code
+pub record Origin : Type 0 where
+  pub file : ℕ
+  pub index : ℕ
+  pub size : ℕ
+
+-- what is seen of a segment: its slot in the host, its name, what it is, where it comes from or why
+-- it comes from nowhere, its file, and its records, up to the first that cannot be read
 pub record Seen : Type 0 where
   pub slot : Option ℕ
   pub name : List ℕ
   pub part : SegmentPart
+  pub origin : Result Origin Reason
   pub file : Option ℕ
   pub records : List Record
 
@@ -31,11 +42,20 @@ abbrev pub records_in : ReadSegment → List Record
 records_in s = if part_needs_linking s.part && is_ok s.code
     then (reading s.order s.after.now).0 else []
 
+-- where a segment comes from; one that comes from nowhere has no code, for a reason
+abbrev pub origin_by : {A : Type 0} → Option (EntryAt × Entry) → Result A Reason
+    → Result Origin Reason
+origin_by (Some o) code =
+    Ok (record { file = o.0.file; index = o.0.index; size = o.1.length })
+origin_by None (Err why) = Err why
+origin_by None (Ok code) = Err NoSlot
+
 abbrev pub seen : ReadSegment → Seen
 seen s = record {
   slot = s.slot;
   name = s.name;
   part = s.part;
+  origin = origin_by s.source s.code;
   file = option_map (λ o. o.0.file) s.source;
   records = records_in s;
 }

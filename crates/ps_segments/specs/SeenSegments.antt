@@ -7,6 +7,7 @@ use Rattle.std.specs.Result.{is_ok}
 use Rattle.std.specs.Str.{bytes_eq}
 use Rattle.ps_words.specs.declared.fault.Fault.{Fault}
 use Rattle.ps_words.specs.declared.fault.Reason.{Reason}
+use Rattle.ps_words.specs.declared.fault.Reason.TheVariants as reason
 use Rattle.ps_codefile.specs.Dictionary.{OpenedFile, code_of, entry_at, information_of, opened_beside, role_of, slots}
 use Rattle.ps_codefile.specs.declared.entry.Role.{Role}
 use Rattle.ps_codefile.specs.declared.entry.Role.TheVariants as role
@@ -19,7 +20,7 @@ use Rattle.ps_reading.specs.declared.reading.request.Request.{Request}
 use Rattle.ps_reading.specs.declared.reading.request.Requester.{Requester}
 use Rattle.ps_reading.specs.declared.reading.request.Requester.TheVariants as by
 use Rattle.ps_segments.specs.Paths.{host_order}
-use Rattle.ps_segments.specs.Seen.{Seen, part_needs_linking}
+use Rattle.ps_segments.specs.Seen.{Origin, Seen, part_needs_linking}
 use Rattle.ps_segments.specs.declared.segments.SegmentPart.{SegmentPart}
 use Rattle.ps_segments.specs.declared.segments.SegmentPart.TheVariants as part
 use Rattle.ps_codefile.specs.declared.dictionary_layout.TheConstants.{SLOTS}
@@ -29,30 +30,45 @@ abbrev pub records_at : ℕ → OpenedFile → List Record
 records_at index f = let e = entry_at f.order f.file index in
     if is_ok (code_of f.file e) then (reading f.order (information_of f.file e)).0 else []
 
--- where a segment comes from: its file, and the records there; none where the file is not opened
-abbrev pub origin_in : ℕ → ℕ → Result OpenedFile Reason → Option (ℕ × List Record)
-origin_in file index (Ok f) = Some (file, records_at index f)
-origin_in file index (Err why) = None
+-- where a segment comes from, and the records there; or why its file is not opened
+abbrev pub origin_in : ℕ → ℕ → Result OpenedFile Reason
+    → Result (Origin × List Record) Reason
+origin_in file index (Ok f) =
+    Ok (
+      record { file = file; index = index; size = (entry_at f.order f.file index).length },
+      records_at index f,
+    )
+origin_in file index (Err why) = Err why
 
 -- where a segment comes from, and its records: an entry of a host or a library, which is read in
 -- the host's order
 unfoldable pub origin_of : List ℕ → List (List ℕ) → ℕ × ℕ
-    → Option (ℕ × List Record)
+    → Result (Origin × List Record) Reason
 origin_of host libs at = if nat_lt at.1 SLOTS
-    then origin_in at.0 at.1 (opened_beside (host_order host) (file_at host libs at.0)) else None
+    then origin_in at.0 at.1 (opened_beside (host_order host) (file_at host libs at.0))
+    else Err reason.MissingUnit
 
 -- what is seen of a segment that comes from there
-abbrev pub records_from : Option (ℕ × List Record) → List Record
-records_from None = []
-records_from (Some origin) = origin.1
+abbrev pub place_from : Result (Origin × List Record) Reason → Result Origin Reason
+place_from (Ok origin) = Ok origin.0
+place_from (Err why) = Err why
 
-unfoldable pub seen_with : Option ℕ → List ℕ → SegmentPart → Option (ℕ × List Record)
-    → Seen
+abbrev pub file_from : Result (Origin × List Record) Reason → Option ℕ
+file_from (Ok origin) = Some origin.0.file
+file_from (Err why) = None
+
+abbrev pub records_from : Result (Origin × List Record) Reason → List Record
+records_from (Ok origin) = origin.1
+records_from (Err why) = []
+
+unfoldable pub seen_with : Option ℕ → List ℕ → SegmentPart
+    → Result (Origin × List Record) Reason → Seen
 seen_with slot name what origin = record {
   slot = slot;
   name = name;
   part = what;
-  file = option_map (λ o. o.0) origin;
+  origin = place_from origin;
+  file = file_from origin;
   records = if part_needs_linking what then records_from origin else [];
 }
 
@@ -137,9 +153,21 @@ taken_of h (slot ∷ ss) = (if takes_slot h slot then 1 else 0) + taken_of h ss
 unfoldable pub read_entry : HostFiles → ℕ → Option (ℕ × ℕ)
 read_entry h slot = if is_some (reading_in h slot) then entry_in h slot else None
 
+-- why a slot has no segment, from what was read of it
+abbrev pub reason_by : Option (Result Segment Fault) → Reason
+reason_by None = reason.NoSlot
+reason_by (Some (Ok s)) = reason.NoSlot
+reason_by (Some (Err f)) = f.reason
+
+abbrev pub origin_at : List ℕ → List (List ℕ) → Reason → Option (ℕ × ℕ)
+    → Result (Origin × List Record) Reason
+origin_at host libs why None = Err why
+origin_at host libs why (Some at) = origin_of host libs at
+
 abbrev pub slot_origin : List ℕ → List (List ℕ) → HostFiles → ℕ
-    → Option (ℕ × List Record)
-slot_origin host libs h slot = option_and_then (origin_of host libs) (read_entry h slot)
+    → Result (Origin × List Record) Reason
+slot_origin host libs h slot =
+    origin_at host libs (reason_by (reading_in h slot)) (read_entry h slot)
 
 -- what is seen of the segment of a slot
 unfoldable pub seen_in : List ℕ → List (List ℕ) → HostFiles → ℕ → Option Seen
@@ -149,7 +177,8 @@ seen_in host libs h slot = option_map (λ what. seen_with (Some slot) (name_in h
 -- what is seen of a unit that is requested and for which no slot is left
 abbrev pub seen_unit : HostFiles → UnitReference → Option Seen
 seen_unit h u = if is_of_host h u.name then None
-    else Some (seen_with None u.name (part.Added (name_in h u.at.segment.slot) u.at.rec) None)
+    else Some (seen_with None u.name (part.Added (name_in h u.at.segment.slot) u.at.rec)
+    (Err reason.NoSlot))
 
 -- what is seen of the unit of the first requested name for which no slot is left
 unfoldable pub unplaced : HostFiles → Option Seen

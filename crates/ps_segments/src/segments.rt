@@ -1,5 +1,5 @@
 //! The segments of a link as the files have them, also where they are refused.
-ghost use Rattle.std.specs.Prelude.{◌≡◌, ◌<◌, ◌^◌, ◌++◌, ◌∷◌, [], IfOk, OnOk, Some, filter_map, is_some, map, option_and_then, slice_get};
+ghost use Rattle.std.specs.Prelude.{◌≡◌, ◌<◌, ◌^◌, ◌++◌, ◌∷◌, [], Err, IfOk, Ok, OnOk, Some, filter_map, is_some, map, option_and_then, slice_get};
 ghost use Rattle.std.specs.List.{cons_option, find};
 ghost use Rattle.std.specs.Option.{option_map};
 ghost use Rattle.ps_codefile.specs.Dictionary.{opened_beside, slots};
@@ -9,7 +9,7 @@ ghost use Rattle.ps_resolve.specs.Sources.{contents, file_at, opened_files};
 ghost use Rattle.ps_segments.specs.Paths.{host_order};
 ghost use Rattle.ps_segments.specs.SegmentParts.{is_added as is_added_spec, is_unit as is_unit_spec, part_words};
 ghost use Rattle.ps_segments.specs.Seen.{is_host_part, part_needs_linking, seen};
-ghost use Rattle.ps_segments.specs.SeenSegments.{is_for_unit as is_for_unit_spec, is_of_host as is_of_host_spec, is_unit_of as is_unit_of_spec, name_by as name_by_spec, name_in as name_in_spec, origin_in, origin_of, part_by, part_in as part_in_spec, part_of_role, read_entry, reading_in, records_at, request_in, role_in, seen_by, seen_in, seen_of, seen_unit, seen_with, slot_origin, taken_of, takes_slot as takes_slot_spec};
+ghost use Rattle.ps_segments.specs.SeenSegments.{is_for_unit as is_for_unit_spec, is_of_host as is_of_host_spec, is_unit_of as is_unit_of_spec, name_by as name_by_spec, name_in as name_in_spec, origin_in, origin_of, part_by, part_in as part_in_spec, part_of_role, read_entry, reading_in, reason_by, request_in, role_in, seen_by, seen_in, seen_of, seen_unit, seen_with, slot_origin, taken_of, takes_slot as takes_slot_spec};
 
 use crate::named_files::NamedFiles;
 use ps_codefile::dictionary_layout::SLOTS;
@@ -141,7 +141,7 @@ fn without_entry<'a>(
     part: SegmentPart,
     why: Reason,
 ) -> ReadSegment<'a>
-    ensures { seen result ≡ seen_with slot name part None }
+    ensures { seen result ≡ seen_with slot name part (Err why) }
 {
     ReadSegment {
         slot,
@@ -164,7 +164,7 @@ fn of_entry<'a>(
 ) -> ReadSegment<'a>
     requires { at.index < SLOTS }
     ensures { seen result ≡ seen_with (Some slot) name part
-        (Some (at.file, records_at at.index dict.now)) }
+        (origin_in at.file at.index (Ok dict.now)) }
 {
     ReadSegment {
         slot: Some(slot),
@@ -351,10 +351,12 @@ fn source_in(host: &HostReading<'_>, slot: u8) -> Option<EntryAt>
 /// Why a slot has no segment.
 fn reason_in(host: &HostReading<'_>, slot: u8) -> Reason
     requires { slot < SLOTS }
+    ensures { result ≡ reason_by (reading_in host.now slot) }
 {
     match host.segment(slot) {
         Some(Err(fault)) => fault.reason,
-        Some(Ok(_)) | None => Reason::NoSlot,
+        Some(Ok(_)) => Reason::NoSlot,
+        None => Reason::NoSlot,
     }
 }
 

@@ -1,5 +1,5 @@
 -- What each text is of a host and its libraries, and of a value that has it.
-use Rattle.std.specs.Prelude.{◌≡◌, ℕ, Bool, false, List, ◌∷◌, ◌++◌, None, Ok, map}
+use Rattle.std.specs.Prelude.{◌≡◌, ℕ, Bool, List, ◌∷◌, ◌++◌, None, Ok, map}
 use Rattle.ps_codefile.specs.Dictionary.{OpenedFile, opened_alone}
 use Rattle.ps_resolve.specs.Readings.{HostFiles, opened_host}
 use Rattle.ps_resolve.specs.Standing.{NoneStands}

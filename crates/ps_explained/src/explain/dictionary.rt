@@ -1,6 +1,6 @@
 //! What faults of dictionaries say.
 use crate::cases::Case;
-use crate::orders::OrderOf;
+use crate::orders::ByteOrder;
 use ps_codefile::Dict;
 use ps_codefile::dictionary_layout::SLOTS;
 use ps_codefile::kinds::{
@@ -22,11 +22,11 @@ pub(super) fn write_length<W: Write>(f: &mut Formatter<W>, case: &Case<'_, '_>) 
 
 /// The byte order of the file, or what it is, and the byte order of the host.
 pub(super) fn write_orders<W: Write>(f: &mut Formatter<W>, case: &Case<'_, '_>) -> fmt::Result {
-    let order = OrderOf(case.inputs.bytes(case.fault.file));
+    let order = ByteOrder::of(case.inputs.bytes(case.fault.file));
     if case.fault.file == 0 {
         return writeln!(f, "  it is {order}");
     }
-    let host = OrderOf(case.inputs.host);
+    let host = ByteOrder::of(case.inputs.host);
     writeln!(f, "  it is {order}; the host is {host}")
 }
 

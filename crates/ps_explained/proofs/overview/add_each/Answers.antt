@@ -6,15 +6,15 @@ use Rattle.ps_explained.specs.SlotLines.{AddsSlotLines}
 use Rattle.ps_explained.proofs.LinesOfSegments.{lines_are}
 use Rattle.ps_explained.proofs.overview.add_each.Goals as goal
 
-pub returns-in-Err : goal.returns-in-Err
-returns-in-Err g c = λ none.
+pub returns-in-Err-clause-linked : goal.returns-in-Err-clause-linked
+returns-in-Err-clause-linked g c = λ none.
     let some = fault_of_none c.args.reading.now.host c.args.reading.now.libs c.in-Err.field-0
     c.in-Err.ensures.refused in
     let both = sym none ∙ some in
     cc
 
-pub returns-in-Ok : goal.returns-in-Ok
-returns-in-Ok g c = λ none.
+pub returns-in-Ok-clause-linked : goal.returns-in-Ok-clause-linked
+returns-in-Ok-clause-linked g c = λ none.
     let files = c.args.reading.now in
     let paths : List (List ℕ) = c.args.inputs.now.host_path.now
     ∷ contents c.args.inputs.now.paths.now in

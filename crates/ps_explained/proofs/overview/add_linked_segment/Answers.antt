@@ -1,4 +1,4 @@
-use Rattle.std.proofs.Common.{◌≡◌, ◌∷◌, [], List, ℕ, ap, length, refl, subst, string_bytes}
+use Rattle.std.proofs.Common.{◌≡◌, ◌∷◌, [], List, ℕ, ap, length, subst, string_bytes}
 use Rattle.std.specs.Result.{OnOk}
 use Rattle.ps_resolve.specs.Sources.{contents}
 use Rattle.ps_segments.specs.Paths.{path_of}
@@ -19,4 +19,4 @@ returns g c =
     path c.index.ensures (ap (λ (code : List ℕ). length code) c.code.ensures) in
     subst (λ (line : List ℕ). OnOk c.add_line.result
     (AddsSlotLines (string_bytes c.args.text.now) (line ∷ [])
-    (string_bytes c.add_line.new.text))) same (c.add_line.ensures c.slot.result refl)
+    (string_bytes c.add_line.new.text))) same c.add_line.ensures

@@ -1,8 +1,7 @@
-use Rattle.std.proofs.Common.{ap, map}
+use Rattle.std.proofs.Common.{ap}
 use Rattle.ps_writing.specs.JsonStrings.{json_text}
 use Rattle.ps_writing.proofs.Written.{◌⨾◌, adds_is}
-use Rattle.ps_report.specs.ReportJson.{list_json, report_json}
-use Rattle.ps_report.specs.Reported.{said}
+use Rattle.ps_report.specs.ReportJson.{report_json}
 use Rattle.ps_report.proofs.Items.{same_list}
 use Rattle.ps_report.proofs.json.add_report.Goals as goal
 

@@ -1,5 +1,4 @@
-use Rattle.std.proofs.Common.{◌≡◌, ◌∙◌, ◌∷◌, ◌++◌, [], List, None, ℕ, ap, map, string_bytes, subst, sym, vec_len}
-use Rattle.std.proofs.lemmas.List.{length-map}
+use Rattle.std.proofs.Common.{◌≡◌, ◌∙◌, ◌∷◌, ◌++◌, [], List, None, ℕ, ap, false, map, string_bytes, subst, sym}
 use Rattle.ps_resolve.specs.AllFaults.{reading_fault}
 use Rattle.ps_resolve.specs.Sources.{contents}
 use Rattle.ps_explained.specs.SegmentLines.{segment_lines}
@@ -9,7 +8,9 @@ use Rattle.ps_listing.specs.declared.lists.ListForm.TheVariants.{Lines}
 use Rattle.ps_warnings.specs.Found.{about_link_in}
 use Rattle.ps_report.specs.Reported.{said, warning_count}
 use Rattle.ps_report.specs.Verdicts.{fault_of}
-use Rattle.ps_report.specs.FindingLines.{other_lines}
+use Rattle.ps_report.specs.Lists.{lacks_host}
+use Rattle.ps_explained.specs.FileLines.{AreFileLines}
+use Rattle.ps_explained.proofs.SlotLines.{lines_in}
 use Rattle.ps_report.proofs.SegmentTexts.{links_of, no_lists}
 use Rattle.ps_report.proofs.Reports.{is_report}
 use Rattle.ps_report.proofs.Verdicts.{linked_or_not, refused_or_not, warned_or_refused}
@@ -37,34 +38,47 @@ returns-clause-report g c =
     let found = c.in_ok-inspection.ensures in
     let worded = c.in_ok-findings.ensures in
     let lists = c.in_ok-lists.ensures in
-    let silent : fault_of verdict ≡ None → c.as_str-2.result.now ≡ [] =
-    λ links. c.as_str-2.ensures.value ∙ found.explanation links in
-    let unlisted : fault_of verdict ≡ None → c.as_str-3.result.now ≡ [] =
-    λ links. c.as_str-3.ensures.value ∙ lists.none (no_lists verdict libs links) in
+    let silent : fault_of verdict ≡ None → c.as_str-3.result.now ≡ [] =
+    λ links. c.as_str-3.ensures.value ∙ found.explanation links in
+    let unlisted : lacks_host verdict libs ≡ false → c.as_str-4.result.now ≡ [] =
+    λ has. c.as_str-4.ensures.value ∙ lists.none has in
     let shown : reading_fault host libs ≡ None
-    → slot_lines c.as_str.result.now ≡ segment_lines paths host libs =
-    λ read. ap slot_lines c.as_str.ensures.value ∙ found.segments read in
+    → slot_lines c.as_str-2.result.now ≡ segment_lines paths host libs =
+    λ read. ap slot_lines c.as_str-2.ensures.value ∙ found.linked read in
     is_report paths host libs _ front
     (record {
-      before = told.parts.0;
-      explanation = other_lines c.as_str-2.result.now;
-      lists = c.as_str-3.result.now;
-      parts = told.parts.1;
+      sections = record {
+        files = c.as_str.result.now;
+        segments = c.as_str-2.result.now;
+        explanation = c.as_str-3.result.now;
+        lists = c.as_str-4.result.now;
+      };
+      are = record {
+        files = subst (λ (text : List ℕ). AreFileLines paths 0 (host ∷ libs) text)
+            (sym c.as_str.ensures.value) found.files;
+        linked = shown;
+        read = λ why is. ap slot_lines c.as_str-2.ensures.value ∙ found.read why is;
+        silent = silent;
+        listed =
+            λ lacks.
+            subst (λ (text : List ℕ). IsList Lines paths (host ∷ libs) text)
+            (sym c.as_str-4.ensures.value) (lists.lists lacks);
+        unlisted = unlisted;
+      };
+      parts = told.parts;
       warnings = told.warnings;
       lines =
           λ none.
           let links = links_of host libs verdict right none in
           let read = c.first_of_all.ensures.unread host libs
           (λ step f reading stands. none step f stands) in
+          let plain = ap slot_lines c.as_str.ensures.value
+          ∙ lines_in (string_bytes c.in_ok-inspection.inspection.overview.files) [] found.silent in
           subst (λ (ls : List (List ℕ)). AddsSlotLines [] ls front) (shown read)
-          (told.lines (silent links) (unlisted links));
-      listed =
-          λ lacks.
-          subst (λ (text : List ℕ). IsList Lines paths (host ∷ libs) text)
-          (sym c.as_str-3.ensures.value) (lists.lists lacks);
+          (told.lines plain (silent links) (unlisted (no_lists verdict libs links)));
     })
     (c.in_ok-push_str.ensures.bytes
-    ∙ ap (λ (t : List ℕ). front ++ t) (c.as_str-4.ensures.value ∙ c.in_ok-lines.ensures))
+    ∙ ap (λ (t : List ℕ). front ++ t) (c.as_str-5.ensures.value ∙ c.in_ok-lines.ensures))
     right found.name
     (ap about_link_in (worded.findings ∙ c.as_slice.ensures.value) ∙ found.findings)
     worded.places

@@ -1,7 +1,6 @@
-use Rattle.std.proofs.Common.{◌≡◌, ◌∙◌, ◌+◌, ◌≤◌, ap, arith, map, sym, take}
-use Rattle.std.proofs.lemmas.Bool.Decides.{nat_tests}
+use Rattle.std.proofs.Common.{◌≡◌, ◌∙◌, ◌+◌, ap, arith, map, sym, take}
 use mir.Val.{bool_byte}
-use Rattle.std.specs.Prelude.{Bool, ℕ}
+use Rattle.std.specs.Prelude.{ℕ}
 use Rattle.ps_report.specs.Reported.{said, warning_count}
 use Rattle.ps_report.proofs.Findings.{byte_few, counted_after}
 use Rattle.ps_report.proofs.report.count_warnings.Goals as goal

@@ -1,6 +1,7 @@
-use Rattle.std.proofs.Common.{Some, refl}
+use Rattle.std.proofs.Common.{Some, ap, refl}
+use Rattle.ps_codefile.specs.declared.entry.Entry.{Entry}
 use Rattle.ps_segments.specs.declared.segments.ReadSegment.{ReadSegment}
-use Rattle.ps_segments.proofs.Origins.{ok_is, seen_entry}
+use Rattle.ps_segments.proofs.Origins.{ok_is, seen_entry, there}
 use Rattle.ps_segments.proofs.segments.of_entry.Goals as goal
 
 pub returns : goal.returns
@@ -15,5 +16,6 @@ returns c =
       code = c.code.result;
       after = c.after.result;
     } in
-    seen_entry s place.file place.index c.args.dict.now refl c.order.ensures
+    let origin = ap (λ (e : Entry). there place.file place.index e.length) c.entry.ensures in
+    seen_entry s place.file place.index c.args.dict.now refl origin c.order.ensures
     (ok_is c.code.result _ c.code.ensures) c.after.ensures

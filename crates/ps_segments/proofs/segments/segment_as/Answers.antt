@@ -1,30 +1,34 @@
 use Rattle.std.proofs.Common.{◌∙◌, List, ℕ, Some, None, sym, ap}
-use Rattle.std.specs.Prelude.{Option, option_and_then}
+use Rattle.std.specs.Prelude.{Option, Err}
+use Rattle.ps_words.specs.declared.fault.Reason.{Reason}
 use Rattle.std.specs.Option.{option_map}
 use Rattle.ps_resolve.specs.Sources.{contents}
 use Rattle.ps_reading.specs.declared.locations.EntryAt.{EntryAt}
-use Rattle.ps_segments.specs.SeenSegments.{name_in, origin_of, seen_with}
+use Rattle.ps_segments.specs.SeenSegments.{name_in, origin_at, reading_in, reason_by, seen_with}
 use Rattle.ps_segments.proofs.segments.segment_as.Goals as goal
 
 pub returns-in-None : goal.returns-in-None
 returns-in-None c =
     let i = c.args.inputs.now in
-    let there = origin_of i.host.now (contents i.libs.now) in
+    let there = origin_at i.host.now (contents i.libs.now)
+    (reason_by (reading_in c.args.host.now c.args.slot)) in
     let found = ap (option_map (λ (p : EntryAt). (p.file, p.index))) (sym c.in-None.is)
     ∙ c.source_in.ensures in
     c.without_entry.ensures ∙ (ap
-    (λ (n : List ℕ). seen_with (Some c.args.slot) n c.args.part None)
-    c.name_in-name.ensures ∙ ap (λ (o : Option (ℕ × ℕ)). seen_with (Some c.args.slot)
-    (name_in c.args.host.now c.args.slot) c.args.part (option_and_then there o)) found)
+    (λ (n : List ℕ). seen_with (Some c.args.slot) n c.args.part (Err c.reason_in.result))
+    c.name_in-name.ensures ∙ (ap (λ (why : Reason). seen_with (Some c.args.slot)
+    (name_in c.args.host.now c.args.slot) c.args.part (Err why)) c.reason_in.ensures ∙ ap (λ (o : Option (ℕ × ℕ)). seen_with (Some c.args.slot)
+    (name_in c.args.host.now c.args.slot) c.args.part (there o)) found))
 
 pub returns-in-Some : goal.returns-in-Some
 returns-in-Some c =
     let i = c.args.inputs.now in
-    let there = origin_of i.host.now (contents i.libs.now) in
+    let there = origin_at i.host.now (contents i.libs.now)
+    (reason_by (reading_in c.args.host.now c.args.slot)) in
     let place = c.in-Some.at in
     let found = ap (option_map (λ (p : EntryAt). (p.file, p.index))) (sym c.in-Some.is)
     ∙ c.source_in.ensures in
     c.read_from.ensures ∙ (ap (λ (n : List ℕ). seen_with (Some c.args.slot) n c.args.part
-    (there (place.file, place.index))) c.name_in-name.ensures
+    (there (Some (place.file, place.index)))) c.name_in-name.ensures
     ∙ ap (λ (o : Option (ℕ × ℕ)). seen_with (Some c.args.slot)
-    (name_in c.args.host.now c.args.slot) c.args.part (option_and_then there o)) found)
+    (name_in c.args.host.now c.args.slot) c.args.part (there o)) found)

@@ -1,5 +1,6 @@
 use Rattle.std.proofs.Common.{◌∙◌, List, ℕ, Some, None, sym, ap}
-use Rattle.std.specs.Prelude.{Bool, Option, if◌then◌else◌}
+use Rattle.std.specs.Prelude.{Bool, Err, Option, if◌then◌else◌}
+use Rattle.ps_words.specs.declared.fault.Reason.TheVariants.{NoSlot}
 use Rattle.ps_segments.specs.Seen.{Seen}
 use Rattle.ps_segments.specs.SeenSegments.{name_in, seen_with}
 use Rattle.ps_segments.specs.declared.segments.SegmentPart.TheVariants as part
@@ -10,7 +11,7 @@ returns-then-is_of_host c =
     let h = c.args.host.now in
     let u = c.args.unit.now in
     let found : Option Seen = Some (seen_with None u.name (part.Added
-    (name_in h u.at.segment.slot) u.at.rec) None) in
+    (name_in h u.at.segment.slot) u.at.rec) (Err NoSlot)) in
     sym (ap (λ (b : Bool). if b then None else found)
     (sym c.is_of_host.ensures ∙ c.if-is_of_host.true))
 
@@ -19,8 +20,8 @@ returns c =
     let h = c.args.host.now in
     let u = c.args.unit.now in
     let found : Option Seen = Some (seen_with None u.name (part.Added
-    (name_in h u.at.segment.slot) u.at.rec) None) in
+    (name_in h u.at.segment.slot) u.at.rec) (Err NoSlot)) in
     ap Some (c.without_entry.ensures ∙ ap (λ (n : List ℕ). seen_with None u.name
-    (part.Added n u.at.rec) None) c.name_in-requester.ensures)
+    (part.Added n u.at.rec) (Err NoSlot)) c.name_in-requester.ensures)
     ∙ sym (ap (λ (b : Bool). if b then None else found)
     (sym c.is_of_host.ensures ∙ c.if-is_of_host.false))

@@ -16,7 +16,7 @@ loop-index-init g c =
     record { rest = λ more are. are } in
     let more = listed_more c.args.how all_paths all_files c.args.host_path.now c.args.host.now
     paths libs one [] c.in_ok-of.ensures.how c.in_ok-of.ensures.path c.in_ok-of.ensures.file
-    start in
+    c.in_ok-of.ensures.phrase start in
     let items : c.push.new.self.items ≡ one ∷ [] = search rules in
     subst (λ (ls : List Listed). FilesLeft c.args.how all_paths all_files paths libs ls)
     (sym items) more
@@ -34,7 +34,8 @@ loop-index-preserved g c =
     let one : Listed = c.in_ok-of-2.field-0 in
     let before : List Listed = c.loop-index.files.items in
     let more = listed_more_at c.args.how all_paths all_files paths libs i none one before
-    c.in_ok-of-2.ensures.how c.in_ok-of-2.ensures.path c.in_ok-of-2.ensures.file in_paths in_libs
+    c.in_ok-of-2.ensures.how c.in_ok-of-2.ensures.path c.in_ok-of-2.ensures.file
+    c.in_ok-of-2.ensures.phrase in_paths in_libs
     c.loop-index.invariant in
     let items : c.push-in-loop-index.new.self.items ≡ before ++ one ∷ [] = search rules in
     subst (λ (ls : List Listed). FilesLeft c.args.how all_paths all_files

@@ -1,0 +1,58 @@
+use Rattle.std.proofs.Common.{◌≡◌, ◌<◌, ◌≤◌, ◌+◌, ◌∷◌, [], ℕ, List, Bor, append-nil, ap, arith, drop, length, refl, string_bytes, subst, sym}
+use Rattle.std.proofs.lemmas.Bool.Decides.{nat_tests}
+use Rattle.std.proofs.lemmas.List.{drop_all}
+use Rattle.ps_resolve.specs.Sources.{contents}
+use Rattle.ps_explained.specs.FileLines.{AreFileLines}
+use Rattle.ps_explained.specs.SlotLines.{AddsSlotLines}
+use Rattle.ps_explained.proofs.FileLines.{FilesLeft, line_more, line_more_at}
+use Rattle.ps_explained.proofs.SlotLines.{adds_then_none}
+use Rattle.ps_explained.proofs.file_lines.file_lines.Goals as goal
+
+pub loop-index-init : goal.loop-index-init
+loop-index-init g c =
+    let i = c.args.inputs.now in
+    let paths : List (List ℕ) = i.host_path.now ∷ contents i.paths.now in
+    let files : List (List ℕ) = i.host.now ∷ contents i.libs.now in
+    let empty = string_bytes c.new-text.result in
+    let start : FilesLeft paths files 0 files empty =
+    subst (λ (t : List ℕ). FilesLeft paths files 0 files t) (sym c.new-text.ensures.bytes)
+    (record { rest = λ more are. are }) in
+    record {
+      lines = line_more paths files 0 i.host.now (contents i.libs.now) c.path.result.now
+          empty (string_bytes c.add_file.new.text) c.path.ensures
+          c.in_ok-add_file.ensures.line start;
+      silent = subst (λ (t : List ℕ). AddsSlotLines t [] (string_bytes c.add_file.new.text))
+          c.new-text.ensures.bytes c.in_ok-add_file.ensures.silent;
+    }
+
+pub loop-index-preserved : goal.loop-index-preserved
+loop-index-preserved g c =
+    let i = c.args.inputs.now in
+    let libs : List (Bor (List ℕ)) = i.libs.now in
+    let paths : List (List ℕ) = i.host_path.now ∷ contents i.paths.now in
+    let files : List (List ℕ) = i.host.now ∷ contents libs in
+    let within : c.loop-index.index < length libs = grind (arith, nat_tests) in
+    let none : Bor (List ℕ) = record { ref_ptr = (0, 0); now = [] } in
+    let before = string_bytes c.loop-index.text in
+    let after = string_bytes c.add_file-in-loop-index.new.text in
+    record {
+      lines = line_more_at paths files libs c.loop-index.index none c.path-path.result.now
+          before after c.path-path.ensures c.in_ok-add_file-2.ensures.line within
+          c.loop-index.invariant.lines;
+      silent = adds_then_none [] before after [] c.loop-index.invariant.silent
+          c.in_ok-add_file-2.ensures.silent;
+    }
+
+pub returns-clause-lines : goal.returns-clause-lines
+returns-clause-lines g c =
+    let i = c.args.inputs.now in
+    let libs : List (Bor (List ℕ)) = i.libs.now in
+    let paths : List (List ℕ) = i.host_path.now ∷ contents i.paths.now in
+    let files : List (List ℕ) = i.host.now ∷ contents libs in
+    let text = string_bytes c.loop-index.text in
+    let over : length libs ≤ c.loop-index.index = grind (arith, nat_tests) in
+    let none : contents (drop c.loop-index.index libs) ≡ [] =
+    ap contents (drop_all c.loop-index.index libs over) in
+    let left = subst (λ (fs : List (List ℕ)). FilesLeft paths files (c.loop-index.index + 1) fs text)
+    none c.loop-index.invariant.lines in
+    subst (λ (t : List ℕ). AreFileLines paths 0 files t) (append-nil text) (left.rest [] refl)
