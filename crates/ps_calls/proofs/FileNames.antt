@@ -1,9 +1,9 @@
 -- What is known of names by what is known of their parts.
 use Rattle.std.proofs.Common.{◌≡◌, ◌<◌, ◌≤◌, ◌+◌, ◌++◌, ℕ, List, [], ◌∷◌, Bor, Result, Ok, Err, ◌∙◌, ap, arith, get_or, length, refl, subst, sym, suc, take, drop}
-use Rattle.std.specs.Prelude.{All, IsUtf8, IfOk, Vec}
+use Rattle.std.specs.Prelude.{◌↔◌, All, IsUtf8, IfOk, Vec}
 use Rattle.std.specs.declared.alloc.Global.{Global}
-use Rattle.std.proofs.lemmas.List.{get_or-map, length-map, map-append, take_all, take_more}
-use Rattle.std.proofs.lemmas.List.Elements.{All-get_or, All-map}
+use Rattle.std.proofs.lemmas.List.{drop_all, get_or-map, length-map, map-append, take_all, take_more}
+use Rattle.std.proofs.lemmas.List.Elements.{All-cons, All-get_or, All-head, All-map, All-nil, All-tail}
 use Rattle.ps_resolve.specs.Sources.{contents}
 use Rattle.ps_answers.specs.Libraries.{split}
 
@@ -53,3 +53,21 @@ pub many_texts : {E : Type 0} (names lengths : List ℕ)
     → IfOk r (λ texts. length texts.items ≡ length lengths)
 many_texts names lengths (Ok texts) cut = as_many names lengths texts.items cut
 many_texts names lengths (Err error) cut = tt
+
+-- the names that are left are the first of them and those behind it
+module _ (rest left : List ℕ) (n : ℕ) (more : List ℕ) (is : left ≡ n ∷ more) where
+  pub utf8_left : IsUtf8 (take n rest)
+      → All IsUtf8 (split (drop n rest) more) ↔ All IsUtf8 (split rest left)
+  utf8_left first = (
+    λ all. rw (← is) at (All-cons IsUtf8 (take n rest) (split (drop n rest) more) first all),
+    λ all. All-tail IsUtf8 (take n rest) (split (drop n rest) more) (rw is at all),
+  )
+
+  pub wrong_left : (IsUtf8 (take n rest) → ⊥) → All IsUtf8 (split rest left) → ⊥
+  wrong_left wrong all =
+      wrong (All-head IsUtf8 (take n rest) (split (drop n rest) more) (rw is at all))
+
+-- where no length is left, no name is
+pub none_left : (rest lengths : List ℕ) (i : ℕ) → length lengths ≤ i
+    → All IsUtf8 (split rest (drop i lengths))
+none_left rest lengths i end = rw (drop_all i lengths end) (All-nil IsUtf8)

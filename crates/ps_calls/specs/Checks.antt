@@ -53,13 +53,15 @@ abbrev pub IsLongReport : List ℕ → List (List ℕ) → List ℕ → List (Li
 IsLongReport room names host libs t =
     (r : Reported) × IsReport names host libs r × IsAbove r.text room t
 
--- why no report of these files is put in this room, where names and libraries are one after another
+-- Why no report of these files is put in this room, where names and libraries are one after another.
+-- Memory is requested only where they are right.
 abbrev pub WhyUnchecked : List ℕ → List ℕ → List ℕ → List ℕ → List ℕ → List ℕ
     → NotChecked → Type 0
 WhyUnchecked room host libs lengths names name_lengths (not_checked.Wrong why) =
     WhyWrong (HasItsLengths libs lengths names name_lengths)
     (All IsUtf8 (split names name_lengths)) why
-WhyUnchecked room host libs lengths names name_lengths not_checked.NoMemory = ⊤
+WhyUnchecked room host libs lengths names name_lengths not_checked.NoMemory =
+    IsCheckable libs lengths names name_lengths
 WhyUnchecked room host libs lengths names name_lengths (not_checked.TooSmall t) =
     IsCheckable libs lengths names name_lengths
     × IsLongReport room (split names name_lengths) host (split libs lengths) t

@@ -80,14 +80,15 @@ abbrev pub HasInputs : Bool → List ℕ → List ℕ → List ℕ → List ℕ 
 HasInputs named libs lengths names name_lengths =
     HasRightLengths named libs lengths names name_lengths × HasNames named names name_lengths
 
--- why a call for it leaves the room as it was
+-- why a call for it leaves the room as it was; memory is requested only where the call is right
 abbrev pub WhyUnprinted : TextKind → List ℕ → List ℕ → List ℕ → List ℕ
     → List ℕ → List ℕ → NotDone → Type 0
 WhyUnprinted k room host libs lengths names name_lengths (not_done.Wrong why) =
     WhyWrong (HasRightLengths (needs_names k) libs lengths names name_lengths)
     (HasNames (needs_names k) names name_lengths) why
 WhyUnprinted k room host libs lengths names name_lengths
-    (not_done.Unput (unput.Unmade NoMemory)) = ⊤
+    (not_done.Unput (unput.Unmade NoMemory)) =
+    HasInputs (needs_names k) libs lengths names name_lengths
 WhyUnprinted k room host libs lengths names name_lengths
     (not_done.Unput (unput.Unmade (Refused r))) =
     HasInputs (needs_names k) libs lengths names name_lengths

@@ -7,7 +7,7 @@ ghost use Rattle.ps_report.specs.Verdicts.{check_status};
 ghost use Rattle.ps_answers.specs.Libraries.{split as split_spec};
 ghost use Rattle.ps_calls.specs.Checks.{HasItsLengths, IsCheckable, IsFound, WhyUnchecked};
 
-use crate::file_names::{Unnamed, file_names};
+use crate::file_names::{Unnamed, are_utf8, file_names};
 use crate::texts::put;
 use ps_answers::{TooSmall, WrongInputs, add_up, host_first, split};
 use ps_report::{Report, Verdict};
@@ -136,8 +136,8 @@ fn report_on<'a>(
 /// begins with the report, also where the files are refused: what is found says so, with `strict`
 /// as the program's command says it. Else the room is as it was: refuses `Wrong` lengths where they
 /// do not add up to the length of `libs` or of `names`, and where there is not one name for
-/// each file; `Wrong` names where they do, and a name is no UTF-8; `NoMemory` where memory was
-/// refused; and `TooSmall` where the report is longer than the room.
+/// each file; `Wrong` names where they do, and a name is no UTF-8; `NoMemory` where all that is right
+/// and memory was refused; and `TooSmall` where the report is longer than the room.
 pub fn check(
     alloc: Global,
     host: &[u8],
@@ -157,6 +157,9 @@ pub fn check(
 {
     if !have_lengths(libs, lengths, names, name_lengths) {
         return Err(NotChecked::Wrong(WrongInputs::Lengths));
+    }
+    if !are_utf8(names, name_lengths) {
+        return Err(NotChecked::Wrong(WrongInputs::Names));
     }
     let libs = split::<0>(alloc, libs, lengths)?;
     let names = file_names(alloc, names, name_lengths)?;

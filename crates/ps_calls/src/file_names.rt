@@ -1,6 +1,6 @@
 //! How the files of a check are named: one name after another in one buffer, with their lengths
 //! beside.
-ghost use Rattle.std.specs.Prelude.{◌≡◌, All, IsUtf8, IfOk, IfErr, length, sum};
+ghost use Rattle.std.specs.Prelude.{◌≡◌, ◌↔◌, All, IsTrue, IsUtf8, IfOk, IfErr, length, sum};
 ghost use Rattle.ps_resolve.specs.Sources.{contents};
 ghost use Rattle.ps_calls.specs.Checks.{WhyUnnamed};
 ghost use Rattle.ps_answers.specs.Libraries.{split as split_spec};
@@ -48,6 +48,30 @@ impl From<Unnamed> for NotDone {
             Unnamed::NoMemory => NotDone::Unput(Unput::Unmade(Unmade::NoMemory)),
         }
     }
+}
+
+/// The name is UTF-8.
+fn is_utf8(name: &[u8]) -> bool
+    ensures { IsTrue result ↔ IsUtf8 name.now }
+{
+    str::from_utf8(name).is_ok()
+}
+
+/// Each of the names that are one after another in `names`, with these lengths, is UTF-8. They are
+/// looked at before memory is requested, so that a wrong name is told whatever memory there is.
+pub(crate) fn are_utf8(names: &[u8], lengths: &[usize]) -> bool
+    requires { sum lengths.now ≡ length names.now }
+    ensures { IsTrue result ↔ All IsUtf8 (split_spec names.now lengths.now) }
+{
+    let mut rest = names;
+    for length in lengths {
+        let (name, behind) = rest.split_at(*length);
+        if !is_utf8(name) {
+            return false;
+        }
+        rest = behind;
+    }
+    true
 }
 
 /// These names as text, one for one.

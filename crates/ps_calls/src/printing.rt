@@ -7,7 +7,7 @@ ghost use Rattle.ps_calls.specs.Checks.{WhyUnnamed};
 ghost use Rattle.ps_calls.specs.Printed.{HasNames, HasRightLengths, IsPrinted, IsPut, WhyUnprinted, WhyUnput};
 
 use crate::checking::have_lengths;
-use crate::file_names::{Unnamed, file_names};
+use crate::file_names::{Unnamed, are_utf8, file_names};
 use crate::making::make;
 use crate::texts::put;
 use ps_answers::{Done, NotDone, Unput, WrongInputs, add_up, host_first, split};
@@ -75,6 +75,14 @@ fn are_right(
     }
 }
 
+/// Whether the names of a text are right, if its files have names.
+fn are_text(named: bool, names: &[u8], name_lengths: &[usize]) -> bool
+    requires { named ≡ true → sum name_lengths.now ≡ length names.now }
+    ensures { IsTrue result ↔ HasNames named names.now name_lengths.now }
+{
+    !named || are_utf8(names, name_lengths)
+}
+
 /// The one name of a text that has no names.
 fn no_names<'a>(alloc: Global) -> Result<Vec<&'a str>, Unnamed>
     ensures some { IfOk result (λ names. 0 < length names.items) }
@@ -116,8 +124,8 @@ fn names_for<'a>(
 /// `Wrong` lengths where they do not add up to the length of `libs` and, of a text with names, where
 /// those of the names do not, or where there is not one for each file; `Wrong` names where they do,
 /// and a name is no UTF-8; `Refused` as `map`, of a map and its references, as `show`, of what a file
-/// has, and where the host cannot be opened, of names of units; `NoMemory` where memory was refused;
-/// and `TooSmall` where the text is longer than the room.
+/// has, and where the host cannot be opened, of names of units; `NoMemory` where all inputs are right
+/// and memory was refused; and `TooSmall` where the text is longer than the room.
 pub fn text(
     alloc: Global,
     kind: TextKind,
@@ -137,6 +145,9 @@ pub fn text(
     let named = kind.needs_names();
     if !are_right(named, libs, lengths, names, name_lengths) {
         return Err(NotDone::Wrong(WrongInputs::Lengths));
+    }
+    if !are_text(named, names, name_lengths) {
+        return Err(NotDone::Wrong(WrongInputs::Names));
     }
     let libs = split::<0>(alloc, libs, lengths)?;
     let names = names_for(alloc, named, names, name_lengths)?;

@@ -1,5 +1,5 @@
 -- The units of a file by themselves: a line of each, made for grep, and an item of a JSON document.
-use Rattle.std.specs.Prelude.{ℕ, ◌||◌, List, [], ◌∷◌, ◌++◌, codes, Bool, true, false, Option, Some, None, Result, Ok, Err, is_some, length, ◌==◌}
+use Rattle.std.specs.Prelude.{ℕ, ◌||◌, if◌then◌else◌, List, [], ◌∷◌, ◌++◌, codes, Bool, true, false, Option, Some, None, Result, Ok, Err, is_some, length, ◌==◌}
 use Rattle.std.specs.List.{filter_map, flat_map, list_any}
 use Rattle.ps_words.specs.FaultText.{part_text}
 use Rattle.ps_words.specs.declared.fault.Reason.{Reason}
@@ -11,6 +11,7 @@ use Rattle.ps_resolve.specs.LoneUnits.{lone_fault}
 use Rattle.ps_resolve.specs.Readings.{HostFiles, opened_host}
 use Rattle.ps_resolve.specs.Sources.{opened_files}
 use Rattle.ps_codefile.specs.Opened.{opened}
+use Rattle.ps_filetype.specs.CodeTypes.{is_code_type}
 use Rattle.ps_writing.specs.JsonText.{line_end}
 use Rattle.ps_writing.specs.Rows.{InSlot, value_in}
 use Rattle.ps_writing.specs.declared.rows.Form.TheVariants.{Json}
@@ -46,9 +47,13 @@ abbrev pub units_as : Result HostFiles Reason → List LoneUnit
 units_as (Ok h) = units_of h
 units_as (Err why) = []
 
--- the units of a file
+-- the units of which the entries of a file have the code
+abbrev pub units_in_entries : List ℕ → List LoneUnit
+units_in_entries file = units_as (opened_host file [])
+
+-- the units of a file: one of which its list says that it is something else has none
 abbrev pub lone_units : List ℕ → List LoneUnit
-lone_units file = units_as (opened_host file [])
+lone_units file = if is_code_type file then units_in_entries file else []
 
 -- a unit has a fault
 abbrev pub is_refused_unit : LoneUnit → Bool

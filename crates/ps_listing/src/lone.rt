@@ -5,12 +5,13 @@ ghost use Rattle.ps_writing.specs.Adding.{Adds};
 ghost use Rattle.ps_words.specs.FaultText.{part_text};
 ghost use Rattle.ps_resolve.specs.LoneUnits.{IsSoundUnit};
 ghost use Rattle.ps_resolve.specs.Sources.{opened_files};
-ghost use Rattle.ps_listing.specs.LoneText.{has_no_sound as has_no_sound_spec, is_refused_unit, lone_fault_member, lone_item, lone_items, lone_line, lone_text, lone_unit as lone_unit_spec, lone_units as lone_units_spec, lone_words, units_of as units_of_spec};
+ghost use Rattle.ps_listing.specs.LoneText.{has_no_sound as has_no_sound_spec, is_refused_unit, lone_fault_member, lone_item, lone_items, lone_line, lone_text, lone_unit as lone_unit_spec, lone_units as lone_units_spec, lone_words, units_in_entries as units_in_entries_spec, units_of as units_of_spec};
 
 use crate::escapes::add_path;
 use crate::parts::{add_fault, add_no_fault, add_refused};
 use ps_codefile::Role;
 use ps_codefile::dictionary_layout::SLOTS;
+use ps_filetype::is_code_type;
 use ps_resolve::{HostReading, lone_fault, read};
 use ps_words::{Fault, Name};
 use ps_writing::RowPart::InSlot;
@@ -68,12 +69,28 @@ fn units_of<A: Allocator + Copy>(
     Ok(units)
 }
 
+/// The units of which the entries of a file have the code, by slot ascending, whatever the file is.
+fn units_in_entries<A: Allocator + Copy>(
+    alloc: A,
+    file: &[u8],
+) -> Result<Vec<LoneUnit, A>, AllocError>
+    ensures units { IfOk result (λ units. units.items ≡ units_in_entries_spec file.now) }
+    ensures memory { IfErr result (λ _. 0 < length (units_in_entries_spec file.now)) }
+{
+    let reading = read(file, &[]);
+    match reading.host() {
+        Err(_) => Ok(Vec::new(alloc)),
+        Ok(host) => units_of(alloc, host),
+    }
+}
+
 /// The units whose code a file has, by slot ascending, each with its first fault by itself: of its
 /// code, its tables and its records, and then of its privates and references, in a link with a host
 /// that would define each name that it requests.
 ///
-/// `file` is a whole file, of any contents; one that cannot be opened has no units. What such a host
-/// is, and which faults are found, `ps_resolve::lone_fault` says.
+/// `file` is a whole file, of any contents. One that cannot be opened has no units, and neither has
+/// one that is no code file as it ought to be (`ps_filetype::is_code_type`). What such a host is, and
+/// which faults are found, `ps_resolve::lone_fault` says.
 ///
 /// Returns an error only where memory was refused, which is requested only where the file has a
 /// unit: a file that cannot be opened, or that has none, is never refused. Source: this project's
@@ -85,10 +102,10 @@ pub fn lone_units<A: Allocator + Copy>(
     ensures units { IfOk result (λ units. units.items ≡ lone_units_spec file.now) }
     ensures memory { IfErr result (λ _. 0 < length (lone_units_spec file.now)) }
 {
-    let reading = read(file, &[]);
-    match reading.host() {
-        Err(_) => Ok(Vec::new(alloc)),
-        Ok(host) => units_of(alloc, host),
+    if is_code_type(file) {
+        units_in_entries(alloc, file)
+    } else {
+        Ok(Vec::new(alloc))
     }
 }
 

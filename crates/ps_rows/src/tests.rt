@@ -31,6 +31,7 @@ mod rows;
 mod tables;
 mod texts;
 mod two_units;
+mod unit_names;
 mod words;
 mod writers;
 mod writing;

@@ -1,2 +1,3 @@
+pub mod EachOnce
 pub mod SlotNames
 pub mod Forms

@@ -1,7 +1,5 @@
 -- What each text is of a host and its libraries, and of a value that has it.
 use Rattle.std.specs.Prelude.{◌≡◌, ℕ, Bool, List, ◌∷◌, ◌++◌, None, Ok, map}
-use Rattle.ps_codefile.specs.Dictionary.{OpenedFile, opened_alone}
-use Rattle.ps_resolve.specs.Readings.{HostFiles, opened_host}
 use Rattle.ps_resolve.specs.Standing.{NoneStands}
 use Rattle.ps_writing.specs.declared.rows.Form.{Form}
 use Rattle.ps_writing.specs.declared.rows.Form.TheVariants.{Lines, Json}
@@ -14,7 +12,7 @@ use Rattle.ps_listing.specs.FileLists.{IsList, lists_in}
 use Rattle.ps_report.specs.Reported.{reported, said, warning_count}
 use Rattle.ps_report.specs.Reports.{ArePrintedFindings, IsPrintedReport, printed_findings, printed_report}
 use Rattle.ps_report.specs.Verdicts.{check_status}
-use Rattle.ps_texts.specs.UnitNames.{units_had, units_wanted}
+use Rattle.ps_texts.specs.UnitNames.{bytes_of, names_had, names_wanted}
 use Rattle.ps_texts.specs.declared.kinds.TextKind.{TextKind}
 use Rattle.ps_texts.specs.declared.kinds.TextKind.TheVariants as kind
 use Rattle.ps_texts.specs.declared.texts.FilesText.{FilesText}
@@ -48,10 +46,11 @@ IsTextOf (kind.Findings form) strict paths host libs status text =
 IsTextOf (kind.List how) strict paths host libs status text =
     (status ≡ 0) × IsList how paths (host ∷ libs) text
 IsTextOf kind.Wanted strict paths host libs status text =
-    (h : HostFiles) × (opened_host host libs ≡ Ok h) × (status ≡ 0) × (text ≡ units_wanted h)
+    (names : List (List ℕ)) × (names_wanted host libs ≡ Ok names) × (status ≡ 0)
+    × (text ≡ bytes_of names)
 IsTextOf kind.Had strict paths host libs status text =
-    (f : OpenedFile) × (opened_alone host ≡ Ok f) × (status ≡ 0)
-    × (text ≡ units_had f.order f.file)
+    (names : List (List ℕ)) × (names_had host ≡ Ok names) × (status ≡ 0)
+    × (text ≡ bytes_of names)
 
 -- the text that a value has
 abbrev pub bytes_in : {A : Type 0} → FilesText A → List ℕ
@@ -61,7 +60,7 @@ bytes_in (text.Show form file) = show_as form file
 bytes_in (text.Report form report) = printed_report form (reported report)
 bytes_in (text.Findings form report) = printed_findings form (reported report)
 bytes_in (text.Lists lists) = lists_in lists.how lists.files.items
-bytes_in (text.Names names) = names.items
+bytes_in (text.Names names) = bytes_of names.items
 
 -- what a process that prints it ends with
 abbrev pub status_in : {A : Type 0} → Bool → FilesText A → ℕ

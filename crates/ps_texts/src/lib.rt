@@ -6,6 +6,7 @@
 mod kinds;
 mod texts;
 mod units;
+mod wanted_law;
 
 pub use kinds::TextKind;
 pub use ps_listing::ListForm;
@@ -13,3 +14,4 @@ pub use ps_segments::NamedFiles;
 pub use ps_writing::Form;
 pub use texts::{FilesText, Unmade, text_of};
 pub use units::{units_had, units_wanted};
+pub use wanted_law::wanted_units;

@@ -1,16 +1,20 @@
 //! The texts of files, as values.
-ghost use Rattle.std.specs.Prelude.{◌≡◌, IfErr, IfOk, List, ℕ};
+ghost use Rattle.std.specs.Prelude.{◌≡◌, IfErr, IfOk, List, Ok, ℕ};
 ghost use Rattle.ps_words.specs.FaultPlaces.{in_file};
+ghost use Rattle.ps_filetype.specs.CodeTypes.{is_code_type as is_code_type_spec};
 ghost use Rattle.ps_resolve.specs.Sources.{contents};
 ghost use Rattle.ps_segments.specs.Paths.{paths_in};
+ghost use Rattle.ps_writing.specs.Adding.{Adds};
 ghost use Rattle.ps_texts.specs.Texts.{IsMadeOf, bytes_in};
+ghost use Rattle.ps_texts.specs.UnitNames.{HasNames, bytes_of, had_in};
 ghost use Rattle.ps_texts.specs.Unmade.{WhyUnmade, unmade_of};
 ghost use Rattle.ps_texts.specs.declared.kinds.TextKind.TheVariants.{Check, Had, List as Listed, Findings as FindingsOf, Map as MapOf, References as ReferencesOf, Show as ShowOf, Wanted};
 ghost use Rattle.ps_texts.specs.declared.texts.Unmade.TheVariants.{Memory, Refused};
 
 use crate::kinds::TextKind;
 use crate::units::{units_had, units_wanted};
-use ps_codefile::Dict;
+use ps_codefile::{Dict, open};
+use ps_filetype::is_code_type;
 use ps_linkfile::{
     LinkError, LinkMap, Linked, ReferenceMap, References, Show, ShownFile, prepare,
     prepare_references,
@@ -19,7 +23,7 @@ use ps_listing::{ListForm, Lists};
 use ps_report::{PrintedFindings, PrintedReport, Report, check};
 use ps_resolve::{Reading, read};
 use ps_segments::NamedFiles;
-use ps_words::{Fault, Reason};
+use ps_words::{Fault, Name, Reason};
 use ps_writing::{Form, Text, TextWriter};
 use std::alloc::{AllocError, Allocator, Global};
 
@@ -77,8 +81,8 @@ pub enum FilesText<'a, A: Allocator + Copy = Global> {
     Findings(Form, Report<'a, A>),
     /// The list of each file.
     Lists(Lists<'a, A>),
-    /// Names of units, eight bytes each.
-    Names(Vec<u8, A>),
+    /// Names of units.
+    Names(Vec<Name, A>),
 }
 
 impl<A: Allocator + Copy> Text for FilesText<'_, A> {
@@ -108,8 +112,18 @@ impl<A: Allocator + Copy> Text for FilesText<'_, A> {
             }
             .add_to(text),
             FilesText::Lists(lists) => lists.add_to(text),
-            FilesText::Names(names) => text.add(names.as_slice()),
+            FilesText::Names(names) => add_names(text, names.as_slice()),
         }
+    }
+}
+
+/// Adds names, eight bytes each, one after another.
+#[tactic(auto, using(std::proofs::lemmas::List::drop_more, ps_writing::proofs::Written::all_written, ps_writing::proofs::Written::items_left, ps_writing::proofs::Written::items_over, ps_writing::proofs::Written::none_yet, ps_writing::proofs::Written::some_more))]
+fn add_names<S: TextWriter>(text: &mut S, names: &[Name])
+    ensures { Adds S.added text.old (bytes_of names.now) text.new }
+{
+    for name in names {
+        text.add(name);
     }
 }
 
@@ -243,7 +257,8 @@ fn lists_of<'a, A: Allocator + Copy>(
     Ok(FilesText::Lists(lists))
 }
 
-/// The names of the units that files that were read want.
+/// The names of the units that files that were read want: none where the host has no kind but 0, as
+/// a linked file.
 fn wanted_in<'a, A: Allocator + Copy>(
     alloc: A,
     reading: &Reading<'_>,
@@ -253,6 +268,7 @@ fn wanted_in<'a, A: Allocator + Copy>(
     ensures unmade { IfErr result (WhyUnmade Wanted reading.now.host reading.now.libs) }
 {
     match reading.host() {
+        Err(Reason::NoHost) => Ok(FilesText::Names(Vec::new(alloc))),
         Err(reason) => Err(unopened(reason)),
         Ok(host) => Ok(FilesText::Names(units_wanted(alloc, host)?)),
     }
@@ -273,6 +289,25 @@ fn wanted_of<'a, A: Allocator + Copy>(
     wanted_in(alloc, &reading)
 }
 
+/// The names of the units whose code an opened file has; none where its list says that it is
+/// something else.
+fn names_had<A: Allocator + Copy>(
+    alloc: A,
+    file: &[u8],
+    dict: &Dict,
+) -> Result<Vec<Name, A>, AllocError>
+    ensures names { IfOk result (λ names. had_in (is_code_type_spec file.now) (Ok dict.now)
+        ≡ Ok names.items) }
+    ensures memory { IfErr result (λ _. HasNames (had_in (is_code_type_spec file.now)
+        (Ok dict.now))) }
+{
+    if is_code_type(file) {
+        units_had(alloc, dict)
+    } else {
+        Ok(Vec::new(alloc))
+    }
+}
+
 /// The names of the units whose code the host's file has.
 fn had_of<'a, A: Allocator + Copy>(
     alloc: A,
@@ -283,9 +318,9 @@ fn had_of<'a, A: Allocator + Copy>(
     ensures unmade { IfErr result (WhyUnmade Had files.now.host.now
         (contents files.now.libs.now)) }
 {
-    match Dict::read(files.host) {
+    match open(files.host) {
         Err(reason) => Err(unopened(reason)),
-        Ok(dict) => Ok(FilesText::Names(units_had(alloc, &dict)?)),
+        Ok(dict) => Ok(FilesText::Names(names_had(alloc, files.host, &dict)?)),
     }
 }
 

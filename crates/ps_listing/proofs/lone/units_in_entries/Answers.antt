@@ -1,7 +1,7 @@
 use Rattle.ps_listing.proofs.Vocabulary.{◌≡◌, ◌∙◌, ◌<◌, List, length, sym, ap, subst, IfErr, IfOk, units_as}
 use Rattle.ps_resolve.specs.Readings.{ReadFiles, opened_host}
 use Rattle.ps_listing.specs.declared.lone.LoneUnit.{LoneUnit}
-use Rattle.ps_listing.proofs.lone.lone_units.Goals as goal
+use Rattle.ps_listing.proofs.lone.units_in_entries.Goals as goal
 
 pub returns-in-Err-clause-units : goal.returns-in-Err-clause-units
 returns-in-Err-clause-units g c =
