@@ -26,7 +26,8 @@ fn add_name<A: Allocator>(names: &mut Vec<Name, A>, name: Name) -> Result<(), Al
     if has_name(names.as_slice(), name) {
         return Ok(());
     }
-    names.push(name)
+    names.push(name)?;
+    Ok(())
 }
 
 /// Adds the name that was found, if there is one, unless the list has it.

@@ -52,6 +52,7 @@ fn names_of(alloc: Global, kind: TextKind, files: &NamedFiles<'_>) -> Line {
 }
 
 /// What a row shows, which names it is about, and these.
+#[derive(Clone, Copy)]
 struct Names<'a> {
     what: &'a str,
     kind: TextKind,
@@ -72,6 +73,7 @@ impl Check for Names<'_> {
 }
 
 /// The names that rows are about.
+#[derive(Clone, Copy)]
 struct NameRows {
     kind: TextKind,
 }
