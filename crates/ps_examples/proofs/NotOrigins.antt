@@ -1,12 +1,21 @@
 -- Where segments of the small files do not come from, computed.
 use Rattle.ps_examples.proofs.Vocabulary.{◌≡◌, ℕ, zero, suc, ◌<◌, List, [], ◌∷◌, Option, Some, None, Result, Ok, Err, true, false, refl, sym, ap, subst, ◌∙◌, inl, inr, arith, ◌⊎◌, slice_get, host, library, host_without_7, put_at, blank_name, util, aux, count, state, nobody, is_unit_reference, count_reference, state_reference, end_mark, demo_segment, util_segment, using_segment, aux_segment, self_segment, nobody_segment, count_segment, past_segment, Record, Segment, HasOne, RequestsName, IsAddedUnit, IsUnitOf, IsReadFrom, Reason, false≢true, Little}
 use Rattle.std.specs.List.{AllByRecursion}
-use Rattle.ps_examples.proofs.NotLinked.{same, heads}
 use Rattle.ps_words.specs.declared.fault.Reason.TheVariants as reason
 use Rattle.ps_codefile.specs.declared.entry.Role.{Role}
+use Rattle.ps_codefile.specs.declared.entry.Role.TheVariants as role
+
+pub same : {A : Type 0} (a b : A) → ◌≡◌ {A = Option A} (Some a) (Some b) → a ≡ b
+same a b e = cc
+
+heads : (a b : ℕ) (xs ys : List ℕ) → ◌≡◌ {A = List ℕ} (a ∷ xs) (b ∷ ys) → a ≡ b
+heads a b xs ys e = cc
+
+pub util_aux : util ≡ aux → ⊥
+util_aux e = let h : 85 ≡ 65 = heads _ _ _ _ e in omega (arith, h)
 
 -- no item passes
-pub none_passes : {A : Type 0} (P : A → Type 0) (xs : List A)
+none_passes : {A : Type 0} (P : A → Type 0) (xs : List A)
     → AllByRecursion (λ x. P x → ⊥) xs → (k : ℕ) (x : A) → slice_get xs k ≡ Some x
     → P x → ⊥
 none_passes P [] all k x e p = cc
@@ -22,6 +31,10 @@ a_slot_without_one t = go t.0 t.1 t.2 t.3.0
     go zero s e at = let h : 1 ≡ 7 = ap (λ (x : Segment). x.slot) (same demo_segment s e) ∙ at
         in omega (arith, h)
     go (suc k) s e at = cc
+
+-- the host's slot 7 is not empty
+pub filled : ◌≡◌ {A = Result Role Reason} (Ok role.Wanted) (Ok role.Empty) → ⊥
+filled e = cc
 
 pub role_is : (a b : Role) → ◌≡◌ {A = Result Role Reason} (Ok a) (Ok b) → a ≡ b
 role_is a b e = cc
@@ -54,19 +67,19 @@ not_past_slot_7 u = let t = u.next 7 (omega arith) (omega arith) refl in
     of n lt e = omega (arith, lt, e)
 
 -- no record of the segment has the name
-pub no_name : (s : Segment) (name : List ℕ)
+no_name : (s : Segment) (name : List ℕ)
     → AllByRecursion (λ (r : Record). r.name ≡ name → ⊥) s.records → RequestsName s name
     → ⊥
 no_name s name all t = none_passes (λ (r : Record). r.name ≡ name) s.records all t.0 t.1 t.2
     t.3.1
 
-pub count_aux : count ≡ aux → ⊥
+count_aux : count ≡ aux → ⊥
 count_aux e = let h : 67 ≡ 65 = heads _ _ _ _ e in omega (arith, h)
 
-pub state_aux : state ≡ aux → ⊥
+state_aux : state ≡ aux → ⊥
 state_aux e = let h : 83 ≡ 65 = heads _ _ _ _ e in omega (arith, h)
 
-pub blank_aux : blank_name ≡ aux → ⊥
+blank_aux : blank_name ≡ aux → ⊥
 blank_aux e = let h : 32 ≡ 65 = heads _ _ _ _ e in omega (arith, h)
 
 -- no unit is added where its own UNITREF record is the only one of its name

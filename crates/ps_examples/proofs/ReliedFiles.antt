@@ -1,14 +1,36 @@
 -- Files that are read like the samples, and libraries that have no name in common.
-use Rattle.ps_examples.proofs.Vocabulary.{◌≡◌, ℕ, zero, suc, ◌<◌, List, [], ◌∷◌, map, Bool, true, false, refl, sym, ap, subst, ◌∙◌, arith, ◌==◌, ◌&&◌, not, slice_get, All, ◌≢◌, entry_at, is_filled, host, library, put_at, aux, demo_segment, util_segment, Segment, library_file, HasEntry, Little, SLOTS}
+use Rattle.ps_examples.proofs.Vocabulary.{◌≡◌, ℕ, zero, suc, ◌<◌, List, [], ◌∷◌, map, Bool, true, false, refl, sym, ap, subst, ◌∙◌, arith, ◌==◌, ◌&&◌, not, slice_get, All, ◌≢◌, entry_at, is_filled, host, library, put_at, aux, demo_segment, util_segment, Segment, library_file, HasEntry, Little, SLOTS, ◌||◌, cases_lt, inl, inr}
 use Rattle.std.specs.List.{range_with_len}
 use Rattle.std.proofs.lemmas.Bool.Decides.{Decides-eqb}
 use Rattle.std.proofs.lemmas.List.Elements.{All-cons, All-nil}
 use Rattle.ps_examples.specs.ReadAlike.{library_elsewhere}
-use Rattle.ps_examples.proofs.SegmentOrigins.{any_below, fails}
 use Rattle.ps_relied.proofs.StoredLines.{made_at}
 use Rattle.ps_relied.specs.Alike.{IsReadAlike, AreReadAlike, AreFilesAlike, HasSameCode, HasSameRecords}
 use Rattle.ps_relied.specs.Used.{AreUsedAlike, IsLookedForIn}
-use Rattle.ps_examples.proofs.NotLinked.{same, util_aux}
+use Rattle.ps_examples.proofs.NotOrigins.{same, util_aux}
+
+-- a test that no number below n passes
+abbrev any_below : ℕ → (ℕ → Bool) → Bool
+any_below zero test = false
+any_below (suc n) test = test n || any_below n test
+
+-- where no number below n passes a test, each of them fails it
+fails : (n : ℕ) (test : ℕ → Bool) → any_below n test ≡ false → (i : ℕ) → i < n
+    → test i ≡ false
+fails zero test none i h = absurd (omega (arith, h))
+fails (suc n) test none i h = elim (cases_lt i n) [
+  | inl l ↦ fails n test (later (test n) none) i l
+  | inr l ↦ (let e : n ≡ i = omega (arith, h, l) in
+      subst (λ (k : ℕ). test k ≡ false) e (here (test n) none))
+]
+  where
+    later : (b : Bool) → (b || any_below n test) ≡ false → any_below n test ≡ false
+    later true e = absurd (cc)
+    later false e = e
+
+    here : (b : Bool) → (b || any_below n test) ≡ false → b ≡ false
+    here true e = absurd (cc)
+    here false e = refl
 
 -- functions that give the same list give the same at each place
 same_at : {A : Type 0} (f g : ℕ → A) → map f (range_with_len 0 SLOTS)

@@ -3,7 +3,7 @@
 use Rattle.std.specs.Prelude.{ℕ, List, [], ◌∷◌, ◌++◌}
 use Rattle.ps_words.specs.declared.order.Order.{Order}
 use Rattle.ps_words.specs.declared.order.Order.TheVariants.{Little, Big}
-use Rattle.ps_examples.specs.Files.{filled_to, put_at, with_slot, zeros, no_segments, demo, util, aux, tools, demo_code, util_code}
+use Rattle.ps_examples.specs.Files.{filled_to, put_at, with_slot, no_segments, demo, util, aux, demo_code, util_code}
 
 -- DEMO in block 1 and UTIL in block 2; every kind is LINKED, and the names and byte 300 are the
 -- host's
@@ -34,44 +34,10 @@ abbrev pub linked_in_place : List ℕ
 linked_in_place = linked_with Little (demo_code Little)
     (put_at 22 (7 ∷ []) (put_at 2 (3 ∷ []) (util_code Little)))
 
--- the code of DEMO with the data size 26: eight private words
-abbrev pub demo_of_eight_words : List ℕ
-demo_of_eight_words = 215 ∷ 215 ∷ 193 ∷ 0 ∷ 26 ∷ 0 ∷ 4 ∷ 0 ∷ 6 ∷ 0 ∷ 10 ∷ 0
-    ∷ 1 ∷ 0 ∷ 2 ∷ 0 ∷ 1 ∷ 1 ∷ []
-
 -- the code of UTIL with these two operands, and its number 7
 abbrev pub util_with : ℕ → ℕ → ℕ → ℕ → List ℕ
 util_with a b c d = 165 ∷ a ∷ b ∷ 171 ∷ c ∷ d ∷ 215 ∷ 215 ∷ 173 ∷ 0 ∷ 0 ∷ 0
     ∷ 0 ∷ 0 ∷ 6 ∷ 0 ∷ 16 ∷ 0 ∷ 1 ∷ 0 ∷ 2 ∷ 0 ∷ 7 ∷ 1 ∷ []
-
--- the linked file of two units: the private of the second has the offset 12
-abbrev pub linked_two : List ℕ
-linked_two =
-    put_at 300 (42 ∷ []) (with_slot Little 1 demo 0 1 18
-    (with_slot Little 7 util 0 2 24 (with_slot Little 8 aux 0 3 24 no_segments)))
-    ++ filled_to 512 demo_of_eight_words
-    ++ filled_to 512 (util_with 128 3 128 10)
-    ++ filled_to 512 (165 ∷ 128 ∷ 3 ∷ 171 ∷ 128 ∷ 14 ∷ 215 ∷ 215 ∷ 173 ∷ 0 ∷ 0
-    ∷ 0 ∷ 0 ∷ 0 ∷ 6 ∷ 0 ∷ 16 ∷ 0 ∷ 1 ∷ 0 ∷ 2 ∷ 0 ∷ 8 ∷ 1 ∷ [])
-
--- the linked file of a unit with two privates: the second has the offset 12
-abbrev pub linked_two_privates : List ℕ
-linked_two_privates = linked_with Little demo_of_eight_words (util_with 128 0 128 14)
-
--- the linked file of an operand with the displacement 256, which becomes 259
-abbrev pub linked_wide_operand : List ℕ
-linked_wide_operand =
-    linked_with Little (215 ∷ 215 ∷ 193 ∷ 0 ∷ 18 ∷ 0 ∷ 4 ∷ 0 ∷ 6 ∷ 0 ∷ 10 ∷ 0
-    ∷ 1 ∷ 0 ∷ 2 ∷ 0 ∷ 1 ∷ 1 ∷ []) (util_with 129 3 128 10)
-
--- the linked file of a unit that names itself: the byte is the number of its slot
-abbrev pub linked_unit_reference : List ℕ
-linked_unit_reference = linked_with Little (demo_code Little) (util_with 128 7 128 2)
-
--- the linked file of a reference in the host's segment: byte 3 alone is changed
-abbrev pub linked_host_reference : List ℕ
-linked_host_reference = linked_with Little (put_at 3 (3 ∷ []) (demo_code Little))
-    (util_with 128 0 128 2)
 
 -- the linked file of the library whose UTIL has zeros at bytes 6 and 7
 abbrev pub linked_other_library : List ℕ
@@ -79,25 +45,6 @@ linked_other_library =
     linked_with Little (215 ∷ 215 ∷ 193 ∷ 0 ∷ 18 ∷ 0 ∷ 4 ∷ 0 ∷ 6 ∷ 0 ∷ 10 ∷ 0
     ∷ 1 ∷ 0 ∷ 2 ∷ 0 ∷ 1 ∷ 1 ∷ [])
     (put_at 6 (0 ∷ 0 ∷ []) (util_with 128 3 128 10))
-
--- the linked file of a host with the plain segment TOOLS too: its five bytes are copied
-abbrev pub linked_plain_segment : List ℕ
-linked_plain_segment =
-    put_at 300 (42 ∷ []) (with_slot Little 1 demo 0 1 18
-    (with_slot Little 7 util 0 2 24 (with_slot Little 8 tools 0 3 5 no_segments)))
-    ++ filled_to 512 (215 ∷ 215 ∷ 193 ∷ 0 ∷ 18 ∷ 0 ∷ 4 ∷ 0 ∷ 6 ∷ 0 ∷ 10 ∷ 0
-    ∷ 1 ∷ 0 ∷ 2 ∷ 0 ∷ 1 ∷ 1 ∷ [])
-    ++ filled_to 512 (util_with 128 3 128 10)
-    ++ filled_to 512 (1 ∷ 2 ∷ 3 ∷ 4 ∷ 5 ∷ [])
-
--- the linked file of a unit of two blocks, before TOOLS: its number alone is changed
-abbrev pub linked_two_blocks : List ℕ
-linked_two_blocks =
-    put_at 300 (42 ∷ []) (with_slot Little 1 demo 0 1 18
-    (with_slot Little 7 util 0 2 514 (with_slot Little 8 tools 0 4 5 no_segments)))
-    ++ filled_to 512 (demo_code Little)
-    ++ filled_to 1024 (zeros 512 ++ (7 ∷ 0 ∷ []))
-    ++ filled_to 512 (1 ∷ 2 ∷ 3 ∷ 4 ∷ 5 ∷ [])
 
 -- the linked file of UTIL that names AUX alone: AUX is in slot 8, with the private at 8
 abbrev pub linked_added : List ℕ

@@ -39,10 +39,6 @@ tools = 84 ∷ 79 ∷ 79 ∷ 76 ∷ 83 ∷ 32 ∷ 32 ∷ 32 ∷ []
 abbrev pub count : List ℕ
 count = 67 ∷ 79 ∷ 85 ∷ 78 ∷ 84 ∷ 32 ∷ 32 ∷ 32 ∷ []
 
--- `count` misspelled
-abbrev pub cuont : List ℕ
-cuont = 67 ∷ 85 ∷ 79 ∷ 78 ∷ 84 ∷ 32 ∷ 32 ∷ 32 ∷ []
-
 -- the name of a private variable
 abbrev pub state : List ℕ
 state = 83 ∷ 84 ∷ 65 ∷ 84 ∷ 69 ∷ 32 ∷ 32 ∷ 32 ∷ []
@@ -54,10 +50,6 @@ limit = 76 ∷ 73 ∷ 77 ∷ 73 ∷ 84 ∷ 32 ∷ 32 ∷ 32 ∷ []
 -- a name that nothing has
 abbrev pub nobody : List ℕ
 nobody = 78 ∷ 79 ∷ 66 ∷ 79 ∷ 68 ∷ 89 ∷ 32 ∷ 32 ∷ []
-
--- n zero bytes
-abbrev pub zeros : ℕ → List ℕ
-zeros n = replicate n 0
 
 -- block 0 without any segment: sixteen blank names, and otherwise zeros
 abbrev pub no_segments : List ℕ
@@ -180,10 +172,6 @@ host_in_place order information =
     with_slot order 7 util 3 3 24 (host_in order)
     ++ filled_to 512 (put_at 22 (7 ∷ []) (util_code order)) ++ filled_to 512 information
 
--- the host file, which now wants AUX too, in slot 8
-abbrev pub wanting_aux : List ℕ → List ℕ
-wanting_aux file = with_slot Little 8 aux 3 0 0 file
-
 -- the library with AUX too, in slot 3: this code in block 3 and this link information in block 4
 abbrev pub with_aux : List ℕ → List ℕ → List ℕ → List ℕ
 with_aux code information file = with_slot Little 3 aux 3 3 24 file ++ filled_to 512 code
@@ -193,47 +181,11 @@ with_aux code information file = with_slot Little 3 aux 3 3 24 file ++ filled_to
 abbrev pub aux_code : List ℕ
 aux_code = put_at 22 (3 ∷ []) (util_code Little)
 
--- the library with AUX too, whose link information is that of UTIL
-abbrev pub library_of_two : List ℕ
-library_of_two = with_aux aux_code (util_information Little) library
-
 -- the host with the plain segment TOOLS too, in slot 8, whose five bytes are in block 3
 abbrev pub host_with_tools : List ℕ
 host_with_tools = with_slot Little 8 tools 0 3 5 host ++ (1 ∷ 2 ∷ 3 ∷ 4 ∷ 5 ∷ [])
-
--- a library whose UTIL has 514 bytes and no procedure, with this link information in block 3
-abbrev pub library_of_two_blocks : List ℕ → List ℕ
-library_of_two_blocks information =
-    with_slot Little 2 util 3 1 514 no_segments ++ filled_to 1024 (zeros 512 ++ (2 ∷ 0 ∷ []))
-    ++ filled_to 512 information
 
 -- a library whose UTIL names AUX alone, which has this link information
 abbrev pub library_of_used : List ℕ → List ℕ
 library_of_used information = with_aux aux_code information
     (library_with Little (unit_ref Little aux (2 ∷ []) ++ eof_mark Little 0))
-
--- the library with AUX too, which names itself alone, as nothing else does
-abbrev pub library_naming_itself : List ℕ
-library_naming_itself = with_aux aux_code
-    (unit_ref Little aux (2 ∷ []) ++ eof_mark Little 0) library
-
--- the library of a used unit, big-endian
-abbrev pub library_of_used_big : List ℕ
-library_of_used_big =
-    with_slot Big 3 aux 3 3 24 (library_with Big (unit_ref Big aux (2 ∷ []) ++ eof_mark Big 0))
-    ++ filled_to 512 (put_at 22 (3 ∷ []) (util_code Big))
-    ++ filled_to 512 (util_information Big)
-
--- the library file, the code of whose UTIL has an odd length
-abbrev pub with_odd_util : List ℕ → List ℕ
-with_odd_util file = put_at 10 (23 ∷ []) file
-
--- the library file, the code of whose AUX has an odd length
-abbrev pub with_odd_aux : List ℕ → List ℕ
-with_odd_aux file = put_at 14 (23 ∷ []) file
-
--- a library of AUX, whose UTIL names NOBODY and then AUX
-abbrev pub library_naming_two : List ℕ
-library_naming_two = with_aux aux_code (util_information Little)
-    (library_with Little (unit_ref Little nobody [] ++ unit_ref Little aux (2 ∷ [])
-    ++ eof_mark Little 0))

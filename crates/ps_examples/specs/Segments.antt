@@ -1,12 +1,12 @@
 -- The segments of the host and the library, as they were read.
 -- Source: this project's examples.
-use Rattle.std.specs.Prelude.{List, [], ◌∷◌, ◌++◌, false, true, None}
+use Rattle.std.specs.Prelude.{List, [], ◌∷◌, false, true, None}
 use Rattle.ps_codefile.specs.declared.entry.Role.TheVariants.{Host, Wanted, Plain}
-use Rattle.ps_linkinfo.specs.declared.record.Body.TheVariants.{UnitRef, PublRef, PrivRef, PublDef, ConstDef, Eof}
+use Rattle.ps_linkinfo.specs.declared.record.Body.TheVariants.{UnitRef, PublRef, PrivRef, PublDef, Eof}
 use Rattle.ps_linkinfo.specs.declared.record.LinkRecord.{LinkRecord as Record}
 use Rattle.ps_resolve.specs.Sources.{Segment, tables_of}
 use Rattle.ps_resolve.specs.LinkedBytes.{segments_of}
-use Rattle.ps_examples.specs.Files.{host, library, library_with, library_of_two, library_of_used, host_with_tools, wanting_aux, put_at, blank_name, demo, util, aux, tools, count, state, nobody, demo_code, util_code, aux_code, priv_ref, eof_mark, util_information}
+use Rattle.ps_examples.specs.Files.{host, library, library_of_used, host_with_tools, blank_name, demo, util, aux, tools, count, state, nobody, demo_code, util_code, aux_code, util_information}
 use Rattle.ps_words.specs.declared.order.Order.TheVariants.{Little}
 
 -- a PUBLREF of COUNT with an operand at 1; UTIL has it, and the two records below
@@ -83,27 +83,9 @@ aux_segment = record {
 abbrev pub self_segment : Segment
 self_segment = record aux_segment { records = aux_reference ∷ [] }
 
--- UTIL that references itself
-abbrev pub again_segment : Segment
-again_segment = record util_segment {
-  records =
-      record { name = util; body = UnitRef (2 ∷ []) } ∷ [];
-}
-
 -- AUX under a name that no record requests
 abbrev pub nobody_segment : Segment
 nobody_segment = record aux_segment { name = nobody }
-
--- AUX that references TOOLS
-abbrev pub naming_segment : Segment
-naming_segment = record aux_segment {
-  records =
-      record { name = tools; body = UnitRef (2 ∷ []) } ∷ end_mark ∷ [];
-}
-
--- TOOLS, added in slot 9 because AUX references it
-abbrev pub named_segment : Segment
-named_segment = record aux_segment { slot = 9; name = tools }
 
 -- a unit of the name COUNT
 abbrev pub count_segment : Segment
@@ -132,54 +114,6 @@ tools_segment = record {
 abbrev pub with_plain : List Segment
 with_plain = segments_of host_with_tools (library ∷ [])
 
--- the segments of a host whose unit has two privates of four words
-abbrev pub with_two_privates : List Segment
-with_two_privates = segments_of host (library_with Little
-    (priv_ref Little state 4 [] ++ priv_ref Little nobody 4 (4 ∷ []) ++ eof_mark Little 0) ∷ [])
-
--- the segments of a host that wants two units with a private each
-abbrev pub with_two_units : List Segment
-with_two_units = segments_of (wanting_aux host) (library_of_two ∷ [])
-
--- UTIL with an operand at 1 whose displacement is 256
-abbrev pub displaced_segment : Segment
-displaced_segment = record util_segment { code = put_at 1 (129 ∷ []) (util_code Little) }
-
--- UTIL with two records whose operands overlap at 2
-abbrev pub meeting_segment : Segment
-meeting_segment = record util_segment { records = count_reference ∷ aux_reference ∷ [] }
-
--- UTIL with one record, two operands of which overlap
-abbrev pub twice_segment : Segment
-twice_segment = record util_segment {
-  records =
-      record { name = count; body = PublRef (1 ∷ 2 ∷ []) } ∷ [];
-}
-
--- UTIL with an operand at its segment number
-abbrev pub numbered_segment : Segment
-numbered_segment = record util_segment {
-  records =
-      record { name = aux; body = UnitRef (22 ∷ []) } ∷ [];
-}
-
--- the host segment with an operand at its data size
-abbrev pub sized_segment : Segment
-sized_segment = record demo_segment {
-  records =
-      record { name = count; body = PublRef (4 ∷ []) } ∷ [];
-}
-
 -- AUX past the slot that is empty
 abbrev pub past_segment : Segment
 past_segment = record aux_segment { slot = 9 }
-
--- the host segment with COUNT as a constant
-abbrev pub with_constant : List Segment
-with_constant = record demo_segment { records = record { name = count; body = ConstDef 3 } ∷ [] }
-    ∷ []
-
--- UTIL with a definition of STATE, which nothing uses
-abbrev pub with_unused : List Segment
-with_unused = demo_segment ∷ record util_segment
-    { records = record { name = state; body = PublDef 9 } ∷ [] } ∷ []

@@ -2,7 +2,7 @@ ghost use Rattle.std.specs.Prelude.{◌≡◌, ℕ, List, [], ◌∷◌, None, t
 ghost use Rattle.ps_codefile.specs.Dictionary.{entry_at};
 ghost use Rattle.ps_codefile.specs.declared.entry.Role.TheVariants as role;
 ghost use Rattle.ps_examples.specs.Files.{host, library, host_with_tools, put_at, with_slot, blank_name, util, aux, util_code, host_without_7, library_of_the_last, library_past_the_last};
-ghost use Rattle.ps_examples.specs.Segments.{demo_segment, util_segment, using_segment, aux_segment, self_segment, count_segment, past_segment, tools_segment, nobody_segment, naming_segment, named_segment, count_reference, pair, three, with_plain};
+ghost use Rattle.ps_examples.specs.Segments.{demo_segment, util_segment, using_segment, aux_segment, self_segment, count_segment, past_segment, tools_segment, nobody_segment, count_reference, pair, three, with_plain};
 ghost use Rattle.ps_resolve.specs.Origins.{HasOne, IsOwn, IsAddedUnit, IsFile, IsInPlace, IsUnitOf, IsSliceOf, IsReadFrom};
 ghost use Rattle.ps_resolve.specs.Sources.{Segment};
 ghost use Rattle.ps_words.specs.declared.order.Order.TheVariants.{Little};
@@ -20,18 +20,8 @@ pub fn origins_of_segments()
     ensures a_host_segment_is_own { IsOwn Little host demo_segment }
     ensures a_wanted_unit_is_own { IsOwn Little host util_segment }
     ensures an_added_unit { IsAddedUnit Little host three aux_segment }
-    ensures a_unit_that_an_added_one_names { IsAddedUnit Little host
-        (using_segment ∷ naming_segment ∷ named_segment ∷ []) named_segment }
-    ensures an_added_unit_in_slot_7 { IsAddedUnit Little host_without_7
-        ((record using_segment { slot = 9 }) ∷ (record aux_segment { slot = 7 }) ∷ [])
-        (record aux_segment { slot = 7 }) }
     ensures in_place { IsInPlace demo_segment }
     ensures in_the_library { IsUnitOf Little host (library ∷ []) util 1 2 }
-    ensures in_the_second { IsUnitOf Little host (put_at 80 aux library ∷ library ∷ []) util 2 2 }
-    ensures in_the_library_and_in_the_host { IsUnitOf Little
-        (with_slot Little 8 util 0 1 18 host) (library ∷ []) util 1 2 }
-    ensures the_only_one_of_sixteen { IsUnitOf Little
-        host (put_at 200 util library ∷ []) util 1 2 }
     ensures in_the_last_entry { IsUnitOf Little host (library_of_the_last ∷ []) util 1 15 }
     ensures its_slice { IsSliceOf library (entry_at Little library 2) (util_code Little) }
     ensures read_from_the_host { IsReadFrom Little host (library ∷ []) demo_segment }

@@ -1,5 +1,4 @@
 -- What a link takes or looks at of its libraries: the entries of the names that it looks for.
--- Source: this project's profile.
 use Rattle.std.specs.Prelude.{◌≡◌, ℕ, ◌+◌, ◌≤◌, List, [], ◌∷◌, ⊤}
 use Rattle.std.specs.Result.{result_err}
 use Rattle.ps_codefile.specs.Dictionary.{opened_beside}

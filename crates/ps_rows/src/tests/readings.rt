@@ -24,6 +24,17 @@ slot 8 is requested by file 1 slot 7 record 0; slot 8 has MissingUnit; segments 
 a unit that was read after a fault | slot 1 length 17 | records 2; EOFMARK next 0 \
 | slot 1 has BadLength; slot 7 wants a unit; slot 7 has file 1 entry 2; segments 1 \
 | refused 11 BadLength file 0 slot 1
+a refused unit that names another one | - | slot 2 length 23 | slot 1 has file 0 entry 1; \
+slot 7 wants a unit; slot 7 has BadLength; segments 1 | refused 11 BadLength file 1 slot 7
+an added unit that is refused | - | slot 3 length 23 | slot 1 has file 0 entry 1; \
+slot 7 wants a unit; slot 7 has file 1 entry 2; \
+slot 8 is requested by file 1 slot 7 record 0; slot 8 has BadLength; segments 2 \
+| refused 11 BadLength file 1 slot 8
+a name after one that is missing | - | records 2; UNITREF NOBODY at; UNITREF AUX at 2; \
+EOFMARK next 0 | slot 1 has file 0 entry 1; slot 7 wants a unit; slot 7 has file 1 entry 2; \
+slot 8 is requested by file 1 slot 7 record 0; slot 8 has MissingUnit; \
+slot 9 is requested by file 1 slot 7 record 1; segments 2 \
+| refused 13 MissingUnit file 1 slot 7 record 0
 a library that cannot be opened | - | size 511 | slot 1 has file 0 entry 1; \
 slot 7 wants a unit; slot 7 has MissingUnit; segments 1 | refused 1 ShortFile file 1
 a slot with nothing in it | slot 7 name - kind 0 address 0 length 0 | - \
@@ -32,6 +43,22 @@ a host of no bytes | size 0 | - | segments 0 | refused 1 ShortFile file 0";
 
 const BIG_ROW: &str = "a big-endian host and its library | - | - | slot 1 has file 0 entry 1; \
 slot 7 wants a unit; slot 7 has file 1 entry 2; segments 2 | no fault";
+
+/// The same of a host that wants two units.
+static ROWS_OF_TWO: &str =
+    "a slot after one that is refused | - | slot 2 length 23 | slot 1 has file 0 entry 1; \
+slot 7 wants a unit; slot 7 has BadLength; slot 8 wants a unit; slot 8 has file 1 entry 3; \
+segments 2 | refused 11 BadLength file 1 slot 7
+two slots that are refused | - | slot 2 length 23; slot 3 length 23 \
+| slot 1 has file 0 entry 1; slot 7 wants a unit; slot 7 has BadLength; slot 8 wants a unit; \
+slot 8 has BadLength; segments 1 | refused 11 BadLength file 1 slot 7
+no host segment | slot 1 name - kind 0 address 0 length 0 | - \
+| slot 7 wants a unit; slot 7 has file 1 entry 2; slot 8 wants a unit; \
+slot 8 has file 1 entry 3; segments 2 | refused 4 NoHost file 0";
+
+const ROW_OF_TWO_LIBRARIES: &str = "a library after one that cannot be opened | - | size 511 \
+| slot 1 has file 0 entry 1; slot 7 wants a unit; slot 7 has file 2 entry 2; segments 2 \
+| refused 1 ShortFile file 1";
 
 /// Adds who requests the unit of a slot.
 fn add_request(line: &mut Line, host: &HostReading, slot: u8)
@@ -118,5 +145,13 @@ impl<'a> Row for ReadingRows<'a> {
 #[test]
 fn each_slot_is_read(rt: HostRuntime) {
     check_all(&rt, &ReadingRows { files: "used-unit" }, ROWS);
-    check_all(&rt, &ReadingRows { files: "big pair" }, BIG_ROW)
+    check_all(&rt, &ReadingRows { files: "big pair" }, BIG_ROW);
+    check_all(&rt, &ReadingRows { files: "two-units" }, ROWS_OF_TWO);
+    check_all(
+        &rt,
+        &ReadingRows {
+            files: "before-another",
+        },
+        ROW_OF_TWO_LIBRARIES,
+    )
 }

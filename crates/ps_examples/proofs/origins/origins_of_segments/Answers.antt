@@ -1,10 +1,9 @@
-use Rattle.ps_examples.proofs.Vocabulary.{ℕ, List, [], ◌∷◌, refl, arith, leb-true, ltb-true, host, library, host_with_tools, library_of_the_last, library_of_used, put_at, with_slot, util, aux, util_information, demo_segment, util_segment, AreOwn, AreRead, Little}
+use Rattle.ps_examples.proofs.Vocabulary.{ℕ, List, [], ◌∷◌, refl, arith, leb-true, ltb-true, host, library, host_with_tools, library_of_the_last, library_of_used, util_information, demo_segment, util_segment, AreOwn, AreRead, Little}
 use Rattle.ps_resolve.specs.Sources.{own_segments}
 use Rattle.ps_resolve.specs.Added.{empty_slots, rounds, segments}
 use Rattle.ps_resolve.specs.Faults.{slots_fault, no_host_fault, libraries_fault, sources_fault, linking_fault, definitions_fault, privates_fault, data_fault, references_fault}
 use Rattle.ps_resolve.specs.AllFaults.{first_fault, reading_fault}
-use Rattle.ps_examples.proofs.NotWholeLinks.{filled}
-use Rattle.ps_examples.proofs.SegmentOrigins.{the_only_one_of_sixteen, a_unit_that_an_added_one_names, an_added_unit_in_slot_7}
+use Rattle.ps_examples.proofs.NotOrigins.{filled}
 use Rattle.ps_examples.proofs.origins.origins_of_segments.Goals as goal
 
 -- most are what the law says of one segment of a link in which no fault applies
@@ -22,8 +21,6 @@ returns c =
     let read : AreRead host (library ∷ []) (demo_segment ∷ util_segment ∷ []) =
     law.read host (library ∷ []) of_pair in
     let of_last = fine host (library_of_the_last ∷ []) refl in
-    let two : List (List ℕ) = put_at 80 aux library ∷ library ∷ [] in
-    let with_util : List ℕ = with_slot Little 8 util 0 1 18 host in
     record {
       an_added_unit_s_segments = refl;
       a_plain_segment_s = refl;
@@ -34,16 +31,9 @@ returns c =
       a_wanted_unit_is_own = own 1 demo_segment (omega arith) refl;
       an_added_unit = law.added host used (fine host used refl) 2 demo_segment
           (ltb-true 2 3 refl) refl;
-      a_unit_that_an_added_one_names = a_unit_that_an_added_one_names;
-      an_added_unit_in_slot_7 = an_added_unit_in_slot_7;
       in_place = (refl, refl);
       in_the_library = law.wanted host (library ∷ []) of_pair 1 demo_segment
           (ltb-true 1 2 refl) refl;
-      in_the_second = law.wanted host two (fine host two refl) 1 demo_segment
-          (ltb-true 1 2 refl) refl;
-      in_the_library_and_in_the_host = law.wanted with_util (library ∷ [])
-          (fine with_util (library ∷ []) refl) 1 demo_segment (ltb-true 1 3 refl) refl;
-      the_only_one_of_sixteen = the_only_one_of_sixteen;
       in_the_last_entry = law.wanted host (library_of_the_last ∷ []) of_last 1 demo_segment
           (ltb-true 1 2 refl) refl;
       its_slice = (leb-true 536 1536 refl, refl);

@@ -1,6 +1,6 @@
 use Rattle.ps_examples.proofs.Vocabulary.{◌≡◌, ℕ, ◌<◌, ◌≤◌, List, [], ◌∷◌, Ok, true, refl, sym, ap, subst, inr, arith, slice_index, take, entry_at, is_filled, code_of, host, library, put_at, with_slot, util, aux, util_code, information_block, IsNamed, count_reference, aux_segment, tools_segment, false≢true, Little}
 use Rattle.ps_codefile.specs.declared.entry.Role.TheVariants as role
-use Rattle.ps_examples.proofs.NotLinked.{same, util_aux}
+use Rattle.ps_examples.proofs.NotOrigins.{same, util_aux}
 use Rattle.ps_examples.proofs.NotOrigins.{a_slot_without_one, not_past_an_empty_slot, not_past_slot_7, not_requested_by_itself_alone, not_requested_by_another_name, not_requested_by_a_publ_ref, not_in_a_file_that_is_not_there, not_without_its_records, role_is, refused, unaddressed}
 use Rattle.ps_examples.proofs.origins.segments_of_no_link.Goals as goal
 

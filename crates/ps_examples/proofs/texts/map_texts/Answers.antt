@@ -10,7 +10,5 @@ unfolding map_of own_segments empty_slots rounds segments digits
 returns c = record {
   a_host_and_its_library = refl;
   a_constant_after_the_public_variable = refl;
-  a_unit_in_place = refl;
-  two_units_of_one_library = refl;
   a_unit_that_only_a_unit_names = refl;
 }

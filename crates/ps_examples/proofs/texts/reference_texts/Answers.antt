@@ -9,6 +9,4 @@ pub returns : goal.returns
 unfolding references_of all_stored_of own_segments empty_slots rounds segments digits
 returns c = record {
   a_host_and_its_library = refl;
-  a_unit_that_names_itself = refl;
-  nothing_in_a_plain_segment = refl;
 }
