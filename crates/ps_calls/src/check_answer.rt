@@ -34,7 +34,7 @@ pub struct CheckAnswer {
 impl CheckAnswer {
     ghost use Rattle.ps_calls.specs.CheckAnswers.{bare_check, check_answer_of};
 
-    /// This status, also as that of the verdict, and 0 in every other field.
+    /// The answer with this status, also as that of the verdict, and 0 in every other field.
     fn bare(status: u32) -> CheckAnswer
         ensures { result ≡ bare_check status }
     {

@@ -97,7 +97,7 @@ pub fn put_fault(fault: Fault, room: &mut [u8]) -> usize
     ensures short { length room.old < result → room.new ≡ room.old }
 {
     let text = text_of(fault);
-    // Where it does not fit, nothing is put.
+    // Nothing is put where the text does not fit.
     let _ = put(text.as_bytes(), room);
     text.len()
 }

@@ -74,7 +74,7 @@ pub(crate) fn are_utf8(names: &[u8], lengths: &[usize]) -> bool
     true
 }
 
-/// These names as text, one for one.
+/// The names as texts, one for one.
 fn texts<'a>(alloc: Global, names: &[&'a [u8]]) -> Result<Vec<&'a str>, Unnamed>
     ensures same { IfOk result (λ texts. contents texts.items ≡ contents names.now) }
     ensures utf8 { IfOk result (λ _. All IsUtf8 (contents names.now)) }

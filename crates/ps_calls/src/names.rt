@@ -58,7 +58,7 @@ fn put_closed(text: &str, room: &mut [u8]) -> usize
         closed.push_str(text);
         closed.push_str("\0");
     }
-    // Where it does not fit, nothing is put.
+    // Nothing is put where the name does not fit.
     let _ = put(closed.as_bytes(), room);
     closed.len()
 }

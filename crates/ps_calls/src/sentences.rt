@@ -24,7 +24,7 @@ fn put_sentences(text: &str, room: &mut [u8]) -> usize
         closed.push_str(text);
         closed.push_str("\0");
     }
-    // Where they do not fit, nothing is put.
+    // Nothing is put where the sentences do not fit.
     let _ = put(closed.as_bytes(), room);
     closed.len()
 }

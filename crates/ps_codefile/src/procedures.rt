@@ -45,9 +45,9 @@ impl<'a> Model for ProcedureDictionary<'a> {
 /// The procedure tables at the end of a segment's code: the procedure dictionary, and the
 /// attribute table of each procedure.
 ///
-/// It borrows the code and copies none of it but the words of the procedure dictionary, which are
-/// read once. The place of an attribute table follows from its word. The layout is that of the
-/// UCSD Pascal II.0 manual; that the tables' places are reserved is this project's profile.
+/// A `Procs` borrows the code and copies none of it but the words of the procedure dictionary,
+/// which are read once. The place of an attribute table follows from its word. The layout is that
+/// of the UCSD Pascal II.0 manual; that the tables' places are reserved is this project's profile.
 #[derive(Drop)]
 pub struct Procs<'a> {
     order: Order,

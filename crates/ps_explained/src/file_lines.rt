@@ -13,7 +13,7 @@ use ps_words::BLOCK_SIZE;
 use std::alloc::{AllocError, Allocator};
 use std::fmt::{self, Formatter, Write as _};
 
-/// That a length is no multiple of a block, where it is none.
+/// The words for a length that is no multiple of a block; none for another.
 fn uneven(size: usize) -> &'static str
     ensures { result.now ≡ uneven_words size }
 {

@@ -19,7 +19,7 @@ pub enum ByteOrder {
     NotOpened(FileType),
 }
 
-/// That of a file that cannot be opened for this reason.
+/// The byte order of a file that cannot be opened for this reason.
 fn unopened(file: &[u8], reason: Reason) -> ByteOrder
     requires { opened_alone file.now ≡ Err reason }
     ensures { IsByteOrder file.now result }
@@ -32,7 +32,7 @@ fn unopened(file: &[u8], reason: Reason) -> ByteOrder
 }
 
 impl ByteOrder {
-    /// That of a whole file.
+    /// The byte order of a whole file.
     pub fn of(file: &[u8]) -> ByteOrder
         ensures { IsByteOrder file.now result }
     {

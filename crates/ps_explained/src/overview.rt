@@ -474,7 +474,7 @@ fn entry_in(inputs: &NamedFiles<'_>, name: &Name, file: usize) -> Option<u8> {
     None
 }
 
-/// So many libraries besides one that is named.
+/// How many libraries there are besides one that is named.
 #[derive(Clone, Copy)]
 struct More(usize);
 

@@ -17,13 +17,13 @@ use ps_words::{Name, Order, Reason, WORD_LEN, get};
 /// What a code file is for, by the kinds of its segments.
 #[derive(Clone, Copy)]
 pub enum CodeFile {
-    /// It has a host program.
+    /// A code file that has a host program.
     Host,
-    /// It has units, and no linked segment.
+    /// A code file that has units, and no linked segment.
     Library,
-    /// All of its segments are linked.
+    /// A code file whose segments are all linked.
     Linked,
-    /// It has linked segments and others, and no host program.
+    /// A code file that has linked segments and others, and no host program.
     Mixed,
 }
 
@@ -204,10 +204,10 @@ pub(crate) fn code_file_of(bytes: &[u8]) -> Option<CodeFile>
 
 /// The file is a code file as it ought to be.
 ///
-/// Its entries say what it is for, as for [`CodeFile::of`]; it is no file of release III.0 or IV.0,
-/// it is not one byte throughout, and its bytes are not exchanged in pairs: so are those of a file
-/// of which each code that is to be linked has its numbers right where they are exchanged, and not
-/// as they are.
+/// The entries of the file say what it is for, as for [`CodeFile::of`]; it is no file of release
+/// III.0 or IV.0, it is not one byte throughout, and its bytes are not exchanged in pairs. The
+/// bytes of a file are exchanged where each code that is to be linked has its numbers right if they
+/// are exchanged back, and not as they are.
 #[tactic(auto, unfolding(crate::specs::CodeTypes::is_code_type))]
 pub fn is_code_type(bytes: &[u8]) -> bool
     ensures { result ≡ is_code_type_spec bytes.now }
@@ -389,7 +389,7 @@ fn ends_with_dictionary(order: Order, code: &[u8]) -> bool
         && has_numbers(order, code, code[code.len() - 1], 0)
 }
 
-/// So does that of a slot.
+/// The code of a slot ends with a procedure dictionary.
 fn has_dictionary(dict: &Dict<'_>, slot: u8) -> bool
     requires { slot < SLOTS }
 {

@@ -44,7 +44,7 @@ pub enum FileType {
     Empty,
     /// A file that is one byte throughout.
     OneByte { byte: u8 },
-    /// Its line ends were converted, so that its dictionary can't be read.
+    /// A file whose line ends were converted, so that its dictionary can't be read.
     Converted(LineEnds),
     Unknown,
 }

@@ -28,15 +28,15 @@ const VOLUME_NAME: usize = 6;
 /// Source: Apple II disk images as emulators keep them; DiskCopy 4.2 of Apple.
 #[derive(Clone, Copy)]
 pub enum Image {
-    /// Its blocks follow one another.
+    /// The blocks of the image follow one another.
     Blocks,
-    /// Its sectors stand in the order of DOS 3.3.
+    /// The sectors of the image stand in the order of DOS 3.3.
     DosOrder,
     /// The blocks, or the sectors, are behind the header of the form 2IMG.
     TwoImg,
     /// The blocks are behind the header of DiskCopy 4.2.
     DiskCopy,
-    /// Its bytes are those that are on the disk.
+    /// The bytes of the image are those that are on the disk.
     Nibbles,
 }
 

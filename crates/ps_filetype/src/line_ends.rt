@@ -4,13 +4,13 @@ ghost use Rattle.ps_filetype.specs.TypeWords.{line_end_words};
 
 use std::fmt::{self, Formatter};
 
-/// So many line feeds or carriage returns are no chance.
+/// How many line feeds or carriage returns cannot be there by chance.
 const MANY: usize = 3;
 
-/// So many carriage returns and no line feed are no chance.
+/// How many carriage returns cannot be there by chance, where there is no line feed.
 const MANY_RETURNS: usize = 8;
 
-/// So many line feeds and no carriage return are no chance.
+/// How many line feeds cannot be there by chance, where there is no carriage return.
 const MANY_FEEDS: usize = 16;
 
 /// How the bytes 0A and 0D of a file stand as if they were the ends of lines.
@@ -24,7 +24,7 @@ pub enum LineEnds {
     Feeds,
 }
 
-/// So many bytes are counted at once: few enough that their number is a byte.
+/// How many bytes are counted at once: few enough that their number is a byte.
 const COUNTED: usize = 128;
 
 /// How many of at most 255 bytes are this one.

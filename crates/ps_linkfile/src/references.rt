@@ -24,7 +24,7 @@ use ps_writing::{Form, Text, TextWriter, add_by_form, add_part, by_form, separat
 use std::alloc::{Allocator, Global};
 use std::marker::Model;
 
-/// So many bytes of a code from a place on, or those that are there.
+/// The bytes of a code from a place on, `width` of them, or those that are there.
 fn bytes_at(code: &[u8], place: usize, width: usize) -> &[u8]
     ensures { result.now ≡ bytes_at_spec code.now place width }
 {
@@ -203,8 +203,8 @@ impl<A: Allocator + Copy> Text for References<'_, '_, A> {
 /// bytes there before and after the link, and for an operand the kind, the name and the index of
 /// the record whose reference it is, from 0.
 ///
-/// It takes the memory of a link, and for each segment whose references are resolved one byte and
-/// at most 32 more for each byte of its code.
+/// The call takes the memory of a link, and for each segment whose references are resolved one byte
+/// and at most 32 more for each byte of its code.
 ///
 /// `host` and each of `libs` are whole code files; of the libraries that have a unit, the first is
 /// used. Refuses what `prepare` refuses: `Refused` with the first fault of all, and `Memory` where

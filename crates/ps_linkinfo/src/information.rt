@@ -24,8 +24,8 @@ pub struct ReadFault {
 /// Link information that was read whole: its records up to the EOFMARK, which is included, and
 /// their counts. Contracts see it as the list of its records.
 ///
-/// It borrows the bytes and takes no memory. A segment whose link information is not read has
-/// [`none`](LinkInformation::none).
+/// A `LinkInformation` borrows the bytes and takes no memory. A segment whose link information is
+/// not read has [`none`](LinkInformation::none).
 ///
 /// Source: the published II.0 Linker source.
 #[derive(Drop)]
@@ -96,8 +96,8 @@ impl<'a> LinkInformation<'a> {
     ///   is not its own: 1, BYTE, of a UNITREF, 2, BIG, of a PUBLREF and a PRIVREF;
     /// - `RecordsTruncated` where its list is not whole.
     ///
-    /// It takes no memory. Source: the published II.0 Linker source; the reasons and the pieces of
-    /// a list are this project's profile.
+    /// The reading takes no memory. Source: the published II.0 Linker source; the reasons and the
+    /// pieces of a list are this project's profile.
     pub fn read(order: Order, bytes: &'a [u8]) -> Result<Self, ReadFault>
         ensures read { IfOk result (λ records. reading order bytes.now ≡ (records, None)) }
         ensures rec { IfErr result (λ fault. fault.rec ≡ length (reading order bytes.now).0) }

@@ -52,7 +52,7 @@ impl Kind {
         }
     }
 
-    /// Whether it defines a public variable of the host.
+    /// Whether a record of this kind defines a public variable of the host.
     /// Source: the published II.0 Linker source.
     pub fn defines_variable(self) -> bool
         ensures { result ≡ defines_variable_spec self }
@@ -63,7 +63,7 @@ impl Kind {
         }
     }
 
-    /// Whether it defines a name of the host: a public variable or a constant.
+    /// Whether a record of this kind defines a name of the host: a public variable or a constant.
     /// Source: the published II.0 Linker source.
     pub fn defines_name(self) -> bool
         ensures { result ≡ defines_name_spec self }
@@ -74,7 +74,7 @@ impl Kind {
         }
     }
 
-    /// Whether it requests a private variable, which is allotted.
+    /// Whether a record of this kind requests a private variable, which is allotted.
     /// Source: the published II.0 Linker source.
     #[inline(always)]
     pub fn requests_private(self) -> bool
@@ -86,7 +86,7 @@ impl Kind {
         }
     }
 
-    /// Whether it requests a public variable.
+    /// Whether a record of this kind requests a public variable.
     /// Source: the published II.0 Linker source.
     pub fn requests_public(self) -> bool
         ensures { result ≡ requests_public_spec self }
@@ -97,7 +97,7 @@ impl Kind {
         }
     }
 
-    /// Whether it requests a unit.
+    /// Whether a record of this kind requests a unit.
     /// Source: the published II.0 Linker source.
     #[inline(always)]
     pub fn requests_unit(self) -> bool

@@ -12,8 +12,8 @@ use std::marker::Model;
 /// The records of [`LinkInformation`](crate::LinkInformation) one by one, each with its index from
 /// 0, up to and with the EOFMARK. Contracts see it as the list of the pairs that are left.
 ///
-/// It takes no memory, and walks by [`Records`](crate::Records): a fault after the records is not
-/// given.
+/// The walk takes no memory, and is that of [`Records`](crate::Records): a fault after the records
+/// is not given.
 #[derive(Drop)]
 pub struct NumberedRecords<'a> {
     records: Records<'a>,

@@ -48,7 +48,7 @@ impl<'a> Body<'a> {
 pub struct LinkRecord<'a> {
     /// The name of the record, padded with blanks. That of an EOFMARK means nothing.
     pub name: Name,
-    /// What it says.
+    /// What the record says.
     pub body: Body<'a>,
 }
 
@@ -65,7 +65,7 @@ impl LinkRecord<'_> {
         RECORD_LEN + list_len(self.references())
     }
 
-    /// Whether it is an EOFMARK, which ends the link information.
+    /// Whether the record is an EOFMARK, which ends the link information.
     /// Source: the published II.0 Linker source.
     #[inline(always)]
     pub fn is_eof(&self) -> bool
@@ -74,7 +74,7 @@ impl LinkRecord<'_> {
         matches!(self.body, Body::Eof(_))
     }
 
-    /// Whether its name is that of a definition or of a private.
+    /// Whether the name of the record is that of a definition or of a private.
     pub(crate) fn declares_name(&self) -> bool
         ensures { result ≡ declares_name_spec self.now }
     {

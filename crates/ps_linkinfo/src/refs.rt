@@ -73,7 +73,7 @@ impl<'a> Refs<'a> {
         self.bytes.len() / WORD_LEN
     }
 
-    /// Whether there are none.
+    /// Whether the list has no reference.
     /// Source: the published II.0 Linker source.
     pub fn is_empty(&self) -> bool
         ensures { IsTrue result ↔ (self.now ≡ []) }

@@ -18,7 +18,7 @@ use ps_writing::{Form, TextWriter, add_by_form};
 struct FileValues {
     size: Option<usize>,
     order: Option<Order>,
-    /// What it is for, where it was opened.
+    /// What the file is for, where it was opened.
     purpose: Option<Option<CodeFile>>,
     fault: Option<Fault>,
 }

@@ -44,10 +44,10 @@ fn units_in<A: Allocator + Copy>(
 pub struct ListedFile<'a, A: Allocator = Global> {
     how: ListForm,
     path: &'a str,
-    /// What it is, where it is no code file as it ought to be.
+    /// What the file is, where it is no code file as it ought to be.
     phrase: String<A>,
     file: &'a [u8],
-    /// Its units by themselves, where they are listed.
+    /// The units of the file by themselves, where they are listed.
     units: Vec<LoneUnit, A>,
 }
 
@@ -165,7 +165,7 @@ impl<'a, A: Allocator + Copy> ListedFile<'a, A> {
 /// Source: UCSD Pascal II.0 manual, code file format; RFC 8259; the text is this project's profile.
 #[derive(Drop)]
 pub struct ListItem<'l, 'a, A: Allocator + Copy = Global> {
-    /// It is the first of the list.
+    /// The item is the first of the list.
     pub first: bool,
     /// The file.
     pub listed: &'l ListedFile<'a, A>,
@@ -183,7 +183,7 @@ impl<A: Allocator + Copy> Text for ListItem<'_, '_, A> {
 /// `null`, and it has no segments.
 #[derive(Drop)]
 pub struct UnreadItem<'a> {
-    /// It is the first of the list.
+    /// The item is the first of the list.
     pub first: bool,
     /// The path.
     pub path: &'a str,

@@ -23,9 +23,9 @@ use std::alloc::{AllocError, Allocator};
 pub struct LoneUnit {
     /// The slot of its entry in the segment dictionary, 0 to 15.
     pub slot: u8,
-    /// Its name, eight bytes.
+    /// The name of the unit, eight bytes.
     pub name: Name,
-    /// Its first fault by itself; `None` where it has none.
+    /// The first fault of the unit by itself; `None` where it has none.
     pub fault: Option<Fault>,
 }
 

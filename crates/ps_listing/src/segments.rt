@@ -24,11 +24,11 @@ pub(crate) struct ListedSegment<'a> {
     slot: u8,
     name: Name,
     kind: u16,
-    /// What it is; `None` where its kind is refused.
+    /// What the segment is; `None` where its kind is refused.
     role: Option<Role>,
     /// The length of its code; `None` where the file has none.
     length: Option<usize>,
-    /// Its records, or its first fault by itself.
+    /// The records of the segment, or its first fault by itself.
     found: Result<LinkInformation<'a>, Fault>,
 }
 

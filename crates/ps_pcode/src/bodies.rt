@@ -22,9 +22,11 @@ pub(crate) struct Body<'c> {
 /// Where a jump leads to.
 #[derive(Clone, Copy)]
 pub(crate) enum Target {
-    /// So many bytes after the place where the procedure is entered, by the jump's operand alone.
+    /// A place by the jump's operand alone: how many bytes it is after that where the procedure is
+    /// entered.
     Short(usize),
-    /// So many bytes after that place, by a word of the jump table.
+    /// A place by a word of the jump table: how many bytes it is after that where the procedure is
+    /// entered.
     ByTable(usize),
     /// No place that the procedure has.
     Outside,

@@ -6,7 +6,7 @@ use crate::tables::procedures_of;
 use crate::walks::Walk;
 use ps_words::Order;
 
-/// So many other long procedures that keep to a rule are no chance.
+/// How many other long procedures cannot keep to a rule by chance.
 const MANY: usize = 8;
 
 /// Procedures of so many bytes and more say what a compiler writes. The bytes of a procedure are those

@@ -5,8 +5,8 @@ const BITS: usize = 64;
 
 const WORDS: usize = 128;
 
-/// So many places a set may have, in bytes from where a procedure is entered. A procedure is shorter: a
-/// compiler's buffer has some 1300 bytes.
+/// How many places a set may have, in bytes from where a procedure is entered. A procedure is
+/// shorter: a compiler's buffer has some 1300 bytes.
 pub(crate) const MOST: usize = BITS * WORDS;
 
 /// Some of the first places of a procedure, each a bit.

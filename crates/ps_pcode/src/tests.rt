@@ -4,7 +4,7 @@ use ps_words::Order;
 use std::alloc::{AllocError, Allocator};
 use std::test::Fail;
 
-/// So many NOP make a procedure long, and so few leave it short.
+/// How many instructions NOP make a procedure long, and how many leave it short.
 const MANY: usize = 36;
 
 const FEW: usize = 4;

@@ -24,7 +24,7 @@ pub(crate) struct Walk {
     first_case: Option<usize>,
     /// The place was reached where the procedure is left.
     is_left: bool,
-    /// Its return was reached.
+    /// The return of the procedure was reached.
     is_whole: bool,
     stack: Stack,
     /// The first place where the evaluation stack has too much or too little.

@@ -10,14 +10,14 @@ use ps_words::{Fault, Reason};
 pub struct SegmentAt {
     /// The file that it comes from: 0 is the host file, k the k-th library, from 1.
     pub file: usize,
-    /// Its slot in the host's segment dictionary, 0 to 15.
+    /// The slot of the segment in the host's segment dictionary, 0 to 15.
     pub slot: u8,
 }
 
 /// Where a record is.
 #[derive(Clone, Copy, Debug, PartialEq, Eq)]
 pub struct RecordAt {
-    /// Its segment.
+    /// The segment that has the record.
     pub segment: SegmentAt,
     /// The record's index, from 0, in the segment's link information.
     pub rec: usize,
@@ -26,7 +26,7 @@ pub struct RecordAt {
 /// Where a reference is.
 #[derive(Clone, Copy, Debug, PartialEq, Eq)]
 pub struct ReferenceAt {
-    /// Its record.
+    /// The record that has the reference.
     pub at: RecordAt,
     /// The reference's index, from 0, in the record's list.
     pub reference: usize,

@@ -196,7 +196,7 @@ fn requested_from_queue(queue: &[UnitReference], k: usize, slot: u8) -> Option<R
 /// What was read of a host that can be opened, and of its libraries: of each slot its segment or
 /// its fault, also after the first fault.
 ///
-/// It borrows the files and copies none of them.
+/// A reading borrows the files and copies none of them.
 /// Source: the segment dictionary, UCSD Pascal II.0 manual, code file format; which units are added,
 /// and which fault is first, this project's profile.
 #[derive(Drop)]

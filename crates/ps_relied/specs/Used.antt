@@ -14,8 +14,8 @@ abbrev pub IsLookedForIn : List Segment → ℕ → List ℕ → Type 0
 IsLookedForIn segs file name =
     SomeItem segs (λ k s. (s.role ≡ Wanted) × (s.name ≡ name) × (file ≤ s.file))
 
--- Such a link reads the same of two libraries of this number: both are opened, or are refused for
--- the same reason, and have the same entries of each name that it looks for there.
+-- a link with these segments reads the same of two libraries of this number: both are opened, or
+-- are refused for the same reason, and have the same entries of each name that it looks for there
 pub record IsUsedAlike (order : Order) (segs : List Segment) (file : ℕ)
     (lib other : List ℕ) : Type 0 where
   pub opened : result_err (opened_beside order lib) ≡ result_err (opened_beside order other)

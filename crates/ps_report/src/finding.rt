@@ -10,9 +10,9 @@ use std::alloc::{AllocError, Allocator};
 #[derive(Drop)]
 pub struct SaidFinding<'a, A: Allocator> {
     pub at: FindingAt<'a>,
-    /// Where it is, as `UTIL.CODE, segment UTIL, record 1`.
+    /// Where the finding is, as `UTIL.CODE, segment UTIL, record 1`.
     pub place: String<A>,
-    /// What it is, as half a sentence.
+    /// What the finding is, as half a sentence.
     pub words: String<A>,
 }
 
@@ -30,7 +30,7 @@ fn said_finding<'a, A: Allocator + Copy>(
     Ok(SaidFinding { at, place, words })
 }
 
-/// These findings with their words, in their order.
+/// The findings with their words, in their order.
 pub(crate) fn said_findings<'a, A: Allocator + Copy>(
     alloc: A,
     findings: &[FindingAt<'a>],

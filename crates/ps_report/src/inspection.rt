@@ -118,7 +118,8 @@ fn told_segments<'l, 'a>(
     }
 }
 
-/// So where there is a fault: none of a host that is no code file.
+/// The segments of which a report tells where there is a fault: none of a host that is no code
+/// file.
 fn told_after_fault<'l, 'a>(
     inputs: &NamedFiles<'a>,
     list: &'l [ReadSegment<'a>],

@@ -11,7 +11,7 @@ use std::fmt::{self, Formatter};
 
 /// Whether a link of the files is done.
 ///
-/// Its text is one line: `links: ` and the summary, or the line of the refusal.
+/// The text of a verdict is one line: `links: ` and the summary, or the line of the refusal.
 #[derive(Clone, Copy, Debug, PartialEq, Eq)]
 pub enum Verdict {
     /// The files are linked, and their linked file has so much.
@@ -53,8 +53,8 @@ impl fmt::Display for Verdict {
     }
 }
 
-/// What it is that nothing was prepared: the verdict that the files are refused; or that memory ran
-/// out, since nothing is written.
+/// What is answered where nothing was prepared: the verdict that the files are refused; or that
+/// memory ran out, since nothing is written.
 fn refusal(error: LinkError) -> Result<Verdict, AllocError>
     ensures { IsRefusal error result }
 {

@@ -134,7 +134,7 @@ pub(crate) trait RequestsPrivates {
     /// The place of the owner, and its records.
     ghost owner: { Self → Owner };
 
-    /// Where it is.
+    /// Where the owner's segment is.
     fn place(&self) -> SegmentAt
         ensures { result ≡ (owner self.now).0 };
 

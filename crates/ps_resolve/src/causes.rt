@@ -26,7 +26,7 @@ fn covers(operand: Operand, entry: &LinkRecord<'_>, reference: usize) -> bool
     }
 }
 
-/// The first reference of a record, of its first `count`, that does.
+/// The first reference of a record, of its first `count`, that has a byte of the operand.
 #[tactic(auto, using(ps_reading::proofs::FirstSlots::found_later))]
 fn first_covering(operand: Operand, count: usize, entry: &LinkRecord<'_>) -> Option<usize>
     ensures { result ≡ first_covering_spec operand count entry.now.body }
@@ -52,7 +52,7 @@ fn references_before(place: ReferenceAt, rec: usize, entry: &LinkRecord<'_>) -> 
     }
 }
 
-/// Where that reference is.
+/// Where a record has its first reference, of those before this place, with a byte of the operand.
 fn covering_in(
     place: ReferenceAt,
     operand: Operand,

@@ -31,7 +31,7 @@ pub enum DefKind {
 /// Source: the published II.0 Linker source.
 #[derive(Clone, Copy, Debug, PartialEq, Eq)]
 pub struct Def {
-    /// What it is of.
+    /// What the definition is of.
     pub kind: DefKind,
     /// The variable's base offset in words, or the constant's value: 0 to `MAX_WORD`.
     pub value: u16,

@@ -20,7 +20,7 @@ pub struct Linkage<'a> {
 }
 
 impl<'a> Linkage<'a> {
-    /// Where its segment is.
+    /// Where the segment is.
     pub(crate) fn place(&self) -> SegmentAt
         ensures { result ≡ record { file = self.now.file; slot = self.now.slot } }
     {

@@ -74,11 +74,12 @@ fn placing_fault<A: Allocator + Copy>(
 /// with a host that would define each name that it requests. `None` where it has none, or where the
 /// slot has no segment.
 ///
-/// Such a host defines each name as a public with the base offset 1, has each unit that is named,
-/// and its own variables end before 1. So a unit that has a fault here is refused by every host whose
-/// base offsets are 1 and more, and one that has none may be refused for what a host defines. A
-/// wanted unit is looked for in the libraries that were read beside the file. Returns an error only
-/// where memory was refused, which is requested only for a unit that was read without a fault.
+/// The host of that link defines each name as a public with the base offset 1, has each unit that
+/// is named, and its own variables end before 1. So a unit that has a fault here is refused by
+/// every host whose base offsets are 1 and more, and one that has none may be refused for what a
+/// host defines. A wanted unit is looked for in the libraries that were read beside the file.
+/// Returns an error only where memory was refused, which is requested only for a unit that was read
+/// without a fault.
 pub fn lone_fault<A: Allocator + Copy>(
     alloc: A,
     reading: &HostReading<'_>,

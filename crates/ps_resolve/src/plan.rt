@@ -13,7 +13,7 @@ use std::marker::Model;
 
 /// A plan of a link: its segments, and what is stored in the code of each.
 ///
-/// It holds views of the inputs, and no copy of them.
+/// A plan holds views of the inputs, and no copy of them.
 #[derive(Drop)]
 pub struct Plan<'a, A: Allocator + Copy = Global> {
     pub(crate) host: &'a [u8],

@@ -231,7 +231,7 @@ impl CodeFile {
         }
     }
 
-    /// So many bytes of one value.
+    /// Puts one byte at a place and behind it, as many times as the statement says.
     fn fill(&mut self, rt: &impl Abort, words: &mut SplitWhitespace<'_>) {
         let place = number(rt, words);
         let count = number(rt, words);

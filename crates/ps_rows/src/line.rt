@@ -20,7 +20,7 @@ impl Line {
         }
     }
 
-    /// This text.
+    /// A line of this text.
     pub fn of(alloc: Global, text: &str) -> Line {
         let mut line = Line::new(alloc);
         line.word(text);

@@ -95,8 +95,8 @@ pub struct ReadSegment<'a> {
     pub slot: Option<u8>,
     pub name: Name,
     pub part: SegmentPart,
-    /// Where it comes from, and what the dictionary says there; none where no library has it, or
-    /// where it was not read.
+    /// Where the segment comes from, and what the dictionary says there; none where no library has
+    /// it, or where it was not read.
     pub source: Option<(EntryAt, Entry)>,
     /// The order of its file's words.
     pub order: Order,

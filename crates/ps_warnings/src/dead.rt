@@ -8,7 +8,7 @@ use ps_words::Order;
 /// What a code may have many of, one after another: blanks of a text, and NOP.
 pub(crate) const REPEATED: [u8; 2] = [0x20, 0xD7];
 
-/// So many of these bytes are the shortest sector of a disk.
+/// How many bytes the shortest sector of a disk has.
 pub(crate) const SECTOR: usize = 128;
 
 /// Bytes that are all the same, from the first to the last.

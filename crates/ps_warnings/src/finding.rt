@@ -79,9 +79,10 @@ impl fmt::Display for DictionaryFinding {
 /// What looks wrong in an entry, by what a link does with it.
 #[derive(Clone, Copy)]
 pub enum EntryFinding {
-    /// Its kind or its length was lost, so nothing is linked into the slot. Compile the host again.
+    /// The slot's kind or its length was lost, so nothing is linked into it. Compile the host
+    /// again.
     EmptySlot { slot: u8, name: Name, kind: u16 },
-    /// Both segments are taken from the same bytes. One of the entries is damaged: copy it again.
+    /// Two segments are taken from the same bytes. One of the entries is damaged: copy it again.
     Overlap { other: u8 },
 }
 
@@ -310,7 +311,7 @@ pub enum LinkFinding {
     /// The unit takes a slot that the host has for another one, whose calls go to it. Compile the
     /// host again.
     TakenSlot { slot: u8, name: Name },
-    /// Both may mean one unit. Write its name in one way.
+    /// The two names may mean one unit. Write the name in one way.
     OtherSpelling { name: Name },
 }
 

@@ -247,9 +247,9 @@ impl fmt::Display for Reason {
 
 /// A reason for which files are refused, and where it occurs.
 ///
-/// Its text is `refused N NAME`, then ` kind K` for an entry that is no unit, then ` file F`, and
-/// then ` slot S`, ` record R` and ` reference I`, each where the fault has it. All numbers are
-/// plain decimal.
+/// The text of a fault is `refused N NAME`, then ` kind K` for an entry that is no unit, then
+/// ` file F`, and then ` slot S`, ` record R` and ` reference I`, each where the fault has it. All
+/// numbers are plain decimal.
 #[derive(Clone, Copy, Debug, PartialEq, Eq)]
 pub struct Fault {
     /// Why the files are refused.

@@ -5,7 +5,7 @@ ghost use Rattle.ps_writing.specs.Adding.{Adds};
 /// Takes text until it fails, and none from then on. So a text is added without a test at each of
 /// its pieces, and whether it was taken is known at the end.
 pub trait TextWriter {
-    // This text was added to the writer as it was at first, and it is now as it is.
+    // A writer as it was, a text that was added to it, and the writer as it is then.
     ghost added: { Self → List ℕ → Self → Type 0 };
 
     /// Adds these bytes, unless an earlier call failed.

@@ -31,7 +31,7 @@ pub(super) fn write_extent<W: Write>(f: &mut Formatter<W>, case: &Case<'_, '_>) 
     )
 }
 
-/// Which procedure it is, which of the causes, and what of the code was not read.
+/// Which procedure has the fault, which of the causes it has, and what of the code was not read.
 pub(super) fn write_procedure<W: Write>(f: &mut Formatter<W>, case: &Case<'_, '_>) -> fmt::Result {
     if let Some(fault) = case.procedure_fault() {
         writeln!(f, "  {fault}")?;

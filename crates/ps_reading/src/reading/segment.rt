@@ -16,7 +16,7 @@ use std::marker::Model;
 pub struct Resolvable<'s, 'a> {
     /// The procedure dictionary of its code, which has no fault.
     pub procedures: ProcedureDictionary<'a>,
-    /// Its link information, read whole.
+    /// The link information of the segment, read whole.
     pub records: &'s LinkInformation<'a>,
 }
 
@@ -27,15 +27,15 @@ pub struct Resolvable<'s, 'a> {
 /// Source: UCSD Pascal II.0 manual, code file format, and the published II.0 Linker source.
 #[derive(Drop)]
 pub struct Segment<'a> {
-    /// Its slot in the host and in the linked file, 0 to 15.
+    /// The slot of the segment in the host and in the linked file, 0 to 15.
     pub slot: u8,
     /// The slot of its entry in its file, 0 to 15.
     pub index: u8,
-    /// Its references are resolved; the code of a segment that is linked already is copied as it
-    /// is.
+    /// The references of the segment are resolved; the code of one that is linked already is copied
+    /// as it is.
     pub linked: bool,
-    /// It was added in an empty slot of the host, for a unit that only a UNITREF record names; its
-    /// role is that of a wanted unit.
+    /// The segment was added in an empty slot of the host, for a unit that only a UNITREF record
+    /// names; its role is that of a wanted unit.
     pub added: bool,
     /// What the slot is for; never `Empty`.
     pub(crate) role: Role,
@@ -49,7 +49,7 @@ pub struct Segment<'a> {
     pub file: usize,
     /// The code, as the file has it.
     pub code: &'a [u8],
-    /// Its link information; none of a segment that is linked already.
+    /// The link information; none of a segment that is linked already.
     pub(crate) records: LinkInformation<'a>,
 }
 
@@ -66,7 +66,7 @@ impl<'a> Model for Segment<'a> {
 }
 
 impl<'a> Segment<'a> {
-    /// Its slot in the host, 0 to 15.
+    /// The slot of the segment in the host, 0 to 15.
     /// Source: UCSD Pascal II.0 manual, code file format.
     pub fn slot(&self) -> u8
         ensures { result ≡ self.now.slot }
@@ -89,7 +89,7 @@ impl<'a> Segment<'a> {
         self.role
     }
 
-    /// It was added in an empty slot, for a UNITREF.
+    /// The segment was added in an empty slot, for a UNITREF.
     pub fn added(&self) -> bool
         ensures { result ≡ self.now.added }
     {
@@ -110,7 +110,7 @@ impl<'a> Segment<'a> {
         self.index
     }
 
-    /// Its code, as the file has it.
+    /// The code of the segment, as the file has it.
     /// Source: UCSD Pascal II.0 manual, code file format.
     pub fn code(&self) -> &'a [u8]
         ensures { result.now ≡ self.now.code }
@@ -129,7 +129,7 @@ impl<'a> Segment<'a> {
         self.address as usize + blocks_of(self.code.len())
     }
 
-    /// Its link information; `None` for a segment that is linked already, which has none.
+    /// The link information; `None` for a segment that is linked already, which has none.
     /// Source: the published II.0 Linker source.
     pub fn records(&self) -> Option<&LinkInformation<'a>>
         ensures linked { is_some result ≡ needs_linking_spec self.now.role }
@@ -157,7 +157,7 @@ impl<'a> Segment<'a> {
         })
     }
 
-    /// This segment, as one that was added.
+    /// The segment, as one that was added.
     pub(crate) fn into_added(self) -> Segment<'a>
         ensures { result ≡ record self.entry { added = true } }
     {
@@ -167,7 +167,7 @@ impl<'a> Segment<'a> {
         }
     }
 
-    /// Where it is: its file, and its slot in the host.
+    /// Where the segment is: its file, and its slot in the host.
     pub fn place(&self) -> SegmentAt
         ensures { result ≡ record { file = self.now.file; slot = self.now.slot } }
     {
@@ -177,7 +177,7 @@ impl<'a> Segment<'a> {
         }
     }
 
-    /// Its link information begins in this block of this file.
+    /// The link information of the segment begins in this block of this file.
     fn has_records_at(&self, file: usize, block: usize) -> bool
         ensures { result ≡ (needs_linking_spec self.now.role && self.now.file == file
             && self.now.block == block) }

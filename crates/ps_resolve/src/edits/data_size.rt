@@ -18,7 +18,7 @@ pub const MAX_DATA_SIZE: usize = MAX_WORD as usize;
 /// The data size of the host's outer block, grown by the private words.
 #[derive(Clone, Copy)]
 pub(crate) struct DataSize {
-    /// Where it is in the code of the host's segment.
+    /// Where the data size is in the code of the host's segment.
     pub(crate) place: usize,
     /// In bytes.
     pub(crate) size: u16,

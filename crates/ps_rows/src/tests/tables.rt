@@ -16,7 +16,7 @@ pub(crate) struct Base<'a> {
     /// The libraries, with semicolons between them. The words of one that begins with `turned` are
     /// in the other byte order.
     pub libraries: &'a str,
-    /// What they are linked to.
+    /// What the files are linked to.
     pub linked: &'a str,
 }
 
@@ -154,7 +154,7 @@ impl Base<'_> {
         }
     }
 
-    /// What they are linked to, with changes.
+    /// What the files are linked to, with changes.
     pub(crate) fn linked(&self, rt: &(impl Abort + AllocGlobal), changes: Changes<'_>) -> CodeFile {
         file_of(rt, self.order, self.linked, changes)
     }

@@ -104,7 +104,7 @@ impl<'a> Check for MapCheck<'a> {
     }
 }
 
-/// These lines, which have semicolons between them.
+/// The lines of a text that has semicolons between them.
 fn lines_of(alloc: Global, lines: &str) -> Line {
     let mut line = Line::new(alloc);
     line.lines(lines);

@@ -26,7 +26,7 @@ a host in which no name can be read | pair | fill 64 128 01 | - | .
 a short file | pair | size 511 | - | refused 1 ShortFile file 0
 kinds in both orders | pair | at 193 01 | - | refused 2 NoOrder file 0";
 
-/// The same of the names of the units whose code the host has.
+/// Rows of the same form, with the names of the units whose code the host has.
 static HAD: &str = "\
 a unit in place | in-place | - | - | UTIL    .
 a host without one | pair | - | - | .

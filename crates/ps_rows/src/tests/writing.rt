@@ -277,9 +277,9 @@ fn writes_to_any_room(rt: &(impl Abort + AllocGlobal), files: &Link<'_>, linked:
 /// What is checked where a linked file is written.
 #[derive(Clone, Copy)]
 enum WriteCheck {
-    /// This summary, of each writer.
+    /// The summary, of each writer.
     Each(&'static str),
-    /// This summary, and the answers of writers of any room.
+    /// The summary, and the answers of writers of any room.
     AnyRoom(&'static str),
     /// The failures of its map and of the show of its host.
     Failures,

@@ -58,7 +58,7 @@ fn doubled_sector(bytes: &[u8], size: usize, extents: &[Extent]) -> Option<FileF
     None
 }
 
-/// So many bytes from one place on are those from another one on, and not one byte.
+/// The `REPEATED` bytes from one place on are those from another one on, and not one byte.
 fn are_equal(bytes: &[u8], one: usize, other: usize) -> bool {
     match (bytes.get(one..), bytes.get(other..)) {
         (Some(one), Some(other)) => match (one.get(..REPEATED), other.get(..REPEATED)) {

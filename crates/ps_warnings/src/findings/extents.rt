@@ -142,7 +142,7 @@ fn look_at_extent<'a, A: Allocator>(
     Ok(())
 }
 
-/// There is such a slot.
+/// A dictionary has a slot of this number.
 fn is_slot(slot: u8) -> bool
     ensures { result ≡ nat_lt slot SLOTS }
 {

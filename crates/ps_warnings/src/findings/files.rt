@@ -20,7 +20,7 @@ use std::alloc::{AllocError, Allocator};
 /// The byte that CP/M pads files with.
 const PAD: u8 = 0x1A;
 
-/// So many line ends are not there by chance.
+/// How many line ends cannot be there by chance.
 const MANY_LINES: usize = 32;
 
 /// Looks at a file, and at its entries.
