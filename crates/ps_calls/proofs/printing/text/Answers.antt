@@ -25,8 +25,8 @@ returns-then-not-are_text-clause-not_done c =
     let named = c.needs_names-named.ensures in (
       rw named at c.are_right.ensures.0 c.if-not-are_right.false,
       rw named at (λ (all : HasNames c.needs_names-named.result c.args.names.now
-      c.args.name_lengths.now). false≢true (sym c.if-not-are_text.true
-      ∙ c.are_text.ensures.1 all)),
+          c.args.name_lengths.now). false≢true (sym c.if-not-are_text.true
+          ∙ c.are_text.ensures.1 all)),
     )
 
 pub returns-in_err-libs-clause-not_done : goal.returns-in_err-libs-clause-not_done
