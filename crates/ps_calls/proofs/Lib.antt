@@ -1,3 +1,3 @@
 pub mod FileNames
 mod PutTexts
-mod Unnamed
+mod OnlyMemory

@@ -2,7 +2,7 @@ use Rattle.std.proofs.Common.{sym, ◌∙◌}
 use Rattle.std.proofs.lemmas.Bool.{false≢true}
 use Rattle.std.proofs.lemmas.Result.{err_from_is_err_and}
 use Rattle.ps_report.specs.Reported.{reported}
-use Rattle.ps_calls.proofs.Unnamed.{unchecked}
+use Rattle.ps_calls.proofs.OnlyMemory.{unchecked}
 use Rattle.ps_calls.proofs.checking.check.Goals as goal
 
 pub returns-in_err-put-clause-not_done : goal.returns-in_err-put-clause-not_done

@@ -3,7 +3,7 @@ use Rattle.std.proofs.lemmas.Bool.{false≢true}
 use Rattle.std.proofs.lemmas.Result.{err_from_is_err_and}
 use Rattle.ps_resolve.specs.Sources.{contents}
 use Rattle.ps_calls.proofs.PutTexts.{unprinted}
-use Rattle.ps_calls.proofs.Unnamed.{unprinted as unprinted_by_names}
+use Rattle.ps_calls.proofs.OnlyMemory.{unprinted as unprinted_by_names}
 use Rattle.ps_calls.specs.Printed.{HasNames}
 use Rattle.ps_calls.proofs.printing.text.Goals as goal
 
