@@ -1,5 +1,4 @@
 //! The words of the texts by which tests describe files and records.
-use crate::information::{Name, put};
 use std::fmt::Debug;
 use std::process::Abort;
 use std::str::SplitWhitespace;
@@ -24,11 +23,6 @@ pub fn number_of(rt: &impl Abort, word: &str) -> usize {
     word.parse().expect(rt, word)
 }
 
-/// The next word as a number of sixteen bits.
-pub fn word(rt: &impl Abort, words: &mut SplitWhitespace<'_>) -> u16 {
-    word_of(rt, words.next().unwrap_or("a number that is not there"))
-}
-
 /// A number of sixteen bits.
 pub fn word_of(rt: &impl Abort, word: &str) -> u16 {
     word.parse().expect(rt, word)
@@ -49,37 +43,9 @@ pub fn hex(rt: &(impl Abort + AllocGlobal), words: &str) -> Vec<u8> {
     bytes
 }
 
-/// The number behind a word that says what it is.
-pub fn value(rt: &impl Abort, words: &mut SplitWhitespace<'_>, what: &str) -> u16 {
-    holds(rt, words.next() == Some(what), what);
-    word(rt, words)
-}
-
-/// The next word as a name.
-pub fn name(rt: &impl Abort, words: &mut SplitWhitespace<'_>) -> Name {
-    name_of(rt, words.next().unwrap_or("a name that is not there"))
-}
-
-/// A name of eight bytes at most, filled up with blanks; a dash is the name of blanks.
-pub fn name_of(rt: &impl Abort, word: &str) -> Name {
-    let mut name = [b' '; 8];
-    if word != "-" {
-        put(rt, &mut name, 0, word.as_bytes());
-    }
-    name
-}
-
 /// What stands behind a name and this mark in the line of a text that begins with them.
 pub fn behind_name<'a>(rt: &impl Abort, text: &'a str, mark: &str, name: &str) -> &'a str {
-    for line in text.lines() {
-        if let Some((found, rest)) = line.split_once(mark) {
-            if found == name {
-                return rest;
-            }
-        }
-    }
-    holds(rt, false, name);
-    ""
+    sample_files::behind_name(text, mark, name).expect(rt, name)
 }
 
 /// Checks that no word of a text is left.

@@ -245,7 +245,7 @@ fn a_file_that_takes_no_bytes(rt: HostRuntime) {
 fn each_write_of_a_link_fails(rt: HostRuntime) {
     save_all(&rt, WRITTEN.as_slice());
     for (args, faults, printed, image) in &WRITES {
-        failing_writes(&rt, *args, *faults, *printed, image.bytes(&rt).as_slice());
+        failing_writes(&rt, *args, *faults, *printed, image.file(&rt).as_slice());
     }
     clean_all(&rt, WRITTEN.as_slice());
     clean(&rt, "writes-out");

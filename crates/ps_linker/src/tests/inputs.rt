@@ -1,255 +1,30 @@
 //! The code files that the tests run on, and the texts that are wanted of them.
 use super::outcome::says;
+use ps_words::Order;
+use sample_files::CodeFile;
 use std::fs;
 use std::process::Abort;
 use std::rt::Files;
 
-/// What lies at a place of a code file.
-pub type Part = (usize, &'static [u8]);
-
-/// The dictionary and the code of a host program in block 1, which names a unit.
-static HOST_PROGRAM: [Part; 5] = [
-    (4, b"\x01\x00\x12\x00"),
-    (72, b"DEMO    "),
-    (120, b"UTIL    "),
-    (300, b"\x2A"),
-    (
-        512,
-        b"\xD7\xD7\xC1\x00\x0A\x00\x04\x00\x06\x00\x0A\x00\x01\x00\x02\x00\x01\x01",
-    ),
-];
-
-/// The kinds and the host's link information, where the unit is looked up in libraries.
-static UNIT_WANTED: [Part; 4] = [
-    (194, b"\x01\x00"),
-    (206, b"\x03\x00"),
-    (1024, b"COUNT   \x07\x00\x03\x00\x00\x00\x00\x00"),
-    (1040, b"        \x00\x00\x08\x00\x00\x00\x00\x00"),
-];
-
-/// The host with the unit in its own file, and one reference to the host's definition.
-static UNIT_IN_PLACE: [Part; 9] = [
-    (28, b"\x03\x00\x18\x00"),
-    (194, b"\x01\x00"),
-    (206, b"\x03\x00"),
-    (1024, b"COUNT   \x07\x00\x03\x00\x00\x00\x00\x00"),
-    (1040, b"        \x00\x00\x08\x00\x00\x00\x00\x00"),
-    (
-        1536,
-        b"\xA5\x80\x00\xAB\x80\x02\xD7\xD7\xAD\x00\x00\x00\x00\x00\x06\x00\x10\x00\x01\x00\x02\x00\x07\x01",
-    ),
-    (2048, b"COUNT   \x03\x00\x02\x00\x01\x00\x00\x00"),
-    (2064, b"\x01\x00"),
-    (2080, b"        \x00\x00\x00\x00\x00\x00\x00\x00"),
-];
-
-/// The host's link information with a constant more.
-static CONSTANT_DEFINED: [Part; 5] = [
-    (194, b"\x01\x00"),
-    (206, b"\x03\x00"),
-    (1024, b"COUNT   \x07\x00\x03\x00\x00\x00\x00\x00"),
-    (1040, b"LIMIT   \x08\x00\x09\x00\x00\x00\x00\x00"),
-    (1056, b"        \x00\x00\x08\x00\x00\x00\x00\x00"),
-];
-
-/// What linking makes of the unit in place.
-static LINKED_IN_PLACE: [Part; 2] = [
-    (28, b"\x02\x00\x18\x00"),
-    (
-        1024,
-        b"\xA5\x80\x03\xAB\x80\x02\xD7\xD7\xAD\x00\x00\x00\x00\x00\x06\x00\x10\x00\x01\x00\x02\x00\x07\x01",
-    ),
-];
-
-/// A library with the unit, which has a private variable of four words.
-static LIBRARY_UNIT: [Part; 9] = [
-    (8, b"\x01\x00\x18\x00"),
-    (80, b"UTIL    "),
-    (196, b"\x03\x00"),
-    (
-        512,
-        b"\xA5\x80\x00\xAB\x80\x02\xD7\xD7\xAD\x00\x00\x00\x00\x00\x06\x00\x10\x00\x01\x00\x02\x00\x02\x01",
-    ),
-    (1024, b"COUNT   \x03\x00\x02\x00\x01\x00\x00\x00"),
-    (1040, b"\x01\x00"),
-    (1056, b"STATE   \x04\x00\x02\x00\x01\x00\x04\x00"),
-    (1072, b"\x04\x00"),
-    (1088, b"        \x00\x00\x00\x00\x00\x00\x00\x00"),
-];
-
-/// The library with its words the other way round.
-static BIG_ENDIAN_UNIT: [Part; 9] = [
-    (8, b"\x00\x01\x00\x18"),
-    (80, b"UTIL    "),
-    (196, b"\x00\x03"),
-    (
-        512,
-        b"\xA5\x80\x00\xAB\x80\x02\xD7\xD7\xAD\x00\x00\x00\x00\x00\x00\x06\x00\x10\x01\x00\x00\x02\x02\x01",
-    ),
-    (1024, b"COUNT   \x00\x03\x00\x02\x00\x01\x00\x00"),
-    (1040, b"\x00\x01"),
-    (1056, b"STATE   \x00\x04\x00\x02\x00\x01\x00\x04"),
-    (1072, b"\x00\x04"),
-    (1088, b"        \x00\x00\x00\x00\x00\x00\x00\x00"),
-];
-
-/// What linking makes of the library's unit, and of the host program's data size.
-static LINKED_FROM_LIBRARY: [Part; 3] = [
-    (28, b"\x02\x00\x18\x00"),
-    (516, b"\x12\x00"),
-    (
-        1024,
-        b"\xA5\x80\x03\xAB\x80\x0A\xD7\xD7\xAD\x00\x00\x00\x00\x00\x06\x00\x10\x00\x01\x00\x02\x00\x07\x01",
-    ),
-];
-
-//// The same with the other library.
-static LINKED_FROM_OTHER: [Part; 3] = [
-    (28, b"\x02\x00\x18\x00"),
-    (516, b"\x12\x00"),
-    (
-        1024,
-        b"\xA5\x80\x03\xAB\x80\x0A\x00\x00\xAD\x00\x00\x00\x00\x00\x06\x00\x10\x00\x01\x00\x02\x00\x07\x01",
-    ),
-];
-
-/// The unit of a library, up to its link information.
-static USING_UNIT: [Part; 4] = [
-    (8, b"\x01\x00\x18\x00"),
-    (80, b"UTIL    "),
-    (196, b"\x03\x00"),
-    (
-        512,
-        b"\xA5\x80\x00\xAB\x80\x02\xD7\xD7\xAD\x00\x00\x00\x00\x00\x06\x00\x10\x00\x01\x00\x02\x00\x02\x01",
-    ),
-];
-
-/// Link information that names a second unit at byte 2 of its segment's code.
-static USES_A_UNIT: [Part; 3] = [
-    (1024, b"AUX     \x01\x00\x01\x00\x01\x00\x00\x00"),
-    (1040, b"\x02\x00"),
-    (1056, b"        \x00\x00\x00\x00\x00\x00\x00\x00"),
-];
-
-/// Link information that names a second unit at no place.
-static NAMES_A_UNIT: [Part; 2] = [
-    (1024, b"AUX     \x01\x00\x01\x00\x00\x00\x00\x00"),
-    (1040, b"        \x00\x00\x00\x00\x00\x00\x00\x00"),
-];
-
-/// The first, and the second unit, which has a reference to the host's definition and a private
-/// variable of four words.
-static BOTH_UNITS: [Part; 12] = [
-    (1024, b"AUX     \x01\x00\x01\x00\x01\x00\x00\x00"),
-    (1040, b"\x02\x00"),
-    (1056, b"        \x00\x00\x00\x00\x00\x00\x00\x00"),
-    (12, b"\x03\x00\x18\x00"),
-    (88, b"AUX     "),
-    (198, b"\x03\x00"),
-    (
-        1536,
-        b"\xA5\x80\x00\xAB\x80\x02\xD7\xD7\xAD\x00\x00\x00\x00\x00\x06\x00\x10\x00\x01\x00\x02\x00\x03\x01",
-    ),
-    (2048, b"COUNT   \x03\x00\x02\x00\x01\x00\x00\x00"),
-    (2064, b"\x01\x00"),
-    (2080, b"STATE   \x04\x00\x02\x00\x01\x00\x04\x00"),
-    (2096, b"\x04\x00"),
-    (2112, b"        \x00\x00\x00\x00\x00\x00\x00\x00"),
-];
-
-/// Two bytes of a unit's code.
-static OTHER_CODE: [Part; 1] = [(518, b"\0\0")];
-
-/// Another name of a library's unit.
-static OTHER_NAME: [Part; 1] = [(80, b"OTHER   ")];
-
-/// Zeros in place of the names.
-static NO_NAMES: [Part; 1] = [(64, &[0; 128])];
-
-/// A kind in no byte order.
-static NO_ORDER: [Part; 1] = [(192, b"\x01\x01")];
-
-/// The parts of one of these tables, so that a table of files names them and does not hold them.
+/// A code file: its byte order, the names of the texts that it is made of, and changes of it.
 #[derive(Clone, Copy)]
-pub enum Parts {
-    None,
-    HostProgram,
-    UnitWanted,
-    UnitInPlace,
-    ConstantDefined,
-    LinkedInPlace,
-    LibraryUnit,
-    BigEndianUnit,
-    LinkedFromLibrary,
-    LinkedFromOther,
-    UsingUnit,
-    UsesAUnit,
-    NamesAUnit,
-    BothUnits,
-    OtherCode,
-    OtherName,
-    NoNames,
-    NoOrder,
-}
-
-impl Parts {
-    fn all(self) -> &'static [Part] {
-        match self {
-            Parts::None => &[],
-            Parts::HostProgram => &HOST_PROGRAM,
-            Parts::UnitWanted => &UNIT_WANTED,
-            Parts::UnitInPlace => &UNIT_IN_PLACE,
-            Parts::ConstantDefined => &CONSTANT_DEFINED,
-            Parts::LinkedInPlace => &LINKED_IN_PLACE,
-            Parts::LibraryUnit => &LIBRARY_UNIT,
-            Parts::BigEndianUnit => &BIG_ENDIAN_UNIT,
-            Parts::LinkedFromLibrary => &LINKED_FROM_LIBRARY,
-            Parts::LinkedFromOther => &LINKED_FROM_OTHER,
-            Parts::UsingUnit => &USING_UNIT,
-            Parts::UsesAUnit => &USES_A_UNIT,
-            Parts::NamesAUnit => &NAMES_A_UNIT,
-            Parts::BothUnits => &BOTH_UNITS,
-            Parts::OtherCode => &OTHER_CODE,
-            Parts::OtherName => &OTHER_NAME,
-            Parts::NoNames => &NO_NAMES,
-            Parts::NoOrder => &NO_ORDER,
-        }
-    }
-}
-
-/// A code file of so many bytes, with blank names and the parts of two tables; what of them lies
-/// past its end is truncated.
-#[derive(Clone, Copy)]
-pub struct Image(usize, Parts, Parts);
+pub struct Image(Order, &'static str, &'static str);
 
 impl Image {
-    pub fn bytes<R: AllocGlobal + Abort>(&self, rt: &R) -> Vec<u8> {
-        let Image(length, parts, more) = *self;
-        let mut file = Vec::from_elem(rt.alloc(), 0, length).expect(rt, "no memory");
-        put(file.as_mut_slice(), 64, &[b' '; 128]);
-        put_all(file.as_mut_slice(), parts.all());
-        put_all(file.as_mut_slice(), more.all());
+    /// The file.
+    pub fn file<R: AllocGlobal + Abort>(&self, rt: &R) -> CodeFile {
+        let Image(order, texts, changes) = *self;
+        let mut file = CodeFile::new(rt.alloc(), order, texts);
+        file.change(rt.alloc(), changes);
+        says(rt, file.is_right(), &(texts, changes));
         file
-    }
-}
-
-fn put_all(file: &mut [u8], parts: &[Part]) {
-    for (place, bytes) in parts {
-        put(file, *place, *bytes);
-    }
-}
-
-/// Bytes that would lie past the file's end are left out.
-fn put(file: &mut [u8], place: usize, bytes: &[u8]) {
-    for (to, from) in file.iter_mut().skip(place).zip(bytes) {
-        *to = *from;
     }
 }
 
 /// Writes files.
 pub fn save_all<R: Files + AllocGlobal + Abort>(rt: &R, files: &[(&str, &Image)]) {
     for (path, image) in files {
-        save(rt, *path, image.bytes(rt).as_slice());
+        save(rt, *path, image.file(rt).as_slice());
     }
 }
 
@@ -263,53 +38,69 @@ pub fn save_text<R: Files + Abort>(rt: &R, path: &str, text: &str) {
 }
 
 /// A host with its unit in place, and what it is linked to.
-pub const HOST_IN_PLACE: Image = Image(2560, Parts::HostProgram, Parts::UnitInPlace);
+pub const HOST_IN_PLACE: Image = Image(Order::Little, "HOST HAS_UNIT", "");
 
-pub const LINKED_HOST_IN_PLACE: Image = Image(1536, Parts::HostProgram, Parts::LinkedInPlace);
+pub const LINKED_HOST_IN_PLACE: Image = Image(
+    Order::Little,
+    "LINKED_SEGMENTS LINKED_REFERENCE",
+    "",
+);
 
 /// A host that wants its unit, a library that has it, and what the two are linked to.
-pub const HOST: Image = Image(1536, Parts::HostProgram, Parts::UnitWanted);
+pub const HOST: Image = Image(Order::Little, "HOST", "");
 
-pub const LIBRARY: Image = Image(1536, Parts::LibraryUnit, Parts::None);
+pub const LIBRARY: Image = Image(Order::Little, "LIBRARY", "");
 
-pub const LINKED_PAIR: Image = Image(1536, Parts::HostProgram, Parts::LinkedFromLibrary);
+pub const LINKED_PAIR: Image = Image(Order::Little, "LINKED_SEGMENTS LINKED_OPERANDS", "");
 
 /// The host and the library truncated after their end marks, and the library truncated before its
 /// last byte and in its unit's code.
-pub const ENDING_HOST: Image = Image(1056, Parts::HostProgram, Parts::UnitWanted);
+pub const ENDING_HOST: Image = Image(Order::Little, "HOST", "size 1056");
 
-pub const ENDING_LIBRARY: Image = Image(1104, Parts::LibraryUnit, Parts::None);
+pub const ENDING_LIBRARY: Image = Image(Order::Little, "LIBRARY", "size 1104");
 
-pub const CUT_LIBRARY: Image = Image(1103, Parts::LibraryUnit, Parts::None);
+pub const CUT_LIBRARY: Image = Image(Order::Little, "LIBRARY", "size 1103");
 
-pub const LIBRARY_CUT_IN_CODE: Image = Image(535, Parts::LibraryUnit, Parts::None);
+pub const LIBRARY_CUT_IN_CODE: Image = Image(Order::Little, "LIBRARY", "size 535");
 
 /// The library where two bytes of its unit's code are other ones, and what the host is linked to
 /// with it.
-pub const OTHER_LIBRARY: Image = Image(1536, Parts::LibraryUnit, Parts::OtherCode);
+pub const OTHER_LIBRARY: Image = Image(Order::Little, "LIBRARY ZEROS_IN_THE_CODE", "");
 
-pub const LINKED_WITH_OTHER: Image = Image(1536, Parts::HostProgram, Parts::LinkedFromOther);
+pub const LINKED_WITH_OTHER: Image = Image(
+    Order::Little,
+    "LINKED_SEGMENTS LINKED_OPERANDS ZEROS_IN_THE_LINKED_CODE",
+    "",
+);
 
 /// The library where its unit has another name.
-pub const LIBRARY_WITHOUT_UNIT: Image = Image(1536, Parts::LibraryUnit, Parts::OtherName);
+pub const LIBRARY_WITHOUT_UNIT: Image = Image(Order::Little, "LIBRARY", "slot 2 name OTHER");
 
-pub const BIG_ENDIAN_LIBRARY: Image = Image(1536, Parts::BigEndianUnit, Parts::None);
+pub const BIG_ENDIAN_LIBRARY: Image = Image(Order::Big, "LIBRARY", "");
 
 /// The host with a constant more.
-pub const HOST_WITH_CONSTANT: Image = Image(1536, Parts::HostProgram, Parts::ConstantDefined);
+pub const HOST_WITH_CONSTANT: Image = Image(
+    Order::Little,
+    "HOST",
+    "records 2; PUBLDEF COUNT value 3; CONSTDEF LIMIT value 9; EOFMARK next 8",
+);
 
 /// Libraries with a unit that names a second one: at a place in its code, at none, and where the
 /// second is there too.
-pub const USING_LIBRARY: Image = Image(1536, Parts::UsingUnit, Parts::UsesAUnit);
+pub const USING_LIBRARY: Image = Image(Order::Little, "LIBRARY USES_AUX", "");
 
-pub const NAMING_LIBRARY: Image = Image(1536, Parts::UsingUnit, Parts::NamesAUnit);
+pub const NAMING_LIBRARY: Image = Image(
+    Order::Little,
+    "LIBRARY",
+    "records 2; UNITREF AUX at; EOFMARK next 0",
+);
 
-pub const LIBRARY_OF_BOTH: Image = Image(2560, Parts::UsingUnit, Parts::BothUnits);
+pub const LIBRARY_OF_BOTH: Image = Image(Order::Little, "LIBRARY HAS_AUX USES_AUX", "");
 
 /// Zeros, one byte less than a dictionary; and a dictionary whose kinds are in no byte order.
-pub const SHORT_FILE: Image = Image(511, Parts::NoNames, Parts::None);
+pub const SHORT_FILE: Image = Image(Order::Little, "", "fill 64 128 00; size 511");
 
-pub const MIXED_FILE: Image = Image(512, Parts::NoOrder, Parts::None);
+pub const MIXED_FILE: Image = Image(Order::Little, "", "at 192 0101; size 512");
 
 // What is printed of the links of the two hosts.
 pub const SUMMARY_IN_PLACE: &str = "segments 2 private words 0 blocks 3\n";

@@ -107,7 +107,7 @@ pub fn holds<R: Files + AllocGlobal + Abort>(rt: &R, path: &str, bytes: &[u8], r
 
 /// Checks that a file is there with the bytes of this image.
 pub fn holds_image<R: Files + AllocGlobal + Abort>(rt: &R, path: &str, image: &Image, row: &str) {
-    holds(rt, path, image.bytes(rt).as_slice(), row)
+    holds(rt, path, image.file(rt).as_slice(), row)
 }
 
 /// Removes the files of a table.

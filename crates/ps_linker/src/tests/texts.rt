@@ -170,9 +170,10 @@ fn shows_cut<R: Files + AllocGlobal + Abort>(rt: &R, host: &[u8], length: usize)
 
 #[test]
 fn shows_a_host_cut_to_each_length(rt: HostRuntime) {
-    let whole = HOST.bytes(&rt);
+    let host = HOST.file(&rt);
+    let whole = host.as_slice();
     for length in 0..=whole.len() {
-        shows_cut(&rt, whole.as_slice(), length);
+        shows_cut(&rt, whole, length);
     }
     clean(&rt, "show-host");
 }

@@ -4,14 +4,13 @@ ghost use Rattle.std.specs.Prelude.{◌<◌};
 use super::answers::is;
 use super::rows::{Row, changes, check_all, fields};
 use super::tables::{HOST_TEXTS, LIBRARY_TEXTS};
-use crate::base::{HOST_RECORDS, UTIL, UTIL_ENTRY, demo_code, util_code};
-use crate::code_file::{Changes, CodeFile};
-use crate::information::Information;
+use crate::code_file::{Changes, CodeFile, Information};
 use crate::line::Line;
 use crate::notation::{holds, holds_of};
 use ps_codefile::dictionary_layout::SLOTS;
 use ps_codefile::{Dict, Entry, Role};
 use ps_words::{Order, Reason};
+use sample_files::base::{HOST_RECORDS, UTIL, UTIL_ENTRY, demo_code, util_code};
 use std::alloc::Global;
 use std::process::Abort;
 

@@ -3,12 +3,12 @@ use super::answers::{LITTLE, links};
 use super::calls::Link;
 use super::plan::linkage;
 use super::tables::{HOST_TEXTS, LIBRARY_TEXTS};
-use crate::code_file::CodeFile;
-use crate::information::{Information, Name};
+use crate::code_file::{CodeFile, Information};
 use crate::line::Line;
 use crate::notation::{holds, holds_of};
 use ps_linkinfo::{Body, LinkRecord, read_records};
 use ps_resolve::{Allotment, Def, DefKind, Definitions, Linkage};
+use sample_files::Name;
 use std::alloc::Global;
 use std::process::Abort;
 

@@ -3,7 +3,7 @@ ghost use Rattle.std.specs.Prelude.{◌≡◌, [], ◌∷◌, length};
 ghost use Rattle.ps_words.specs.Edits.{AreEdits};
 ghost use Rattle.ps_words.specs.declared.edit.Edit.TheVariants.{Big};
 
-use crate::information::put;
+use crate::code_file::put;
 use crate::notation::holds_of;
 use ps_patch::{Patcher, apply};
 use ps_words::{Edit, Order};

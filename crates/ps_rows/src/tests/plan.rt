@@ -4,12 +4,13 @@ use super::answers::{OUT_OF_MEMORY, is};
 use super::calls::Link;
 use super::rows::{Row, changes, check_all, field, fields};
 use super::tables::{Check, base_named};
-use crate::base::{COUNT, DEMO_SLOT, STATE, UTIL_SLOT};
-use crate::information::{Information, Name};
+use crate::code_file::Information;
 use crate::line::Line;
 use crate::notation::{holds, holds_of, word_of};
 use ps_resolve::{Allotment, Definitions, Linkage, Plan, Private, Source, Stop};
 use ps_words::{Edit, Order};
+use sample_files::Name;
+use sample_files::base::{COUNT, DEMO_SLOT, STATE, UTIL_SLOT};
 use std::alloc::{Allocator, Global};
 use std::process::Abort;
 

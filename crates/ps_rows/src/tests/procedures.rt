@@ -1,11 +1,11 @@
 //! The procedure dictionary and the attribute tables of a code.
 use super::answers::{LITTLE, is};
 use super::rows::{Row, check_all, fields};
-use crate::base::{UTIL_ENTRY, demo_code, util_code};
 use crate::line::Line;
 use crate::notation::{hex, holds, holds_of};
 use ps_codefile::Procs;
 use ps_words::Order;
+use sample_files::base::{UTIL_ENTRY, demo_code, util_code};
 use std::alloc::Global;
 use std::process::Abort;
 

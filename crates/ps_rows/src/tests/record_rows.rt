@@ -3,7 +3,7 @@
 use super::answers::is;
 use super::rows::{Row, fields};
 use super::{link_information, record_walk, records};
-use crate::information::Information;
+use crate::code_file::Information;
 use crate::line::Line;
 use crate::notation::number_of;
 use ps_words::Order;

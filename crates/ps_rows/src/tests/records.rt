@@ -3,12 +3,12 @@ use super::allocations::{Allocating, makes_no_allocation, refuses_each_allocatio
 use super::answers::{LITTLE, OUT_OF_MEMORY};
 use super::record_rows::Reader;
 use super::rows::check_all;
-use crate::base::LIBRARY_RECORDS;
-use crate::information::Information;
+use crate::code_file::Information;
 use crate::line::Line;
 use crate::notation::holds_of;
 use ps_linkinfo::{Body, LinkRecord, ReadStop, Refs, read_records};
 use ps_words::Order;
+use sample_files::base::LIBRARY_RECORDS;
 use std::alloc::{Allocator, Global};
 use std::process::Abort;
 

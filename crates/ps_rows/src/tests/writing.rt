@@ -281,8 +281,6 @@ enum WriteCheck {
     Each(&'static str),
     /// The summary, and the answers of writers of any room.
     AnyRoom(&'static str),
-    /// The failures of its map and of the show of its host.
-    Failures,
     /// The failures of each text of its files, at each write.
     Texts,
     /// The errors of the writers.
@@ -304,7 +302,6 @@ impl WriteCheck {
                 writes_to_each(rt, link, linked, summary);
                 writes_to_any_room(rt, link, linked)
             }
-            WriteCheck::Failures => fail_each(rt, linked, link.host),
             WriteCheck::Texts => fail_at_each_write(rt, link),
             WriteCheck::Errors => give_each_error(rt, link, linked),
         }
@@ -488,67 +485,6 @@ fn takes(rt: &impl Abort, out: &mut impl Write, bytes: &[u8], count: usize) {
 fn is_not_flushed<W: Write>(rt: &impl Abort, out: &mut Counting<W>, counts: Counts) {
     holds(rt, out.flush().is_err(), "a flush");
     has_counts(rt, out, counts)
-}
-
-/// Writers of texts, each a line: the writer, and how many writes return an error and how many take
-/// nothing.
-static FAILURES: &str = "\
-4096 all fails 0 0
-4096 all stalls 0 0
-9 all fails 1 0
-9 all stalls 0 1";
-
-/// Checks how many writes of a text failed, and that it is written where none did.
-fn has_failed(rt: &impl Abort, is_written: bool, out: &Room, wanted: (u64, u64)) {
-    let [_, errors, stalls, _] = out.counts();
-    let is_right = is_written == (wanted == (0, 0)) && (errors, stalls) == wanted;
-    holds_of(rt, is_right, &wanted)
-}
-
-/// Writes a map, of which so many writes fail.
-fn failures_of_a_map(
-    rt: &(impl Abort + AllocGlobal),
-    linked: &Linked<'_>,
-    writer: Writer,
-    wanted: (u64, u64),
-) {
-    let mut out = room_for(rt, writer);
-    let is_written = write_map(linked, &mut out).is_ok();
-    has_failed(rt, is_written, &out, wanted)
-}
-
-/// Writes a show, of which so many writes fail.
-fn failures_of_a_show(
-    rt: &(impl Abort + AllocGlobal),
-    file: &[u8],
-    writer: Writer,
-    wanted: (u64, u64),
-) {
-    let mut out = room_for(rt, writer);
-    let is_written = write_show(file, &mut out).is_ok();
-    has_failed(rt, is_written, &out, wanted)
-}
-
-#[test]
-fn a_map_and_a_show_fail_once(rt: HostRuntime) {
-    writes_file(&rt, "in-place", WriteCheck::Failures)
-}
-
-/// Writes the map of a link and the show of its host into each writer.
-fn fail_each(rt: &(impl Abort + AllocGlobal), linked: &Linked<'_>, host: &[u8]) {
-    for row in FAILURES.lines() {
-        fail_in(rt, linked, host, row);
-    }
-}
-
-/// Writes both into the writer of a row.
-fn fail_in(rt: &(impl Abort + AllocGlobal), linked: &Linked<'_>, host: &[u8], row: &str) {
-    let mut words = row.split_whitespace();
-    let writer = writer_of(rt, &mut words);
-    let wanted = failures_in(rt, &mut words);
-    ends(rt, &mut words, row);
-    failures_of_a_map(rt, linked, writer, wanted);
-    failures_of_a_show(rt, host, writer, wanted)
 }
 
 #[test]
