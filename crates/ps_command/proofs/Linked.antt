@@ -5,10 +5,12 @@ use Rattle.std.specs.List.{AllZip}
 use Rattle.ps_arguments.specs.CommandLine.{Row, Text}
 use Rattle.ps_arguments.specs.Requests.{NamesLink, has_output, is_quiet, map_file}
 use Rattle.ps_arguments.specs.declared.request.Link.{Link}
+use Rattle.ps_linkfile.specs.LinkedFile.{summary_of}
 use Rattle.ps_linkfile.specs.Outcomes.{NamesFirst}
 use Rattle.ps_linkfile.specs.declared.error.LinkError.TheVariants.{Refused}
 use Rattle.ps_outputs.specs.Links.{IsMapText, IsPlaceOf, WritesMap as WritesMapBytes}
-use Rattle.ps_outputs.specs.Places.{IsPlace}
+use Rattle.ps_outputs.specs.Places.{IsPlace, PrintsAt}
+use Rattle.ps_outputs.specs.SummaryLine.{summary_text}
 use Rattle.ps_outputs.specs.declared.linking.Place.{Place}
 use Rattle.ps_outputs.specs.declared.linking.Place.TheVariants as place
 use Rattle.ps_resolve.specs.Standing.{NoneStands}
@@ -95,7 +97,10 @@ module _ {A : Type 0} (Leads : Text → Bool → Type 0) (link : Link A) (rows :
   -- where the summary of the link that is asked for is printed
   pub placed : (where_to : Place) → IsPlaceOf Leads (outputs_of link) where_to
       → IsPlace Leads (is_quiet rows) (has_output rows) link.out.now (map_file rows) where_to
-  placed where_to is = rw (names.quiet, names.by_option, names.map_file) at is
+  placed where_to is =
+      let found : IsPlace Leads link.quiet link.by_option link.out.now
+      (option_map (λ path. path.now) link.map) where_to = is in
+      rw (names.quiet, names.by_option, names.map_file) at found
 
   -- a link of files that were read ends as the link that is asked for
   pub links_or_refuses : (Reads Writes : Text → List ℕ → Type 0) (host : List ℕ)
@@ -109,11 +114,12 @@ module _ {A : Type 0} (Leads : Text → Bool → Type 0) (link : Link A) (rows :
       old_err new_err
   links_or_refuses Reads Writes host libs ended.Done old new old_err new_err read all linked =
       let paths = map (λ path. path.now) link.inputs.libraries.items in
-      let texts = writes_text Writes (option_map (λ path. path.now) link.map) link.references link.json (link.inputs.host.now ∷ paths) host libs
-      linked.1.accepted linked.3
-      in
+      let texts = writes_text Writes (option_map (λ path. path.now) link.map) link.references
+      link.json (link.inputs.host.now ∷ paths) host libs linked.1.accepted linked.3 in
       let mapped = rw (names.map_file, names.references, names.json) at texts in
-      let printed = rw names.json at linked.4.2 in
+      let told : PrintsAt linked.4.0 (summary_text (form_of link.json) (summary_of host libs)) old new
+      old_err new_err = linked.4.2 in
+      let printed = rw names.json at told in
       inl (
         refl,
         (
