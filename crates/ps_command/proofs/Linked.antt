@@ -1,77 +1,62 @@
 -- What follows of a link that was asked for.
-use Rattle.std.proofs.Common.{◌≡◌, ◌≢◌, ◌⊎◌, ◌∷◌, ◌∙◌, [], Bool, Bor, Err, IfOk, List, None, Ok, Option, Result, Some, ap, append-nil, arith, codes, false, inl, inr, length, map, refl, sym, true, ℕ}
-use Rattle.std.specs.Prelude.{IsSomeAnd, OnErr, OnOk, option_map, ⊤}
-use Rattle.std.specs.Io.KnownBytes.{Appends}
+use Rattle.std.proofs.Common.{◌≡◌, ◌⊎◌, ◌∷◌, Bool, Err, IfOk, List, None, Ok, Option, Result, Some, ap, arith, codes, false, inl, inr, map, refl, true, ℕ}
+use Rattle.std.specs.Prelude.{IsSomeAnd, option_map}
 use Rattle.std.specs.List.{AllZip}
-use Rattle.clap.specs.Words.{Row, Text}
-use Rattle.ps_writing.proofs.Prefixes.{prefix_from}
-use Rattle.ps_writing.specs.Prefixes.{AppendsPrefix}
-use Rattle.ps_writing.specs.declared.rows.Form.TheVariants.{Lines}
+use Rattle.ps_arguments.specs.CommandLine.{Row, Text}
+use Rattle.ps_arguments.specs.Requests.{NamesLink, has_output, is_quiet, map_file}
+use Rattle.ps_arguments.specs.declared.request.Link.{Link}
+use Rattle.ps_linkfile.specs.LinkedFile.{summary_of}
+use Rattle.ps_linkfile.specs.Outcomes.{NamesFirst}
+use Rattle.ps_linkfile.specs.declared.error.LinkError.TheVariants.{Refused}
+use Rattle.ps_outputs.specs.Links.{IsMapText, IsPlaceOf, WritesMap as WritesMapBytes}
+use Rattle.ps_outputs.specs.Places.{IsPlace, PrintsAt}
+use Rattle.ps_outputs.specs.SummaryLine.{summary_text}
+use Rattle.ps_outputs.specs.declared.linking.Place.{Place}
+use Rattle.ps_outputs.specs.declared.linking.Place.TheVariants as place
+use Rattle.ps_resolve.specs.Standing.{NoneStands}
 use Rattle.ps_texts.specs.Texts.{IsTextOf}
-use Rattle.ps_texts.specs.Unmade.{CanRefuse, WhyUnmade}
+use Rattle.ps_texts.specs.Unmade.{WhyUnmade}
 use Rattle.ps_texts.specs.declared.kinds.TextKind.{TextKind}
-use Rattle.ps_texts.specs.declared.kinds.TextKind.TheVariants.{Map}
 use Rattle.ps_texts.specs.declared.texts.Unmade.{Unmade}
 use Rattle.ps_texts.specs.declared.texts.Unmade.TheVariants as unmade
-use Rattle.ps_command.specs.Links.{IsLinked, IsPlaceOf, WritesMapTo}
-use Rattle.ps_command.specs.Prepared.{map_bytes}
-use Rattle.ps_command.specs.Printed.{IsBeside, IsPlace, IsPrinted, LinksOrRefuses, PrintsUnmade, TellsOnError, WritesMap, form_of, map_kind}
-use Rattle.ps_command.specs.Requests.{NamesLink, has_output, is_quiet, map_file, out_and_libraries}
+use Rattle.ps_words.specs.declared.fault.Fault.{Fault}
+use Rattle.ps_command.specs.Links.{IsLinked, outputs_of}
+use Rattle.ps_command.specs.Printed.{IsPrinted, LinksOrRefuses, PrintsUnmade, TellsOnError, WritesMap, form_of, map_kind}
 use Rattle.ps_command.specs.Statuses.{ended_status}
 use Rattle.ps_command.specs.declared.ended.Ended.{Ended}
 use Rattle.ps_command.specs.declared.ended.Ended.TheVariants as ended
-use Rattle.ps_command.specs.declared.linking.Place.{Place}
-use Rattle.ps_command.specs.declared.linking.Place.TheVariants as place
-use Rattle.ps_command.specs.declared.prepared.Prepared.{Prepared}
-use Rattle.ps_command.specs.declared.request.Link.{Link}
 
--- what was written whole or in part is a prefix
-pub written : {T E : Type 0} (r : Result T E) (old new : Option (List ℕ)) (text : List ℕ)
-    → OnOk r (Appends old new text) → OnErr r (AppendsPrefix old new text)
-    → AppendsPrefix old new text
-written (Ok x) old new text all prefix = prefix_from old new text [] text (append-nil text) all
-written (Err e) old new text all prefix = prefix
+-- the map of a link is a text of its files, in each of its forms
+as_text : (references json : Bool) (paths : List Text) (host : List ℕ) (libs : List (List ℕ))
+    (text : List ℕ) → NoneStands host libs
+    → IsMapText references (form_of json) host libs text
+    → IsTextOf (map_kind references json) false paths host libs 0 text
+as_text false false paths host libs text none is = (none, refl, is)
+as_text false true paths host libs text none is = (none, refl, is)
+as_text true false paths host libs text none is = (none, refl, is)
+as_text true true paths host libs text none is = (none, refl, is)
 
--- where a summary is printed by the file of its map, if its OUT is not standard output
-pub beside : (Leads : Text → Bool → Type 0) (quiet by_option : Bool) (out : Text)
-    (map : Option Text) (where_to : Place) → quiet ≡ false → (by_option ≡ true → Leads out false)
-    → IsBeside Leads map where_to → IsPlace Leads quiet by_option out map where_to
-beside Leads quiet by_option out map place.Nowhere loud apart none = absurd none
-beside Leads quiet by_option out map place.Output loud apart is = (loud, apart, is)
-beside Leads quiet by_option out map place.Error loud apart is = (loud, inr is)
+-- where no fault applies, the file of a map took a text of the same files
+writes_text : (Writes : Text → List ℕ → Type 0) (file : Option Text) (references json : Bool)
+    (paths : List Text) (host : List ℕ) (libs : List (List ℕ)) → NoneStands host libs
+    → WritesMapBytes Writes file references (form_of json) host libs
+    → WritesMap Writes file (map_kind references json) paths host libs
+writes_text Writes None references json paths host libs none wrote = tt
+writes_text Writes (Some file) references json paths host libs none wrote =
+    (wrote.0, as_text references json paths host libs wrote.0 none wrote.1, wrote.2)
 
--- standard error is as it was, or a summary is printed there
-pub same_or_told : {Same : Type 0} (At : Place → Type 0) (where_to : Place) → At where_to
-    → (where_to ≢ place.Error → Same) → Same ⊎ At place.Error
-same_or_told At place.Nowhere at silent = inl (silent (grind arith))
-same_or_told At place.Output at silent = inl (silent (grind arith))
-same_or_told At place.Error at silent = inr at
-
--- the map of what was prepared is that of the files
-pub maps : {A : Type 0} (Writes : Text → List ℕ → Type 0) (path : Option (Bor Text))
-    (references json : Bool) (p : Prepared A) (paths : List Text) (host : List ℕ)
-    (libs : List (List ℕ)) → ((paths : List (List ℕ)) → (json : Bool) → IsTextOf
-    (map_kind references json) false paths host libs 0 (map_bytes (form_of json) p))
-    → WritesMapTo Writes path json p
-    → WritesMap Writes (option_map (λ path. path.now) path) (map_kind references json) paths host
-    libs
-maps Writes None references json p paths host libs text wrote = tt
-maps Writes (Some path) references json p paths host libs text wrote =
-    (map_bytes (form_of json) p, text paths json, wrote)
-
--- where nothing is made of files that are refused, a link ends so
+-- where files are refused for their first fault, a link ends so
 pub link_refused : {A E : Type 0} (Writes : Text → List ℕ → Type 0) (Leads : Text → Bool → Type 0)
-    (link : Link A) (paths : List Text) (host : List ℕ) (libs : List (List ℕ)) (why : Unmade)
+    (asked : Link A) (paths : List Text) (host : List ℕ) (libs : List (List ℕ)) (f : Fault)
     (r : Result Ended E) (old new old_err new_err : Option (List ℕ))
-    → WhyUnmade (Map Lines) host libs why → IfOk r (λ _. link.json ≡ true)
-    → IfOk r (λ e. e ≡ ended.Refused) → IfOk r (λ _. PrintsUnmade why paths host libs old new)
-    → IfOk r (λ e. IsLinked Writes Leads link paths host libs e old new old_err new_err)
-link_refused Writes Leads link paths host libs (unmade.Refused f) (Ok e) old new old_err new_err
-    can json is text = rw is (json, f, can, text)
-link_refused Writes Leads link paths host libs unmade.Memory (Ok e) old new old_err new_err can
-    json is text = absurd text
-link_refused Writes Leads link paths host libs why (Err e) old new old_err new_err can json is
-    text = tt
+    → NamesFirst host libs (Refused f) → IfOk r (λ _. asked.json ≡ true)
+    → IfOk r (λ e. e ≡ ended.Refused)
+    → IfOk r (λ _. PrintsUnmade (unmade.Refused f) paths host libs old new)
+    → IfOk r (λ e. IsLinked Writes Leads asked paths host libs e old new old_err new_err)
+link_refused Writes Leads asked paths host libs f (Ok e) old new old_err new_err why json is text =
+    rw is (json, f, why, text)
+link_refused Writes Leads asked paths host libs f (Err e) old new old_err new_err why json is text =
+    tt
 
 -- where no text is made of files that are refused, it ends so
 pub text_refused : {E : Type 0} (k : TextKind) (strict json : Bool) (paths : List Text)
@@ -110,9 +95,12 @@ leading Leads named (inr told) = elim told.5.1 [
 module _ {A : Type 0} (Leads : Text → Bool → Type 0) (link : Link A) (rows : List Row)
     (names : NamesLink link rows) where
   -- where the summary of the link that is asked for is printed
-  pub placed : (where_to : Place) → IsPlaceOf Leads link where_to
+  pub placed : (where_to : Place) → IsPlaceOf Leads (outputs_of link) where_to
       → IsPlace Leads (is_quiet rows) (has_output rows) link.out.now (map_file rows) where_to
-  placed where_to is = rw (names.quiet, names.by_option, names.map_file) at is
+  placed where_to is =
+      let found : IsPlace Leads link.quiet link.by_option link.out.now
+      (option_map (λ path. path.now) link.map) where_to = is in
+      rw (names.quiet, names.by_option, names.map_file) at found
 
   -- a link of files that were read ends as the link that is asked for
   pub links_or_refuses : (Reads Writes : Text → List ℕ → Type 0) (host : List ℕ)
@@ -126,8 +114,12 @@ module _ {A : Type 0} (Leads : Text → Bool → Type 0) (link : Link A) (rows :
       old_err new_err
   links_or_refuses Reads Writes host libs ended.Done old new old_err new_err read all linked =
       let paths = map (λ path. path.now) link.inputs.libraries.items in
-      let mapped = rw (names.map_file, names.references, names.json) at linked.3 in
-      let printed = rw names.json at linked.4.2 in
+      let texts = writes_text Writes (option_map (λ path. path.now) link.map) link.references
+      link.json (link.inputs.host.now ∷ paths) host libs linked.1.accepted linked.3 in
+      let mapped = rw (names.map_file, names.references, names.json) at texts in
+      let told : PrintsAt linked.4.0 (summary_text (form_of link.json) (summary_of host libs)) old new
+      old_err new_err = linked.4.2 in
+      let printed = rw names.json at told in
       inl (
         refl,
         (
@@ -163,7 +155,7 @@ module _ {A : Type 0} (Leads : Text → Bool → Type 0) (link : Link A) (rows :
 
   -- its summary is printed on standard error
   pub tells : (named : Option (Text × List Row)) → named ≡ Some (codes "link", rows)
-      → IsPlaceOf Leads link place.Error → TellsOnError Leads named
+      → IsPlaceOf Leads (outputs_of link) place.Error → TellsOnError Leads named
   tells named is where_to = (
     rows,
     link.out.now,

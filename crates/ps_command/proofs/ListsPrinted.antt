@@ -1,7 +1,7 @@
 -- The lists of files, one after another.
 use Rattle.std.proofs.Common.{◌≡◌, ℕ, Bool, List, ◌∷◌, Option, arith, false, refl, true}
 use Rattle.std.specs.Prelude.{max}
-use Rattle.clap.specs.Words.{Text}
+use Rattle.ps_arguments.specs.CommandLine.{Text}
 use Rattle.ps_listing.specs.declared.lists.ListForm.{ListForm}
 use Rattle.ps_command.specs.Printed.{IsListed, PrintsFiles}
 

@@ -1,14 +1,14 @@
 -- What follows of the command that is named.
 use Rattle.std.proofs.Common.{◌≡◌, ◌≢◌, ◌⊎◌, ◌∷◌, [], Bool, List, codes, ℕ, Option, arith, false, true, inl, inr}
 use Rattle.std.specs.Prelude.{⊤}
-use Rattle.clap.specs.Words.{Row, Text}
+use Rattle.ps_arguments.specs.CommandLine.{Row, Text}
 use Rattle.ps_texts.specs.Texts.{IsTextOf}
 use Rattle.ps_texts.specs.declared.kinds.TextKind.{TextKind}
 use Rattle.ps_texts.specs.declared.kinds.TextKind.TheVariants as kind
 use Rattle.ps_command.specs.Printed.{Prints, PrintsOrRefuses, form_of, map_kind}
-use Rattle.ps_command.specs.Requests.{IsNamedCommand, NamesCheck, NamesDocument, NamesList, has_references, is_json, libraries_of}
-use Rattle.ps_command.specs.declared.request.Task.{Task}
-use Rattle.ps_command.specs.declared.request.Task.TheVariants as task
+use Rattle.ps_arguments.specs.Requests.{IsNamedCommand, NamesCheck, NamesDocument, NamesList, has_references, is_json, libraries_of}
+use Rattle.ps_arguments.specs.declared.request.Task.{Task}
+use Rattle.ps_arguments.specs.declared.request.Task.TheVariants as task
 
 -- a map ends with status 0
 map_status : (references json strict : Bool) (paths : List (List ℕ)) (host : List ℕ)

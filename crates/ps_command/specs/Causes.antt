@@ -11,12 +11,12 @@ use Rattle.ps_command.specs.declared.error.FileError.{FileError}
 use Rattle.ps_command.specs.declared.error.FileError.TheVariants as file
 use Rattle.ps_command.specs.declared.error.RunError.{RunError}
 use Rattle.ps_command.specs.declared.error.RunError.TheVariants as run
-use Rattle.ps_command.specs.declared.error.UsageError.{UsageError}
-use Rattle.ps_command.specs.declared.error.UsageError.TheVariants as usage
+use Rattle.ps_arguments.specs.declared.usage.UsageError.{UsageError}
+use Rattle.ps_arguments.specs.declared.usage.UsageError.TheVariants as usage
 use Rattle.ps_command.specs.declared.files.FileFault.{FileFault}
 use Rattle.ps_command.specs.declared.files.FileFault.TheVariants as fault
-use Rattle.ps_linkfile.specs.declared.error.LinkError.{LinkError}
-use Rattle.ps_linkfile.specs.declared.error.LinkError.TheVariants as link
+use Rattle.ps_outputs.specs.declared.unlinked.Unlinked.{Unlinked}
+use Rattle.ps_outputs.specs.declared.unlinked.Unlinked.TheVariants as unlinked
 use Rattle.ps_texts.specs.declared.texts.Unmade.{Unmade}
 use Rattle.ps_texts.specs.declared.texts.Unmade.TheVariants as unmade
 
@@ -35,12 +35,12 @@ read_error path (fault.Device cause) = file.Read path cause
 read_error path fault.TooLong = file.TooLong path
 read_error path fault.Memory = file.Memory
 
--- why a command was not done whose link was not made; where a write failed it was one to standard
--- output
-abbrev pub run_error_of : LinkError → RunError
-run_error_of (link.Refused fault) = run.Refused fault
-run_error_of link.Memory = run.Memory
-run_error_of (link.Write fault) = run.StandardOutput
+-- why a command was not done whose link was not made
+abbrev pub run_error_of : Unlinked → RunError
+run_error_of (unlinked.Refused fault) = run.Refused fault
+run_error_of unlinked.Memory = run.Memory
+run_error_of (unlinked.Write path) = run.Write path
+run_error_of unlinked.StandardOutput = run.StandardOutput
 
 -- why a command was not done whose text was not made
 abbrev pub run_error_of_unmade : Unmade → RunError
@@ -61,7 +61,7 @@ told_with_cause file.Memory = error.Memory
 
 -- what is reported of a command line that asks for nothing
 abbrev pub told_of_usage : UsageError → CommandError
-told_of_usage (usage.Clap text) = error.Usage text
+told_of_usage (usage.Wrong text) = error.Usage text
 told_of_usage (usage.NotText argument) = error.NotText argument
 told_of_usage usage.Memory = error.Memory
 

@@ -1,9 +1,5 @@
-pub mod CommandLine
-pub mod Requests
-pub mod SummaryLine
 pub mod Printed
-pub mod FilesRead
+pub mod ReadFaults
 pub mod Statuses
 pub mod Causes
-pub mod Prepared
 pub mod Links

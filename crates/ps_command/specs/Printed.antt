@@ -1,15 +1,13 @@
 -- What is printed on standard output once a command is done, by the command and the files that are
 -- named, and what a link has written. `Reads` says of a path and of bytes that they were read
 -- there, and `Writes` that a file which was created there took them.
-use Rattle.std.specs.Prelude.{◌≡◌, ◌⊎◌, ◌++◌, ◌∷◌, [], if◌then◌else◌, ℕ, Bool, true, false, List, Option, None, Some, IfSome, IsSomeAnd, codes, max, ⊤}
+use Rattle.std.specs.Prelude.{◌≡◌, ◌⊎◌, ◌++◌, ◌∷◌, [], if◌then◌else◌, ℕ, Bool, true, false, List, Option, None, Some, codes, max, ⊤}
 use Rattle.std.specs.List.{AllZip}
 use Rattle.std.specs.Io.KnownBytes.{Appends}
-use Rattle.clap.specs.Words.{IsAmong, Kinds, Row, Text, first_of}
-use Rattle.clap.specs.declared.error.ErrorKind.TheVariants.{DisplayHelp, DisplayVersion}
+use Rattle.ps_arguments.specs.CommandLine.{Kinds, Row, Text}
 use Rattle.ps_words.specs.declared.fault.Fault.{Fault}
 use Rattle.ps_writing.specs.FaultJson.{fault_json}
 use Rattle.ps_writing.specs.JsonStrings.{json_text}
-use Rattle.ps_writing.specs.Prefixes.{AppendsPrefix}
 use Rattle.ps_writing.specs.declared.rows.Form.{Form}
 use Rattle.ps_writing.specs.declared.rows.Form.TheVariants.{Lines, Json}
 use Rattle.ps_linkfile.specs.LinkedFile.{LinkedFile, summary_of}
@@ -25,10 +23,11 @@ use Rattle.ps_texts.specs.declared.texts.Unmade.{Unmade}
 use Rattle.ps_texts.specs.declared.texts.Unmade.TheVariants as unmade
 use Rattle.ps_texts.specs.declared.kinds.TextKind.{TextKind}
 use Rattle.ps_texts.specs.declared.kinds.TextKind.TheVariants as kind
-use Rattle.ps_command.specs.SummaryLine.{summary_text}
-use Rattle.ps_command.specs.Requests.{files_of, has_output, has_references, is_json, is_quiet, is_strict, is_unit, libraries_of, map_file, out_and_libraries}
-use Rattle.ps_command.specs.declared.linking.Place.{Place}
-use Rattle.ps_command.specs.declared.linking.Place.TheVariants as place
+use Rattle.ps_outputs.specs.Places.{IsPlace, PrintsAt}
+use Rattle.ps_outputs.specs.SummaryLine.{summary_text}
+use Rattle.ps_arguments.specs.Requests.{EndsWithLine, MayAskForHelp, MayAskForVersion, file_of, files_of, has_output, has_references, host_of, is_json, is_quiet, is_strict, is_unit, libraries_of, map_file, out_and_libraries}
+use Rattle.ps_outputs.specs.declared.linking.Place.{Place}
+use Rattle.ps_outputs.specs.declared.linking.Place.TheVariants as place
 
 -- some link has this: of a host that was read at its path and of libraries that were read at
 -- theirs, one for one in their order, and of their linked file
@@ -37,33 +36,6 @@ abbrev pub SomeLink : (Text → List ℕ → Type 0) → Text → List Text
 SomeLink Reads path paths Holds =
     (host : List ℕ) × (libs : List (List ℕ)) × (file : List ℕ) × Reads path host
     × AllZip Reads paths libs × LinkedFile host libs file × Holds host libs file
-
--- Where the summary of a link is printed: nowhere if it is quiet; on standard error if its option
--- names OUT, and OUT leads to standard output, or if the file of the map does; and else on standard
--- output. `Leads` says of a path whether it was found to lead there.
-abbrev pub IsPlace : (Text → Bool → Type 0) → Bool → Bool → Text → Option Text → Place
-    → Type 0
-IsPlace Leads quiet by_option out map place.Nowhere = quiet ≡ true
-IsPlace Leads quiet by_option out map place.Output =
-    (quiet ≡ false) × (by_option ≡ true → Leads out false) × IfSome map (λ file. Leads file false)
-IsPlace Leads quiet by_option out map place.Error =
-    (quiet ≡ false) × (((by_option ≡ true) × Leads out true)
-    ⊎ IsSomeAnd map (λ file. Leads file true))
-
--- where a line beside the file of a map goes: on standard error if that file leads to standard
--- output, and else on standard output
-abbrev pub IsBeside : (Text → Bool → Type 0) → Option Text → Place → Type 0
-IsBeside Leads map place.Nowhere = ⊥
-IsBeside Leads map place.Output = IfSome map (λ file. Leads file false)
-IsBeside Leads map place.Error = IsSomeAnd map (λ file. Leads file true)
-
--- known writers of standard output and of standard error take a summary at its place; of standard
--- error, whose fault changes nothing, a prefix of it
-abbrev pub PrintsAt : Place → List ℕ → Option (List ℕ) → Option (List ℕ)
-    → Option (List ℕ) → Option (List ℕ) → Type 0
-PrintsAt place.Nowhere line old new old_err new_err = (new ≡ old) × (new_err ≡ old_err)
-PrintsAt place.Output line old new old_err new_err = Appends old new line × (new_err ≡ old_err)
-PrintsAt place.Error line old new old_err new_err = (new ≡ old) × AppendsPrefix old_err new_err line
 
 -- by a text of a host that was read at its path and of libraries that were read at theirs, one for
 -- one in their order, which ends with this status
@@ -104,8 +76,8 @@ PrintsLink Reads Writes Leads rows path old new old_err new_err =
     × SomeLink Reads path libraries (λ host libs file. Writes out file
     × WritesMap Writes (map_file rows) (map_kind (has_references rows) (is_json rows))
     (path ∷ libraries) host libs
-    × PrintsAt where_to (summary_text (is_json rows) (summary_of host libs)) old new old_err
-    new_err)
+    × PrintsAt where_to (summary_text (form_of (is_json rows)) (summary_of host libs)) old new
+    old_err new_err)
 
 -- a link that is named prints its summary on standard error
 abbrev pub TellsOnError : (Text → Bool → Type 0) → Option (Text × List Row) → Type 0
@@ -241,15 +213,15 @@ abbrev pub Prints : (Text → List ℕ → Type 0) → (Text → List ℕ → Ty
     → Option (List ℕ) → Option (List ℕ) → Option (List ℕ) → Type 0
 Prints Reads Writes Leads named status old new old_err new_err =
     (rows : List Row) × (path : Text) × (
-    ((named ≡ Some (codes "link", rows)) × (first_of (codes "HOST") rows ≡ Some path)
+    ((named ≡ Some (codes "link", rows)) × (host_of rows ≡ Some path)
     × LinksOrRefuses Reads Writes Leads rows path status old new old_err new_err)
-    ⊎ ((named ≡ Some (codes "map", rows)) × (first_of (codes "HOST") rows ≡ Some path)
+    ⊎ ((named ≡ Some (codes "map", rows)) × (host_of rows ≡ Some path)
     × PrintsOrRefuses Reads (map_kind (has_references rows) (is_json rows)) (is_json rows) path
     (libraries_of rows) status old new)
-    ⊎ ((named ≡ Some (codes "show", rows)) × (first_of (codes "FILE") rows ≡ Some path)
+    ⊎ ((named ≡ Some (codes "show", rows)) × (file_of rows ≡ Some path)
     × PrintsOrRefuses Reads (kind.Show (form_of (is_json rows))) (is_json rows) path [] status
     old new)
-    ⊎ ((named ≡ Some (codes "check", rows)) × (first_of (codes "HOST") rows ≡ Some path)
+    ⊎ ((named ≡ Some (codes "check", rows)) × (host_of rows ≡ Some path)
     × PrintsCheck Reads (is_unit rows) path (libraries_of rows) (is_strict rows)
     (is_json rows) status old new)
     ⊎ ((named ≡ Some (codes "list", rows))
@@ -261,10 +233,10 @@ version_line = codes "pslink 0.3.0" ++ 10 ∷ []
 
 -- a known writer takes one text that ends with a line end
 abbrev pub PrintsLines : Option (List ℕ) → Option (List ℕ) → Type 0
-PrintsLines old new = (text : List ℕ) × Appends old new (text ++ 10 ∷ [])
+PrintsLines old new = (text : List ℕ) × EndsWithLine text × Appends old new text
 
 -- by the line of the version, or by the help, whose words are clap's; each only where clap may
 -- answer that it is asked for
 abbrev pub PrintsText : Kinds → Option (List ℕ) → Option (List ℕ) → Type 0
-PrintsText faults old new = (IsAmong DisplayVersion faults × Appends old new version_line)
-    ⊎ (IsAmong DisplayHelp faults × PrintsLines old new)
+PrintsText faults old new = (MayAskForVersion faults × Appends old new version_line)
+    ⊎ (MayAskForHelp faults × PrintsLines old new)

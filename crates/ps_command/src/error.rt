@@ -1,21 +1,19 @@
 //! Why a command ends without having been done: a type for each step says what can happen there, and
 //! `CommandError` what is reported of it, with the status that the process ends with.
 ghost use Rattle.std.specs.Prelude.{◌≡◌, ◌≢◌};
-ghost use Rattle.clap.specs.Words.{kind_of};
-ghost use Rattle.clap.specs.declared.error.ErrorKind.TheVariants.{OutOfMemory};
 ghost use Rattle.ps_command.specs.declared.error.CommandError.TheVariants as told;
 ghost use Rattle.ps_command.specs.declared.error.FileError.TheVariants as file;
 ghost use Rattle.ps_command.specs.declared.error.RunError.TheVariants as run;
-ghost use Rattle.ps_command.specs.declared.error.UsageError.TheVariants as usage;
-ghost use Rattle.ps_linkfile.specs.declared.error.LinkError.TheVariants.{Write};
+ghost use Rattle.ps_arguments.specs.declared.usage.UsageError.TheVariants as usage;
+ghost use Rattle.ps_outputs.specs.declared.unlinked.Unlinked.TheVariants as unlinked;
 ghost use Rattle.ps_words.specs.declared.fault.Fault.{Fault};
 ghost use Rattle.ps_writing.specs.declared.write_fault.WriteFault.{WriteFault};
 ghost use Rattle.ps_command.specs.Causes.{cause_of, run_error_of, run_error_of_unmade, told_of, told_of_file, told_of_usage, told_with_cause as told_with_cause_spec};
 ghost use Rattle.ps_command.specs.Statuses.{status_of};
 
-use clap::error::ErrorKind;
+use ps_arguments::{UsageError, UsageText, WrongArgument};
 use ps_filetype::ShownPath;
-use ps_linkfile::LinkError;
+use ps_outputs::Unlinked;
 use ps_texts::Unmade;
 use ps_words::Fault;
 use ps_writing::WriteFault;
@@ -62,57 +60,6 @@ impl fmt::Display for Cause {
             Cause::Memory => "out of memory",
             Cause::Other => "the system gives another reason",
         })
-    }
-}
-
-/// The first argument that is not UTF-8, counted as a shell's `$1`, so that 0 is the program's name;
-/// none where that is not known. Its text is the end of the line that reports it.
-#[derive(Clone, Copy)]
-pub(crate) struct WrongArgument(pub(crate) Option<usize>);
-
-impl fmt::Display for WrongArgument {
-    fn fmt<W: fmt::Write>(&self, f: &mut Formatter<W>) -> fmt::Result {
-        match self.0 {
-            Some(number) => write!(f, ", and argument {number} is not"),
-            None => Ok(()),
-        }
-    }
-}
-
-/// Why a command line asks for nothing: it is wrong usage, or memory was refused.
-#[derive(Drop)]
-pub(crate) enum UsageError {
-    /// The program does not accept the arguments: what clap says of it.
-    Clap(clap::Error),
-    /// An argument is not UTF-8.
-    NotText(WrongArgument),
-    Memory,
-}
-
-impl From<AllocError> for UsageError {
-    ghost from_gives = { λ _ e. e ≡ usage.Memory };
-
-    fn from(_error: AllocError) -> Self {
-        UsageError::Memory
-    }
-}
-
-impl<T: Drop> From<AllocFailed<T>> for UsageError {
-    ghost from_gives = { λ _ e. e ≡ usage.Memory };
-
-    fn from(_error: AllocFailed<T>) -> Self {
-        UsageError::Memory
-    }
-}
-
-impl From<clap::Error> for UsageError {
-    ghost from_gives = { λ error e. (kind_of error ≡ OutOfMemory → e ≡ usage.Memory) × (kind_of error ≢ OutOfMemory → e ≡ usage.Clap error) };
-
-    fn from(error: clap::Error) -> Self {
-        match error.kind() {
-            ErrorKind::OutOfMemory => UsageError::Memory,
-            _ => UsageError::Clap(error),
-        }
     }
 }
 
@@ -225,15 +172,15 @@ impl From<Unmade> for RunError<'_> {
     }
 }
 
-impl From<LinkError> for RunError<'_> {
-    ghost from_gives = { λ error e. (e ≡ run_error_of error) × ((fault : WriteFault) → error ≡ Write fault → e ≡ run.StandardOutput) };
+impl<'a> From<Unlinked<'a>> for RunError<'a> {
+    ghost from_gives = { λ error e. (e ≡ run_error_of error) × (error ≡ unlinked.StandardOutput → e ≡ run.StandardOutput) };
 
-    /// What could not be written is standard output, since a file is named where it is written.
-    fn from(error: LinkError) -> Self {
+    fn from(error: Unlinked<'a>) -> Self {
         match error {
-            LinkError::Refused(fault) => RunError::Refused(fault),
-            LinkError::Memory => RunError::Memory,
-            LinkError::Write(_) => RunError::StandardOutput,
+            Unlinked::Refused(fault) => RunError::Refused(fault),
+            Unlinked::Memory => RunError::Memory,
+            Unlinked::Write { path } => RunError::Write { path },
+            Unlinked::StandardOutput => RunError::StandardOutput,
         }
     }
 }
@@ -246,7 +193,7 @@ pub(crate) enum CommandError<'a> {
     Refused(Fault),
     /// The program does not accept the arguments of the command line.
     #[error("{0}")]
-    Usage(clap::Error),
+    Usage(UsageText),
     /// An argument of the command line is not UTF-8.
     #[error("pslink: the arguments of a command are UTF-8{0}")]
     NotText(WrongArgument),
@@ -294,7 +241,7 @@ impl From<UsageError> for CommandError<'_> {
 
     fn from(error: UsageError) -> Self {
         match error {
-            UsageError::Clap(error) => CommandError::Usage(error),
+            UsageError::Wrong(text) => CommandError::Usage(text),
             UsageError::NotText(argument) => CommandError::NotText(argument),
             UsageError::Memory => CommandError::Memory,
         }
@@ -337,9 +284,9 @@ impl CommandError<'_> {
     pub(crate) fn report<E: Write>(&self, err: &mut E) -> u8
         ensures { result ≡ status_of self.now }
     {
-        // The texts of `clap` end with a line end of their own.
+        // The text of wrong usage ends with a line end of its own.
         let _ = match self {
-            CommandError::Usage(error) => write!(err, "{error}"),
+            CommandError::Usage(text) => write!(err, "{text}"),
             _ => writeln!(err, "{self}"),
         };
         self.status()

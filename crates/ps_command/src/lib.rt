@@ -2,19 +2,15 @@
 //! any runtime, allocator and writers, and `run_process` with the arguments of a process.
 #![tactic(auto)]
 
-mod command_line;
 mod ended;
 mod error;
 mod files;
 mod linking;
 mod lists;
-mod output;
-mod prepared;
 mod process;
 mod refusal;
-mod request;
 mod running;
 
-pub use files::CodeFiles;
 pub use process::run_process;
+pub use ps_outputs::CodeFiles;
 pub use running::run;

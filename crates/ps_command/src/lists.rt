@@ -4,13 +4,14 @@ ghost use Rattle.std.specs.Io.KnownBytes.{Appends};
 ghost use Rattle.ps_listing.specs.FileLists.{is_refused_in, listed};
 ghost use Rattle.ps_command.specs.Printed.{IsListed, PrintsDocument, PrintsFiles, PrintsLists, PrintsUnread};
 ghost use Rattle.ps_command.specs.Causes.{unread_error};
-ghost use Rattle.ps_command.specs.FilesRead.{Reads};
+ghost use Rattle.ps_outputs.specs.FilesRead.{Reads};
 ghost use Rattle.ps_command.specs.Statuses.{ended_status};
 
 use crate::ended::Ended;
 use crate::error::{Cause, CommandError};
-use crate::files::{self, CodeFiles, FileFault};
+use crate::files::{self, FileFault};
 use ps_listing::{ListForm, ListItem, ListedFile, UnreadItem};
+use ps_outputs::CodeFiles;
 use ps_writing::{WriteFault, write_all_of, write_text};
 use std::alloc::Allocator;
 use std::io::Write;

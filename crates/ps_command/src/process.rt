@@ -1,17 +1,17 @@
 //! The command that a process was started with.
-ghost use Rattle.std.specs.Prelude.{◌≡◌, ◌≢◌, ◌≤◌, ◌⊎◌, List, ℕ, IfErr, IfOk, map, string_bytes, true};
+ghost use Rattle.std.specs.Prelude.{◌≡◌, ◌≢◌, ◌≤◌, ◌⊎◌, List, ℕ, IfOk, map, string_bytes, true};
 ghost use Rattle.std.specs.Process.{exit_status};
-ghost use Rattle.ps_command.specs.CommandLine.{AreAccepted, named_in};
+ghost use Rattle.ps_arguments.specs.CommandLine.{AreAccepted, named_in};
 ghost use Rattle.ps_command.specs.Printed.{Prints, TellsOnError};
-ghost use Rattle.ps_command.specs.FilesRead.{Reads, Writes};
-ghost use Rattle.ps_command.specs.Requests.{NamesCheck, NamesDocument, NamesList};
+ghost use Rattle.ps_outputs.specs.FilesRead.{Reads, Writes};
+ghost use Rattle.ps_arguments.specs.Requests.{NamesCheck, NamesDocument, NamesList};
 
-use crate::error::{CommandError, UsageError, WrongArgument};
-use crate::files::CodeFiles;
+use crate::error::CommandError;
 use crate::running::run;
+use ps_arguments::given_args;
+use ps_outputs::CodeFiles;
 use std::alloc::{AllocError, Global};
-use std::env;
-use std::io::{ErrorKind, Write};
+use std::io::Write;
 use std::process::ExitCode;
 use std::rt::Env;
 
@@ -40,91 +40,6 @@ pub fn run_process<R: CodeFiles + Env + AllocGlobal, O: Write, E: Write>(
     match given_args(rt) {
         Ok(args) => run_args(rt, args.as_slice(), out, err),
         Err(error) => ExitCode::from(CommandError::from(error).report(err)),
-    }
-}
-
-/// The arguments of the command line, the program's name first.
-fn given_args<R: Env + AllocGlobal>(rt: &R) -> Result<Vec<String>, UsageError> {
-    match env::args(rt) {
-        Ok(args) => Ok(args.collect(rt.alloc())?),
-        Err(error) if error.kind() != ErrorKind::OutOfMemory && is_list(rt) => Ok(listed_args(rt)?),
-        Err(error) => Err(args_fault(error.kind(), wrong_argument(rt))),
-    }
-}
-
-/// The command is `list`.
-fn is_list<R: Env>(rt: &R) -> bool {
-    let mut room = [0u8; LIST.len()];
-    match rt.arg(1, &mut room) {
-        Ok(length) => room.get(..length) == Some(LIST),
-        Err(_) => false,
-    }
-}
-
-/// The arguments of `list`, of which some are not UTF-8.
-fn listed_args<R: Env + AllocGlobal>(rt: &R) -> Result<Vec<String>, AllocError> {
-    let mut room = [0u8; LONGEST_ARGUMENT];
-    let mut args = Vec::new(rt.alloc());
-    for number in 0..usize::MAX {
-        let Ok(length) = rt.arg(number, &mut room) else {
-            return Ok(args);
-        };
-        let text = argument_text(rt.alloc(), room.get(..length).unwrap_or(&[]))?;
-        args.push(text)?;
-    }
-    Ok(args)
-}
-
-/// An argument as text. One that is not UTF-8 has U+FFFD for each byte that ASCII does not have, and
-/// a zero byte at its end: so no file has that path.
-fn argument_text(alloc: Global, argument: &[u8]) -> Result<String, AllocError> {
-    let mut text = String::new(alloc);
-    if let Ok(argument) = str::from_utf8(argument) {
-        text.push_str(argument)?;
-        return Ok(text);
-    }
-    for byte in argument {
-        let shown = if byte.is_ascii() {
-            char::from(*byte)
-        } else {
-            '\u{FFFD}'
-        };
-        text.push(shown)?;
-    }
-    text.push('\0')?;
-    Ok(text)
-}
-
-/// The command that lists files.
-const LIST: &[u8] = b"list";
-
-/// The longest argument that is read to find one that is not UTF-8, in bytes: as long as Linux takes
-/// any.
-const LONGEST_ARGUMENT: usize = 131_072;
-
-/// The first argument that is not UTF-8; none where one before it is too long to be read.
-fn wrong_argument<R: Env>(rt: &R) -> WrongArgument {
-    let mut room = [0u8; LONGEST_ARGUMENT];
-    for number in 0..usize::MAX {
-        let Ok(length) = rt.arg(number, &mut room) else {
-            return WrongArgument(None);
-        };
-        let argument = room.get(..length).unwrap_or(&[]);
-        if str::from_utf8(argument).is_err() {
-            return WrongArgument(Some(number));
-        }
-    }
-    WrongArgument(None)
-}
-
-/// Why there are no arguments, by the kind of the error that reading them gave.
-fn args_fault(kind: ErrorKind, argument: WrongArgument) -> UsageError
-    ensures memory { kind ≡ ErrorKind.OutOfMemory → result ≡ UsageError.Memory }
-    ensures text { kind ≢ ErrorKind.OutOfMemory → result ≡ UsageError.NotText argument }
-{
-    match kind {
-        ErrorKind::OutOfMemory => UsageError::Memory,
-        _ => UsageError::NotText(argument),
     }
 }
 

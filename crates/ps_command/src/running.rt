@@ -1,29 +1,28 @@
 //! One command, from its arguments to its status.
-ghost use Rattle.std.specs.Prelude.{◌≡◌, ◌≢◌, ◌≤◌, ◌⊎◌, ◌∷◌, ◌++◌, [], List, Option, ℕ, IfErr, IfOk, OnOk, false, map, string_bytes, true};
+ghost use Rattle.std.specs.Prelude.{◌≡◌, ◌≢◌, ◌≤◌, ◌⊎◌, ◌∷◌, [], List, Option, IfErr, IfOk, OnOk, false, map};
 ghost use Rattle.std.specs.Io.KnownBytes.{Appends};
-ghost use Rattle.clap.specs.Words.{Row, Text};
 ghost use Rattle.ps_texts.specs.Sources.{contents};
 ghost use Rattle.ps_texts.specs.Paths.{paths_in};
-ghost use Rattle.ps_texts.specs.Texts.{IsTextOf, bytes_in, status_in};
+ghost use Rattle.ps_texts.specs.Texts.{bytes_in, status_in};
 ghost use Rattle.ps_texts.specs.Unmade.{CanRefuse};
-ghost use Rattle.ps_command.specs.CommandLine.{AreAccepted, AskForText, faults_in, named_in, texts};
+ghost use Rattle.ps_arguments.specs.CommandLine.{AreAccepted, AskForText, Row, Text, faults_in, named_in, texts};
 ghost use Rattle.ps_command.specs.Printed.{IsPrinted, Prints, PrintsLists, PrintsOrRefuses, PrintsText, PrintsTextOf, TellsOnError, list_form as list_form_spec, map_kind as map_kind_spec, units_form as units_form_spec};
-ghost use Rattle.ps_command.specs.FilesRead.{Reads, Writes};
-ghost use Rattle.ps_command.specs.Requests.{IsNamedCommand, NamesCheck, NamesDocument, NamesList};
+ghost use Rattle.ps_outputs.specs.FilesRead.{Reads, Writes};
+ghost use Rattle.ps_arguments.specs.Requests.{IsNamedCommand, NamesCheck, NamesDocument, NamesList};
 ghost use Rattle.ps_command.specs.Statuses.{ended_status, status_of};
 ghost use Rattle.ps_words.specs.declared.fault.Fault.{Fault};
 
 use crate::ended::Ended;
 use crate::error::{CommandError, RunError};
-use crate::files::{self, CodeFiles, InputBytes};
+use crate::files::{self, InputBytes, Paths};
 use crate::linking::{form_of, link, views};
 use crate::lists::print_lists;
-use crate::output;
 use crate::refusal::refuse;
-use crate::request::{self, Inputs, Request, Task};
+use ps_arguments::{Inputs, Request, Task, parse};
+use ps_outputs::CodeFiles;
 use ps_texts::{FilesText, Form, ListForm, NamedFiles, TextKind, text_of};
-use ps_writing::{WriteFault, write_text};
-use std::alloc::{AllocError, Allocator, Global};
+use ps_writing::{WriteFault, write_all_of, write_text};
+use std::alloc::Allocator;
 use std::io::Write;
 
 /// Does the command that `args` name, of which the first is the program's name, and returns the
@@ -133,14 +132,13 @@ fn carry_out<'a, R: CodeFiles + AllocGlobal, A: Allocator + Copy, O: Write, E: W
     ensures unrefused { AreAccepted (texts args.now) → NamesCheck (named_in (texts args.now))
         → IfErr result (λ e. status_of e ≢ 1) }
 {
-    match request::parse(rt, alloc, args)? {
-        Request::Help(text) => {
-            let words = help_words(rt.alloc(), text)?;
-            output::print(out, words.as_bytes())?;
+    match parse(&Paths(rt), rt.alloc(), alloc, args)? {
+        Request::Help(words) => {
+            write_all_of(out, words.as_bytes())?;
             Ok(Ended::Done)
         }
         Request::Version => {
-            output::print(out, b"pslink 0.3.0\n")?;
+            write_all_of(out, b"pslink 0.3.0\n")?;
             Ok(Ended::Done)
         }
         Request::Task(task) => Ok(perform(rt, alloc, task, out, err)?),
@@ -212,17 +210,6 @@ fn perform<'a, R: CodeFiles + AllocGlobal, A: Allocator + Copy, O: Write, E: Wri
             Ok(print_lists(rt, alloc, files.as_slice(), list_form(json), out, err)?)
         }
     }
-}
-
-/// The help, whose words are clap's, and a line end where these have none.
-fn help_words(heap: Global, text: clap::Error) -> Result<String, AllocError>
-    ensures { IfOk result (λ words. (text : List ℕ) × (string_bytes words ≡ text ++ 10 ∷ [])) }
-{
-    let mut words = text.to_string(heap)?;
-    if words.as_bytes().last() != Some(&b'\n') {
-        words.push('\n')?;
-    }
-    Ok(words)
 }
 
 /// The text that `map` prints: the map of a link, and with `references` what the link stores.

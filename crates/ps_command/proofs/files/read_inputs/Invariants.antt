@@ -1,7 +1,7 @@
 -- A library was read for each path so far.
 use Rattle.std.proofs.Common.{map, take}
 use Rattle.std.specs.List.{AllZip}
-use Rattle.ps_command.specs.FilesRead.{Reads}
+use Rattle.ps_outputs.specs.FilesRead.{Reads}
 use Rattle.ps_command.proofs.files.read_inputs.Given as goal
 
 abbrev pub invariant-loop-path : goal.invariant-loop-path

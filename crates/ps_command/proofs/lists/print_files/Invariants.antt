@@ -1,5 +1,5 @@
 use Rattle.std.proofs.Common.{◌≡◌, drop, map}
-use Rattle.ps_command.specs.FilesRead.{Reads}
+use Rattle.ps_outputs.specs.FilesRead.{Reads}
 use Rattle.ps_command.specs.Statuses.{ended_status}
 use Rattle.ps_command.proofs.ListsPrinted.{ListsLeft}
 use Rattle.ps_command.proofs.lists.print_files.Given as goal

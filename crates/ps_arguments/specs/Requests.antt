@@ -1,0 +1,167 @@
+-- What a request stands for, by the command and the files that clap finds named in the arguments.
+use Rattle.std.specs.Prelude.{◌≡◌, ◌++◌, Bool, true, false, List, ℕ, [], ◌∷◌, Option, None, Some, codes, is_some, map, option_map, string_bytes, unwrap_or, ⊤}
+use Rattle.std.specs.Borrow.{Bor}
+use Rattle.std.specs.List.{list_any}
+use Rattle.std.specs.Option.{option_map_or}
+use Rattle.std.specs.Str.{bytes_eq}
+use Rattle.clap.specs.Words.{IsAmong, Kinds, Row, Text, all_of, first_of}
+use Rattle.clap.specs.declared.error.ErrorKind.TheVariants.{DisplayHelp, DisplayVersion}
+use Rattle.ps_arguments.specs.declared.request.Inputs.{Inputs}
+use Rattle.ps_arguments.specs.declared.request.Link.{Link}
+use Rattle.ps_arguments.specs.declared.request.Request.{Request}
+use Rattle.ps_arguments.specs.declared.request.Request.TheVariants as request
+use Rattle.ps_arguments.specs.declared.request.Task.{Task}
+use Rattle.ps_arguments.specs.declared.request.Task.TheVariants as task
+
+-- the file that is named as HOST, or as FILE
+abbrev pub host_of : List Row → Option Text
+host_of rows = first_of (codes "HOST") rows
+
+abbrev pub file_of : List Row → Option Text
+file_of rows = first_of (codes "FILE") rows
+
+-- the libraries that are named, in their order
+abbrev pub libraries_of : List Row → List Text
+libraries_of rows = unwrap_or (all_of (codes "LIB") rows) []
+
+-- the files that are named for a list, in their order
+abbrev pub files_of : List Row → List Text
+files_of rows = unwrap_or (all_of (codes "FILE") rows) []
+
+-- the files that are named as HOST and as libraries
+abbrev pub NamesInputs : {A : Type 0} → Inputs A → List Row → Type 0
+NamesInputs inputs rows = (host_of rows ≡ Some inputs.host.now)
+    × (map (λ path. path.now) inputs.libraries.items ≡ libraries_of rows)
+
+-- the path is one of these, byte for byte
+abbrev pub is_library : Text → List Text → Bool
+is_library path libraries = list_any (λ library. bytes_eq library path) libraries
+
+-- the file that a link writes is no library of it
+abbrev pub IsUnread : {A : Type 0} → Link A → Type 0
+IsUnread link = is_library link.out.now (map (λ path. path.now) link.inputs.libraries.items) ≡ false
+
+-- the file of the map is none that the link reads or writes; there is one where the map is to have
+-- what the link stores
+abbrev pub IsApartFrom : Option (Bor Text) → Bool → Text → Text → List Text → Type 0
+IsApartFrom None references out host libraries = references ≡ false
+IsApartFrom (Some file) references out host libraries =
+    (is_library file.now (out ∷ host ∷ []) ≡ false) × (is_library file.now libraries ≡ false)
+
+abbrev pub IsApart : {A : Type 0} → Link A → Type 0
+IsApart link = IsApartFrom link.map link.references link.out.now link.inputs.host.now
+    (map (λ path. path.now) link.inputs.libraries.items)
+
+-- the flag of this name is given
+abbrev pub has_flag : Text → List Row → Bool
+has_flag name rows = option_map_or (λ value. bytes_eq value (codes "true"))
+    (first_of name rows) false
+
+-- the flags `--strict`, `--unit`, `--references` and `--json` are given
+abbrev pub is_strict : List Row → Bool
+is_strict rows = has_flag (codes "strict") rows
+
+abbrev pub is_unit : List Row → Bool
+is_unit rows = has_flag (codes "unit") rows
+
+abbrev pub has_references : List Row → Bool
+has_references rows = has_flag (codes "references") rows
+
+abbrev pub is_json : List Row → Bool
+is_json rows = has_flag (codes "json") rows
+
+-- `--quiet`
+abbrev pub is_quiet : List Row → Bool
+is_quiet rows = has_flag (codes "quiet") rows
+
+-- OUT is named by its option
+abbrev pub has_output : List Row → Bool
+has_output rows = is_some (first_of (codes "OUT") rows)
+
+-- the file that a link writes, and its libraries: OUT is named by its option, or else it is the
+-- first of the files that are named after HOST, and no library
+abbrev pub out_among : Option Text → List Text → Option (Text × List Text)
+out_among (Some out) files = Some (out, files)
+out_among None [] = None
+out_among None (out ∷ files) = Some (out, files)
+
+abbrev pub out_and_libraries : List Row → Option (Text × List Text)
+out_and_libraries rows = out_among (first_of (codes "OUT") rows) (libraries_of rows)
+
+-- the file to which the map of a link is written too
+abbrev pub map_file : List Row → Option Text
+map_file rows = file_of rows
+
+-- a link of the files that are named for it; it writes no file that is a library of it, and its map
+-- to no file of it
+pub record NamesLink {A : Type 0} (link : Link A) (rows : List Row) : Type 0 where
+  pub host : host_of rows ≡ Some link.inputs.host.now
+  pub files : out_and_libraries rows
+      ≡ Some (link.out.now, map (λ path. path.now) link.inputs.libraries.items)
+  pub by_option : link.by_option ≡ has_output rows
+  pub map_file : option_map (λ path. path.now) link.map ≡ map_file rows
+  pub references : link.references ≡ has_references rows
+  pub json : link.json ≡ is_json rows
+  pub quiet : link.quiet ≡ is_quiet rows
+  pub unread : IsUnread link
+  pub apart : IsApart link
+
+-- the command that is named, with the files that are named for it; a check of units is not strict
+abbrev pub IsNamedCommand : {A : Type 0} → Task A → Option (Text × List Row) → Type 0
+IsNamedCommand (task.Link link) named =
+    (rows : List Row) × (named ≡ Some (codes "link", rows)) × NamesLink link rows
+IsNamedCommand (task.Map inputs references json) named =
+    (rows : List Row) × (named ≡ Some (codes "map", rows)) × NamesInputs inputs rows
+    × (references ≡ has_references rows) × (json ≡ is_json rows)
+IsNamedCommand (task.Show file json) named =
+    (rows : List Row) × (named ≡ Some (codes "show", rows))
+    × (file_of rows ≡ Some file.now) × (json ≡ is_json rows)
+IsNamedCommand (task.Check inputs strict unit json) named =
+    (rows : List Row) × (named ≡ Some (codes "check", rows)) × NamesInputs inputs rows
+    × (strict ≡ is_strict rows) × (unit ≡ is_unit rows) × (json ≡ is_json rows)
+    × (unit ≡ true → strict ≡ false)
+IsNamedCommand (task.List files json) named =
+    (rows : List Row) × (named ≡ Some (codes "list", rows))
+    × (map (λ path. path.now) files.items ≡ files_of rows) × (json ≡ is_json rows)
+
+-- the help or the version, or the command that is named
+abbrev pub IsAsked : {A : Type 0} → Request A → Option (Text × List Row) → Type 0
+IsAsked (request.Help text) named = ⊤
+IsAsked request.Version named = ⊤
+IsAsked (request.Task t) named = IsNamedCommand t named
+
+-- a command, and not the help or the version, which is the one that is named
+abbrev pub IsTask : {A : Type 0} → Request A → Option (Text × List Row) → Type 0
+IsTask (request.Task t) named = IsNamedCommand t named
+IsTask _ named = ⊥
+
+-- a text ends with a line end
+abbrev pub EndsWithLine : List ℕ → Type 0
+EndsWithLine text = (words : List ℕ) × (text ≡ words ++ 10 ∷ [])
+
+-- clap may answer that the help is asked for, or the version
+abbrev pub MayAskForHelp : Kinds → Type 0
+MayAskForHelp faults = IsAmong DisplayHelp faults
+
+abbrev pub MayAskForVersion : Kinds → Type 0
+MayAskForVersion faults = IsAmong DisplayVersion faults
+
+-- the help or the version only where clap may answer that it is asked for, and a command only where
+-- clap finds no fault
+abbrev pub Answers : {A : Type 0} → Request A → Kinds → Type 0
+Answers (request.Help text) faults = MayAskForHelp faults × EndsWithLine (string_bytes text)
+Answers request.Version faults = MayAskForVersion faults
+Answers (request.Task t) faults = faults ≡ []
+
+-- a check is named
+abbrev pub NamesCheck : Option (Text × List Row) → Type 0
+NamesCheck named = (rows : List Row) × (named ≡ Some (codes "check", rows))
+
+-- a list is named
+abbrev pub NamesList : Option (Text × List Row) → Type 0
+NamesList named = (rows : List Row) × (named ≡ Some (codes "list", rows))
+
+-- a command is named that prints a refusal as a document
+abbrev pub NamesDocument : Option (Text × List Row) → Type 0
+NamesDocument named = (name : Text) × (rows : List Row) × (named ≡ Some (name, rows))
+    × (is_json rows ≡ true)

@@ -1,0 +1,14 @@
+//! The command line of `pslink`: what a program's arguments ask it to do, the help, and wrong usage.
+//! `parse` reads arguments, and `given_args` collects those of a process. No other crate calls clap.
+#![tactic(auto)]
+
+mod command_line;
+mod given;
+mod request;
+mod same_file;
+mod usage;
+
+pub use given::given_args;
+pub use request::{Inputs, Link, Request, Task, parse};
+pub use same_file::SameFile;
+pub use usage::{UsageError, UsageText, WrongArgument};

@@ -1,0 +1,507 @@
+//! What the arguments of a command line ask the program to do.
+ghost use Rattle.std.specs.Prelude.{◌≡◌, IfErr, IfOk, None, Some, [], ◌∷◌, codes, false, is_some, map, option_map, string_bytes, unwrap_or};
+ghost use Rattle.clap.specs.Words.{FailsBy, all_of, first_of, found_of, kind_of, rows_of, subcommand_rows_of};
+ghost use Rattle.ps_arguments.specs.CommandLine.{AreAccepted, AskForText, faults_in, named_in, texts};
+ghost use Rattle.ps_arguments.specs.Requests.{Answers, EndsWithLine, IsAsked, IsNamedCommand, IsTask, NamesInputs, IsApart, IsUnread, has_flag as has_flag_spec, is_library, out_among};
+
+use crate::command_line::{check_usage, command, link_usage};
+use crate::same_file::{SameFile, first_to};
+use crate::usage::UsageError;
+use clap::error::ErrorKind;
+use clap::{ArgMatches, Command};
+use std::alloc::{AllocError, Allocator, Global};
+
+/// What the arguments of a command line ask the program to do.
+#[derive(Drop)]
+pub enum Request<'a, A: Allocator> {
+    /// Prints the help, which ends with a line end. Its words are clap's.
+    Help(String),
+    /// Prints the version.
+    Version,
+    /// Does what a command says.
+    Task(Task<'a, A>),
+}
+
+/// What a command says, with the files and the flags that are named for it.
+#[derive(Drop)]
+pub enum Task<'a, A: Allocator> {
+    /// Links files, and writes the linked file.
+    Link(Link<'a, A>),
+    /// Prints the map of a link of the inputs, and with `references` what the link stores; with
+    /// `json` as JSON.
+    Map {
+        inputs: Inputs<'a, A>,
+        references: bool,
+        json: bool,
+    },
+    /// Prints what `file` has, with `json` as JSON.
+    Show {
+        file: &'a str,
+        json: bool,
+    },
+    /// Prints the report of a check of the inputs, with `json` as JSON; if it is `strict`, a
+    /// warning is reported by the status too. With `unit` a list of each of the inputs, with its
+    /// units by themselves, and no report; then it is not strict.
+    Check {
+        inputs: Inputs<'a, A>,
+        strict: bool,
+        unit: bool,
+        json: bool,
+    },
+    /// Prints a line of each of these files and of each of its segments, or the same with `json` as
+    /// JSON.
+    List {
+        files: Vec<&'a str, A>,
+        json: bool,
+    },
+}
+
+/// The paths of a host and of the libraries, in the order in which units are looked up in them.
+#[derive(Drop)]
+pub struct Inputs<'a, A: Allocator> {
+    pub host: &'a str,
+    pub libraries: Vec<&'a str, A>,
+}
+
+/// A link: its files, the file to write, and what is printed.
+#[derive(Drop)]
+pub struct Link<'a, A: Allocator> {
+    pub inputs: Inputs<'a, A>,
+    /// The path of the file to write.
+    pub out: &'a str,
+    /// The option names that path, and not its place after the host.
+    pub by_option: bool,
+    /// The path of the file to which the map is written too.
+    pub map: Option<&'a str>,
+    /// The map has what the link stores, too.
+    pub references: bool,
+    /// The summary and the map are documents.
+    pub json: bool,
+    /// No summary is printed.
+    pub quiet: bool,
+}
+
+/// Reads the arguments, of which the first is the program's name. A link whose OUT is a library too,
+/// at this path or at another that leads there, is wrong usage, and so is one whose map would be written
+/// to a file of it, or that has no map to write what it stores to; and a check of units that is strict.
+pub fn parse<'a, F: SameFile, A: Allocator + Copy>(
+    files: &F,
+    heap: Global,
+    alloc: A,
+    args: &'a [&'a str],
+) -> Result<Request<'a, A>, UsageError>
+    ensures asked { IfOk result (λ r. IsAsked r (named_in (texts args.now))) }
+
+    // The help or the version only where it is asked for, and a command only where clap finds no
+    // fault.
+    ensures answers { IfOk result (λ r. Answers r (faults_in (texts args.now))) }
+    ensures text { AskForText (texts args.now) → IfErr result (λ e. e ≡ UsageError.Memory) }
+
+    // Arguments that clap accepts name a command, and ask for no help.
+    ensures named { AreAccepted (texts args.now)
+        → IfOk result (λ r. IsTask r (named_in (texts args.now))) }
+{
+    match matches(heap, args) {
+        Ok(matches) => Ok(Request::Task(task_of(files, heap, alloc, &matches)?)),
+        Err(error) => match error.kind() {
+            ErrorKind::DisplayHelp => Ok(Request::Help(help_words(heap, error)?)),
+            ErrorKind::DisplayVersion => Ok(Request::Version),
+            _ => Err(UsageError::from(error)),
+        },
+    }
+}
+
+/// What `clap` finds in the arguments.
+fn matches<'a>(heap: Global, args: &'a [&'a str]) -> Result<ArgMatches<'a>, clap::Error>
+    ensures found { IfOk result (λ m. subcommand_rows_of m ≡ named_in (texts args.now)) }
+    ensures faults { FailsBy (faults_in (texts args.now)) result }
+    ensures memory { AreAccepted (texts args.now)
+        → IfErr result (λ e. kind_of e ≡ ErrorKind.OutOfMemory) }
+{
+    command(heap)?.try_get_matches_from(args)
+}
+
+/// The help, whose words are clap's, and a line end where these have none.
+fn help_words(heap: Global, text: clap::Error) -> Result<String, AllocError>
+    ensures { IfOk result (λ words. EndsWithLine (string_bytes words)) }
+{
+    let mut words = text.to_string(heap)?;
+    if words.as_bytes().last() != Some(&b'\n') {
+        words.push('\n')?;
+    }
+    Ok(words)
+}
+
+/// The command that was found, with its files.
+fn task_of<'a, F: SameFile, A: Allocator + Copy>(
+    files: &F,
+    heap: Global,
+    alloc: A,
+    matches: &ArgMatches<'a>,
+) -> Result<Task<'a, A>, UsageError>
+    ensures { IfOk result (λ t. IsNamedCommand t (subcommand_rows_of matches.now)) }
+{
+    let Some((name, found)) = matches.subcommand() else {
+        return Err(missing_argument(heap));
+    };
+    match name {
+        "link" => link_of(files, heap, alloc, found),
+        "map" => map_of(heap, alloc, found),
+        "show" => show_of(heap, found),
+        "check" => check_of(heap, alloc, found),
+        "list" => list_of(alloc, found),
+        _ => Err(missing_argument(heap)),
+    }
+}
+
+fn link_of<'a, F: SameFile, A: Allocator + Copy>(
+    files: &F,
+    heap: Global,
+    alloc: A,
+    found: &ArgMatches<'a>,
+) -> Result<Task<'a, A>, UsageError>
+    ensures { IfOk result (λ t. IsNamedCommand t
+        (Some (codes "link", rows_of (found_of found.now)))) }
+{
+    let Inputs {
+        host,
+        mut libraries,
+    } = inputs_of(heap, alloc, found)?;
+    let out = out_of(heap, found, &mut libraries)?;
+    let by_option = is_given(found, "OUT");
+    let map = value_of(found, "FILE");
+    let references = has_flag(found, "references");
+    let json = has_flag(found, "json");
+    let quiet = has_flag(found, "quiet");
+    let link = Link {
+        inputs: Inputs { host, libraries },
+        out,
+        by_option,
+        map,
+        references,
+        json,
+        quiet,
+    };
+    check_out(files, heap, &link)?;
+    check_map(files, heap, &link)?;
+    Ok(Task::Link(link))
+}
+
+/// Refuses a link that would write a library of it.
+fn check_out<F: SameFile, A: Allocator>(
+    files: &F,
+    heap: Global,
+    link: &Link<'_, A>,
+) -> Result<(), UsageError>
+    ensures { IfOk result (λ _. IsUnread link.now) }
+{
+    match overwritten(files, link.inputs.libraries.as_slice(), link.out) {
+        Some(library) => Err(written_library(heap, link.out, library)),
+        None => Ok(()),
+    }
+}
+
+/// Refuses a link whose map would be written to a file of it, and one that is to write what it stores
+/// and has no map.
+fn check_map<F: SameFile, A: Allocator>(
+    files: &F,
+    heap: Global,
+    link: &Link<'_, A>,
+) -> Result<(), UsageError>
+    ensures { IfOk result (λ _. IsApart link.now) }
+{
+    match link.map {
+        Some(file) => check_map_file(files, heap, link, file),
+        None => check_references(heap, link.references),
+    }
+}
+
+/// Refuses a link without a map that is to write what it stores.
+fn check_references(heap: Global, references: bool) -> Result<(), UsageError>
+    ensures { IfOk result (λ _. references ≡ false) }
+{
+    if references {
+        return Err(references_alone(heap));
+    }
+    Ok(())
+}
+
+/// Refuses a link whose map would be written to a file of it, by its path or by another that leads
+/// there.
+fn check_map_file<F: SameFile, A: Allocator>(
+    files: &F,
+    heap: Global,
+    link: &Link<'_, A>,
+    file: &str,
+) -> Result<(), UsageError>
+    ensures own { IfOk result (λ _. is_library file.now
+        (link.now.out.now ∷ link.now.inputs.host.now ∷ []) ≡ false) }
+    ensures libraries { IfOk result (λ _. is_library file.now
+        (map (λ path. path.now) link.now.inputs.libraries.items) ≡ false) }
+{
+    let own = [link.out, link.inputs.host];
+    if let Some(other) = overwritten(files, &own, file) {
+        return Err(written_by_map(heap, file, other));
+    }
+    match overwritten(files, link.inputs.libraries.as_slice(), file) {
+        Some(other) => Err(written_by_map(heap, file, other)),
+        None => Ok(()),
+    }
+}
+
+/// The path of the file to write: that which the option names, or else the first of these libraries,
+/// which is then none of them.
+// clap's `required_unless_present` would say when OUT has to be named. What its contracts say of
+// arguments that are accepted holds of commands without such a rule.
+fn out_of<'a, A: Allocator>(
+    heap: Global,
+    found: &ArgMatches<'a>,
+    libraries: &mut Vec<&'a str, A>,
+) -> Result<&'a str, UsageError>
+    ensures { IfOk result (λ out. out_among
+        (first_of (codes "OUT") (rows_of (found_of found.now)))
+        (map (λ path. path.now) libraries.old.items)
+        ≡ Some (out.now, map (λ path. path.now) libraries.new.items)) }
+{
+    match found.get_str("OUT") {
+        Some(out) => Ok(out),
+        None => first_as_out(heap, libraries),
+    }
+}
+
+/// The first of these, which is then none of them.
+fn first_as_out<'a, A: Allocator>(
+    heap: Global,
+    libraries: &mut Vec<&'a str, A>,
+) -> Result<&'a str, UsageError>
+    ensures { IfOk result (λ out. out_among None (map (λ path. path.now) libraries.old.items)
+        ≡ Some (out.now, map (λ path. path.now) libraries.new.items)) }
+{
+    if libraries.is_empty() {
+        return Err(missing_out(heap));
+    }
+    Ok(libraries.remove(0))
+}
+
+/// The first of these files that is written at `out`, by its path or by another that leads there.
+fn overwritten<'a, F: SameFile>(files: &F, libraries: &[&'a str], out: &'a str) -> Option<&'a str>
+    ensures { result ≡ None → is_library out.entry.now (map (λ path. path.now) libraries.now)
+        ≡ false }
+{
+    if libraries.contains(&out) {
+        return Some(out);
+    }
+    first_to(files, libraries, out)
+}
+
+fn map_of<'a, A: Allocator + Copy>(
+    heap: Global,
+    alloc: A,
+    found: &ArgMatches<'a>,
+) -> Result<Task<'a, A>, UsageError>
+    ensures { IfOk result (λ t. IsNamedCommand t
+        (Some (codes "map", rows_of (found_of found.now)))) }
+{
+    let inputs = inputs_of(heap, alloc, found)?;
+    let references = has_flag(found, "references");
+    let json = has_flag(found, "json");
+    Ok(Task::Map {
+        inputs,
+        references,
+        json,
+    })
+}
+
+fn show_of<'a, A: Allocator + Copy>(
+    heap: Global,
+    found: &ArgMatches<'a>,
+) -> Result<Task<'a, A>, UsageError>
+    ensures { IfOk result (λ t. IsNamedCommand t
+        (Some (codes "show", rows_of (found_of found.now)))) }
+{
+    let file = file_of(heap, found, "FILE")?;
+    let json = has_flag(found, "json");
+    Ok(Task::Show { file, json })
+}
+
+fn check_of<'a, A: Allocator + Copy>(
+    heap: Global,
+    alloc: A,
+    found: &ArgMatches<'a>,
+) -> Result<Task<'a, A>, UsageError>
+    ensures { IfOk result (λ t. IsNamedCommand t
+        (Some (codes "check", rows_of (found_of found.now)))) }
+{
+    let inputs = inputs_of(heap, alloc, found)?;
+    let strict = has_flag(found, "strict");
+    let unit = has_flag(found, "unit");
+    let json = has_flag(found, "json");
+    if strict && unit {
+        return Err(strict_units(heap));
+    }
+    Ok(Task::Check {
+        inputs,
+        strict,
+        unit,
+        json,
+    })
+}
+
+fn list_of<'a, A: Allocator + Copy>(
+    alloc: A,
+    found: &ArgMatches<'a>,
+) -> Result<Task<'a, A>, UsageError>
+    ensures { IfOk result (λ t. IsNamedCommand t
+        (Some (codes "list", rows_of (found_of found.now)))) }
+{
+    let files = paths_of(alloc, found, "FILE")?;
+    let json = has_flag(found, "json");
+    Ok(Task::List { files, json })
+}
+
+/// The flag of this name is given.
+fn has_flag(found: &ArgMatches<'_>, name: &str) -> bool
+    ensures { result ≡ has_flag_spec name.now (rows_of (found_of found.now)) }
+{
+    match found.get_str(name) {
+        Some(value) => value == "true",
+        None => false,
+    }
+}
+
+/// An argument of this name is given.
+fn is_given(found: &ArgMatches<'_>, name: &str) -> bool
+    ensures { result ≡ is_some (first_of name.now (rows_of (found_of found.now))) }
+{
+    found.get_str(name).is_some()
+}
+
+/// The value that is given for an argument, if there is one.
+fn value_of<'a>(found: &ArgMatches<'a>, name: &str) -> Option<&'a str>
+    ensures { option_map (λ value. value.now) result
+        ≡ first_of name.now (rows_of (found_of found.now)) }
+{
+    found.get_str(name)
+}
+
+fn inputs_of<'a, A: Allocator + Copy>(
+    heap: Global,
+    alloc: A,
+    found: &ArgMatches<'a>,
+) -> Result<Inputs<'a, A>, UsageError>
+    ensures { IfOk result (λ inputs. NamesInputs inputs (rows_of (found_of found.now))) }
+{
+    let host = file_of(heap, found, "HOST")?;
+    let libraries = paths_of(alloc, found, "LIB")?;
+    Ok(Inputs { host, libraries })
+}
+
+/// The path that is given for an argument.
+fn file_of<'a>(heap: Global, found: &ArgMatches<'a>, argument: &str) -> Result<&'a str, UsageError>
+    ensures { IfOk result (λ path. first_of argument.now (rows_of (found_of found.now))
+        ≡ Some path.now) }
+{
+    match found.get_str(argument) {
+        Some(path) => Ok(path),
+        None => Err(missing_argument(heap)),
+    }
+}
+
+/// The error of arguments that leave out a command or a file of one, which `clap` does not accept.
+fn missing_argument(heap: Global) -> UsageError {
+    usage_error(
+        command(heap),
+        ErrorKind::MissingSubcommand,
+        "a command and its files have to be named",
+    )
+}
+
+/// The error of a link of which no file to write is named.
+fn missing_out(heap: Global) -> UsageError {
+    usage_error(
+        link_usage(heap),
+        ErrorKind::MissingRequiredArgument,
+        "the following required arguments were not provided:\n  <OUT>",
+    )
+}
+
+/// The error of a check of units that is to be strict: no list has a warning.
+fn strict_units(heap: Global) -> UsageError {
+    usage_error(
+        check_usage(heap),
+        ErrorKind::ArgumentConflict,
+        "the argument '--strict' cannot be used with '--unit'",
+    )
+}
+
+/// The error of a link that is to write to its map what it stores, and has none.
+fn references_alone(heap: Global) -> UsageError {
+    usage_error(
+        link_usage(heap),
+        ErrorKind::MissingRequiredArgument,
+        "the following required arguments were not provided:\n  --map <FILE>",
+    )
+}
+
+/// The error of arguments that name the file of the map as another file of the link too.
+fn written_by_map(heap: Global, file: &str, other: &str) -> UsageError {
+    match written_by_map_text(heap, file, other) {
+        Ok(text) => usage_error(link_usage(heap), ErrorKind::ValueValidation, text.as_str()),
+        Err(error) => UsageError::from(error),
+    }
+}
+
+fn written_by_map_text(heap: Global, file: &str, other: &str) -> Result<String, AllocError> {
+    if file == other {
+        return format!(in heap;
+            "invalid value '{file}' for '--map <FILE>': it is named as another file too"
+        );
+    }
+    format!(in heap; "invalid value '{file}' for '--map <FILE>': it is the file '{other}'")
+}
+
+/// The error of arguments that name the file to write as a library too, at this path or another.
+fn written_library(heap: Global, out: &str, library: &str) -> UsageError {
+    match written_library_text(heap, out, library) {
+        Ok(text) => usage_error(link_usage(heap), ErrorKind::ValueValidation, text.as_str()),
+        Err(error) => UsageError::from(error),
+    }
+}
+
+fn written_library_text(heap: Global, out: &str, library: &str) -> Result<String, AllocError> {
+    if out == library {
+        return format!(in heap; "invalid value '{out}' for '<OUT>': it is named as a library too");
+    }
+    format!(in heap; "invalid value '{out}' for '<OUT>': it is the library '{library}'")
+}
+
+/// The error of this kind, with the usage of a command, if there was memory for the command.
+fn usage_error(made: Result<Command<'_>, AllocError>, kind: ErrorKind, text: &str) -> UsageError {
+    match made {
+        Ok(mut command) => error_with_usage(&mut command, kind, text),
+        Err(error) => UsageError::from(error),
+    }
+}
+
+/// The error of this kind, with the usage of this command.
+fn error_with_usage(command: &mut Command<'_>, kind: ErrorKind, text: &str) -> UsageError {
+    match command.error(kind, text) {
+        Ok(error) => UsageError::from(error),
+        Err(error) => UsageError::from(error),
+    }
+}
+
+/// The paths that are given for an argument, in their order.
+fn paths_of<'a, A: Allocator + Copy>(
+    alloc: A,
+    found: &ArgMatches<'a>,
+    argument: &str,
+) -> Result<Vec<&'a str, A>, AllocError>
+    ensures { IfOk result (λ paths. map (λ path. path.now) paths.items
+        ≡ unwrap_or (all_of argument.now (rows_of (found_of found.now))) []) }
+{
+    match found.get_strs(argument) {
+        Some(paths) => Vec::from_slice(alloc, paths),
+        None => Ok(Vec::new(alloc)),
+    }
+}
