@@ -118,7 +118,9 @@ def unit_differences(library, room, host, libraries):
         return
     used = {bytes.fromhex(name["name_hex"]) for file in files for one in file["segments"] for name in one["uses"]}
     others = wanted[len(by_slot) :]
-    if wanted != once(wanted) or not set(others) <= used - set(of_role("unit", "wanted")) or len(others) > 10:
+    # of a library that is something else the list has no segments, and a link reads them
+    are_used = set(others) <= used or any(file["type"] is not None for file in files[1:])
+    if wanted != once(wanted) or not are_used or set(others) & set(of_role("unit", "wanted")) or len(others) > 10:
         yield f"the units {wanted} are wanted"
     if wanted and not of_role("host", "unit", "wanted"):
         yield f"a file with nothing to link wants {wanted}"
