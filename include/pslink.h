@@ -105,11 +105,13 @@ extern "C" {
                                 begins with `warning: `, `note: ` or `harmless: `; nothing where it
                                 finds nothing */
 
-/* Names of units, eight bytes each as the files have them, one after another: `size / 8` of them. */
-#define PSLINK_WANTED 7u /* those that the slots of the host want, by slot, and then those that
-                            records request for which the host has no unit, in the order of their
-                            requests, ten of them at most. A name that a slot wants may be among
-                            these again, if the libraries do not have it */
+/* Names of units, eight bytes each as the files have them, one after another: `size / 8` of them.
+   There is none where files[0] is linked already, or where its list says that it is something else
+   than a code file. */
+#define PSLINK_WANTED 7u /* those that the slots of the host want, by slot, and then those that a
+                            record requests, of the host or of a unit that was found, and no slot of
+                            the host has, in the order of their requests, ten of these at most. Each
+                            name is there once */
 #define PSLINK_HAD 8u    /* those of the units whose code files[0] has, by slot */
 
 /* PSLINK_MAP | PSLINK_JSON and so on: one JSON document in place of lines. PSLINK_UNITS, and the names
@@ -227,10 +229,10 @@ uint32_t pslink_link(const pslink_file *files, size_t count, void *out, size_t r
  * `files`: as those of pslink_link. Of a list and of its units all are equal; a show and the names of
  * what is had are of files[0] alone.
  *
- * A map and its references are refused as a link is, a show as 1 ShortFile or 2 NoOrder only, and
- * names of units as these or as 4 NoHost, where files[0] has no segment at all. A report, what it
- * finds, a list and its units are never PSLINK_REFUSED: what is wrong with the files is in the text,
- * and of a report in `answer` too, with the number of its warnings.
+ * A map and its references are refused as a link is, a show and names of units as 1 ShortFile or
+ * 2 NoOrder only. A report, what it finds, a list and its units are never PSLINK_REFUSED: what is
+ * wrong with the files is in the text, and of a report in `answer` too, with the number of its
+ * warnings.
  */
 uint32_t pslink_text(uint32_t what, const pslink_file *files, size_t count, void *out, size_t room,
                      pslink_answer *answer);

@@ -350,7 +350,21 @@ static void check_findings(void)
     library = kept;
 }
 
-/* The names of units that are wanted and had. */
+/* Whether these are the names of units that files want or have. */
+static int are_names(uint32_t what, pslink_file one, const pslink_file *lib, const char *names)
+{
+    static unsigned char room[ROOM];
+    const pslink_file files[2] = {one, lib == NULL ? one : *lib};
+    const size_t size = strlen(names);
+    pslink_answer answer;
+
+    memset(&answer, 0xFF, sizeof answer);
+    memset(room, FILLER, sizeof room);
+    return pslink_text(what, files, lib == NULL ? 1 : 2, room, sizeof room, &answer) == PSLINK_DONE && answer.size == size &&
+           !has_fault(&answer) && memcmp(room, names, size) == 0 && is_untouched(room, size, sizeof room);
+}
+
+/* The names of units that are wanted and had, in rooms of each kind; nothing is refused. */
 static void check_units(void)
 {
     static unsigned char room[ROOM];
@@ -366,13 +380,72 @@ static void check_units(void)
     check(pslink_text(PSLINK_WANTED, &host, 1, room, 8, &answer) == PSLINK_DONE && answer.size == 8 &&
               memcmp(room, "UTIL    ", 8) == 0 && is_untouched(room, 8, sizeof room),
           "the host wants another unit", answer.size);
-    check(pslink_text(PSLINK_HAD, &host, 1, room, sizeof room, &answer) == PSLINK_DONE && answer.size == 0, "the host has a unit", answer.size);
-    check(pslink_text(PSLINK_HAD, &library, 1, room, sizeof room, &answer) == PSLINK_DONE && answer.size == 8 &&
-              memcmp(room, "UTIL    ", 8) == 0,
-          "the library has other units", answer.size);
+    check(are_names(PSLINK_WANTED, host, &library, "UTIL    "), "the host wants another unit beside the library", 0);
+    check(are_names(PSLINK_HAD, host, NULL, ""), "the host has a unit", 0);
+    check(are_names(PSLINK_HAD, library, NULL, "UTIL    "), "the library has other units", 0);
     check(pslink_text(PSLINK_WANTED, &nothing, 1, room, sizeof room, &answer) == PSLINK_REFUSED &&
               answer.fault == PSLINK_FAULT_SHORT_FILE && answer.file == 0,
           "nothing wants units", answer.fault);
+    check(pslink_text(PSLINK_HAD, &nothing, 1, room, sizeof room, &answer) == PSLINK_REFUSED &&
+              answer.fault == PSLINK_FAULT_SHORT_FILE && answer.file == 0,
+          "nothing has units", answer.fault);
+}
+
+/* A copy of a file, to be changed. */
+static pslink_file copied(pslink_file file, unsigned char *copy)
+{
+    memcpy(copy, file.bytes, file.length);
+    file.bytes = copy;
+    return file;
+}
+
+/* Each name that is wanted is there once: where two slots want it, and where a slot wants a unit that no library has and the unit of
+ * another slot uses. The host wants UTIL by slot 7, and is to want another by slot 8. In the library the first record of UTIL, a
+ * PUBLREF, is to be a UNITREF, of type 1 and format 1. */
+static void check_each_once(void)
+{
+    static unsigned char wants[ROOM], uses[ROOM];
+    const pslink_file both = copied(host, wants), using = copied(library, uses);
+
+    memcpy(uses + 1024, "AUX     \1\0\1", 11);
+    check(are_names(PSLINK_WANTED, host, &using, "UTIL    AUX     "), "a unit that UTIL uses is not wanted", 0);
+    wants[208] = 3; /* the kind of slot 8 */
+    memcpy(wants + 128, "UTIL    ", 8);
+    check(are_names(PSLINK_WANTED, both, NULL, "UTIL    "), "two slots of one unit want other names, and no library has it", 0);
+    check(are_names(PSLINK_WANTED, both, &library, "UTIL    "), "two slots of one unit want other names", 0);
+    memcpy(wants + 128, "AUX     ", 8);
+    check(are_names(PSLINK_WANTED, both, NULL, "UTIL    AUX     "), "two slots want other units", 0);
+    check(are_names(PSLINK_WANTED, both, &using, "UTIL    AUX     "), "a unit that a slot and a record want is not there once", 0);
+}
+
+/* A linked file wants no unit and has none, and neither does one in which no name can be read; a file with kinds in both orders is
+ * refused. */
+static void check_other_files(void)
+{
+    static unsigned char out[ROOM], other[ROOM], room[ROOM];
+    const pslink_file files[2] = {host, library};
+    const pslink_file *one;
+    pslink_file file = {NULL, out, 0};
+    pslink_answer answer;
+
+    check(pslink_link(files, 2, out, sizeof out, &answer) == PSLINK_DONE, "the pair is not linked", answer.fault);
+    file.length = answer.size;
+    check(are_names(PSLINK_WANTED, file, NULL, "") && are_names(PSLINK_WANTED, file, &library, ""), "a linked file wants units", 0);
+    check(are_names(PSLINK_HAD, file, NULL, ""), "a linked file has units", 0);
+    for (one = files; one < files + 2; one++) {
+        file = copied(*one, other);
+        memset(other + 64, 1, 128);
+        check(are_names(PSLINK_WANTED, file, &library, "") && are_names(PSLINK_HAD, file, NULL, ""), "what has no name to read has units",
+              (size_t)(one - files));
+        other[193] = 1; /* the kind of slot 0 in the other order */
+        memset(room, FILLER, sizeof room);
+        check(pslink_text(PSLINK_WANTED, &file, 1, room, sizeof room, &answer) == PSLINK_REFUSED &&
+                  answer.fault == PSLINK_FAULT_NO_ORDER && answer.file == 0 && is_untouched(room, 0, sizeof room),
+              "a file of both orders wants units", answer.fault);
+        check(pslink_text(PSLINK_HAD, &file, 1, room, sizeof room, &answer) == PSLINK_REFUSED &&
+                  answer.fault == PSLINK_FAULT_NO_ORDER && answer.file == 0 && is_untouched(room, 0, sizeof room),
+              "a file of both orders has units", answer.fault);
+    }
 }
 
 int main(int argc, char **argv)
@@ -395,5 +468,7 @@ int main(int argc, char **argv)
     check_texts();
     check_findings();
     check_units();
+    check_each_once();
+    check_other_files();
     return failures != 0;
 }

@@ -91,16 +91,39 @@ def differences(library, room, host, libraries):
         yield f"fault {verdict.fault} has the name {bytes(verdict.name)}, and the report says {told(report.decode())}"
 
 
+def once(names):
+    """These names, each once."""
+    return list(dict.fromkeys(names))
+
+
 def unit_differences(library, room, host, libraries):
+    """The units of the first file beside its list: a file that cannot be opened is refused for that, a linked file and one that is
+    something else than a code file have no names. Else the host has the units in its slots, and wants those that its slots want, each
+    once, and then others, at most ten, that segments of these files use and no slot of the host has."""
     def units(which):
-        names, _ = made(library, which, room, host, libraries)
-        return [names[at : at + 8] for at in range(0, len(names), 8)]
-    listed = json.loads(made(library, LIST | JSON, room, host, libraries)[0])["files"][0]
-    if listed["fault"] is None and listed["type"] is None:
-        of_role = lambda role: [bytes.fromhex(one["name_hex"]) for one in listed["segments"] if one["role"] == role]
-        wanted, had = units(WANTED), units(HAD)
-        if had != of_role("unit") or wanted[: len(of_role("wanted"))] != of_role("wanted"):
-            yield f"the units {wanted} are wanted and {had} had"
+        names, answer = made(library, which, room, host, libraries)
+        return ([names[at : at + 8] for at in range(0, len(names), 8)], answer) if answer.status == 0 else (None, answer)
+    files = json.loads(made(library, LIST | JSON, room, host, libraries)[0])["files"]
+    segments = files[0]["segments"]
+    (wanted, of_wanted), (had, of_had) = units(WANTED), units(HAD)
+    if files[0]["fault"] is not None:
+        told = [(it.status, it.fault, it.file) for it in (of_wanted, of_had)]
+        if told != [(1, files[0]["fault"]["number"], 0)] * 2:
+            yield f"a file that cannot be opened has the answers {told}"
+        return
+    of_role = lambda *roles: [bytes.fromhex(one["name_hex"]) for one in segments if one["role"] in roles]
+    by_slot = once(of_role("wanted"))
+    if wanted is None or had is None or had != of_role("unit") or wanted[: len(by_slot)] != by_slot:
+        yield f"the units {wanted} are wanted and {had} had"
+        return
+    used = {bytes.fromhex(name["name_hex"]) for file in files for one in file["segments"] for name in one["uses"]}
+    others = wanted[len(by_slot) :]
+    # of a library that is something else the list has no segments, and a link reads them
+    are_used = set(others) <= used or any(file["type"] is not None for file in files[1:])
+    if wanted != once(wanted) or not are_used or set(others) & set(of_role("unit", "wanted")) or len(others) > 10:
+        yield f"the units {wanted} are wanted"
+    if wanted and not of_role("host", "unit", "wanted"):
+        yield f"a file with nothing to link wants {wanted}"
 
 
 def below(heading):

@@ -35,7 +35,7 @@ import pslink  # noqa: E402
 
 HOST, LIBRARY, USING, USED, BOTH = (ROOT / f"samples/{name}.code" for name in ("host", "library", "using", "used", "two_units"))
 UTIL, AUX = "UTIL", "AUX"
-NAMED = {UTIL: b"UTIL    "}
+NAMED = {UTIL: b"UTIL    ", AUX: b"AUX     "}
 WORDS_OF_STATE = 1024 + 32 + 14  # where the library says how many words the private variable of record 1 has
 MISSING = ("refused 13 MissingUnit file 0 slot 7", 13, "MissingUnit", 0, str(HOST), None, 7, None, None, UTIL)
 found = []
@@ -166,13 +166,32 @@ def of_what_is_at_fault():
         check(said == (number, about), f"fault {number} is {fault} about {fault and fault.about}")
         report = pslink.check(one, libs)
         check(report.fault == fault, f"the verdict of fault {number} is {report.fault} about {report.fault and report.fault.about}")
-    names = [(HOST, [], [UTIL]), (HOST, [LIBRARY], [UTIL]), (HOST, [USING], [UTIL, AUX]), (HOST, [USING, USED], [UTIL, AUX]), (BOTH, [], [])]
-    for one, libs, wanted in names:
-        check(pslink.units_wanted(one, libs) == wanted, f"{one.name} wants {pslink.units_wanted(one, libs)} beside {libs}")
-    for file, had in ((HOST, []), (LIBRARY, [UTIL]), (USING, [UTIL]), (USED, [AUX])):
-        check(pslink.units_had(file) == had, f"{file.name} has {pslink.units_had(file)}")
+
+
+def of_names_of_units():
+    """The names of the units that a host wants, each once, and of those that a file has. (Slot 8 has its name at 128, its kind at 208.)"""
+    linked, nameless = pslink.link(HOST, [LIBRARY]), bytes([1]) * 128
+    wants_both, wants_one_twice = (changed(HOST, at128=NAMED[name], at208=b"\3") for name in (AUX, UTIL))
+    names = [
+        ("the host", HOST, [], [UTIL]), ("the host", HOST, [LIBRARY], [UTIL]), ("the host", HOST, [USING], [UTIL, AUX]),
+        ("the host", HOST, [USING, USED], [UTIL, AUX]), ("a host with its units", BOTH, [], []),
+        ("a host of two slots, one of which the other's unit uses", wants_both, [USING], [UTIL, AUX]),
+        ("a host of two slots", wants_both, [], [UTIL, AUX]), ("a host of two slots with one name", wants_one_twice, [], [UTIL]),
+        ("a host of two slots with one name", wants_one_twice, [LIBRARY], [UTIL]), ("a linked file", linked, [LIBRARY], []),
+        ("a host in which no name can be read", changed(HOST, at64=nameless), [LIBRARY], []),
+    ]  # fmt: skip
+    for what, one, libs, wanted in names:
+        check(pslink.units_wanted(one, libs) == wanted, f"{what} wants {pslink.units_wanted(one, libs)} beside {libs}")
+    of_file = [
+        ("the host", HOST, []), ("the library", LIBRARY, [UTIL]), ("the library that uses", USING, [UTIL]), ("the library that is used", USED, [AUX]),
+        ("a linked file", linked, []), ("a library in which no name can be read", changed(LIBRARY, at64=nameless), []),
+    ]  # fmt: skip
+    for what, file, had in of_file:
+        check(pslink.units_had(file) == had, f"{what} has {pslink.units_had(file)}")
     check(sorted(pslink.units_had(BOTH)) == [AUX, UTIL], f"{BOTH.name} has {pslink.units_had(BOTH)}")
-    check(raised(pslink.Refused, pslink.units_had, b"").number == 1, "a file of nothing has units")
+    for call in (pslink.units_wanted, pslink.units_had):
+        check(raised(pslink.Refused, call, b"").number == 1, f"{call.__name__} takes a file of nothing")
+        check(raised(pslink.Refused, call, changed(HOST, at192=b"\1\1")).number == 2, f"{call.__name__} takes a file of both orders")
 
 
 def of_texts():
@@ -354,7 +373,7 @@ def of_installing():
 
 
 def main():
-    for part in (of_files, of_reports, of_refusals, of_what_is_at_fault, of_texts, of_names, of_hints, of_threads, of_room, of_archive, of_installing):
+    for part in (of_files, of_reports, of_refusals, of_what_is_at_fault, of_names_of_units, of_texts, of_names, of_hints, of_threads, of_room, of_archive, of_installing):
         part()
     for line in found:
         print(line)

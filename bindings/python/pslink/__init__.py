@@ -456,13 +456,15 @@ def show(file: File) -> str:
 def units_wanted(host: File, libs: Iterable[File] = ()) -> List[str]:
     """The names of the units that a link takes from libraries, or would take if they had them, as 'UTIL'.
 
-    First those that the host's slots want, by slot, then those that records request, among which one that a slot
-    wants may be again, if no library has it. Those that a unit uses are told where the libraries have that unit.
-    Raises Refused only where the host cannot be opened, and else what `link` raises.
+    First those that the host's slots want, by slot, then those that a record requests and no slot of the host has:
+    each name once. Those that a unit uses are told where the libraries have that unit. A host that is linked already,
+    or that its list calls something else than a code file, wants none. Raises Refused only where the host cannot be
+    opened, with fault 1 or 2, and else what `link` raises.
     """
     return _Files(host, libs).units(_WANTED)
 
 
 def units_had(file: File) -> List[str]:
-    """The names of the units whose code a file has, by slot. Raises what `show` raises."""
+    """The names of the units whose code a file has, by slot: none of a linked file, or of one that its list calls
+    something else than a code file. Raises what `show` raises."""
     return _Files(file).units(_HAD)

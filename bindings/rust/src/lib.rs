@@ -433,12 +433,13 @@ pub fn text<'a>(
 }
 
 /// The names of the units that a link takes from libraries, or would take if they had them: first
-/// those that the host's slots want, by slot, then those that records request, among which one
-/// that a slot wants may be again, if no library has it. Those that a unit uses are told where the
-/// libraries have that unit.
+/// those that the host's slots want, by slot, then those that a record requests and no slot of the
+/// host has: each name once. Those that a unit uses are told where the libraries have that unit. A
+/// host that is linked already, or that its list calls something else than a code file, wants none.
 ///
 /// # Errors
-/// [`Error::Refused`] where the host cannot be opened; else as of [`link`].
+/// [`Error::Refused`] where the host cannot be opened, with [`Reason::ShortFile`] or
+/// [`Reason::NoOrder`]; else as of [`link`].
 pub fn units_wanted<'a>(
     host: impl Into<File<'a>>,
     libs: impl IntoIterator<Item = File<'a>>,
@@ -446,7 +447,8 @@ pub fn units_wanted<'a>(
     Files::new(host, libs).units(WANTED)
 }
 
-/// The names of the units whose code a file has, by slot.
+/// The names of the units whose code a file has, by slot: none of a linked file, or of one that its
+/// list calls something else than a code file.
 ///
 /// # Errors
 /// Those of [`units_wanted`].

@@ -290,6 +290,9 @@ fn the_units_of_a_host_and_of_a_library_are_named() {
     assert_eq!(both.iter().collect::<HashSet<_>>().len(), 2);
     let none = refused(pslink::units_had(&host[..511]));
     assert_eq!(none.reason, Reason::ShortFile);
+    let linked = pslink::link(&host, [sample("library.code").into()]).unwrap();
+    assert!(pslink::units_wanted(&linked, []).unwrap().is_empty());
+    assert!(pslink::units_had(&linked).unwrap().is_empty());
 }
 
 #[test]

@@ -2,7 +2,7 @@
 use Rattle.std.proofs.Common.{◌≡◌, ◌<◌, ◌≤◌, ◌+◌, ◌++◌, ℕ, List, [], ◌∷◌, Bor, Result, Ok, Err, ◌∙◌, ap, arith, get_or, length, refl, subst, sym, suc, take, drop}
 use Rattle.std.specs.Prelude.{◌↔◌, All, IsUtf8, IfOk, Vec}
 use Rattle.std.specs.declared.alloc.Global.{Global}
-use Rattle.std.proofs.lemmas.List.{drop_all, get_or-map, length-map, map-append, take_all, take_more}
+use Rattle.std.proofs.lemmas.List.{drop_all, drop_more, get_or-map, length-map, map-append, take_all, take_more}
 use Rattle.std.proofs.lemmas.List.Elements.{All-cons, All-get_or, All-head, All-map, All-nil, All-tail}
 use Rattle.ps_resolve.specs.Sources.{contents}
 use Rattle.ps_answers.specs.Libraries.{split}
@@ -56,18 +56,39 @@ many_texts names lengths (Err error) cut = tt
 
 -- the names that are left are the first of them and those behind it
 module _ (rest left : List ℕ) (n : ℕ) (more : List ℕ) (is : left ≡ n ∷ more) where
-  pub utf8_left : IsUtf8 (take n rest)
+  utf8_left : IsUtf8 (take n rest)
       → All IsUtf8 (split (drop n rest) more) ↔ All IsUtf8 (split rest left)
   utf8_left first = (
-    λ all. rw (← is) at (All-cons IsUtf8 (take n rest) (split (drop n rest) more) first all),
-    λ all. All-tail IsUtf8 (take n rest) (split (drop n rest) more) (rw is at all),
+    λ all. subst (λ (ns : List ℕ). All IsUtf8 (split rest ns)) (sym is)
+        (All-cons IsUtf8 (take n rest) (split (drop n rest) more) first all),
+    λ all. All-tail IsUtf8 (take n rest) (split (drop n rest) more)
+        (subst (λ (ns : List ℕ). All IsUtf8 (split rest ns)) is all),
   )
 
-  pub wrong_left : (IsUtf8 (take n rest) → ⊥) → All IsUtf8 (split rest left) → ⊥
-  wrong_left wrong all =
-      wrong (All-head IsUtf8 (take n rest) (split (drop n rest) more) (rw is at all))
+  wrong_left : (IsUtf8 (take n rest) → ⊥) → All IsUtf8 (split rest left) → ⊥
+  wrong_left wrong all = wrong (All-head IsUtf8 (take n rest) (split (drop n rest) more)
+      (subst (λ (ns : List ℕ). All IsUtf8 (split rest ns)) is all))
 
 -- where no length is left, no name is
-pub none_left : (rest lengths : List ℕ) (i : ℕ) → length lengths ≤ i
+none_left : (rest lengths : List ℕ) (i : ℕ) → length lengths ≤ i
     → All IsUtf8 (split rest (drop i lengths))
 none_left rest lengths i end = rw (drop_all i lengths end) (All-nil IsUtf8)
+
+-- of all names those that are left are looked at, from this length on
+module _ (names rest lengths : List ℕ) (i : ℕ)
+    (all : All IsUtf8 (split rest (drop i lengths)) ↔ All IsUtf8 (split names lengths)) where
+  pub next_name : (behind : List ℕ) → i < length lengths
+      → behind ≡ drop (get_or lengths i 0) rest → IsUtf8 (take (get_or lengths i 0) rest)
+      → All IsUtf8 (split behind (drop (i + 1) lengths)) ↔ All IsUtf8 (split names lengths)
+  next_name behind lt is first =
+      let here = utf8_left rest (drop i lengths) (get_or lengths i 0) (drop (i + 1) lengths)
+      (drop_more lengths i 0 lt) first in
+      rw is (λ t. all.0 (here.0 t), λ t. here.1 (all.1 t))
+
+  pub wrong_name : i < length lengths → (IsUtf8 (take (get_or lengths i 0) rest) → ⊥)
+      → All IsUtf8 (split names lengths) → ⊥
+  wrong_name lt wrong t = wrong_left rest (drop i lengths) (get_or lengths i 0)
+      (drop (i + 1) lengths) (drop_more lengths i 0 lt) wrong (all.1 t)
+
+  pub right_names : length lengths ≤ i → All IsUtf8 (split names lengths)
+  right_names end = all.0 (none_left rest lengths i end)

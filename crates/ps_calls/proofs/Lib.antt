@@ -1,2 +1,3 @@
 pub mod FileNames
 mod PutTexts
+mod OnlyMemory

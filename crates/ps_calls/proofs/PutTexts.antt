@@ -42,7 +42,7 @@ pub unprinted_of : (k : TextKind) (room host libs lengths names name_lengths : L
 unprinted_of k room host libs lengths names name_lengths given (unput.Unmade (Refused r))
     right same is = (right, is)
 unprinted_of k room host libs lengths names name_lengths given (unput.Unmade NoMemory)
-    right same is = tt
+    right same is = right
 unprinted_of k room host libs lengths names name_lengths given (unput.TooSmall t) right same is =
     (right, long_named k given _ host _ room t same is)
 

@@ -45,7 +45,7 @@ at_end (n ∷ names) name other (suc j) e = elim (at_end names name other j e) [
 
 once_by : (b : Bool) (names : List (List ℕ)) (name : List ℕ) → has_name names name ≡ b
     → Once names → Once (if b then names else names ++ name ∷ [])
-once_by true names name is once = once
+once_by true names name is once j k other e u = once j k other e u
 once_by false names name none once j k other e u =
     elim (at_end names name other j e) [
       | inl a ↦ elim (at_end names name other k u) [
@@ -155,9 +155,14 @@ module _ (h : HostFiles) where
       (in_range 0 SLOTS t.0 (omega arith) t.1)
       (ap (wanted_as (entry_at h.order h.file t.0).name) t.2.0 ∙ ap (λ n. Some n) t.2.1))
 
+  -- the names that are requested and that no slot of the host has
+  abbrev all_sought : List (List ℕ)
+  all_sought = filter_map (λ g. sought_name h.order h.file g.name)
+      (read_requests h.order h.file (opened_files h.order h.libs))
+
   of_wanted : (name : List ℕ) → IsNamed (units_wanted h) name → IsTaken h name
   unfolding units_wanted
-  of_wanted name t = elim (of_each (slots_wanted h.order h.file) _ name t) [
+  of_wanted name t = elim (of_each (slots_wanted h.order h.file) all_sought name t) [
     | inl u ↦ inl (of_slots name u)
     | inr u ↦
         let r = of_filter_map (λ g. sought_name h.order h.file g.name)
@@ -171,8 +176,9 @@ module _ (h : HostFiles) where
 
   in_wanted : (name : List ℕ) → IsTaken h name → IsNamed (units_wanted h) name
   unfolding units_wanted
-  in_wanted name (inl t) = in_old (slots_wanted h.order h.file) _ name (in_slots name t)
-  in_wanted name (inr t) = in_new (slots_wanted h.order h.file) _ name
+  in_wanted name (inl t) = in_old (slots_wanted h.order h.file) all_sought name
+      (in_slots name t)
+  in_wanted name (inr t) = in_new (slots_wanted h.order h.file) all_sought name
       (in_filter_map (λ g. sought_name h.order h.file g.name)
       (read_requests h.order h.file (opened_files h.order h.libs)) t.0.1 name
       (t.0.0, t.0.2) (sought t.0.1.name t.0.3))
@@ -187,7 +193,7 @@ module _ (h : HostFiles) where
 
   once_wanted : Once (units_wanted h)
   unfolding units_wanted slots_wanted
-  once_wanted = once_each (slots_wanted h.order h.file) _
+  once_wanted = once_each (slots_wanted h.order h.file) all_sought
       (once_each [] (filter_map (wanted_name h.order h.file) slots)
       (λ j k name e u. absurd (let a = e in cc)))
 

@@ -84,15 +84,16 @@ units_wanted h = with_each (slots_wanted h.order h.file)
 unfoldable pub units_had : Order → List ℕ → List (List ℕ)
 units_had order file = filter_map (had_name order file) slots
 
--- those of a host that was opened, or was not; one with no kind but 0 has nothing to link
-abbrev pub wanted_in : Result HostFiles Reason → Result (List (List ℕ)) Reason
-wanted_in (Ok h) = Ok (units_wanted h)
-wanted_in (Err reason.NoHost) = Ok []
-wanted_in (Err why) = Err why
+-- those of a host that was opened, or was not: one with no kind but 0 has nothing to link, and one of
+-- which its list says that it is something else wants none
+abbrev pub wanted_in : Bool → Result HostFiles Reason → Result (List (List ℕ)) Reason
+wanted_in is_code (Ok h) = Ok (if is_code then units_wanted h else [])
+wanted_in is_code (Err reason.NoHost) = Ok []
+wanted_in is_code (Err why) = Err why
 
 -- the names of the units that a link of these files takes, or why the host cannot be opened
 abbrev pub names_wanted : List ℕ → List (List ℕ) → Result (List (List ℕ)) Reason
-names_wanted host libs = wanted_in (opened_host host libs)
+names_wanted host libs = wanted_in (is_code_type host) (opened_host host libs)
 
 -- those of a file that was opened, or was not: one of which its list says that it is something else
 -- has none

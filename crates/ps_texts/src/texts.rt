@@ -6,7 +6,7 @@ ghost use Rattle.ps_resolve.specs.Sources.{contents};
 ghost use Rattle.ps_segments.specs.Paths.{paths_in};
 ghost use Rattle.ps_writing.specs.Adding.{Adds};
 ghost use Rattle.ps_texts.specs.Texts.{IsMadeOf, bytes_in};
-ghost use Rattle.ps_texts.specs.UnitNames.{HasNames, bytes_of, had_in};
+ghost use Rattle.ps_texts.specs.UnitNames.{HasNames, bytes_of, had_in, wanted_in as wanted_in_spec};
 ghost use Rattle.ps_texts.specs.Unmade.{WhyUnmade, unmade_of};
 ghost use Rattle.ps_texts.specs.declared.kinds.TextKind.TheVariants.{Check, Had, List as Listed, Findings as FindingsOf, Map as MapOf, References as ReferencesOf, Show as ShowOf, Wanted};
 ghost use Rattle.ps_texts.specs.declared.texts.Unmade.TheVariants.{Memory, Refused};
@@ -21,7 +21,7 @@ use ps_linkfile::{
 };
 use ps_listing::{ListForm, Lists};
 use ps_report::{PrintedFindings, PrintedReport, Report, check};
-use ps_resolve::{Reading, read};
+use ps_resolve::{HostReading, Reading, read};
 use ps_segments::NamedFiles;
 use ps_words::{Fault, Name, Reason};
 use ps_writing::{Form, Text, TextWriter};
@@ -257,20 +257,39 @@ fn lists_of<'a, A: Allocator + Copy>(
     Ok(FilesText::Lists(lists))
 }
 
+/// The names of the units that a link with an opened host takes from libraries; none where the host's
+/// list says that it is something else.
+fn names_wanted<A: Allocator + Copy>(
+    alloc: A,
+    is_code: bool,
+    host: &HostReading,
+) -> Result<Vec<Name, A>, AllocError>
+    ensures names { IfOk result (λ names. wanted_in_spec is_code (Ok host.now) ≡ Ok names.items) }
+    ensures memory { IfErr result (λ _. HasNames (wanted_in_spec is_code (Ok host.now))) }
+{
+    if is_code {
+        units_wanted(alloc, host)
+    } else {
+        Ok(Vec::new(alloc))
+    }
+}
+
 /// The names of the units that files that were read want: none where the host has no kind but 0, as
 /// a linked file.
 fn wanted_in<'a, A: Allocator + Copy>(
     alloc: A,
+    is_code: bool,
     reading: &Reading<'_>,
 ) -> Result<FilesText<'a, A>, Unmade>
+    requires { is_code ≡ is_code_type_spec reading.now.host }
     ensures made { (paths : List (List ℕ))
         → IfOk result (IsMadeOf Wanted paths reading.now.host reading.now.libs) }
     ensures unmade { IfErr result (WhyUnmade Wanted reading.now.host reading.now.libs) }
 {
     match reading.host() {
+        Ok(host) => Ok(FilesText::Names(names_wanted(alloc, is_code, host)?)),
         Err(Reason::NoHost) => Ok(FilesText::Names(Vec::new(alloc))),
         Err(reason) => Err(unopened(reason)),
-        Ok(host) => Ok(FilesText::Names(units_wanted(alloc, host)?)),
     }
 }
 
@@ -286,7 +305,7 @@ fn wanted_of<'a, A: Allocator + Copy>(
         (contents files.now.libs.now)) }
 {
     let reading = read(files.host, files.libs);
-    wanted_in(alloc, &reading)
+    wanted_in(alloc, is_code_type(files.host), &reading)
 }
 
 /// The names of the units whose code an opened file has; none where its list says that it is
@@ -337,7 +356,7 @@ fn unopened(reason: Reason) -> Unmade
 /// report and a list have their paths. Refuses `Refused`, a map and its references with the first fault
 /// of all, a show and names of units where the host's file cannot be read; nothing else is refused. And
 /// `Memory` where memory was refused, which a map requests only once the files were read and have no
-/// fault, and a show never.
+/// fault, names of units only where there is one, and a show never.
 pub fn text_of<'a, A: Allocator + Copy>(
     alloc: A,
     kind: TextKind,

@@ -26,7 +26,8 @@ fn add_name<A: Allocator>(names: &mut Vec<Name, A>, name: Name) -> Result<(), Al
     if has_name(names.as_slice(), name) {
         return Ok(());
     }
-    names.push(name)
+    names.push(name)?;
+    Ok(())
 }
 
 /// Adds the name that was found, if there is one, unless the list has it.
@@ -127,7 +128,7 @@ fn add_requested<A: Allocator>(
 /// more than ten requests the first ten. Each name is there once.
 ///
 /// Refused where memory was, which is requested only where there is a name.
-#[tactic(auto, unfolding(crate::specs::UnitNames::units_wanted), using(crate::proofs::SlotNames::some_slots))]
+#[tactic(auto, unfolding(crate::specs::UnitNames::units_wanted), using(crate::proofs::SlotNames::some_more))]
 pub fn units_wanted<A: Allocator>(alloc: A, host: &HostReading) -> Result<Vec<Name, A>, AllocError>
     ensures names { IfOk result (λ names. names.items ≡ units_wanted_spec host.now) }
     ensures memory { IfErr result (λ _. 0 < length (units_wanted_spec host.now)) }

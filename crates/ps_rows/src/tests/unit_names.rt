@@ -22,6 +22,7 @@ two slots that want one unit | two-units | slot 8 name UTIL | - | UTIL    .
 a unit in place that is refused, and that a record requests | in-place | slot 7 length 23; \
 records 2; PUBLDEF COUNT value 3; UNITREF UTIL at; EOFMARK next 8 | - | .
 a linked file | linked-host-alone | - | - | .
+a host in which no name can be read | pair | fill 64 128 01 | - | .
 a short file | pair | size 511 | - | refused 1 ShortFile file 0
 kinds in both orders | pair | at 193 01 | - | refused 2 NoOrder file 0";
 
@@ -52,6 +53,7 @@ fn names_of(alloc: Global, kind: TextKind, files: &NamedFiles<'_>) -> Line {
 }
 
 /// What a row shows, which names it is about, and these.
+#[derive(Clone, Copy)]
 struct Names<'a> {
     what: &'a str,
     kind: TextKind,
@@ -72,6 +74,7 @@ impl Check for Names<'_> {
 }
 
 /// The names that rows are about.
+#[derive(Clone, Copy)]
 struct NameRows {
     kind: TextKind,
 }
