@@ -13,6 +13,8 @@ use Rattle.ps_outputs.specs.Places.{IsPlace, PrintsAt}
 use Rattle.ps_outputs.specs.SummaryLine.{summary_text}
 use Rattle.ps_outputs.specs.declared.linking.Place.{Place}
 use Rattle.ps_outputs.specs.declared.linking.Place.TheVariants as place
+use Rattle.ps_outputs.specs.declared.unlinked.Unlinked.{Unlinked}
+use Rattle.ps_outputs.specs.declared.unlinked.Unlinked.TheVariants as unlinked
 use Rattle.ps_resolve.specs.Standing.{NoneStands}
 use Rattle.ps_texts.specs.Texts.{IsTextOf}
 use Rattle.ps_texts.specs.Unmade.{WhyUnmade}
@@ -73,6 +75,11 @@ text_refused k strict json paths host libs why (Err e) old new can flag is text 
 -- what is refused is not done, and does not end with status 0
 pub not_done : (e : Ended) → e ≡ ended.Refused → e ≡ ended.Done → ⊥
 not_done e is done = grind arith
+
+-- what is refused is no fault of standard output
+pub not_output : (f : Fault) (e : Unlinked) → e ≡ unlinked.Refused f
+    → e ≡ unlinked.StandardOutput → ⊥
+not_output f e is output = grind arith
 
 pub not_zero : (e : Ended) → e ≡ ended.Refused → ended_status e ≡ 0 → ⊥
 not_zero e is zero = grind arith

@@ -9,5 +9,5 @@ mod summary;
 mod unlinked;
 
 pub use code_files::CodeFiles;
-pub use linking::{Outputs, link_files};
+pub use linking::{Outputs, Place, link_files};
 pub use unlinked::Unlinked;

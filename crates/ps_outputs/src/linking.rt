@@ -41,7 +41,7 @@ const SUMMARY_LENGTH: usize = 128;
 
 /// Where the summary of a link is printed.
 #[derive(Clone, Copy)]
-pub(crate) enum Place {
+pub enum Place {
     Nowhere,
     /// On standard output.
     Output,
