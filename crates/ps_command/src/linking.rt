@@ -1,5 +1,5 @@
 //! A link: its files are read and checked, OUT is written, then its map, and the summary is printed.
-ghost use Rattle.std.specs.Prelude.{◌≡◌, ◌≢◌, ◌⊎◌, IfErr, IfOk, map, option_map};
+ghost use Rattle.std.specs.Prelude.{◌≡◌, ◌≢◌, ◌⊎◌, List, IfErr, IfOk, map, option_map};
 ghost use Rattle.std.specs.List.{AllZip};
 ghost use Rattle.ps_arguments.specs.CommandLine.{Row};
 ghost use Rattle.ps_arguments.specs.Requests.{NamesLink};
