@@ -1,5 +1,5 @@
 -- What the answer of a check says of its report.
-use Rattle.std.proofs.Common.{◌≡◌, ◌⊎◌, ⊥, Bool, ℕ, List, ap, arith, inl, inr}
+use Rattle.std.proofs.Common.{◌≡◌, ◌⊎◌, Bool, ℕ, List, ap, arith, inl, inr}
 use Rattle.std.specs.Prelude.{IfErr, IfOk, Result, Ok, Err}
 use Rattle.ps_answers.specs.Libraries.{split}
 use Rattle.ps_answers.specs.declared.answer.TheConstants.{DONE, TOO_SMALL}
