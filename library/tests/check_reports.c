@@ -429,7 +429,7 @@ static void check_other_files(void)
     const pslink_file files[2] = {host, library};
     const pslink_file *one;
     pslink_file file = {NULL, out, 0};
-    pslink_answer answer;
+    pslink_answer answer = {0};
 
     check(pslink_link(files, 2, out, sizeof out, &answer) == PSLINK_DONE, "the pair is not linked", answer.fault);
     file.length = answer.size;

@@ -221,7 +221,8 @@ def of_texts():
     check((report.warnings, report.notes) == ([findings[2]], [findings[1], findings[3]]), f"of these are warnings {report.warnings}, and notes {report.notes}")
     check(pslink.check(*files).findings == () and text("findings", *files) == "", "something is found in the pair")
     lines = text("findings", ("one", HOST), [("two", odd)])
-    check(pslink.check(("one", HOST), [("two", odd)]).text.endswith(lines) and len(lines.splitlines()) == 4, "the lines of what is found are others")
+    ending = lines + "copy or compile again: two; see WARNINGS in pslink(1)\n"
+    check(pslink.check(("one", HOST), [("two", odd)]).text.endswith(ending) and len(lines.splitlines()) == 4, "the lines of what is found are others")
     check(parts(raised(pslink.Refused, text, "map", HOST)) == MISSING, "the text of a map is of files that are refused")
     check(raised(ValueError, lambda: text("units", HOST, json=True)), "there is a document of units")
     check(raised(ValueError, text, "plan", HOST), "there is a text of another name")
