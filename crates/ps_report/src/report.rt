@@ -9,7 +9,7 @@ ghost use Rattle.ps_report.specs.Verdicts.{IsRefused, check_status, verdict_line
 ghost use Rattle.ps_report.specs.FindingLines.{AddsWarnings, finding_lines};
 
 use crate::finding::{SaidFinding, said_findings};
-use crate::inspection::{Inspection, inspect};
+use crate::inspection::{Inspection, inspect, read_files};
 use crate::kept::string_of;
 use crate::lines::add_other_lines;
 use crate::printed::PrintedFindings;
@@ -97,8 +97,9 @@ pub fn check<'a, A: Allocator + Copy>(
         ⊎ IsRefused host.now (contents libs.now))) }
 {
     first_of_all();
-    let verdict = verdict_of(alloc, host, libs)?;
-    let inspection = inspect(alloc, host_path, paths, host, libs, verdict)?;
+    let reading = read_files(host, libs);
+    let verdict = verdict_of(alloc, &reading)?;
+    let inspection = inspect(alloc, host_path, paths, host, libs, &reading, verdict)?;
     let lists = lists_without_host(alloc, verdict, host_path, paths, host, libs)?;
     let parts = Sections {
         files: inspection.overview.files.as_str(),
