@@ -1,6 +1,7 @@
 pub mod CommandLine
 pub mod Requests
 pub mod SummaryLine
+pub mod Lists
 pub mod Printed
 pub mod FilesRead
 pub mod Statuses

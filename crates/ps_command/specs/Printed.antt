@@ -1,7 +1,7 @@
 -- What is printed on standard output once a command is done, by the command and the files that are
 -- named, and what a link has written. `Reads` says of a path and of bytes that they were read
 -- there, and `Writes` that a file which was created there took them.
-use Rattle.std.specs.Prelude.{◌≡◌, ◌⊎◌, ◌++◌, ◌∷◌, [], if◌then◌else◌, ℕ, Bool, true, false, List, Option, None, Some, IfSome, IsSomeAnd, codes, max, ⊤}
+use Rattle.std.specs.Prelude.{◌≡◌, ◌⊎◌, ◌++◌, ◌∷◌, [], ℕ, Bool, true, false, List, Option, None, Some, IfSome, IsSomeAnd, codes, max, ⊤}
 use Rattle.std.specs.List.{AllZip}
 use Rattle.std.specs.Io.KnownBytes.{Appends}
 use Rattle.clap.specs.Words.{IsAmong, Kinds, Row, Text, first_of}
@@ -13,8 +13,8 @@ use Rattle.ps_writing.specs.Prefixes.{AppendsPrefix}
 use Rattle.ps_writing.specs.declared.rows.Form.{Form}
 use Rattle.ps_writing.specs.declared.rows.Form.TheVariants.{Lines, Json}
 use Rattle.ps_linkfile.specs.LinkedFile.{LinkedFile, summary_of}
-use Rattle.ps_listing.specs.FileLists.{is_refused_as_listed, listed_as, unread}
-use Rattle.ps_listing.specs.Phrases.{IsPhrase}
+use Rattle.ps_filetype.specs.CodeTypes.{is_code_type}
+use Rattle.ps_listing.specs.FileLists.{unread}
 use Rattle.ps_listing.specs.declared.lists.ListForm.{ListForm}
 use Rattle.ps_listing.specs.declared.lists.ListForm.TheVariants as form
 use Rattle.ps_resolve.specs.FaultNames.{fault_name}
@@ -25,6 +25,7 @@ use Rattle.ps_texts.specs.declared.texts.Unmade.{Unmade}
 use Rattle.ps_texts.specs.declared.texts.Unmade.TheVariants as unmade
 use Rattle.ps_texts.specs.declared.kinds.TextKind.{TextKind}
 use Rattle.ps_texts.specs.declared.kinds.TextKind.TheVariants as kind
+use Rattle.ps_command.specs.Lists.{IsListText, list_status}
 use Rattle.ps_command.specs.SummaryLine.{summary_text}
 use Rattle.ps_command.specs.Requests.{files_of, has_output, has_references, is_json, is_quiet, is_strict, is_unit, libraries_of, map_file, out_and_libraries}
 use Rattle.ps_command.specs.declared.linking.Place.{Place}
@@ -170,14 +171,13 @@ PrintsUnread form.Json first path old new = Appends old new (unread first path)
 PrintsUnread form.JsonUnits first path old new = Appends old new (unread first path)
 PrintsUnread how first path old new = new ≡ old
 
--- by the list of the file at a path, which ends with status 1 if it is refused or a segment is; or
--- by what there is of a file that cannot be read
+-- by the list of the file at a path, which ends with its status; or by what there is of a file that
+-- cannot be read
 abbrev pub IsListed : (Text → List ℕ → Type 0) → ListForm → Bool → Text → ℕ
     → Option (List ℕ) → Option (List ℕ) → Type 0
 IsListed Reads how first path status old new =
-    ((file : List ℕ) × (phrase : List ℕ) × Reads path file × IsPhrase file phrase
-    × (status ≡ (if is_refused_as_listed how phrase file then 1 else 0))
-    × Appends old new (listed_as how first path phrase file))
+    ((file : List ℕ) × (text : List ℕ) × Reads path file × (status ≡ list_status how file)
+    × IsListText (is_code_type file) how first path file text × Appends old new text)
     ⊎ ((status ≡ 3) × PrintsUnread how first path old new)
 
 -- by the lists of the files at these paths, one after another, of which the first is that of all or

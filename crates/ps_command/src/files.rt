@@ -69,6 +69,9 @@ pub trait CodeFiles {
     // Holds of a path and of what opening it gave.
     ghost opened: { Self → List ℕ → Self.Opened → Type 0 };
 
+    // Holds of a path at which nothing could be opened.
+    ghost unopened: { Self → List ℕ → Type 0 };
+
     // Holds of a path and of what creating it gave, before anything was written.
     ghost created: { Self → List ℕ → Self.Created → Type 0 };
 
@@ -80,7 +83,8 @@ pub trait CodeFiles {
 
     /// Opens the file at `path` to be read.
     fn open(&self, path: &str) -> io::Result<Self::Opened>
-        ensures { IfOk result (opened self.now path.now) };
+        ensures opened { IfOk result (opened self.now path.now) }
+        ensures unopened { IfErr result (λ _. unopened self.now path.now) };
 
     /// Creates or empties the file at `path`. It is called only where files that were read link.
     fn create(&self, path: &str) -> io::Result<Self::Created>
@@ -110,6 +114,8 @@ impl<R: Files> CodeFiles for R {
     type Created = R::File;
 
     ghost opened = { λ rt path file. ⊤ };
+
+    ghost unopened = { λ rt path. ⊤ };
 
     ghost created = { λ rt path file. ⊤ };
 
@@ -213,8 +219,9 @@ pub(crate) fn read<R: CodeFiles, A: Allocator + Copy>(
     ensures whole { IfOk result (λ bytes. Reads (R.opened rt.now) R.Opened.remaining path.now
         bytes.items) }
 
-    // It cannot be read; or it was opened, and it is too long or memory ran out.
-    ensures why { IfErr result (IsReadFault (R.opened rt.now) R.Opened.remaining path.now) }
+    // It could not be opened; or it was opened, and a read failed, it is too long or memory ran out.
+    ensures why { IfErr result (IsReadFault (R.unopened rt.now) (R.opened rt.now)
+        R.Opened.remaining path.now) }
 {
     let mut file = match rt.open(path) {
         Ok(file) => file,

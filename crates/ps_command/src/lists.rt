@@ -4,7 +4,7 @@ ghost use Rattle.std.specs.Io.KnownBytes.{Appends};
 ghost use Rattle.ps_listing.specs.FileLists.{is_refused_in, listed};
 ghost use Rattle.ps_command.specs.Printed.{IsListed, PrintsDocument, PrintsFiles, PrintsLists, PrintsUnread};
 ghost use Rattle.ps_command.specs.Causes.{unread_error};
-ghost use Rattle.ps_command.specs.FilesRead.{Reads};
+ghost use Rattle.ps_command.specs.FilesRead.{HasUnread, IsUnread, Reads};
 ghost use Rattle.ps_command.specs.Statuses.{ended_status};
 
 use crate::ended::Ended;
@@ -98,6 +98,8 @@ fn print_list<R: CodeFiles, A: Allocator + Copy, O: Write, E: Write>(
     ensures ok { IfOk result (λ ended. IsListed (Reads (R.opened rt.now) R.Opened.remaining)
         how first path.now (ended_status ended) (O.contents out.old) (O.contents out.new)) }
     ensures silent { IfOk result (λ ended. ended_status ended ≡ 0 → err.new ≡ err.old) }
+    ensures unread { IfOk result (λ ended. ended_status ended ≡ 3 → IsUnread (R.unopened rt.now)
+        (R.opened rt.now) R.Opened.remaining path.now) }
 {
     let file = match files::read(rt, alloc, path) {
         Ok(file) => file,
@@ -124,6 +126,8 @@ fn print_files<'a, R: CodeFiles, A: Allocator + Copy, O: Write, E: Write>(
         how true (map (λ path. path.now) paths.now) (ended_status ended) (O.contents out.old)
         (O.contents out.new)) }
     ensures silent { IfOk result (λ ended. ended_status ended ≡ 0 → err.new ≡ err.old) }
+    ensures unread { IfOk result (λ ended. ended_status ended ≡ 3 → HasUnread (R.unopened rt.now)
+        (R.opened rt.now) R.Opened.remaining (map (λ path. path.now) paths.now)) }
 {
     let mut ended = Ended::Done;
     let mut first = true;
@@ -149,6 +153,8 @@ fn print_document<'a, R: CodeFiles, A: Allocator + Copy, O: Write, E: Write>(
         how (map (λ path. path.now) paths.now) (ended_status ended) (O.contents out.old)
         (O.contents out.new)) }
     ensures silent { IfOk result (λ ended. ended_status ended ≡ 0 → err.new ≡ err.old) }
+    ensures unread { IfOk result (λ ended. ended_status ended ≡ 3 → HasUnread (R.unopened rt.now)
+        (R.opened rt.now) R.Opened.remaining (map (λ path. path.now) paths.now)) }
 {
     write_all_of(out, b"{\"files\":[")?;
     let ended = print_files(rt, alloc, paths, how, out, err)?;
@@ -170,6 +176,8 @@ pub(crate) fn print_lists<'a, R: CodeFiles, A: Allocator + Copy, O: Write, E: Wr
         how (map (λ path. path.now) paths.now) (ended_status ended) (O.contents out.old)
         (O.contents out.new)) }
     ensures silent { IfOk result (λ ended. ended_status ended ≡ 0 → err.new ≡ err.old) }
+    ensures unread { IfOk result (λ ended. ended_status ended ≡ 3 → HasUnread (R.unopened rt.now)
+        (R.opened rt.now) R.Opened.remaining (map (λ path. path.now) paths.now)) }
 {
     match how {
         ListForm::Json | ListForm::JsonUnits => print_document(rt, alloc, paths, how, out, err),

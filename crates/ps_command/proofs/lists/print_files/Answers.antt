@@ -1,9 +1,9 @@
-use Rattle.std.proofs.Common.{◌≡◌, ◌∙◌, Bor, map, ap, refl, arith}
+use Rattle.std.proofs.Common.{◌≡◌, ◌∙◌, Bor, map, ap, refl, arith, inl, inr, sym}
 use Rattle.std.specs.Prelude.{max}
 use Rattle.std.proofs.lemmas.List.{drop_all, drop_more}
 use Rattle.clap.specs.Words.{Text}
 use Rattle.ps_command.specs.Statuses.{ended_status}
-use Rattle.ps_command.proofs.ListsPrinted.{listed_more}
+use Rattle.ps_command.proofs.ListsPrinted.{contains_path, listed_more, worst, zero_is_not_three}
 use Rattle.ps_command.proofs.lists.print_files.Goals as goal
 
 pub loop-path-init : goal.loop-path-init
@@ -14,6 +14,7 @@ loop-path-init g c = record {
         rw same printed;
   };
   silent = λ zero. refl;
+  unread = λ three. absurd (zero_is_not_three three);
 }
 
 pub loop-path-preserved : goal.loop-path-preserved
@@ -31,6 +32,15 @@ loop-path-preserved g c =
           let first : mine ≡ 0 = omega (arith, c.worse-ended.ensures, zero) in
           let other : next ≡ 0 = omega (arith, c.worse-ended.ensures, zero) in
           c.in_ok-next.ensures.silent other ∙ inv.silent first;
+      unread = λ three.
+          elim worst mine next (sym c.worse-ended.ensures ∙ three) [
+            | inl before ↦ inv.unread before
+            | inr here ↦ (
+              _,
+              contains_path c.args.paths.now c.loop-path.path-index _ c.loop-path-test.true,
+              c.in_ok-next.ensures.unread here,
+            )
+          ];
     }
 
 pub returns-clause-ok : goal.returns-clause-ok

@@ -1,5 +1,5 @@
 use Rattle.std.proofs.Common.{◌≡◌, drop, map}
-use Rattle.ps_command.specs.FilesRead.{Reads}
+use Rattle.ps_command.specs.FilesRead.{HasUnread, Reads}
 use Rattle.ps_command.specs.Statuses.{ended_status}
 use Rattle.ps_command.proofs.ListsPrinted.{ListsLeft}
 use Rattle.ps_command.proofs.lists.print_files.Given as goal
@@ -12,4 +12,6 @@ invariant-loop-path g l = record {
       l.first (map (λ path. path.now) (drop l.path-index l.paths)) (ended_status l.ended)
       (g.O.Write.contents l.out);
   silent : ended_status l.ended ≡ 0 → l.err ≡ l.fn.err;
+  unread : ended_status l.ended ≡ 3 → HasUnread (g.R.CodeFiles.unopened l.rt)
+      (g.R.CodeFiles.opened l.rt) g.R.Opened.Read.remaining (map (λ path. path.now) l.paths);
 }
