@@ -400,7 +400,7 @@ pub enum Text {
     Check = 3,
     /// What each file has, in a line for each segment.
     List = 4,
-    /// That list, and what is wrong with the units of each file by themselves: lines alone.
+    /// That list, and what is wrong with the units of each file by themselves.
     Units = 5,
     /// What that report finds, one by one.
     Findings = 6,
@@ -421,8 +421,7 @@ pub enum Form {
 /// there is one, `host`.
 ///
 /// # Errors
-/// Those of [`link`], where [`Error::Refused`] is of a map, its references and a show alone;
-/// [`Error::NoText`] where the text has no such form.
+/// Those of [`link`], where [`Error::Refused`] is of a map, its references and a show alone.
 pub fn text<'a>(
     what: Text,
     form: Form,

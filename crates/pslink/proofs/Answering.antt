@@ -11,7 +11,7 @@ use Rattle.ps_answers.specs.declared.answer.TheConstants.{DONE, TOO_SMALL}
 use Rattle.ps_answers.specs.declared.outcome.CallError.{CallError}
 use Rattle.ps_answers.specs.declared.outcome.CallError.TheVariants as call
 use Rattle.ps_answers.specs.declared.outcome.Done.{Done}
-use Rattle.ps_answers.specs.declared.outcome.Done.TheVariants.{Linked, Text}
+use Rattle.ps_answers.specs.declared.outcome.Done.TheVariants.{Linked, Report, Text}
 use Rattle.ps_answers.specs.declared.outcome.Unmade.TheVariants.{Refused, NoMemory}
 use Rattle.ps_answers.specs.declared.outcome.Unput.TheVariants as unput
 
@@ -41,6 +41,8 @@ not_linked a (call.Unput (unput.TooSmall t)) e is =
 pub not_small : (a : Answer) (done : Done) → a ≡ done_answer done → a.status ≡ TOO_SMALL → ⊥
 not_small a (Linked summary size) e is = omega (arith, ap (λ (b : Answer). b.status) e, is)
 not_small a (Text size) e is = omega (arith, ap (λ (b : Answer). b.status) e, is)
+not_small a (Report verdict warnings size) e is =
+    omega (arith, ap (λ (b : Answer). b.status) e, is)
 
 -- there was too little room
 pub link_needs : (host libs lengths room : List ℕ) (a : Answer) (error : CallError)
