@@ -50,9 +50,9 @@ told_back f name tellable =
       rec = rec;
       reference = reference;
     } in
-    let slot = slot_back f.slot tellable.1.0 in
-    let rec = index_back f.rec tellable.1.1.0 in
-    let reference = index_back f.reference tellable.1.1.1 in
+    let slot = slot_back f.slot tellable.1 in
+    let rec = index_back f.rec tellable.2 in
+    let reference = index_back f.reference tellable.3 in
     rw (is_byte f.reason) (ap (option_map (fault_with a)) (reason_back f.reason tellable.0)
     ∙ (ap (λ (o : Option ℕ). Some (with_parts o (part NO_INDEX (unwrap_or f.rec NO_INDEX))
     (part NO_INDEX (unwrap_or f.reference NO_INDEX)))) slot

@@ -45,7 +45,7 @@ module _ (form : Form) (names : List (List ℕ)) (host : List ℕ) (libs : List 
   is_made : IsMade (kind.Check form) names host libs (printed_report form r)
   is_made = (
     check_status false (warnings_of_files names host libs) r.verdict,
-    (r, (is, (refl, refl))),
+    (r, is, refl, refl),
   )
 
   pub report_put : (old new : List ℕ) (size : ℕ) (d : Done)
@@ -55,7 +55,9 @@ module _ (form : Form) (names : List (List ℕ)) (host : List ℕ) (libs : List 
   unfolding IsPut
   report_put old new size d begins e told = (
     printed_report form r,
-    (is_made, (begins, (r, (is, (refl, told ∙ ap (λ (n : ℕ). told_report r n) e))))),
+    is_made,
+    begins,
+    (r, is, refl, told ∙ ap (λ (n : ℕ). told_report r n) e),
   )
 
   pub report_unput : (room : List ℕ) (why : Unput)
@@ -64,7 +66,7 @@ module _ (form : Form) (names : List (List ℕ)) (host : List ℕ) (libs : List 
   unfolding WhyUnput
   report_unput room (unput.Unmade (Refused refusal)) h = absurd h
   report_unput room (unput.Unmade NoMemory) h = tt
-  report_unput room (unput.TooSmall t) h = (printed_report form r, (is_made, h))
+  report_unput room (unput.TooSmall t) h = (printed_report form r, is_made, h)
 
 -- there may be no memory for a report
 pub report_lacks : (form : Form) (room : List ℕ) (names : List (List ℕ)) (host : List ℕ)
@@ -112,8 +114,8 @@ made_may_lack (kind.Show form) names host libs bytes h = h.1.0
 made_may_lack (kind.Check form) names host libs bytes h = tt
 made_may_lack (kind.Findings form) names host libs bytes h = tt
 made_may_lack (kind.List how) names host libs bytes h = tt
-made_may_lack kind.Wanted names host libs bytes h = (h.1.0, h.1.1.0)
-made_may_lack kind.Had names host libs bytes h = (h.1.0, h.1.1.0)
+made_may_lack kind.Wanted names host libs bytes h = (h.1.0, h.1.1)
+made_may_lack kind.Had names host libs bytes h = (h.1.0, h.1.1)
 
 -- where there is a name, there are names
 has_units : (found : Result (List (List ℕ)) Reason) → HasUnits found
@@ -142,14 +144,10 @@ module _ (k : TextKind) (names : List (List ℕ)) (host : List ℕ) (libs : List
   unfolding IsPut
   other_put t old new size none made begins e = (
     bytes_in t,
-    (
-      (status_in false t, made false),
-      (
-        begins,
-        subst (λ (f : Option Form). IsTold f names host libs (bytes_in t) (done.Text size))
-            (sym none) (ap (λ (n : ℕ). done.Text n) e),
-      ),
-    ),
+    (status_in false t, made false),
+    begins,
+    subst (λ (f : Option Form). IsTold f names host libs (bytes_in t) (done.Text size))
+        (sym none) (ap (λ (n : ℕ). done.Text n) e),
   )
 
   pub other_unput : {A : Type 0} (t : FilesText A) (room : List ℕ) (why : Unput)
@@ -160,7 +158,7 @@ module _ (k : TextKind) (names : List (List ℕ)) (host : List ℕ) (libs : List
   other_unput t room (unput.Unmade NoMemory) made h =
       made_may_lack k names host libs (bytes_in t) (status_in false t, made false)
   other_unput t room (unput.TooSmall small) made h =
-      (bytes_in t, ((status_in false t, made false), h))
+      (bytes_in t, (status_in false t, made false), h)
 
   pub other_unmade : (room : List ℕ) (why : TextUnmade) (told : Unmade)
       → WhyTextUnmade k host libs why → told ≡ named_unmade host libs why
@@ -189,7 +187,7 @@ module _ (k : TextKind) (host libs lengths names name_lengths : List ℕ)
   module _ (right : HasItsLengths libs lengths names name_lengths)
       (utf8 : All IsUtf8 (split names name_lengths)) where
     inputs : HasInputs true libs lengths names name_lengths
-    inputs = (right, utf8)
+    inputs = ((right.0, (right.1, right.2)), utf8)
 
     pub named_put : (given parts : List (List ℕ)) (old new : List ℕ) (d : Done)
         → given ≡ split names name_lengths → parts ≡ split libs lengths
@@ -229,13 +227,13 @@ module _ (k : TextKind) (host libs lengths names name_lengths : List ℕ)
   pub named_lengths : (room : List ℕ) → (HasItsLengths libs lengths names name_lengths → ⊥)
       → WhyUnprinted k room host libs lengths names name_lengths (not_done.Wrong wrong.Lengths)
   unfolding WhyUnprinted
-  named_lengths room h = rw named h
+  named_lengths room h = rw named (λ given. h (given.0, given.1.0, given.1.1))
 
   pub named_names : (room : List ℕ) → HasItsLengths libs lengths names name_lengths
       → (All IsUtf8 (split names name_lengths) → ⊥)
       → WhyUnprinted k room host libs lengths names name_lengths (not_done.Wrong wrong.Names)
   unfolding WhyUnprinted
-  named_names room right h = rw named (right, h)
+  named_names room right h = rw named ((right.0, (right.1, right.2)), h)
 
 -- a text that has no names of files is the same whatever these are
 module _ (given names : List (List ℕ)) (host : List ℕ) (libs : List (List ℕ)) where
@@ -265,13 +263,8 @@ module _ (given names : List (List ℕ)) (host : List ℕ) (libs : List (List �
   any_put : (k : TextKind) (old new : List ℕ) (d : Done) → needs_names k ≡ false
       → IsPut k given host libs old new d → IsPut k names host libs old new d
   unfolding IsPut
-  any_put k old new d none h = (
-    h.0,
-    (
-      any_made k h.0 none h.1.0,
-      (h.1.1.0, any_told k h.0 d none h.1.1.1),
-    ),
-  )
+  any_put k old new d none h =
+      (h.0, any_made k h.0 none h.1, h.2, any_told k h.0 d none h.3)
 
 -- a call for a text without names
 module _ (k : TextKind) (host libs lengths names name_lengths : List ℕ)
@@ -296,10 +289,8 @@ module _ (k : TextKind) (host libs lengths names name_lengths : List ℕ)
     ((h.0, tt), tt),
     (
       h.1.0,
-      (
-        any_made no_paths (split names name_lengths) host (split libs lengths) k h.1.0 none h.1.1.0,
-        h.1.1.1,
-      ),
+      any_made no_paths (split names name_lengths) host (split libs lengths) k h.1.0 none h.1.1,
+      h.1.2,
     ),
   )
 
