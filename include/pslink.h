@@ -102,7 +102,7 @@ extern "C" {
 #define PSLINK_LIST 4u       /* what each file has */
 #define PSLINK_UNITS 5u      /* that list, and after each file what is wrong with its units by
                                 themselves */
-#define PSLINK_FINDINGS 6u   /* what the report finds, one by one: its last lines, each of which
+#define PSLINK_FINDINGS 6u   /* what the report finds, one by one: lines of it, each of which
                                 begins with `warning: `, `note: ` or `harmless: `; nothing where it
                                 finds nothing */
 

@@ -300,9 +300,10 @@ static void check_texts(void)
 
 /* What is found, one by one: nothing in the pair; and in a library that was padded, whose procedure has another number, whose private
  * variable has two words where the operand is the third, and whose first operand has lost its bit 7, what is harmless, a note, a warning
- * and a note, which are the last lines of the report. */
+ * and a note, which are lines of the report before its last one. */
 static void check_findings(void)
 {
+    static const char last[] = "copy or compile again: LIB1; see WARNINGS in pslink(1)\n";
     static const char none[] = "{\"findings\":[\n]}\n";
     static const char lines[] =
         "harmless: LIB1: its last 2 bytes are 1A: it was padded, as by CP/M\n"
@@ -341,6 +342,8 @@ static void check_findings(void)
     library.length += 2;
     size = text_of(PSLINK_FINDINGS, 1, room, sizeof room);
     check(size == strlen(lines) && memcmp(room, lines, size) == 0, "what is found is said otherwise", size);
+    memcpy(room + size, last, strlen(last));
+    size += strlen(last);
     check(make(1, other, sizeof other, &answer) == PSLINK_DONE && answer.warnings == 1 && answer.size > size &&
               memcmp(other + answer.size - size, room, size) == 0,
           "the report ends with other lines", answer.size);

@@ -215,7 +215,7 @@ unfolding finding_line
 line_is f = refl
 
 -- so many warnings, and no line of a segment
-abbrev AddsFindings : List ℕ → ℕ → List ℕ → Type 0
+abbrev pub AddsFindings : List ℕ → ℕ → List ℕ → Type 0
 AddsFindings old n new = AddsWarnings old n new × AddsSlotLines old [] new
 
 -- how many warnings a finding of this weight is
@@ -266,7 +266,7 @@ unfolding warning_count
 no_finding = refl
 
 -- the lines of many
-lines_then : (a b c : List ℕ) (n m : ℕ) → AddsFindings a n b → AddsFindings b m c
+pub lines_then : (a b c : List ℕ) (n m : ℕ) → AddsFindings a n b → AddsFindings b m c
     → AddsFindings a (n + m) c
 lines_then a b c n m h k =
     (added_then a b c n m h.0 k.0, adds_then_none a b c [] h.1 k.1)

@@ -11,9 +11,11 @@ use Rattle.ps_report.specs.Reported.{ArePlaced, Reported, findings_in, warning_c
 use Rattle.ps_report.specs.Reports.{AreSections, IsReport, Sections, front_of}
 use Rattle.ps_report.specs.Verdicts.{IsVerdict, verdict_name}
 use Rattle.ps_report.specs.FindingLines.{AddsWarnings, finding_lines}
+use Rattle.ps_report.specs.LastLine.{last_line}
 use Rattle.ps_report.proofs.Findings.{warned_about}
 use Rattle.ps_report.proofs.Texts.{told_in}
-use Rattle.ps_report.proofs.FindingLines.{adds_finding_lines, counted}
+use Rattle.ps_report.proofs.FindingLines.{counted}
+use Rattle.ps_report.proofs.LastLine.{adds_last_lines}
 
 -- what is before the lines of the findings
 pub record Front (paths : List (List ℕ)) (host : List ℕ) (libs : List (List ℕ)) (r : Reported)
@@ -26,15 +28,15 @@ pub record Front (paths : List (List ℕ)) (host : List ℕ) (libs : List (List 
 
 pub is_report : (paths : List (List ℕ)) (host : List ℕ) (libs : List (List ℕ))
     (r : Reported) (front : List ℕ) → Front paths host libs r front
-    → r.text ≡ front ++ finding_lines r.findings
+    → r.text ≡ front ++ (finding_lines r.findings ++ last_line paths r.findings)
     → IsVerdict host libs r.verdict → r.name ≡ verdict_name host libs r.verdict
     → about_link_in (findings_in r.findings)
     ≡ link_findings_of paths host libs (seen_segments host libs)
     → ArePlaced r.findings → IsReport paths host libs r
 is_report paths host libs r front is text right name findings placed =
-    let lines = finding_lines r.findings in
+    let lines = finding_lines r.findings ++ last_line paths r.findings in
     let whole = text ∙ ap (λ (t : List ℕ). t ++ lines) is.parts in
-    let added = adds_finding_lines front r.findings in record {
+    let added = adds_last_lines paths front r.findings in record {
       right = right;
       line = told_in paths host libs r.verdict is.sections lines r.text is.are.files whole;
       name = name;

@@ -3,4 +3,5 @@ pub mod ReportJson
 pub mod Lists
 pub mod Reported
 pub mod FindingLines
+pub mod LastLine
 pub mod Reports

@@ -17,6 +17,7 @@ use Rattle.ps_listing.specs.FileLists.{IsList}
 use Rattle.ps_listing.specs.declared.lists.ListForm.TheVariants as list
 use Rattle.ps_report.specs.Lists.{lacks_host}
 use Rattle.ps_report.specs.FindingLines.{finding_lines, other_lines, warnings_in}
+use Rattle.ps_report.specs.LastLine.{last_line}
 use Rattle.ps_report.specs.ReportJson.{findings_json, report_json}
 use Rattle.ps_report.specs.Reported.{ArePlaced, Reported, findings_in, warning_count}
 use Rattle.ps_report.specs.Verdicts.{IsVerdict, Tells, check_status, fault_of, verdict_line, verdict_name}
@@ -74,9 +75,11 @@ pub record IsReport (paths : List (List ℕ)) (host : List ℕ) (libs : List (Li
   pub right : IsVerdict host libs r.verdict
   pub line : Tells r.text r.verdict
   pub name : r.name ≡ verdict_name host libs r.verdict
-  -- the text is the sections, with the line of the verdict, and a line of each finding
+  -- the text is the sections, with the line of the verdict, a line of each finding, and where a
+  -- warning or a note is among them the line that says what to do
   pub made : (s : Sections) × AreSections paths host libs r.verdict s
-      × (r.text ≡ front_of r.verdict s ++ finding_lines r.findings)
+      × (r.text ≡ front_of r.verdict s
+      ++ (finding_lines r.findings ++ last_line paths r.findings))
   -- where the files are linked, the lines that begin with `slot ` are those of the segments
   pub segments : NoneStands host libs → slot_lines r.text ≡ segment_lines paths host libs
   -- the findings about the link are those that their definitions give, in order, each with its
@@ -95,8 +98,8 @@ abbrev pub printed_report : Form → Reported → List ℕ
 printed_report Lines r = r.text
 printed_report Json r = report_json r
 
--- The findings of a report, one by one, as they are printed: the lines with which its text ends, or
--- the document of them.
+-- The findings of a report, one by one, as they are printed: their lines in its text, or the
+-- document of them.
 abbrev pub printed_findings : Form → Reported → List ℕ
 printed_findings Lines r = finding_lines r.findings
 printed_findings Json r = findings_json r.findings

@@ -9,7 +9,7 @@ use ps_writing::TextWriter;
 use std::alloc::Allocator;
 
 /// A text up to its first line end.
-fn first_line(text: &str) -> &str
+pub(crate) fn first_line(text: &str) -> &str
     ensures { result.now ≡ first_line_spec text.now }
 {
     match text.split_once('\n') {

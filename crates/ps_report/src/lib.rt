@@ -7,6 +7,7 @@ mod finding_lines;
 mod inspection;
 mod json;
 mod kept;
+mod last_line;
 mod lines;
 mod names;
 mod printed;

@@ -30,8 +30,8 @@ impl<A: Allocator> Text for PrintedReport<'_, '_, A> {
     }
 }
 
-/// The findings of a report, one by one, in one of their forms: the lines with which the text of the
-/// report ends, or a JSON document of the same list. A line begins with `warning: `, `harmless: ` or
+/// The findings of a report, one by one, in one of their forms: their lines in the text of the report,
+/// or a JSON document of the same list. A line begins with `warning: `, `harmless: ` or
 /// `note: `. Source: RFC 8259.
 #[derive(Drop)]
 pub struct PrintedFindings<'r, 'a, A: Allocator> {

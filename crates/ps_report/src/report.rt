@@ -7,10 +7,12 @@ ghost use Rattle.ps_report.specs.Reported.{reported, said, warning_count};
 ghost use Rattle.ps_report.specs.Reports.{HasWarning, IsReport, front_of};
 ghost use Rattle.ps_report.specs.Verdicts.{IsRefused, check_status, verdict_line};
 ghost use Rattle.ps_report.specs.FindingLines.{AddsWarnings, finding_lines};
+ghost use Rattle.ps_report.specs.LastLine.{last_line};
 
 use crate::finding::{SaidFinding, said_findings};
 use crate::inspection::{Inspection, inspect};
 use crate::kept::string_of;
+use crate::last_line::add_last_line;
 use crate::lines::add_other_lines;
 use crate::printed::PrintedFindings;
 use crate::verdict::{Verdict, verdict_of};
@@ -31,7 +33,7 @@ pub struct Report<'a, A: Allocator> {
     /// What else is found, and is no fault, in its order.
     pub findings: Vec<SaidFinding<'a, A>, A>,
     /// The whole text, for a person: the files, the segments, the line of the verdict, what it
-    /// means, where no file is a host the list of each, and a line of each finding.
+    /// means, where no file is a host the list of each, a line of each finding, and what to do.
     pub text: String<A>,
 }
 
@@ -115,21 +117,33 @@ pub fn check<'a, A: Allocator + Copy>(
         findings,
         text: front,
     };
-    let lines = lines_of_findings(alloc, &report)?;
+    let lines = lines_of_findings(alloc, &report, host_path, paths)?;
     report.text.push_str(lines.as_str())?;
     Ok(report)
 }
 
-/// The lines of the findings of a report.
+/// The lines of the findings of a report, and the line that says what to do about them.
 fn lines_of_findings<A: Allocator + Copy>(
     alloc: A,
     report: &Report<'_, A>,
+    host_path: &str,
+    paths: &[&str],
 ) -> Result<String<A>, AllocError>
     ensures { IfOk result (λ lines. string_bytes lines
-        ≡ finding_lines (map said report.now.findings.items)) }
+        ≡ finding_lines (map said report.now.findings.items)
+        ++ last_line (host_path.now ∷ contents paths.now)
+        (map said report.now.findings.items)) }
 {
     let form = Form::Lines;
-    string_of(alloc, &PrintedFindings { form, report })
+    let mut lines = string_of(alloc, &PrintedFindings { form, report })?;
+    add_last_line(
+        alloc,
+        &mut lines,
+        report.findings.as_slice(),
+        host_path,
+        paths,
+    )?;
+    Ok(lines)
 }
 
 /// What a report has before and after the line of its verdict, in lines, but for its warnings.
