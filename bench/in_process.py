@@ -3,7 +3,7 @@
 host without a library, a file of no bytes, and sixteen segments all of whose bytes are operands; and checks of the first two.
 Where valgrind is there, also the instructions that a call in C takes; where there is no cargo, Rust is left out. The archive of
 another library, if one is given, is measured beside, in C, below the same library/pslink.c: it needs pslink_link_nonnull alone.
-Usage: in_process.py PSLINK FOLDER [ARCHIVE]: the program, the folder with libpslink.a and libpslink.so.2, the other archive"""
+Usage: in_process.py PSLINK FOLDER [ARCHIVE]: the program, the folder with libpslink.a and libpslink.so.3, the other archive"""
 import os
 import re
 import shutil
@@ -124,7 +124,7 @@ def main():
     if len(sys.argv) not in (3, 4):
         sys.exit(__doc__)
     pslink, built, *others = (Path(path).resolve() for path in sys.argv[1:])
-    os.environ["PSLINK_LIBRARY"] = str(built / "libpslink.so.2")
+    os.environ["PSLINK_LIBRARY"] = str(built / "libpslink.so.3")
     sys.path.insert(0, str(ROOT / "bindings/python"))
     sys.dont_write_bytecode = True
     with tempfile.TemporaryDirectory() as name:
