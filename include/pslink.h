@@ -36,8 +36,9 @@
  * verdict and the line of it, which warnings it has and where each is, the lines of the segments
  * where the files are linked, and the list of each file where none is a host, all with the names
  * that are given; and not its other lines. It is proved of functions that the library has in it, and
- * does not export. Those of this header lay files one after another for them, refuse misuse, and
- * hand their answers on: they are C, and are tested. What is asked of the caller is on this page:
+ * does not export, and so are the answers, which they write. Those of this header lay files one
+ * after another for them and refuse misuse: they are C, and are tested. What is asked of the caller
+ * is on this page:
  *
  * - A pointer with its length names memory of the caller that is there for the whole call: it may
  *   be read, and for `out` and `answer` also written. A name ends with a 0. `files` and `answer`
@@ -54,7 +55,7 @@
  * before it ends. A link of a host with one library or none requests none before it has read the
  * files; with more, it first requests memory for their copy, one after another.
  * Stack: leave a call 64 KB; a link of up to 16 libraries takes about 23, one of more up to 30, and a
- * check or another text up to 33.
+ * check or another text up to 34.
  * Signals: pslink_link and pslink_text are not to be called from a signal handler, nor, where the
  * process has threads, in a child between fork and exec.
  *
@@ -114,8 +115,8 @@ extern "C" {
                             name is there once */
 #define PSLINK_HAD 8u    /* those of the units whose code files[0] has, by slot */
 
-/* PSLINK_MAP | PSLINK_JSON and so on: one JSON document in place of lines. PSLINK_UNITS, and the names
-   of units, have none. */
+/* PSLINK_MAP | PSLINK_JSON and so on: one JSON document in place of lines, as the program prints it
+   with --json. The names of units, PSLINK_WANTED and PSLINK_HAD, have none: that is PSLINK_MISUSE. */
 #define PSLINK_JSON 256u
 
 /* What pslink_fault has of a fault. */

@@ -1,14 +1,15 @@
-/* The functions of pslink.h over those that are proved: lays files one after another, refuses misuse, and hands answers on. */
+/* The functions of pslink.h over those that are proved, which write what is answered: lays files one after another, and refuses
+ * misuse. */
 #include "faults.h"
 #include "proved.h"
 
-#include <pslink.h>
 #include <stdlib.h>
 #include <string.h>
 
 #define NUMBERED 25 /* the bytes of "file " and of the longest number */
 #define FILES_OF(laid) (laid)->host, (laid)->host_length, (laid)->libs, (laid)->libs_length, (laid)->lengths, (laid)->count
 #define NAMES_OF(laid) (laid)->names, (laid)->names_length, (laid)->name_lengths, (laid)->name_count
+#define ROOM_OF(out, room) (out) == NULL ? (void *)&nothing : (void *)(out), (out) == NULL ? 0 : (room)
 
 /* Files as the proved functions take them, and the block in which libraries and names are one after another. */
 struct laid {
@@ -19,33 +20,6 @@ struct laid {
 };
 
 static size_t nothing; /* what is pointed to where no byte is read or written */
-
-static uint32_t bare(uint32_t status, pslink_answer *answer)
-{
-    static const pslink_answer none = {.file = -1, .record = -1, .reference = -1, .slot = -1, .kind = -1};
-
-    *answer = none;
-    return answer->status = status;
-}
-
-static uint32_t told(const struct proved_answer *proved, pslink_answer *answer)
-{
-    bare(proved->status, answer);
-    if (proved->fault != 0) {
-        answer->fault = proved->fault;
-        answer->file = (ptrdiff_t)proved->file;
-        answer->record = proved->has_record ? (ptrdiff_t)proved->record : -1;
-        answer->reference = proved->has_reference ? (ptrdiff_t)proved->reference : -1;
-        answer->slot = proved->has_slot ? proved->slot : -1;
-        answer->kind = proved->has_kind ? proved->kind : -1;
-        memcpy(answer->name, proved->name, sizeof proved->name);
-    }
-    answer->segments = (uint32_t)proved->segments;
-    answer->private_words = proved->private_words;
-    answer->blocks = (uint32_t)proved->blocks;
-    answer->size = proved->needed;
-    return answer->status;
-}
 
 /* What texts call a file; `line` has room for its number. */
 static const char *name_of(const pslink_file *file, size_t number, char line[NUMBERED + 1])
@@ -83,162 +57,89 @@ static uint32_t measure(const pslink_file *files, size_t count, int named, size_
     return PSLINK_DONE;
 }
 
-/* Puts the lengths of files, the libraries, and the names of files in a block, in this order. */
-static void fill(const pslink_file *files, size_t count, size_t *lengths, struct laid *laid)
+/* Puts one after another in the block: the lengths of files, those of names, the libraries, and the names. */
+static void fill(const pslink_file *files, struct laid *laid)
 {
-    char line[NUMBERED + 1], *at = (char *)(lengths + 2 * count);
-    size_t k;
+    size_t k, *lengths = (size_t *)laid->block, *name_lengths = lengths + laid->count + 1;
+    char line[NUMBERED + 1], *libs = (char *)(name_lengths + laid->count + 1), *names = libs;
 
-    laid->block = lengths;
+    for (k = 1; k <= laid->count; names += lengths[k++])
+        if ((lengths[k] = files[k].length) != 0)
+            memcpy(names, files[k].bytes, lengths[k]);
+    laid->libs_length = (size_t)(names - libs);
+    laid->libs = libs;
     laid->lengths = lengths + 1;
-    laid->libs = at;
-    for (k = 1; k < count; at += files[k++].length) {
-        lengths[k] = files[k].length;
-        if (files[k].length != 0)
-            memcpy(at, files[k].bytes, files[k].length);
-    }
-    laid->libs_length = (size_t)(at - (const char *)laid->libs);
-    laid->names = at;
-    laid->name_lengths = lengths += count;
-    for (k = 0; k < laid->name_count; at += lengths[k++]) {
+    laid->names = libs = names;
+    laid->name_lengths = name_lengths;
+    for (k = 0; k < laid->name_count; names += name_lengths[k++]) {
         const char *name = name_of(&files[k], k, line);
 
-        lengths[k] = strlen(name);
-        memcpy(at, name, lengths[k]);
+        memcpy(names, name, name_lengths[k] = strlen(name));
     }
-    laid->names_length = (size_t)(at - (const char *)laid->names);
+    laid->names_length = (size_t)(names - libs);
 }
 
-/* Lays files out. The host is not copied, nor is a library that is alone, where no names are wanted. */
-static uint32_t lay(const pslink_file *files, size_t count, int named, struct laid *laid)
+/* What is answered where nothing was called: a status, and nothing else. */
+static uint32_t bare(uint32_t status, pslink_answer *answer)
 {
-    size_t total, *block;
-    const uint32_t status = measure(files, count, named, &total);
+    if (answer != NULL)
+        *answer = (pslink_answer){.status = status, .file = -1, .record = -1, .reference = -1, .slot = -1, .kind = -1};
+    return status;
+}
+
+/* Lays files out, or answers why not. The host is not copied, nor is a library that is alone, where no names are wanted. */
+static uint32_t lay(const pslink_file *files, size_t count, int named, struct laid *laid, pslink_answer *answer)
+{
+    static const pslink_file none;
+    const pslink_file *alone = count == 2 ? &files[1] : &none;
+    size_t total;
+    const uint32_t status = answer == NULL ? PSLINK_MISUSE : measure(files, count, named, &total);
 
     if (status != PSLINK_DONE)
-        return status;
-    memset(laid, 0, sizeof *laid);
-    laid->host = files[0].length == 0 ? &nothing : files[0].bytes;
-    laid->host_length = files[0].length;
-    laid->count = count - 1;
-    laid->name_count = named ? count : 0;
-    if (named || count > 2) {
-        block = (size_t *)malloc(total - files[0].length);
-        if (block == NULL)
-            return PSLINK_NO_MEMORY;
-        fill(files, count, block, laid);
+        return bare(status, answer);
+    *laid = (struct laid){NULL, files->length == 0 ? &nothing : files->bytes, alone->length == 0 ? &nothing : alone->bytes, &nothing,
+                          &laid->libs_length, &nothing, files->length, alone->length, 0, count - 1, named ? count : 0};
+    if (!named && count <= 2)
         return PSLINK_DONE;
-    }
-    laid->libs_length = count == 2 ? files[1].length : 0;
-    laid->libs = laid->libs_length == 0 ? &nothing : files[1].bytes;
-    laid->lengths = &laid->libs_length;
-    laid->names = laid->name_lengths = &nothing;
+    laid->block = malloc(total - files->length);
+    if (laid->block == NULL)
+        return bare(PSLINK_NO_MEMORY, answer);
+    fill(files, laid);
     return PSLINK_DONE;
-}
-
-/* A report as lines, and its verdict. */
-static uint32_t check(const struct laid *laid, void *out, size_t room, pslink_answer *answer)
-{
-    struct proved_check proved;
-
-    pslink_check_nonnull(FILES_OF(laid), NAMES_OF(laid), 0, out, room, &proved);
-    told(&proved.verdict, answer);
-    answer->warnings = (uint32_t)proved.warnings;
-    answer->size = proved.needed;
-    return answer->status = proved.status;
-}
-
-static uint32_t text(uint32_t what, uint32_t form, const struct laid *laid, void *out, size_t room, pslink_answer *answer)
-{
-    struct proved_answer proved;
-
-    if (what > PSLINK_FINDINGS)
-        pslink_units_nonnull(what - PSLINK_WANTED, FILES_OF(laid), out, room, &proved);
-    else
-        pslink_text_nonnull(what, form, FILES_OF(laid), NAMES_OF(laid), out, room, &proved);
-    return told(&proved, answer);
-}
-
-/* The document of a report, and its verdict: that of the lines, which are made before in memory of their own. */
-static uint32_t check_document(const struct laid *laid, void *out, size_t room, pslink_answer *answer)
-{
-    pslink_answer verdict = {.status = PSLINK_TOO_SMALL, .size = room};
-
-    while (room != 0 && verdict.status == PSLINK_TOO_SMALL) {
-        const size_t size = verdict.size;
-        void *lines = malloc(size);
-
-        if (lines == NULL)
-            return bare(PSLINK_NO_MEMORY, answer);
-        check(laid, lines, size, &verdict);
-        free(lines);
-    }
-    if (room != 0 && verdict.status != PSLINK_DONE)
-        return bare(verdict.status, answer);
-    if (text(PSLINK_CHECK, PROVED_JSON, laid, out, room, answer) == PSLINK_DONE) {
-        verdict.size = answer->size;
-        *answer = verdict;
-    }
-    return answer->status;
 }
 
 uint32_t pslink_link(const pslink_file *files, size_t count, void *out, size_t room, pslink_answer *answer)
 {
-    struct proved_answer proved;
     struct laid laid;
-    uint32_t status;
+    uint32_t status = lay(files, count, 0, &laid, answer);
 
-    if (answer == NULL)
-        return PSLINK_MISUSE;
-    status = lay(files, count, 0, &laid);
     if (status != PSLINK_DONE)
-        return bare(status, answer);
-    pslink_link_nonnull(FILES_OF(&laid), out == NULL ? &nothing : out, out == NULL ? 0 : room, &proved);
+        return status;
+    status = pslink_link_nonnull(FILES_OF(&laid), ROOM_OF(out, room), answer);
     free(laid.block);
-    return told(&proved, answer);
+    return status;
 }
 
 uint32_t pslink_text(uint32_t what, const pslink_file *files, size_t count, void *out, size_t room, pslink_answer *answer)
 {
-    const uint32_t form = what & PSLINK_JSON ? PROVED_JSON : PROVED_LINES;
+    const uint32_t lines = what & ~(uint32_t)PSLINK_JSON;
     struct laid laid;
     uint32_t status;
 
-    what &= ~(uint32_t)PSLINK_JSON;
-    if (answer == NULL)
-        return PSLINK_MISUSE;
-    if (what > PSLINK_HAD || (form == PROVED_JSON && (what == PSLINK_UNITS || what > PSLINK_FINDINGS)))
+    /* (a text that there is not is no want of memory) */
+    if (lines > PSLINK_FINDINGS && what > PSLINK_HAD)
         return bare(PSLINK_MISUSE, answer);
-    status = lay(files, count, what >= PSLINK_CHECK && what <= PSLINK_FINDINGS, &laid);
+    status = lay(files, count, PSLINK_CHECK <= lines && lines <= PSLINK_FINDINGS, &laid, answer);
     if (status != PSLINK_DONE)
-        return bare(status, answer);
-    if (out == NULL)
-        room = 0;
-    if (what != PSLINK_CHECK)
-        status = text(what, form, &laid, room == 0 ? &nothing : out, room, answer);
-    else
-        status = (form == PROVED_JSON ? check_document : check)(&laid, room == 0 ? &nothing : out, room, answer);
+        return status;
+    status = pslink_text_nonnull(what, FILES_OF(&laid), NAMES_OF(&laid), ROOM_OF(out, room), answer);
     free(laid.block);
     return status;
 }
 
 size_t pslink_fault_text(const pslink_answer *answer, char *out, size_t room)
 {
-    struct proved_answer proved = {.status = PSLINK_REFUSED};
-
-    if (answer == NULL || answer->fault > UINT8_MAX)
-        return 0;
-    proved.fault = (uint8_t)answer->fault;
-    proved.file = (size_t)answer->file;
-    proved.kind = (uint16_t)answer->kind;
-    proved.slot = (uint8_t)answer->slot;
-    proved.record = (size_t)answer->record;
-    proved.reference = (size_t)answer->reference;
-    proved.has_kind = answer->kind >= 0;
-    proved.has_slot = answer->slot >= 0;
-    proved.has_record = answer->record >= 0;
-    proved.has_reference = answer->reference >= 0;
-    return pslink_fault_text_nonnull(&proved, out == NULL ? (void *)&nothing : out, out == NULL ? 0 : room);
+    return answer == NULL ? 0 : pslink_fault_text_nonnull(answer, ROOM_OF(out, room));
 }
 
 const char *pslink_fault(uint32_t fault, uint32_t part)

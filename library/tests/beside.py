@@ -20,7 +20,7 @@ from commands import Commands  # noqa: E402
 HOST, LIBRARY = make_samples.SAMPLES["host.code"], make_samples.SAMPLES["library.code"]
 LONGEST_CODE = 64 * large.BLOCK - 2
 # what a text has beside map, show and check, with the program's words for it
-TEXTS = ["map --json", "map --references", "map --references --json", "show --json", "check --json", "list", "list --json", "check --unit"]
+TEXTS = ["map --json", "map --references", "map --references --json", "show --json", "check --json", "list", "list --json", "check --unit", "check --unit --json"]
 SAMPLE_SETS = ["host library", "big_host big_library", "host using used", "two_units", "procedures library", "host", "library host"]
 
 
@@ -70,7 +70,7 @@ def differences(pslink, others, what, command, files, wanted=None):
     found = {language: run(word, host, libraries, *flags) for language, run in others.items()}
     found["Python"] = program.answer(word, host, libraries, names, flags)
     # (such a text is all that the library answers of them, whatever the program ends with)
-    is_text_alone = command in ("check --json", "list", "list --json", "check --unit")
+    is_text_alone = command in ("check --json", "list", "list --json", "check --unit", "check --unit --json")
     for language, one in found.items():
         if (one[1:] if is_text_alone else one) != (answer[1:] if is_text_alone else answer):
             yield f"{what}: {command}: {language} answers {str(one)[:300]}, and the program {str(answer)[:300]}"

@@ -153,7 +153,8 @@ static void check_memory(uint32_t what, size_t count)
         status = pslink_text(what, files, count, room, sizeof room, &answer);
         refused_at = -1;
         if (asked <= turn) {
-            check((status == PSLINK_DONE || lacks_its_unit(what, count, status)) && turn > 0, "with all memory it is not done", what);
+            check(status == PSLINK_DONE || lacks_its_unit(what, count, status), "with all memory it is not done", what);
+            check((turn == 0) == (status == PSLINK_REFUSED || (what == PSLINK_HAD && count <= 2)), "memory is asked for otherwise", what);
             return;
         }
         check(status == PSLINK_NO_MEMORY ? is_bare(&answer, status) : lacks_its_unit(what, count, status),
@@ -161,6 +162,22 @@ static void check_memory(uint32_t what, size_t count)
         check(is_untouched(room, 0, sizeof room), "memory is refused, and the room is written to", (size_t)turn);
     }
     check(0, "there is no end of memory that is asked for", what);
+}
+
+/* A text that there is not, where no memory is had: the call asks for none. */
+static void check_no_text(void)
+{
+    static const uint32_t none[] = {PSLINK_HAD + 1, PSLINK_WANTED | PSLINK_JSON, PSLINK_HAD | PSLINK_JSON, PSLINK_CHECK | 2 * PSLINK_JSON};
+    const pslink_file files[3] = {host, library, library};
+    pslink_answer answer;
+    size_t k;
+
+    for (k = 0; k < sizeof none / sizeof *none; k++) {
+        asked = refused_at = 0;
+        check(pslink_text(none[k], files, 3, NULL, 0, &answer) == PSLINK_MISUSE && is_bare(&answer, PSLINK_MISUSE) && asked == 0,
+              "a text that there is not asks for memory", none[k]);
+        refused_at = -1;
+    }
 }
 
 static void check_all_memory(void)
@@ -171,9 +188,10 @@ static void check_all_memory(void)
     for (what = PSLINK_MAP; what <= PSLINK_HAD; what++)
         for (count = 1; count <= 3; count++) {
             check_memory(what, count);
-            if (what != PSLINK_UNITS && what <= PSLINK_FINDINGS)
+            if (what <= PSLINK_FINDINGS)
                 check_memory(what | PSLINK_JSON, count);
         }
+    check_no_text();
 }
 
 /* Names that are no UTF-8, are empty, or are not there; and some that are right. */
@@ -212,7 +230,7 @@ static void check_names(void)
             check(status == (has_names ? cases[k].status : PSLINK_DONE) && answer.status == status, "names are taken otherwise", k);
             check(status == PSLINK_DONE || (is_bare(&answer, status) && is_untouched(room, 0, sizeof room)),
                   "names that are not taken leave something", k);
-            if (what != PSLINK_UNITS && what <= PSLINK_FINDINGS)
+            if (what <= PSLINK_FINDINGS)
                 check(pslink_text(what | PSLINK_JSON, files, 2, room, sizeof room, &answer) == status, "a document takes other names", k);
         }
         check(pslink_link(files, 2, room, sizeof room, &answer) == PSLINK_DONE, "names are looked at for a link", k);
@@ -285,8 +303,6 @@ static void check_texts(void)
     text_of(PSLINK_UNITS, 1, room, sizeof room);
     check(strstr((const char *)room, "LIB1: slot 02 UTIL     by itself, no fault\n") != NULL, "units by themselves are others", 0);
     for (what = PSLINK_MAP; what <= PSLINK_FINDINGS; what++) {
-        if (what == PSLINK_UNITS)
-            continue;
         size = text_of(what | PSLINK_JSON, 1, room, sizeof room);
         check(room[0] == '{' && memcmp(room + size - 2, "}\n", 2) == 0, "a document is none", what);
     }

@@ -228,7 +228,7 @@ static void check_misuse(void)
     check(pslink_link(&host, 1, room, sizeof room, NULL) == PSLINK_MISUSE, "no answer is taken", 0);
     for (what = 0; what < 1200; what++) {
         const uint32_t number = what & ~PSLINK_JSON;
-        const int is_text = number <= PSLINK_HAD && (number == what || (number != PSLINK_UNITS && number <= PSLINK_FINDINGS));
+        const int is_text = number <= PSLINK_FINDINGS || (number == what && number <= PSLINK_HAD);
 
         check((pslink_text(what, &host, 1, NULL, 0, &answer) == PSLINK_MISUSE) == !is_text, "a text that there is not is made", what);
         check(is_text || is_bare(&answer, PSLINK_MISUSE), "a text that there is not has an answer", what);

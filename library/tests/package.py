@@ -204,7 +204,7 @@ def of_texts():
     check(text("references", *files).startswith(pslink.map(*files)), "a map with references has no map")
     check(text("list", *named).startswith("one: little-endian, 1536 bytes, host\n"), "a list names its files otherwise")
     check(text("list", HOST).startswith(f"{HOST}: "), "a list of a path names it otherwise")
-    for what in ("map", "references", "show", "check", "list", "findings"):
+    for what in ("map", "references", "show", "check", "list", "units", "findings"):
         json.loads(text(what, *files, json=True))
     document = json.loads(text("check", HOST, [changed(LIBRARY, at530=b"\3")], json=True))
     check([finding["weight"] for finding in document["findings"]] == ["note"], f"what is found is {document['findings']}")
@@ -224,7 +224,9 @@ def of_texts():
     ending = lines + "copy or compile again: two; see WARNINGS in pslink(1)\n"
     check(pslink.check(("one", HOST), [("two", odd)]).text.endswith(ending) and len(lines.splitlines()) == 4, "the lines of what is found are others")
     check(parts(raised(pslink.Refused, text, "map", HOST)) == MISSING, "the text of a map is of files that are refused")
-    check(raised(ValueError, lambda: text("units", HOST, json=True)), "there is a document of units")
+    units = [file["units"] for file in json.loads(text("units", *files, json=True))["files"]]
+    by_itself = {"slot": 2, "name": "UTIL    ", "name_hex": "5554494C20202020", "fault": None}
+    check(units == [[], [by_itself]], f"the units by themselves are {units}")
     check(raised(ValueError, text, "plan", HOST), "there is a text of another name")
     parts_of_release = [int(part) for part in pslink.__version__.split(".")]
     check(pslink.release_number() == sum(part * 100**power for part, power in zip(parts_of_release, (2, 1, 0))), "the number of the release is another")

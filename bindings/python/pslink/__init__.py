@@ -434,8 +434,8 @@ def check(host: File, libs: Iterable[File] = ()) -> Report:
 def text(what: Text, host: File, libs: Iterable[File] = (), json: bool = False) -> str:
     """What the program prints of these files by its command of this name, as lines, or as one JSON document.
 
-    `references` is a map with what the link stores at each place; `units` is a list and what is wrong with each unit by itself, as
-    lines alone; `findings` is what a check finds, a line for each. Of a `list` and of `units` all files are equal; of a `show` there is
+    `references` is a map with what the link stores at each place; `units` is a list and what is wrong with each unit by itself;
+    `findings` is what a check finds, a line for each. Of a `list` and of `units` all files are equal; of a `show` there is
     one. Raises what `link` raises, Refused for a map, its references and a show alone, and ValueError for what is no such text.
     """
     if what not in _TEXTS:

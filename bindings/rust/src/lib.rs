@@ -100,7 +100,7 @@ pub enum Error {
     Release(u32),
     /// The archive answered what that release does not.
     Unknown(u32),
-    /// There is no such text, or it has no such form.
+    /// There is no such text. An archive of this release has each that [`Text`] names, in each form.
     NoText,
 }
 
@@ -116,7 +116,7 @@ impl fmt::Display for Error {
             Error::Unknown(status) => {
                 write!(f, "libpslink.a answered {status}, which is no status")
             }
-            Error::NoText => f.write_str("there is no such text, or it has no such form"),
+            Error::NoText => f.write_str("there is no such text"),
         }
     }
 }
@@ -400,7 +400,7 @@ pub enum Text {
     Check = 3,
     /// What each file has, in a line for each segment.
     List = 4,
-    /// That list, and what is wrong with the units of each file by themselves: lines alone.
+    /// That list, and what is wrong with the units of each file by themselves.
     Units = 5,
     /// What that report finds, one by one.
     Findings = 6,
@@ -421,8 +421,7 @@ pub enum Form {
 /// there is one, `host`.
 ///
 /// # Errors
-/// Those of [`link`], where [`Error::Refused`] is of a map, its references and a show alone;
-/// [`Error::NoText`] where the text has no such form.
+/// Those of [`link`], where [`Error::Refused`] is of a map, its references and a show alone.
 pub fn text<'a>(
     what: Text,
     form: Form,

@@ -194,6 +194,7 @@ fn a_text_is_what_the_program_prints() {
         Text::Show,
         Text::Check,
         Text::List,
+        Text::Units,
         Text::Findings,
     ];
     for what in documents {
@@ -203,10 +204,8 @@ fn a_text_is_what_the_program_prints() {
             "{document}"
         );
     }
-    assert_eq!(
-        pslink::text(Text::Units, Form::Json, first.clone(), libs.clone()),
-        Err(Error::NoText)
-    );
+    let units = "],\"units\":[\n{\"slot\":2,\"name\":\"UTIL    \",\"name_hex\":\"5554494C20202020\",\"fault\":null}\n]}";
+    assert!(text(Text::Units, Form::Json).contains(units));
     let alone = pslink::text(Text::Map, Form::Lines, first.clone(), []);
     assert_eq!(refused(alone).number(), 13);
 }

@@ -1,2 +1,4 @@
 pub mod FirstName
+pub mod Indexes
 pub mod Refusals
+pub mod Summaries

@@ -1,17 +1,19 @@
 -- The answer of a call, by what becomes of it.
 use Rattle.std.specs.Prelude.{ℕ, Result, Ok, Err}
-use Rattle.ps_answers.specs.Answers.{bare, linked_answer, text_answer, refusal, small_answer}
-use Rattle.ps_answers.specs.declared.answer.TheConstants.{WRONG_LENGTHS, NO_MEMORY, WRONG_NAMES}
+use Rattle.ps_answers.specs.Answers.{bare, capped, capped_answer, text_answer, refusal, small_answer}
+use Rattle.ps_answers.specs.declared.answer.TheConstants.{DONE, MISUSE, NO_MEMORY, WRONG_NAMES}
 use Rattle.ps_answers.specs.declared.answer.Answer.{Answer}
 use Rattle.ps_answers.specs.declared.outcome.CallError.{CallError}
 use Rattle.ps_answers.specs.declared.outcome.CallError.TheVariants as call
 use Rattle.ps_answers.specs.declared.outcome.Done.{Done}
-use Rattle.ps_answers.specs.declared.outcome.Done.TheVariants.{Linked, Text}
+use Rattle.ps_answers.specs.declared.outcome.Done.TheVariants.{Linked, Report, Text}
 use Rattle.ps_answers.specs.declared.outcome.NotDone.{NotDone}
 use Rattle.ps_answers.specs.declared.outcome.NotDone.TheVariants as not_done
 use Rattle.ps_answers.specs.declared.outcome.Unmade.TheVariants.{Refused, NoMemory}
 use Rattle.ps_answers.specs.declared.outcome.Unput.{Unput}
 use Rattle.ps_answers.specs.declared.outcome.Unput.TheVariants as unput
+use Rattle.ps_answers.specs.declared.outcome.Verdict.{Verdict}
+use Rattle.ps_answers.specs.declared.outcome.Verdict.TheVariants as verdict
 use Rattle.ps_answers.specs.declared.outcome.WrongInputs.{WrongInputs}
 use Rattle.ps_answers.specs.declared.outcome.WrongInputs.TheVariants as wrong
 
@@ -20,14 +22,28 @@ abbrev pub not_done_of : CallError → NotDone
 not_done_of call.WrongLengths = not_done.Wrong wrong.Lengths
 not_done_of (call.Unput why) = not_done.Unput why
 
+-- what a link of files with this verdict answers, of which nothing is written
+abbrev pub verdict_answer : Verdict → Answer
+verdict_answer (verdict.Links summary) = capped_answer summary 0
+verdict_answer (verdict.Refused r) = refusal r.fault r.name
+
+-- a report of so many bytes and warnings was written, on files with this verdict
+abbrev pub report_answer : Verdict → ℕ → ℕ → Answer
+report_answer verdict warnings size = record (verdict_answer verdict) {
+  status = DONE;
+  warnings = capped warnings;
+  size = size;
+}
+
 -- the answer of a call that was done
 abbrev pub done_answer : Done → Answer
-done_answer (Linked summary size) = linked_answer summary size
+done_answer (Linked summary size) = capped_answer summary size
 done_answer (Text size) = text_answer size
+done_answer (Report verdict warnings size) = report_answer verdict warnings size
 
 -- the status of wrong inputs
 abbrev pub wrong_status : WrongInputs → ℕ
-wrong_status wrong.Lengths = WRONG_LENGTHS
+wrong_status wrong.Lengths = MISUSE
 wrong_status wrong.Names = WRONG_NAMES
 
 -- the answer where nothing was put in the room

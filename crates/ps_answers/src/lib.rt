@@ -13,12 +13,12 @@ mod refusal_law;
 mod room;
 
 pub use answer::{
-    Answer, DONE, NO_MEMORY, REFUSED, TOO_SMALL, WRONG_LENGTHS, WRONG_NAMES, WRONG_TEXT,
+    Answer, DONE, MISUSE, NO_INDEX, NO_MEMORY, NO_NUMBER, REFUSED, TOO_SMALL, WRONG_NAMES,
 };
 pub use first_name::host_first;
 pub use libraries::{FEW_LIBRARIES, LIBRARIES_IN_PLACE, Parts, add_up, split};
 pub use linking::{LINKED_MAX, link};
 pub use outcome::{
-    CallError, Done, NotDone, Refusal, TooSmall, Unmade, Unput, WrongInputs, unmade_for,
+    CallError, Done, NotDone, Refusal, TooSmall, Unmade, Unput, Verdict, WrongInputs, unmade_for,
 };
-pub use refusal_law::refusals_tell_their_faults;
+pub use refusal_law::{faults_have_indexes_of_their_files, refusals_tell_their_faults};

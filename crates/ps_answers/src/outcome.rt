@@ -9,15 +9,6 @@ use ps_resolve::fault_name;
 use ps_words::{Fault, Name};
 use std::alloc::AllocError;
 
-/// What was put in the caller's room.
-#[derive(Clone, Copy)]
-pub enum Done {
-    /// A linked file of so many bytes, which has this summary.
-    Linked { summary: Summary, size: usize },
-    /// A text of so many bytes.
-    Text(usize),
-}
-
 /// Why files are refused.
 #[derive(Clone, Copy)]
 pub struct Refusal {
@@ -25,6 +16,33 @@ pub struct Refusal {
     pub fault: Fault,
     /// The name of what it is about, where it has one.
     pub name: Option<Name>,
+}
+
+/// What a link of the files of a report comes to.
+#[derive(Clone, Copy)]
+pub enum Verdict {
+    /// The files are linked, and their linked file has this summary.
+    Links(Summary),
+    /// The files are refused for this.
+    Refused(Refusal),
+}
+
+/// What was put in the caller's room.
+#[derive(Clone, Copy)]
+pub enum Done {
+    /// A linked file of so many bytes, which has this summary.
+    Linked {
+        summary: Summary,
+        size: usize,
+    },
+    /// A text of so many bytes.
+    Text(usize),
+    /// The text of a report, of so many bytes, on files with this verdict and so many warnings.
+    Report {
+        verdict: Verdict,
+        warnings: usize,
+        size: usize,
+    },
 }
 
 /// Why nothing is made of files in memory.

@@ -1,3 +1,2 @@
 pub mod FileNames
-mod PutTexts
-mod OnlyMemory
+pub mod PutTexts

@@ -1,30 +1,24 @@
 -- The texts that there are, by their numbers.
-use Rattle.std.specs.Prelude.{ℕ, ◌==◌, if◌then◌else◌, Bool, true, false, Option, Some, None, option_and_then}
+use Rattle.std.specs.Prelude.{ℕ, ◌==◌, ◌-◌, if◌then◌else◌, nat_lt, Option, Some, None}
 use Rattle.ps_writing.specs.declared.rows.Form.{Form}
 use Rattle.ps_writing.specs.declared.rows.Form.TheVariants as form
 use Rattle.ps_listing.specs.declared.lists.ListForm.{ListForm}
 use Rattle.ps_listing.specs.declared.lists.ListForm.TheVariants as list
 use Rattle.ps_texts.specs.declared.kinds.TextKind.{TextKind}
 use Rattle.ps_texts.specs.declared.kinds.TextKind.TheVariants as kind
-use Rattle.ps_calls.specs.declared.kinds.TheConstants.{JSON, LINES, TEXT_CHECK, TEXT_LIST, TEXT_LOOKS, TEXT_MAP, TEXT_REFERENCES, TEXT_SHOW, TEXT_UNITS, UNITS_HAD, UNITS_WANTED}
-
--- the form of this number
-abbrev pub form_of : ℕ → Option Form
-form_of number = if number == LINES then Some form.Lines
-    else if number == JSON then Some form.Json
-    else None
+use Rattle.ps_calls.specs.declared.kinds.TheConstants.{JSON, TEXT_CHECK, TEXT_FINDINGS, TEXT_HAD, TEXT_LIST, TEXT_MAP, TEXT_REFERENCES, TEXT_SHOW, TEXT_UNITS, TEXT_WANTED}
 
 -- how files are listed in this form
 abbrev pub list_in : Form → ListForm
 list_in form.Lines = list.Lines
 list_in form.Json = list.Json
 
--- the list of files with their units has no document
-abbrev pub units_in : Form → Option TextKind
-units_in form.Lines = Some (kind.List list.Units)
-units_in form.Json = None
+-- how files with their units are listed in this form
+abbrev pub units_in : Form → ListForm
+units_in form.Lines = list.Units
+units_in form.Json = list.JsonUnits
 
--- the text of this number in this form
+-- the text of this number in this form, but for names of units
 abbrev pub kind_in : ℕ → Form → Option TextKind
 kind_in what how =
     if what == TEXT_MAP then Some (kind.Map how)
@@ -32,16 +26,14 @@ kind_in what how =
     else if what == TEXT_SHOW then Some (kind.Show how)
     else if what == TEXT_CHECK then Some (kind.Check how)
     else if what == TEXT_LIST then Some (kind.List (list_in how))
-    else if what == TEXT_UNITS then units_in how
-    else if what == TEXT_LOOKS then Some (kind.Findings how)
+    else if what == TEXT_UNITS then Some (kind.List (units_in how))
+    else if what == TEXT_FINDINGS then Some (kind.Findings how)
     else None
 
--- the text of this number, in the form of this one
-abbrev pub text_kind : ℕ → ℕ → Option TextKind
-text_kind what how = option_and_then (kind_in what) (form_of how)
-
--- the names of units of this number
-abbrev pub units_kind : ℕ → Option TextKind
-units_kind which = if which == UNITS_WANTED then Some kind.Wanted
-    else if which == UNITS_HAD then Some kind.Had
-    else None
+-- the text of this number, to which `JSON` is added for a document
+abbrev pub text_kind : ℕ → Option TextKind
+text_kind what =
+    if what == TEXT_WANTED then Some kind.Wanted
+    else if what == TEXT_HAD then Some kind.Had
+    else if nat_lt what JSON then kind_in what form.Lines
+    else kind_in (what - JSON) form.Json

@@ -5,7 +5,7 @@ ghost use Rattle.ps_words.specs.FaultText.{name_of, number_of, part_text, kind_o
 ghost use Rattle.ps_answers.specs.Answers.{closed_text};
 ghost use Rattle.ps_answers.specs.Rooms.{RoomBeginsWith};
 
-use crate::texts::put;
+use crate::room::put;
 use arrayvec::ArrayString;
 use itoa::Buffer;
 use ps_words::{Fault, Reason};

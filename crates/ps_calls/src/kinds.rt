@@ -1,6 +1,6 @@
 //! The texts that there are, by their numbers.
 ghost use Rattle.std.specs.Prelude.{◌≡◌};
-ghost use Rattle.ps_calls.specs.Kinds.{form_of as form_of_spec, kind_in as kind_in_spec, list_in as list_in_spec, text_kind as text_kind_spec, units_in as units_in_spec, units_kind as units_kind_spec};
+ghost use Rattle.ps_calls.specs.Kinds.{kind_in as kind_in_spec, list_in as list_in_spec, text_kind as text_kind_spec, units_in as units_in_spec};
 
 use ps_texts::{Form, ListForm, TextKind};
 
@@ -22,31 +22,17 @@ pub const TEXT_LIST: u32 = 4;
 /// The number of the list of each file with its units by themselves.
 pub const TEXT_UNITS: u32 = 5;
 
-/// The number of the text of what looks wrong, one by one.
-pub const TEXT_LOOKS: u32 = 6;
+/// The number of what a report finds, one by one.
+pub const TEXT_FINDINGS: u32 = 6;
 
-/// The number of the form of lines.
-pub const LINES: u32 = 0;
+/// The number of the names of the units that a link wants from libraries.
+pub const TEXT_WANTED: u32 = 7;
 
-/// The number of the form of a JSON document.
-pub const JSON: u32 = 1;
+/// The number of the names of the units whose code a file has.
+pub const TEXT_HAD: u32 = 8;
 
-/// The number of the units that a link wants from libraries.
-pub const UNITS_WANTED: u32 = 0;
-
-/// The number of the units whose code a file has.
-pub const UNITS_HAD: u32 = 1;
-
-/// The form of this number.
-fn form_of(number: u32) -> Option<Form>
-    ensures { result ≡ form_of_spec number }
-{
-    match number {
-        LINES => Some(Form::Lines),
-        JSON => Some(Form::Json),
-        _ => None,
-    }
-}
+/// What is added to the number of a text whose form is a JSON document.
+pub const JSON: u32 = 256;
 
 /// How files are listed in this form.
 fn list_in(form: Form) -> ListForm
@@ -58,17 +44,17 @@ fn list_in(form: Form) -> ListForm
     }
 }
 
-/// The list of files with their units, which has no document.
-fn units_in(form: Form) -> Option<TextKind>
+/// How files with their units are listed in this form.
+fn units_in(form: Form) -> ListForm
     ensures { result ≡ units_in_spec form }
 {
     match form {
-        Form::Lines => Some(TextKind::List(ListForm::Units)),
-        Form::Json => None,
+        Form::Lines => ListForm::Units,
+        Form::Json => ListForm::JsonUnits,
     }
 }
 
-/// The text of this number, in this form.
+/// The text of this number in this form, but for names of units.
 fn kind_in(what: u32, form: Form) -> Option<TextKind>
     ensures { result ≡ kind_in_spec what form }
 {
@@ -78,30 +64,26 @@ fn kind_in(what: u32, form: Form) -> Option<TextKind>
         TEXT_SHOW => Some(TextKind::Show(form)),
         TEXT_CHECK => Some(TextKind::Check(form)),
         TEXT_LIST => Some(TextKind::List(list_in(form))),
-        TEXT_UNITS => units_in(form),
-        TEXT_LOOKS => Some(TextKind::Findings(form)),
+        TEXT_UNITS => Some(TextKind::List(units_in(form))),
+        TEXT_FINDINGS => Some(TextKind::Findings(form)),
         _ => None,
     }
 }
 
-/// The text with this number, in the form with this one; `None` where there is no such text, or it
-/// has no such form.
-pub fn text_kind(what: u32, form: u32) -> Option<TextKind>
-    ensures { result ≡ text_kind_spec what form }
+/// The text of this number, to which `JSON` is added for a document; `None` where there is no such
+/// text. Names of units have no document.
+pub fn text_kind(what: u32) -> Option<TextKind>
+    ensures { result ≡ text_kind_spec what }
 {
-    match form_of(form) {
-        None => None,
-        Some(form) => kind_in(what, form),
-    }
-}
-
-/// The names of the units with this number; `None` where there is none.
-pub fn units_kind(which: u32) -> Option<TextKind>
-    ensures { result ≡ units_kind_spec which }
-{
-    match which {
-        UNITS_WANTED => Some(TextKind::Wanted),
-        UNITS_HAD => Some(TextKind::Had),
-        _ => None,
+    match what {
+        TEXT_WANTED => Some(TextKind::Wanted),
+        TEXT_HAD => Some(TextKind::Had),
+        _ => {
+            if what < JSON {
+                kind_in(what, Form::Lines)
+            } else {
+                kind_in(what - JSON, Form::Json)
+            }
+        }
     }
 }

@@ -1,25 +1,143 @@
-//! What is made of files, in memory.
-ghost use Rattle.std.specs.Prelude.{◌≡◌, IfErr, IfOk};
+//! What is made of files, put into the caller's room.
+ghost use Rattle.std.specs.Prelude.{◌≡◌, IfErr, IfOk, None, OnErr, OnOk, length};
 ghost use Rattle.ps_resolve.specs.Sources.{contents};
+ghost use Rattle.ps_report.specs.Reported.{reported};
+ghost use Rattle.ps_report.specs.Reports.{IsReport, printed_report};
 ghost use Rattle.ps_texts.specs.Paths.{paths_in};
-ghost use Rattle.ps_calls.specs.Printed.{IsMade, WhyUnmade, named_unmade};
+ghost use Rattle.ps_answers.specs.Rooms.{RoomBeginsWith};
+ghost use Rattle.ps_calls.specs.Checks.{told_report, told_verdict as told_verdict_spec};
+ghost use Rattle.ps_calls.specs.Printed.{IsPut, WhyBytesUnput, WhyUnput, named_unmade, report_form as report_form_spec};
+ghost use Rattle.ps_texts.specs.declared.kinds.TextKind.TheVariants.{Check};
 
-use ps_answers::{Unmade, unmade_for};
+use crate::room::put;
+use ps_answers::{Done, Refusal, Unmade, Unput, Verdict, unmade_for};
 use ps_linkfile::LinkError;
-use ps_texts::{NamedFiles, TextKind, text_of};
-use ps_writing::in_memory;
-use std::alloc::Global;
+use ps_report::{PrintedReport, Report, Verdict as ReportVerdict, check};
+use ps_texts::{Form, NamedFiles, TextKind, text_of};
+use ps_words::Name;
+use ps_writing::{Text, in_memory};
+use std::alloc::{AllocError, Global};
 
-/// Makes a text of these files. Of a text that has no names of files, theirs are not looked at.
-pub(crate) fn make(alloc: Global, kind: TextKind, files: &NamedFiles<'_>) -> Result<Vec<u8>, Unmade>
-    ensures made { IfOk result (λ text. IsMade kind (paths_in files.now) files.now.host.now
-        (contents files.now.libs.now) text.items) }
-    ensures unmade { IfErr result (WhyUnmade kind files.now.host.now
-        (contents files.now.libs.now)) }
+/// Puts bytes in the room, and returns how many they are.
+fn put_bytes(bytes: &[u8], room: &mut [u8]) -> Result<usize, Unput>
+    ensures text { OnOk result (RoomBeginsWith bytes.now room.old room.new) }
+    ensures size { IfOk result (λ size. size ≡ length bytes.now) }
+    ensures unput { IfErr result (WhyBytesUnput bytes.now room.old) }
+    ensures untouched { OnErr result (room.new ≡ room.old) }
 {
-    match text_of(alloc, kind, files) {
-        Ok(text) => Ok(in_memory(alloc, &text)?),
-        Err(why) => Err(unmade_of(files, why)),
+    match put(bytes, room) {
+        Ok(size) => Ok(size),
+        Err(small) => Err(Unput::TooSmall(small)),
+    }
+}
+
+/// Makes a text in memory, puts it in the room, and returns how many bytes it has.
+fn put_text<T: Text>(alloc: Global, text: &T, room: &mut [u8]) -> Result<usize, Unput>
+    ensures text { OnOk result (RoomBeginsWith (T.bytes text.now) room.old room.new) }
+    ensures size { IfOk result (λ size. size ≡ length (T.bytes text.now)) }
+    ensures unput { IfErr result (WhyBytesUnput (T.bytes text.now) room.old) }
+    ensures untouched { OnErr result (room.new ≡ room.old) }
+{
+    match in_memory(alloc, text) {
+        Ok(made) => put_bytes(made.as_slice(), room),
+        Err(_) => Err(Unput::Unmade(Unmade::NoMemory)),
+    }
+}
+
+/// Puts a report in the room, in one of its forms, and returns how many bytes it has.
+fn put_printed(
+    alloc: Global,
+    form: Form,
+    report: &Report<'_, Global>,
+    room: &mut [u8],
+) -> Result<usize, Unput>
+    ensures text { OnOk result (RoomBeginsWith (printed_report form (reported report.now))
+        room.old room.new) }
+    ensures size { IfOk result (λ size. size
+        ≡ length (printed_report form (reported report.now))) }
+    ensures unput { IfErr result (WhyBytesUnput (printed_report form (reported report.now))
+        room.old) }
+    ensures untouched { OnErr result (room.new ≡ room.old) }
+{
+    match form {
+        // The lines are in memory.
+        Form::Lines => put_bytes(report.text.as_bytes(), room),
+        Form::Json => put_text(alloc, &PrintedReport { form, report }, room),
+    }
+}
+
+/// What a link of files with this verdict comes to, where a fault is about what has this name.
+fn told_verdict(verdict: ReportVerdict, name: Option<Name>) -> Verdict
+    ensures { result ≡ told_verdict_spec verdict name }
+{
+    match verdict {
+        ReportVerdict::Links(summary) => Verdict::Links(summary),
+        ReportVerdict::Refused(fault) => Verdict::Refused(Refusal { fault, name }),
+    }
+}
+
+/// What is told of a report that was put in a room, as so many bytes.
+fn told(report: &Report<'_, Global>, size: usize) -> Done
+    ensures { result ≡ told_report (reported report.now) size }
+{
+    Done::Report {
+        verdict: told_verdict(report.verdict, report.name),
+        warnings: report.warnings(),
+        size,
+    }
+}
+
+/// The report on these files.
+#[inline(never)]
+fn report_on<'a>(alloc: Global, files: &NamedFiles<'a>) -> Result<Report<'a, Global>, AllocError>
+    ensures { IfOk result (λ report. IsReport (paths_in files.now) files.now.host.now
+        (contents files.now.libs.now) (reported report)) }
+{
+    let report = check(alloc, files.host_path, files.paths, files.host, files.libs)?;
+    Ok(report)
+}
+
+/// Puts a report on these files in the room, in one of its forms. The verdict that is told, and the
+/// number of warnings, are those of this report.
+fn put_told(
+    alloc: Global,
+    form: Form,
+    files: &NamedFiles<'_>,
+    report: &Report<'_, Global>,
+    room: &mut [u8],
+) -> Result<Done, Unput>
+    requires { IsReport (paths_in files.now) files.now.host.now (contents files.now.libs.now)
+        (reported report.now) }
+    ensures put { IfOk result (IsPut (Check form) (paths_in files.now) files.now.host.now
+        (contents files.now.libs.now) room.old room.new) }
+    ensures unput { IfErr result (WhyUnput (Check form) room.old (paths_in files.now)
+        files.now.host.now (contents files.now.libs.now)) }
+    ensures untouched { OnErr result (room.new ≡ room.old) }
+{
+    match put_printed(alloc, form, report, room) {
+        Ok(size) => Ok(told(report, size)),
+        Err(why) => Err(why),
+    }
+}
+
+/// Puts the report on these files in the room, in one of its forms.
+#[inline(never)]
+#[tactic(auto, using(crate::proofs::PutTexts::report_lacks))]
+fn put_report(
+    alloc: Global,
+    form: Form,
+    files: &NamedFiles<'_>,
+    room: &mut [u8],
+) -> Result<Done, Unput>
+    ensures put { IfOk result (IsPut (Check form) (paths_in files.now) files.now.host.now
+        (contents files.now.libs.now) room.old room.new) }
+    ensures unput { IfErr result (WhyUnput (Check form) room.old (paths_in files.now)
+        files.now.host.now (contents files.now.libs.now)) }
+    ensures untouched { OnErr result (room.new ≡ room.old) }
+{
+    match report_on(alloc, files) {
+        Ok(report) => put_told(alloc, form, files, &report, room),
+        Err(_) => Err(Unput::Unmade(Unmade::NoMemory)),
     }
 }
 
@@ -32,5 +150,67 @@ fn unmade_of(files: &NamedFiles<'_>, why: ps_texts::Unmade) -> Unmade
             unmade_for(files.host, files.libs, LinkError::Refused(fault))
         }
         ps_texts::Unmade::Memory => Unmade::NoMemory,
+    }
+}
+
+/// Puts a text of these files in the room that is no report.
+#[inline(never)]
+#[tactic(auto, using(crate::proofs::PutTexts::other_put, crate::proofs::PutTexts::other_unput, crate::proofs::PutTexts::other_unmade))]
+fn put_other(
+    alloc: Global,
+    kind: TextKind,
+    files: &NamedFiles<'_>,
+    room: &mut [u8],
+) -> Result<Done, Unput>
+    requires { report_form_spec kind ≡ None }
+    ensures put { IfOk result (IsPut kind (paths_in files.now) files.now.host.now
+        (contents files.now.libs.now) room.old room.new) }
+    ensures unput { IfErr result (WhyUnput kind room.old (paths_in files.now)
+        files.now.host.now (contents files.now.libs.now)) }
+    ensures untouched { OnErr result (room.new ≡ room.old) }
+{
+    match text_of(alloc, kind, files) {
+        Ok(text) => match put_text(alloc, &text, room) {
+            Ok(size) => Ok(Done::Text(size)),
+            Err(why) => Err(why),
+        },
+        Err(why) => Err(Unput::Unmade(unmade_of(files, why))),
+    }
+}
+
+/// The form of a report, of a text that is one.
+fn report_form(kind: TextKind) -> Option<Form>
+    ensures { result ≡ report_form_spec kind }
+{
+    match kind {
+        TextKind::Check(form) => Some(form),
+        TextKind::Map(_)
+        | TextKind::References(_)
+        | TextKind::Show(_)
+        | TextKind::Findings(_)
+        | TextKind::List(_)
+        | TextKind::Wanted
+        | TextKind::Had => None,
+    }
+}
+
+/// Makes a text of these files, and puts it in the room. Of a text that has no names of files,
+/// theirs are not looked at.
+#[tactic(auto, using(crate::proofs::PutTexts::is_report_put, crate::proofs::PutTexts::is_report_unput))]
+pub(crate) fn put_made(
+    alloc: Global,
+    kind: TextKind,
+    files: &NamedFiles<'_>,
+    room: &mut [u8],
+) -> Result<Done, Unput>
+    ensures put { IfOk result (IsPut kind (paths_in files.now) files.now.host.now
+        (contents files.now.libs.now) room.old room.new) }
+    ensures unput { IfErr result (WhyUnput kind room.old (paths_in files.now)
+        files.now.host.now (contents files.now.libs.now)) }
+    ensures untouched { OnErr result (room.new ≡ room.old) }
+{
+    match report_form(kind) {
+        Some(form) => put_report(alloc, form, files, room),
+        None => put_other(alloc, kind, files, room),
     }
 }

@@ -1,6 +1,7 @@
 -- What the answer of a link says of its linked file.
-use Rattle.std.proofs.Common.{◌≡◌, ℕ, List, ◌∙◌, ap, arith}
+use Rattle.std.proofs.Common.{◌≡◌, ℕ, List, ◌∙◌, ap, arith, length}
 use Rattle.ps_calls.specs.Calls.{Links, LinkNeeds}
+use Rattle.ps_answers.proofs.Summaries.{is_exact}
 use Rattle.ps_answers.specs.Answers.{small_answer}
 use Rattle.ps_answers.specs.Dones.{IsLinked}
 use Rattle.ps_answers.specs.Libraries.{split}
@@ -11,7 +12,7 @@ use Rattle.ps_answers.specs.declared.answer.TheConstants.{DONE, TOO_SMALL}
 use Rattle.ps_answers.specs.declared.outcome.CallError.{CallError}
 use Rattle.ps_answers.specs.declared.outcome.CallError.TheVariants as call
 use Rattle.ps_answers.specs.declared.outcome.Done.{Done}
-use Rattle.ps_answers.specs.declared.outcome.Done.TheVariants.{Linked, Text}
+use Rattle.ps_answers.specs.declared.outcome.Done.TheVariants.{Linked, Report, Text}
 use Rattle.ps_answers.specs.declared.outcome.Unmade.TheVariants.{Refused, NoMemory}
 use Rattle.ps_answers.specs.declared.outcome.Unput.TheVariants as unput
 
@@ -22,8 +23,8 @@ pub links : (host : List ℕ) (libs : List (List ℕ)) (old new : List ℕ) (a :
 links host libs old new a done e h = record {
   file = h.0;
   linked = h.1.0;
-  begins = h.1.1.0;
-  told = e ∙ ap done_answer h.1.1.1;
+  begins = h.1.2.0;
+  told = e ∙ (ap done_answer h.1.2.1 ∙ is_exact host libs h.0 h.1.0 h.1.1 (length h.0));
 }
 
 -- the answer of a link that was not done
@@ -41,6 +42,8 @@ not_linked a (call.Unput (unput.TooSmall t)) e is =
 pub not_small : (a : Answer) (done : Done) → a ≡ done_answer done → a.status ≡ TOO_SMALL → ⊥
 not_small a (Linked summary size) e is = omega (arith, ap (λ (b : Answer). b.status) e, is)
 not_small a (Text size) e is = omega (arith, ap (λ (b : Answer). b.status) e, is)
+not_small a (Report verdict warnings size) e is =
+    omega (arith, ap (λ (b : Answer). b.status) e, is)
 
 -- there was too little room
 pub link_needs : (host libs lengths room : List ℕ) (a : Answer) (error : CallError)
