@@ -2,7 +2,8 @@
 """Times links in one process, through the library in C, Python and Rust, beside runs of the program: the sample pair, the same
 host without a library, a file of no bytes, and sixteen segments all of whose bytes are operands; and checks of the first two.
 Where valgrind is there, also the instructions that a call in C takes; where there is no cargo, Rust is left out. The archive of
-another library, if one is given, is measured beside, in C, below the same library/pslink.c: it needs pslink_link_nonnull alone.
+another library, if one is given, is measured beside, in C, below the same library/pslink.c: it needs pslink_link_nonnull alone,
+whose status is all that is read.
 Usage: in_process.py PSLINK FOLDER [ARCHIVE]: the program, the folder with libpslink.a and libpslink.so.3, the other archive"""
 import os
 import re
