@@ -1,7 +1,7 @@
 -- What is printed on standard output once a command is done, by the command and the files that are
 -- named, and what a link has written. `Reads` says of a path and of bytes that they were read
--- there, `Unread` of a path that nothing was, and `Writes` that a file which was created there took
--- them.
+-- there, `Unread` of a path that the file there was not read or not listed, and `Writes` that a file
+-- which was created there took them.
 use Rattle.std.specs.Prelude.{◌≡◌, ◌⊎◌, ◌++◌, ◌∷◌, [], ℕ, Bool, true, false, List, Option, None, Some, codes, max, ⊤}
 use Rattle.std.specs.List.{AllZip}
 use Rattle.std.specs.Io.KnownBytes.{Appends}
@@ -145,7 +145,7 @@ PrintsUnread form.JsonUnits first path old new = Appends old new (unread first p
 PrintsUnread how first path old new = new ≡ old
 
 -- by the list of the file that was read at a path, which ends with its status; or by what there is
--- of a file that was not read
+-- of a file that was not read, or not listed
 abbrev pub IsListed : (Text → List ℕ → Type 0) → (Text → Type 0) → ListForm → Bool → Text → ℕ
     → Option (List ℕ) → Option (List ℕ) → Type 0
 IsListed Reads Unread how first path status old new =

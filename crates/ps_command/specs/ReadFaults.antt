@@ -19,7 +19,8 @@ IsReadFault {F} unopened opened remaining path fault.TooLong =
     (file : F) × opened path file × IsTooLong (remaining file)
 IsReadFault {F} unopened opened remaining path fault.Memory = (file : F) × opened path file
 
--- nothing was read at a path, for one of these reasons
+-- a file at a path was not read, or not listed, for one of these reasons: for the bytes of a file
+-- that was opened and for its list no contract says that memory was refused
 abbrev pub IsUnread : {F : Type 0} → (List ℕ → Type 0) → (List ℕ → F → Type 0)
     → (F → Option (List ℕ)) → List ℕ → Type 0
 IsUnread unopened opened remaining path =
