@@ -1,3 +1,4 @@
 pub mod Linked
 pub mod ListsPrinted
 pub mod Named
+pub mod Unread

@@ -28,11 +28,12 @@ text_or_document Reads k json path paths status old new zero nonzero (inl text) 
 text_or_document Reads k json path paths status old new zero nonzero (inr refused) = refused.0
 
 -- only a check, a list and a document of a refusal end with another status than 0
-pub only_checks : (Reads Writes : Text → List ℕ → Type 0) (Leads : Text → Bool → Type 0)
+pub only_checks : (Reads : Text → List ℕ → Type 0) (Unread : Text → Type 0)
+    (Writes : Text → List ℕ → Type 0) (Leads : Text → Bool → Type 0)
     (found : Option (Text × List Row)) (status : ℕ) (old new old_err new_err : Option (List ℕ))
-    → Prints Reads Writes Leads found status old new old_err new_err
+    → Prints Reads Unread Writes Leads found status old new old_err new_err
     → status ≢ 0 → NamesCheck found ⊎ NamesList found ⊎ NamesDocument found
-only_checks Reads Writes Leads found status old new old_err new_err printed nonzero = elim
+only_checks Reads Unread Writes Leads found status old new old_err new_err printed nonzero = elim
     printed.2 [
       | inl link ↦ elim link.2 [
         | inl done ↦ absurd (nonzero done.0)

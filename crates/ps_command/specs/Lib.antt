@@ -1,3 +1,4 @@
+pub mod Lists
 pub mod Printed
 pub mod ReadFaults
 pub mod Statuses

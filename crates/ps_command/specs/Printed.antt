@@ -1,7 +1,8 @@
 -- What is printed on standard output once a command is done, by the command and the files that are
 -- named, and what a link has written. `Reads` says of a path and of bytes that they were read
--- there, and `Writes` that a file which was created there took them.
-use Rattle.std.specs.Prelude.{◌≡◌, ◌⊎◌, ◌++◌, ◌∷◌, [], if◌then◌else◌, ℕ, Bool, true, false, List, Option, None, Some, codes, max, ⊤}
+-- there, `Unread` of a path that the file there was not read or not listed, and `Writes` that a file
+-- which was created there took them.
+use Rattle.std.specs.Prelude.{◌≡◌, ◌⊎◌, ◌++◌, ◌∷◌, [], ℕ, Bool, true, false, List, Option, None, Some, codes, max, ⊤}
 use Rattle.std.specs.List.{AllZip}
 use Rattle.std.specs.Io.KnownBytes.{Appends}
 use Rattle.ps_arguments.specs.CommandLine.{Kinds, Row, Text}
@@ -11,8 +12,8 @@ use Rattle.ps_writing.specs.JsonStrings.{json_text}
 use Rattle.ps_writing.specs.declared.rows.Form.{Form}
 use Rattle.ps_writing.specs.declared.rows.Form.TheVariants.{Lines, Json}
 use Rattle.ps_linkfile.specs.LinkedFile.{LinkedFile, summary_of}
-use Rattle.ps_listing.specs.FileLists.{is_refused_as_listed, listed_as, unread}
-use Rattle.ps_listing.specs.Phrases.{IsPhrase}
+use Rattle.ps_filetype.specs.CodeTypes.{is_code_type}
+use Rattle.ps_listing.specs.FileLists.{unread}
 use Rattle.ps_listing.specs.declared.lists.ListForm.{ListForm}
 use Rattle.ps_listing.specs.declared.lists.ListForm.TheVariants as form
 use Rattle.ps_resolve.specs.FaultNames.{fault_name}
@@ -26,6 +27,7 @@ use Rattle.ps_texts.specs.declared.kinds.TextKind.TheVariants as kind
 use Rattle.ps_outputs.specs.Places.{IsPlace, PrintsAt}
 use Rattle.ps_outputs.specs.SummaryLine.{summary_text}
 use Rattle.ps_arguments.specs.Requests.{EndsWithLine, MayAskForHelp, MayAskForVersion, file_of, files_of, has_output, has_references, host_of, is_json, is_quiet, is_strict, is_unit, libraries_of, map_file, out_and_libraries}
+use Rattle.ps_command.specs.Lists.{IsListText, list_status}
 use Rattle.ps_outputs.specs.declared.linking.Place.{Place}
 use Rattle.ps_outputs.specs.declared.linking.Place.TheVariants as place
 
@@ -142,25 +144,24 @@ PrintsUnread form.Json first path old new = Appends old new (unread first path)
 PrintsUnread form.JsonUnits first path old new = Appends old new (unread first path)
 PrintsUnread how first path old new = new ≡ old
 
--- by the list of the file at a path, which ends with status 1 if it is refused or a segment is; or
--- by what there is of a file that cannot be read
-abbrev pub IsListed : (Text → List ℕ → Type 0) → ListForm → Bool → Text → ℕ
+-- by the list of the file that was read at a path, which ends with its status; or by what there is
+-- of a file that was not read, or not listed
+abbrev pub IsListed : (Text → List ℕ → Type 0) → (Text → Type 0) → ListForm → Bool → Text → ℕ
     → Option (List ℕ) → Option (List ℕ) → Type 0
-IsListed Reads how first path status old new =
-    ((file : List ℕ) × (phrase : List ℕ) × Reads path file × IsPhrase file phrase
-    × (status ≡ (if is_refused_as_listed how phrase file then 1 else 0))
-    × Appends old new (listed_as how first path phrase file))
-    ⊎ ((status ≡ 3) × PrintsUnread how first path old new)
+IsListed Reads Unread how first path status old new =
+    ((file : List ℕ) × (text : List ℕ) × Reads path file × (status ≡ list_status how file)
+    × IsListText (is_code_type file) how first path file text × Appends old new text)
+    ⊎ ((status ≡ 3) × Unread path × PrintsUnread how first path old new)
 
 -- by the lists of the files at these paths, one after another, of which the first is that of all or
 -- not; they end with the greatest status
-abbrev pub PrintsFiles : (Text → List ℕ → Type 0) → ListForm → Bool → List Text → ℕ
-    → Option (List ℕ) → Option (List ℕ) → Type 0
-PrintsFiles Reads how is_first [] status old new = (status ≡ 0) × (new ≡ old)
-PrintsFiles Reads how is_first (path ∷ paths) status old new =
+abbrev pub PrintsFiles : (Text → List ℕ → Type 0) → (Text → Type 0) → ListForm → Bool → List Text
+    → ℕ → Option (List ℕ) → Option (List ℕ) → Type 0
+PrintsFiles Reads Unread how is_first [] status old new = (status ≡ 0) × (new ≡ old)
+PrintsFiles Reads Unread how is_first (path ∷ paths) status old new =
     (first : ℕ) × (rest : ℕ) × (between : Option (List ℕ))
-    × IsListed Reads how is_first path first old between
-    × PrintsFiles Reads how false paths rest between new × (status ≡ max first rest)
+    × IsListed Reads Unread how is_first path first old between
+    × PrintsFiles Reads Unread how false paths rest between new × (status ≡ max first rest)
 
 -- what a document of lists has before its items and after them
 abbrev pub document_start : List ℕ
@@ -170,22 +171,23 @@ abbrev pub document_end : List ℕ
 document_end = codes "\n]}\n"
 
 -- by one document of the lists of the files at these paths
-abbrev pub PrintsDocument : (Text → List ℕ → Type 0) → ListForm → List Text → ℕ
+abbrev pub PrintsDocument : (Text → List ℕ → Type 0) → (Text → Type 0) → ListForm → List Text → ℕ
     → Option (List ℕ) → Option (List ℕ) → Type 0
-PrintsDocument Reads how paths status old new =
+PrintsDocument Reads Unread how paths status old new =
     (started : Option (List ℕ)) × (ended : Option (List ℕ))
     × Appends old started document_start
-    × PrintsFiles Reads how true paths status started ended
+    × PrintsFiles Reads Unread how true paths status started ended
     × Appends ended new document_end
 
 -- by the lists of the files at these paths; or by one document of them
-abbrev pub PrintsLists : (Text → List ℕ → Type 0) → ListForm → List Text → ℕ
+abbrev pub PrintsLists : (Text → List ℕ → Type 0) → (Text → Type 0) → ListForm → List Text → ℕ
     → Option (List ℕ) → Option (List ℕ) → Type 0
-PrintsLists Reads form.Json paths status old new =
-    PrintsDocument Reads form.Json paths status old new
-PrintsLists Reads form.JsonUnits paths status old new =
-    PrintsDocument Reads form.JsonUnits paths status old new
-PrintsLists Reads how paths status old new = PrintsFiles Reads how true paths status old new
+PrintsLists Reads Unread form.Json paths status old new =
+    PrintsDocument Reads Unread form.Json paths status old new
+PrintsLists Reads Unread form.JsonUnits paths status old new =
+    PrintsDocument Reads Unread form.JsonUnits paths status old new
+PrintsLists Reads Unread how paths status old new =
+    PrintsFiles Reads Unread how true paths status old new
 
 -- how a list is printed
 abbrev pub list_form : Bool → ListForm
@@ -199,19 +201,19 @@ units_form true = form.JsonUnits
 
 -- by a report of a host and libraries; or by the lists of these files, each with its units by
 -- themselves
-abbrev pub PrintsCheck : (Text → List ℕ → Type 0) → Bool → Text → List Text → Bool
-    → Bool → ℕ → Option (List ℕ) → Option (List ℕ) → Type 0
-PrintsCheck Reads false path paths strict json status old new =
+abbrev pub PrintsCheck : (Text → List ℕ → Type 0) → (Text → Type 0) → Bool → Text → List Text
+    → Bool → Bool → ℕ → Option (List ℕ) → Option (List ℕ) → Type 0
+PrintsCheck Reads Unread false path paths strict json status old new =
     PrintsTextOf Reads (kind.Check (form_of json)) strict path paths status old new
-PrintsCheck Reads true path paths strict json status old new =
-    PrintsLists Reads (units_form json) (path ∷ paths) status old new
+PrintsCheck Reads Unread true path paths strict json status old new =
+    PrintsLists Reads Unread (units_form json) (path ∷ paths) status old new
 
 -- by what the command that is named prints of the files that are named for it, which ends with this
 -- status; of standard error it says only what a link prints there
-abbrev pub Prints : (Text → List ℕ → Type 0) → (Text → List ℕ → Type 0)
+abbrev pub Prints : (Text → List ℕ → Type 0) → (Text → Type 0) → (Text → List ℕ → Type 0)
     → (Text → Bool → Type 0) → Option (Text × List Row) → ℕ → Option (List ℕ)
     → Option (List ℕ) → Option (List ℕ) → Option (List ℕ) → Type 0
-Prints Reads Writes Leads named status old new old_err new_err =
+Prints Reads Unread Writes Leads named status old new old_err new_err =
     (rows : List Row) × (path : Text) × (
     ((named ≡ Some (codes "link", rows)) × (host_of rows ≡ Some path)
     × LinksOrRefuses Reads Writes Leads rows path status old new old_err new_err)
@@ -222,10 +224,10 @@ Prints Reads Writes Leads named status old new old_err new_err =
     × PrintsOrRefuses Reads (kind.Show (form_of (is_json rows))) (is_json rows) path [] status
     old new)
     ⊎ ((named ≡ Some (codes "check", rows)) × (host_of rows ≡ Some path)
-    × PrintsCheck Reads (is_unit rows) path (libraries_of rows) (is_strict rows)
+    × PrintsCheck Reads Unread (is_unit rows) path (libraries_of rows) (is_strict rows)
     (is_json rows) status old new)
     ⊎ ((named ≡ Some (codes "list", rows))
-    × PrintsLists Reads (list_form (is_json rows)) (files_of rows) status old new))
+    × PrintsLists Reads Unread (list_form (is_json rows)) (files_of rows) status old new))
 
 -- `pslink 0.3.0`
 abbrev pub version_line : List ℕ

@@ -103,8 +103,9 @@ pub(crate) fn read<R: CodeFiles, A: Allocator + Copy>(
     ensures whole { IfOk result (λ bytes. Reads (R.opened rt.now) R.Opened.remaining path.now
         bytes.items) }
 
-    // The file cannot be read; or it was opened, and it is too long or memory ran out.
-    ensures why { IfErr result (IsReadFault (R.opened rt.now) R.Opened.remaining path.now) }
+    // No file could be opened; or one was, and a read failed, it is too long or memory ran out.
+    ensures why { IfErr result (IsReadFault (R.unopened rt.now) (R.opened rt.now)
+        R.Opened.remaining path.now) }
 {
     let mut file = match rt.open(path) {
         Ok(file) => file,

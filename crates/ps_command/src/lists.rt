@@ -4,6 +4,7 @@ ghost use Rattle.std.specs.Io.KnownBytes.{Appends};
 ghost use Rattle.ps_listing.specs.FileLists.{is_refused_in, listed};
 ghost use Rattle.ps_command.specs.Printed.{IsListed, PrintsDocument, PrintsFiles, PrintsLists, PrintsUnread};
 ghost use Rattle.ps_command.specs.Causes.{unread_error};
+ghost use Rattle.ps_command.specs.ReadFaults.{IsUnread};
 ghost use Rattle.ps_outputs.specs.FilesRead.{Reads};
 ghost use Rattle.ps_command.specs.Statuses.{ended_status};
 
@@ -97,7 +98,7 @@ fn print_list<R: CodeFiles, A: Allocator + Copy, O: Write, E: Write>(
     err: &mut E,
 ) -> Result<Ended, WriteFault>
     ensures ok { IfOk result (λ ended. IsListed (Reads (R.opened rt.now) R.Opened.remaining)
-        how first path.now (ended_status ended) (O.contents out.old) (O.contents out.new)) }
+        (IsUnread (R.unopened rt.now) (R.opened rt.now) R.Opened.remaining) how first path.now (ended_status ended) (O.contents out.old) (O.contents out.new)) }
     ensures silent { IfOk result (λ ended. ended_status ended ≡ 0 → err.new ≡ err.old) }
 {
     let file = match files::read(rt, alloc, path) {
@@ -122,7 +123,8 @@ fn print_files<'a, R: CodeFiles, A: Allocator + Copy, O: Write, E: Write>(
     err: &mut E,
 ) -> Result<Ended, WriteFault>
     ensures ok { IfOk result (λ ended. PrintsFiles (Reads (R.opened rt.now) R.Opened.remaining)
-        how true (map (λ path. path.now) paths.now) (ended_status ended) (O.contents out.old)
+        (IsUnread (R.unopened rt.now) (R.opened rt.now) R.Opened.remaining) how true
+        (map (λ path. path.now) paths.now) (ended_status ended) (O.contents out.old)
         (O.contents out.new)) }
     ensures silent { IfOk result (λ ended. ended_status ended ≡ 0 → err.new ≡ err.old) }
 {
@@ -147,7 +149,8 @@ fn print_document<'a, R: CodeFiles, A: Allocator + Copy, O: Write, E: Write>(
     err: &mut E,
 ) -> Result<Ended, WriteFault>
     ensures ok { IfOk result (λ ended. PrintsDocument (Reads (R.opened rt.now) R.Opened.remaining)
-        how (map (λ path. path.now) paths.now) (ended_status ended) (O.contents out.old)
+        (IsUnread (R.unopened rt.now) (R.opened rt.now) R.Opened.remaining) how
+        (map (λ path. path.now) paths.now) (ended_status ended) (O.contents out.old)
         (O.contents out.new)) }
     ensures silent { IfOk result (λ ended. ended_status ended ≡ 0 → err.new ≡ err.old) }
 {
@@ -168,7 +171,8 @@ pub(crate) fn print_lists<'a, R: CodeFiles, A: Allocator + Copy, O: Write, E: Wr
     err: &mut E,
 ) -> Result<Ended, WriteFault>
     ensures ok { IfOk result (λ ended. PrintsLists (Reads (R.opened rt.now) R.Opened.remaining)
-        how (map (λ path. path.now) paths.now) (ended_status ended) (O.contents out.old)
+        (IsUnread (R.unopened rt.now) (R.opened rt.now) R.Opened.remaining) how
+        (map (λ path. path.now) paths.now) (ended_status ended) (O.contents out.old)
         (O.contents out.new)) }
     ensures silent { IfOk result (λ ended. ended_status ended ≡ 0 → err.new ≡ err.old) }
 {

@@ -3,6 +3,7 @@ ghost use Rattle.std.specs.Prelude.{◌≡◌, ◌≢◌, ◌≤◌, ◌⊎◌, 
 ghost use Rattle.std.specs.Process.{exit_status};
 ghost use Rattle.ps_arguments.specs.CommandLine.{AreAccepted, named_in};
 ghost use Rattle.ps_command.specs.Printed.{Prints, TellsOnError};
+ghost use Rattle.ps_command.specs.ReadFaults.{IsUnread};
 ghost use Rattle.ps_outputs.specs.FilesRead.{Reads, Writes};
 ghost use Rattle.ps_arguments.specs.Requests.{NamesCheck, NamesDocument, NamesList};
 
@@ -55,11 +56,13 @@ fn run_args<R: CodeFiles + AllocGlobal, O: Write, E: Write>(
         ⊎ TellsOnError (R.leads rt.now) (named_in (map string_bytes given.now)) }
     ensures printed { AreAccepted (map string_bytes given.now) → exit_status result ≡ 0
         → Prints (Reads (R.opened rt.now) R.Opened.remaining)
+        (IsUnread (R.unopened rt.now) (R.opened rt.now) R.Opened.remaining)
         (Writes (R.created rt.now) (R.closed rt.now) R.Created.contents) (R.leads rt.now)
         (named_in (map string_bytes given.now)) 0 (O.contents out.old) (O.contents out.new)
         (E.contents err.old) (E.contents err.new) }
     ensures reported { AreAccepted (map string_bytes given.now) → exit_status result ≡ 1
         → (out.new ≡ out.old) ⊎ Prints (Reads (R.opened rt.now) R.Opened.remaining)
+        (IsUnread (R.unopened rt.now) (R.opened rt.now) R.Opened.remaining)
         (Writes (R.created rt.now) (R.closed rt.now) R.Created.contents) (R.leads rt.now)
         (named_in (map string_bytes given.now)) 1 (O.contents out.old) (O.contents out.new)
         (E.contents err.old) (E.contents err.new) }

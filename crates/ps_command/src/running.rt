@@ -7,6 +7,7 @@ ghost use Rattle.ps_texts.specs.Texts.{bytes_in, status_in};
 ghost use Rattle.ps_texts.specs.Unmade.{CanRefuse};
 ghost use Rattle.ps_arguments.specs.CommandLine.{AreAccepted, AskForText, Row, Text, faults_in, named_in, texts};
 ghost use Rattle.ps_command.specs.Printed.{IsPrinted, Prints, PrintsLists, PrintsOrRefuses, PrintsText, PrintsTextOf, TellsOnError, list_form as list_form_spec, map_kind as map_kind_spec, units_form as units_form_spec};
+ghost use Rattle.ps_command.specs.ReadFaults.{IsUnread};
 ghost use Rattle.ps_outputs.specs.FilesRead.{Reads, Writes};
 ghost use Rattle.ps_arguments.specs.Requests.{IsNamedCommand, NamesCheck, NamesDocument, NamesList};
 ghost use Rattle.ps_command.specs.Statuses.{ended_status, status_of};
@@ -67,6 +68,7 @@ pub fn run<R: CodeFiles + AllocGlobal, A: Allocator + Copy, O: Write, E: Write>(
     // at OUT took the linked file, and nothing else.
     ensures printed { AreAccepted (texts args.now) → result ≡ 0
         → Prints (Reads (R.opened rt.now) R.Opened.remaining)
+        (IsUnread (R.unopened rt.now) (R.opened rt.now) R.Opened.remaining)
         (Writes (R.created rt.now) (R.closed rt.now) R.Created.contents) (R.leads rt.now)
         (named_in (texts args.now)) 0 (O.contents out.old) (O.contents out.new)
         (E.contents err.old) (E.contents err.new) }
@@ -81,14 +83,18 @@ pub fn run<R: CodeFiles + AllocGlobal, A: Allocator + Copy, O: Write, E: Write>(
     // document, which name the refusal.
     ensures reported { AreAccepted (texts args.now) → result ≡ 1 → (out.new ≡ out.old)
         ⊎ Prints (Reads (R.opened rt.now) R.Opened.remaining)
+        (IsUnread (R.unopened rt.now) (R.opened rt.now) R.Opened.remaining)
         (Writes (R.created rt.now) (R.closed rt.now) R.Created.contents) (R.leads rt.now)
         (named_in (texts args.now)) 1 (O.contents out.old) (O.contents out.new)
         (E.contents err.old) (E.contents err.new) }
 
     // The status of a check is 1 only where its report was printed, and as that says: where the files
-    // are refused, or, if it is strict, where a definition warns of them.
+    // are refused, or, if it is strict, where a definition warns of them. That of a list is 1 only
+    // where the lists were printed, and as they say.
     ensures checked { AreAccepted (texts args.now) → NamesCheck (named_in (texts args.now))
-        → result ≡ 1 → Prints (Reads (R.opened rt.now) R.Opened.remaining)
+        ⊎ NamesList (named_in (texts args.now)) → result ≡ 1
+        → Prints (Reads (R.opened rt.now) R.Opened.remaining)
+        (IsUnread (R.unopened rt.now) (R.opened rt.now) R.Opened.remaining)
         (Writes (R.created rt.now) (R.closed rt.now) R.Created.contents) (R.leads rt.now)
         (named_in (texts args.now)) 1 (O.contents out.old) (O.contents out.new)
         (E.contents err.old) (E.contents err.new) }
@@ -115,6 +121,7 @@ fn carry_out<'a, R: CodeFiles + AllocGlobal, A: Allocator + Copy, O: Write, E: W
 ) -> Result<Ended, CommandError<'a>>
     ensures ok { AreAccepted (texts args.now)
         → IfOk result (λ ended. Prints (Reads (R.opened rt.now) R.Opened.remaining)
+        (IsUnread (R.unopened rt.now) (R.opened rt.now) R.Opened.remaining)
         (Writes (R.created rt.now) (R.closed rt.now) R.Created.contents) (R.leads rt.now)
         (named_in (texts args.now)) (ended_status ended) (O.contents out.old)
         (O.contents out.new) (E.contents err.old) (E.contents err.new)) }
@@ -130,7 +137,7 @@ fn carry_out<'a, R: CodeFiles + AllocGlobal, A: Allocator + Copy, O: Write, E: W
         ⊎ NamesDocument (named_in (texts args.now))) }
     ensures err { IfErr result (λ e. status_of e ≢ 3 → out.new ≡ out.old) }
     ensures unrefused { AreAccepted (texts args.now) → NamesCheck (named_in (texts args.now))
-        → IfErr result (λ e. status_of e ≢ 1) }
+        ⊎ NamesList (named_in (texts args.now)) → IfErr result (λ e. status_of e ≢ 1) }
 {
     match parse(&Paths(rt), rt.alloc(), alloc, args)? {
         Request::Help(words) => {
@@ -155,6 +162,7 @@ fn perform<'a, R: CodeFiles + AllocGlobal, A: Allocator + Copy, O: Write, E: Wri
 ) -> Result<Ended, RunError<'a>>
     ensures ok { (named : Option (Text × List Row)) → IsNamedCommand task.entry named
         → IfOk result (λ ended. Prints (Reads (R.opened rt.now) R.Opened.remaining)
+        (IsUnread (R.unopened rt.now) (R.opened rt.now) R.Opened.remaining)
         (Writes (R.created rt.now) (R.closed rt.now) R.Created.contents) (R.leads rt.now)
         named (ended_status ended) (O.contents out.old) (O.contents out.new)
         (E.contents err.old) (E.contents err.new)) }
@@ -163,7 +171,8 @@ fn perform<'a, R: CodeFiles + AllocGlobal, A: Allocator + Copy, O: Write, E: Wri
         ⊎ TellsOnError (R.leads rt.now) named) }
     ensures err { IfErr result (λ e. e ≢ RunError.StandardOutput → out.new ≡ out.old) }
     ensures unrefused { (named : Option (Text × List Row)) → IsNamedCommand task.entry named
-        → NamesCheck named → IfErr result (λ e. (fault : Fault) → e ≢ RunError.Refused fault) }
+        → NamesCheck named ⊎ NamesList named
+        → IfErr result (λ e. (fault : Fault) → e ≢ RunError.Refused fault) }
 {
     match task {
         Task::Link(asked) => link(rt, alloc, asked, out, err),
@@ -374,7 +383,8 @@ fn check_units<'a, R: CodeFiles, A: Allocator + Copy, O: Write, E: Write>(
     err: &mut E,
 ) -> Result<Ended, RunError<'a>>
     ensures ok { IfOk result (λ ended. PrintsLists (Reads (R.opened rt.now) R.Opened.remaining)
-        how (inputs.entry.host.now ∷ map (λ path. path.now) inputs.entry.libraries.items)
+        (IsUnread (R.unopened rt.now) (R.opened rt.now) R.Opened.remaining) how
+        (inputs.entry.host.now ∷ map (λ path. path.now) inputs.entry.libraries.items)
         (ended_status ended) (O.contents out.old) (O.contents out.new)) }
     ensures silent { IfOk result (λ ended. ended_status ended ≡ 0 → err.new ≡ err.old) }
     ensures err { IfErr result (λ e. e ≢ RunError.StandardOutput → out.new ≡ out.old) }

@@ -1,5 +1,5 @@
 //! The files of a command: those that it reads, and those that it creates.
-ghost use Rattle.std.specs.Prelude.{ℕ, Bool, List, IfOk, OnOk, ⊤};
+ghost use Rattle.std.specs.Prelude.{ℕ, Bool, List, IfErr, IfOk, OnOk, ⊤};
 ghost use Rattle.ps_outputs.specs.FilesRead.{LinksFiles, Reads};
 
 use std::fs::OpenFile;
@@ -20,6 +20,9 @@ pub trait CodeFiles {
     // Holds of a path and of what opening it gave.
     ghost opened: { Self → List ℕ → Self.Opened → Type 0 };
 
+    // Holds of a path at which nothing could be opened.
+    ghost unopened: { Self → List ℕ → Type 0 };
+
     // Holds of a path and of what creating it gave, before anything was written.
     ghost created: { Self → List ℕ → Self.Created → Type 0 };
 
@@ -31,7 +34,8 @@ pub trait CodeFiles {
 
     /// Opens the file at `path` to be read.
     fn open(&self, path: &str) -> io::Result<Self::Opened>
-        ensures { IfOk result (opened self.now path.now) };
+        ensures opened { IfOk result (opened self.now path.now) }
+        ensures unopened { IfErr result (λ _. unopened self.now path.now) };
 
     /// Creates or empties the file at `path`. It is called only where files that were read link.
     fn create(&self, path: &str) -> io::Result<Self::Created>
@@ -61,6 +65,8 @@ impl<R: Files> CodeFiles for R {
     type Created = R::File;
 
     ghost opened = { λ rt path file. ⊤ };
+
+    ghost unopened = { λ rt path. ⊤ };
 
     ghost created = { λ rt path file. ⊤ };
 

@@ -109,6 +109,8 @@ impl<R: Files> CodeFiles for Faulty<'_, R> {
 
     ghost opened = { λ rt path file. ⊤ };
 
+    ghost unopened = { λ rt path. ⊤ };
+
     ghost created = { λ rt path file. ⊤ };
 
     ghost closed = { λ rt path file. ⊤ };

@@ -193,6 +193,50 @@ fn each_allocation_is_refused(rt: HostRuntime) {
     );
 }
 
+const LIST: &str = "pslink list memory-listed";
+
+static LISTED_FILES: [(&str, &Image); 1] = [("memory-listed", &LIBRARY)];
+
+const LISTED: &str = "memory-listed: little-endian, 1536 bytes, library
+memory-listed: slot 02 UTIL     unit, 24 bytes
+";
+
+const UNLISTED: &str = "pslink: cannot read memory-listed (out of memory)\n";
+
+/// Refuses the allocation of this number in the run of a list. Returns its status, which is 0 exactly
+/// where there was none: it is 4 before a file is read, and 3 where the file or its list has no memory.
+fn status_of_list<R: Files + AllocGlobal + Abort>(rt: &R, number: u64) -> u8 {
+    let heap = Refusing::once(rt.alloc(), number);
+    let (run, _) = done_faulty(rt, &heap, NO_FAULTS, LIST);
+    match (heap.has_refused(), run.status) {
+        (false, _) => run.is(rt, number, 0, LISTED, ""),
+        (true, 4) => run.is(rt, number, 4, "", NO_MEMORY),
+        (true, _) => run.is(rt, number, 3, "", UNLISTED),
+    }
+    run.status
+}
+
+/// Has each allocation of a list refused in turn, until none is: how many lists end with status 3.
+fn unread_lists<R: Files + AllocGlobal + Abort>(rt: &R) -> u64 {
+    let mut unread = 0u64;
+    for number in 1..1000 {
+        match status_of_list(rt, number) {
+            0 => return unread,
+            3 => unread = unread.saturating_add(1),
+            _ => {}
+        }
+    }
+    1000
+}
+
+#[test]
+fn a_list_lacks_memory_only_where_it_is_refused(rt: HostRuntime) {
+    save_all(&rt, LISTED_FILES.as_slice());
+    let unread = unread_lists(&rt);
+    says(&rt, (1..1000).contains(&unread), &unread);
+    clean(&rt, "memory-listed");
+}
+
 #[test]
 fn help_without_memory(rt: HostRuntime) {
     let heap = Refusing::from(rt.alloc(), 1);

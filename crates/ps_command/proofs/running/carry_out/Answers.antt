@@ -1,4 +1,3 @@
-use Rattle.ps_arguments.proofs.Asked.{no_text_asked}
 use Rattle.ps_command.proofs.Named.{only_checks}
 use Rattle.ps_command.proofs.running.carry_out.Goals as goal
 
@@ -8,7 +7,7 @@ returns-in_ok-perform-in-Task-clause-ok g c taken =
 
 pub returns-in_ok-perform-in-Task-clause-checked :
     goal.returns-in_ok-perform-in-Task-clause-checked
-returns-in_ok-perform-in-Task-clause-checked g c = only_checks _ _
+returns-in_ok-perform-in-Task-clause-checked g c = only_checks _ _ _
     (g.R.CodeFiles.leads c.args.rt.now) _ _ _ _ _ _
     (c.in_ok-perform-in-Task.ensures.ok _ (rw c.in-Task.is at c.in_ok-words.ensures.asked))
 

@@ -1,4 +1,4 @@
-use Rattle.std.proofs.Common.{false, inl, inr, map}
+use Rattle.std.proofs.Common.{inl, inr, map}
 use Rattle.std.proofs.lemmas.Result.{IfOk-weaker}
 use Rattle.ps_command.proofs.running.check.Goals as goal
 

@@ -1,4 +1,4 @@
-use Rattle.std.proofs.Common.{◌∙◌, [], ap, map, refl, sym, inl, inr}
+use Rattle.std.proofs.Common.{◌∙◌, [], ap, map, sym, inl, inr}
 use Rattle.std.proofs.lemmas.Result.{IfOk-weaker}
 use Rattle.ps_command.proofs.Linked.{tells}
 use Rattle.ps_command.proofs.running.perform.Goals as goal

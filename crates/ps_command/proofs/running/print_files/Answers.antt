@@ -1,4 +1,4 @@
-use Rattle.std.proofs.Common.{◌∙◌, inl, sym}
+use Rattle.std.proofs.Common.{inl}
 use Rattle.std.proofs.lemmas.Result.{IfErr-weaker, IfOk-weaker}
 use Rattle.ps_command.proofs.Linked.{not_zero, text_refused}
 use Rattle.ps_command.proofs.running.print_files.Goals as goal

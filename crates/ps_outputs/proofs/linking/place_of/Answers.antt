@@ -1,4 +1,4 @@
-use Rattle.std.proofs.Common.{inl, map}
+use Rattle.std.proofs.Common.{inl}
 use Rattle.std.specs.Prelude.{option_map}
 use Rattle.ps_outputs.proofs.Outcomes.{beside}
 use Rattle.ps_outputs.proofs.linking.place_of.Goals as goal

@@ -1,0 +1,11 @@
+use Rattle.std.proofs.Common.{inl}
+use Rattle.ps_command.proofs.Unread.{opened_unread}
+use Rattle.ps_command.proofs.files.read.Goals as goal
+
+pub returns-in-Err-clause-why : goal.returns-in-Err-clause-why
+returns-in-Err-clause-why g c = inl c.in-Err.ensures.unopened
+
+pub returns-clause-why : goal.returns-clause-why
+returns-clause-why g c = opened_unread (g.R.CodeFiles.unopened c.args.rt.now)
+    (g.R.CodeFiles.opened c.args.rt.now) g.R.Opened.Read.remaining c.args.path.now c.in-Ok.file
+    c.read_to_end.result c.in-Ok.ensures.opened c.read_to_end.ensures.long
