@@ -203,6 +203,10 @@ def swapped(file):
     return b"".join(file[at : at + 2][::-1] for at in range(0, len(file), 2))
 
 
+# a unit of the other byte order whose bytes are exchanged, but for its name
+EXCHANGED = swapped(unit_with(m.UNIT_LINKS, slot=1)).replace(b"TULI", b"UTIL")
+
+
 def later_host():
     """The sample host with the version of release III.0 in the word of its segment."""
     return changed(HOST, (256, bytes(32)), (258, word(3 << 13 | 1)))
@@ -281,7 +285,7 @@ def faults():
         (18, native_host(), [LIBRARY], [DEMO, "  the table of procedure 2 has the number 0, native code", "  bytes 512 to 1023 of its code are all 00: they may not have been read"], *NOT_READ),
         (18, swapped(HOST), [swapped(LIBRARY)], ["  it is a code file whose bytes are exchanged in pairs", "note: LIB1: it may be a code file whose bytes are exchanged in pairs"], *NO_CODE, "  Exchange the bytes again: dd conv=swab if=HOST of=FILE. Then give FILE."),
         # a library whose bytes are exchanged, of a host that is a code file
-        (18, SAMPLES["big_host.code"], [swapped(unit_with(m.UNIT_LINKS, slot=1)).replace(b"TULI", b"UTIL")], ["  segment UTIL, of slot 07 of the host", "  the table of procedure 1 has the number 0, native code"], "  The bytes of the code are exchanged in pairs.", "  Exchange the bytes again: dd conv=swab if=LIB1 of=FILE. Then give FILE."),
+        (18, SAMPLES["big_host.code"], [EXCHANGED], ["  segment UTIL, of slot 07 of the host", "  the table of procedure 1 has the number 0, native code"], "  The bytes of the code are exchanged in pairs.", "  Exchange the bytes again: dd conv=swab if=LIB1 of=FILE. Then give FILE."),
         (19, HOST, [LIBRARY[:1103]], [UTIL, f"  record 2: 15 {LEFT}"]),
         (20, HOST, unit((LINKS + 8, b"\x0f")), [UTIL, f"  record 0: type 15, and its word A is 2; 512 {LEFT}"]),
         (20, HOST, [changed(LIBRARY[: LINKS + 16], (LINKS + 8, b"\x0f"))], [UTIL, f"  record 0: type 15, and its word A is 2; 16 {LEFT}"]),
