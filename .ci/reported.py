@@ -613,6 +613,7 @@ def quiet():
         (host_with([m.publ_def("COUNT", 3), m.eof_mark(5)]), [LIBRARY]),
         # later libraries with the unit, and many
         (HOST, [LIBRARY, *(unit_with(m.UNIT_LINKS, slot=slot) for slot in (5, 9))]),
+        (HOST, [LIBRARY] * 4),
         (HOST, [USING, USED, *[LIBRARY] * 30]),
         (HOST, [USING, USED, AUX_FILE, AUX_FILE]),
         (HOST, [LIBRARY, m.code_file({3: AUX_UNIT, 7: m.Segment("UTIL", m.UNITSEG, m.WANTED)})]),
