@@ -16,6 +16,7 @@ import make_samples as m
 
 SAMPLES = m.SAMPLES
 HOST, LIBRARY, USING, USED = (SAMPLES[name] for name in ("host.code", "library.code", "using.code", "used.code"))
+BIG_HOST, BIG_LIBRARY = (SAMPLES[f"big_{name}.code"] for name in ("host", "library"))
 
 CODE, LINKS = 512, 1024  # where the one code of each sample and its link information begin
 
@@ -203,6 +204,10 @@ def swapped(file):
     return b"".join(file[at : at + 2][::-1] for at in range(0, len(file), 2))
 
 
+# a unit of the other byte order whose bytes are exchanged, but for its name
+EXCHANGED = swapped(unit_with(m.UNIT_LINKS, slot=1)).replace(b"TULI", b"UTIL")
+
+
 def later_host():
     """The sample host with the version of release III.0 in the word of its segment."""
     return changed(HOST, (256, bytes(32)), (258, word(3 << 13 | 1)))
@@ -227,13 +232,17 @@ def faults():
     unit = lambda *changes: [changed(LIBRARY, *changes)]
     near = "differs from UTIL in small letters, high bits or padding alone"
     extent = "bytes of code, from byte"
+    large_demo = m.Segment("DEMO", m.HOSTSEG, [m.Procedure(1, ["NOP", "NOP", "RBP 0"], parameters=4, data=65534)], m.PROGRAM_LINKS)
     cases = [
         (1, HOST, [LIBRARY[:511]], ["  it has 511 bytes, and is no code file of a known form"], again("LIB1")),
         (2, HOST, unit((193, b"\1")), ["  it is no code file of a known form; the host is little-endian"], again("LIB1")),
         (3, HOST, unit((196, b"\0\3")), ["  it is big-endian; the host is little-endian"], "  Compile LIB1 for the machine of the host."),
+        # a library of the other byte order that is no code file
+        (3, HOST, unit((196, b"\0\x09")), ["  it is big-endian; the host is little-endian"], again("LIB1")),
         (4, LIBRARY, [], ["  it has units, and no host program"], "  Give the compiled program as HOST, and HOST after it, as a library."),
         (4, USING, [USED, LIBRARY[:535]], ["  it has units, and no host program"], "  Give the compiled program as HOST, and HOST after it, as a library."),
         (4, LIBRARY, [HOST], ["  it has units, and no host program", "  LIB1 has a host program"], "  Exchange the two: give LIB1 as HOST, and HOST after it."),
+        (4, bytes(2048), [HOST], ["  it is a file of the byte 00 alone", "  LIB1 has a host program"], "  Exchange the two: give LIB1 as HOST, and HOST after it."),
         (4, LINKED, [LIBRARY], ["  all of its segments are linked"], "  Give the unlinked host in place of HOST, the file that the compiler made."),
         (5, changed(HOST, *entry(3, "OTHER", 1, 1, 18)), [LIBRARY], ["  segment OTHER, of slot 03 of the host", "  the earlier one is slot 01, DEMO", "note: HOST, segment OTHER: its code has segment number 1, and its slot is 3: the code may be another one", "warning: HOST, segment OTHER: its bytes in the file overlap those of slot 01"]),
         (3, swapped(HOST), [LIBRARY], ["  it is little-endian; the host is big-endian", "note: HOST: it may be a code file whose bytes are exchanged in pairs"], "  Exchange the bytes again: dd conv=swab if=HOST of=FILE. Then give FILE."),
@@ -261,6 +270,7 @@ def faults():
         (13, HOST, [changed(TOOL, *entry(5, "UTIL", 3, 0, 0))], [UTIL, "  LIB1 has TOOL"], *WANTED),
         (14, HOST, [changed(TOOL, *entry(5, "UTIL", 2, 9, 24), *entry(6, "UTIL", 3, 0, 0))], [UTIL, "  entry 05 has the name, of kind 2: a segment procedure"], "  Give the unit's library before LIB1, or remove that segment from LIB1."),
         (13, HOST, [USING], [UTIL, "  record 0: UNITREF AUX", "  LIB1 has UTIL"], *REQUESTED),
+        (13, HOST, [USING, AUX_FILE.replace(b"AUX", b"Aux")], [UTIL, "  record 0: UNITREF AUX", "  LIB1 has UTIL", "  LIB2 has Aux (which differs from AUX in small letters, high bits or padding alone)", "note: LIB2: the name Aux has small letters, and other names have capitals: it may not be found"], *REQUESTED),
         (13, HOST, [BLANK_LIBRARY], [UTIL, '  record 0: UNITREF ""', '  LIB1 has UTIL, ""'], *REQUESTED),
         *((13, HOST, [AUX_FILE] * count, [UTIL, *(f"  LIB{k} has AUX" for k in range(1, 17)), *rest], *WANTED)
           for count, rest in ((16, []), (17, ["  there is 1 more library"]), (18, ["  there are 2 more libraries"]))),
@@ -281,17 +291,23 @@ def faults():
         (18, native_host(), [LIBRARY], [DEMO, "  the table of procedure 2 has the number 0, native code", "  bytes 512 to 1023 of its code are all 00: they may not have been read"], *NOT_READ),
         (18, swapped(HOST), [swapped(LIBRARY)], ["  it is a code file whose bytes are exchanged in pairs", "note: LIB1: it may be a code file whose bytes are exchanged in pairs"], *NO_CODE, "  Exchange the bytes again: dd conv=swab if=HOST of=FILE. Then give FILE."),
         # a library whose bytes are exchanged, of a host that is a code file
-        (18, SAMPLES["big_host.code"], [swapped(unit_with(m.UNIT_LINKS, slot=1)).replace(b"TULI", b"UTIL")], ["  segment UTIL, of slot 07 of the host", "  the table of procedure 1 has the number 0, native code"], "  The bytes of the code are exchanged in pairs.", "  Exchange the bytes again: dd conv=swab if=LIB1 of=FILE. Then give FILE."),
+        (18, SAMPLES["big_host.code"], [EXCHANGED], ["  segment UTIL, of slot 07 of the host", "  the table of procedure 1 has the number 0, native code"], "  The bytes of the code are exchanged in pairs.", "  Exchange the bytes again: dd conv=swab if=LIB1 of=FILE. Then give FILE."),
         (19, HOST, [LIBRARY[:1103]], [UTIL, f"  record 2: 15 {LEFT}"]),
         (20, HOST, unit((LINKS + 8, b"\x0f")), [UTIL, f"  record 0: type 15, and its word A is 2; 512 {LEFT}"]),
         (20, HOST, [changed(LIBRARY[: LINKS + 16], (LINKS + 8, b"\x0f"))], [UTIL, f"  record 0: type 15, and its word A is 2; 16 {LEFT}"]),
         (21, HOST, unit((LINKS + 8, b"\2")), [UTIL, f"  record 0: type 2, and its word A is 2; 512 {LEFT}"]),
         (22, HOST, unit((LINKS + 8, b"\x0b")), [UTIL, f"  record 0: type 11, and its word A is 2; 512 {LEFT}"]),
         (23, HOST, unit((LINKS + 32 + 10, b"\1")), [UTIL, f"  record 1: type 4, and its word A is 1; 480 {LEFT}"]),
+        # words of records in the other byte order
+        (20, BIG_HOST, [changed(BIG_LIBRARY, (LINKS + 8, b"\0\x0f"))], [UTIL, f"  record 0: type 15, and its word A is 2; 512 {LEFT}"]),
+        (23, BIG_HOST, [changed(BIG_LIBRARY, (LINKS + 32 + 10, b"\0\1"))], [UTIL, f"  record 1: type 4, and its word A is 1; 480 {LEFT}"]),
         (24, host_with([m.publ_def("COUNT", 3), m.record("COUNT", 8, 1), m.eof_mark(8)]), [LIBRARY], [DEMO, "  record 1: CONSTDEF COUNT", "  the earlier one is record 0: PUBLDEF COUNT"]),
         (25, HOST, [unit_with([STATE, m.priv_ref("STATE", 1, []), END])], [UTIL, "  record 1: PRIVREF STATE", "  the earlier one is record 0: PRIVREF STATE"]),
         (26, HOST, [unit_with([m.priv_ref("FIRST", 2, []), m.priv_ref("STATE", 32758, []), END])], [UTIL, "  record 1: PRIVREF STATE", "  it takes 32758 words from base offset 10 on"]),
-        (27, host_with(m.PROGRAM_LINKS, [m.Procedure(1, ["NOP", "NOP", "RBP 0"], parameters=4, data=65534)]), [LIBRARY], [DEMO, "  the program's own data have 65534 bytes, and the private variables 8", "warning: HOST, segment DEMO: the end mark 8 is below half the data size of 65534 bytes"]),
+        (27, m.code_file({**m.HOST, 1: large_demo}), [LIBRARY], [DEMO, "  the program's own data have 65534 bytes, and the private variables 8", "warning: HOST, segment DEMO: the end mark 8 is below half the data size of 65534 bytes"]),
+        # a private variable of the last slot, and a data size in the other byte order
+        *((27, m.code_file({1: large_demo, 15: m.Segment("UTIL", m.UNITSEG, m.WANTED)}, order), [library], [DEMO, "  the program's own data have 65534 bytes, and the private variables 8", "warning: HOST, segment DEMO: the end mark 8 is below half the data size of 65534 bytes"])
+          for order, library in (("little", LIBRARY), ("big", BIG_LIBRARY))),
         (28, HOST, [unit_with([m.publ_ref("Count", [1]), END])], [UTIL, "  record 0: PUBLREF Count", "  the host has PUBLDEF COUNT, record 0", "note: LIB1, segment UTIL, record 0: the name Count has small letters, and other names have capitals: it may not be found"]),
         (28, HOST, [unit_with([m.publ_ref("OTHER", [1]), END]), LIBRARY, LIBRARY], [UTIL, "  record 0: PUBLREF OTHER"]),
         (28, HOST, [unit_with([m.publ_ref("OWN", [1]), m.publ_def("OWN", 1), END])], [UTIL, "  record 0: PUBLREF OWN", "  the unit itself has a PUBLDEF of it, record 1, which is not used: the host program has to define it", "warning: LIB1, segment UTIL, record 1: the unit refers to OWN and defines it itself: only the host program defines variables"]),
@@ -302,6 +318,8 @@ def faults():
         (31, HOST, [unit_with([m.publ_ref("COUNT", [1, 23]), END])], [UTIL, "  record 0: PUBLREF COUNT", "  reference 1: byte 23 of the code, where these bytes stand: 01", "  the code has 24 bytes"]),
         (31, HOST, [unit_with([m.publ_ref("COUNT", [24]), END])], [UTIL, "  record 0: PUBLREF COUNT", "  reference 0: byte 24 of the code, where these bytes stand: none", "  the code has 24 bytes"]),
         (32, HOST, [unit_with([m.publ_ref("COUNT", [9]), END])], [UTIL, "  record 0: PUBLREF COUNT", "  reference 0: byte 9 of the code, where these bytes stand: 00 00", "  it lies in the table of procedure 1", "note: LIB1, segment UTIL, record 0: the operand at byte 9 may be damaged: its bit 7 is clear, and a compiler sets it"]),
+        # the last byte of a table, and the first of the procedure dictionary
+        (32, HOST, [unit_with([m.publ_ref("COUNT", [19]), END])], [UTIL, "  record 0: PUBLREF COUNT", "  reference 0: byte 19 of the code, where these bytes stand: 00 02", "  it lies in the table of procedure 1", "note: LIB1, segment UTIL, record 0: the operand at byte 19 may be damaged: its bit 7 is clear, and a compiler sets it"]),
         (32, HOST, [unit_with([m.unit_ref("UTIL", [20]), END])], [UTIL, "  record 0: UNITREF UTIL", "  reference 0: byte 20 of the code, where these bytes stand: 02", "  it lies in the procedure dictionary"]),
         (32, HOST, [unit_with([m.unit_ref("UTIL", [23]), END])], [UTIL, "  record 0: UNITREF UTIL", "  reference 0: byte 23 of the code, where these bytes stand: 01", "  it lies in the procedure dictionary"]),
         (33, HOST, [unit_with([COUNT, m.priv_ref("STATE", 3, [4, 2]), END])], [UTIL, "  record 1: PRIVREF STATE", "  reference 1: byte 2 of the code, where these bytes stand: 00 AB", "  the earlier one is reference 0 of record 0, COUNT", "warning: LIB1, segment UTIL, record 1: the operand at byte 2 is word 171 of a variable that has 3", "note: LIB1, segment UTIL, record 1: the operand at byte 2 may be damaged: its bit 7 is clear, and a compiler sets it"]),
@@ -309,6 +327,7 @@ def faults():
         (33, HOST, [unit_with([m.publ_ref("COUNT", [4, 1, 1]), END])], [UTIL, "  record 0: PUBLREF COUNT", "  reference 2: byte 1 of the code, where these bytes stand: 80 00", "  the earlier one is reference 1 of record 0, COUNT"]),
         (34, HOST, unit((CODE + 1, b"\xff\xfd")), [UTIL, "  record 0: PUBLREF COUNT", "  reference 0: byte 1 of the code, where these bytes stand: FF FD", "  its displacement is 32765, and the value 3"]),
         (34, HOST, unit((CODE + 4, b"\xff\xff")), [UTIL, "  record 1: PRIVREF STATE", "  reference 0: byte 4 of the code, where these bytes stand: FF FF", "  its displacement is 32767, and the value 8", "warning: LIB1, segment UTIL, record 1: the operand at byte 4 is word 32767 of a variable that has 4"]),
+        (34, BIG_HOST, [changed(BIG_LIBRARY, (CODE + 4, b"\xff\xff"))], [UTIL, "  record 1: PRIVREF STATE", "  reference 0: byte 4 of the code, where these bytes stand: FF FF", "  its displacement is 32767, and the value 8", "warning: LIB1, segment UTIL, record 1: the operand at byte 4 is word 32767 of a variable that has 4"]),
         (34, TWO_WANTED, [changed(TWO_UNITS, (CODE + 1024 + 4, b"\xff\xff"))], [AUX, "  record 1: PRIVREF STATE", "  reference 0: byte 4 of the code, where these bytes stand: FF FF", "  its displacement is 32767, and the value 12", "warning: LIB1, segment AUX, record 1: the operand at byte 4 is word 32767 of a variable that has 4"]),
         (35, full_host(), [USING, USED], [UTIL, "  record 0: UNITREF AUX"]),
     ]
@@ -594,6 +613,7 @@ def quiet():
         (host_with([m.publ_def("COUNT", 3), m.eof_mark(5)]), [LIBRARY]),
         # later libraries with the unit, and many
         (HOST, [LIBRARY, *(unit_with(m.UNIT_LINKS, slot=slot) for slot in (5, 9))]),
+        (HOST, [LIBRARY] * 4),
         (HOST, [USING, USED, *[LIBRARY] * 30]),
         (HOST, [USING, USED, AUX_FILE, AUX_FILE]),
         (HOST, [LIBRARY, m.code_file({3: AUX_UNIT, 7: m.Segment("UTIL", m.UNITSEG, m.WANTED)})]),
