@@ -169,14 +169,12 @@ fn put_other(
         files.now.host.now (contents files.now.libs.now)) }
     ensures untouched { OnErr result (room.new ≡ room.old) }
 {
-    // (a text is not moved out of what was made, as it would take as much of the stack again)
-    let made = text_of(alloc, kind, files);
-    match &made {
-        Ok(text) => match put_text(alloc, text, room) {
+    match text_of(alloc, kind, files) {
+        Ok(text) => match put_text(alloc, &text, room) {
             Ok(size) => Ok(Done::Text(size)),
             Err(why) => Err(why),
         },
-        Err(why) => Err(Unput::Unmade(unmade_of(files, *why))),
+        Err(why) => Err(Unput::Unmade(unmade_of(files, why))),
     }
 }
 
