@@ -389,10 +389,22 @@ impl<'a> HostReading<'a> {
 
     /// The segments that have no fault, by slot ascending.
     pub fn segments(&self) -> &[Segment<'a>]
-        ensures { result.now
+        ensures all { result.now
             ≡ all_read self.now.order self.now.file (opened_files self.now.order self.now.libs) }
+        ensures read { All (IsRead self.now.order self.now.file
+            (opened_files self.now.order self.now.libs)) result.now }
+        ensures few { length result.now ≤ SLOT_COUNT }
     {
         self.segments.as_slice()
+    }
+
+    /// The names of all slots, 0 to 15, in the linked file: of each slot that has one of the segments
+    /// that segment's name, and of the others the host's own.
+    pub fn slot_names(&self) -> [Name; SLOT_COUNT]
+        ensures { result ≡ slot_names_spec self.now.file (all_read self.now.order self.now.file
+            (opened_files self.now.order self.now.libs)) }
+    {
+        slot_names(&self.slots, self.segments.as_slice())
     }
 }
 
@@ -433,6 +445,13 @@ pub fn read<'a>(host: &'a [u8], libs: &'a [&'a [u8]]) -> Reading<'a>
 }
 
 impl<'a> Reading<'a> {
+    /// The host file, which was read.
+    pub fn file(&self) -> &'a [u8]
+        ensures { result.now ≡ self.now.host }
+    {
+        self.file
+    }
+
     /// The host as it was read, or why it cannot be opened: `ShortFile`, `NoOrder`, or `NoHost`
     /// where all its kinds are 0.
     pub fn host(&self) -> Result<&HostReading<'a>, Reason>
