@@ -16,7 +16,7 @@ returns-clause-linked g c =
     let paths : List (List ℕ) = c.args.host_path.now ∷ contents c.args.paths.now in
     let segments = string_bytes c.in_ok-overview.overview.segments in
     subst (λ (f : ReadFiles). reading_fault f.host f.libs ≡ None
-    → slot_lines segments ≡ segment_lines paths f.host f.libs) c.read_files-reading.ensures
+    → slot_lines segments ≡ segment_lines paths f.host f.libs) c.requires
     c.in_ok-overview.ensures.linked
 
 pub returns-clause-read : goal.returns-clause-read
@@ -27,8 +27,8 @@ returns-clause-read g c = λ why is.
     let list = ap (map seen) c.as_slice.ensures.value
     ∙ (c.in_ok-list.ensures
     ∙ ap (λ (f : ReadFiles). seen_by host libs (opened_host f.host f.libs))
-    c.read_files-reading.ensures) in
-    let read = ap (λ (f : ReadFiles). reading_fault f.host f.libs) c.read_files-reading.ensures ∙ is
+    c.requires) in
+    let read = ap (λ (f : ReadFiles). reading_fault f.host f.libs) c.requires ∙ is
     in
     let told = c.told_segments-told.ensures why read ∙ ap (λ (l : List Seen). told_of host l) list in
     c.in_ok-overview.ensures.read why read ∙ ap (λ (l : List Seen). read_lines paths l) told
@@ -43,12 +43,12 @@ returns-clause-findings g c =
     (ap (map seen) c.as_slice-3.ensures.value
     ∙ (c.in_ok-list.ensures
     ∙ ap (λ (f : ReadFiles). seen_by host libs (opened_host f.host f.libs))
-    c.read_files-reading.ensures))
+    c.requires))
 
 pub returns-clause-name : goal.returns-clause-name
 returns-clause-name g c = c.verdict_name-name.ensures
     ∙ ap (λ (f : ReadFiles). verdict_name f.host f.libs c.args.verdict)
-    c.read_files-reading.ensures
+    c.requires
 
 pub returns-clause-explanation : goal.returns-clause-explanation
 returns-clause-explanation g c = λ none.
