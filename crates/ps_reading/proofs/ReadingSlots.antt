@@ -1,5 +1,5 @@
 -- What is read of the slots of a host, where reading has no fault: the segments of the link.
-use Rattle.ps_reading.proofs.Vocabulary.{arith, ◌≡◌, ℕ, List, [], ◌∷◌, ◌++◌, ◌≢◌, take, Option, Some, None, Result, Ok, Err, refl, ◌∙◌, filter_map, option_and_then, option_or, result_ok, Order, in_file, Fault, Reason, OpenedFile, entry_at, opened_alone, role_of, slots, first_of, reading_fault, Request, segments_in_slots, MAX_REQUESTED}
+use Rattle.ps_reading.proofs.Vocabulary.{arith, ◌≡◌, ◌<◌, ℕ, Bool, if◌then◌else◌, List, [], ◌∷◌, ◌++◌, ◌≢◌, take, Option, Some, None, Result, Ok, Err, refl, ◌∙◌, filter_map, option_and_then, option_or, result_ok, Order, in_file, Fault, Reason, OpenedFile, entry_at, opened_alone, role_of, slots, first_of, reading_fault, Request, segments_in_slots, MAX_REQUESTED, SLOTS}
 use Rattle.ps_reading.specs.Sources.{Segment, own_segment, own_segments, opened_files, order_of, units_of}
 use Rattle.ps_reading.specs.Faults.{slots_fault, no_host_fault, libraries_fault, source_fault, sources_fault}
 use Rattle.ps_reading.specs.Added.{RoundsOutcome, all_unit_references, empty_slots, requested_from, rounds, rounds_in, segments}
@@ -7,6 +7,7 @@ use Rattle.ps_reading.specs.Readings.{HostFiles, all_read, host_reading_fault, o
 use Rattle.ps_reading.proofs.FirstSlots.{neither_first, neither_second}
 use Rattle.ps_reading.proofs.InSlots.{in_slots_are}
 use Rattle.ps_reading.proofs.ReadingHosts.{host_is, host_read, host_refused, rest_of}
+use Rattle.ps_reading.proofs.ReadingKnown.{none_at}
 use Rattle.ps_reading.proofs.ReadingLibraries.{all_opened}
 
 module _ (order : Order) (host : List ℕ) (libs : List (List ℕ)) where
@@ -72,6 +73,21 @@ module _ (order : Order) (host : List ℕ) (libs : List (List ℕ)) where
     arith,
     units_last (own_reading_fault order host libs) (read_rounds order host files).fault refl refl,
   )
+
+  none_added : (here : Bool) (fault : Option Fault) → fault ≡ None
+      → (if here then fault else None) ≡ None
+  none_added here fault h = grind arith
+
+  -- where reading has no fault, no slot has
+  pub no_slot_fault : host_reading_fault order host libs ≡ None → (slot : ℕ) → slot < SLOTS
+      → slot_fault order host files slot ≡ None
+  unfolding host_reading_fault sources_fault
+  no_slot_fault none slot lt =
+      let rest = neither_second _ _ (neither_second _ _ (neither_second _ _ none)) in
+      let fine : source_fault order host files slot ≡ None =
+      none_at (source_fault order host files) 0 SLOTS slot (neither_first _ _ rest) (omega arith)
+      (omega (arith, lt)) in
+      rw fine (none_added _ _ (neither_second _ _ rest))
 
   module _ (own : List Segment) (is : own ≡ read_segments order host files) where
     pub in_rounds : (empty : List ℕ) → empty ≡ empty_slots order host

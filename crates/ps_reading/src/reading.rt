@@ -299,12 +299,16 @@ impl<'a> HostReading<'a> {
         queued_request(self.queue.as_slice(), self.empty.as_slice(), slot)
     }
 
-    /// Why a slot has no segment.
+    /// Why a slot has no segment. Where reading has no fault no slot has one, so only the sources of
+    /// files that are refused are read again.
     fn fault_in(&self, slot: u8) -> Option<Fault>
         requires { slot < SLOTS }
         ensures { result ≡ slot_fault self.now.order self.now.file
             (opened_files self.now.order self.now.libs) slot }
     {
+        if self.fault.is_none() {
+            return None;
+        }
         if let Err(fault) = read_slot(&self.slots, self.libs, slot, self.segments.as_slice()) {
             return Some(fault);
         }
