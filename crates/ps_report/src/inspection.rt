@@ -103,14 +103,16 @@ pub(crate) fn read_files<'a>(host: &'a [u8], libs: &'a [&'a [u8]]) -> Reading<'a
     read(host, libs)
 }
 
-/// The segments of which a report tells where the files are not read without a fault.
+/// The segments of which a report tells: all, where the files are read without a fault.
 fn told_segments<'l, 'a>(
     inputs: &NamedFiles<'a>,
     reading: &Reading<'a>,
     list: &'l [ReadSegment<'a>],
 ) -> &'l [ReadSegment<'a>]
-    ensures { (why : Why) → reading_fault reading.now.host reading.now.libs ≡ Some why
+    ensures refused { (why : Why) → reading_fault reading.now.host reading.now.libs ≡ Some why
         → map seen result.now ≡ told_of inputs.now.host.now (map seen list.now) }
+    ensures all { reading_fault reading.now.host reading.now.libs ≡ None
+        → map seen result.now ≡ map seen list.now }
 {
     if reading.fault().is_some() {
         told_after_fault(inputs, list)

@@ -7,7 +7,7 @@ use Rattle.ps_explained.specs.SegmentLines.{read_lines}
 use Rattle.ps_explained.specs.SlotLines.{AddsSlotLines}
 use Rattle.ps_explained.proofs.LinesOfSegments.{adds_next_read}
 use Rattle.ps_explained.proofs.SlotLines.{adds_then_none}
-use Rattle.ps_explained.proofs.overview.add_read.Goals as goal
+use Rattle.ps_explained.proofs.overview.add_each.Goals as goal
 
 pub loop-segment-preserved : goal.loop-segment-preserved
 loop-segment-preserved g c =

@@ -3,7 +3,7 @@ use Rattle.ps_resolve.specs.Sources.{contents}
 use Rattle.ps_segments.specs.Seen.{seen}
 use Rattle.ps_explained.specs.SegmentLines.{read_lines}
 use Rattle.ps_explained.specs.SlotLines.{AddsSlotLines}
-use Rattle.ps_explained.proofs.overview.add_read.Given as goal
+use Rattle.ps_explained.proofs.overview.add_each.Given as goal
 
 -- the lines of the segments so far are added
 abbrev pub invariant-loop-segment : goal.invariant-loop-segment

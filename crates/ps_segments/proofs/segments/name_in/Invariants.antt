@@ -1,6 +1,6 @@
 use Rattle.std.proofs.Common.{◌≡◌, drop}
-use Rattle.ps_explained.specs.SegmentLines.{name_in}
-use Rattle.ps_explained.proofs.overview.name_in.Given as goal
+use Rattle.ps_segments.specs.SegmentParts.{name_in}
+use Rattle.ps_segments.proofs.segments.name_in.Given as goal
 
 -- the segment is looked for in what is left
 abbrev pub invariant-loop-segment : goal.invariant-loop-segment

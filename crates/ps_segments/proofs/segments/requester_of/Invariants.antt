@@ -1,6 +1,6 @@
 use Rattle.std.proofs.Common.{◌≡◌, drop}
-use Rattle.ps_explained.specs.SegmentLines.{requester_of}
-use Rattle.ps_explained.proofs.overview.requester_of.Given as goal
+use Rattle.ps_segments.specs.SegmentParts.{requester_of}
+use Rattle.ps_segments.proofs.segments.requester_of.Given as goal
 
 -- the record is looked for in what is left
 abbrev pub invariant-loop-request : goal.invariant-loop-request

@@ -3,10 +3,9 @@ use Rattle.std.specs.Prelude.{Option, filter_map, option_and_then, slice_get}
 use Rattle.std.specs.List.{cons_option}
 use Rattle.std.specs.Option.{option_map}
 use Rattle.ps_codefile.specs.Dictionary.{slots}
-use Rattle.ps_resolve.specs.Readings.{read_requests}
-use Rattle.ps_resolve.specs.Sources.{contents, opened_files}
+use Rattle.ps_resolve.specs.Sources.{contents}
 use Rattle.ps_segments.specs.Seen.{Seen, seen}
-use Rattle.ps_segments.specs.SeenSegments.{seen_in, seen_of, seen_unit, unplaced}
+use Rattle.ps_segments.specs.SeenSegments.{requests_in, seen_in, seen_of, seen_unit, unplaced}
 use Rattle.ps_segments.proofs.segments.segments_in.Goals as goal
 
 pub returns : goal.returns
@@ -21,5 +20,5 @@ returns g c =
     c.in_ok-list.ensures
     ∙ ap (λ (o : Option Seen). filter_map f slots ++ cons_option o [])
     (c.unit_without_slot-unit.ensures ∙ ap (λ (n : ℕ). option_and_then (seen_unit h)
-    (slice_get (read_requests h.order h.file (opened_files h.order h.libs)) n))
+    (slice_get (requests_in h) n))
     c.slots_taken-taken.ensures))
