@@ -1,6 +1,6 @@
 -- Where the files of a link are read without a fault, the lines of the segments as they were read are
 -- those of the segments of the link.
-use Rattle.std.proofs.Common.{◌≡◌, ◌∙◌, ◌++◌, ◌∷◌, ◌<◌, [], ℕ, List, true, false, append-nil, map, refl, sym, ap, subst, arith}
+use Rattle.std.proofs.Common.{◌≡◌, ◌∙◌, ◌++◌, ◌∷◌, ◌<◌, [], ℕ, List, true, false, append-nil, length, map, refl, sym, ap, subst, arith}
 use Rattle.std.specs.Prelude.{◌==◌, ◌&&◌, All, Bool, Err, None, Ok, Option, Result, Some, filter_map, if◌then◌else◌, is_some, option_and_then, slice_get}
 use Rattle.std.specs.List.{cons_option, find, list_any}
 use Rattle.std.specs.Option.{option_map}
@@ -13,13 +13,13 @@ use Rattle.ps_codefile.specs.Dictionary.{slots}
 use Rattle.ps_resolve.specs.AllFaults.{reading_fault}
 use Rattle.ps_resolve.specs.Readings.{HostFiles, opened_host, slot_fault}
 use Rattle.ps_resolve.specs.Sources.{Segment, opened_files, order_of}
-use Rattle.ps_resolve.specs.Added.{segments}
+use Rattle.ps_resolve.specs.Added.{empty_slots, segments}
 use Rattle.ps_reading.specs.KnownSegments.{is_in_slot}
 use Rattle.ps_reading.specs.declared.reading.added.UnitReference.{UnitReference}
 use Rattle.ps_reading.proofs.InSlots.{by_slot}
 use Rattle.ps_reading.proofs.ReadingSlots.{fault_of_host, fault_of_none, host_of_files, no_slot_fault, segments_are}
 use Rattle.ps_segments.specs.Seen.{Seen}
-use Rattle.ps_segments.specs.SeenSegments.{fault_in, is_fault, is_of_host, is_refused_unit, reading_in, requests_in, seen_by, seen_by_reading, seen_in, seen_of, seen_read, seen_segment, seen_segments, seen_unit, seen_unread, seen_with, segments_in, taken_of, unplaced}
+use Rattle.ps_segments.specs.SeenSegments.{fault_in, is_fault, is_of_host, is_refused_unit, reading_in, requests_in, seen_by, seen_by_reading, seen_in, seen_of, seen_read, seen_segment, seen_segments, seen_unit, seen_unread, seen_with, segments_in, unplaced}
 use Rattle.ps_segments.specs.SegmentParts.{added_by}
 use Rattle.ps_segments.specs.declared.segments.Absent.TheVariants as absent
 use Rattle.ps_explained.specs.SegmentLines.{line_in_slot, lines_of_segments, read_line, read_lines, segment_line, segment_lines}
@@ -134,7 +134,8 @@ module _ (paths : List (List ℕ)) (host : List ℕ) (libs : List (List ℕ)) (v
 
   unplaced_lines : read_lines paths (cons_option (unplaced v) []) ≡ []
   unfolding unplaced
-  unplaced_lines = no_lines (slice_get (requests_in v) (taken_of v slots))
+  unplaced_lines = no_lines (slice_get (requests_in v)
+      (length (empty_slots v.order v.file)))
 
   all_lines : filter_map found slots ≡ all
       → read_lines paths (seen_of host libs v) ≡ lines_of_segments paths all (requests_in v)

@@ -67,7 +67,7 @@ impl<'a> Case<'_, 'a> {
     /// The value of the host's definition of the name.
     fn defined_value(&self, name: &Name) -> Option<u16> {
         let host = host_of(self.list)?;
-        match host.records().find(name, Sort::Variable) {
+        match host.records.find(name, Sort::Variable) {
             Some((_, record)) => match record.body {
                 Body::PublDef(value) => Some(value),
                 _ => None,

@@ -21,7 +21,8 @@ pub(crate) mod units;
 
 use crate::locations::EntryAt;
 use crate::reading::added::{
-    MAX_ADDED, MAX_REQUESTED, UnitReference, add_units, empty_slots, requested_by, slot_at,
+    MAX_ADDED, MAX_REQUESTED, UnitReference, add_units, empty_slots, requested_at, requested_by,
+    slot_at,
 };
 use crate::reading::libraries::libraries_fault;
 use crate::reading::request::{Request, unit_named};
@@ -404,6 +405,16 @@ impl<'a> HostReading<'a> {
             ≡ read_requests self.now.order self.now.file (opened_files self.now.order self.now.libs) }
     {
         self.queue.as_slice()
+    }
+
+    /// The first of the requested names for which no empty slot is left, if there is one, with the
+    /// record that first gave it.
+    pub fn unplaced(&self) -> Option<UnitReference>
+        ensures { result ≡ slice_get (read_requests self.now.order self.now.file
+            (opened_files self.now.order self.now.libs))
+            (length (empty_slots_spec self.now.order self.now.file)) }
+    {
+        requested_at(&self.queue, self.empty.len())
     }
 
     /// The segments that have no fault, by slot ascending.

@@ -4,9 +4,8 @@ use Rattle.std.specs.Prelude.{Bool, Option, Some, None, Ok, filter_map, if◌the
 use Rattle.std.specs.List.{cons_option, range_with_len}
 use Rattle.ps_codefile.specs.Dictionary.{OpenedFile, entry_at}
 use Rattle.ps_linkinfo.specs.declared.record.LinkRecord.{LinkRecord as Record}
-use Rattle.ps_resolve.specs.Readings.{HostFiles}
 use Rattle.ps_segments.specs.Seen.{Seen, part_needs_linking}
-use Rattle.ps_segments.specs.SeenSegments.{origin_in, records_at, seen_with, taken_of, takes_slot}
+use Rattle.ps_segments.specs.SeenSegments.{origin_in, records_at, seen_with}
 use Rattle.ps_segments.specs.declared.segments.SegmentPart.{SegmentPart}
 
 -- what is seen of a segment that comes from an entry of a file
@@ -41,26 +40,6 @@ seen_there slot name part file index f size records long all =
       file = Some file;
       records = rs;
     }) all
-
--- no more slots are taken than there are
-pub taken_few : (h : HostFiles) (ss : List ℕ) → taken_of h ss ≤ length ss
-taken_few h [] = omega arith
-taken_few h (s ∷ ss) = let rest = taken_few h ss in one (takes_slot h s) rest
-  where
-    one : (b : Bool) → taken_of h ss ≤ length ss
-        → (if b then 1 else 0) + taken_of h ss ≤ suc (length ss)
-    one true less = omega arith
-    one false less = omega arith
-
-module _ (h : HostFiles) (i n : ℕ) where
-  pub taken_left : i < n → taken_of h (range_with_len i (n - i))
-      ≡ (if takes_slot h i then 1 else 0) + taken_of h (range_with_len (i + 1) (n - (i + 1)))
-  taken_left lt = let left : n - i ≡ suc (n - (i + 1)) = omega arith in
-      ap (λ (k : ℕ). taken_of h (range_with_len i k)) left
-
-  pub taken_over : n ≤ i → taken_of h (range_with_len i (n - i)) ≡ 0
-  taken_over le = let left : n - i ≡ 0 = omega arith in
-      ap (λ (k : ℕ). taken_of h (range_with_len i k)) left
 
 -- what is seen in the slots from one on
 module _ (f : ℕ → Option Seen) (i n : ℕ) where

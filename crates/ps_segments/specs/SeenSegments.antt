@@ -1,8 +1,8 @@
 -- The segments of a link as they were read: of each slot of the host its segment, also where it is
 -- refused, and then the first unit for which no slot is left.
-use Rattle.std.specs.Prelude.{ℕ, ◌+◌, ◌&&◌, if◌then◌else◌, List, [], ◌∷◌, ◌++◌, length, nat_lt, slice_get, Bool, true, false, Option, Some, None, Result, Ok, Err, filter_map, is_some, option_and_then}
+use Rattle.std.specs.Prelude.{ℕ, ◌&&◌, if◌then◌else◌, List, [], ◌++◌, length, nat_lt, slice_get, Bool, true, false, Option, Some, None, Result, Ok, Err, filter_map, is_some, option_and_then}
 use Rattle.std.specs.List.{cons_option, list_any}
-use Rattle.std.specs.Option.{option_map, option_map_or}
+use Rattle.std.specs.Option.{option_map}
 use Rattle.std.specs.Result.{is_ok}
 use Rattle.std.specs.Str.{bytes_eq}
 use Rattle.ps_words.specs.declared.fault.Fault.{Fault}
@@ -12,6 +12,7 @@ use Rattle.ps_codefile.specs.declared.entry.Role.{Role}
 use Rattle.ps_codefile.specs.declared.entry.Role.TheVariants as role
 use Rattle.ps_linkinfo.specs.Records.{reading}
 use Rattle.ps_linkinfo.specs.declared.record.LinkRecord.{LinkRecord as Record}
+use Rattle.ps_resolve.specs.Added.{empty_slots}
 use Rattle.ps_resolve.specs.Readings.{HostFiles, all_read, host_reading_fault, opened_host, read_requests, slot_entry, slot_reading, slot_request}
 use Rattle.ps_resolve.specs.Sources.{Segment, file_at, opened_files}
 use Rattle.ps_reading.specs.declared.reading.added.UnitReference.{UnitReference}
@@ -194,19 +195,6 @@ seen_by_reading host libs h slot None = if is_some (fault_in h)
 unfoldable pub seen_in : List ℕ → List (List ℕ) → HostFiles → ℕ → Option Seen
 seen_in host libs h slot = seen_by_reading host libs h slot (reading_in h slot)
 
--- a record requests the unit that takes a slot
-abbrev pub is_by_record : Requester → Bool
-is_by_record by.Slot = false
-is_by_record (by.Record place) = true
-
-unfoldable pub takes_slot : HostFiles → ℕ → Bool
-takes_slot h slot = option_map_or (λ r. is_by_record r.requester) (request_in h slot) false
-
--- how many of these slots are taken so
-abbrev pub taken_of : HostFiles → List ℕ → ℕ
-taken_of h [] = 0
-taken_of h (slot ∷ ss) = (if takes_slot h slot then 1 else 0) + taken_of h ss
-
 -- what is seen of a unit that is requested and for which no slot is left
 abbrev pub seen_unit : HostFiles → UnitReference → Option Seen
 seen_unit h u = if is_of_host h u.name then None
@@ -214,7 +202,8 @@ seen_unit h u = if is_of_host h u.name then None
 
 -- what is seen of the unit of the first requested name for which no slot is left
 unfoldable pub unplaced : HostFiles → Option Seen
-unplaced h = option_and_then (seen_unit h) (slice_get (requests_in h) (taken_of h slots))
+unplaced h = option_and_then (seen_unit h)
+    (slice_get (requests_in h) (length (empty_slots h.order h.file)))
 
 -- what is seen of all of them, by slot
 unfoldable pub seen_of : List ℕ → List (List ℕ) → HostFiles → List Seen

@@ -1,5 +1,5 @@
 //! The segments of a link as the files have them, also where they are refused.
-ghost use Rattle.std.specs.Prelude.{◌≡◌, ◌<◌, ◌^◌, ◌++◌, ◌∷◌, [], Err, IfOk, Ok, OnOk, Some, filter_map, map, option_and_then, slice_get};
+ghost use Rattle.std.specs.Prelude.{◌≡◌, ◌<◌, ◌^◌, ◌++◌, ◌∷◌, [], Err, IfOk, Ok, OnOk, Some, filter_map, map};
 ghost use Rattle.std.specs.List.{cons_option, find};
 ghost use Rattle.std.specs.Option.{option_map};
 ghost use Rattle.ps_codefile.specs.Dictionary.{opened_beside, slots};
@@ -10,7 +10,7 @@ ghost use Rattle.ps_segments.specs.declared.segments.Absent.TheVariants.{NotLook
 ghost use Rattle.ps_segments.specs.Paths.{host_order};
 ghost use Rattle.ps_segments.specs.SegmentParts.{absence_words, added_by, is_added as is_added_spec, is_unit as is_unit_spec, name_in as name_in_spec, part_added as part_added_spec, part_as, part_words, requester_of as requester_of_spec};
 ghost use Rattle.ps_segments.specs.Seen.{is_host_part, part_needs_linking, seen};
-ghost use Rattle.ps_segments.specs.SeenSegments.{is_fault, is_for_unit as is_for_unit_spec, is_of_host as is_of_host_spec, is_refused_unit as is_refused_unit_spec, name_of_slot as name_of_slot_spec, origin_at, origin_in, origin_of, entry_in, part_by, part_in as part_in_spec, part_of_role, reading_in, records_at as records_at_spec, request_in, requests_in, role_in, seen_as, seen_by, seen_in, seen_of, seen_read, seen_segment, seen_unit, seen_unread, seen_with, taken_of, takes_slot as takes_slot_spec};
+ghost use Rattle.ps_segments.specs.SeenSegments.{is_fault, is_for_unit as is_for_unit_spec, is_of_host as is_of_host_spec, is_refused_unit as is_refused_unit_spec, name_of_slot as name_of_slot_spec, origin_at, origin_in, origin_of, entry_in, part_by, part_in as part_in_spec, part_of_role, reading_in, records_at as records_at_spec, role_in, seen_as, seen_by, seen_in, seen_of, seen_read, seen_segment, seen_unit, seen_unread, seen_with, unplaced};
 
 use crate::named_files::NamedFiles;
 use ps_codefile::dictionary_layout::SLOTS;
@@ -265,7 +265,8 @@ fn read_segment<'a>(host: &HostReading<'a>, segment: &Segment<'a>) -> ReadSegmen
 fn segment_read<'a>(host: &HostReading<'a>, segment: &Segment<'a>) -> Option<ReadSegment<'a>>
     ensures { option_map seen result ≡ seen_read host.now segment.now }
 {
-    if segment.added() && is_of_host(host, &segment.name()) {
+    let name = segment.name();
+    if segment.added() && is_of_host(host, &name) {
         return None;
     }
     Some(read_segment(host, segment))
@@ -456,21 +457,6 @@ fn part_in(host: &HostReading<'_>, slot: u8) -> Option<SegmentPart>
     }
 }
 
-/// A record requests the unit that takes the slot.
-#[tactic(auto, unfolding(crate::specs::SeenSegments::takes_slot))]
-fn takes_slot(host: &HostReading<'_>, slot: u8) -> bool
-    requires { slot < SLOTS }
-    ensures { result ≡ takes_slot_spec host.now slot }
-{
-    match host.request(slot) {
-        None => false,
-        Some(request) => match request.requester {
-            Requester::Slot => false,
-            Requester::Record(_) => true,
-        },
-    }
-}
-
 /// The segment of a slot, which is this and is refused.
 fn refused_as<'a>(
     inputs: &NamedFiles<'a>,
@@ -552,14 +538,14 @@ fn segment_of<'a>(host: &HostReading<'a>, unit: &UnitReference) -> Option<ReadSe
     Some(without_entry(None, unit.name, part, Absent::NoSlot))
 }
 
-/// The unit that is requested and for which no slot is left, after so many that take one.
-fn unit_without_slot<'a>(host: &HostReading<'a>, added: usize) -> Option<ReadSegment<'a>>
-    ensures { option_map seen result ≡ option_and_then (seen_unit host.now)
-        (slice_get (requests_in host.now) added) }
+/// The first unit that is requested and for which no slot is left.
+#[tactic(auto, unfolding(crate::specs::SeenSegments::unplaced))]
+fn unit_without_slot<'a>(host: &HostReading<'a>) -> Option<ReadSegment<'a>>
+    ensures { option_map seen result ≡ unplaced host.now }
 {
-    match host.requested().get(added) {
+    match host.unplaced() {
         None => None,
-        Some(unit) => segment_of(host, unit),
+        Some(unit) => segment_of(host, &unit),
     }
 }
 
@@ -614,21 +600,9 @@ fn segments_in<'a, A: Allocator + Copy>(
         (contents inputs.now.libs.now) host.now) }
 {
     let mut list = segments_in_slots(alloc, inputs, host)?;
-    let taken = slots_taken(host);
-    let unit = unit_without_slot(host, taken);
+    let unit = unit_without_slot(host);
     add_segment(&mut list, unit)?;
     Ok(list)
-}
-
-/// How many slots units take that records request.
-fn slots_taken(host: &HostReading<'_>) -> usize
-    ensures { result ≡ taken_of host.now slots }
-{
-    let mut taken = 0usize;
-    for slot in 0..SLOTS {
-        taken = taken.saturating_add(usize::from(takes_slot(host, slot)));
-    }
-    taken
 }
 
 fn add_segment<'a, A: Allocator>(
