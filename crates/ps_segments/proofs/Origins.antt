@@ -1,12 +1,45 @@
 -- Where segments come from, and what is seen of them.
-use Rattle.std.proofs.Common.{◌≡◌, ◌∙◌, ◌+◌, ◌-◌, ◌<◌, ◌≤◌, ◌++◌, ◌∷◌, [], ℕ, suc, List, true, false, length, refl, sym, ap, arith}
-use Rattle.std.specs.Prelude.{Bool, Option, Some, None, Ok, filter_map, if◌then◌else◌}
+use Rattle.std.proofs.Common.{◌≡◌, ◌∙◌, ◌+◌, ◌-◌, ◌<◌, ◌≤◌, ◌++◌, ◌∷◌, [], ℕ, Bor, suc, List, true, false, length, refl, sym, ap, arith}
+use Rattle.std.specs.Prelude.{Bool, Option, Some, None, Result, Ok, Err, filter_map, if◌then◌else◌}
 use Rattle.std.specs.List.{cons_option, range_with_len}
-use Rattle.ps_codefile.specs.Dictionary.{OpenedFile, entry_at}
+use Rattle.std.specs.Result.{is_ok}
+use Rattle.ps_words.specs.declared.fault.Reason.{Reason}
+use Rattle.ps_codefile.specs.Dictionary.{IsViewOf, OpenedFile, entry_at}
 use Rattle.ps_linkinfo.specs.declared.record.LinkRecord.{LinkRecord as Record}
 use Rattle.ps_segments.specs.Seen.{Seen, part_needs_linking}
 use Rattle.ps_segments.specs.SeenSegments.{origin_in, records_at, seen_with}
+use Rattle.ps_segments.specs.declared.segments.Absent.{Absent}
 use Rattle.ps_segments.specs.declared.segments.SegmentPart.{SegmentPart}
+
+none_of : (b : Bool) → ◌≡◌ {A = List Record} (if b then [] else []) []
+none_of true = refl
+none_of false = refl
+
+-- what is seen of a segment that comes from no entry
+pub seen_none : (slot : Option ℕ) (name : List ℕ) (part : SegmentPart) (why : Absent)
+    (records : List Record) → records ≡ [] → ◌≡◌ {A = Seen} (record {
+      slot = slot;
+      name = name;
+      part = part;
+      origin = Err why;
+      file = None;
+      records = records;
+    }) (seen_with slot name part (Err why))
+unfolding seen_with
+seen_none slot name part why records none = ap (λ (rs : List Record). record {
+  slot = slot;
+  name = name;
+  part = part;
+  origin = Err why;
+  file = None;
+  records = rs;
+}) (none ∙ sym (none_of (part_needs_linking part)))
+
+-- an entry has a code exactly if one was read there
+pub ok_is : (r : Result (Bor (List ℕ)) Reason) (answer : Result (List ℕ) Reason)
+    → IsViewOf (λ code. code.now) r answer → is_ok r ≡ is_ok answer
+ok_is (Ok code) answer is = sym (ap is_ok is)
+ok_is (Err why) answer is = sym (ap is_ok is)
 
 -- what is seen of a segment that comes from an entry of a file
 pub seen_there : (slot : ℕ) (name : List ℕ) (part : SegmentPart) (file index : ℕ)

@@ -1,5 +1,5 @@
 //! The segments of a link as the files have them, also where they are refused.
-ghost use Rattle.std.specs.Prelude.{◌≡◌, ◌<◌, ◌^◌, ◌++◌, ◌∷◌, [], Err, IfOk, Ok, OnOk, Some, filter_map, map};
+ghost use Rattle.std.specs.Prelude.{◌≡◌, ◌<◌, ◌^◌, ◌++◌, ◌∷◌, [], Err, IfOk, Ok, OnOk, Some, filter_map, if◌then◌else◌, map};
 ghost use Rattle.std.specs.List.{cons_option, find};
 ghost use Rattle.std.specs.Option.{option_map};
 ghost use Rattle.ps_codefile.specs.Dictionary.{opened_beside, slots};
@@ -292,6 +292,7 @@ fn without_entry<'a>(
 }
 
 /// The records of an entry that can be read, for a segment that is this.
+#[tactic(auto, using(crate::proofs::Origins::ok_is))]
 fn records_at<'a>(dict: &Dict<'a>, index: u8, part: SegmentPart) -> LinkInformation<'a>
     requires { index < SLOTS }
     ensures { result ≡ (if part_needs_linking part then records_at_spec index dict.now else []) }
