@@ -45,6 +45,19 @@ no_fault_of : (o : Option Segment) → is_fault (kept o) ≡ false
 no_fault_of None = refl
 no_fault_of (Some s) = refl
 
+not_first : (a b : Bool) → a ≡ false → (a && b) ≡ false
+not_first true b h = cc
+not_first false b h = refl
+
+none_pass : (p : ℕ → Bool) (xs : List ℕ) → All IsSlot xs
+    → ((x : ℕ) → x < SLOTS → p x ≡ false) → list_any p xs ≡ false
+none_pass p [] in_range h = refl
+none_pass p (x ∷ xs) in_range h = grind (
+  arith,
+  h x (All-head IsSlot x xs in_range),
+  none_pass p xs (All-tail IsSlot x xs in_range) h,
+)
+
 not_both : {X : Type 0} (b c : Bool) (x : X) → c ≡ false
     → (if b && c then None else Some x) ≡ Some x
 not_both true c x h = rw h refl
@@ -68,17 +81,13 @@ module _ (paths : List (List ℕ)) (host : List ℕ) (libs : List (List ℕ)) (v
       (kept (found slot)) (no_slot_fault v.order v.file v.libs none slot lt)
 
   -- no unit of the host is refused
-  none_refused : (name : List ℕ) (xs : List ℕ) → All IsSlot xs
-      → list_any (is_refused_unit v name) xs ≡ false
-  none_refused name [] in_range = refl
-  none_refused name (x ∷ xs) in_range =
-      let first : is_fault (reading_in v x) ≡ false =
-      ap is_fault (reading_is x (All-head IsSlot x xs in_range)) ∙ no_fault_of (found x) in
-      rw first (none_refused name xs (All-tail IsSlot x xs in_range))
+  not_refused : (name : List ℕ) (slot : ℕ) → slot < SLOTS → is_refused_unit v name slot ≡ false
+  not_refused name slot lt = not_first (is_fault (reading_in v slot)) _
+      (ap is_fault (reading_is slot lt) ∙ no_fault_of (found slot))
 
   not_of_host : (name : List ℕ) → is_of_host v name ≡ false
   unfolding is_of_host
-  not_of_host name = none_refused name slots all_slots
+  not_of_host name = none_pass (is_refused_unit v name) slots all_slots (not_refused name)
 
   seen_kept : (slot : ℕ) (o : Option Segment)
       → seen_by_reading host libs v slot (kept o) ≡ option_map (seen_segment v) o
