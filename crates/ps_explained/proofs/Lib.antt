@@ -3,4 +3,5 @@ pub mod OneLine
 pub mod SlotLines
 pub mod LineOfSegment
 pub mod LinesOfSegments
+pub mod ReadLines
 pub mod FileLines

@@ -4,8 +4,10 @@ use Rattle.std.specs.Prelude.{Option, Some, None, decimal}
 use Rattle.std.specs.Str.{IsUtf8}
 use Rattle.ps_filetype.specs.Shown.{shown_name, shown_path}
 use Rattle.ps_explained.specs.SlotLines.{AddsSlotLines, one_line}
-use Rattle.ps_segments.specs.SegmentParts.{part_words}
-use Rattle.ps_explained.specs.SegmentLines.{absence_words, from_words, head_words, line_in_slot, slot_words, two_digits}
+use Rattle.ps_segments.specs.SegmentParts.{absence_words, part_words}
+use Rattle.ps_explained.specs.SegmentLines.{from_words, head_words, line_in_slot, slot_words, two_digits}
+use Rattle.ps_segments.specs.declared.segments.Absent.{Absent}
+use Rattle.ps_segments.specs.declared.segments.Absent.TheVariants as absent
 use Rattle.ps_segments.specs.declared.segments.SegmentPart.{SegmentPart}
 use Rattle.ps_segments.specs.declared.segments.SegmentPart.TheVariants as part
 use Rattle.ps_explained.proofs.OneLine.{above, and_both, one_append, one_digits, one_name, one_path}
@@ -61,16 +63,16 @@ one_segment slot name what path index size text =
     one_append (head_words slot name what) (from_words path index size) (one_head slot name what)
     (one_from path index size text)
 
-one_why : (missing : Bool) (slot : Option ℕ) → one_line (absence_words missing slot) ≡ true
-one_why true slot = refl
-one_why false None = refl
-one_why false (Some n) = refl
+one_why : (why : Absent) → one_line (absence_words why) ≡ true
+one_why absent.Missing = refl
+one_why absent.NoSlot = refl
+one_why absent.NotLookedFor = refl
 
-pub one_absent : (slot : Option ℕ) (name : List ℕ) (what : SegmentPart) (missing : Bool)
-    → one_line (head_words slot name what ++ absence_words missing slot) ≡ true
-one_absent slot name what missing =
-    one_append (head_words slot name what) (absence_words missing slot) (one_head slot name what)
-    (one_why missing slot)
+pub one_absent : (slot : Option ℕ) (name : List ℕ) (what : SegmentPart) (why : Absent)
+    → one_line (head_words slot name what ++ absence_words why) ≡ true
+one_absent slot name what why =
+    one_append (head_words slot name what) (absence_words why) (one_head slot name what)
+    (one_why why)
 
 -- a line that begins with a slot is one of those lines, and one that begins with `no slot` is none
 pub adds_in_slot : (slot : Option ℕ) (name : List ℕ) (what : SegmentPart)

@@ -1,52 +1,21 @@
 -- What a report says of each segment of a link: its slot and its name, what it is, and where its
 -- code comes from.
-use Rattle.std.specs.Prelude.{ℕ, ◌+◌, ◌/◌, ◌%◌, ◌==◌, if◌then◌else◌, Bool, true, false, List, [], ◌∷◌, ◌++◌, Option, Some, None, Result, Ok, Err, is_some, length, map, codes, decimal}
-use Rattle.std.specs.List.{find, flat_map}
-use Rattle.std.specs.Option.{option_map_or}
-use Rattle.std.specs.Str.{bytes_eq}
-use Rattle.ps_words.specs.declared.fault.Reason.{Reason}
-use Rattle.ps_words.specs.declared.fault.Reason.TheVariants as reason
-use Rattle.ps_codefile.specs.declared.entry.Role.{Role}
-use Rattle.ps_codefile.specs.declared.entry.Role.TheVariants as role
+use Rattle.std.specs.Prelude.{ℕ, ◌+◌, ◌/◌, ◌%◌, if◌then◌else◌, List, [], ◌∷◌, ◌++◌, Option, Some, None, Result, Ok, Err, is_some, length, map, codes, decimal}
+use Rattle.std.specs.List.{flat_map}
 use Rattle.ps_resolve.specs.Sources.{Segment, opened_files, order_of}
 use Rattle.ps_resolve.specs.Added.{segments}
 use Rattle.ps_resolve.specs.Readings.{read_requests}
 use Rattle.ps_reading.specs.declared.reading.added.UnitReference.{UnitReference}
 use Rattle.ps_filetype.specs.Shown.{shown_name, shown_path}
-use Rattle.ps_segments.specs.SegmentParts.{part_words}
+use Rattle.ps_segments.specs.SegmentParts.{absence_words, part_as, part_words}
 use Rattle.ps_segments.specs.Paths.{path_of}
 use Rattle.ps_segments.specs.Seen.{Origin, Seen}
+use Rattle.ps_segments.specs.declared.segments.Absent.{Absent}
 use Rattle.ps_segments.specs.declared.segments.SegmentPart.{SegmentPart}
-use Rattle.ps_segments.specs.declared.segments.SegmentPart.TheVariants as part
 
 -- the number of a slot or an entry, of two digits
 abbrev pub two_digits : ℕ → List ℕ
 two_digits n = (48 + n / 10) ∷ (48 + n % 10) ∷ []
-
--- the first segment in this slot has this name; a blank one, where there is none
-abbrev pub name_in : List Segment → ℕ → List ℕ
-name_in segs slot = option_map_or (λ s. s.name) (find (λ s. s.slot == slot) segs)
-    (codes "        ")
-
--- a unit that is added for this record, the first that requests its name
-abbrev pub part_added : List Segment → Option UnitReference → SegmentPart
-part_added segs None = part.Wanted
-part_added segs (Some requester) =
-    part.Added (name_in segs requester.at.segment.slot) requester.at.rec
-
--- the first record that requests a unit of this name, among those of all names that are requested
-abbrev pub requester_of : List UnitReference → List ℕ → Option UnitReference
-requester_of requests name = find (λ g. bytes_eq g.name name) requests
-
--- what a segment of this role is, among all segments; one that was added is a unit that the first
--- record requests which has its name
-abbrev pub part_as : List Segment → List UnitReference → Segment → Role → SegmentPart
-part_as segs requests s role.Plain = part.Plain
-part_as segs requests s role.Host = part.Host
-part_as segs requests s role.Unit = part.Unit
-part_as segs requests s role.Empty = part.Wanted
-part_as segs requests s role.Wanted = if s.added then part_added segs (requester_of requests s.name)
-    else part.Wanted
 
 -- `slot 08 UTIL: a unit that record 0 of MAIN requests`, or `no slot UTIL: ..`
 abbrev pub slot_words : Option ℕ → List ℕ
@@ -82,30 +51,14 @@ segment_lines paths host libs =
     lines_of_segments paths (segments order host libs)
     (read_requests order host (opened_files order libs))
 
--- no library has the unit
-abbrev pub is_missing : Reason → Bool
-is_missing reason.MissingUnit = true
-is_missing why = false
-
--- so of a segment that has a code, or none for a reason
-abbrev pub is_missing_code : {A : Type 0} → Result A Reason → Bool
-is_missing_code (Ok code) = false
-is_missing_code (Err why) = is_missing why
-
--- why a segment comes from no file: no library has it, it has no slot, or it was not looked for
-abbrev pub absence_words : Bool → Option ℕ → List ℕ
-absence_words true slot = codes ", which no library has"
-absence_words false None = codes ", for which no slot is left"
-absence_words false (Some n) = codes ", not looked for after the fault"
-
 -- where a segment comes from, or why from nowhere
-abbrev pub origin_words : List (List ℕ) → Option ℕ → Result Origin Reason → List ℕ
-origin_words paths slot (Ok o) = from_words (path_of paths o.file) o.index o.size
-origin_words paths slot (Err why) = absence_words (is_missing why) slot
+abbrev pub origin_words : List (List ℕ) → Result Origin Absent → List ℕ
+origin_words paths (Ok o) = from_words (path_of paths o.file) o.index o.size
+origin_words paths (Err why) = absence_words why
 
 -- the line of a segment as it was read, also where it is refused
 abbrev pub read_line : List (List ℕ) → Seen → List ℕ
-read_line paths s = head_words s.slot s.name s.part ++ origin_words paths s.slot s.origin
+read_line paths s = head_words s.slot s.name s.part ++ origin_words paths s.origin
 
 -- of one that has a slot
 abbrev pub line_in_slot : Option ℕ → List ℕ → List (List ℕ)

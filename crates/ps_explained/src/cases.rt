@@ -1,11 +1,13 @@
 //! A fault, and what the files say of it.
+ghost use Rattle.std.specs.Prelude.{◌<◌, IfSome};
+
 use ps_codefile::code_layout::NUMBERS;
 use ps_codefile::dictionary_layout::SLOTS;
 use ps_codefile::{Dict, Entry, ProcedureDictionary, ProcedureFault, Role};
 use ps_filetype::{CodeFile, FileType, ShownName};
 use ps_linkinfo::{LinkInformation, LinkRecord, Operand};
 use ps_resolve::{Reading, words_before};
-use ps_segments::{NamedFiles, ReadSegment, SegmentPart, in_slot};
+use ps_segments::{NamedFiles, ReadSegment, SegmentPart, Source, in_slot};
 use ps_words::{Fault, Name, Reason};
 
 /// A fault, and what of the files it is about.
@@ -17,7 +19,7 @@ pub struct Case<'c, 'a> {
     pub list: &'c [ReadSegment<'a>],
     pub fault: Fault,
     /// The segment of its slot.
-    pub segment: Option<ReadSegment<'a>>,
+    pub segment: Option<&'c ReadSegment<'a>>,
     /// The words of the private variables before the record of the fault; of all if it has none.
     pub(crate) words: u64,
 }
@@ -57,6 +59,31 @@ impl<'c, 'a> Case<'c, 'a> {
         }
     }
 
+    /// The dictionary that has its segment, and the entry there.
+    fn place(&self) -> Option<(Dict<'a>, u8)>
+        ensures { IfSome result (λ p. p.1 < SLOTS) }
+    {
+        let at = self.source()?.at;
+        if at.index >= SLOTS {
+            return None;
+        }
+        Some((self.inputs.dict(at.file)?, at.index))
+    }
+
+    /// What the dictionary of its file says of its segment.
+    /// Source: UCSD Pascal II.0 manual, code file format.
+    pub(crate) fn found(&self) -> Option<Entry> {
+        let (dict, index) = self.place()?;
+        Some(dict.entry(index))
+    }
+
+    /// The bytes of its file after the code of its segment.
+    /// Source: UCSD Pascal II.0 manual, code file format.
+    pub(crate) fn after(&self) -> Option<&'a [u8]> {
+        let (dict, index) = self.place()?;
+        Some(dict.after(index))
+    }
+
     /// The name of the segment of its slot.
     pub fn name(&self) -> Option<Name> {
         match self.segment {
@@ -77,8 +104,16 @@ impl<'c, 'a> Case<'c, 'a> {
     /// The records of its segment, up to the first that cannot be read.
     pub(crate) fn records(&self) -> LinkInformation<'a> {
         match self.segment {
-            Some(segment) => segment.records(),
+            Some(segment) => segment.records.copy(),
             None => LinkInformation::none(),
+        }
+    }
+
+    /// Where its segment comes from.
+    pub(crate) fn source(&self) -> Option<Source<'a>> {
+        match self.segment {
+            Some(segment) => segment.source.ok(),
+            None => None,
         }
     }
 
@@ -114,8 +149,8 @@ impl<'c, 'a> Case<'c, 'a> {
     /// The code of its segment, as far as it can be read.
     /// Source: UCSD Pascal II.0 manual, code file format.
     pub fn code(&self) -> &'a [u8] {
-        match self.segment {
-            Some(segment) => segment.code.unwrap_or(&[]),
+        match self.source() {
+            Some(source) => source.code.unwrap_or(&[]),
             None => &[],
         }
     }
@@ -148,12 +183,12 @@ impl<'c, 'a> Case<'c, 'a> {
     /// The first thing that is wrong with the procedures of the code.
     /// Source: UCSD Pascal II.0 manual, code file format.
     pub fn procedure_fault(&self) -> Option<ProcedureFault> {
-        let segment = self.segment?;
-        let code = segment.code.ok()?;
+        let source = self.source()?;
+        let code = source.code.ok()?;
         if code.len() < NUMBERS {
             return None;
         }
-        let is_host = matches!(segment.part, SegmentPart::Host);
-        ProcedureDictionary::read_or_fault(segment.order, code, is_host).err()
+        let is_host = matches!(self.segment?.part, SegmentPart::Host);
+        ProcedureDictionary::read_or_fault(source.order, code, is_host).err()
     }
 }

@@ -1,22 +1,19 @@
 //! The files, and the segments with where each comes from.
-ghost use Rattle.std.specs.Prelude.{◌≡◌, ◌∷◌, ◌++◌, [], IfOk, None, OnOk, Some, length, map, string_bytes};
-ghost use Rattle.ps_resolve.specs.AllFaults.{reading_fault};
+ghost use Rattle.std.specs.Prelude.{◌≡◌, ◌∷◌, ◌++◌, [], IfOk, OnOk, map, string_bytes};
 ghost use Rattle.ps_resolve.specs.Sources.{contents};
-ghost use Rattle.ps_words.specs.declared.fault.Fault.{Fault};
-ghost use Rattle.ps_segments.specs.Paths.{path_of};
 ghost use Rattle.ps_segments.specs.Seen.{seen};
+ghost use Rattle.ps_segments.specs.SegmentParts.{absence_words};
 ghost use Rattle.ps_explained.specs.FileLines.{AreFileLines};
-ghost use Rattle.ps_explained.specs.SegmentLines.{absence_words, from_words, head_words, is_missing as is_missing_spec, is_missing_code, line_in_slot, lines_of_segments, name_in as name_in_spec, part_added as part_added_spec, part_as, read_line, read_lines, requester_of as requester_of_spec, segment_lines, slot_words, two_digits};
+ghost use Rattle.ps_explained.specs.SegmentLines.{from_words, head_words, line_in_slot, read_line, read_lines, slot_words, two_digits};
 ghost use Rattle.ps_explained.specs.SlotLines.{AddsSlotLines, slot_lines};
 
 use crate::file_lines::file_lines;
 use crate::slot_lines::add_other_lines;
-use ps_codefile::Role;
 use ps_codefile::dictionary_layout::SLOTS;
 use ps_filetype::{ShownName, ShownPath};
-use ps_resolve::{HostReading, Reading, Segment as LinkedSegment, UnitReference};
-use ps_segments::{NamedFiles, ReadSegment, SegmentPart, in_slot};
-use ps_words::{Name, Reason};
+use ps_resolve::{HostReading, Reading};
+use ps_segments::{Absent, NamedFiles, ReadSegment, SegmentPart, in_slot};
+use ps_words::Name;
 use std::alloc::{AllocError, Allocator};
 use std::fmt::{self, Formatter, Write as _};
 
@@ -105,9 +102,8 @@ pub struct Overview<A: Allocator> {
 /// the first of them; the slots without a segment; and the first library from which nothing is taken.
 ///
 /// `reading` is what was read of the files of `inputs`, and `list` what `ps_segments::segments_of`
-/// gives for them. The lines that begin with `slot ` are those of the segments: where the files were
-/// read without a fault, of the link; and else as they were read. Returns an error where memory was
-/// refused.
+/// gives for it. The lines that begin with `slot ` are those of the segments of the list. Returns an
+/// error where memory was refused.
 pub fn overview_of<A: Allocator + Copy>(
     alloc: A,
     inputs: &NamedFiles<'_>,
@@ -118,13 +114,7 @@ pub fn overview_of<A: Allocator + Copy>(
         (inputs.now.host_path.now ∷ contents inputs.now.paths.now) 0
         (inputs.now.host.now ∷ contents inputs.now.libs.now) (string_bytes made.files)) }
     ensures silent { IfOk result (λ made. AddsSlotLines [] [] (string_bytes made.files)) }
-    ensures linked { IfOk result (λ made. reading_fault reading.now.host reading.now.libs ≡ None
-        → slot_lines (string_bytes made.segments) ≡ segment_lines
-        (inputs.now.host_path.now ∷ contents inputs.now.paths.now)
-        reading.now.host reading.now.libs) }
-    ensures read { IfOk result (λ made. (fault : Fault)
-        → reading_fault reading.now.host reading.now.libs ≡ Some fault
-        → slot_lines (string_bytes made.segments) ≡ read_lines
+    ensures read { IfOk result (λ made. slot_lines (string_bytes made.segments) ≡ read_lines
         (inputs.now.host_path.now ∷ contents inputs.now.paths.now) (map seen list.now)) }
 {
     let files = file_lines(alloc, inputs)?;
@@ -133,9 +123,8 @@ pub fn overview_of<A: Allocator + Copy>(
     Ok(Overview { files, segments })
 }
 
-/// Adds what each slot of the host is for, and what libraries have that is not used. Where the files
-/// were read without a fault, each segment of the link has its line, and else each as it was read;
-/// no other line begins as those do.
+/// Adds what each slot of the host is for, and what libraries have that is not used: each segment has
+/// its line, and no other line begins as those do.
 fn add_segments<A: Allocator + Copy>(
     alloc: A,
     text: &mut String<A>,
@@ -143,87 +132,13 @@ fn add_segments<A: Allocator + Copy>(
     reading: &Reading<'_>,
     list: &[ReadSegment<'_>],
 ) -> Result<(), AllocError>
-    ensures linked { reading_fault reading.now.host reading.now.libs ≡ None
-        → OnOk result (AddsSlotLines (string_bytes text.old)
-        (segment_lines (inputs.now.host_path.now ∷ contents inputs.now.paths.now)
-        reading.now.host reading.now.libs) (string_bytes text.new)) }
-    ensures read { (fault : Fault) → reading_fault reading.now.host reading.now.libs ≡ Some fault
-        → OnOk result (AddsSlotLines (string_bytes text.old)
+    ensures { OnOk result (AddsSlotLines (string_bytes text.old)
         (read_lines (inputs.now.host_path.now ∷ contents inputs.now.paths.now) (map seen list.now))
         (string_bytes text.new)) }
 {
-    add_each(alloc, text, inputs, reading, list)?;
+    add_each(alloc, text, inputs, list)?;
     let lines = lines_after(alloc, inputs, reading, list)?;
     add_other_lines(text, lines.as_str())
-}
-
-/// Adds the line of each segment.
-fn add_each<A: Allocator + Copy>(
-    alloc: A,
-    text: &mut String<A>,
-    inputs: &NamedFiles<'_>,
-    reading: &Reading<'_>,
-    list: &[ReadSegment<'_>],
-) -> Result<(), AllocError>
-    ensures linked { reading_fault reading.now.host reading.now.libs ≡ None
-        → OnOk result (AddsSlotLines (string_bytes text.old)
-        (segment_lines (inputs.now.host_path.now ∷ contents inputs.now.paths.now)
-        reading.now.host reading.now.libs) (string_bytes text.new)) }
-    ensures read { (fault : Fault) → reading_fault reading.now.host reading.now.libs ≡ Some fault
-        → OnOk result (AddsSlotLines (string_bytes text.old)
-        (read_lines (inputs.now.host_path.now ∷ contents inputs.now.paths.now) (map seen list.now))
-        (string_bytes text.new)) }
-{
-    if reading.fault().is_some() {
-        return add_read(alloc, text, inputs, list);
-    }
-    match reading.host() {
-        Err(_) => add_read(alloc, text, inputs, list),
-        Ok(host) => add_linked(alloc, text, inputs, reading.segments(), host.requested()),
-    }
-}
-
-/// Adds the line of each segment of a link.
-fn add_linked<A: Allocator + Copy>(
-    alloc: A,
-    text: &mut String<A>,
-    inputs: &NamedFiles<'_>,
-    segments: &[LinkedSegment<'_>],
-    requests: &[UnitReference],
-) -> Result<(), AllocError>
-    ensures { OnOk result (AddsSlotLines (string_bytes text.old)
-        (lines_of_segments (inputs.now.host_path.now ∷ contents inputs.now.paths.now)
-        segments.now requests.now) (string_bytes text.new)) }
-{
-    for segment in segments {
-        let part = part_of(segments, requests, segment);
-        add_linked_segment(text, inputs, segment, part)?;
-        let later = later_line(alloc, inputs, segment.name(), segment.file())?;
-        add_other_lines(text, later.as_str())?;
-    }
-    Ok(())
-}
-
-/// Adds the line of a segment of a link that is this.
-fn add_linked_segment<A: Allocator>(
-    text: &mut String<A>,
-    inputs: &NamedFiles<'_>,
-    segment: &LinkedSegment<'_>,
-    part: SegmentPart,
-) -> Result<(), AllocError>
-    ensures { OnOk result (AddsSlotLines (string_bytes text.old)
-        ((head_words (Some segment.now.slot) segment.now.name part
-        ++ from_words (path_of (inputs.now.host_path.now ∷ contents inputs.now.paths.now)
-        segment.now.file) segment.now.index (length segment.now.code)) ∷ [])
-        (string_bytes text.new)) }
-{
-    let head = Head {
-        slot: Some(segment.slot()),
-        name: segment.name(),
-        part,
-    };
-    let path = inputs.path(segment.file());
-    add_line(text, head, path, segment.index(), segment.code().len())
 }
 
 /// Adds the line of a segment that comes from an entry of a file.
@@ -255,63 +170,8 @@ fn push_line<A: Allocator>(
     writeln!(text, "{head}{origin}")
 }
 
-/// The name of the segment of a slot.
-fn name_in(segments: &[LinkedSegment<'_>], slot: u8) -> Name
-    ensures { result ≡ name_in_spec segments.now slot }
-{
-    for segment in segments {
-        if segment.slot() == slot {
-            return segment.name();
-        }
-    }
-    *b"        "
-}
-
-/// The first record that requests a unit of this name.
-fn requester_of(requests: &[UnitReference], name: Name) -> Option<UnitReference>
-    ensures { result ≡ requester_of_spec requests.now name }
-{
-    for request in requests {
-        if request.name == name {
-            return Some(*request);
-        }
-    }
-    None
-}
-
-/// What a unit is that is added for this record.
-fn part_added(segments: &[LinkedSegment<'_>], requester: Option<UnitReference>) -> SegmentPart
-    ensures { result ≡ part_added_spec segments.now requester }
-{
-    match requester {
-        None => SegmentPart::Wanted,
-        Some(requester) => SegmentPart::Added {
-            requester: name_in(segments, requester.at.segment.slot),
-            rec: requester.at.rec,
-        },
-    }
-}
-
-fn part_of(
-    segments: &[LinkedSegment<'_>],
-    requests: &[UnitReference],
-    segment: &LinkedSegment<'_>,
-) -> SegmentPart
-    ensures { result ≡ part_as segments.now requests.now segment.now segment.now.role }
-{
-    match segment.role() {
-        Role::Plain => SegmentPart::Plain,
-        Role::Host => SegmentPart::Host,
-        Role::Unit => SegmentPart::Unit,
-        Role::Wanted if segment.added() => {
-            part_added(segments, requester_of(requests, segment.name()))
-        }
-        Role::Empty | Role::Wanted => SegmentPart::Wanted,
-    }
-}
-
 /// Adds the line of each segment as it was read, also where it is refused.
-fn add_read<A: Allocator + Copy>(
+fn add_each<A: Allocator + Copy>(
     alloc: A,
     text: &mut String<A>,
     inputs: &NamedFiles<'_>,
@@ -345,12 +205,11 @@ fn add_segment<A: Allocator>(
         part: segment.part,
     };
     match segment.source {
-        Some((at, entry)) => {
-            let path = inputs.path(at.file);
-            let size = usize::from(entry.length);
-            add_line(text, head, path, at.index, size)
+        Ok(source) => {
+            let path = inputs.path(source.at.file);
+            add_line(text, head, path, source.at.index, source.length)
         }
-        None => add_absent(text, head, is_missing(segment.code)),
+        Err(absent) => add_absent(text, head, absent),
     }
 }
 
@@ -361,47 +220,8 @@ fn later_line_of<A: Allocator>(
     segment: &ReadSegment<'_>,
 ) -> Result<String<A>, AllocError> {
     match segment.source {
-        Some((at, _)) => later_line(alloc, inputs, segment.name, at.file),
-        None => Ok(String::new(alloc)),
-    }
-}
-
-/// No library has a segment with this code, or none for this reason.
-fn is_missing(code: Result<&[u8], Reason>) -> bool
-    ensures { result ≡ is_missing_code code.entry }
-{
-    match code {
-        Ok(_) => false,
-        Err(reason) => is_missing_unit(reason),
-    }
-}
-
-/// The reason is that no library has the unit.
-fn is_missing_unit(reason: Reason) -> bool
-    ensures { result ≡ is_missing_spec reason }
-{
-    match reason {
-        Reason::MissingUnit => true,
-        _ => false,
-    }
-}
-
-/// Why a segment comes from no file.
-#[derive(Clone, Copy)]
-struct Absent {
-    is_missing: bool,
-    slot: Option<u8>,
-}
-
-impl fmt::Display for Absent {
-    ghost output = { λ absent. Some (absence_words absent.is_missing absent.slot) };
-
-    fn fmt<W: fmt::Write>(&self, f: &mut Formatter<W>) -> fmt::Result {
-        match (self.is_missing, self.slot) {
-            (true, _) => f.write_str(", which no library has"),
-            (false, None) => f.write_str(", for which no slot is left"),
-            (false, Some(_)) => f.write_str(", not looked for after the fault"),
-        }
+        Ok(source) => later_line(alloc, inputs, segment.name, source.at.file),
+        Err(_) => Ok(String::new(alloc)),
     }
 }
 
@@ -409,14 +229,13 @@ impl fmt::Display for Absent {
 fn add_absent<A: Allocator>(
     text: &mut String<A>,
     head: Head,
-    is_missing: bool,
+    absent: Absent,
 ) -> Result<(), AllocError>
     ensures { OnOk result (AddsSlotLines (string_bytes text.old) (line_in_slot head.slot
-        (head_words head.slot head.name head.part ++ absence_words is_missing head.slot))
+        (head_words head.slot head.name head.part ++ absence_words absent))
         (string_bytes text.new)) }
 {
-    let slot = head.slot;
-    push_absent(text, head, Absent { is_missing, slot })
+    push_absent(text, head, absent)
 }
 
 /// Adds what a segment is and why it comes from no file, in a line.
@@ -427,7 +246,7 @@ fn push_absent<A: Allocator>(
 ) -> Result<(), AllocError>
     ensures { OnOk result (string_bytes text.new ≡ string_bytes text.old
         ++ (head_words head.slot head.name head.part
-        ++ (absence_words absent.is_missing absent.slot ++ 10 ∷ []))) }
+        ++ (absence_words absent ++ 10 ∷ []))) }
 {
     writeln!(text, "{head}{absent}")
 }
@@ -537,5 +356,5 @@ fn add_unused<A: Allocator>(
 
 /// Some segment comes from the file.
 fn is_used(list: &[ReadSegment<'_>], file: usize) -> bool {
-    list.iter().any(|segment| segment.source.is_some_and(|source| source.0.file == file))
+    list.iter().any(|segment| segment.source.is_ok_and(|source| source.at.file == file))
 }

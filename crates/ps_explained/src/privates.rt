@@ -8,7 +8,7 @@ impl Case<'_, '_> {
     /// The data size of the outer block of the host program, in bytes.
     /// Source: UCSD Pascal II.0 manual, code file format.
     pub fn data_size(&self) -> Option<u16> {
-        let host = host_of(self.list)?;
+        let host = host_of(self.list)?.source.ok()?;
         match host.code {
             Ok(code) => procedures_of(host.order, code)?.data_size(),
             Err(_) => None,
@@ -20,7 +20,7 @@ impl Case<'_, '_> {
     /// Source: the published II.0 Linker source.
     pub fn base_offset(&self) -> u64 {
         let next = match host_of(self.list) {
-            Some(host) => u64::from(host.records().next()),
+            Some(host) => u64::from(host.records.next()),
             None => 0,
         };
         next.saturating_add(self.words)

@@ -8,12 +8,9 @@ impl<'a> Case<'_, 'a> {
     /// The bytes of the file from the first record on that cannot be read, and their order.
     /// Source: the published II.0 Linker source.
     pub fn unread(&self) -> Option<(Order, &'a [u8])> {
-        let segment = self.segment?;
-        if segment.source.is_none() {
-            return None;
-        }
-        let used = length_of(&segment.records());
-        Some((segment.order, segment.after.get(used..).unwrap_or(&[])))
+        let order = self.source()?.order;
+        let used = length_of(&self.segment?.records);
+        Some((order, self.after()?.get(used..).unwrap_or(&[])))
     }
 
     /// The earlier record of the name, with its index.

@@ -28,7 +28,7 @@ impl<'a> Case<'_, 'a> {
     /// The first procedure, from 1, whose table has the first or the last byte of an operand.
     /// Source: UCSD Pascal II.0 manual, code file format.
     pub fn table_with(&self, operand: Operand) -> Option<usize> {
-        let procedures = procedures_of(self.segment?.order, self.code())?;
+        let procedures = procedures_of(self.source()?.order, self.code())?;
         let first = usize::from(operand.place);
         let last = (first + usize::from(operand.width)).saturating_sub(1);
         procedures.table_with(first).or(procedures.table_with(last))
@@ -67,7 +67,7 @@ impl<'a> Case<'_, 'a> {
     /// The value of the host's definition of the name.
     fn defined_value(&self, name: &Name) -> Option<u16> {
         let host = host_of(self.list)?;
-        match host.records().find(name, Sort::Variable) {
+        match host.records.find(name, Sort::Variable) {
             Some((_, record)) => match record.body {
                 Body::PublDef(value) => Some(value),
                 _ => None,

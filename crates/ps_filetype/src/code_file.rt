@@ -46,12 +46,13 @@ fn tells(dict: &Dict<'_>, slot: u8) -> bool
     dict.filled(slot) || wants_unit(dict, slot)
 }
 
-/// The entry says what its file is for, and is of this kind.
+/// The entry says what its file is for, and is of this kind, which is looked at first: most entries are
+/// of another.
 fn is_kind(dict: &Dict<'_>, kind: u16, slot: u8) -> bool
     requires { slot < SLOTS }
     ensures { result ≡ is_kind_spec kind dict.now.order dict.now.file slot }
 {
-    tells(dict, slot) && dict.entry(slot).kind == kind
+    dict.entry(slot).kind == kind && tells(dict, slot)
 }
 
 /// Some entry says what its file is for, and is of this kind.
@@ -67,7 +68,8 @@ fn is_other(dict: &Dict<'_>, slot: u8) -> bool
     requires { slot < SLOTS }
     ensures { result ≡ is_other_spec dict.now.order dict.now.file slot }
 {
-    tells(dict, slot) && !is_kind(dict, HOSTSEG, slot) && !is_kind(dict, LINKED, slot)
+    let kind = dict.entry(slot).kind;
+    kind != HOSTSEG && kind != LINKED && tells(dict, slot)
 }
 
 /// Some entry says what its file is for, and is of another kind than these.
@@ -82,16 +84,14 @@ fn has_other(dict: &Dict<'_>) -> bool
 fn purpose_of(dict: &Dict<'_>) -> Option<CodeFile>
     ensures { result ≡ purpose_of_spec dict.now.order dict.now.file }
 {
-    match (
-        has_kind(dict, HOSTSEG),
-        has_kind(dict, LINKED),
-        has_other(dict),
-    ) {
-        (true, _, _) => Some(CodeFile::Host),
-        (false, true, true) => Some(CodeFile::Mixed),
-        (false, true, false) => Some(CodeFile::Linked),
-        (false, false, true) => Some(CodeFile::Library),
-        (false, false, false) => None,
+    if has_kind(dict, HOSTSEG) {
+        return Some(CodeFile::Host);
+    }
+    match (has_kind(dict, LINKED), has_other(dict)) {
+        (true, true) => Some(CodeFile::Mixed),
+        (true, false) => Some(CodeFile::Linked),
+        (false, true) => Some(CodeFile::Library),
+        (false, false) => None,
     }
 }
 

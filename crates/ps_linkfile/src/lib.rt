@@ -19,7 +19,7 @@ mod writing;
 
 pub use block_layout::MAX_FILE_BLOCKS;
 pub use error::LinkError;
-pub use linked::{Linked, link, prepare};
+pub use linked::{Linked, link, prepare, prepare_reading};
 pub use linked_file_law::linked_file_is_one;
 pub use map::{LinkMap, map_text};
 pub use ps_writing::{Counting, ToldWriter, WriteFault};

@@ -19,7 +19,7 @@ use crate::map::add_map;
 use crate::summary::Summary;
 use crate::writing::write_file;
 use ps_laws::{bytes_are_linked, first_of_all};
-use ps_resolve::{Plan, resolve, slot_names_are_whole};
+use ps_resolve::{Plan, Reading, resolve, resolve_reading, slot_names_are_whole};
 use ps_writing::{ByWriter, Counts, Form, TextWriter, ToldWriter, WriteFault};
 use std::alloc::{Allocator, Global};
 use std::io::Write;
@@ -144,6 +144,37 @@ pub fn prepare<'a, A: Allocator + Copy>(
 {
     first_of_all();
     match resolve(alloc, host, libs) {
+        Err(stop) => Err(LinkError::from(stop)),
+        Ok(plan) => {
+            bytes_are_linked();
+            slot_names_are_whole();
+            Ok(Linked { plan })
+        }
+    }
+}
+
+/// Checks a host and the libraries of its units that were read, and prepares their linked file as
+/// [`prepare`] does. It reads them no second time, and nothing is written yet.
+///
+/// Refuses `Refused` with the first fault of all, and `Memory` where memory was refused, which is
+/// requested only where the files have no fault in reading.
+pub fn prepare_reading<'a, A: Allocator + Copy>(
+    alloc: A,
+    reading: &Reading<'a>,
+) -> Result<Linked<'a, A>, LinkError>
+    ensures linked { IfOk result (StandsFor reading.now.host reading.now.libs) }
+    ensures map { IfOk result (λ linked. map_in linked
+        ≡ map_of reading.now.host reading.now.libs) }
+    ensures json { IfOk result (λ linked. map_json_in linked
+        ≡ map_json_of reading.now.host reading.now.libs) }
+    ensures plan { IfOk result (IsPlan reading.now.host reading.now.libs) }
+    ensures accepted { IfOk result (λ _. NoneStands reading.now.host reading.now.libs) }
+    ensures error { IfErr result (IsUnprepared reading.now.host reading.now.libs) }
+    ensures first { IfErr result (NamesFirst reading.now.host reading.now.libs) }
+    ensures used { IfErr result HasUsedNumber }
+{
+    first_of_all();
+    match resolve_reading(alloc, reading) {
         Err(stop) => Err(LinkError::from(stop)),
         Ok(plan) => {
             bytes_are_linked();

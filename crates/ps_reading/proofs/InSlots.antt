@@ -1,8 +1,9 @@
 -- The segments of a link, put together slot by slot from the host's own and those that were added.
-use Rattle.ps_reading.proofs.Vocabulary.{◌≡◌, ◌≢◌, ℕ, zero, suc, ◌+◌, ◌<◌, ◌≤◌, List, false, if◌then◌else◌, Option, Some, None, refl, ap, arith, ne_eqb, eq-eqb, range_with_len, filter_map, find, option_or, Order, is_empty, is_role, SLOTS}
+use Rattle.ps_reading.proofs.Vocabulary.{◌≡◌, ◌≢◌, ◌∙◌, ℕ, zero, suc, ◌+◌, ◌<◌, ◌≤◌, List, Bool, true, false, if◌then◌else◌, Option, Some, None, refl, ap, arith, ne_eqb, eq-eqb, eqb-true, range_with_len, filter_map, find, option_or, slots, Order, is_empty, is_role, SLOTS}
 use Rattle.ps_reading.specs.Sources.{Segment, own_segment, own_segments}
 use Rattle.ps_reading.specs.Added.{added_segments, segments, segment_at}
 use Rattle.ps_reading.specs.KnownSegments.{is_in_slot, segment_in_slot, segments_in_slots}
+use Rattle.ps_reading.proofs.Items.{find_passes}
 use Rattle.ps_reading.proofs.ReadingKnown.{own_parts}
 
 -- each number's segment is in its slot
@@ -45,3 +46,28 @@ in_slots_are order host libs =
     else None))
     (found_there (own_segment order host libs)
     (λ j s e. (own_parts order host libs j s e).0) i SLOTS 0 (omega arith) h))
+
+-- each segment of a link is in its slot
+at_place : (order : Order) (host : List ℕ) (libs : List (List ℕ))
+    → InPlace (segment_at order host libs)
+at_place order host libs i s h = by (own_segment order host libs i) refl
+    (is_role is_empty order host i) refl
+  where
+    by : (o : Option Segment) → own_segment order host libs i ≡ o → (b : Bool)
+        → is_role is_empty order host i ≡ b → s.slot ≡ i
+    by (Some t) e b f = (own_parts order host libs i s (e ∙ rw e at h)).0
+    by None e true f =
+        let found : find (is_in_slot i) (added_segments order host libs) ≡ Some s =
+        rw (e, f) at h in
+        eqb-true s.slot i (find_passes (is_in_slot i) (added_segments order host libs) s found)
+    by None e false f = let none : None ≡ Some s = rw (e, f) at h in cc
+
+-- the segments of a link that are found by their slots are all
+pub by_slot : (order : Order) (host : List ℕ) (libs : List (List ℕ))
+    → filter_map (λ slot. find (is_in_slot slot) (segments order host libs)) slots
+    ≡ segments order host libs
+unfolding segments
+by_slot order host libs =
+    let f = segment_at order host libs in
+    same_kept (λ (i : ℕ). find (is_in_slot i) (filter_map f slots)) f SLOTS 0
+    (λ i low h. found_there f (at_place order host libs) i SLOTS 0 (omega arith) h)

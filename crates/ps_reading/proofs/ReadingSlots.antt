@@ -1,12 +1,13 @@
 -- What is read of the slots of a host, where reading has no fault: the segments of the link.
-use Rattle.ps_reading.proofs.Vocabulary.{arith, ◌≡◌, ℕ, List, [], ◌∷◌, ◌++◌, ◌≢◌, take, Option, Some, None, Result, Ok, Err, refl, ◌∙◌, filter_map, option_and_then, option_or, result_ok, Order, in_file, Fault, Reason, OpenedFile, entry_at, opened_alone, role_of, slots, first_of, reading_fault, Request, segments_in_slots, MAX_REQUESTED}
+use Rattle.ps_reading.proofs.Vocabulary.{arith, ◌≡◌, ◌<◌, ◌==◌, ℕ, Bool, false, if◌then◌else◌, List, [], ◌∷◌, ◌++◌, ◌≢◌, ap, take, Option, Some, None, Result, Ok, Err, refl, ◌∙◌, filter_map, option_and_then, option_map_or, option_or, result_ok, Order, in_file, Fault, Reason, OpenedFile, entry_at, opened_alone, role_of, slots, first_of, reading_fault, Request, segments_in_slots, MAX_REQUESTED, SLOTS}
 use Rattle.ps_reading.specs.Sources.{Segment, own_segment, own_segments, opened_files, order_of, units_of}
 use Rattle.ps_reading.specs.Faults.{slots_fault, no_host_fault, libraries_fault, source_fault, sources_fault}
 use Rattle.ps_reading.specs.Added.{RoundsOutcome, all_unit_references, empty_slots, requested_from, rounds, rounds_in, segments}
-use Rattle.ps_reading.specs.Readings.{HostFiles, all_read, host_reading_fault, own_reading_fault, opened_host, read_requests, read_rounds, read_segment, read_segments, queued_request, slot_after, slot_fault, slot_request, wanted_request}
+use Rattle.ps_reading.specs.Readings.{HostFiles, all_read, fault_of_added, host_reading_fault, own_reading_fault, opened_host, read_requests, read_rounds, read_segment, read_segments, queued_request, slot_after, slot_fault, slot_request, wanted_request}
 use Rattle.ps_reading.proofs.FirstSlots.{neither_first, neither_second}
 use Rattle.ps_reading.proofs.InSlots.{in_slots_are}
 use Rattle.ps_reading.proofs.ReadingHosts.{host_is, host_read, host_refused, rest_of}
+use Rattle.ps_reading.proofs.ReadingKnown.{none_at}
 use Rattle.ps_reading.proofs.ReadingLibraries.{all_opened}
 
 module _ (order : Order) (host : List ℕ) (libs : List (List ℕ)) where
@@ -72,6 +73,36 @@ module _ (order : Order) (host : List ℕ) (libs : List (List ℕ)) where
     arith,
     units_last (own_reading_fault order host libs) (read_rounds order host files).fault refl refl,
   )
+
+  none_added : (here : Bool) (fault : Option Fault) → fault ≡ None
+      → (if here then fault else None) ≡ None
+  none_added here fault h = grind arith
+
+  -- where reading has no fault, no slot has
+  pub no_slot_fault : host_reading_fault order host libs ≡ None → (slot : ℕ) → slot < SLOTS
+      → slot_fault order host files slot ≡ None
+  unfolding host_reading_fault sources_fault
+  no_slot_fault none slot lt =
+      let own : Option Fault = slots_fault order host in
+      let wanting : Option Fault = no_host_fault order host in
+      let others : Option Fault = libraries_fault order libs in
+      let sources : Option Fault = first_of (source_fault order host files) slots in
+      let rounds_here : RoundsOutcome = read_rounds order host files in
+      let last : Option Fault = rounds_here.fault in
+      let rest : option_or sources last ≡ None =
+      neither_second others (option_or sources last)
+      (neither_second wanting (option_or others (option_or sources last))
+      (neither_second own (option_or wanting (option_or others (option_or sources last)))
+      none)) in
+      let fine : source_fault order host files slot ≡ None =
+      none_at (source_fault order host files) 0 SLOTS slot (neither_first sources last rest)
+      (omega arith) (omega (arith, lt)) in
+      let left : Option ℕ = slot_after rounds_here (empty_slots order host) in
+      let none_more : fault_of_added rounds_here (empty_slots order host) slot ≡ None =
+      none_added (option_map_or (λ (next : ℕ). next == slot) left false) last
+      (neither_second sources last rest) in
+      ap (λ (o : Option Fault). option_or o
+      (fault_of_added rounds_here (empty_slots order host) slot)) fine ∙ none_more
 
   module _ (own : List Segment) (is : own ≡ read_segments order host files) where
     pub in_rounds : (empty : List ℕ) → empty ≡ empty_slots order host
@@ -141,22 +172,18 @@ module _ (order : Order) (host : List ℕ) (files : List (List ℕ)) (slot : ℕ
   abbrev added : RoundsOutcome
   added = read_rounds order host files
 
-  pub first_by : (fault : Fault) → source_fault order host files slot ≡ Some fault
-      → slot_fault order host files slot ≡ Some fault
-  first_by fault h = grind arith
+  -- the fault of the unit that would be added in a slot
+  pub next_by : (next : ℕ) → slot_after added (empty_slots order host) ≡ Some next
+      → next ≡ slot → fault_of_added added (empty_slots order host) slot ≡ added.fault
+  next_by next e same = grind arith
 
-  module _ (fine : source_fault order host files slot ≡ None) where
-    pub next_by : (next : ℕ) → slot_after added (empty_slots order host) ≡ Some next
-        → next ≡ slot → slot_fault order host files slot ≡ added.fault
-    next_by next e same = grind arith
+  pub other_by : (next : ℕ) → slot_after added (empty_slots order host) ≡ Some next
+      → next ≢ slot → fault_of_added added (empty_slots order host) slot ≡ None
+  other_by next e differs = grind arith
 
-    pub other_by : (next : ℕ) → slot_after added (empty_slots order host) ≡ Some next
-        → next ≢ slot → slot_fault order host files slot ≡ None
-    other_by next e differs = grind arith
-
-    pub none_by : slot_after added (empty_slots order host) ≡ None
-        → slot_fault order host files slot ≡ None
-    none_by e = grind arith
+  pub none_by : slot_after added (empty_slots order host) ≡ None
+      → fault_of_added added (empty_slots order host) slot ≡ None
+  none_by e = grind arith
 
   -- the request of a slot
   abbrev own : Option Request

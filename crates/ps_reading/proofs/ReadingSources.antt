@@ -1,5 +1,7 @@
 -- The segments of a link, slot by slot.
-use Rattle.ps_reading.proofs.Vocabulary.{◌≡◌, ℕ, ◌+◌, ◌-◌, ◌<◌, ◌≤◌, List, [], ◌∷◌, ◌++◌, append_assoc, length, length-append, Option, Some, None, Ok, ◌⊎◌, inl, inr, refl, arith, All, option_to_list, IfSome, range_with_len, filter_map, All-nil, All-cons, All-append, Order, Role, entry_at, role_of, own_segment, segment_from, source_fault, code_fault}
+use Rattle.ps_reading.proofs.Vocabulary.{◌≡◌, ◌∙◌, ℕ, ◌+◌, ◌-◌, ◌<◌, ◌≤◌, List, [], ◌∷◌, ◌++◌, append_assoc, length, length-append, map, if◌then◌else◌, Option, Some, None, Result, Ok, Err, ◌⊎◌, inl, inr, refl, sym, ap, arith, All, is_none, IfOk, option_and_then, option_or, option_to_list, result_err, result_ok, IfSome, range_with_len, filter_map, first_of, All-nil, All-cons, All-append, Fault, Order, Role, Segment, entry_at, role_of, own_segment, segment_from, source_fault, code_fault, slots}
+use Rattle.ps_reading.specs.Faults.{sources_fault}
+use Rattle.ps_reading.specs.Readings.{own_faults}
 use Rattle.ps_codefile.specs.declared.entry.Role.TheVariants as role
 use Rattle.ps_reading.proofs.FirstSlots.{range_more}
 
@@ -40,3 +42,37 @@ kept_on {X} h xs o i n lt is = grind (arith, range_more, append_assoc)
 pub few_more : {X : Type 0} (xs : List X) (o : Option X) (n : ℕ) → length xs ≤ n
     → length (xs ++ option_to_list o) ≤ n + 1
 few_more xs o n h = grind (arith, length-append)
+
+-- what is kept of what was read of a slot
+pub kept : (fault : Option Fault) (own : Option Segment) (read : Result (Option Segment) Fault)
+    → result_err read ≡ fault → IfOk read (λ s. s ≡ own)
+    → option_and_then (λ s. s) (result_ok read)
+    ≡ (elim fault [ None ↦ own | Some f ↦ None ])
+kept fault own (Err f) is h = rw (sym is) refl
+kept fault own (Ok None) is h = rw (sym is) h
+kept fault own (Ok (Some s)) is h = rw (sym is) h
+
+pub by_fault : (fault : Option Fault) (own : Option Segment)
+    → (elim fault [ None ↦ own | Some f ↦ None ]) ≡ (if is_none fault then own else None)
+by_fault None own = refl
+by_fault (Some f) own = refl
+
+pub kept_read : (P : Segment → Type 0) (read : Result (Option Segment) Fault)
+    → IfOk read (λ s. IfSome s P) → IfSome (option_and_then (λ s. s) (result_ok read)) P
+kept_read P (Err f) h = tt
+kept_read P (Ok None) h = tt
+kept_read P (Ok (Some s)) h = h
+
+-- the first fault of slots, from the list of their faults
+pub first_listed : (f : ℕ → Option Fault) (xs : List ℕ)
+    → first_of (λ (fault : Option Fault). fault) (map f xs) ≡ first_of f xs
+first_listed f [] = refl
+first_listed f (x ∷ xs) = ap (option_or (f x)) (first_listed f xs)
+
+pub first_of_slots : (order : Order) (host : List ℕ) (libs : List (List ℕ))
+    (faults : List (Option Fault)) → faults ≡ own_faults order host libs
+    → first_of (λ (fault : Option Fault). fault) faults ≡ sources_fault order host libs
+unfolding sources_fault own_faults
+first_of_slots order host libs faults is =
+    ap (first_of (λ (fault : Option Fault). fault)) is
+    ∙ first_listed (source_fault order host libs) slots

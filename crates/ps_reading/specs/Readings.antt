@@ -1,6 +1,6 @@
 -- What is read of each slot of a host, also after the first fault, and the names that are
 -- requested.
-use Rattle.std.specs.Prelude.{◌≡◌, ◌≤◌, ℕ, ◌==◌, ◌++◌, if◌then◌else◌, List, [], length, take, slice_get, All, false, Option, Some, None, Result, Ok, Err, is_none, option_and_then}
+use Rattle.std.specs.Prelude.{◌≡◌, ◌≤◌, ℕ, ◌==◌, ◌++◌, if◌then◌else◌, List, [], length, map, take, slice_get, All, false, Option, Some, None, Result, Ok, Err, is_none, option_and_then}
 use Rattle.std.specs.List.{enumerate_from, filter_map, find}
 use Rattle.std.specs.Option.{option_map, option_map_or, option_or}
 use Rattle.std.specs.Result.{result_ok}
@@ -27,6 +27,10 @@ read_segment order host libs slot = if is_none (source_fault order host libs slo
 -- the own segments of all slots whose source has no fault, by slot
 unfoldable pub read_segments : Order → List ℕ → List (List ℕ) → List Segment
 read_segments order host libs = filter_map (read_segment order host libs) slots
+
+-- the fault of the source of each slot, where it has one
+unfoldable pub own_faults : Order → List ℕ → List (List ℕ) → List (Option Fault)
+own_faults order host libs = map (source_fault order host libs) slots
 
 -- the rounds that add units to them
 unfoldable pub read_rounds : Order → List ℕ → List (List ℕ) → RoundsOutcome
@@ -148,12 +152,13 @@ pub record HostFiles : Type 0 where
 
 -- what was read of such files
 pub record IsReading (order : Order) (host : List ℕ) (libs : List (List ℕ)) (empty : List ℕ)
-    (segments : List Segment) (queue : List UnitReference) (next : Option ℕ)
-    (last : Option Fault) (fault : Option Fault) : Type 0 where
+    (segments : List Segment) (refused : List (Option Fault)) (queue : List UnitReference)
+    (next : Option ℕ) (last : Option Fault) (fault : Option Fault) : Type 0 where
   pub whole : 512 ≤ length host
   pub slots_left : empty ≡ empty_slots order host
   pub all : segments ≡ all_read order host (opened_files order libs)
   pub read : All (IsRead order host (opened_files order libs)) segments
+  pub faults : refused ≡ own_faults order host (opened_files order libs)
   pub requested : queue ≡ read_requests order host (opened_files order libs)
   pub following : next ≡ slot_after (read_rounds order host (opened_files order libs))
       (empty_slots order host)

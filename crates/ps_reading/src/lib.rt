@@ -10,6 +10,7 @@ mod slot_name_law;
 pub use fault_names::{fault_name, fault_name_in};
 pub use locations::{EntryAt, RecordAt, ReferenceAt, SegmentAt};
 pub use reading::added::{MAX_ADDED, MAX_REQUESTED, UnitReference};
+pub use reading::entries::read_linked;
 pub use reading::request::{Request, Requester};
 pub use reading::segment::{Resolvable, Segment};
 pub use reading::slots::{HOST_FILE, HostSlots};

@@ -4,8 +4,8 @@ ghost use Rattle.std.specs.Result.{result_ok};
 ghost use Rattle.ps_codefile.specs.Dictionary.{entry_at, role_of, opened_beside};
 ghost use Rattle.ps_reading.specs.Sources.{order_of, contents, opened, opened_files};
 ghost use Rattle.ps_reading.specs.Added.{request_of, empty_slots as empty_slots_spec, segments as all_segments, slot_name as slot_name_spec, slot_names as slot_names_spec};
-ghost use Rattle.ps_reading.specs.Faults.{slots_fault as slots_fault_spec, no_host_fault as no_host_fault_spec, libraries_fault as libraries_fault_spec};
-ghost use Rattle.ps_reading.specs.Readings.{reading_fault, all_read, host_reading_fault, opened_host, own_reading_fault, queued_request as queued_request_spec, read_requests, read_rounds, read_segments, segments_read, named_entry, slot_after, slot_entry, slot_fault, slot_reading, slot_request, wanted_request};
+ghost use Rattle.ps_reading.specs.Faults.{source_fault, slots_fault as slots_fault_spec, no_host_fault as no_host_fault_spec, libraries_fault as libraries_fault_spec};
+ghost use Rattle.ps_reading.specs.Readings.{reading_fault, all_read, fault_of_added, host_reading_fault, opened_host, own_reading_fault, queued_request as queued_request_spec, read_requests, read_rounds, read_segments, segments_read, named_entry, slot_after, slot_entry, slot_fault, slot_reading, slot_request, wanted_request};
 ghost use Rattle.ps_reading.specs.OfLink.{AreOfLink};
 ghost use Rattle.ps_reading.specs.KnownSegments.{IsRead, IsSound, is_in_slot};
 
@@ -21,13 +21,14 @@ pub(crate) mod units;
 
 use crate::locations::EntryAt;
 use crate::reading::added::{
-    MAX_ADDED, MAX_REQUESTED, UnitReference, add_units, empty_slots, requested_by, slot_at,
+    MAX_ADDED, MAX_REQUESTED, UnitReference, add_units, empty_slots, requested_at, requested_by,
+    slot_at,
 };
 use crate::reading::libraries::libraries_fault;
 use crate::reading::request::{Request, unit_named};
 use crate::reading::segment::Segment;
 use crate::reading::slots::{HOST_FILE, HostSlots, no_host_fault, slots_fault};
-use crate::reading::sources::{read_slot, read_slots};
+use crate::reading::sources::{first_fault, read_each_slot, read_slots};
 use crate::reading::unit_slots::UnitSlots;
 use arrayvec::ArrayVec;
 use ps_codefile::dictionary_layout::{SLOT_COUNT, SLOTS};
@@ -207,6 +208,8 @@ pub struct HostReading<'a> {
     empty: ArrayVec<u8, MAX_ADDED>,
     /// The segments that have no fault, by slot ascending.
     segments: ArrayVec<Segment<'a>, SLOT_COUNT>,
+    /// The fault of the source of each slot, for which it has no segment.
+    refused: [Option<Fault>; SLOT_COUNT],
     /// The names that are requested.
     queue: ArrayVec<UnitReference, MAX_REQUESTED>,
     /// The empty slot after those that were given.
@@ -225,7 +228,7 @@ impl<'a> Model for HostReading<'a> {
 
     ghost view = { λ r. record { order = r.slots.order; file = r.slots.file; libs = contents r.libs.now } };
 
-    ghost invariant = { λ r. IsReading r.slots.order r.slots.file (contents r.libs.now) r.empty.items r.segments.items r.queue.items r.next r.last r.fault };
+    ghost invariant = { λ r. IsReading r.slots.order r.slots.file (contents r.libs.now) r.empty.items r.segments.items r.refused r.queue.items r.next r.last r.fault };
 }
 
 impl<'a> HostReading<'a> {
@@ -237,13 +240,15 @@ impl<'a> HostReading<'a> {
     {
         let slots = HostSlots::of(dict);
         let mut segments = ArrayVec::new();
-        let own = read_own(&slots, libs, &mut segments);
+        let refused = read_each_slot(&slots, libs, &mut segments);
+        let own = files_fault(&slots, libs).or(first_fault(&refused));
         let added = read_added(&slots, libs, &mut segments);
         HostReading {
             slots,
             libs,
             empty: added.empty,
             segments,
+            refused,
             queue: added.queue,
             next: added.next,
             last: added.fault,
@@ -299,19 +304,34 @@ impl<'a> HostReading<'a> {
         queued_request(self.queue.as_slice(), self.empty.as_slice(), slot)
     }
 
+    /// The fault of the source of a slot.
+    fn own_fault(&self, slot: u8) -> Option<Fault>
+        requires { slot < SLOTS }
+        ensures { result ≡ source_fault self.now.order self.now.file
+            (opened_files self.now.order self.now.libs) slot }
+    {
+        self.refused[slot as usize]
+    }
+
+    /// The fault of the unit that would be added in a slot.
+    fn added_fault(&self, slot: u8) -> Option<Fault>
+        ensures { result ≡ fault_of_added (read_rounds self.now.order self.now.file
+            (opened_files self.now.order self.now.libs))
+            (empty_slots_spec self.now.order self.now.file) slot }
+    {
+        match self.next {
+            Some(next) if next == slot => self.last,
+            _ => None,
+        }
+    }
+
     /// Why a slot has no segment.
     fn fault_in(&self, slot: u8) -> Option<Fault>
         requires { slot < SLOTS }
         ensures { result ≡ slot_fault self.now.order self.now.file
             (opened_files self.now.order self.now.libs) slot }
     {
-        if let Err(fault) = read_slot(&self.slots, self.libs, slot, self.segments.as_slice()) {
-            return Some(fault);
-        }
-        match self.next {
-            Some(next) if next == slot => self.last,
-            _ => None,
-        }
+        self.own_fault(slot).or(self.added_fault(slot))
     }
 
     /// What was read of a slot, 0 to 15: its segment, or the first fault of its source or of the
@@ -387,12 +407,34 @@ impl<'a> HostReading<'a> {
         self.queue.as_slice()
     }
 
+    /// The first of the requested names for which no empty slot is left, if there is one, with the
+    /// record that first gave it.
+    pub fn unplaced(&self) -> Option<UnitReference>
+        ensures { result ≡ slice_get (read_requests self.now.order self.now.file
+            (opened_files self.now.order self.now.libs))
+            (length (empty_slots_spec self.now.order self.now.file)) }
+    {
+        requested_at(&self.queue, self.empty.len())
+    }
+
     /// The segments that have no fault, by slot ascending.
     pub fn segments(&self) -> &[Segment<'a>]
-        ensures { result.now
+        ensures all { result.now
             ≡ all_read self.now.order self.now.file (opened_files self.now.order self.now.libs) }
+        ensures read { All (IsRead self.now.order self.now.file
+            (opened_files self.now.order self.now.libs)) result.now }
+        ensures few { length result.now ≤ SLOT_COUNT }
     {
         self.segments.as_slice()
+    }
+
+    /// The names of all slots, 0 to 15, in the linked file: of each slot that has one of the segments
+    /// that segment's name, and of the others the host's own.
+    pub fn slot_names(&self) -> [Name; SLOT_COUNT]
+        ensures { result ≡ slot_names_spec self.now.file (all_read self.now.order self.now.file
+            (opened_files self.now.order self.now.libs)) }
+    {
+        slot_names(&self.slots, self.segments.as_slice())
     }
 }
 
@@ -433,6 +475,13 @@ pub fn read<'a>(host: &'a [u8], libs: &'a [&'a [u8]]) -> Reading<'a>
 }
 
 impl<'a> Reading<'a> {
+    /// The host file, which was read.
+    pub fn file(&self) -> &'a [u8]
+        ensures { result.now ≡ self.now.host }
+    {
+        self.file
+    }
+
     /// The host as it was read, or why it cannot be opened: `ShortFile`, `NoOrder`, or `NoHost`
     /// where all its kinds are 0.
     pub fn host(&self) -> Result<&HostReading<'a>, Reason>

@@ -38,7 +38,7 @@ pub(crate) struct Inspection<'a, A: Allocator> {
     pub findings: Findings<'a, A>,
 }
 
-/// What is found in a host and its libraries, of which this is the verdict.
+/// What is found in a host and its libraries, which were read, and of which this is the verdict.
 ///
 /// `host_path` and `paths` name the files; `host` and each of `libs` are whole code files, the
 /// libraries in the order in which units are looked up in them. Returns an error where memory was
@@ -49,8 +49,10 @@ pub(crate) fn inspect<'a, A: Allocator + Copy>(
     paths: &'a [&'a str],
     host: &'a [u8],
     libs: &'a [&'a [u8]],
+    reading: &Reading<'a>,
     verdict: Verdict,
 ) -> Result<Inspection<'a, A>, AllocError>
+    requires { reading.now ≡ record { host = host.now; libs = contents libs.now } }
     ensures files { IfOk result (λ found. AreFileLines (host_path.now ∷ contents paths.now) 0
         (host.now ∷ contents libs.now) (string_bytes found.overview.files)) }
     ensures silent { IfOk result (λ found. AddsSlotLines [] []
@@ -77,13 +79,12 @@ pub(crate) fn inspect<'a, A: Allocator + Copy>(
         host,
         libs,
     };
-    let reading = read_files(host, libs);
     let fault = verdict.fault();
-    let name = verdict_name(&reading, verdict);
-    let list = segments_of(alloc, &inputs, &reading)?;
-    let told = told_segments(&inputs, &reading, list.as_slice());
-    let overview = overview_of(alloc, &inputs, &reading, told)?;
-    let explanation = explanation_of(alloc, &inputs, &reading, list.as_slice(), fault)?;
+    let name = verdict_name(reading, verdict);
+    let list = segments_of(alloc, &inputs, reading)?;
+    let told = told_segments(&inputs, reading, list.as_slice());
+    let overview = overview_of(alloc, &inputs, reading, told)?;
+    let explanation = explanation_of(alloc, &inputs, reading, list.as_slice(), fault)?;
     let findings = findings_of(alloc, &inputs, list.as_slice(), fault)?;
     Ok(Inspection {
         overview,
@@ -96,20 +97,22 @@ pub(crate) fn inspect<'a, A: Allocator + Copy>(
 /// Reads the files. A function by itself, so that what it moves takes room of the stack only until it
 /// returns.
 #[inline(never)]
-fn read_files<'a>(host: &'a [u8], libs: &'a [&'a [u8]]) -> Reading<'a>
+pub(crate) fn read_files<'a>(host: &'a [u8], libs: &'a [&'a [u8]]) -> Reading<'a>
     ensures { result ≡ record { host = host.now; libs = contents libs.now } }
 {
     read(host, libs)
 }
 
-/// The segments of which a report tells where the files are not read without a fault.
+/// The segments of which a report tells: all, where the files are read without a fault.
 fn told_segments<'l, 'a>(
     inputs: &NamedFiles<'a>,
     reading: &Reading<'a>,
     list: &'l [ReadSegment<'a>],
 ) -> &'l [ReadSegment<'a>]
-    ensures { (why : Why) → reading_fault reading.now.host reading.now.libs ≡ Some why
+    ensures refused { (why : Why) → reading_fault reading.now.host reading.now.libs ≡ Some why
         → map seen result.now ≡ told_of inputs.now.host.now (map seen list.now) }
+    ensures all { reading_fault reading.now.host reading.now.libs ≡ None
+        → map seen result.now ≡ map seen list.now }
 {
     if reading.fault().is_some() {
         told_after_fault(inputs, list)

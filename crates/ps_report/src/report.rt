@@ -10,7 +10,7 @@ ghost use Rattle.ps_report.specs.FindingLines.{AddsWarnings, finding_lines};
 ghost use Rattle.ps_report.specs.LastLine.{last_line};
 
 use crate::finding::{SaidFinding, said_findings};
-use crate::inspection::{Inspection, inspect};
+use crate::inspection::{Inspection, inspect, read_files};
 use crate::kept::string_of;
 use crate::last_line::add_last_line;
 use crate::lines::add_other_lines;
@@ -99,8 +99,9 @@ pub fn check<'a, A: Allocator + Copy>(
         ⊎ IsRefused host.now (contents libs.now))) }
 {
     first_of_all();
-    let verdict = verdict_of(alloc, host, libs)?;
-    let inspection = inspect(alloc, host_path, paths, host, libs, verdict)?;
+    let reading = read_files(host, libs);
+    let verdict = verdict_of(alloc, &reading)?;
+    let inspection = inspect(alloc, host_path, paths, host, libs, &reading, verdict)?;
     let lists = lists_without_host(alloc, verdict, host_path, paths, host, libs)?;
     let parts = Sections {
         files: inspection.overview.files.as_str(),

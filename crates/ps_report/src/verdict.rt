@@ -1,10 +1,10 @@
 //! The verdict: whether the files are linked.
 ghost use Rattle.std.specs.Prelude.{◌≡◌, IfErr, IfOk, None, Some};
 ghost use Rattle.ps_resolve.specs.AllFaults.{reading_fault};
-ghost use Rattle.ps_resolve.specs.Sources.{contents};
 ghost use Rattle.ps_report.specs.Verdicts.{IsRefusal, IsVerdict, fault_of, verdict_line};
 
-use ps_linkfile::{LinkError, Summary, prepare};
+use ps_linkfile::{LinkError, Summary, prepare_reading};
+use ps_resolve::Reading;
 use ps_words::Fault;
 use std::alloc::{AllocError, Allocator};
 use std::fmt::{self, Formatter};
@@ -64,21 +64,19 @@ fn refusal(error: LinkError) -> Result<Verdict, AllocError>
     }
 }
 
-/// The verdict on a host and its libraries, which are prepared and not written: that of
-/// `ps_linkfile::link`.
+/// The verdict on a host and its libraries, which were read, and are prepared and not written: that
+/// of `ps_linkfile::link`.
 ///
-/// `host` and each of `libs` are whole code files, the libraries in the order in which units are
-/// looked up in them. Returns an error only where memory was refused, which is requested only once
-/// the files were read and have no fault: of files that have one the verdict is never an error.
+/// Returns an error only where memory was refused, which is requested only where the files have no
+/// fault in reading: of files that have one the verdict is never an error.
 pub fn verdict_of<A: Allocator + Copy>(
     alloc: A,
-    host: &[u8],
-    libs: &[&[u8]],
+    reading: &Reading<'_>,
 ) -> Result<Verdict, AllocError>
-    ensures right { IfOk result (IsVerdict host.now (contents libs.now)) }
-    ensures memory { IfErr result (λ _. reading_fault host.now (contents libs.now) ≡ None) }
+    ensures right { IfOk result (IsVerdict reading.now.host reading.now.libs) }
+    ensures memory { IfErr result (λ _. reading_fault reading.now.host reading.now.libs ≡ None) }
 {
-    match prepare(alloc, host, libs) {
+    match prepare_reading(alloc, reading) {
         Ok(linked) => Ok(Verdict::Links(linked.summary())),
         Err(error) => refusal(error),
     }

@@ -18,7 +18,7 @@ pub use Rattle.ps_resolve.specs.Builders.{AreByRecord, FindsNamesake, HaveDistin
 pub use Rattle.ps_resolve.specs.EditTables.{IsTableOf, edit_in, edits_from, edits_of, first_state, is_taken, is_taken_at, is_wide, put_in}
 pub use Rattle.ps_resolve.specs.Edits.{AreOfReferences, IsOfSize, IsOfTable, data_size_edit, reason_in, refs_fault_at}
 pub use Rattle.ps_resolve.specs.Faults.{in_segment, linking_fault, references_fault_from, segment_fault}
-pub use Rattle.ps_resolve.specs.Linkable.{AreSegments, IsHost}
+pub use Rattle.ps_resolve.specs.Linkable.{AreSegments, AreWhole, IsHost}
 pub use Rattle.ps_resolve.specs.Linking.{data_edits, edited_from, edited_segments, known_of, segment_edits}
 pub use Rattle.ps_resolve.specs.Offsets.{FollowOn, RiseFrom, is_from, is_of, offset_listed}
 pub use Rattle.ps_resolve.specs.Operands.{edit_of, is_in, operands, reference_reason, refs_fault, value_of, width_of}
@@ -41,7 +41,7 @@ pub use Rattle.ps_words.specs.declared.edit.Edit.TheVariants.{Byte}
 pub use Rattle.ps_words.specs.declared.fault.Fault.{Fault}
 pub use Rattle.ps_words.specs.declared.fault.Reason.{Reason}
 pub use Rattle.ps_words.specs.declared.order.Order.{Order}
-pub use Rattle.std.proofs.Common.{All, Bool, Decides, Err, IfOk, IfSome, IsPermutation, List, None, Ok, Option, Result, Some, [], ap, append-nil, append_assoc, arith, bytes_eq, count_by, drop, eqb-true, false, get_or, if◌then◌else◌, inl, inr, is_some, length, length-append, length-set, ltb, ltb-false, map, nat_cmp, nat_eq, nat_le, nat_lt, ne_eqb, option_map, option_to_list, refl, rules, set, subst, suc, sym, take, true, zero, ℕ, ◌&&◌, ◌++◌, ◌+◌, ◌-◌, ◌<◌, ◌==◌, ◌||◌, ◌∙◌, ◌∷◌, ◌≡◌, ◌≤◌, ◌⊎◌}
+pub use Rattle.std.proofs.Common.{All, Bool, Decides, Err, IfErr, IfOk, IfSome, IsPermutation, List, None, Ok, Option, Result, Some, [], ap, append-nil, append_assoc, arith, bytes_eq, count_by, drop, eqb-true, false, get_or, if◌then◌else◌, inl, inr, is_some, length, length-append, length-set, ltb, ltb-false, map, nat_cmp, nat_eq, nat_le, nat_lt, ne_eqb, option_map, option_to_list, refl, rules, set, subst, suc, sym, take, true, zero, ℕ, ◌&&◌, ◌++◌, ◌+◌, ◌-◌, ◌<◌, ◌==◌, ◌||◌, ◌∙◌, ◌∷◌, ◌≡◌, ◌≤◌, ◌⊎◌}
 pub use Rattle.std.proofs.lemmas.Bool.{cases_Bool, cases_lt, cases_order, false≢true, not-false, not-true, or_right}
 pub use Rattle.std.proofs.lemmas.Bool.Decides.{Decides-and, Decides-like, Decides-or, nat_tests}
 pub use Rattle.std.proofs.lemmas.List.{drop_all, drop_more, get_or-set_other, get_or-set_same, get_or_past, length-map, length-take-le, map-append, nil_from_length, take_all, take_at, take_more}

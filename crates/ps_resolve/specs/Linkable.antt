@@ -1,6 +1,6 @@
 -- What is known of the segments of a link, once the files were read without a fault.
 pub use Rattle.ps_reading.specs.KnownSegments.{AreSlots, AscendFrom, HasOneHost}
-use Rattle.std.specs.Prelude.{◌≡◌, ℕ, ◌+◌, ◌≤◌, List, length, map, true, Some, All}
+use Rattle.std.specs.Prelude.{◌≡◌, ℕ, ◌+◌, ◌≤◌, List, length, map, true, Some, All, is_some}
 use Rattle.ps_words.specs.declared.order.Order.{Order}
 use Rattle.ps_words.specs.declared.edit.Edit.{Edit}
 use Rattle.ps_codefile.specs.Places.{IsWhole}
@@ -22,6 +22,16 @@ pub record IsHost (order : Order) (h : HostSegment) : Type 0 where
   pub procedure : 1 ≤ procedures h.segment.now.code
   pub table : table_of order h.segment.now.code 1 ≡ Some h.outer_block
   pub whole : IsWhole h.segment.now.code h.outer_block
+
+-- The segments of a link, as they were read: each sound, one of them the host's, by slot ascending,
+-- those that share link information alike.
+pub record AreWhole (order : Order) (ss : List Segment) : Type 0 where
+  pub sound : All (IsSound order) ss
+  pub has_host : is_some (host_of ss) ≡ true
+  pub one_host : HasOneHost ss
+  pub ascending : AscendFrom 0 (map (λ s. s.slot) ss)
+  pub alike : AreAlike ss
+  pub most : length ss ≤ SLOT_COUNT
 
 -- The segments of a link, by slot: each sound, one of them the host's, those that share link
 -- information alike.

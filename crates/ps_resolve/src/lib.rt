@@ -7,6 +7,7 @@ mod causes;
 mod definitions;
 mod edit_table;
 mod edits;
+mod from_reading;
 mod host_segment;
 mod linkage;
 mod linking;
@@ -23,12 +24,13 @@ pub use allotment::{Allotment, MAX_NEXT_FREE, Private};
 pub use causes::{covering_reference, words_before};
 pub use definitions::{Def, DefKind, Definitions};
 pub use edits::data_size::MAX_DATA_SIZE;
+pub use from_reading::resolve_reading;
 pub use linkage::{Linkage, Stop};
 pub use lone::lone_fault;
 pub use plan::Plan;
 pub use ps_reading::{
     EntryAt, HostReading, Reading, RecordAt, ReferenceAt, Request, Requester, Segment,
-    Segment as Source, SegmentAt, UnitReference, fault_name, fault_name_in, read,
+    Segment as Source, SegmentAt, UnitReference, fault_name, fault_name_in, read, read_linked,
     slot_names_are_whole,
 };
 pub use resolving::resolve;

@@ -3,7 +3,9 @@ ghost use Rattle.ps_codefile.specs.Dictionary.{opened_alone};
 ghost use Rattle.ps_reading.specs.Sources.{contents, opened, order_of};
 ghost use Rattle.ps_resolve.specs.LinkedBytes.{segments_of};
 ghost use Rattle.ps_reading.specs.OfLink.{AreOfLink};
-ghost use Rattle.ps_resolve.specs.Plans.{AreLinks, IsPlan, IsStopped};
+ghost use Rattle.ps_resolve.specs.Faults.{linking_fault};
+ghost use Rattle.ps_resolve.specs.Linkable.{AreWhole};
+ghost use Rattle.ps_resolve.specs.Plans.{AreLinks, AreStopped, IsPlan, IsStopped};
 ghost use Rattle.ps_resolve.specs.AllFaults.{first_fault};
 ghost use Rattle.ps_reading.specs.Readings.{own_reading_fault, read_segments};
 ghost use Rattle.ps_reading.specs.KnownSegments.{IsRead};
@@ -18,7 +20,7 @@ use arrayvec::ArrayVec;
 use ps_codefile::Dict;
 use ps_codefile::dictionary_layout::SLOT_COUNT;
 use ps_reading::{HOST_FILE, HostSlots, Segment, read_added, read_own, slot_names};
-use ps_words::{Fault, Reason};
+use ps_words::{Fault, Order, Reason};
 use std::alloc::Allocator;
 
 /// Plans the link of a host file with the libraries that have the units it wants, in their order.
@@ -27,6 +29,9 @@ use std::alloc::Allocator;
 /// the units that only UNITREF records name, the host's definitions, the private variables, the
 /// host's data size and the references, each of which is looked at only where none before it has a
 /// fault. Returns `Memory` only where the files can be read without a fault.
+///
+/// It reads the files itself, and not by [`resolve_reading`](crate::resolve_reading): a reading keeps
+/// what a link has no use for. Both end in one last part, which links the segments.
 ///
 /// Source: what a link is, the published II.0 Linker source; the faults and their order, this
 /// project's profile.
@@ -130,8 +135,22 @@ fn link_units<'a, A: Allocator + Copy>(
     if let Some(fault) = read_added(slots, libs, segments).fault {
         return Err(Stop::Refused(fault));
     }
-    let order = slots.order();
-    let items = segments.as_slice();
+    link_read(alloc, slots.order(), segments.as_slice())
+}
+
+/// Links segments that were read without a fault. It is the last part of a link, of files as of a
+/// reading, and stands in the body of each.
+#[inline(always)]
+pub(crate) fn link_read<A: Allocator + Copy>(
+    alloc: A,
+    order: Order,
+    items: &[Segment],
+) -> Result<Links<A>, Stop>
+    requires { AreWhole order items.now }
+    ensures links { IfOk result (AreLinks order items.now) }
+    ensures sound { IfOk result (λ _. linking_fault order items.now ≡ None) }
+    ensures stop { IfErr result (AreStopped order items.now) }
+{
     match host_of(order, items) {
         None => Err(Stop::Refused(Fault::in_file(HOST_FILE, Reason::NoHost))),
         Some(own) => link_segments(alloc, &Segments { order, own, items }),

@@ -1,17 +1,13 @@
 -- The segments of a link as they were read, as far as findings about the link depend on them.
-use Rattle.std.specs.Prelude.{ℕ, ◌==◌, ◌&&◌, if◌then◌else◌, List, [], Bool, true, false, Option, Some, None, Result, Ok, Err}
+use Rattle.std.specs.Prelude.{ℕ, ◌==◌, List, Bool, true, false, Option, Some, None, Result, Ok, Err}
 use Rattle.std.specs.List.{find}
 use Rattle.std.specs.Option.{option_map, option_map_or}
-use Rattle.std.specs.Result.{is_ok}
-use Rattle.ps_words.specs.declared.fault.Reason.{Reason}
-use Rattle.ps_words.specs.declared.fault.Reason.TheVariants.{NoSlot}
-use Rattle.ps_codefile.specs.declared.entry.Entry.{Entry}
-use Rattle.ps_reading.specs.declared.locations.EntryAt.{EntryAt}
-use Rattle.ps_linkinfo.specs.Records.{reading}
 use Rattle.ps_linkinfo.specs.declared.record.LinkRecord.{LinkRecord as Record}
+use Rattle.ps_segments.specs.declared.segments.Absent.{Absent}
 use Rattle.ps_segments.specs.declared.segments.SegmentPart.{SegmentPart}
 use Rattle.ps_segments.specs.declared.segments.SegmentPart.TheVariants as part
 use Rattle.ps_segments.specs.declared.segments.ReadSegment.{ReadSegment}
+use Rattle.ps_segments.specs.declared.segments.Source.{Source}
 
 -- where a segment comes from: its file, its entry there, and the length of its code
 pub record Origin : Type 0 where
@@ -25,7 +21,7 @@ pub record Seen : Type 0 where
   pub slot : Option ℕ
   pub name : List ℕ
   pub part : SegmentPart
-  pub origin : Result Origin Reason
+  pub origin : Result Origin Absent
   pub file : Option ℕ
   pub records : List Record
 
@@ -37,27 +33,24 @@ part_needs_linking part.Unit = true
 part_needs_linking part.Wanted = true
 part_needs_linking (part.Added requester rec) = true
 
--- the records of a segment: none where they are not to be read, or where it has no code
-abbrev pub records_in : ReadSegment → List Record
-records_in s = if part_needs_linking s.part && is_ok s.code
-    then (reading s.order s.after.now).0 else []
+-- where a segment comes from
+abbrev pub origin_by : Result Source Absent → Result Origin Absent
+origin_by (Ok o) =
+    Ok (record { file = o.at.file; index = o.at.index; size = o.length })
+origin_by (Err why) = Err why
 
--- where a segment comes from; one that comes from nowhere has no code, for a reason
-abbrev pub origin_by : {A : Type 0} → Option (EntryAt × Entry) → Result A Reason
-    → Result Origin Reason
-origin_by (Some o) code =
-    Ok (record { file = o.0.file; index = o.0.index; size = o.1.length })
-origin_by None (Err why) = Err why
-origin_by None (Ok code) = Err NoSlot
+abbrev pub file_by : Result Source Absent → Option ℕ
+file_by (Ok o) = Some o.at.file
+file_by (Err why) = None
 
 abbrev pub seen : ReadSegment → Seen
 seen s = record {
   slot = s.slot;
   name = s.name;
   part = s.part;
-  origin = origin_by s.source s.code;
-  file = option_map (λ o. o.0.file) s.source;
-  records = records_in s;
+  origin = origin_by s.source;
+  file = file_by s.source;
+  records = s.records;
 }
 
 -- the segment has this slot of the host

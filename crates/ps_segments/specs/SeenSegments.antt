@@ -1,19 +1,19 @@
 -- The segments of a link as they were read: of each slot of the host its segment, also where it is
 -- refused, and then the first unit for which no slot is left.
-use Rattle.std.specs.Prelude.{ℕ, ◌+◌, ◌&&◌, if◌then◌else◌, List, [], ◌∷◌, ◌++◌, nat_lt, slice_get, Bool, true, false, Option, Some, None, Result, Ok, Err, codes, filter_map, is_some, option_and_then}
+use Rattle.std.specs.Prelude.{ℕ, ◌&&◌, if◌then◌else◌, List, [], ◌++◌, length, nat_lt, slice_get, Bool, true, false, Option, Some, None, Result, Ok, Err, filter_map, is_some, option_and_then}
 use Rattle.std.specs.List.{cons_option, list_any}
-use Rattle.std.specs.Option.{option_map, option_map_or}
+use Rattle.std.specs.Option.{option_map}
 use Rattle.std.specs.Result.{is_ok}
 use Rattle.std.specs.Str.{bytes_eq}
 use Rattle.ps_words.specs.declared.fault.Fault.{Fault}
 use Rattle.ps_words.specs.declared.fault.Reason.{Reason}
-use Rattle.ps_words.specs.declared.fault.Reason.TheVariants as reason
 use Rattle.ps_codefile.specs.Dictionary.{OpenedFile, code_of, entry_at, information_of, opened_beside, role_of, slots}
 use Rattle.ps_codefile.specs.declared.entry.Role.{Role}
 use Rattle.ps_codefile.specs.declared.entry.Role.TheVariants as role
 use Rattle.ps_linkinfo.specs.Records.{reading}
 use Rattle.ps_linkinfo.specs.declared.record.LinkRecord.{LinkRecord as Record}
-use Rattle.ps_resolve.specs.Readings.{HostFiles, opened_host, read_requests, slot_entry, slot_reading, slot_request}
+use Rattle.ps_resolve.specs.Added.{empty_slots}
+use Rattle.ps_resolve.specs.Readings.{HostFiles, all_read, host_reading_fault, opened_host, read_requests, slot_entry, slot_reading, slot_request}
 use Rattle.ps_resolve.specs.Sources.{Segment, file_at, opened_files}
 use Rattle.ps_reading.specs.declared.reading.added.UnitReference.{UnitReference}
 use Rattle.ps_reading.specs.declared.reading.request.Request.{Request}
@@ -21,58 +21,24 @@ use Rattle.ps_reading.specs.declared.reading.request.Requester.{Requester}
 use Rattle.ps_reading.specs.declared.reading.request.Requester.TheVariants as by
 use Rattle.ps_segments.specs.Paths.{host_order}
 use Rattle.ps_segments.specs.Seen.{Origin, Seen, part_needs_linking}
+use Rattle.ps_segments.specs.SegmentParts.{added_by, part_as}
+use Rattle.ps_segments.specs.declared.segments.Absent.{Absent}
+use Rattle.ps_segments.specs.declared.segments.Absent.TheVariants as absent
 use Rattle.ps_segments.specs.declared.segments.SegmentPart.{SegmentPart}
 use Rattle.ps_segments.specs.declared.segments.SegmentPart.TheVariants as part
 use Rattle.ps_codefile.specs.declared.dictionary_layout.TheConstants.{SLOTS}
 
--- the records that can be read at an entry of a file that was opened, if it has a code
-abbrev pub records_at : ℕ → OpenedFile → List Record
-records_at index f = let e = entry_at f.order f.file index in
-    if is_ok (code_of f.file e) then (reading f.order (information_of f.file e)).0 else []
+-- 1. what a reading has: the segments that were read, by slot, the names that are requested, its
+-- first fault, and of a slot its request, its entry, what was read of it, and its role
+abbrev pub segments_in : HostFiles → List Segment
+segments_in h = all_read h.order h.file (opened_files h.order h.libs)
 
--- where a segment comes from, and the records there; or why its file is not opened
-abbrev pub origin_in : ℕ → ℕ → Result OpenedFile Reason
-    → Result (Origin × List Record) Reason
-origin_in file index (Ok f) =
-    Ok (
-      record { file = file; index = index; size = (entry_at f.order f.file index).length },
-      records_at index f,
-    )
-origin_in file index (Err why) = Err why
+abbrev pub requests_in : HostFiles → List UnitReference
+requests_in h = read_requests h.order h.file (opened_files h.order h.libs)
 
--- where a segment comes from, and its records: an entry of a host or a library, which is read in
--- the host's order
-unfoldable pub origin_of : List ℕ → List (List ℕ) → ℕ × ℕ
-    → Result (Origin × List Record) Reason
-origin_of host libs at = if nat_lt at.1 SLOTS
-    then origin_in at.0 at.1 (opened_beside (host_order host) (file_at host libs at.0))
-    else Err reason.MissingUnit
+abbrev pub fault_in : HostFiles → Option Fault
+fault_in h = host_reading_fault h.order h.file h.libs
 
--- what is seen of a segment that comes from there
-abbrev pub place_from : Result (Origin × List Record) Reason → Result Origin Reason
-place_from (Ok origin) = Ok origin.0
-place_from (Err why) = Err why
-
-abbrev pub file_from : Result (Origin × List Record) Reason → Option ℕ
-file_from (Ok origin) = Some origin.0.file
-file_from (Err why) = None
-
-abbrev pub records_from : Result (Origin × List Record) Reason → List Record
-records_from (Ok origin) = origin.1
-records_from (Err why) = []
-
-unfoldable pub seen_with : Option ℕ → List ℕ → SegmentPart
-    → Result (Origin × List Record) Reason → Seen
-seen_with slot name what origin = record {
-  slot = slot;
-  name = name;
-  part = what;
-  origin = place_from origin;
-  file = file_from origin;
-  records = if part_needs_linking what then records_from origin else [];
-}
-
--- the request that a slot has in a reading, its entry, what was read of it, and its role
 abbrev pub request_in : HostFiles → ℕ → Option Request
 request_in h slot = slot_request h.order h.file (opened_files h.order h.libs) slot
 
@@ -85,16 +51,8 @@ reading_in h slot = slot_reading h.order h.file (opened_files h.order h.libs) sl
 abbrev pub role_in : HostFiles → ℕ → Result Role Reason
 role_in h slot = role_of (entry_at h.order h.file slot)
 
--- the name of the segment of a slot
-abbrev pub name_by : HostFiles → ℕ → Option Request → List ℕ
-name_by h slot None = (entry_at h.order h.file slot).name
-name_by h slot (Some r) = r.name
-
-unfoldable pub name_in : HostFiles → ℕ → List ℕ
-name_in h slot = if nat_lt slot SLOTS then name_by h slot (request_in h slot)
-    else codes "        "
-
--- a slot of this role has or wants a unit
+-- 2. the units of the host that are refused: where a record requests one, the reading takes it as
+-- another
 abbrev pub is_for_unit : Result Role Reason → Bool
 is_for_unit (Ok role.Unit) = true
 is_for_unit (Ok role.Wanted) = true
@@ -103,20 +61,51 @@ is_for_unit (Ok role.Plain) = false
 is_for_unit (Ok role.Host) = false
 is_for_unit (Err why) = false
 
--- the unit of a slot has this name
-abbrev pub is_unit_of : HostFiles → List ℕ → ℕ → Bool
-is_unit_of h name slot = is_for_unit (role_in h slot)
-    && bytes_eq (entry_at h.order h.file slot).name name
+abbrev pub is_fault : Option (Result Segment Fault) → Bool
+is_fault None = false
+is_fault (Some (Ok s)) = false
+is_fault (Some (Err f)) = true
 
--- the unit of some slot of the host has this name
+-- the slot has or wants a unit of this name, which is refused
+abbrev pub is_refused_unit : HostFiles → List ℕ → ℕ → Bool
+is_refused_unit h name slot = is_fault (reading_in h slot) && (is_for_unit (role_in h slot)
+    && bytes_eq (entry_at h.order h.file slot).name name)
+
 unfoldable pub is_of_host : HostFiles → List ℕ → Bool
-is_of_host h name = list_any (is_unit_of h name) slots
+is_of_host h name = list_any (is_refused_unit h name) slots
+
+-- 3. a segment that was read without a fault of its own
+abbrev pub seen_as : HostFiles → Segment → SegmentPart → Seen
+seen_as h s what = record {
+  slot = Some s.slot;
+  name = s.name;
+  part = what;
+  origin = Ok (record { file = s.file; index = s.index; size = length s.code });
+  file = Some s.file;
+  records = s.records;
+}
+
+unfoldable pub seen_segment : HostFiles → Segment → Seen
+seen_segment h s = seen_as h s (part_as (segments_in h) (requests_in h) s s.role)
+
+-- one that was added for a unit of the host that is refused is none
+unfoldable pub seen_read : HostFiles → Segment → Option Seen
+seen_read h s = if s.added && is_of_host h s.name then None else Some (seen_segment h s)
+
+-- 4. a segment that is refused, or that was not looked for
+-- the name that a slot of the dictionary has or wants
+abbrev pub name_by : HostFiles → ℕ → Option Request → List ℕ
+name_by h slot None = (entry_at h.order h.file slot).name
+name_by h slot (Some r) = r.name
+
+unfoldable pub name_of_slot : HostFiles → ℕ → List ℕ
+name_of_slot h slot = name_by h slot (request_in h slot)
 
 -- what a unit is that is requested; none where it is one of the host's that is refused
 abbrev pub part_by : HostFiles → List ℕ → Requester → Option SegmentPart
 part_by h name by.Slot = Some part.Wanted
 part_by h name (by.Record place) = if is_of_host h name then None
-    else Some (part.Added (name_in h place.segment.slot) place.rec)
+    else Some (added_by (segments_in h) place)
 
 -- what the segment of a slot of this role is, that is not requested
 abbrev pub part_of_role : Result Role Reason → Option SegmentPart
@@ -135,56 +124,86 @@ part_for h slot (Some r) = part_by h r.name r.requester
 unfoldable pub part_in : HostFiles → ℕ → Option SegmentPart
 part_in h slot = part_for h slot (request_in h slot)
 
--- a record requests the unit that takes a slot
-abbrev pub is_by_record : Requester → Bool
-is_by_record by.Slot = false
-is_by_record (by.Record place) = true
+-- the records that can be read at an entry of a file that was opened, if it has a code
+abbrev pub records_at : ℕ → OpenedFile → List Record
+records_at index f = let e = entry_at f.order f.file index in
+    if is_ok (code_of f.file e) then (reading f.order (information_of f.file e)).0 else []
 
-unfoldable pub takes_slot : HostFiles → ℕ → Bool
-takes_slot h slot = option_map_or (λ r. is_by_record r.requester) (request_in h slot) false
+-- where a segment comes from, and the records there; no library that is not opened has it
+abbrev pub origin_in : ℕ → ℕ → Result OpenedFile Reason
+    → Result (Origin × List Record) Absent
+origin_in file index (Ok f) =
+    Ok (
+      record { file = file; index = index; size = (entry_at f.order f.file index).length },
+      records_at index f,
+    )
+origin_in file index (Err why) = Err absent.Missing
 
--- how many of these slots are taken so
-abbrev pub taken_of : HostFiles → List ℕ → ℕ
-taken_of h [] = 0
-taken_of h (slot ∷ ss) = (if takes_slot h slot then 1 else 0) + taken_of h ss
+-- where a segment comes from, and its records: an entry of a host or a library, which is read in
+-- the host's order
+unfoldable pub origin_of : List ℕ → List (List ℕ) → ℕ × ℕ
+    → Result (Origin × List Record) Absent
+origin_of host libs at = if nat_lt at.1 SLOTS
+    then origin_in at.0 at.1 (opened_beside (host_order host) (file_at host libs at.0))
+    else Err absent.Missing
 
--- where the segment of a slot comes from, if it was read: its file and its entry there, and what
--- they have
-unfoldable pub read_entry : HostFiles → ℕ → Option (ℕ × ℕ)
-read_entry h slot = if is_some (reading_in h slot) then entry_in h slot else None
+abbrev pub origin_at : List ℕ → List (List ℕ) → Option (ℕ × ℕ)
+    → Result (Origin × List Record) Absent
+origin_at host libs None = Err absent.Missing
+origin_at host libs (Some at) = origin_of host libs at
 
--- why a slot has no segment, from what was read of it
-abbrev pub reason_by : Option (Result Segment Fault) → Reason
-reason_by None = reason.NoSlot
-reason_by (Some (Ok s)) = reason.NoSlot
-reason_by (Some (Err f)) = f.reason
+-- what is seen of a segment that comes from there
+abbrev pub place_from : Result (Origin × List Record) Absent → Result Origin Absent
+place_from (Ok origin) = Ok origin.0
+place_from (Err why) = Err why
 
-abbrev pub origin_at : List ℕ → List (List ℕ) → Reason → Option (ℕ × ℕ)
-    → Result (Origin × List Record) Reason
-origin_at host libs why None = Err why
-origin_at host libs why (Some at) = origin_of host libs at
+abbrev pub file_from : Result (Origin × List Record) Absent → Option ℕ
+file_from (Ok origin) = Some origin.0.file
+file_from (Err why) = None
 
-abbrev pub slot_origin : List ℕ → List (List ℕ) → HostFiles → ℕ
-    → Result (Origin × List Record) Reason
-slot_origin host libs h slot =
-    origin_at host libs (reason_by (reading_in h slot)) (read_entry h slot)
+abbrev pub records_from : Result (Origin × List Record) Absent → List Record
+records_from (Ok origin) = origin.1
+records_from (Err why) = []
 
--- what is seen of the segment of a slot
+unfoldable pub seen_with : Option ℕ → List ℕ → SegmentPart
+    → Result (Origin × List Record) Absent → Seen
+seen_with slot name what origin = record {
+  slot = slot;
+  name = name;
+  part = what;
+  origin = place_from origin;
+  file = file_from origin;
+  records = if part_needs_linking what then records_from origin else [];
+}
+
+-- what is seen of a segment of a slot that was not read, which comes from there
+unfoldable pub seen_unread : HostFiles → ℕ → Result (Origin × List Record) Absent
+    → Option Seen
+seen_unread h slot origin = option_map
+    (λ what. seen_with (Some slot) (name_of_slot h slot) what origin) (part_in h slot)
+
+-- 5. what is seen of the segment of a slot, from what was read of it: after the first fault a unit
+-- that is requested is not looked for
+abbrev pub seen_by_reading : List ℕ → List (List ℕ) → HostFiles → ℕ
+    → Option (Result Segment Fault) → Option Seen
+seen_by_reading host libs h slot (Some (Ok s)) = seen_read h s
+seen_by_reading host libs h slot (Some (Err f)) =
+    seen_unread h slot (origin_at host libs (entry_in h slot))
+seen_by_reading host libs h slot None = if is_some (fault_in h)
+    then seen_unread h slot (Err absent.NotLookedFor) else None
+
 unfoldable pub seen_in : List ℕ → List (List ℕ) → HostFiles → ℕ → Option Seen
-seen_in host libs h slot = option_map (λ what. seen_with (Some slot) (name_in h slot) what
-    (slot_origin host libs h slot)) (part_in h slot)
+seen_in host libs h slot = seen_by_reading host libs h slot (reading_in h slot)
 
 -- what is seen of a unit that is requested and for which no slot is left
 abbrev pub seen_unit : HostFiles → UnitReference → Option Seen
 seen_unit h u = if is_of_host h u.name then None
-    else Some (seen_with None u.name (part.Added (name_in h u.at.segment.slot) u.at.rec)
-    (Err reason.NoSlot))
+    else Some (seen_with None u.name (added_by (segments_in h) u.at) (Err absent.NoSlot))
 
 -- what is seen of the unit of the first requested name for which no slot is left
 unfoldable pub unplaced : HostFiles → Option Seen
 unplaced h = option_and_then (seen_unit h)
-    (slice_get (read_requests h.order h.file (opened_files h.order h.libs))
-    (taken_of h slots))
+    (slice_get (requests_in h) (length (empty_slots h.order h.file)))
 
 -- what is seen of all of them, by slot
 unfoldable pub seen_of : List ℕ → List (List ℕ) → HostFiles → List Seen

@@ -6,4 +6,6 @@ mod named_files;
 mod segments;
 
 pub use named_files::NamedFiles;
-pub use segments::{ReadSegment, SegmentPart, host_of, in_slot, length_of, segments_of};
+pub use segments::{
+    Absent, ReadSegment, SegmentPart, Source, host_of, in_slot, length_of, segments_of,
+};

@@ -1,22 +1,25 @@
 //! The segments of a link as the files have them, also where they are refused.
-ghost use Rattle.std.specs.Prelude.{◌≡◌, ◌<◌, ◌^◌, ◌++◌, ◌∷◌, [], Err, IfOk, Ok, OnOk, Some, filter_map, is_some, map, option_and_then, slice_get};
+ghost use Rattle.std.specs.Prelude.{◌≡◌, ◌<◌, ◌^◌, ◌++◌, ◌∷◌, [], Err, IfOk, Ok, OnOk, Some, filter_map, if◌then◌else◌, map};
 ghost use Rattle.std.specs.List.{cons_option, find};
 ghost use Rattle.std.specs.Option.{option_map};
 ghost use Rattle.ps_codefile.specs.Dictionary.{opened_beside, slots};
 ghost use Rattle.ps_linkinfo.specs.Records.{used_by};
-ghost use Rattle.ps_resolve.specs.Readings.{opened_host, read_requests};
-ghost use Rattle.ps_resolve.specs.Sources.{contents, file_at, opened_files};
+ghost use Rattle.ps_resolve.specs.Readings.{opened_host};
+ghost use Rattle.ps_resolve.specs.Sources.{contents, file_at};
+ghost use Rattle.ps_segments.specs.declared.segments.Absent.TheVariants.{NotLookedFor};
 ghost use Rattle.ps_segments.specs.Paths.{host_order};
-ghost use Rattle.ps_segments.specs.SegmentParts.{is_added as is_added_spec, is_unit as is_unit_spec, part_words};
+ghost use Rattle.ps_segments.specs.SegmentParts.{absence_words, added_by, is_added as is_added_spec, is_unit as is_unit_spec, name_in as name_in_spec, part_added as part_added_spec, part_as, part_words, requester_of as requester_of_spec};
 ghost use Rattle.ps_segments.specs.Seen.{is_host_part, part_needs_linking, seen};
-ghost use Rattle.ps_segments.specs.SeenSegments.{is_for_unit as is_for_unit_spec, is_of_host as is_of_host_spec, is_unit_of as is_unit_of_spec, name_by as name_by_spec, name_in as name_in_spec, origin_in, origin_of, part_by, part_in as part_in_spec, part_of_role, read_entry, reading_in, reason_by, request_in, role_in, seen_by, seen_in, seen_of, seen_unit, seen_with, slot_origin, taken_of, takes_slot as takes_slot_spec};
+ghost use Rattle.ps_segments.specs.SeenSegments.{is_fault, is_for_unit as is_for_unit_spec, is_of_host as is_of_host_spec, is_refused_unit as is_refused_unit_spec, name_of_slot as name_of_slot_spec, origin_at, origin_in, origin_of, entry_in, part_by, part_in as part_in_spec, part_of_role, reading_in, records_at as records_at_spec, role_in, seen_as, seen_by, seen_in, seen_of, seen_read, seen_segment, seen_unit, seen_unread, seen_with, unplaced};
 
 use crate::named_files::NamedFiles;
 use ps_codefile::dictionary_layout::SLOTS;
 use ps_codefile::{Dict, Entry, Role};
 use ps_filetype::ShownName;
 use ps_linkinfo::LinkInformation;
-use ps_resolve::{EntryAt, HostReading, Reading, Request, Requester, UnitReference};
+use ps_resolve::{
+    EntryAt, HostReading, Reading, RecordAt, Request, Requester, Segment, UnitReference,
+};
 use ps_words::{Name, Order, Reason};
 use std::alloc::{AllocError, Allocator};
 use std::fmt::{self, Formatter};
@@ -88,37 +91,54 @@ impl fmt::Display for SegmentPart {
     }
 }
 
-/// A segment of a link, as it was read.
+/// Where a segment of a link comes from.
 #[derive(Clone, Copy)]
+pub struct Source<'a> {
+    /// The file that has the segment, and its entry there.
+    pub at: EntryAt,
+    /// How many bytes of code the entry has.
+    pub length: usize,
+    /// The order of the file's words.
+    pub order: Order,
+    /// The code, or why it cannot be read.
+    pub code: Result<&'a [u8], Reason>,
+}
+
+/// Why a segment of a link comes from nowhere. Its text is a phrase, as `, which no library has`.
+#[derive(Clone, Copy)]
+pub enum Absent {
+    /// No library has the unit.
+    Missing,
+    /// No empty slot of the host is left for the unit.
+    NoSlot,
+    /// The unit is requested after the first fault, so no library was searched for it.
+    NotLookedFor,
+}
+
+impl fmt::Display for Absent {
+    ghost output = { λ absent. Some (absence_words absent) };
+
+    fn fmt<W: fmt::Write>(&self, f: &mut Formatter<W>) -> fmt::Result {
+        match *self {
+            Absent::Missing => f.write_str(", which no library has"),
+            Absent::NoSlot => f.write_str(", for which no slot is left"),
+            Absent::NotLookedFor => f.write_str(", not looked for after the fault"),
+        }
+    }
+}
+
+/// A segment of a link, as it was read.
+#[derive(Drop)]
 pub struct ReadSegment<'a> {
     /// The slot in the host; none where no empty slot is left for the segment.
     pub slot: Option<u8>,
     pub name: Name,
     pub part: SegmentPart,
-    /// Where the segment comes from, and what the dictionary says there; none where no library has
-    /// it, or where it was not read.
-    pub source: Option<(EntryAt, Entry)>,
-    /// The order of its file's words.
-    pub order: Order,
-    /// The code of the segment, or why it has none: `MissingUnit` where no library has it.
-    pub code: Result<&'a [u8], Reason>,
-    /// The file of the segment, from its link information on.
-    pub after: &'a [u8],
-}
-
-impl<'a> ReadSegment<'a> {
+    /// Where the segment comes from, or why from nowhere.
+    pub source: Result<Source<'a>, Absent>,
     /// The records of the segment, up to the first that cannot be read; none where they are not to
     /// be read.
-    /// Source: the published II.0 Linker source.
-    pub fn records(&self) -> LinkInformation<'a>
-        ensures { result ≡ (seen self.now).records }
-    {
-        if self.part.needs_linking() && self.code.is_ok() {
-            LinkInformation::up_to_fault(self.order, self.after)
-        } else {
-            LinkInformation::none()
-        }
-    }
+    pub records: LinkInformation<'a>,
 }
 
 /// How many bytes the records that can be read take.
@@ -134,12 +154,131 @@ pub fn length_of(records: &LinkInformation<'_>) -> usize
     length
 }
 
-/// A segment that comes from no entry, and why it has no code.
+/// The name of the segment in a slot; a blank one where there is none.
+fn name_in(segments: &[Segment<'_>], slot: u8) -> Name
+    ensures { result ≡ name_in_spec segments.now slot }
+{
+    for segment in segments {
+        if segment.slot() == slot {
+            return segment.name();
+        }
+    }
+    *b"        "
+}
+
+/// A unit that this record requests, which is in one of these segments.
+fn added_part(segments: &[Segment<'_>], at: RecordAt) -> SegmentPart
+    ensures { result ≡ added_by segments.now at }
+{
+    SegmentPart::Added {
+        requester: name_in(segments, at.segment.slot),
+        rec: at.rec,
+    }
+}
+
+/// The first record that requests a unit of this name.
+fn requester_of(requests: &[UnitReference], name: Name) -> Option<UnitReference>
+    ensures { result ≡ requester_of_spec requests.now name }
+{
+    for request in requests {
+        if request.name == name {
+            return Some(*request);
+        }
+    }
+    None
+}
+
+/// What a unit is that is added for this record.
+fn part_added(segments: &[Segment<'_>], requester: Option<UnitReference>) -> SegmentPart
+    ensures { result ≡ part_added_spec segments.now requester }
+{
+    match requester {
+        None => SegmentPart::Wanted,
+        Some(requester) => added_part(segments, requester.at),
+    }
+}
+
+/// What one of the segments is.
+fn part_of(
+    segments: &[Segment<'_>],
+    requests: &[UnitReference],
+    segment: &Segment<'_>,
+) -> SegmentPart
+    ensures { result ≡ part_as segments.now requests.now segment.now segment.now.role }
+{
+    match segment.role() {
+        Role::Plain => SegmentPart::Plain,
+        Role::Host => SegmentPart::Host,
+        Role::Unit => SegmentPart::Unit,
+        Role::Wanted if segment.added() => {
+            part_added(segments, requester_of(requests, segment.name()))
+        }
+        Role::Empty | Role::Wanted => SegmentPart::Wanted,
+    }
+}
+
+/// The records of a segment that was read without a fault.
+fn records_of<'a>(segment: &Segment<'a>) -> LinkInformation<'a>
+    ensures { result ≡ segment.now.records }
+{
+    match segment.records() {
+        None => LinkInformation::none(),
+        Some(records) => records.copy(),
+    }
+}
+
+/// A segment that was read without a fault, and is this.
+fn read_as<'a>(host: &HostReading<'a>, segment: &Segment<'a>, part: SegmentPart) -> ReadSegment<'a>
+    ensures { seen result ≡ seen_as host.now segment.now part }
+{
+    let at = EntryAt {
+        file: segment.file(),
+        index: segment.index(),
+    };
+    let code = segment.code();
+    ReadSegment {
+        slot: Some(segment.slot()),
+        name: segment.name(),
+        part,
+        source: Ok(Source {
+            at,
+            length: code.len(),
+            order: host.order(),
+            code: Ok(code),
+        }),
+        records: records_of(segment),
+    }
+}
+
+/// A segment that was read without a fault.
+#[tactic(auto, unfolding(crate::specs::SeenSegments::seen_segment))]
+fn read_segment<'a>(host: &HostReading<'a>, segment: &Segment<'a>) -> ReadSegment<'a>
+    ensures { seen result ≡ seen_segment host.now segment.now }
+{
+    let part = part_of(host.segments(), host.requested(), segment);
+    read_as(host, segment, part)
+}
+
+/// A segment that was read without a fault; none where it was added for a unit of the host that is
+/// refused.
+#[tactic(auto, unfolding(crate::specs::SeenSegments::seen_read))]
+fn segment_read<'a>(host: &HostReading<'a>, segment: &Segment<'a>) -> Option<ReadSegment<'a>>
+    ensures { option_map seen result ≡ seen_read host.now segment.now }
+{
+    let name = segment.name();
+    if segment.added() && is_of_host(host, &name) {
+        return None;
+    }
+    Some(read_segment(host, segment))
+}
+
+/// A segment that comes from no entry.
+#[tactic(auto, unfolding(crate::specs::SeenSegments::seen_with))]
 fn without_entry<'a>(
     slot: Option<u8>,
     name: Name,
     part: SegmentPart,
-    why: Reason,
+    why: Absent,
 ) -> ReadSegment<'a>
     ensures { seen result ≡ seen_with slot name part (Err why) }
 {
@@ -147,10 +286,21 @@ fn without_entry<'a>(
         slot,
         name,
         part,
-        source: None,
-        order: Order::Little,
-        code: Err(why),
-        after: &[],
+        source: Err(why),
+        records: LinkInformation::none(),
+    }
+}
+
+/// The records of an entry that can be read, for a segment that is this.
+#[tactic(auto, using(crate::proofs::Origins::ok_is))]
+fn records_at<'a>(dict: &Dict<'a>, index: u8, part: SegmentPart) -> LinkInformation<'a>
+    requires { index < SLOTS }
+    ensures { result ≡ (if part_needs_linking part then records_at_spec index dict.now else []) }
+{
+    if part.needs_linking() && dict.code(index).is_ok() {
+        LinkInformation::up_to_fault(dict.order(), dict.after(index))
+    } else {
+        LinkInformation::none()
     }
 }
 
@@ -170,10 +320,13 @@ fn of_entry<'a>(
         slot: Some(slot),
         name,
         part,
-        source: Some((at, dict.entry(at.index))),
-        order: dict.order(),
-        code: dict.code(at.index),
-        after: dict.after(at.index),
+        source: Ok(Source {
+            at,
+            length: usize::from(dict.entry(at.index).length),
+            order: dict.order(),
+            code: dict.code(at.index),
+        }),
+        records: records_at(dict, at.index, part),
     }
 }
 
@@ -192,7 +345,7 @@ fn read_at<'a>(
 {
     match Dict::read_beside(inputs.bytes(at.file), inputs.order()) {
         Ok(dict) => of_entry(slot, name, part, &dict, at),
-        Err(why) => without_entry(Some(slot), name, part, why),
+        Err(_) => without_entry(Some(slot), name, part, Absent::Missing),
     }
 }
 
@@ -211,26 +364,15 @@ fn read_from<'a>(
     if at.index < SLOTS {
         read_at(inputs, slot, name, part, at)
     } else {
-        without_entry(Some(slot), name, part, Reason::MissingUnit)
-    }
-}
-
-/// The name of the segment of a slot.
-#[tactic(auto, unfolding(crate::specs::SeenSegments::name_in))]
-fn name_in(host: &HostReading<'_>, slot: u8) -> Name
-    ensures { result ≡ name_in_spec host.now slot }
-{
-    if slot < SLOTS {
-        name_by(host, slot)
-    } else {
-        *b"        "
+        without_entry(Some(slot), name, part, Absent::Missing)
     }
 }
 
 /// The name that a slot of the dictionary has or wants.
-fn name_by(host: &HostReading<'_>, slot: u8) -> Name
+#[tactic(auto, unfolding(crate::specs::SeenSegments::name_of_slot))]
+fn name_of_slot(host: &HostReading<'_>, slot: u8) -> Name
     requires { slot < SLOTS }
-    ensures { result ≡ name_by_spec host.now slot (request_in host.now slot) }
+    ensures { result ≡ name_of_slot_spec host.now slot }
 {
     match host.request(slot) {
         Some(request) => request.name,
@@ -246,21 +388,33 @@ fn is_for_unit(host: &HostReading<'_>, slot: u8) -> bool
     matches!(host.role(slot), Ok(Role::Unit | Role::Wanted))
 }
 
-/// The segment of a slot is a unit of this name.
-fn is_unit_of(host: &HostReading<'_>, name: &Name, slot: u8) -> bool
+/// The segment of a slot is refused.
+fn is_refused(host: &HostReading<'_>, slot: u8) -> bool
     requires { slot < SLOTS }
-    ensures { result ≡ is_unit_of_spec host.now name.now slot }
+    ensures { result ≡ is_fault (reading_in host.now slot) }
 {
-    is_for_unit(host, slot) && host.entry(slot).name == *name
+    match host.segment(slot) {
+        None => false,
+        Some(Ok(_)) => false,
+        Some(Err(_)) => true,
+    }
 }
 
-/// A slot of the host has or wants a unit of the name. Where that unit is refused, the reading takes
-/// a record's request for it as one for another unit.
+/// The segment of a slot is a unit of this name, which is refused.
+fn is_refused_unit(host: &HostReading<'_>, name: &Name, slot: u8) -> bool
+    requires { slot < SLOTS }
+    ensures { result ≡ is_refused_unit_spec host.now name.now slot }
+{
+    is_refused(host, slot) && (is_for_unit(host, slot) && host.entry(slot).name == *name)
+}
+
+/// A slot of the host has or wants a unit of the name, which is refused. The reading takes a record's
+/// request for it as one for another unit.
 #[tactic(auto, unfolding(crate::specs::SeenSegments::is_of_host))]
 fn is_of_host(host: &HostReading<'_>, name: &Name) -> bool
     ensures { result ≡ is_of_host_spec host.now name.now }
 {
-    (0..SLOTS).any(|slot| is_unit_of(host, name, slot))
+    (0..SLOTS).any(|slot| is_refused_unit(host, name, slot))
 }
 
 /// What the unit is that is requested; none where it is one of the host's that is refused.
@@ -273,10 +427,7 @@ fn requested_part(host: &HostReading<'_>, request: Request) -> Option<SegmentPar
             if is_of_host(host, &request.name) {
                 None
             } else {
-                Some(SegmentPart::Added {
-                    requester: name_in(host, place.segment.slot),
-                    rec: place.rec,
-                })
+                Some(added_part(host.segments(), place))
             }
         }
     }
@@ -295,7 +446,7 @@ fn own_part(host: &HostReading<'_>, slot: u8) -> Option<SegmentPart>
     }
 }
 
-/// What the segment of a slot is; none where there is none.
+/// What the segment of a slot is that was not read; none where there is none.
 #[tactic(auto, unfolding(crate::specs::SeenSegments::part_in))]
 fn part_in(host: &HostReading<'_>, slot: u8) -> Option<SegmentPart>
     requires { slot < SLOTS }
@@ -307,78 +458,59 @@ fn part_in(host: &HostReading<'_>, slot: u8) -> Option<SegmentPart>
     }
 }
 
-/// A record requests the unit that takes the slot.
-#[tactic(auto, unfolding(crate::specs::SeenSegments::takes_slot))]
-fn takes_slot(host: &HostReading<'_>, slot: u8) -> bool
-    requires { slot < SLOTS }
-    ensures { result ≡ takes_slot_spec host.now slot }
-{
-    match host.request(slot) {
-        None => false,
-        Some(request) => match request.requester {
-            Requester::Slot => false,
-            Requester::Record(_) => true,
-        },
-    }
-}
-
-/// A slot has a segment that was read, also where it is refused.
-fn is_read(host: &HostReading<'_>, slot: u8) -> bool
-    requires { slot < SLOTS }
-    ensures { result ≡ is_some (reading_in host.now slot) }
-{
-    match host.segment(slot) {
-        None => false,
-        Some(Ok(_)) => true,
-        Some(Err(_)) => true,
-    }
-}
-
-/// Where the segment of a slot comes from, also where it is refused, if it was read; none where no
-/// library has the unit.
-#[tactic(auto, unfolding(crate::specs::SeenSegments::read_entry))]
-fn source_in(host: &HostReading<'_>, slot: u8) -> Option<EntryAt>
-    requires { slot < SLOTS }
-    ensures { option_map (λ p. (p.file, p.index)) result ≡ read_entry host.now slot }
-{
-    if is_read(host, slot) {
-        host.source(slot)
-    } else {
-        None
-    }
-}
-
-/// Why a slot has no segment.
-fn reason_in(host: &HostReading<'_>, slot: u8) -> Reason
-    requires { slot < SLOTS }
-    ensures { result ≡ reason_by (reading_in host.now slot) }
-{
-    match host.segment(slot) {
-        Some(Err(fault)) => fault.reason,
-        Some(Ok(_)) => Reason::NoSlot,
-        None => Reason::NoSlot,
-    }
-}
-
-/// The segment of a slot that is such a one.
-fn segment_as<'a>(
+/// The segment of a slot, which is this and is refused.
+fn refused_as<'a>(
     inputs: &NamedFiles<'a>,
     host: &HostReading<'a>,
     slot: u8,
     part: SegmentPart,
 ) -> ReadSegment<'a>
     requires { slot < SLOTS }
-    ensures { seen result ≡ seen_with (Some slot) (name_in_spec host.now slot) part
-        (slot_origin inputs.now.host.now (contents inputs.now.libs.now) host.now slot) }
+    ensures { seen result ≡ seen_with (Some slot) (name_of_slot_spec host.now slot) part
+        (origin_at inputs.now.host.now (contents inputs.now.libs.now) (entry_in host.now slot)) }
 {
-    let name = name_in(host, slot);
-    match source_in(host, slot) {
-        None => without_entry(Some(slot), name, part, reason_in(host, slot)),
+    let name = name_of_slot(host, slot);
+    match host.source(slot) {
+        None => without_entry(Some(slot), name, part, Absent::Missing),
         Some(at) => read_from(inputs, slot, name, part, at),
     }
 }
 
+/// The segment of a slot that is refused; none where a unit was requested there that is one of the
+/// host's.
+#[tactic(auto, unfolding(crate::specs::SeenSegments::seen_unread))]
+fn refused_segment<'a>(
+    inputs: &NamedFiles<'a>,
+    host: &HostReading<'a>,
+    slot: u8,
+) -> Option<ReadSegment<'a>>
+    requires { slot < SLOTS }
+    ensures { option_map seen result ≡ seen_unread host.now slot (origin_at inputs.now.host.now
+        (contents inputs.now.libs.now) (entry_in host.now slot)) }
+{
+    match part_in(host, slot) {
+        None => None,
+        Some(part) => Some(refused_as(inputs, host, slot, part)),
+    }
+}
+
+/// The segment of a slot that was not looked for; none where there is none.
+#[tactic(auto, unfolding(crate::specs::SeenSegments::seen_unread))]
+fn segment_left<'a>(host: &HostReading<'a>, slot: u8) -> Option<ReadSegment<'a>>
+    requires { slot < SLOTS }
+    ensures { option_map seen result ≡ seen_unread host.now slot (Err NotLookedFor) }
+{
+    match part_in(host, slot) {
+        None => None,
+        Some(part) => {
+            let name = name_of_slot(host, slot);
+            Some(without_entry(Some(slot), name, part, Absent::NotLookedFor))
+        }
+    }
+}
+
 /// The segment of a slot; none where there is none.
+#[tactic(auto, unfolding(crate::specs::SeenSegments::seen_in))]
 fn segment_in<'a>(
     inputs: &NamedFiles<'a>,
     host: &HostReading<'a>,
@@ -388,9 +520,11 @@ fn segment_in<'a>(
     ensures { option_map seen result ≡ seen_in inputs.now.host.now
         (contents inputs.now.libs.now) host.now slot }
 {
-    match part_in(host, slot) {
+    match host.segment(slot) {
+        Some(Ok(segment)) => segment_read(host, segment),
+        Some(Err(_)) => refused_segment(inputs, host, slot),
+        None if host.fault().is_some() => segment_left(host, slot),
         None => None,
-        Some(part) => Some(segment_as(inputs, host, slot, part)),
     }
 }
 
@@ -401,41 +535,39 @@ fn segment_of<'a>(host: &HostReading<'a>, unit: &UnitReference) -> Option<ReadSe
     if is_of_host(host, &unit.name) {
         return None;
     }
-    let requester = name_in(host, unit.at.segment.slot);
-    let rec = unit.at.rec;
-    let part = SegmentPart::Added { requester, rec };
-    Some(without_entry(None, unit.name, part, Reason::NoSlot))
+    let part = added_part(host.segments(), unit.at);
+    Some(without_entry(None, unit.name, part, Absent::NoSlot))
 }
 
-/// The unit that is requested and for which no slot is left, after so many that take one.
-fn unit_without_slot<'a>(host: &HostReading<'a>, added: usize) -> Option<ReadSegment<'a>>
-    ensures { option_map seen result ≡ option_and_then (seen_unit host.now)
-        (slice_get (read_requests host.now.order host.now.file
-        (opened_files host.now.order host.now.libs)) added) }
+/// The first unit that is requested and for which no slot is left.
+#[tactic(auto, unfolding(crate::specs::SeenSegments::unplaced))]
+fn unit_without_slot<'a>(host: &HostReading<'a>) -> Option<ReadSegment<'a>>
+    ensures { option_map seen result ≡ unplaced host.now }
 {
-    match host.requested().get(added) {
+    match host.unplaced() {
         None => None,
-        Some(unit) => segment_of(host, unit),
+        Some(unit) => segment_of(host, &unit),
     }
 }
 
 /// The first segment of the list that has this slot of the host.
-pub fn in_slot<'a>(list: &[ReadSegment<'a>], slot: u8) -> Option<ReadSegment<'a>> {
+pub fn in_slot<'l, 'a>(list: &'l [ReadSegment<'a>], slot: u8) -> Option<&'l ReadSegment<'a>> {
     for segment in list {
         if segment.slot == Some(slot) {
-            return Some(*segment);
+            return Some(segment);
         }
     }
     None
 }
 
 /// The segment of the host program.
-pub fn host_of<'a>(list: &[ReadSegment<'a>]) -> Option<ReadSegment<'a>>
-    ensures { option_map seen result ≡ find (λ s. is_host_part s.part) (map seen list.now) }
+pub fn host_of<'l, 'a>(list: &'l [ReadSegment<'a>]) -> Option<&'l ReadSegment<'a>>
+    ensures { option_map (λ s. seen s.now) result
+        ≡ find (λ s. is_host_part s.part) (map seen list.now) }
 {
     for segment in list {
         if segment.part.is_host() {
-            return Some(*segment);
+            return Some(segment);
         }
     }
     None
@@ -469,21 +601,9 @@ fn segments_in<'a, A: Allocator + Copy>(
         (contents inputs.now.libs.now) host.now) }
 {
     let mut list = segments_in_slots(alloc, inputs, host)?;
-    let taken = slots_taken(host);
-    let unit = unit_without_slot(host, taken);
+    let unit = unit_without_slot(host);
     add_segment(&mut list, unit)?;
     Ok(list)
-}
-
-/// How many slots units take that records request.
-fn slots_taken(host: &HostReading<'_>) -> usize
-    ensures { result ≡ taken_of host.now slots }
-{
-    let mut taken = 0usize;
-    for slot in 0..SLOTS {
-        taken = taken.saturating_add(usize::from(takes_slot(host, slot)));
-    }
-    taken
 }
 
 fn add_segment<'a, A: Allocator>(

@@ -55,10 +55,10 @@ impl<'c, 'a> Context<'c, 'a> {
         match in_slot(self.list, slot) {
             Some(
                 ReadSegment {
-                    source: Some((at, _)),
+                    source: Ok(source),
                     ..
                 },
-            ) => at.file == file && at.index == index,
+            ) => source.at.file == file && source.at.index == index,
             _ => false,
         }
     }
@@ -94,8 +94,8 @@ fn comes_from(segment: &ReadSegment<'_>, file: usize, name: &Name) -> bool
     ensures { result ≡ comes_from_spec file name.now (seen segment.now) }
 {
     match segment.source {
-        Some((at, _)) => at.file == file && segment.name == *name,
-        None => false,
+        Ok(source) => source.at.file == file && segment.name == *name,
+        Err(_) => false,
     }
 }
 
@@ -209,17 +209,17 @@ pub fn findings_of<'a, A: Allocator + Copy>(
         list: Vec::new(alloc),
     };
     let host = records_of_host(list);
-    add_all(&mut findings, inputs, list, host.as_ref(), fault)?;
+    add_all(&mut findings, inputs, list, host, fault)?;
     Ok(findings)
 }
 
 /// The records of the host program of a link, if it has one.
-fn records_of_host<'a>(list: &[ReadSegment<'a>]) -> Option<LinkInformation<'a>>
-    ensures { result ≡ host_records (map seen list.now) }
+fn records_of_host<'l, 'a>(list: &'l [ReadSegment<'a>]) -> Option<&'l LinkInformation<'a>>
+    ensures { option_map (λ h. h.now) result ≡ host_records (map seen list.now) }
 {
     match host_of(list) {
         None => None,
-        Some(host) => Some(host.records()),
+        Some(host) => Some(&host.records),
     }
 }
 

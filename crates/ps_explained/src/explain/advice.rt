@@ -37,8 +37,8 @@ fn wrong_in(case: &Case<'_, '_>) -> &'static str {
 
 /// The bytes of the code of the fault's segment are exchanged in pairs.
 fn is_exchanged(case: &Case<'_, '_>) -> bool {
-    match case.segment {
-        Some(segment) => is_swapped(segment.order, case.code()),
+    match case.source() {
+        Some(source) => is_swapped(source.order, case.code()),
         None => false,
     }
 }

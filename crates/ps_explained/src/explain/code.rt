@@ -2,6 +2,7 @@
 ghost use Rattle.std.specs.Prelude.{◌≡◌, ◌+◌, ◌*◌};
 
 use crate::cases::Case;
+use ps_segments::Source;
 use ps_warnings::dead_run;
 use ps_words::BLOCK_SIZE;
 use std::fmt::{self, Formatter, Write};
@@ -16,10 +17,10 @@ fn extent_of(address: u16, length: u16) -> (usize, usize)
 
 /// Where the code would lie.
 pub(super) fn write_extent<W: Write>(f: &mut Formatter<W>, case: &Case<'_, '_>) -> fmt::Result {
-    let Some(segment) = case.segment else {
+    let Some(found) = case.found() else {
         return Ok(());
     };
-    let Some((at, found)) = segment.source else {
+    let Some(Source { at, .. }) = case.source() else {
         return Ok(());
     };
     let (start, end) = extent_of(found.address, found.length);

@@ -13,7 +13,7 @@ pub(super) fn write_defined<W: Write>(f: &mut Formatter<W>, case: &Case<'_, '_>)
         return Ok(());
     };
     if let Some(host) = host_of(case.list) {
-        write_host_names(f, &host.records(), &requested.name)?;
+        write_host_names(f, &host.records, &requested.name)?;
     }
     match case.own_definition(&requested.name) {
         Some(rec) => writeln!(

@@ -207,7 +207,10 @@ fn no_slot<'a>(host: &HostSlots<'a>, libs: &'a [&'a [u8]], requested: &UnitRefer
 }
 
 /// The k-th request of the queue, from 0; `None` if the queue is shorter.
-fn requested_at(queue: &ArrayVec<UnitReference, MAX_REQUESTED>, k: usize) -> Option<UnitReference>
+pub(crate) fn requested_at(
+    queue: &ArrayVec<UnitReference, MAX_REQUESTED>,
+    k: usize,
+) -> Option<UnitReference>
     ensures { result ≡ slice_get queue.now.items k }
 {
     queue.get(k).copied()

@@ -69,9 +69,10 @@ fn read_information<'a>(
     }
 }
 
-/// The link information of an entry with this code, whose procedure tables are read first, or the
-/// first fault of either. Neither is looked at where the segment is linked already.
-fn read_linked<'a>(
+/// The link information of an entry, 0 to 15, of a file, with this code and this role, or the first
+/// fault: of its procedure tables, and then of the records. Neither is looked at where the segment is
+/// linked already. The fault is at `place`; what one of the segments `earlier` has is not read again.
+pub fn read_linked<'a>(
     from: &Dict<'a>,
     index: u8,
     code: &'a [u8],

@@ -167,6 +167,16 @@ impl<'a> Segment<'a> {
         }
     }
 
+    /// A copy, which borrows the same files.
+    pub fn copy(&self) -> Segment<'a>
+        ensures { result ≡ self.now }
+    {
+        Segment {
+            records: self.records.copy(),
+            ..*self
+        }
+    }
+
     /// Where the segment is: its file, and its slot in the host.
     pub fn place(&self) -> SegmentAt
         ensures { result ≡ record { file = self.now.file; slot = self.now.slot } }

@@ -4,7 +4,8 @@ ghost use Rattle.arrayvec.specs.ArrayVec.{array_vec_len};
 ghost use Rattle.std.specs.Result.{result_err, result_ok};
 ghost use Rattle.ps_reading.specs.Sources.{own_segment, opened};
 ghost use Rattle.ps_reading.specs.Faults.{source_fault, sources_fault};
-ghost use Rattle.ps_reading.specs.Readings.{read_segments};
+ghost use Rattle.ps_reading.specs.Searches.{first_of};
+ghost use Rattle.ps_reading.specs.Readings.{own_faults, read_segments};
 ghost use Rattle.ps_reading.specs.KnownSegments.{IsRead};
 
 use crate::locations::SegmentAt;
@@ -105,4 +106,59 @@ pub(crate) fn read_slots<'a>(
         add_segment_or_fault(segments, &mut first, read);
     }
     first
+}
+
+/// Adds the segment of a slot, where it has one, or answers its fault.
+#[inline(always)]
+fn add_segment<'a>(
+    segments: &mut ArrayVec<Segment<'a>, SLOT_COUNT>,
+    read: Result<Option<Segment<'a>>, Fault>,
+) -> Option<Fault>
+    requires { array_vec_len segments.old < SLOT_COUNT }
+    ensures segments { segments.new.items ≡ segments.old.items
+        ++ option_to_list (option_and_then (λ s. s) (result_ok read.entry)) }
+    ensures fault { result ≡ result_err read.entry }
+{
+    match read {
+        Err(fault) => Some(fault),
+        Ok(None) => None,
+        Ok(Some(segment)) => {
+            segments.push(segment);
+            None
+        }
+    }
+}
+
+/// Reads the host's own slots as [`read_slots`] does, and keeps the fault of the source of each.
+pub(crate) fn read_each_slot<'a>(
+    host: &HostSlots<'a>,
+    libs: &'a [&'a [u8]],
+    segments: &mut ArrayVec<Segment<'a>, SLOT_COUNT>,
+) -> [Option<Fault>; SLOT_COUNT]
+    requires { segments.old.items ≡ [] }
+    ensures faults { result ≡ own_faults host.now.order host.now.file
+        (opened host.now.order libs.now) }
+    ensures segments { segments.new.items
+        ≡ read_segments host.now.order host.now.file (opened host.now.order libs.now) }
+    ensures read { All (IsRead host.now.order host.now.file (opened host.now.order libs.now))
+        segments.new.items }
+{
+    let mut faults = [None; SLOT_COUNT];
+    for slot in 0..SLOTS {
+        let read = read_slot(host, libs, slot, segments.as_slice());
+        faults[slot as usize] = add_segment(segments, read);
+    }
+    faults
+}
+
+/// The first of these faults, which are those of the slots in their order.
+pub(crate) fn first_fault(faults: &[Option<Fault>]) -> Option<Fault>
+    ensures { result ≡ first_of (λ fault. fault) faults.now }
+{
+    for fault in faults {
+        if fault.is_some() {
+            return *fault;
+        }
+    }
+    None
 }

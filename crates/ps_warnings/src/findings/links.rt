@@ -91,8 +91,8 @@ fn file_of(segment: &ReadSegment<'_>) -> usize
     ensures { result ≡ unwrap_or (seen segment.now).file 0 }
 {
     match segment.source {
-        Some(source) => source.0.file,
-        None => 0,
+        Ok(source) => source.at.file,
+        Err(_) => 0,
     }
 }
 

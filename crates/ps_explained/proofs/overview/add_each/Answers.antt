@@ -1,26 +1,31 @@
-use Rattle.std.proofs.Common.{◌∙◌, ◌∷◌, List, ℕ, string_bytes, subst, sym}
-use Rattle.std.specs.Result.{OnOk}
+use Rattle.std.proofs.Common.{◌∷◌, List, ℕ, map, string_bytes, subst}
+use Rattle.std.proofs.lemmas.List.{take_all}
 use Rattle.ps_resolve.specs.Sources.{contents}
-use Rattle.ps_resolve.proofs.ReadingSlots.{fault_of_none}
+use Rattle.ps_segments.specs.Seen.{seen}
+use Rattle.ps_segments.specs.declared.segments.ReadSegment.{ReadSegment}
+use Rattle.ps_explained.specs.SegmentLines.{read_lines}
 use Rattle.ps_explained.specs.SlotLines.{AddsSlotLines}
-use Rattle.ps_explained.proofs.LinesOfSegments.{lines_are}
+use Rattle.ps_explained.proofs.LinesOfSegments.{adds_next_read}
+use Rattle.ps_explained.proofs.SlotLines.{adds_then_none}
 use Rattle.ps_explained.proofs.overview.add_each.Goals as goal
 
-pub returns-in-Err-clause-linked : goal.returns-in-Err-clause-linked
-returns-in-Err-clause-linked g c = λ none.
-    let some = fault_of_none c.args.reading.now.host c.args.reading.now.libs c.in-Err.field-0
-    c.in-Err.ensures.refused in
-    let both = sym none ∙ some in
-    cc
-
-pub returns-in-Ok-clause-linked : goal.returns-in-Ok-clause-linked
-returns-in-Ok-clause-linked g c = λ none.
-    let files = c.args.reading.now in
+pub loop-segment-preserved : goal.loop-segment-preserved
+loop-segment-preserved g c =
     let paths : List (List ℕ) = c.args.inputs.now.host_path.now
     ∷ contents c.args.inputs.now.paths.now in
-    let are = lines_are paths files.host files.libs c.in-Ok.host.now
-    c.segments.result.now c.requested.result.now c.in-Ok.ensures.opened
-    (c.segments.ensures.all none) c.requested.ensures in
-    subst (λ (lines : List (List ℕ)). OnOk c.add_linked.result
-    (AddsSlotLines (string_bytes c.args.text.now) lines (string_bytes c.add_linked.new.text)))
-    are c.add_linked.ensures
+    let before = string_bytes c.loop-segment.text in
+    let told = string_bytes c.add_segment.new.text in
+    let after = string_bytes c.add_other_lines.new.text in
+    adds_next_read paths (string_bytes c.args.text.now) before after c.args.list.now
+    c.loop-segment.segment-index _ c.loop-segment-test.true c.loop-segment.invariant
+    (adds_then_none before told after _ c.in_ok-add_segment.ensures
+    c.in_ok-add_other_lines.ensures)
+
+pub returns : goal.returns
+returns g c =
+    let list : List ReadSegment = c.args.list.now in
+    let paths : List (List ℕ) = c.args.inputs.now.host_path.now
+    ∷ contents c.args.inputs.now.paths.now in
+    subst (λ (ss : List ReadSegment). AddsSlotLines (string_bytes c.args.text.now)
+    (read_lines paths (map seen ss)) (string_bytes c.loop-segment.text))
+    (take_all c.loop-segment.segment-index list c.loop-segment-test.false) c.loop-segment.invariant

@@ -3,8 +3,8 @@ use Rattle.ps_resolve.proofs.ReadingCodes.{whole}
 use Rattle.ps_listing.proofs.LinkedEntries.{linked_kind}
 use Rattle.ps_listing.proofs.by_itself.read_by_itself.Goals as goal
 
-pub read_code-requires-clause-large : goal.read_code-requires-clause-large
-read_code-requires-clause-large c linked =
+pub read_linked-requires-clause-large : goal.read_linked-requires-clause-large
+read_linked-requires-clause-large c linked =
     let dict = c.args.dict.now in
     let e = entry_at dict.order dict.file c.args.slot in
     let is = whole dict.file e c.in-Ok.code.now c.in-Ok.ensures in

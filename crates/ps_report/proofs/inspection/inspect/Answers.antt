@@ -1,23 +1,29 @@
-use Rattle.std.proofs.Common.{◌≡◌, ◌∙◌, ◌∷◌, List, ℕ, None, ap, map, string_bytes, subst}
+use Rattle.std.proofs.Common.{◌∙◌, ◌∷◌, List, ℕ, ap, map}
 use Rattle.ps_warnings.specs.AllFindings.{link_findings_of}
 use Rattle.ps_segments.specs.Seen.{Seen, seen}
 use Rattle.ps_segments.specs.SeenSegments.{seen_by}
 use Rattle.ps_resolve.specs.AllFaults.{reading_fault}
 use Rattle.ps_resolve.specs.Readings.{ReadFiles, opened_host}
 use Rattle.ps_resolve.specs.Sources.{contents}
-use Rattle.ps_explained.specs.SegmentLines.{read_lines, segment_lines}
-use Rattle.ps_explained.specs.SlotLines.{slot_lines}
+use Rattle.ps_explained.specs.SegmentLines.{read_lines}
+use Rattle.ps_explained.proofs.ReadLines.{read_lines_are}
 use Rattle.ps_report.specs.Reports.{told_of}
 use Rattle.ps_report.specs.Verdicts.{verdict_name}
 use Rattle.ps_report.proofs.inspection.inspect.Goals as goal
 
 pub returns-clause-linked : goal.returns-clause-linked
-returns-clause-linked g c =
+returns-clause-linked g c = λ none.
+    let host = c.args.host.now in
+    let libs = contents c.args.libs.now in
     let paths : List (List ℕ) = c.args.host_path.now ∷ contents c.args.paths.now in
-    let segments = string_bytes c.in_ok-overview.overview.segments in
-    subst (λ (f : ReadFiles). reading_fault f.host f.libs ≡ None
-    → slot_lines segments ≡ segment_lines paths f.host f.libs) c.read_files-reading.ensures
-    c.in_ok-overview.ensures.linked
+    let list = ap (map seen) c.as_slice.ensures.value
+    ∙ (c.in_ok-list.ensures
+    ∙ ap (λ (f : ReadFiles). seen_by host libs (opened_host f.host f.libs))
+    c.requires) in
+    let read = ap (λ (f : ReadFiles). reading_fault f.host f.libs) c.requires ∙ none in
+    let told = c.told_segments-told.ensures.all read ∙ list in
+    c.in_ok-overview.ensures.read ∙ (ap (λ (l : List Seen). read_lines paths l) told
+    ∙ read_lines_are paths host libs none)
 
 pub returns-clause-read : goal.returns-clause-read
 returns-clause-read g c = λ why is.
@@ -27,11 +33,12 @@ returns-clause-read g c = λ why is.
     let list = ap (map seen) c.as_slice.ensures.value
     ∙ (c.in_ok-list.ensures
     ∙ ap (λ (f : ReadFiles). seen_by host libs (opened_host f.host f.libs))
-    c.read_files-reading.ensures) in
-    let read = ap (λ (f : ReadFiles). reading_fault f.host f.libs) c.read_files-reading.ensures ∙ is
+    c.requires) in
+    let read = ap (λ (f : ReadFiles). reading_fault f.host f.libs) c.requires ∙ is
     in
-    let told = c.told_segments-told.ensures why read ∙ ap (λ (l : List Seen). told_of host l) list in
-    c.in_ok-overview.ensures.read why read ∙ ap (λ (l : List Seen). read_lines paths l) told
+    let told = c.told_segments-told.ensures.refused why read
+    ∙ ap (λ (l : List Seen). told_of host l) list in
+    c.in_ok-overview.ensures.read ∙ ap (λ (l : List Seen). read_lines paths l) told
 
 pub returns-clause-findings : goal.returns-clause-findings
 returns-clause-findings g c =
@@ -43,12 +50,12 @@ returns-clause-findings g c =
     (ap (map seen) c.as_slice-3.ensures.value
     ∙ (c.in_ok-list.ensures
     ∙ ap (λ (f : ReadFiles). seen_by host libs (opened_host f.host f.libs))
-    c.read_files-reading.ensures))
+    c.requires))
 
 pub returns-clause-name : goal.returns-clause-name
 returns-clause-name g c = c.verdict_name-name.ensures
     ∙ ap (λ (f : ReadFiles). verdict_name f.host f.libs c.args.verdict)
-    c.read_files-reading.ensures
+    c.requires
 
 pub returns-clause-explanation : goal.returns-clause-explanation
 returns-clause-explanation g c = λ none.

@@ -7,7 +7,9 @@ use Rattle.ps_listing.specs.FileLists.{IsList}
 use Rattle.ps_listing.specs.declared.lists.ListForm.TheVariants.{Lines}
 use Rattle.ps_warnings.specs.Found.{about_link_in}
 use Rattle.ps_report.specs.Reported.{said, warning_count}
-use Rattle.ps_report.specs.Verdicts.{fault_of}
+use Rattle.ps_report.specs.Verdicts.{IsVerdict, fault_of}
+use Rattle.ps_report.specs.declared.verdict.Verdict.{Verdict}
+use Rattle.ps_resolve.specs.Readings.{ReadFiles}
 use Rattle.ps_report.specs.Lists.{lacks_host}
 use Rattle.ps_explained.specs.FileLines.{AreFileLines}
 use Rattle.ps_explained.proofs.SlotLines.{lines_in}
@@ -16,15 +18,24 @@ use Rattle.ps_report.proofs.Reports.{is_report}
 use Rattle.ps_report.proofs.Verdicts.{linked_or_not, refused_or_not, warned_or_refused}
 use Rattle.ps_report.proofs.report.check.Goals as goal
 
+-- the verdict on what was read of files is that on the files
+of_files : (host : List ℕ) (libs : List (List ℕ)) (verdict : Verdict) {f : ReadFiles}
+    → f ≡ record { host = host; libs = libs } → IsVerdict f.host f.libs verdict
+    → IsVerdict host libs verdict
+of_files host libs verdict is right =
+    subst (λ (g : ReadFiles). IsVerdict g.host g.libs verdict) is right
+
 pub returns-clause-links : goal.returns-clause-links
 returns-clause-links g c = linked_or_not c.args.host.now (contents c.args.libs.now)
     (warning_count (map said c.in_ok-findings.findings.items)) c.in_ok-verdict.verdict
-    c.in_ok-verdict.ensures.right
+    (of_files c.args.host.now (contents c.args.libs.now) c.in_ok-verdict.verdict
+    c.read_files-reading.ensures c.in_ok-verdict.ensures.right)
 
 pub returns-clause-refused : goal.returns-clause-refused
 returns-clause-refused g c = refused_or_not c.args.host.now (contents c.args.libs.now)
     (warning_count (map said c.in_ok-findings.findings.items)) c.in_ok-verdict.verdict
-    c.in_ok-verdict.ensures.right
+    (of_files c.args.host.now (contents c.args.libs.now) c.in_ok-verdict.verdict
+    c.read_files-reading.ensures c.in_ok-verdict.ensures.right)
 
 pub returns-clause-report : goal.returns-clause-report
 returns-clause-report g c =
@@ -32,7 +43,8 @@ returns-clause-report g c =
     let libs : List (List ℕ) = contents c.args.libs.now in
     let paths : List (List ℕ) = c.args.host_path.now ∷ contents c.args.paths.now in
     let verdict = c.in_ok-verdict.verdict in
-    let right = c.in_ok-verdict.ensures.right in
+    let right = of_files host libs verdict c.read_files-reading.ensures
+    c.in_ok-verdict.ensures.right in
     let front = string_bytes c.in_ok-front.front in
     let told = c.in_ok-front.ensures in
     let found = c.in_ok-inspection.ensures in
@@ -87,5 +99,7 @@ pub returns-clause-warned : goal.returns-clause-warned
 returns-clause-warned g c =
     warned_or_refused (c.args.host_path.now ∷ contents c.args.paths.now) c.args.host.now
     (contents c.args.libs.now) (warning_count (map said c.in_ok-findings.findings.items))
-    c.in_ok-verdict.verdict c.in_ok-verdict.ensures.right
+    c.in_ok-verdict.verdict
+    (of_files c.args.host.now (contents c.args.libs.now) c.in_ok-verdict.verdict
+    c.read_files-reading.ensures c.in_ok-verdict.ensures.right)
     (returns-clause-report g c).warnings

@@ -1,10 +1,8 @@
-use Rattle.ps_resolve.proofs.Vocabulary.{◌≡◌, ℕ, List, map, true, false, Option, None, Ok, is_some, sym, ◌∙◌, ap, subst, All, IfOk, IfErr-weaker, IfOk-weaker, Fault, Order, OpenedFile, opened_alone, Segment, contents, host_of, opened_files, order_of, segments, linking_fault, AscendFrom, HasOneHost, first_fault, reading_fault, AreOfLink, AreStopped, AreLinks, IsStopped, all_read, host_reading_fault, own_reading_fault, read_rounds}
-use Rattle.ps_resolve.proofs.FirstFaults.{first_read, first_linked, stopped}
-use Rattle.ps_reading.proofs.OfLink.{has_host, of_link, slots_fine}
+use Rattle.ps_resolve.proofs.Vocabulary.{◌≡◌, ℕ, List, None, Option, Ok, sym, ◌∙◌, ap, subst, All, IfOk-weaker, Fault, Order, OpenedFile, opened_alone, Segment, contents, opened_files, order_of, segments, linking_fault, reading_fault, all_read, host_reading_fault, own_reading_fault, read_rounds}
+use Rattle.ps_resolve.proofs.FirstFaults.{first_read}
+use Rattle.ps_resolve.proofs.WholeReadings.{all_known, are_whole, links_are, none_first, stop_is}
 use Rattle.ps_reading.proofs.ReadingHosts.{host_is, host_read}
-use Rattle.ps_reading.proofs.ReadingKnown.{ascend, one_host}
 use Rattle.ps_reading.proofs.ReadingSlots.{reading_is, segments_are, units_last}
-use Rattle.ps_reading.proofs.SharedRecords.{all_sound, read_alike}
 use Rattle.ps_reading.specs.KnownSegments.{IsRead}
 use Rattle.ps_resolve.proofs.resolving.link_units.Goals as goal
 
@@ -44,88 +42,46 @@ faultless : (o : OpenedFile) (libs : List (List ℕ)) (last : Option Fault)
 faultless o libs last own ends none = sym (units_last o.order o.file libs None last (sym own) ends)
     ∙ none
 
-pub host_of-requires : goal.host_of-requires
-host_of-requires g c =
-    let o : OpenedFile = c.args.slots.now in
-    rw (c.as_slice-items.ensures.value, c.order-order.ensures)
-    (all_sound o.order o.file (opened_files o.order (contents c.args.libs.now))
-    c.read_added.new.segments.items c.read_added.ensures.read)
-
-pub returns-in-None-clause-stop : goal.returns-in-None-clause-stop
-returns-in-None-clause-stop g c =
-    let o : OpenedFile = c.args.slots.now in
-    let libs = contents c.args.libs.now in
-    let none = faultless o libs c.read_added.result.fault c.requires.faultless
-    c.read_added.ensures.ends c.in_default.is in
-    let host : List ℕ = c.args.host.now in
-    let t = all_of host libs o c.read_added.new.segments.items c.requires.opened
-    c.read_added.ensures.all none in
-    let has = has_host host libs t.0 in
-    let lacks = c.in-None.ensures.found ∙ ap host_of c.as_slice-items.ensures.value
-    ∙ ap host_of t.1 in
-    let no : is_some (host_of (segments (order_of host) host libs)) ≡ false =
-    ap is_some (sym lacks) in
-    let wrong : true ≡ false = sym has ∙ no in
-    cc
-
-pub invariant_of-link_segments : goal.invariant_of-link_segments
-invariant_of-link_segments g c =
+pub link_read-requires : goal.link_read-requires
+link_read-requires g c =
     let o : OpenedFile = c.args.slots.now in
     let libs = contents c.args.libs.now in
     let files = opened_files o.order libs in
-    let given : List Segment = c.as_slice-items.result.now in
+    let host : List ℕ = c.args.host.now in
+    let given : List Segment = c.as_slice.result.now in
+    let order : Order = c.order.result in
     let none = faultless o libs c.read_added.result.fault c.requires.faultless
     c.read_added.ensures.ends c.in_default.is in
-    let host : List ℕ = c.args.host.now in
-    let value = c.as_slice-items.ensures.value in
+    let value = c.as_slice.ensures.value in
     let t = all_of host libs o given c.requires.opened (value ∙ c.read_added.ensures.all) none in
+    let order_is : order ≡ order_of host = c.order.ensures
+    ∙ ap (λ (x : OpenedFile). x.order) (host_is host o (sym c.requires.opened)) in
     let read : All (IsRead o.order o.file files) given =
     subst (All (IsRead o.order o.file files)) (sym value) c.read_added.ensures.read in
-    record {
-      sound = rw c.order-order.ensures (all_sound o.order o.file files given read);
-      found = sym c.in-Some-host_of.ensures.found;
-      own = c.in-Some-host_of.ensures.is;
-      one_host = subst HasOneHost (sym t.1)
-          (one_host (order_of host) host libs (slots_fine host libs t.0));
-      ascending = subst (λ (ss : List Segment). AscendFrom 0 (map (λ s. s.slot) ss)) (sym t.1)
-          (ascend (order_of host) host libs);
-      alike = read_alike o.order o.file files given read;
-      most = c.as_slice-items.ensures.fits;
-    }
+    are_whole host libs t.0 order order_is given t.1 o.file files
+    (subst (λ (r : Order). All (IsRead r o.file files) given) (sym c.order.ensures) read)
+    c.as_slice.ensures.fits
 
-pub returns-in-Some-host_of : goal.returns-in-Some-host_of
-returns-in-Some-host_of g c =
-    let host : List ℕ = c.args.host.now in
+pub returns : goal.returns
+returns g c =
     let o : OpenedFile = c.args.slots.now in
     let libs = contents c.args.libs.now in
-    let is = host_is host o (sym c.requires.opened) in
-    let order : Order = c.order-order.result in
-    let given : List Segment = c.as_slice-items.result.now in
+    let host : List ℕ = c.args.host.now in
+    let given : List Segment = c.as_slice.result.now in
+    let order : Order = c.order.result in
     let all : List Segment = segments (order_of host) host libs in
-    let read = faultless o libs c.read_added.result.fault c.requires.faultless
+    let none = faultless o libs c.read_added.result.fault c.requires.faultless
     c.read_added.ensures.ends c.in_default.is in
-    let order_is : order ≡ order_of host =
-    c.order-order.ensures ∙ ap (λ (x : OpenedFile). x.order) is in
-    let value = c.as_slice-items.ensures.value in
-    let t = all_of host libs o given c.requires.opened (value ∙ c.read_added.ensures.all) read in
-    let same : linking_fault order given ≡ linking_fault (order_of host) all =
-    ap (linking_fault order) t.1 ∙ ap (λ (o : Order). linking_fault o all) order_is in
+    let value = c.as_slice.ensures.value in
+    let t = all_of host libs o given c.requires.opened (value ∙ c.read_added.ensures.all) none in
+    let order_is : order ≡ order_of host = c.order.ensures
+    ∙ ap (λ (x : OpenedFile). x.order) (host_is host o (sym c.requires.opened)) in
+    let links = c.link_read.ensures in
     record {
-      links = subst (λ (o : Order). IfOk c.link_segments.result (AreLinks o all)) order_is
-          (subst (λ (segs : List Segment). IfOk c.link_segments.result (AreLinks order segs)) t.1
-          c.link_segments.ensures.links);
-      sound = IfOk-weaker c.link_segments.result (λ _. linking_fault order given ≡ None)
-          (λ _. first_fault host libs ≡ None)
-          (λ _ h. first_linked host libs t.0 ∙ sym same ∙ h) c.link_segments.ensures.sound;
-      segments = IfOk-weaker c.link_segments.result (λ _. linking_fault order given ≡ None)
-          (λ _. c.read_added.new.segments.items ≡ all) (λ _ h. sym value ∙ t.1)
-          c.link_segments.ensures.sound;
-      known = IfOk-weaker c.link_segments.result (λ _. linking_fault order given ≡ None)
-          (λ _. AreOfLink host libs all)
-          (λ _ h. of_link host libs t.0) c.link_segments.ensures.sound;
-      stop = IfErr-weaker c.link_segments.result (AreStopped order given) (IsStopped host libs)
-          (λ stop d. stopped host libs t.0 stop
-          (subst (λ (o : Order). AreStopped o all stop) order_is
-          (subst (λ (segs : List Segment). AreStopped order segs stop) t.1 d)))
-          c.link_segments.ensures.stop;
+      links = links_are host libs t.0 order order_is given t.1 c.link_read.result links.links;
+      segments = IfOk-weaker c.link_read.result (λ _. linking_fault order given ≡ None)
+          (λ _. c.read_added.new.segments.items ≡ all) (λ _ h. sym value ∙ t.1) links.sound;
+      sound = none_first host libs t.0 order order_is given t.1 c.link_read.result links.sound;
+      known = all_known host libs t.0 order order_is given t.1 c.link_read.result links.sound;
+      stop = stop_is host libs t.0 order order_is given t.1 c.link_read.result links.stop;
     }

@@ -1,18 +1,8 @@
-use Rattle.ps_resolve.proofs.Vocabulary.{◌≡◌, ◌≤◌, ℕ, List, length, Bool, true, false, if◌then◌else◌, Ok, Err, refl, sym, ◌∙◌, ap, arith, ltb, nat_tests, OpenedFile, FileOrder, file_order, opened_alone, opened_as, order_of, contents, segments, slot_names}
-use Rattle.ps_words.specs.declared.fault.Reason.TheVariants as reason
+use Rattle.ps_resolve.proofs.Vocabulary.{ℕ, List, length, Ok, refl, sym, ◌∙◌, ap, OpenedFile, order_of, contents, segments, slot_names}
 use Rattle.ps_reading.proofs.ReadingHosts.{host_is}
 use Rattle.ps_resolve.proofs.Lengths.{lengths}
+use Rattle.ps_resolve.proofs.WholeReadings.{whole_of}
 use Rattle.ps_resolve.proofs.resolving.resolve_opened.Goals as goal
-
--- a host that was opened has a whole dictionary
-not_short : (short : Bool) (of : FileOrder) (file : List ℕ) (o : OpenedFile)
-    → (if short then Err reason.ShortFile else opened_as file of) ≡ Ok o → short ≡ false
-not_short true of file o h = cc
-not_short false of file o h = refl
-
-whole_of : (host : List ℕ) (o : OpenedFile) → Ok o ≡ opened_alone host → 512 ≤ length host
-whole_of host o h = let e : ltb (length host) 512 ≡ false =
-    not_short (ltb (length host) 512) (file_order host) host o (sym h) in grind (arith, nat_tests)
 
 pub invariant_of-result : goal.invariant_of-result
 invariant_of-result g c =

@@ -1,25 +1,20 @@
-use Rattle.std.proofs.Common.{◌∙◌, ◌++◌, [], ℕ, List, ap}
-use Rattle.std.specs.Prelude.{Option, filter_map, option_and_then, slice_get}
+use Rattle.std.proofs.Common.{◌∙◌, ◌++◌, [], List, ap}
+use Rattle.std.specs.Prelude.{Option, filter_map}
 use Rattle.std.specs.List.{cons_option}
 use Rattle.std.specs.Option.{option_map}
 use Rattle.ps_codefile.specs.Dictionary.{slots}
-use Rattle.ps_resolve.specs.Readings.{read_requests}
-use Rattle.ps_resolve.specs.Sources.{contents, opened_files}
+use Rattle.ps_resolve.specs.Sources.{contents}
 use Rattle.ps_segments.specs.Seen.{Seen, seen}
-use Rattle.ps_segments.specs.SeenSegments.{seen_in, seen_of, seen_unit, unplaced}
+use Rattle.ps_segments.specs.SeenSegments.{seen_in, seen_of}
 use Rattle.ps_segments.proofs.segments.segments_in.Goals as goal
 
 pub returns : goal.returns
-unfolding seen_of unplaced
+unfolding seen_of
 returns g c =
     let i = c.args.inputs.now in
-    let h = c.args.host.now in
-    let f = seen_in i.host.now (contents i.libs.now) h in
+    let f = seen_in i.host.now (contents i.libs.now) c.args.host.now in
     c.in_ok-add_segment.ensures
     ∙ (ap (λ (l : List Seen). l ++ cons_option (option_map seen c.unit_without_slot-unit.result)
-    [])
-    c.in_ok-list.ensures
+    []) c.in_ok-list.ensures
     ∙ ap (λ (o : Option Seen). filter_map f slots ++ cons_option o [])
-    (c.unit_without_slot-unit.ensures ∙ ap (λ (n : ℕ). option_and_then (seen_unit h)
-    (slice_get (read_requests h.order h.file (opened_files h.order h.libs)) n))
-    c.slots_taken-taken.ensures))
+    c.unit_without_slot-unit.ensures)

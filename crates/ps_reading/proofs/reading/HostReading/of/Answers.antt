@@ -1,5 +1,6 @@
-use Rattle.ps_reading.proofs.Vocabulary.{◌≡◌, ◌∙◌, ℕ, List, Bor, ap, OpenedFile, contents, HostFiles}
-use Rattle.ps_reading.proofs.ReadingSlots.{units_last}
+use Rattle.ps_reading.proofs.Vocabulary.{◌≡◌, ◌∙◌, ℕ, List, Bor, ap, OpenedFile, contents, opened_files, HostFiles}
+use Rattle.ps_reading.proofs.ReadingSlots.{own_is, units_last}
+use Rattle.ps_reading.proofs.ReadingSources.{first_of_slots}
 use Rattle.ps_reading.proofs.reading.HostReading.of.Goals as goal
 
 files_of : (libs : List (Bor (List ℕ))) (a b : OpenedFile) → a ≡ b
@@ -15,16 +16,20 @@ pub invariant_of-result : goal.invariant_of-result
 invariant_of-result c =
     let host = c.of-slots.result in
     let libs = contents c.args.libs.now in
-    let own = c.read_own-own in
     let added = c.read_added-added in
     record {
       whole = rw c.of-slots.ensures c.requires;
       slots_left = added.ensures.empty;
       all = added.ensures.all;
       read = added.ensures.read;
+      faults = c.read_each_slot-refused.ensures.faults;
       requested = added.ensures.requested;
       following = added.ensures.following;
       ends = added.ensures.ends;
-      first = c.or.ensures ∙ units_last host.order host.file libs own.result added.result.fault
-          own.ensures.first added.ensures.ends;
+      first = c.or.ensures ∙ units_last host.order host.file libs c.or-own.result
+          added.result.fault (own_is host.order host.file libs c.files_fault.result
+          c.first_fault.result c.or-own.result c.or-own.ensures c.files_fault.ensures
+          (c.first_fault.ensures ∙ first_of_slots host.order host.file
+          (opened_files host.order libs) c.read_each_slot-refused.result
+          c.read_each_slot-refused.ensures.faults)) added.ensures.ends;
     }

@@ -34,12 +34,12 @@ returns-in-Ok c =
     let here : host_reading_fault v.order v.file v.libs ≡ None =
     fault_of_host file libs v is ∙
     (ap (λ (f : ReadFiles). reading_fault f.host f.libs) c.self.view_is ∙ none) in
-    c.segments.ensures
+    c.segments.ensures.all
     ∙ (segments_are v.order v.file v.libs here
     ∙ (ap (λ (x : HostFiles). segments x.order x.file x.libs) (host_of_files file libs v is)
     ∙ ap (λ (f : ReadFiles). segments (order_of f.host) f.host f.libs) c.self.view_is)) in
     record {
-      read = c.segments.ensures ∙ sym (ap (λ (v : ReadFiles). segments_read v.host v.libs)
+      read = c.segments.ensures.all ∙ sym (ap (λ (v : ReadFiles). segments_read v.host v.libs)
           (sym c.self.view_is) ∙ ap segments_in is);
       all = all;
       known = λ none. subst (AreOfLink f.host f.libs) (sym (all none))

@@ -2,7 +2,7 @@ use Rattle.ps_reading.proofs.Vocabulary.{rules, ◌≡◌, ◌+◌, ◌<◌, ◌
 use Rattle.ps_reading.specs.Faults.{is_role, source_fault, sources_fault}
 use Rattle.ps_reading.specs.Readings.{read_segment, read_segments}
 use Rattle.ps_reading.proofs.BySlot.{fine_of_empty, none_of_empty}
-use Rattle.ps_reading.proofs.ReadingSources.{all_with, kept_on, few_more}
+use Rattle.ps_reading.proofs.ReadingSources.{all_with, by_fault, few_more, kept, kept_on, kept_read}
 use Rattle.ps_reading.proofs.reading.sources.read_slots.Goals as goal
 
 pub loop-slot-init : goal.loop-slot-init
@@ -12,26 +12,6 @@ loop-slot-init c = rw c.requires
 
 pub read_slot-read-requires-clause-read : goal.read_slot-read-requires-clause-read
 read_slot-read-requires-clause-read c = rw c.as_slice.ensures.value c.loop-slot.invariant.read
-
--- what is kept of what was read of a slot
-kept : (fault : Option Fault) (own : Option Segment) (read : Result (Option Segment) Fault)
-    → result_err read ≡ fault → IfOk read (λ s. s ≡ own)
-    → option_and_then (λ s. s) (result_ok read)
-    ≡ (elim fault [ None ↦ own | Some f ↦ None ])
-kept fault own (Err f) is h = rw (sym is) refl
-kept fault own (Ok None) is h = rw (sym is) h
-kept fault own (Ok (Some s)) is h = rw (sym is) h
-
-by_fault : (fault : Option Fault) (own : Option Segment)
-    → (elim fault [ None ↦ own | Some f ↦ None ]) ≡ (if is_none fault then own else None)
-by_fault None own = refl
-by_fault (Some f) own = refl
-
-kept_read : (P : Segment → Type 0) (read : Result (Option Segment) Fault)
-    → IfOk read (λ s. IfSome s P) → IfSome (option_and_then (λ s. s) (result_ok read)) P
-kept_read P (Err f) h = tt
-kept_read P (Ok None) h = tt
-kept_read P (Ok (Some s)) h = h
 
 -- one fault more
 more_faults : (f : ℕ → Option Fault) (first now : Option Fault) (i : ℕ) → i < SLOTS

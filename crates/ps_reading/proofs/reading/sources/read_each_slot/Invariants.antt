@@ -1,0 +1,18 @@
+use Rattle.ps_reading.proofs.Vocabulary.{◌≡◌, ◌≤◌, ◌-◌, ◌++◌, length, map, take, All, filter_map, range_with_len, opened, source_fault, read_segment, read_segments, IsRead, SLOT_COUNT, SLOTS}
+use Rattle.ps_reading.proofs.reading.sources.read_each_slot.Given as goal
+
+-- the segments so far and those of the slots that are left are all, and the faults so far
+abbrev pub invariant-loop-slot : goal.invariant-loop-slot
+invariant-loop-slot l =
+    let order = l.host.order in
+    let host = l.host.file in
+    let libs = opened order l.libs in
+    record {
+      table : length l.faults ≡ SLOT_COUNT;
+      faults : take l.slot l.faults
+          ≡ map (source_fault order host libs) (range_with_len 0 l.slot);
+      all : read_segments order host libs ≡ l.segments.items
+          ++ filter_map (read_segment order host libs) (range_with_len l.slot (SLOTS - l.slot));
+      read : All (IsRead order host libs) l.segments.items;
+      few : length l.segments.items ≤ l.slot;
+    }
