@@ -1,10 +1,8 @@
 //! Memory that is refused.
 use super::args::HELP;
 use super::faulty::NO_FAULTS;
-use super::inputs::{
-    HOST, HOST_IN_PLACE, Image, LIBRARY, LINKED_HOST_IN_PLACE, LINKED_PAIR, save_all, save_text,
-};
-use super::outcome::{clean, done_faulty, done_with, holds, holds_image, says};
+use super::inputs::{save_all, save_text};
+use super::outcome::{clean, done_refused, done_with, holds, holds_image, says};
 use super::wanted::Text;
 use refusing::Refusing;
 use std::process::Abort;
@@ -30,14 +28,6 @@ pub const JSON_REPORT: &str =
 /// Where a link writes in these tests. The other commands write nothing there.
 const OUT: &str = "memory-out";
 
-/// Has OUT as it is before a run.
-fn put_out<R: Files + AllocGlobal + Abort>(rt: &R, is_there: bool) {
-    clean(rt, OUT);
-    if is_there {
-        save_text(rt, OUT, "as before");
-    }
-}
-
 /// Refuses the allocation of this number in the args' run. Returns whether there was one: then
 /// nothing is printed, and no file is opened to be written. Else OUT is the linked file, where the
 /// command links, and no other command opens a file to be written.
@@ -47,38 +37,28 @@ fn is_refused<R: Files + AllocGlobal + Abort>(
     args: &str,
     was_there: bool,
     printed: &str,
-    linked: Option<&Image>,
+    linked: Option<&str>,
 ) -> bool {
-    put_out(rt, was_there);
+    clean(rt, OUT);
+    if was_there {
+        save_text(rt, OUT, "as before");
+    }
     let heap = Refusing::once(rt.alloc(), number);
-    let (run, created) = done_faulty(rt, &heap, NO_FAULTS, args);
+    let (run, created) = done_refused(rt, &heap, NO_FAULTS, args);
     if heap.has_refused() {
         run.is(rt, (args, number), 4, "", NO_MEMORY);
         says(rt, created == 0, &(args, number));
-        is_as_before(rt, was_there, args);
+        if was_there {
+            holds(rt, OUT, b"as before", args);
+        }
         return true;
     }
     run.is(rt, (args, number), 0, printed, "");
-    has_linked(rt, linked, created, args);
-    false
-}
-
-fn is_as_before<R: Files + AllocGlobal + Abort>(rt: &R, was_there: bool, args: &str) {
-    if was_there {
-        holds(rt, OUT, b"as before", args);
-    }
-}
-
-fn has_linked<R: Files + AllocGlobal + Abort>(
-    rt: &R,
-    linked: Option<&Image>,
-    created: u64,
-    args: &str,
-) {
     match linked {
         Some(image) => holds_image(rt, OUT, image, args),
         None => says(rt, created == 0, &args),
     }
+    false
 }
 
 /// Has each allocation of the args' run refused in turn, until none is: how many were.
@@ -87,7 +67,7 @@ fn refused_allocations<R: Files + AllocGlobal + Abort>(
     args: &str,
     was_there: bool,
     printed: &str,
-    linked: Option<&Image>,
+    linked: Option<&str>,
 ) -> u64 {
     for number in 1..1000 {
         if !is_refused(rt, number, args, was_there, printed, linked) {
@@ -97,43 +77,42 @@ fn refused_allocations<R: Files + AllocGlobal + Abort>(
     1000
 }
 
-static FILES: [(&str, &Image); 3] = [
-    ("memory-in-place", &HOST_IN_PLACE),
-    ("memory-host", &HOST),
-    ("memory-library", &LIBRARY),
-];
+static FILES: &str = "\
+memory-in-place HOST_IN_PLACE
+memory-host HOST
+memory-library LIBRARY";
 
 const LINK_IN_PLACE: &str = "pslink link memory-in-place memory-out";
 
 /// The args, whether OUT is there before, what is printed, what OUT then has, and how many
 /// allocations are refused at least.
-static ROWS: [(&str, bool, Text, Option<&Image>, u64); 10] = [
+static ROWS: [(&str, bool, Text, Option<&str>, u64); 10] = [
     (
         LINK_IN_PLACE,
         false,
         Text::SummaryInPlace,
-        Some(&LINKED_HOST_IN_PLACE),
+        Some("LINKED_HOST_IN_PLACE"),
         5,
     ),
     (
         "pslink link memory-host memory-out memory-library",
         true,
         Text::SummaryOfPair,
-        Some(&LINKED_PAIR),
+        Some("LINKED_PAIR"),
         5,
     ),
     (
         "pslink link -o memory-out --json memory-host memory-library",
         true,
         Text::JsonSummary,
-        Some(&LINKED_PAIR),
+        Some("LINKED_PAIR"),
         5,
     ),
     (
         "pslink link -o memory-out --map memory-map --references memory-host memory-library",
         true,
         Text::SummaryOfPair,
-        Some(&LINKED_PAIR),
+        Some("LINKED_PAIR"),
         10,
     ),
     (
@@ -182,7 +161,7 @@ static ROWS: [(&str, bool, Text, Option<&Image>, u64); 10] = [
 
 #[test]
 fn each_allocation_is_refused(rt: HostRuntime) {
-    save_all(&rt, FILES.as_slice());
+    save_all(&rt, FILES);
     for (args, was_there, printed, linked, least) in &ROWS {
         let refused = refused_allocations(&rt, *args, *was_there, printed.text(), *linked);
         says(&rt, (*least..1000).contains(&refused), &(*args, refused));
