@@ -174,7 +174,7 @@ fn each_allocation_is_refused(rt: HostRuntime) {
 
 const LIST: &str = "pslink list memory-listed";
 
-static LISTED_FILES: [(&str, &Image); 1] = [("memory-listed", &LIBRARY)];
+static LISTED_FILE: &str = "memory-listed LIBRARY";
 
 const LISTED: &str = "memory-listed: little-endian, 1536 bytes, library
 memory-listed: slot 02 UTIL     unit, 24 bytes
@@ -186,7 +186,7 @@ const UNLISTED: &str = "pslink: cannot read memory-listed (out of memory)\n";
 /// where there was none: it is 4 before a file is read, and 3 where the file or its list has no memory.
 fn status_of_list<R: Files + AllocGlobal + Abort>(rt: &R, number: u64) -> u8 {
     let heap = Refusing::once(rt.alloc(), number);
-    let (run, _) = done_faulty(rt, &heap, NO_FAULTS, LIST);
+    let (run, _) = done_refused(rt, &heap, NO_FAULTS, LIST);
     match (heap.has_refused(), run.status) {
         (false, _) => run.is(rt, number, 0, LISTED, ""),
         (true, 4) => run.is(rt, number, 4, "", NO_MEMORY),
@@ -208,12 +208,17 @@ fn unread_lists<R: Files + AllocGlobal + Abort>(rt: &R) -> u64 {
     1000
 }
 
+/// Refuses each allocation of the list of the library: at least one ends with status 3.
+fn lacks_memory<R: Files + AllocGlobal + Abort>(rt: &R) {
+    save_all(rt, LISTED_FILE);
+    let unread = unread_lists(rt);
+    says(rt, (1..1000).contains(&unread), &unread);
+    clean(rt, "memory-listed");
+}
+
 #[test]
 fn a_list_lacks_memory_only_where_it_is_refused(rt: HostRuntime) {
-    save_all(&rt, LISTED_FILES.as_slice());
-    let unread = unread_lists(&rt);
-    says(&rt, (1..1000).contains(&unread), &unread);
-    clean(&rt, "memory-listed");
+    lacks_memory(&rt)
 }
 
 #[test]
