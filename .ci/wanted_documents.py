@@ -111,8 +111,7 @@ class Tried(linker.Link):
         document = {"segments": segments, "definitions": definitions, "privates": privates}
         document |= {"next": self.next, "data": self.data, "blocks": self.blocks()}
         if with_references:
-            stored = [self.stored_item(one, starts[one.slot], *place) for one in self.segments if one.is_resolved for place in sorted(self.places(one), key=lambda place: place[1])]
-            document["references"] = Lines(stored)
+            document["references"] = Lines(item for one in self.segments if one.is_resolved for item in self.stored_items(one, starts[one.slot]))
         return document
 
     @staticmethod
@@ -128,6 +127,11 @@ class Tried(linker.Link):
         for record in one.records:
             for reference in record.references if record.type in linker.FORMATS else ():
                 yield "reference", reference, 1 if record.type == UNITREF else 2, record
+
+    def stored_items(self, one, block):
+        """The items of what a link stores in a code, by place."""
+        for place in sorted(self.places(one), key=lambda place: place[1]):
+            yield self.stored_item(one, block, *place)
 
     @staticmethod
     def stored_item(one, block, word, place, width, record):

@@ -146,12 +146,8 @@ fn listed_in<const N: usize>(
         libs.now lengths.now) }
     ensures untouched { OnErr result (room.new ≡ room.old) }
 {
-    // (the table is not moved out of the result, as it would take as much of the stack again)
-    let libs = split::<N>(alloc, libs, lengths);
-    match &libs {
-        Ok(libs) => Ok(put_nameless(alloc, kind, host, libs.as_slice(), room)?),
-        Err(error) => Err((*error).into()),
-    }
+    let libs = split::<N>(alloc, libs, lengths)?;
+    Ok(put_nameless(alloc, kind, host, libs.as_slice(), room)?)
 }
 
 /// Puts a text of a host and the libraries that are one after another in `libs` in the room, in

@@ -21,10 +21,16 @@ impl CodeFile {
         CodeFile { file }
     }
 
-    /// With these changes.
-    pub fn with(mut self, rt: &(impl Abort + AllocGlobal), changes: Changes<'_>) -> CodeFile {
-        self.change(rt, changes);
-        self
+    /// A file with the texts of these names, and with these changes.
+    pub fn of(
+        rt: &(impl Abort + AllocGlobal),
+        order: Order,
+        names: &str,
+        changes: Changes<'_>,
+    ) -> CodeFile {
+        let mut file = CodeFile::new(rt, order, names);
+        file.change(rt, changes);
+        file
     }
 
     /// The file's bytes.

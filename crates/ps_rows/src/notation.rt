@@ -23,11 +23,6 @@ pub fn number_of(rt: &impl Abort, word: &str) -> usize {
     word.parse().expect(rt, word)
 }
 
-/// A number of sixteen bits.
-pub fn word_of(rt: &impl Abort, word: &str) -> u16 {
-    word.parse().expect(rt, word)
-}
-
 /// A byte in two hexadecimal digits.
 pub fn byte(rt: &impl Abort, digits: &str) -> u8 {
     holds(rt, digits.len() == 2, digits);
@@ -41,11 +36,6 @@ pub fn hex(rt: &(impl Abort + AllocGlobal), words: &str) -> Vec<u8> {
         bytes.push(byte(rt, digits)).expect(rt, "no memory");
     }
     bytes
-}
-
-/// What stands behind a name and this mark in the line of a text that begins with them.
-pub fn behind_name<'a>(rt: &impl Abort, text: &'a str, mark: &str, name: &str) -> &'a str {
-    sample_files::behind_name(text, mark, name).expect(rt, name)
 }
 
 /// Checks that no word of a text is left.

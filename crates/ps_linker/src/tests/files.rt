@@ -1,9 +1,6 @@
 //! Files that cannot be opened, read or written.
 use super::faulty::NO_FAULTS;
-use super::inputs::{
-    HOST, HOST_IN_PLACE, Image, LIBRARY, LINKED_HOST_IN_PLACE, LINKED_PAIR, SUMMARY_IN_PLACE,
-    SUMMARY_OF_PAIR, save_all,
-};
+use super::inputs::{SUMMARY_IN_PLACE, SUMMARY_OF_PAIR, file_of, save_all};
 use super::outcome::{clean, clean_all, done_faulty, holds, says};
 use super::wanted::Text;
 use std::fs;
@@ -14,12 +11,12 @@ use std::rt::Files;
 /// Runs these args: what is said is that a file cannot be opened, and so many are opened to be
 /// written.
 fn complains<R: Files + AllocGlobal + Abort>(rt: &R, args: &str, complaint: &str, created: u64) {
-    let (run, tried) = done_faulty(rt, rt.alloc(), NO_FAULTS, args);
+    let (run, tried) = done_faulty(rt, NO_FAULTS, args);
     run.is(rt, args, 3, "", complaint);
     says(rt, tried == created, &args)
 }
 
-static OPENED: [(&str, &Image); 1] = [("opened-host", &HOST_IN_PLACE)];
+static OPENED: &str = "opened-host HOST_IN_PLACE";
 
 const MISSING: &str = "pslink: cannot read opened-missing\n";
 
@@ -59,17 +56,22 @@ static UNOPENED: [(&str, &str, u64); 13] = [
     ("pslink list opened-loop", LEADS_NOWHERE, 0),
 ];
 
+/// Runs each row.
+fn opens_none<R: Files + AllocGlobal + Abort>(rt: &R) {
+    clean(rt, "opened-missing opened-out");
+    let _ = fs::create_dir(rt, "opened-folder");
+    let _ = symlink(rt, "opened-loop", "opened-loop");
+    save_all(rt, OPENED);
+    for (args, complaint, created) in &UNOPENED {
+        complains(rt, *args, *complaint, *created);
+    }
+    clean(rt, "opened-host opened-loop");
+    let _ = fs::remove_dir(rt, "opened-folder");
+}
+
 #[test]
 fn files_that_cannot_be_opened(rt: HostRuntime) {
-    clean(&rt, "opened-missing opened-out");
-    let _ = fs::create_dir(&rt, "opened-folder");
-    let _ = symlink(&rt, "opened-loop", "opened-loop");
-    save_all(&rt, OPENED.as_slice());
-    for (args, complaint, created) in &UNOPENED {
-        complains(&rt, *args, *complaint, *created);
-    }
-    clean(&rt, "opened-host opened-loop");
-    let _ = fs::remove_dir(&rt, "opened-folder");
+    opens_none(&rt)
 }
 
 /// Has a read of the file that is opened as the `nth` fail, after so many. Returns whether it
@@ -81,7 +83,7 @@ fn fails_to_read<R: Files + AllocGlobal + Abort>(
     complaint: &str,
     wanted: &str,
 ) -> bool {
-    let (run, created) = done_faulty(rt, rt.alloc(), (nth, reads, 3), args);
+    let (run, created) = done_faulty(rt, (nth, reads, 3), args);
     if run.status == 0 {
         run.is(rt, (nth, reads), 0, wanted, "");
         return false;
@@ -127,16 +129,23 @@ static READS: [(&str, u64, &str, Text); 5] = [
     (SHOW, 1, NO_LIBRARY, Text::ShownLibrary),
 ];
 
-static READ: [(&str, &Image); 2] = [("reads-host", &HOST), ("reads-library", &LIBRARY)];
+static READ: &str = "\
+reads-host HOST
+reads-library LIBRARY";
+
+/// Has each read of each row fail.
+fn fails_each_read<R: Files + AllocGlobal + Abort>(rt: &R) {
+    save_all(rt, READ);
+    for (args, nth, complained, wanted) in &READS {
+        let failed = failing_reads(rt, *args, *nth, *complained, wanted.text());
+        says(rt, failed == 5, args);
+    }
+    clean(rt, "reads-host reads-out reads-library");
+}
 
 #[test]
 fn each_read_fails(rt: HostRuntime) {
-    save_all(&rt, READ.as_slice());
-    for (args, nth, complained, wanted) in &READS {
-        let failed = failing_reads(&rt, *args, *nth, *complained, wanted.text());
-        says(&rt, failed == 5, args);
-    }
-    clean(&rt, "reads-host reads-out reads-library");
+    fails_each_read(&rt)
 }
 
 /// How long a file's whole blocks are that are written, and how much of the next block, with one
@@ -178,7 +187,7 @@ fn fails_to_write<R: Files + AllocGlobal + Abort>(
     linked: &[u8],
 ) {
     let row = (writes, needed);
-    let (run, created) = done_faulty(rt, rt.alloc(), (nth, writes, most), args);
+    let (run, created) = done_faulty(rt, (nth, writes, most), args);
     says(rt, created == 1, &row);
     if writes == needed {
         run.is(rt, row, 0, printed, "");
@@ -205,48 +214,57 @@ fn failing_writes<R: Files + AllocGlobal + Abort>(
     }
 }
 
-static WRITTEN: [(&str, &Image); 3] = [
-    ("writes-in-place", &HOST_IN_PLACE),
-    ("writes-host", &HOST),
-    ("writes-library", &LIBRARY),
-];
+static WRITTEN: &str = "\
+writes-in-place HOST_IN_PLACE
+writes-host HOST
+writes-library LIBRARY";
 
 /// The args, as which file OUT is opened, how much a write takes, in how many writes, what is
 /// printed, and the linked file.
-static WRITES: [(&str, (u64, usize, u64), &str, &Image); 2] = [
+static WRITES: [(&str, (u64, usize, u64), &str, &str); 2] = [
     (
         "pslink link writes-in-place writes-out",
         (2, 3, 513),
         SUMMARY_IN_PLACE,
-        &LINKED_HOST_IN_PLACE,
+        "LINKED_HOST_IN_PLACE",
     ),
     (
         "pslink link writes-host writes-out writes-library",
         (3, usize::MAX, 3),
         SUMMARY_OF_PAIR,
-        &LINKED_PAIR,
+        "LINKED_PAIR",
     ),
 ];
 
-static STALLS: [(&str, &Image); 1] = [("stalls-host", &HOST_IN_PLACE)];
+static STALLS: &str = "stalls-host HOST_IN_PLACE";
 
 static STALLED: &str = "pslink link stalls-host stalls-out";
 
+/// Links to a file that takes no bytes.
+fn writes_no_bytes<R: Files + AllocGlobal + Abort>(rt: &R) {
+    save_all(rt, STALLS);
+    let (run, _) = done_faulty(rt, (0, 0, 0), STALLED);
+    run.is(rt, "stalls", 3, "", "pslink: cannot write stalls-out\n");
+    holds(rt, "stalls-out", &[], STALLED);
+    clean(rt, "stalls-host stalls-out");
+}
+
 #[test]
 fn a_file_that_takes_no_bytes(rt: HostRuntime) {
-    save_all(&rt, STALLS.as_slice());
-    let (run, _) = done_faulty(&rt, rt.alloc(), (0, 0, 0), STALLED);
-    run.is(&rt, "stalls", 3, "", "pslink: cannot write stalls-out\n");
-    holds(&rt, "stalls-out", &[], STALLED);
-    clean(&rt, "stalls-host stalls-out");
+    writes_no_bytes(&rt)
+}
+
+/// Has each write of each row fail.
+fn fails_each_write<R: Files + AllocGlobal + Abort>(rt: &R) {
+    save_all(rt, WRITTEN);
+    for (args, faults, printed, image) in &WRITES {
+        failing_writes(rt, *args, *faults, *printed, file_of(rt, *image).as_slice());
+    }
+    clean_all(rt, WRITTEN);
+    clean(rt, "writes-out");
 }
 
 #[test]
 fn each_write_of_a_link_fails(rt: HostRuntime) {
-    save_all(&rt, WRITTEN.as_slice());
-    for (args, faults, printed, image) in &WRITES {
-        failing_writes(&rt, *args, *faults, *printed, image.file(&rt).as_slice());
-    }
-    clean_all(&rt, WRITTEN.as_slice());
-    clean(&rt, "writes-out");
+    fails_each_write(&rt)
 }

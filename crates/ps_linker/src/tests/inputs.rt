@@ -1,30 +1,30 @@
 //! The code files that the tests run on, and the texts that are wanted of them.
 use super::outcome::says;
 use ps_words::Order;
-use sample_files::CodeFile;
+use sample_files::{CodeFile, behind_name};
 use std::fs;
 use std::process::Abort;
 use std::rt::Files;
 
-/// A code file: its byte order, the names of the texts that it is made of, and changes of it.
-#[derive(Clone, Copy)]
-pub struct Image(Order, &'static str, &'static str);
-
-impl Image {
-    /// The file.
-    pub fn file<R: AllocGlobal + Abort>(&self, rt: &R) -> CodeFile {
-        let Image(order, texts, changes) = *self;
-        let mut file = CodeFile::new(rt.alloc(), order, texts);
-        file.change(rt.alloc(), changes);
-        says(rt, file.is_right(), &(texts, changes));
-        file
-    }
+/// The code file of this name.
+pub fn file_of<R: AllocGlobal + Abort>(rt: &R, name: &str) -> CodeFile {
+    let image = behind_name(IMAGES, ": ", name).expect(rt, name);
+    let (texts, changes) = image.split_once(" |").expect(rt, name);
+    let (order, texts) = match texts.strip_prefix("big ") {
+        None => (Order::Little, texts),
+        Some(texts) => (Order::Big, texts),
+    };
+    let mut file = CodeFile::new(rt.alloc(), order, texts);
+    file.change(rt.alloc(), changes);
+    says(rt, file.is_right(), &name);
+    file
 }
 
-/// Writes files.
-pub fn save_all<R: Files + AllocGlobal + Abort>(rt: &R, files: &[(&str, &Image)]) {
-    for (path, image) in files {
-        save(rt, *path, image.file(rt).as_slice());
+/// Writes the files of a table, which has a line for each: its path, and the name of the code file.
+pub fn save_all<R: Files + AllocGlobal + Abort>(rt: &R, files: &str) {
+    for line in files.lines() {
+        let (path, name) = line.split_once(' ').expect(rt, line);
+        save(rt, path, file_of(rt, name).as_slice());
     }
 }
 
@@ -37,70 +37,37 @@ pub fn save_text<R: Files + Abort>(rt: &R, path: &str, text: &str) {
     save(rt, path, text.as_bytes())
 }
 
-/// A host with its unit in place, and what it is linked to.
-pub const HOST_IN_PLACE: Image = Image(Order::Little, "HOST HAS_UNIT", "");
-
-pub const LINKED_HOST_IN_PLACE: Image = Image(
-    Order::Little,
-    "LINKED_SEGMENTS LINKED_REFERENCE",
-    "",
-);
-
-/// A host that wants its unit, a library that has it, and what the two are linked to.
-pub const HOST: Image = Image(Order::Little, "HOST", "");
-
-pub const LIBRARY: Image = Image(Order::Little, "LIBRARY", "");
-
-pub const LINKED_PAIR: Image = Image(Order::Little, "LINKED_SEGMENTS LINKED_OPERANDS", "");
-
-/// The host and the library truncated after their end marks, and the library truncated before its
-/// last byte and in its unit's code.
-pub const ENDING_HOST: Image = Image(Order::Little, "HOST", "size 1056");
-
-pub const ENDING_LIBRARY: Image = Image(Order::Little, "LIBRARY", "size 1104");
-
-pub const CUT_LIBRARY: Image = Image(Order::Little, "LIBRARY", "size 1103");
-
-pub const LIBRARY_CUT_IN_CODE: Image = Image(Order::Little, "LIBRARY", "size 535");
-
-/// The library where two bytes of its unit's code are other ones, and what the host is linked to
-/// with it.
-pub const OTHER_LIBRARY: Image = Image(Order::Little, "LIBRARY ZEROS_IN_THE_CODE", "");
-
-pub const LINKED_WITH_OTHER: Image = Image(
-    Order::Little,
-    "LINKED_SEGMENTS LINKED_OPERANDS ZEROS_IN_THE_LINKED_CODE",
-    "",
-);
-
-/// The library where its unit has another name.
-pub const LIBRARY_WITHOUT_UNIT: Image = Image(Order::Little, "LIBRARY", "slot 2 name OTHER");
-
-pub const BIG_ENDIAN_LIBRARY: Image = Image(Order::Big, "LIBRARY", "");
-
-/// The host with a constant more.
-pub const HOST_WITH_CONSTANT: Image = Image(
-    Order::Little,
-    "HOST",
-    "records 2; PUBLDEF COUNT value 3; CONSTDEF LIMIT value 9; EOFMARK next 8",
-);
-
-/// Libraries with a unit that names a second one: at a place in its code, at none, and where the
-/// second is there too.
-pub const USING_LIBRARY: Image = Image(Order::Little, "LIBRARY USES_AUX", "");
-
-pub const NAMING_LIBRARY: Image = Image(
-    Order::Little,
-    "LIBRARY",
-    "records 2; UNITREF AUX at; EOFMARK next 0",
-);
-
-pub const LIBRARY_OF_BOTH: Image = Image(Order::Little, "LIBRARY HAS_AUX USES_AUX", "");
-
-/// Zeros, one byte less than a dictionary; and a dictionary whose kinds are in no byte order.
-pub const SHORT_FILE: Image = Image(Order::Little, "", "fill 64 128 00; size 511");
-
-pub const MIXED_FILE: Image = Image(Order::Little, "", "at 192 0101; size 512");
+/// The code files, each a line: its name, the names of the texts that it is made of, and changes of it.
+/// One whose texts have `big` before them is big-endian.
+static IMAGES: &str = "# a host with its unit in place, and what it is linked to
+HOST_IN_PLACE: HOST HAS_UNIT |
+LINKED_HOST_IN_PLACE: LINKED_SEGMENTS LINKED_REFERENCE |
+# a host that wants its unit, a library that has it, and what the two are linked to
+HOST: HOST |
+LIBRARY: LIBRARY |
+LINKED_PAIR: LINKED_SEGMENTS LINKED_OPERANDS |
+# the host and the library truncated after their end marks, and the library truncated before its last byte
+# and in its unit's code
+ENDING_HOST: HOST | size 1056
+ENDING_LIBRARY: LIBRARY | size 1104
+CUT_LIBRARY: LIBRARY | size 1103
+LIBRARY_CUT_IN_CODE: LIBRARY | size 535
+# the library where two bytes of its unit's code are other ones, and what the host is linked to with it
+OTHER_LIBRARY: LIBRARY ZEROS_IN_THE_CODE |
+LINKED_WITH_OTHER: LINKED_SEGMENTS LINKED_OPERANDS ZEROS_IN_THE_LINKED_CODE |
+# the library where its unit has another name, and the library in the other byte order
+LIBRARY_WITHOUT_UNIT: LIBRARY | slot 2 name OTHER
+BIG_ENDIAN_LIBRARY: big LIBRARY |
+# the host with a constant more
+HOST_WITH_CONSTANT: HOST | records 2; PUBLDEF COUNT value 3; CONSTDEF LIMIT value 9; EOFMARK next 8
+# libraries with a unit that names a second one: at a place in its code, at none, and where the second is
+# there too
+USING_LIBRARY: LIBRARY USES_AUX |
+NAMING_LIBRARY: LIBRARY | records 2; UNITREF AUX at; EOFMARK next 0
+LIBRARY_OF_BOTH: LIBRARY HAS_AUX USES_AUX |
+# zeros, one byte less than a dictionary; and a dictionary whose kinds are in no byte order
+SHORT_FILE:  | fill 64 128 00; size 511
+MIXED_FILE:  | at 192 0101; size 512";
 
 // What is printed of the links of the two hosts.
 pub const SUMMARY_IN_PLACE: &str = "segments 2 private words 0 blocks 3\n";

@@ -1,8 +1,5 @@
 //! Many libraries: each is read whole, and the first that has the unit is used.
-use super::inputs::{
-    HOST, Image, LIBRARY, LIBRARY_WITHOUT_UNIT, LINKED_PAIR, LINKED_WITH_OTHER, OTHER_LIBRARY,
-    SUMMARY_OF_PAIR, save_all, save_text,
-};
+use super::inputs::{SUMMARY_OF_PAIR, save_all, save_text};
 use super::outcome::{clean, clean_all, gives, holds_image};
 use std::process::Abort;
 use std::rt::Files;
@@ -25,34 +22,40 @@ const LAST_SHORT: &str = "pslink: refused 1 ShortFile file 40\n";
 
 const SEVENTEENTH_SHORT: &str = "pslink: refused 1 ShortFile file 17\n";
 
-static FILES: [(&str, &Image); 4] = [
-    ("forty-host", &HOST),
-    ("forty-library", &LIBRARY),
-    ("forty-other", &OTHER_LIBRARY),
-    ("forty-without", &LIBRARY_WITHOUT_UNIT),
-];
+static FILES: &str = "\
+forty-host HOST
+forty-library LIBRARY
+forty-other OTHER_LIBRARY
+forty-without LIBRARY_WITHOUT_UNIT";
 
 /// Where another library is among the forty, its name, the status and the two texts, and what
 /// OUT then has. It stays there in the rows below.
-static ROWS: [(usize, &str, u8, &str, &str, &Image); 5] = [
-    (LAST, "forty-library", 0, SUMMARY_OF_PAIR, "", &LINKED_PAIR),
+static ROWS: [(usize, &str, u8, &str, &str, &str); 5] = [
+    (LAST, "forty-library", 0, SUMMARY_OF_PAIR, "", "LINKED_PAIR"),
     (
         SEVENTEENTH,
         "forty-other",
         0,
         SUMMARY_OF_PAIR,
         "",
-        &LINKED_WITH_OTHER,
+        "LINKED_WITH_OTHER",
     ),
-    (FIRST, "forty-library", 0, SUMMARY_OF_PAIR, "", &LINKED_PAIR),
-    (LAST, "forty-short", 1, "", LAST_SHORT, &LINKED_PAIR),
+    (
+        FIRST,
+        "forty-library",
+        0,
+        SUMMARY_OF_PAIR,
+        "",
+        "LINKED_PAIR",
+    ),
+    (LAST, "forty-short", 1, "", LAST_SHORT, "LINKED_PAIR"),
     (
         SEVENTEENTH,
         "forty-short",
         1,
         "",
         SEVENTEENTH_SHORT,
-        &LINKED_PAIR,
+        "LINKED_PAIR",
     ),
 ];
 
@@ -79,15 +82,20 @@ fn links_each_row<R: Files + AllocGlobal + Abort>(
     }
 }
 
+/// Links with forty libraries, of which none has the unit, and then as the rows say.
+fn links_forty<R: Files + AllocGlobal + Abort>(rt: &R) {
+    save_all(rt, FILES);
+    save_text(rt, "forty-short", "a library under 512 bytes");
+    save_text(rt, "forty-out", "as before");
+    let mut libraries = ["forty-without"; LIBRARIES];
+    let args = args_with(rt, &libraries);
+    gives(rt, args.as_str(), 1, "", REFUSED);
+    links_each_row(rt, &mut libraries);
+    clean_all(rt, FILES);
+    clean(rt, "forty-out forty-short");
+}
+
 #[test]
 fn forty_libraries(rt: HostRuntime) {
-    save_all(&rt, FILES.as_slice());
-    save_text(&rt, "forty-short", "a library under 512 bytes");
-    save_text(&rt, "forty-out", "as before");
-    let mut libraries = ["forty-without"; LIBRARIES];
-    let args = args_with(&rt, &libraries);
-    gives(&rt, args.as_str(), 1, "", REFUSED);
-    links_each_row(&rt, &mut libraries);
-    clean_all(&rt, FILES.as_slice());
-    clean(&rt, "forty-out forty-short");
+    links_forty(&rt)
 }

@@ -1,9 +1,6 @@
 //! `link`: what is written and printed, and what becomes of OUT.
 use super::faulty::NO_FAULTS;
-use super::inputs::{
-    CUT_LIBRARY, ENDING_HOST, ENDING_LIBRARY, HOST, HOST_IN_PLACE, Image, LIBRARY,
-    LINKED_HOST_IN_PLACE, LINKED_PAIR, SUMMARY_IN_PLACE, SUMMARY_OF_PAIR, save_all, save_text,
-};
+use super::inputs::{SUMMARY_IN_PLACE, SUMMARY_OF_PAIR, save_all, save_text};
 use super::outcome::{clean, clean_all, done_faulty, gives, holds, holds_image, says};
 use std::fs;
 use std::os::unix::fs::symlink;
@@ -16,15 +13,14 @@ const SHORT: &str = "pslink: refused 1 ShortFile file 0\n";
 
 const NO_END: &str = "pslink: refused 19 RecordsTruncated file 1 slot 7 record 2\n";
 
-static FILES: [(&str, &Image); 7] = [
-    ("link-in-place", &HOST_IN_PLACE),
-    ("link-same", &HOST_IN_PLACE),
-    ("link-host", &HOST),
-    ("link-library", &LIBRARY),
-    ("link-ending-host", &ENDING_HOST),
-    ("link-ending", &ENDING_LIBRARY),
-    ("link-cut", &CUT_LIBRARY),
-];
+static FILES: &str = "\
+link-in-place HOST_IN_PLACE
+link-same HOST_IN_PLACE
+link-host HOST
+link-library LIBRARY
+link-ending-host ENDING_HOST
+link-ending ENDING_LIBRARY
+link-cut CUT_LIBRARY";
 
 const NOT_THERE: &str = "pslink: cannot read link-nowhere\n";
 
@@ -47,61 +43,65 @@ static REFUSED: [(&str, u8, &str); 5] = [
 ];
 
 /// The arguments of a link, what is printed, OUT, and what OUT then has.
-static LINKED: [(&str, &str, &str, &Image); 4] = [
+static LINKED: [(&str, &str, &str, &str); 4] = [
     (
         "pslink link link-in-place link-new",
         SUMMARY_IN_PLACE,
         "link-new",
-        &LINKED_HOST_IN_PLACE,
+        "LINKED_HOST_IN_PLACE",
     ),
     (
         "pslink link link-same link-same",
         SUMMARY_IN_PLACE,
         "link-same",
-        &LINKED_HOST_IN_PLACE,
+        "LINKED_HOST_IN_PLACE",
     ),
     (
         "pslink link link-host link-out link-library",
         SUMMARY_OF_PAIR,
         "link-out",
-        &LINKED_PAIR,
+        "LINKED_PAIR",
     ),
     (
         "pslink link link-ending-host link-ended link-ending",
         SUMMARY_OF_PAIR,
         "link-ended",
-        &LINKED_PAIR,
+        "LINKED_PAIR",
     ),
 ];
 
-#[test]
-fn links_and_leaves_out_where_it_refuses(rt: HostRuntime) {
-    save_all(&rt, FILES.as_slice());
-    save_text(&rt, "link-short", "a host under 512 bytes");
-    save_text(&rt, "link-out", "as before");
-    clean(&rt, "link-new");
+/// Links each row.
+fn links_files<R: Files + AllocGlobal + Abort>(rt: &R) {
+    save_all(rt, FILES);
+    save_text(rt, "link-short", "a host under 512 bytes");
+    save_text(rt, "link-out", "as before");
+    clean(rt, "link-new");
     for (args, status, complained) in &REFUSED {
-        gives(&rt, *args, *status, "", *complained);
-        holds(&rt, "link-out", b"as before", *args);
+        gives(rt, *args, *status, "", *complained);
+        holds(rt, "link-out", b"as before", *args);
     }
     for (args, summary, out, image) in &LINKED {
-        gives(&rt, *args, 0, *summary, "");
-        holds_image(&rt, *out, *image, *args);
+        gives(rt, *args, 0, *summary, "");
+        holds_image(rt, *out, *image, *args);
     }
-    clean_all(&rt, FILES.as_slice());
-    clean(&rt, "link-new link-ended link-short link-out");
+    clean_all(rt, FILES);
+    clean(rt, "link-new link-ended link-short link-out");
+}
+
+#[test]
+fn links_and_leaves_out_where_it_refuses(rt: HostRuntime) {
+    links_files(&rt)
 }
 
 /// A link whose OUT leads to its second library, and what is said of it.
 static LED: &str = "pslink link led-host led-out led-other led-library";
 
-static LED_FILES: [(&str, &Image); 3] = [
-    ("led-host", &HOST),
-    ("led-library", &LIBRARY),
-    ("led-other", &LIBRARY),
-];
+static LED_FILES: &str = "\
+led-host HOST
+led-library LIBRARY
+led-other LIBRARY";
 
-static LED_OUT: [(&str, &Image); 1] = [("led-out", &LIBRARY)];
+static LED_OUT: &str = "led-out LIBRARY";
 
 const LEADS_TO_LIBRARY: &str =
     "error: invalid value 'led-out' for '<OUT>': it is the library 'led-library'
@@ -149,17 +149,17 @@ fn overwrites_no_library<R: Files + AllocGlobal + Abort>(
     complained: &str,
     row: &str,
 ) {
-    let (run, created) = done_faulty(rt, rt.alloc(), NO_FAULTS, args);
+    let (run, created) = done_faulty(rt, NO_FAULTS, args);
     run.is(rt, row, 2, "", complained);
     says(rt, created == 0, &row);
-    holds_image(rt, "led-library", &LIBRARY, row);
+    holds_image(rt, "led-library", "LIBRARY", row);
     clean(rt, "led-out");
 }
 
 /// A library and links to it are no OUT, and a copy of it is.
 fn takes_a_copy<R: Files + AllocGlobal + Abort>(rt: &R) {
     clean(rt, "led-out");
-    save_all(rt, LED_FILES.as_slice());
+    save_all(rt, LED_FILES);
     for (args, complained) in &SPELLED {
         overwrites_no_library(rt, *args, *complained, *args);
     }
@@ -167,9 +167,9 @@ fn takes_a_copy<R: Files + AllocGlobal + Abort>(rt: &R) {
     overwrites_no_library(rt, LED, LEADS_TO_LIBRARY, "a hard link");
     let _ = symlink(rt, "led-library", "led-out");
     overwrites_no_library(rt, LED, LEADS_TO_LIBRARY, "a symbolic link");
-    save_all(rt, LED_OUT.as_slice());
+    save_all(rt, LED_OUT);
     gives(rt, LED, 0, SUMMARY_OF_PAIR, "");
-    holds_image(rt, "led-out", &LINKED_PAIR, "a copy");
+    holds_image(rt, "led-out", "LINKED_PAIR", "a copy");
     clean(rt, "led-host led-library led-other led-out");
 }
 

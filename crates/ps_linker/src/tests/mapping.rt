@@ -1,10 +1,9 @@
 //! `link` with OUT by its option, with its map, its documents, and where its summary is printed.
 use super::faulty::NO_FAULTS;
 use super::inputs::{
-    CUT_LIBRARY, HOST, Image, JSON_OF_PAIR, LIBRARY, LINKED_PAIR, MAP_OF_PAIR, REFERENCES_OF_PAIR,
-    SUMMARY_OF_PAIR, save_all, save_text,
+    JSON_OF_PAIR, MAP_OF_PAIR, REFERENCES_OF_PAIR, SUMMARY_OF_PAIR, save_all, save_text,
 };
-use super::outcome::{clean, clean_all, done_faulty, gives, holds, holds_image, says};
+use super::outcome::{clean, clean_all, done, done_faulty, gives, holds, holds_image, says};
 use std::process::Abort;
 use std::rt::Files;
 
@@ -25,11 +24,10 @@ const SHORT_LIBRARY: &str = "pslink: refused 1 ShortFile file 2\n";
 const SHORT_LIBRARY_JSON: &str =
     "{\"path\":\"mapped-short\",\"fault\":{\"number\":1,\"reason\":\"ShortFile\",\"kind\":null,\"file\":2,\"slot\":null,\"record\":null,\"reference\":null,\"name\":null,\"name_hex\":null}}\n";
 
-static FILES: [(&str, &Image); 3] = [
-    ("mapped-host", &HOST),
-    ("mapped-library", &LIBRARY),
-    ("mapped-cut", &CUT_LIBRARY),
-];
+static FILES: &str = "\
+mapped-host HOST
+mapped-library LIBRARY
+mapped-cut CUT_LIBRARY";
 
 /// The arguments of a link, what is printed on standard output and on standard error, and what the
 /// file of its map then has. A path that begins with `to-output` leads to standard output.
@@ -116,25 +114,30 @@ fn is_linked<R: Files + AllocGlobal + Abort>(
 ) {
     clean(rt, "mapped-out to-output-out");
     save_text(rt, "mapped-map", "as before");
-    let (run, _) = done_faulty(rt, rt.alloc(), NO_FAULTS, args);
+    let (run, _) = done_faulty(rt, NO_FAULTS, args);
     run.is(rt, args, 0, printed, complained);
     let out = if args.contains("to-output-out") {
         "to-output-out"
     } else {
         "mapped-out"
     };
-    holds_image(rt, out, &LINKED_PAIR, args);
+    holds_image(rt, out, "LINKED_PAIR", args);
     holds(rt, "mapped-map", map.as_bytes(), args);
+}
+
+/// Links each row.
+fn links_each<R: Files + AllocGlobal + Abort>(rt: &R) {
+    save_all(rt, FILES);
+    for (args, printed, complained, map) in &LINKED {
+        is_linked(rt, *args, (*printed, *complained, *map));
+    }
+    clean_all(rt, FILES);
+    clean(rt, "mapped-out to-output-out mapped-map");
 }
 
 #[test]
 fn links_by_the_option_and_writes_its_map(rt: HostRuntime) {
-    save_all(&rt, FILES.as_slice());
-    for (args, printed, complained, map) in &LINKED {
-        is_linked(&rt, *args, (*printed, *complained, *map));
-    }
-    clean_all(&rt, FILES.as_slice());
-    clean(&rt, "mapped-out to-output-out mapped-map");
+    links_each(&rt)
 }
 
 /// The arguments of a command that is refused, its status, and what is printed on standard output and on
@@ -199,55 +202,40 @@ static REFUSED: [(&str, u8, &str, &str); 12] = [
     ),
 ];
 
+/// Refuses each row.
+fn refuses_each<R: Files + AllocGlobal + Abort>(rt: &R) {
+    save_all(rt, FILES);
+    save_text(rt, "mapped-short", "a file under 512 bytes");
+    for (args, status, printed, complained) in &REFUSED {
+        let (run, created) = done_faulty(rt, NO_FAULTS, *args);
+        run.is(rt, *args, *status, *printed, *complained);
+        says(rt, created == 0, args);
+    }
+    clean_all(rt, FILES);
+    clean(rt, "mapped-short");
+}
+
 #[test]
 fn writes_nothing_where_it_refuses(rt: HostRuntime) {
-    save_all(&rt, FILES.as_slice());
-    save_text(&rt, "mapped-short", "a file under 512 bytes");
-    for (args, status, printed, complained) in &REFUSED {
-        let (run, created) = done_faulty(&rt, rt.alloc(), NO_FAULTS, *args);
-        run.is(&rt, *args, *status, *printed, *complained);
-        says(&rt, created == 0, args);
-    }
-    clean_all(&rt, FILES.as_slice());
-    clean(&rt, "mapped-short");
+    refuses_each(&rt)
 }
 
-/// The arguments of a link whose map is a file of it, by which name, and the file that it is.
-static MISUSED: [(&str, &str, &str); 7] = [
-    ("pslink link -o a b --map a", "a", ""),
-    ("pslink link --map b -o a b", "b", ""),
-    ("pslink link b a c --map c", "c", ""),
-    ("pslink link b a --map a", "a", ""),
-    (
-        "pslink link mapped-host -o a --map ./mapped-host",
-        "./mapped-host",
-        "mapped-host",
-    ),
-    (
-        "pslink link mapped-host mapped-library -o a --map ./mapped-library",
-        "./mapped-library",
-        "mapped-library",
-    ),
-    (
-        "pslink link b -o mapped-host --map ./mapped-host",
-        "./mapped-host",
-        "mapped-host",
-    ),
-];
-
-/// The error of a map that is a file of the link.
-fn misuse<R: AllocGlobal + Abort>(rt: &R, map: &str, other: &str) -> String {
-    let made = if other.is_empty() {
-        format!(in rt.alloc();
-            "error: invalid value '{map}' for '--map <FILE>': it is named as another file too{USAGE}"
-        )
-    } else {
-        format!(in rt.alloc();
-            "error: invalid value '{map}' for '--map <FILE>': it is the file '{other}'{USAGE}"
-        )
-    };
-    made.expect(rt, "out of memory")
-}
+/// The arguments of a link whose map is a file of it, and the first line of what is said of it.
+static MISUSED: &str = "\
+pslink link -o a b --map a \
+| error: invalid value 'a' for '--map <FILE>': it is named as another file too
+pslink link --map b -o a b \
+| error: invalid value 'b' for '--map <FILE>': it is named as another file too
+pslink link b a c --map c \
+| error: invalid value 'c' for '--map <FILE>': it is named as another file too
+pslink link b a --map a \
+| error: invalid value 'a' for '--map <FILE>': it is named as another file too
+pslink link mapped-host -o a --map ./mapped-host \
+| error: invalid value './mapped-host' for '--map <FILE>': it is the file 'mapped-host'
+pslink link mapped-host mapped-library -o a --map ./mapped-library \
+| error: invalid value './mapped-library' for '--map <FILE>': it is the file 'mapped-library'
+pslink link b -o mapped-host --map ./mapped-host \
+| error: invalid value './mapped-host' for '--map <FILE>': it is the file 'mapped-host'";
 
 const USAGE: &str = "
 
@@ -266,16 +254,22 @@ Usage: pslink link [OPTIONS] -o <OUT> <HOST> [LIB]...
 For more information, try '--help'.
 ";
 
+/// Each row is wrong usage, and the files stay as they are.
+fn misuses_each<R: Files + AllocGlobal + Abort>(rt: &R) {
+    save_all(rt, FILES);
+    for row in MISUSED.lines() {
+        let (args, complained) = row.split_once(" | ").expect(rt, row);
+        done(rt, args).is_wrong_usage(rt, args, complained, USAGE);
+    }
+    gives(rt, "pslink link b a --references", 2, "", NO_MAP);
+    holds_image(rt, "mapped-host", "HOST", "a map in its place");
+    holds_image(rt, "mapped-library", "LIBRARY", "a map in its place");
+    clean_all(rt, FILES);
+}
+
 #[test]
 fn a_map_is_no_file_of_its_link(rt: HostRuntime) {
-    save_all(&rt, FILES.as_slice());
-    for (args, map, other) in &MISUSED {
-        gives(&rt, *args, 2, "", misuse(&rt, *map, *other).as_str());
-    }
-    gives(&rt, "pslink link b a --references", 2, "", NO_MAP);
-    holds_image(&rt, "mapped-host", &HOST, "a map in its place");
-    holds_image(&rt, "mapped-library", &LIBRARY, "a map in its place");
-    clean_all(&rt, FILES.as_slice());
+    misuses_each(&rt)
 }
 
 /// A link whose map cannot be written: what is said, and how many files are opened to be written. OUT is
@@ -293,16 +287,21 @@ static UNWRITTEN: [(&str, &str, u64); 2] = [
     ),
 ];
 
+/// Links each row.
+fn keeps_out<R: Files + AllocGlobal + Abort>(rt: &R) {
+    save_all(rt, FILES);
+    for (args, complained, wanted) in &UNWRITTEN {
+        clean(rt, "mapped-out");
+        let (run, created) = done_faulty(rt, NO_FAULTS, *args);
+        run.is(rt, *args, 3, "", *complained);
+        says(rt, created == *wanted, args);
+        holds_image(rt, "mapped-out", "LINKED_PAIR", *args);
+    }
+    clean_all(rt, FILES);
+    clean(rt, "mapped-out");
+}
+
 #[test]
 fn out_stays_where_its_map_is_not_written(rt: HostRuntime) {
-    save_all(&rt, FILES.as_slice());
-    for (args, complained, wanted) in &UNWRITTEN {
-        clean(&rt, "mapped-out");
-        let (run, created) = done_faulty(&rt, rt.alloc(), NO_FAULTS, *args);
-        run.is(&rt, *args, 3, "", *complained);
-        says(&rt, created == *wanted, args);
-        holds_image(&rt, "mapped-out", &LINKED_PAIR, *args);
-    }
-    clean_all(&rt, FILES.as_slice());
-    clean(&rt, "mapped-out");
+    keeps_out(&rt)
 }

@@ -1,10 +1,8 @@
 //! Memory that is refused.
 use super::args::HELP;
 use super::faulty::NO_FAULTS;
-use super::inputs::{
-    HOST, HOST_IN_PLACE, Image, LIBRARY, LINKED_HOST_IN_PLACE, LINKED_PAIR, save_all, save_text,
-};
-use super::outcome::{clean, done_faulty, done_with, holds, holds_image, says};
+use super::inputs::{save_all, save_text};
+use super::outcome::{clean, done_refused, done_with, holds, holds_image, says};
 use super::wanted::Text;
 use refusing::Refusing;
 use std::process::Abort;
@@ -30,14 +28,6 @@ pub const JSON_REPORT: &str =
 /// Where a link writes in these tests. The other commands write nothing there.
 const OUT: &str = "memory-out";
 
-/// Has OUT as it is before a run.
-fn put_out<R: Files + AllocGlobal + Abort>(rt: &R, is_there: bool) {
-    clean(rt, OUT);
-    if is_there {
-        save_text(rt, OUT, "as before");
-    }
-}
-
 /// Refuses the allocation of this number in the args' run. Returns whether there was one: then
 /// nothing is printed, and no file is opened to be written. Else OUT is the linked file, where the
 /// command links, and no other command opens a file to be written.
@@ -47,38 +37,28 @@ fn is_refused<R: Files + AllocGlobal + Abort>(
     args: &str,
     was_there: bool,
     printed: &str,
-    linked: Option<&Image>,
+    linked: Option<&str>,
 ) -> bool {
-    put_out(rt, was_there);
+    clean(rt, OUT);
+    if was_there {
+        save_text(rt, OUT, "as before");
+    }
     let heap = Refusing::once(rt.alloc(), number);
-    let (run, created) = done_faulty(rt, &heap, NO_FAULTS, args);
+    let (run, created) = done_refused(rt, &heap, NO_FAULTS, args);
     if heap.has_refused() {
         run.is(rt, (args, number), 4, "", NO_MEMORY);
         says(rt, created == 0, &(args, number));
-        is_as_before(rt, was_there, args);
+        if was_there {
+            holds(rt, OUT, b"as before", args);
+        }
         return true;
     }
     run.is(rt, (args, number), 0, printed, "");
-    has_linked(rt, linked, created, args);
-    false
-}
-
-fn is_as_before<R: Files + AllocGlobal + Abort>(rt: &R, was_there: bool, args: &str) {
-    if was_there {
-        holds(rt, OUT, b"as before", args);
-    }
-}
-
-fn has_linked<R: Files + AllocGlobal + Abort>(
-    rt: &R,
-    linked: Option<&Image>,
-    created: u64,
-    args: &str,
-) {
     match linked {
         Some(image) => holds_image(rt, OUT, image, args),
         None => says(rt, created == 0, &args),
     }
+    false
 }
 
 /// Has each allocation of the args' run refused in turn, until none is: how many were.
@@ -87,7 +67,7 @@ fn refused_allocations<R: Files + AllocGlobal + Abort>(
     args: &str,
     was_there: bool,
     printed: &str,
-    linked: Option<&Image>,
+    linked: Option<&str>,
 ) -> u64 {
     for number in 1..1000 {
         if !is_refused(rt, number, args, was_there, printed, linked) {
@@ -97,43 +77,42 @@ fn refused_allocations<R: Files + AllocGlobal + Abort>(
     1000
 }
 
-static FILES: [(&str, &Image); 3] = [
-    ("memory-in-place", &HOST_IN_PLACE),
-    ("memory-host", &HOST),
-    ("memory-library", &LIBRARY),
-];
+static FILES: &str = "\
+memory-in-place HOST_IN_PLACE
+memory-host HOST
+memory-library LIBRARY";
 
 const LINK_IN_PLACE: &str = "pslink link memory-in-place memory-out";
 
 /// The args, whether OUT is there before, what is printed, what OUT then has, and how many
 /// allocations are refused at least.
-static ROWS: [(&str, bool, Text, Option<&Image>, u64); 10] = [
+static ROWS: [(&str, bool, Text, Option<&str>, u64); 10] = [
     (
         LINK_IN_PLACE,
         false,
         Text::SummaryInPlace,
-        Some(&LINKED_HOST_IN_PLACE),
+        Some("LINKED_HOST_IN_PLACE"),
         5,
     ),
     (
         "pslink link memory-host memory-out memory-library",
         true,
         Text::SummaryOfPair,
-        Some(&LINKED_PAIR),
+        Some("LINKED_PAIR"),
         5,
     ),
     (
         "pslink link -o memory-out --json memory-host memory-library",
         true,
         Text::JsonSummary,
-        Some(&LINKED_PAIR),
+        Some("LINKED_PAIR"),
         5,
     ),
     (
         "pslink link -o memory-out --map memory-map --references memory-host memory-library",
         true,
         Text::SummaryOfPair,
-        Some(&LINKED_PAIR),
+        Some("LINKED_PAIR"),
         10,
     ),
     (
@@ -182,7 +161,7 @@ static ROWS: [(&str, bool, Text, Option<&Image>, u64); 10] = [
 
 #[test]
 fn each_allocation_is_refused(rt: HostRuntime) {
-    save_all(&rt, FILES.as_slice());
+    save_all(&rt, FILES);
     for (args, was_there, printed, linked, least) in &ROWS {
         let refused = refused_allocations(&rt, *args, *was_there, printed.text(), *linked);
         says(&rt, (*least..1000).contains(&refused), &(*args, refused));
@@ -195,7 +174,7 @@ fn each_allocation_is_refused(rt: HostRuntime) {
 
 const LIST: &str = "pslink list memory-listed";
 
-static LISTED_FILES: [(&str, &Image); 1] = [("memory-listed", &LIBRARY)];
+static LISTED_FILE: &str = "memory-listed LIBRARY";
 
 const LISTED: &str = "memory-listed: little-endian, 1536 bytes, library
 memory-listed: slot 02 UTIL     unit, 24 bytes
@@ -207,7 +186,7 @@ const UNLISTED: &str = "pslink: cannot read memory-listed (out of memory)\n";
 /// where there was none: it is 4 before a file is read, and 3 where the file or its list has no memory.
 fn status_of_list<R: Files + AllocGlobal + Abort>(rt: &R, number: u64) -> u8 {
     let heap = Refusing::once(rt.alloc(), number);
-    let (run, _) = done_faulty(rt, &heap, NO_FAULTS, LIST);
+    let (run, _) = done_refused(rt, &heap, NO_FAULTS, LIST);
     match (heap.has_refused(), run.status) {
         (false, _) => run.is(rt, number, 0, LISTED, ""),
         (true, 4) => run.is(rt, number, 4, "", NO_MEMORY),
@@ -229,12 +208,17 @@ fn unread_lists<R: Files + AllocGlobal + Abort>(rt: &R) -> u64 {
     1000
 }
 
+/// Refuses each allocation of the list of the library: at least one ends with status 3.
+fn lacks_memory<R: Files + AllocGlobal + Abort>(rt: &R) {
+    save_all(rt, LISTED_FILE);
+    let unread = unread_lists(rt);
+    says(rt, (1..1000).contains(&unread), &unread);
+    clean(rt, "memory-listed");
+}
+
 #[test]
 fn a_list_lacks_memory_only_where_it_is_refused(rt: HostRuntime) {
-    save_all(&rt, LISTED_FILES.as_slice());
-    let unread = unread_lists(&rt);
-    says(&rt, (1..1000).contains(&unread), &unread);
-    clean(&rt, "memory-listed");
+    lacks_memory(&rt)
 }
 
 #[test]

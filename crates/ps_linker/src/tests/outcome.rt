@@ -1,12 +1,13 @@
 //! What a run returns and writes.
 use super::faulty::{Faults, Faulty};
-use super::inputs::Image;
+use super::inputs::file_of;
+use super::writers::Limited;
 use crate::run;
 use ps_command::CodeFiles;
-use std::alloc::{Allocator, Global};
+use refusing::Refusing;
+use std::alloc::Global;
 use std::fmt::Debug;
 use std::fs;
-use std::io::Write;
 use std::process::Abort;
 use std::rt::Files;
 
@@ -14,13 +15,13 @@ use std::rt::Files;
 #[derive(Drop)]
 pub struct Outcome {
     pub status: u8,
-    pub out: Vec<u8>,
-    pub err: Vec<u8>,
+    pub out: Limited,
+    pub err: Limited,
 }
 
 /// Runs the arguments with ample memory.
 pub fn done<R: Files + AllocGlobal>(rt: &R, args: &str) -> Outcome {
-    done_with(rt, rt.alloc(), args)
+    done_with(rt, &Refusing::once(rt.alloc(), 0), args)
 }
 
 /// Runs the arguments with ample memory: the run returns this status and writes these texts.
@@ -28,60 +29,75 @@ pub fn gives<R: Files + AllocGlobal + Abort>(rt: &R, args: &str, status: u8, out
     done(rt, args).is(rt, args, status, out, err)
 }
 
-/// Runs the arguments with memory from `alloc`, on files of which one fails so. Returns how many files
-/// the program tried to open to be written, too.
-pub fn done_faulty<R: Files + AllocGlobal, A: Allocator + Copy>(
+/// Runs the arguments with ample memory, on files of which one fails so. Returns how many files the
+/// program tried to open to be written, too.
+pub fn done_faulty<R: Files + AllocGlobal>(rt: &R, faults: Faults, args: &str) -> (Outcome, u64) {
+    done_refused(rt, &Refusing::once(rt.alloc(), 0), faults, args)
+}
+
+/// The same with memory from `heap`.
+pub fn done_refused<R: Files + AllocGlobal>(
     rt: &R,
-    alloc: A,
+    heap: &Refusing<Global>,
     faults: Faults,
     args: &str,
 ) -> (Outcome, u64) {
     let files = Faulty::taking(rt, faults);
-    let run = done_with(&files, alloc, args);
+    let run = done_with(&files, heap, args);
     (run, files.created())
 }
 
-/// Runs the arguments with memory from `alloc`.
-pub fn done_with<R: CodeFiles + AllocGlobal, A: Allocator + Copy>(
+/// Runs the arguments with memory from `heap`.
+pub fn done_with<R: CodeFiles + AllocGlobal>(
     rt: &R,
-    alloc: A,
+    heap: &Refusing<Global>,
     args: &str,
 ) -> Outcome {
-    let heap: Global = rt.alloc();
-    let mut out = Vec::new(heap);
-    let mut err = Vec::new(heap);
-    let status = status_of(rt, alloc, args, &mut out, &mut err);
-    Outcome { status, out, err }
+    let alloc = rt.alloc();
+    let writers = (Limited::taking_all(alloc), Limited::taking_all(alloc));
+    done_into(rt, heap, args, writers)
 }
 
-/// Runs the arguments, which are words, with these writers.
-pub fn status_of<R: CodeFiles + AllocGlobal, A: Allocator + Copy, O: Write, E: Write>(
+/// Runs the arguments, which are words, with memory from `heap` and with these writers.
+pub fn done_into<R: CodeFiles + AllocGlobal>(
     rt: &R,
-    alloc: A,
+    heap: &Refusing<Global>,
     args: &str,
-    out: &mut O,
-    err: &mut E,
-) -> u8 {
+    (out, err): (Limited, Limited),
+) -> Outcome {
     let mut words = Vec::new(rt.alloc());
     for word in args.split_whitespace() {
         let _ = words.push(word);
     }
-    run(rt, alloc, words.as_slice(), out, err)
+    let mut out = out;
+    let mut err = err;
+    let status = run(rt, heap, words.as_slice(), &mut out, &mut err);
+    Outcome { status, out, err }
 }
 
 impl Outcome {
     /// The run of this row succeeded, and printed these two texts, one behind the other.
     pub fn prints<D: Debug + Copy>(&self, rt: &impl Abort, row: D, first: &str, second: &str) {
-        let printed = text(self.out.as_slice());
+        let printed = text(self.out.taken.as_slice());
         let is_right = self.status == 0
-            && self.err.is_empty()
+            && self.err.taken.is_empty()
             && printed.strip_prefix(first) == Some(second);
         says(rt, is_right, &(row, printed));
     }
 
+    /// The run of this row was wrong usage, of which it said these two texts, one behind the other.
+    pub fn is_wrong_usage(&self, rt: &impl Abort, row: &str, first: &str, second: &str) {
+        let complained = text(self.err.taken.as_slice());
+        let is_right = self.status == 2
+            && self.out.taken.is_empty()
+            && complained.strip_prefix(first) == Some(second);
+        says(rt, is_right, &(row, complained));
+    }
+
     /// The run of this row returned this status and wrote these texts.
     pub fn is<D: Debug + Copy>(&self, rt: &impl Abort, row: D, status: u8, out: &str, err: &str) {
-        let (printed, complained) = (text(self.out.as_slice()), text(self.err.as_slice()));
+        let printed = text(self.out.taken.as_slice());
+        let complained = text(self.err.taken.as_slice());
         let is_right = self.status == status && printed == out && complained == err;
         says(rt, is_right, &(row, printed, complained));
     }
@@ -105,15 +121,17 @@ pub fn holds<R: Files + AllocGlobal + Abort>(rt: &R, path: &str, bytes: &[u8], r
     says(rt, is_held, &(path, row))
 }
 
-/// Checks that a file is there with the bytes of this image.
-pub fn holds_image<R: Files + AllocGlobal + Abort>(rt: &R, path: &str, image: &Image, row: &str) {
-    holds(rt, path, image.file(rt).as_slice(), row)
+/// Checks that a file is there with the bytes of the code file of this name.
+pub fn holds_image<R: Files + AllocGlobal + Abort>(rt: &R, path: &str, image: &str, row: &str) {
+    holds(rt, path, file_of(rt, image).as_slice(), row)
 }
 
 /// Removes the files of a table.
-pub fn clean_all<R: Files>(rt: &R, files: &[(&str, &Image)]) {
-    for (path, _) in files {
-        clean(rt, *path);
+pub fn clean_all<R: Files>(rt: &R, files: &str) {
+    for line in files.lines() {
+        if let Some((path, _)) = line.split_once(' ') {
+            clean(rt, path);
+        }
     }
 }
 

@@ -1,8 +1,9 @@
 //! Standard output and standard error that fail, or take little at a time.
-use super::inputs::{HOST, HOST_IN_PLACE, Image, LIBRARY, LINKED_HOST_IN_PLACE, save_all};
-use super::outcome::{clean, clean_all, holds_image, says, status_of, text};
+use super::inputs::save_all;
+use super::outcome::{Outcome, clean, clean_all, done_into, holds_image, says, text};
 use super::wanted::Text;
 use super::writers::{Limited, Stuck};
+use refusing::Refusing;
 use std::fs;
 use std::process::Abort;
 use std::rt::Files;
@@ -17,11 +18,10 @@ slots without a segment: 00 02 03 04 05 06 08 09 10 11 12 13 14 15
 links: segments 2 private words 0 blocks 3
 ";
 
-static STUCK: [(&str, &Image); 3] = [
-    ("stuck-in-place", &HOST_IN_PLACE),
-    ("stuck-host", &HOST),
-    ("stuck-library", &LIBRARY),
-];
+static STUCK: &str = "\
+stuck-in-place HOST_IN_PLACE
+stuck-host HOST
+stuck-library LIBRARY";
 
 const STUCK_LINK: &str = "pslink link stuck-in-place stuck-out";
 
@@ -37,27 +37,37 @@ static STUCK_COMMANDS: [&str; 9] = [
     "pslink --help",
 ];
 
+/// Runs the args with this standard output.
+fn printed_into<R: Files + AllocGlobal>(rt: &R, args: &str, out: Limited) -> Outcome {
+    let alloc = rt.alloc();
+    let heap = Refusing::once(alloc, 0);
+    done_into(rt, &heap, args, (out, Limited::taking_all(alloc)))
+}
+
 /// Runs the args with a standard output that does not take what it is given.
 fn cannot_print<R: Files + AllocGlobal + Abort>(rt: &R, args: &str, stuck: Stuck) {
-    let mut out = stuck;
-    let mut err = Vec::new(rt.alloc());
-    let status = status_of(rt, rt.alloc(), args, &mut out, &mut err);
-    let is_right = status == 3 && text(err.as_slice()) == NO_OUTPUT;
+    let run = printed_into(rt, args, Limited::stuck(rt.alloc(), stuck));
+    let is_right = run.status == 3 && text(run.err.taken.as_slice()) == NO_OUTPUT;
     says(rt, is_right, &(args, stuck))
+}
+
+/// Runs each command with each writer that is stuck.
+fn prints_nowhere<R: Files + AllocGlobal + Abort>(rt: &R) {
+    save_all(rt, STUCK);
+    for args in &STUCK_COMMANDS {
+        for stuck in [Stuck::Broken, Stuck::TakesNothing, Stuck::Interrupted] {
+            cannot_print(rt, *args, stuck);
+        }
+    }
+    // The linked file was written before the line that tells of it.
+    holds_image(rt, "stuck-out", "LINKED_HOST_IN_PLACE", STUCK_LINK);
+    clean_all(rt, STUCK);
+    clean(rt, "stuck-out");
 }
 
 #[test]
 fn standard_output_that_fails(rt: HostRuntime) {
-    save_all(&rt, STUCK.as_slice());
-    for args in &STUCK_COMMANDS {
-        for stuck in [Stuck::Broken, Stuck::TakesNothing, Stuck::Interrupted] {
-            cannot_print(&rt, *args, stuck);
-        }
-    }
-    // The linked file was written before the line that tells of it.
-    holds_image(&rt, "stuck-out", &LINKED_HOST_IN_PLACE, STUCK_LINK);
-    clean_all(&rt, STUCK.as_slice());
-    clean(&rt, "stuck-out");
+    prints_nowhere(&rt)
 }
 
 /// Has a write of the args' text fail after so many, of which each takes `most` bytes. Returns
@@ -69,29 +79,21 @@ fn fails_to_print<R: Files + AllocGlobal + Abort>(
     (most, writes): (usize, u64),
     wanted: &str,
 ) -> bool {
-    let mut out = Limited::new(rt.alloc(), most, writes);
-    let mut err = Vec::new(rt.alloc());
-    let status = status_of(rt, rt.alloc(), args, &mut out, &mut err);
-    let (taken, complained) = (text(out.taken.as_slice()), text(err.as_slice()));
-    says(
-        rt,
-        is_taken(status, taken, complained, wanted),
-        &(args, most, writes),
-    );
-    status != 0
+    let out = Limited::new(rt.alloc(), (most, writes), Stuck::Broken);
+    let run = printed_into(rt, args, out);
+    says(rt, is_taken(&run, wanted), &(args, most, writes));
+    run.status != 0
 }
 
-/// Whether this was taken of the text that is wanted, and said of it, with this status.
-fn is_taken(status: u8, taken: &str, complained: &str, wanted: &str) -> bool {
-    if status == 0 {
+/// Whether a run wrote what is wanted, and ended with status 0, or wrote a start of it and ended with 3.
+fn is_taken(run: &Outcome, wanted: &str) -> bool {
+    let taken = text(run.out.taken.as_slice());
+    let complained = text(run.err.taken.as_slice());
+    if run.status == 0 {
         return taken == wanted && complained.is_empty();
     }
-    status == 3 && is_prefix(taken, wanted) && complained == NO_OUTPUT
-}
-
-/// Whether a text is the start of another, and shorter.
-fn is_prefix(text: &str, whole: &str) -> bool {
-    whole.starts_with(text) && text.len() < whole.len()
+    let is_start = wanted.starts_with(taken) && taken.len() < wanted.len();
+    run.status == 3 && is_start && complained == NO_OUTPUT
 }
 
 /// Has each write of the args' text fail in turn, until none fails: how many failed.
@@ -109,11 +111,10 @@ fn failing_prints<R: Files + AllocGlobal + Abort>(
     1000
 }
 
-static PRINTED: [(&str, &Image); 3] = [
-    ("prints-in-place", &HOST_IN_PLACE),
-    ("prints-host", &HOST),
-    ("prints-library", &LIBRARY),
-];
+static PRINTED: &str = "\
+prints-in-place HOST_IN_PLACE
+prints-host HOST
+prints-library LIBRARY";
 
 /// The args, and what they print.
 static TEXTS: [(&str, Text); 6] = [
@@ -128,19 +129,24 @@ static TEXTS: [(&str, Text); 6] = [
     ("pslink --version", Text::Version),
 ];
 
-#[test]
-fn each_write_of_a_text_fails(rt: HostRuntime) {
-    save_all(&rt, PRINTED.as_slice());
+/// Has each write of each text fail.
+fn fails_each_print<R: Files + AllocGlobal + Abort>(rt: &R) {
+    save_all(rt, PRINTED);
     for (args, text) in &TEXTS {
         let wanted = text.text();
         for most in [1, 7, 4096] {
-            let failed = failing_prints(&rt, *args, most, wanted);
+            let failed = failing_prints(rt, *args, most, wanted);
             let writes = wanted.len().div_ceil(most) as u64;
-            says(&rt, failed == writes, &(*args, most));
+            says(rt, failed == writes, &(*args, most));
         }
     }
-    clean_all(&rt, PRINTED.as_slice());
-    clean(&rt, "prints-out");
+    clean_all(rt, PRINTED);
+    clean(rt, "prints-out");
+}
+
+#[test]
+fn each_write_of_a_text_fails(rt: HostRuntime) {
+    fails_each_print(&rt)
 }
 
 /// The args, and the status that they end with.
@@ -153,18 +159,25 @@ static SILENT: [(&str, u8); 4] = [
 
 /// Runs the args with a standard error that does not take what it is given.
 fn cannot_complain<R: Files + AllocGlobal + Abort>(rt: &R, args: &str, stuck: Stuck, wanted: u8) {
-    let mut out = Vec::new(rt.alloc());
-    let mut err = stuck;
-    let status = status_of(rt, rt.alloc(), args, &mut out, &mut err);
-    says(rt, status == wanted && out.is_empty(), &(args, stuck))
+    let alloc = rt.alloc();
+    let heap = Refusing::once(alloc, 0);
+    let writers = (Limited::taking_all(alloc), Limited::stuck(alloc, stuck));
+    let run = done_into(rt, &heap, args, writers);
+    let is_right = run.status == wanted && run.out.taken.is_empty();
+    says(rt, is_right, &(args, stuck))
+}
+
+/// Runs each row with each writer that is stuck.
+fn complains_nowhere<R: Files + AllocGlobal + Abort>(rt: &R) {
+    let _ = fs::remove_file(rt, "silent-host");
+    for (args, wanted) in &SILENT {
+        for stuck in [Stuck::Broken, Stuck::TakesNothing, Stuck::Interrupted] {
+            cannot_complain(rt, *args, stuck, *wanted);
+        }
+    }
 }
 
 #[test]
 fn standard_error_that_fails(rt: HostRuntime) {
-    let _ = fs::remove_file(&rt, "silent-host");
-    for (args, wanted) in &SILENT {
-        for stuck in [Stuck::Broken, Stuck::TakesNothing, Stuck::Interrupted] {
-            cannot_complain(&rt, *args, stuck, *wanted);
-        }
-    }
+    complains_nowhere(&rt)
 }

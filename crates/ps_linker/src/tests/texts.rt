@@ -1,9 +1,5 @@
 //! `map` and `show`: their texts, and what they refuse.
-use super::inputs::{
-    BIG_ENDIAN_LIBRARY, CUT_LIBRARY, HOST, HOST_SLOTS, HOST_WITH_CONSTANT, Image, LIBRARY,
-    LIBRARY_CUT_IN_CODE, LIBRARY_OF_BOTH, LINKED_PAIR, MIXED_FILE, NAMING_LIBRARY, SHORT_FILE,
-    USING_LIBRARY, save, save_all,
-};
+use super::inputs::{HOST_SLOTS, file_of, save, save_all};
 use super::outcome::{Outcome, clean, clean_all, done, done_with, gives, holds_image, says};
 use super::wanted::Text;
 use refusing::Refusing;
@@ -14,13 +10,12 @@ use std::rt::Files;
 /// The args of a map, the status and the two texts.
 type Mapped<'a> = (&'a str, u8, Text, &'a str);
 
-static MAP_FILES: [(&str, &Image); 5] = [
-    ("map-host", &HOST),
-    ("map-library", &LIBRARY),
-    ("map-constant", &HOST_WITH_CONSTANT),
-    ("map-linked", &LINKED_PAIR),
-    ("map-both", &LIBRARY_OF_BOTH),
-];
+static MAP_FILES: &str = "\
+map-host HOST
+map-library LIBRARY
+map-constant HOST_WITH_CONSTANT
+map-linked LINKED_PAIR
+map-both LIBRARY_OF_BOTH";
 
 const NO_UNIT: &str = "pslink: refused 13 MissingUnit file 0 slot 7\n";
 
@@ -54,19 +49,24 @@ static MAPS: [Mapped<'static>; 7] = [
     ("pslink map map-host map-linked", 1, Text::Nothing, LINKED),
 ];
 
-#[test]
-fn maps_a_host_with_its_libraries(rt: HostRuntime) {
-    save_all(&rt, MAP_FILES.as_slice());
+/// Maps each row, whose host stays as it is.
+fn maps_files<R: Files + AllocGlobal + Abort>(rt: &R) {
+    save_all(rt, MAP_FILES);
     for (args, status, printed, complained) in &MAPS {
-        gives(&rt, *args, *status, printed.text(), *complained);
+        gives(rt, *args, *status, printed.text(), *complained);
     }
-    holds_image(&rt, "map-host", &HOST, "map");
-    clean_all(&rt, MAP_FILES.as_slice());
+    holds_image(rt, "map-host", "HOST", "map");
+    clean_all(rt, MAP_FILES);
 }
 
-/// Shows a file of these bytes.
-fn shown<R: Files + AllocGlobal + Abort>(rt: &R, image: &Image) -> Outcome {
-    save_all(rt, &[("show-file", image)]);
+#[test]
+fn maps_a_host_with_its_libraries(rt: HostRuntime) {
+    maps_files(&rt)
+}
+
+/// Shows the code file of this name.
+fn shown<R: Files + AllocGlobal + Abort>(rt: &R, image: &str) -> Outcome {
+    save(rt, "show-file", file_of(rt, image).as_slice());
     done(rt, "pslink show show-file")
 }
 
@@ -78,70 +78,75 @@ const UNLISTED: &str = "links 02\n0 UNITREF AUX      at 2 unlisted\n1 EOFMARK ne
 const NOWHERE: &str = "links 02\n0 UNITREF AUX      at unlisted\n1 EOFMARK next 0\n";
 
 /// Files, and the two parts of their show.
-static SHOWS: [(&str, &Image, Text, &str); 8] = [
-    ("a library", &LIBRARY, Text::ShownLibrary, ""),
+static SHOWS: [(&str, &str, Text, &str); 8] = [
+    ("a library", "LIBRARY", Text::ShownLibrary, ""),
     (
         "a big-endian library",
-        &BIG_ENDIAN_LIBRARY,
+        "BIG_ENDIAN_LIBRARY",
         Text::ShownBigEndian,
         "",
     ),
-    ("a linked file", &LINKED_PAIR, Text::ShownLinked, ""),
+    ("a linked file", "LINKED_PAIR", Text::ShownLinked, ""),
     (
         "a library without its last byte",
-        &CUT_LIBRARY,
+        "CUT_LIBRARY",
         Text::LibrarySlots,
         CUT,
     ),
     (
         "a library that is cut in its code",
-        &LIBRARY_CUT_IN_CODE,
+        "LIBRARY_CUT_IN_CODE",
         Text::LibrarySlots,
         "links 02\nfault 16 Truncated\n",
     ),
     (
         "a unit that is there",
-        &LIBRARY_OF_BOTH,
+        "LIBRARY_OF_BOTH",
         Text::ShowOfBothUnits,
         "",
     ),
     (
         "a unit that is not there",
-        &USING_LIBRARY,
+        "USING_LIBRARY",
         Text::LibrarySlots,
         UNLISTED,
     ),
     (
         "a unit that is not there, at no place",
-        &NAMING_LIBRARY,
+        "NAMING_LIBRARY",
         Text::LibrarySlots,
         NOWHERE,
     ),
 ];
 
 /// Files that are refused, and what is said of them.
-static UNSHOWN: [(&str, &Image, &str); 2] = [
+static UNSHOWN: [(&str, &str, &str); 2] = [
     (
         "511 zeros",
-        &SHORT_FILE,
+        "SHORT_FILE",
         "pslink: refused 1 ShortFile file 0\n",
     ),
     (
         "mixed kinds",
-        &MIXED_FILE,
+        "MIXED_FILE",
         "pslink: refused 2 NoOrder file 0\n",
     ),
 ];
 
-#[test]
-fn shows_what_a_file_has(rt: HostRuntime) {
+/// Shows each file, or is refused.
+fn shows_files<R: Files + AllocGlobal + Abort>(rt: &R) {
     for (what, image, slots, links) in &SHOWS {
-        shown(&rt, *image).prints(&rt, *what, slots.text(), *links);
+        shown(rt, *image).prints(rt, *what, slots.text(), *links);
     }
     for (what, image, complained) in &UNSHOWN {
-        shown(&rt, *image).is(&rt, *what, 1, "", *complained);
+        shown(rt, *image).is(rt, *what, 1, "", *complained);
     }
-    clean(&rt, "show-file");
+    clean(rt, "show-file");
+}
+
+#[test]
+fn shows_what_a_file_has(rt: HostRuntime) {
+    shows_files(&rt)
 }
 
 /// What the show of the host has after its slots, where the host is truncated to a length of 512 or
@@ -168,14 +173,19 @@ fn shows_cut<R: Files + AllocGlobal + Abort>(rt: &R, host: &[u8], length: usize)
     }
 }
 
-#[test]
-fn shows_a_host_cut_to_each_length(rt: HostRuntime) {
-    let host = HOST.file(&rt);
+/// Shows the host cut to each length.
+fn shows_each_length<R: Files + AllocGlobal + Abort>(rt: &R) {
+    let host = file_of(rt, "HOST");
     let whole = host.as_slice();
     for length in 0..=whole.len() {
-        shows_cut(&rt, whole, length);
+        shows_cut(rt, whole, length);
     }
-    clean(&rt, "show-host");
+    clean(rt, "show-host");
+}
+
+#[test]
+fn shows_a_host_cut_to_each_length(rt: HostRuntime) {
+    shows_each_length(&rt)
 }
 
 const TOO_LONG: &str = "pslink: long-file is longer than 67108864 bytes\n";
@@ -203,19 +213,24 @@ fn shows_long<R: Files + AllocGlobal + Abort>(
     says(rt, heap.bytes() == 67_108_864, &length)
 }
 
-#[test]
-fn the_longest_file_is_read_and_none_longer(rt: HostRuntime) {
-    let long = fs::create(&rt, "long-file").expect(&rt, "no file");
+/// Shows and links a file of each length.
+fn reads_longest<R: Files + AllocGlobal + Abort>(rt: &R) {
+    let long = fs::create(rt, "long-file").expect(rt, "no file");
     for (length, status, shown, complained, link_status, refused) in &LONG {
-        fs::OpenFile::set_len(&long, *length).expect(&rt, "no length");
-        shows_long(&rt, *length, *status, shown.text(), *complained);
+        fs::OpenFile::set_len(&long, *length).expect(rt, "no length");
+        shows_long(rt, *length, *status, shown.text(), *complained);
         gives(
-            &rt,
+            rt,
             "pslink link long-file long-out",
             *link_status,
             "",
             *refused,
         );
     }
-    clean(&rt, "long-file");
+    clean(rt, "long-file");
+}
+
+#[test]
+fn the_longest_file_is_read_and_none_longer(rt: HostRuntime) {
+    reads_longest(&rt)
 }

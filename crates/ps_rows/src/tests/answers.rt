@@ -23,18 +23,15 @@ pub(crate) fn is(rt: &impl Abort, what: &str, line: Line, wanted: &str) {
 /// A link's answer: the program's line for a Summary, or the text of an error.
 pub(crate) fn text_of(alloc: Global, answer: Result<Summary, LinkError>) -> Line {
     match answer {
-        Ok(summary) => text_of_summary(alloc, summary),
+        Ok(summary) => {
+            let mut line = Line::new(alloc);
+            line.number("segments ", summary.segments);
+            line.number(" private words ", summary.private_words as usize);
+            line.number(" blocks ", summary.blocks);
+            line
+        }
         Err(error) => text_of_error(alloc, error),
     }
-}
-
-/// The program's line.
-fn text_of_summary(alloc: Global, summary: Summary) -> Line {
-    let mut line = Line::new(alloc);
-    line.number("segments ", summary.segments);
-    line.number(" private words ", summary.private_words as usize);
-    line.number(" blocks ", summary.blocks);
-    line
 }
 
 /// A fault, if there is one.

@@ -71,19 +71,16 @@ fn answer(alloc: Global, wanted: Wanted) -> Line {
     match wanted {
         Pair | PairWithByte => line.word("segments 2 private words 4 blocks 3"),
         HostAlone => line.word("segments 1 private words 0 blocks 2"),
-        Refused(fault, slot) => add_refusal(&mut line, fault, slot),
+        Refused(fault, slot) => {
+            line.word("refused ");
+            line.word(fault);
+            line.word(" file 0");
+            if let Some(slot) = slot {
+                line.number(" slot ", slot)
+            }
+        }
     }
     line
-}
-
-/// Adds a refusal of the host's dictionary.
-fn add_refusal(line: &mut Line, fault: &str, slot: Option<usize>) {
-    line.word("refused ");
-    line.word(fault);
-    line.word(" file 0");
-    if let Some(slot) = slot {
-        line.number(" slot ", slot)
-    }
 }
 
 /// The file that is written where the byte at a place of the host's dictionary is this one, empty
@@ -104,36 +101,14 @@ fn check(rt: &(impl Abort + AllocGlobal), library: &[u8], place: usize, byte: u8
     let wanted = expected(place, byte);
     let linked = written(rt, &wanted, place, byte);
     let answer = answer(rt.alloc(), wanted).text(rt);
-    let wanted = (linked.as_slice(), answer.as_str());
-    answers(rt, library, (place, byte), wanted)
-}
-
-/// Checks that this is what is written and answered there.
-fn answers(
-    rt: &(impl Abort + AllocGlobal),
-    library: &[u8],
-    (place, byte): (usize, u8),
-    (linked, answer): (&[u8], &str),
-) {
-    let host = changed(rt, place, byte);
-    let what = what(rt.alloc(), place, byte).text(rt);
-    let files = (host.as_slice(), library);
-    links_pair(rt, what.as_str(), files, linked, answer)
-}
-
-/// The host with this byte at a place.
-fn changed(rt: &(impl Abort + AllocGlobal), place: usize, byte: u8) -> CodeFile {
     let mut host = CodeFile::new(rt, LITTLE, HOST_TEXTS);
     host.put(rt, place, &[byte]);
-    host
-}
-
-/// What is changed.
-fn what(alloc: Global, place: usize, byte: u8) -> Line {
-    let mut line = Line::new(alloc);
-    line.number("byte ", place);
-    line.number(" set to ", byte as usize);
-    line
+    let mut what = Line::new(rt.alloc());
+    what.number("byte ", place);
+    what.number(" set to ", byte as usize);
+    let what = what.text(rt);
+    let files = (host.as_slice(), library);
+    links_pair(rt, what.as_str(), files, linked.as_slice(), answer.as_str())
 }
 
 /// The bytes that each byte is changed to.

@@ -4,7 +4,6 @@ use super::calls::Link;
 use super::rows::{Row, check_all, field, fields};
 use super::tables::{Check, base_named};
 use crate::notation::{holds, number_of};
-use std::ops::Range;
 use std::process::Abort;
 
 const WHOLE: &str = "segments 2 private words 4 blocks 3";
@@ -35,16 +34,11 @@ fn answers(
     let library = link.libraries.first().copied().unwrap_or(&[]);
     let linked = if answer == WHOLE { link.linked } else { &[] };
     let files = if is_host {
-        (cut_to(link.host, length), library)
+        (link.host.get(..length).unwrap_or(&[]), library)
     } else {
-        (link.host, cut_to(library, length))
+        (link.host, library.get(..length).unwrap_or(&[]))
     };
     links_pair(rt, "a cut file", files, linked, answer)
-}
-
-/// The first bytes of a file.
-fn cut_to(file: &[u8], length: usize) -> &[u8] {
-    file.get(..length).unwrap_or(&[])
 }
 
 /// A host and a library, each of which is cut to each length.
@@ -67,28 +61,11 @@ impl<'a> Row for CutRows<'a> {
     fn check<R: Abort + AllocGlobal>(&self, rt: &R, row: &str) {
         let (file, rest) = field(rt, row);
         let (from, to, answer) = fields(rt, rest);
-        let lengths = number_of(rt, from)..number_of(rt, to);
-        answers_each(rt, self.link, is_host(rt, file), lengths, answer)
-    }
-}
-
-/// Whether the file of a row is the host.
-fn is_host(rt: &impl Abort, file: &str) -> bool {
-    let is_host = file == "host";
-    holds(rt, is_host || file == "library", file);
-    is_host
-}
-
-/// Checks the answer to each of these lengths of a file.
-fn answers_each(
-    rt: &(impl Abort + AllocGlobal),
-    link: &Link<'_>,
-    is_host: bool,
-    lengths: Range<usize>,
-    answer: &str,
-) {
-    for length in lengths {
-        answers(rt, link, (is_host, length), answer);
+        let is_host = file == "host";
+        holds(rt, is_host || file == "library", file);
+        for length in number_of(rt, from)..number_of(rt, to) {
+            answers(rt, self.link, (is_host, length), answer);
+        }
     }
 }
 

@@ -24,7 +24,10 @@ fn add_slot(line: &mut Line, dictionary: &Dict<'_>, slot: u8)
         add_entry(line, &dictionary.entry(slot), role)
     }
     if dictionary.filled(slot) {
-        add_code(line, dictionary.code(slot));
+        match dictionary.code(slot) {
+            Ok(code) => line.number(" code ", code.len()),
+            Err(reason) => line.value(" code ", &reason),
+        }
         line.number(" after ", dictionary.after(slot).len());
         line.word(";")
     }
@@ -38,14 +41,6 @@ fn add_entry(line: &mut Line, entry: &Entry, role: Result<Role, Reason>) {
     line.number(" kind ", entry.kind as usize);
     line.number(" address ", entry.address as usize);
     line.number(" length ", entry.length as usize)
-}
-
-/// Adds how long a code is, or what is wrong with it.
-fn add_code(line: &mut Line, code: Result<&[u8], Reason>) {
-    match code {
-        Ok(code) => line.number(" code ", code.len()),
-        Err(reason) => line.value(" code ", &reason),
-    }
 }
 
 /// The slots of a dictionary that are not empty, or why there is none, as text.
@@ -118,19 +113,13 @@ fn has_slots(
     wanted: &str,
 ) {
     let own = if kind == "turned" { other } else { order };
-    let file = CodeFile::new(rt, own, texts).with(rt, changed);
-    let text = slots_of(rt.alloc(), file.as_slice(), kind, order);
-    is(rt, changed, text, wanted)
-}
-
-/// The slots of a file of this kind, as text.
-fn slots_of(alloc: Global, file: &[u8], kind: &str, order: Order) -> Line {
+    let file = CodeFile::of(rt, own, texts, changed);
     let answer = if kind == "host" {
-        Dict::read(file)
+        Dict::read(file.as_slice())
     } else {
-        Dict::read_beside(file, order)
+        Dict::read_beside(file.as_slice(), order)
     };
-    describe(alloc, answer, order)
+    is(rt, changed, describe(rt.alloc(), answer, order), wanted)
 }
 
 #[test]
@@ -169,17 +158,13 @@ fn has_code(rt: &impl Abort, dictionary: &Dict<'_>, slot: u8, code: &[u8])
     holds_of(rt, dictionary.code(slot) == Ok(code), &slot)
 }
 
-/// Checks the parts of the base host in a byte order.
-fn host_has_its_parts(rt: &(impl Abort + AllocGlobal), order: Order) {
+/// Checks the parts of the base host, and the code of the base library, in a byte order.
+fn files_have_their_parts(rt: &(impl Abort + AllocGlobal), order: Order) {
     let host = CodeFile::new(rt, order, HOST_TEXTS);
     let information = Information::new(rt, order, HOST_RECORDS);
     let host = Dict::read(host.as_slice()).expect(rt, "no host");
     gives_the_host_s_parts(rt, &host, information.as_slice());
-    has_code(rt, &host, 1, &demo_code(order))
-}
-
-/// Checks the code of the base library in a byte order.
-fn library_has_its_code(rt: &(impl Abort + AllocGlobal), order: Order) {
+    has_code(rt, &host, 1, &demo_code(order));
     let library = CodeFile::new(rt, order, LIBRARY_TEXTS);
     let library = Dict::read_beside(library.as_slice(), order).expect(rt, "no library");
     has_code(rt, &library, 2, &util_code(order, UTIL_ENTRY))
@@ -187,8 +172,6 @@ fn library_has_its_code(rt: &(impl Abort + AllocGlobal), order: Order) {
 
 #[test]
 fn parts_of_the_base_files(rt: HostRuntime) {
-    host_has_its_parts(&rt, Order::Little);
-    host_has_its_parts(&rt, Order::Big);
-    library_has_its_code(&rt, Order::Little);
-    library_has_its_code(&rt, Order::Big)
+    files_have_their_parts(&rt, Order::Little);
+    files_have_their_parts(&rt, Order::Big)
 }

@@ -9,7 +9,6 @@ use super::writers::{Full, Room};
 use crate::line::Line;
 use crate::notation::{holds_of, number_of};
 use ps_linkfile::{LinkError, Linked, Summary};
-use ps_resolve::{Plan, Stop};
 use refusing::Refusing;
 use std::alloc::{Allocator, Global};
 use std::process::Abort;
@@ -63,15 +62,10 @@ struct Resolve<'a> {
 
 impl<'a> Allocating for Resolve<'a> {
     fn answer<A: Allocator + Copy>(&self, alloc: Global, heap: A) -> Line {
-        text_of_plan(alloc, &self.link.resolve(heap))
-    }
-}
-
-/// A plan, or why there is none, as text.
-fn text_of_plan<A: Allocator + Copy>(alloc: Global, answer: &Result<Plan<'_, A>, Stop>) -> Line {
-    match answer {
-        Ok(plan) => describe(alloc, plan),
-        Err(stop) => text_of_stop(alloc, stop),
+        match self.link.resolve(heap) {
+            Ok(plan) => describe(alloc, &plan),
+            Err(stop) => text_of_stop(alloc, &stop),
+        }
     }
 }
 
@@ -84,19 +78,11 @@ struct Prepare<'a> {
 impl<'a> Allocating for Prepare<'a> {
     fn answer<A: Allocator + Copy>(&self, alloc: Global, heap: A) -> Line {
         let mut out = self.link.room(alloc);
-        let answer = prepare_and_write(&self.link, heap, &mut out);
+        let answer = match self.link.prepare(heap) {
+            Ok(linked) => write_to(&linked, &mut out),
+            Err(error) => Err(error),
+        };
         self.link.text_of(alloc, answer, out.written())
-    }
-}
-
-fn prepare_and_write<A: Allocator + Copy>(
-    link: &Link<'_>,
-    heap: A,
-    out: &mut Room,
-) -> Result<Summary, LinkError> {
-    match link.prepare(heap) {
-        Ok(linked) => write_to(&linked, out),
-        Err(error) => Err(error),
     }
 }
 
@@ -107,33 +93,15 @@ fn writes_to_each<A: Allocator + Copy>(
     linked: &Linked<'_, A>,
     summary: &str,
 ) {
-    let mut room = link.room(rt.alloc());
+    let alloc = rt.alloc();
+    let mut room = link.room(alloc);
     let answer = write_to(linked, &mut room);
     link.has(rt, answer, room.written(), summary);
-    writes_to_a_list(rt, link, linked, summary);
-    tells(rt, link, linked, summary)
-}
-
-fn tells<A: Allocator + Copy>(
-    rt: &(impl Abort + AllocGlobal),
-    link: &Link<'_>,
-    linked: &Linked<'_, A>,
-    summary: &str,
-) {
-    let room = link.room(rt.alloc());
-    let (answer, told) = tell_to(linked, room);
-    link.has(rt, answer, told.into_inner().written(), summary)
-}
-
-fn writes_to_a_list<A: Allocator + Copy>(
-    rt: &(impl Abort + AllocGlobal),
-    link: &Link<'_>,
-    linked: &Linked<'_, A>,
-    summary: &str,
-) {
-    let mut list = Vec::new(rt.alloc());
+    let mut list = Vec::new(alloc);
     let answer = write_to(linked, &mut list);
-    link.has(rt, answer, list.as_slice(), summary)
+    link.has(rt, answer, list.as_slice(), summary);
+    let (answer, told) = tell_to(linked, link.room(alloc));
+    link.has(rt, answer, told.into_inner().written(), summary)
 }
 
 /// Checks that preparing a link makes so many allocations, of so many bytes in all, and that
@@ -145,21 +113,10 @@ fn writing_grows_nothing(
     summary: &str,
 ) {
     let heap = Refusing::once(rt.alloc(), 0);
-    grows_nothing(rt, link, (&heap, &heap), asked, summary)
-}
-
-/// Checks that a link that is prepared on `heap`, which counts as `counted` does, grows nothing.
-fn grows_nothing<A: Allocator + Copy>(
-    rt: &(impl Abort + AllocGlobal),
-    link: &Link<'_>,
-    (heap, counted): (A, &Refusing<Global>),
-    asked: (u64, u64),
-    summary: &str,
-) {
-    let linked = prepared(rt, link, heap);
-    has_grown(rt, counted, asked);
+    let linked = prepared(rt, link, &heap);
+    has_grown(rt, &heap, asked);
     writes_to_each(rt, link, &linked, summary);
-    has_grown(rt, counted, asked)
+    has_grown(rt, &heap, asked)
 }
 
 /// Checks how many allocations there were on a heap, and of how many bytes.
@@ -181,11 +138,7 @@ fn a_map_grows_by_its_text(
     let text = link.map_text(heap).expect(rt, "unexpected error");
     let grown = heap.allocations().saturating_sub(allocations);
     let asked = heap.bytes().saturating_sub(bytes);
-    has_room(rt, text.len() as u64, (grown, asked))
-}
-
-/// Checks how often a text of this length grew, and how many bytes it requested.
-fn has_room(rt: &impl Abort, length: u64, (grown, asked): (u64, u64)) {
+    let length = text.len() as u64;
     let is_right = (128..256).contains(&length)
         && (1..8).contains(&grown)
         && (length..=length.saturating_mul(4)).contains(&asked);
@@ -244,8 +197,12 @@ impl Row for PlanRows {
     fn check<R: Abort + AllocGlobal>(&self, rt: &R, row: &str) {
         let (files, rest) = field(rt, row);
         let (asked, plan, summary) = fields(rt, rest);
+        let (allocations, bytes) = asked.split_once(' ').expect(rt, asked);
         let check = Planned {
-            asked: asked_for(rt, asked),
+            asked: (
+                number_of(rt, allocations) as u64,
+                number_of(rt, bytes) as u64,
+            ),
             plan,
             summary,
         };
@@ -256,13 +213,4 @@ impl Row for PlanRows {
 #[test]
 fn writing_takes_no_memory(rt: HostRuntime) {
     check_all(&rt, &PlanRows, PLANS)
-}
-
-/// How many allocations there are, and of how many bytes.
-fn asked_for(rt: &impl Abort, asked: &str) -> (u64, u64) {
-    let (allocations, bytes) = asked.split_once(' ').expect(rt, asked);
-    (
-        number_of(rt, allocations) as u64,
-        number_of(rt, bytes) as u64,
-    )
 }

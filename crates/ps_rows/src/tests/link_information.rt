@@ -11,20 +11,6 @@ use ps_words::Order;
 use std::alloc::Global;
 use std::hash::{DefaultHasher, Hasher};
 
-/// What link information comes to: its records, definitions, privates, publics, units and
-/// references, and its end mark's value.
-fn counts(information: &LinkInformation<'_>) -> [usize; 7] {
-    [
-        information.len(),
-        information.definitions(),
-        information.privates(),
-        information.publics(),
-        information.units(),
-        information.references(),
-        usize::from(information.next()),
-    ]
-}
-
 /// The names that are hashed of the rows below, of eight bytes each.
 static HASHED: [&str; 3] = ["", "STATE   ", "LIMIT   COUNT   "];
 
@@ -49,10 +35,20 @@ fn add_hashed(line: &mut Line, information: &LinkInformation<'_>) {
     }
 }
 
-/// What link information comes to, which names are hashed, and each record with its index, as text.
+/// What link information comes to, which names are hashed, and each record with its index, as text. It
+/// comes to its records, definitions, privates, publics, units and references, and its end mark's value.
 fn describe_all(alloc: Global, information: &LinkInformation<'_>) -> Line {
     let mut line = Line::new(alloc);
-    line.value("", &counts(information));
+    let counts = [
+        information.len(),
+        information.definitions(),
+        information.privates(),
+        information.publics(),
+        information.units(),
+        information.references(),
+        usize::from(information.next()),
+    ];
+    line.value("", &counts);
     add_hashed(&mut line, information);
     if information.is_empty() {
         line.word(" empty");
@@ -118,7 +114,7 @@ fn records_counts_and_names(rt: HostRuntime) {
         none,
         "[0, 0, 0, 0, 0, 0, 0] hashed '' empty",
     );
-    let full = CodeFile::new(&rt, LITTLE, "").with(&rt, WORDS_IN_FULL);
+    let full = CodeFile::of(&rt, LITTLE, "", WORDS_IN_FULL);
     Reader::Index.reads(&rt, LITTLE, full.as_slice(), WORDS_IN_FULL_READ);
     check_all(&rt, &Reader::Index, ROWS)
 }

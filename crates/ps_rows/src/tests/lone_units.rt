@@ -64,7 +64,7 @@ impl Row for UnitRows {
     fn check<R: Abort + AllocGlobal>(&self, rt: &R, row: &str) {
         let (what, rest) = field(rt, row);
         let (changes, wanted) = changes(rt, rest);
-        let file = CodeFile::new(rt, self.order, LIBRARY_TEXTS).with(rt, changes);
+        let file = CodeFile::of(rt, self.order, LIBRARY_TEXTS, changes);
         has_fault(rt, (file.as_slice(), &[]), 2, what, wanted)
     }
 }
@@ -91,7 +91,7 @@ fn host_has_fault(
 )
     requires { slot < SLOTS }
 {
-    let host = CodeFile::new(rt, LITTLE, HOST_TEXTS).with(rt, changes);
+    let host = CodeFile::of(rt, LITTLE, HOST_TEXTS, changes);
     has_fault(rt, (host.as_slice(), &[]), slot, what, wanted)
 }
 

@@ -7,7 +7,7 @@ use crate::code_file::{CodeFile, Information};
 use crate::line::Line;
 use crate::notation::{holds, holds_of};
 use ps_linkinfo::{Body, LinkRecord, read_records};
-use ps_resolve::{Allotment, Def, DefKind, Definitions, Linkage};
+use ps_resolve::{Allotment, Def, DefKind, Definitions};
 use sample_files::Name;
 use std::alloc::Global;
 use std::process::Abort;
@@ -79,37 +79,14 @@ fn are_numbered(
 fn records_of_a_hundred_thousand_names(rt: HostRuntime) {
     let text = numbered(rt.alloc()).text(&rt);
     let information = Information::new(&rt, LITTLE, text.as_str());
-    reads_numbered(&rt, information.as_slice())
-}
-
-/// Checks what is read and built of the link information of that text.
-fn reads_numbered(rt: &(impl Abort + AllocGlobal), bytes: &[u8]) {
+    let bytes = information.as_slice();
     let segment = linkage(1, 7, LITTLE, bytes);
-    let definitions = definitions_of(rt, &segment);
-    reads_all(rt, bytes, &definitions, &allotment_of(rt, segment))
-}
-
-/// The definitions of a segment.
-fn definitions_of(rt: &(impl Abort + AllocGlobal), segment: &Linkage<'_>) -> Definitions {
-    let built = Definitions::build(rt.alloc(), segment).ok();
-    built.expect(rt, "no definitions")
-}
-
-/// The private variables of a segment.
-fn allotment_of(rt: &(impl Abort + AllocGlobal), segment: Linkage<'_>) -> Allotment {
+    let built = Definitions::build(rt.alloc(), &segment).ok();
+    let definitions = built.expect(&rt, "no definitions");
     let built = Allotment::build(rt.alloc(), 8, &[segment]).ok();
-    built.expect(rt, "no variables")
-}
-
-/// Checks the records of that text, of which this was built.
-fn reads_all(
-    rt: &(impl Abort + AllocGlobal),
-    bytes: &[u8],
-    definitions: &Definitions,
-    allotment: &Allotment,
-) {
-    let records = read_records(rt.alloc(), LITTLE, bytes).expect(rt, "no records");
-    are_numbered(rt, records.as_slice(), definitions, allotment)
+    let allotment = built.expect(&rt, "no variables");
+    let records = read_records(rt.alloc(), LITTLE, bytes).expect(&rt, "no records");
+    are_numbered(&rt, records.as_slice(), &definitions, &allotment)
 }
 
 /// The map of the base pair where the library is the last of 65,537.
@@ -135,28 +112,18 @@ fn has_map(rt: &(impl Abort + AllocGlobal), host: &[u8], libraries: &[&[u8]]) {
 fn libraries_past_the_number_of_a_word(rt: HostRuntime) {
     let host = CodeFile::new(&rt, LITTLE, HOST_TEXTS);
     let library = CodeFile::new(&rt, LITTLE, LIBRARY_TEXTS);
-    links_many(&rt, host.as_slice(), library.as_slice())
-}
-
-/// Checks the links of this host with the library behind 65,536 others, and with a short one behind
-/// that.
-fn links_many(rt: &(impl Abort + AllocGlobal), host: &[u8], library: &[u8]) {
     let zeros = [0; 512];
     let libraries = Vec::from_elem(rt.alloc(), zeros.as_slice(), 65_536);
-    let mut libraries = libraries.expect(rt, "no memory");
-    libraries.push(library).expect(rt, "no memory");
-    has_map(rt, host, libraries.as_slice());
-    libraries.push(&[]).expect(rt, "no memory");
-    is_refused(rt, host, libraries.as_slice())
-}
-
-/// Checks that these files are refused for the last library.
-fn is_refused(rt: &(impl Abort + AllocGlobal), host: &[u8], libraries: &[&[u8]]) {
+    let mut libraries = libraries.expect(&rt, "no memory");
+    libraries.push(library.as_slice()).expect(&rt, "no memory");
+    has_map(&rt, host.as_slice(), libraries.as_slice());
+    // and a short one behind it
+    libraries.push(&[]).expect(&rt, "no memory");
     let link = Link {
-        host,
-        libraries,
+        host: host.as_slice(),
+        libraries: libraries.as_slice(),
         linked: &[],
     };
     let wanted = "refused 1 ShortFile file 65538";
-    links(rt, "a short library", &link, wanted)
+    links(&rt, "a short library", &link, wanted)
 }

@@ -31,11 +31,8 @@ fn edits_at_once(rt: HostRuntime) {
     let edits = [big(1, 10)];
     let wanted = [0xD7, 0x80, 0x0A, 0xAB];
     becomes(&rt, Order::Little, &mut code, &edits, &wanted);
-    becomes(&rt, Order::Big, &mut code, &[], &wanted)
-}
-
-#[test]
-fn a_word_at_once(rt: HostRuntime) {
+    becomes(&rt, Order::Big, &mut code, &[], &wanted);
+    // a word
     let edits = [Edit::Word {
         place: 0,
         value: 18,
@@ -46,11 +43,8 @@ fn a_word_at_once(rt: HostRuntime) {
         &mut [0x00, 0x0A, 0xFF],
         &edits,
         &[0x00, 0x12, 0xFF],
-    )
-}
-
-#[test]
-fn an_operand_and_a_byte_at_once(rt: HostRuntime) {
+    );
+    // an operand and a byte
     let edits = [big(0, 258), Edit::Byte { place: 2, value: 7 }];
     becomes(
         &rt,
@@ -96,11 +90,7 @@ fn fills_edited(rt: &impl Abort, order: Order, edit: Edit, bytes: &[u8])
 fn blocks_of_codes_without_edits(rt: HostRuntime) {
     let long = [0xD7; 1024];
     let patcher = Patcher::new(Order::Little, &long, &[]);
-    fills(&rt, patcher, &long, &[512, 512, 0, 0])
-}
-
-#[test]
-fn blocks_of_short_codes_without_edits(rt: HostRuntime) {
+    fills(&rt, patcher, &long, &[512, 512, 0, 0]);
     let short = [1, 2, 3, 4, 5];
     let patcher = Patcher::new(Order::Little, &short, &[]);
     fills(&rt, patcher, &short, &[5, 0]);

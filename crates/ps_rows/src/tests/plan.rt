@@ -6,7 +6,7 @@ use super::rows::{Row, changes, check_all, field, fields};
 use super::tables::{Check, base_named};
 use crate::code_file::Information;
 use crate::line::Line;
-use crate::notation::{holds, holds_of, word_of};
+use crate::notation::{holds, holds_of};
 use ps_resolve::{Allotment, Definitions, Linkage, Plan, Private, Source, Stop};
 use ps_words::{Edit, Order};
 use sample_files::Name;
@@ -37,17 +37,12 @@ fn describe_definitions<A: Allocator + Copy>(alloc: Global, definitions: &Defini
         line.value("", &definition);
         line.word("; ");
     }
-    look_each(&mut line, definitions);
+    look(&mut line, definitions, &COUNT);
+    line.word(", ");
+    look(&mut line, definitions, &STATE);
+    line.word(", ");
+    look(&mut line, definitions, &LIMIT);
     line
-}
-
-/// Adds what three names are defined as.
-fn look_each<A: Allocator + Copy>(line: &mut Line, definitions: &Definitions<A>) {
-    look(line, definitions, &COUNT);
-    line.word(", ");
-    look(line, definitions, &STATE);
-    line.word(", ");
-    look(line, definitions, &LIMIT)
 }
 
 /// Adds what a name is defined as.
@@ -102,30 +97,15 @@ enum Build<'a> {
 impl<'a> Allocating for Build<'a> {
     fn answer<A: Allocator + Copy>(&self, alloc: Global, heap: A) -> Line {
         match self {
-            Build::Definitions(host) => build_definitions(alloc, heap, host),
-            Build::Allotment(next, segment) => build_allotment(alloc, heap, *next, *segment),
+            Build::Definitions(host) => match Definitions::build(heap, host) {
+                Ok(definitions) => describe_definitions(alloc, &definitions),
+                Err(stop) => text_of_stop(alloc, &stop),
+            },
+            Build::Allotment(next, segment) => match Allotment::build(heap, *next, &[*segment]) {
+                Ok(allotment) => describe_allotment(alloc, &allotment),
+                Err(stop) => text_of_stop(alloc, &stop),
+            },
         }
-    }
-}
-
-/// The definitions of a host, or why they are not built, as text.
-fn build_definitions<A: Allocator + Copy>(alloc: Global, heap: A, host: &Linkage<'_>) -> Line {
-    match Definitions::build(heap, host) {
-        Ok(definitions) => describe_definitions(alloc, &definitions),
-        Err(stop) => text_of_stop(alloc, &stop),
-    }
-}
-
-/// The private variables of a segment from an offset on, or why they are not built, as text.
-fn build_allotment<A: Allocator + Copy>(
-    alloc: Global,
-    heap: A,
-    next: u16,
-    segment: Linkage<'_>,
-) -> Line {
-    match Allotment::build(heap, next, &[segment]) {
-        Ok(allotment) => describe_allotment(alloc, &allotment),
-        Err(stop) => text_of_stop(alloc, &stop),
     }
 }
 
@@ -168,7 +148,10 @@ fn builds(
     let bytes = information.as_slice();
     let call = match what {
         "definitions" => Build::Definitions(linkage(0, DEMO_SLOT, order, bytes)),
-        next => Build::Allotment(word_of(rt, next), linkage(1, UTIL_SLOT, order, bytes)),
+        next => Build::Allotment(
+            next.parse().expect(rt, next),
+            linkage(1, UTIL_SLOT, order, bytes),
+        ),
     };
     refuses_each_allocation(rt, records, &call, answer)
 }
@@ -187,19 +170,14 @@ fn definitions_and_private_variables(rt: HostRuntime) {
     check_all(&rt, &BuildRows, BUILT)
 }
 
-/// Whether a segment was linked already, or was added.
-fn mark_of(source: &Source<'_>) -> &'static str {
-    match (source.linked, source.added) {
+/// Adds a segment of a plan, with whether it was linked already or was added, and with its edits.
+fn describe_segment(line: &mut Line, source: &Source<'_>, edits: &[Edit]) {
+    line.number("slot ", source.slot as usize);
+    line.word(match (source.linked, source.added) {
         (false, _) => " plain",
         (true, true) => " added",
         (true, false) => "",
-    }
-}
-
-/// Adds a segment of a plan with its edits, or how many they are where they are many.
-fn describe_segment(line: &mut Line, source: &Source<'_>, edits: &[Edit]) {
-    line.number("slot ", source.slot as usize);
-    line.word(mark_of(source));
+    });
     line.number(" file ", source.file);
     line.number(" entry ", source.index as usize);
     line.number(" length ", source.code.len());
@@ -208,6 +186,7 @@ fn describe_segment(line: &mut Line, source: &Source<'_>, edits: &[Edit]) {
     line.word("; ")
 }
 
+/// Adds edits, or how many they are where they are many.
 fn add_edits(line: &mut Line, edits: &[Edit]) {
     if edits.len() > 9 {
         line.number(" ", edits.len());
@@ -225,17 +204,12 @@ pub(crate) fn describe<A: Allocator + Copy>(alloc: Global, plan: &Plan<'_, A>) -
     for (k, source) in plan.sources().iter().enumerate() {
         describe_segment(&mut line, source, plan.edits(k));
     }
-    add_numbers(&mut line, plan);
-    line
-}
-
-/// Adds the numbers of the linked file.
-fn add_numbers<A: Allocator + Copy>(line: &mut Line, plan: &Plan<'_, A>) {
     line.number("definitions ", plan.definitions().len());
     line.number(" privates ", plan.allotment().privates().len());
     line.number(" words ", plan.private_words() as usize);
     line.number(" next ", plan.next_free() as usize);
-    line.number(" data ", plan.data_size() as usize)
+    line.number(" data ", plan.data_size() as usize);
+    line
 }
 
 /// Files, changes of the host, and the plan of their link.
@@ -299,20 +273,8 @@ struct PlanCheck<'a> {
 
 impl<'a> Check for PlanCheck<'a> {
     fn check<R: Abort + AllocGlobal>(&self, rt: &R, link: &Link<'_>) {
-        self.is_answered(rt, &link.resolve(rt.alloc()), link.linked)
-    }
-}
-
-impl PlanCheck<'_> {
-    /// Checks that an answer is the plan of this linked file.
-    fn is_answered(
-        &self,
-        rt: &(impl Abort + AllocGlobal),
-        answer: &Result<Plan<'_>, Stop>,
-        linked: &[u8],
-    ) {
-        match answer {
-            Ok(plan) => is_plan(rt, plan, self.order, self.text, linked),
+        match link.resolve(rt.alloc()) {
+            Ok(plan) => is_plan(rt, &plan, self.order, self.text, link.linked),
             Err(_) => holds(rt, false, "no plan"),
         }
     }

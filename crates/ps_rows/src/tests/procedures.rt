@@ -74,19 +74,14 @@ fn procedures_of_the_base_codes(rt: HostRuntime) {
     base_codes_have(&rt, BIG)
 }
 
-/// Checks which places of a host's little-endian code are marked as reserved, each by a star.
-fn marks(rt: &impl Abort, code: &[u8], wanted: &[u8]) {
-    assert!(rt; code.len() >= 2 && code.len() <= 20);
-    let mut marks = [b'-'; 20];
-    let marks = &mut marks[..code.len()];
-    let procedures = Procs::read(LITTLE, code, true).expect(rt, "no procedures");
-    procedures.mark_reserved(marks, b'*');
-    holds_of(rt, &*marks == wanted, &code)
-}
-
+/// The reserved places of the host's code are marked, each by a star.
 #[test]
 fn reserved_places_are_marked(rt: HostRuntime) {
-    marks(&rt, &demo_code(LITTLE), b"----**************")
+    let code = demo_code(LITTLE);
+    let mut marks = [b'-'; 18];
+    let procedures = Procs::read(LITTLE, &code, true).expect(&rt, "no procedures");
+    procedures.mark_reserved(&mut marks, b'*');
+    holds_of(&rt, marks == *b"----**************", &marks)
 }
 
 /// Codes in a byte order, of the host segment or of another one, in hexadecimal digits; and their
@@ -116,20 +111,15 @@ struct CodeRows;
 impl Row for CodeRows {
     fn check<R: Abort + AllocGlobal>(&self, rt: &R, row: &str) {
         let (segment, code, wanted) = fields(rt, row);
-        let (order, is_host) = segment_of(rt, segment);
+        let (order, is_host) = match segment {
+            "little host" => (LITTLE, true),
+            "little unit" => (LITTLE, false),
+            _ => {
+                holds(rt, segment == "big unit", segment);
+                (BIG, false)
+            }
+        };
         has(rt, (order, hex(rt, code).as_slice(), is_host), wanted)
-    }
-}
-
-/// The byte order of a row, and whether the code is the host segment's.
-fn segment_of(rt: &impl Abort, segment: &str) -> (Order, bool) {
-    match segment {
-        "little host" => (LITTLE, true),
-        "little unit" => (LITTLE, false),
-        _ => {
-            holds(rt, segment == "big unit", segment);
-            (BIG, false)
-        }
     }
 }
 

@@ -4,10 +4,8 @@ use super::answers::is;
 use super::rows::{Row, fields};
 use super::{link_information, record_walk, records};
 use crate::code_file::Information;
-use crate::line::Line;
 use crate::notation::number_of;
 use ps_words::Order;
-use std::alloc::Global;
 use std::process::Abort;
 
 /// The calls that read link information.
@@ -22,15 +20,6 @@ pub(crate) enum Reader {
 }
 
 impl Reader {
-    /// What these bytes are read as, as text.
-    fn text(self, alloc: Global, order: Order, bytes: &[u8]) -> Line {
-        match self {
-            Reader::List => records::read(alloc, alloc, order, bytes),
-            Reader::Walk => record_walk::walk(alloc, order, bytes),
-            Reader::Index => link_information::read(alloc, order, bytes),
-        }
-    }
-
     /// Checks what these bytes are read as.
     pub(crate) fn reads(
         self,
@@ -39,7 +28,13 @@ impl Reader {
         bytes: &[u8],
         wanted: &str,
     ) {
-        is(rt, "records", self.text(rt.alloc(), order, bytes), wanted)
+        let alloc = rt.alloc();
+        let line = match self {
+            Reader::List => records::read(alloc, alloc, order, bytes),
+            Reader::Walk => record_walk::walk(alloc, order, bytes),
+            Reader::Index => link_information::read(alloc, order, bytes),
+        };
+        is(rt, "records", line, wanted)
     }
 
     /// Checks what these records are read as in a byte order, where they are truncated to this

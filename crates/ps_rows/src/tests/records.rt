@@ -126,16 +126,12 @@ fn as_many_references_as_a_record_can_have(rt: HostRuntime) {
     let text = every_reference(rt.alloc(), "", "; EOFMARK next 0").text(&rt);
     let text = text.as_str();
     let information = Information::new(&rt, LITTLE, text);
-    has_first_size(&rt, information.as_slice(), 131_088);
+    let records = read_records(rt.alloc(), LITTLE, information.as_slice());
+    let records = records.expect(&rt, "no records");
+    let size = records.first().expect(&rt, "no record").size();
+    holds_of(&rt, size == 131_088, &size);
     Reader::List.reads_in_either_order(&rt, (text, 131_104), text);
     Reader::List.reads_in_either_order(&rt, (text, 131_087), "RecordsTruncated at record 0")
-}
-
-/// Checks the size of the first record.
-fn has_first_size(rt: &(impl Abort + AllocGlobal), bytes: &[u8], size: usize) {
-    let records = read_records(rt.alloc(), LITTLE, bytes).expect(rt, "no records");
-    let record = records.first().expect(rt, "no record");
-    holds_of(rt, record.size() == size, &record.size())
 }
 
 /// `read_records` on these little-endian bytes.

@@ -75,20 +75,17 @@ impl<'a> Check for Answer<'a> {
 /// What a line says behind `files `.
 fn tried_with(rt: &impl Abort, files: &str) -> Tried {
     let (name, memory) = files.split_once(", ").expect(rt, files);
-    Tried {
-        base: base_named(rt, name),
-        memory: memory_named(rt, memory),
-    }
-}
-
-fn memory_named(rt: &impl Abort, memory: &str) -> Memory {
-    match memory {
+    let memory = match memory {
         "ample memory" => Memory::Ample,
         "no allocation" => Memory::NoAllocation,
         _ => {
             holds(rt, memory == "each allocation refused", memory);
             Memory::EachAllocationRefused
         }
+    };
+    Tried {
+        base: base_named(rt, name),
+        memory,
     }
 }
 
@@ -112,21 +109,17 @@ pub(crate) fn changes<'a>(rt: &impl Abort, row: &'a str) -> (Changes<'a>, &'a st
     }
 }
 
-/// What is linked, and the answer: nothing is, where there is one field alone.
-fn outcome(row: &str) -> (Changes<'_>, &str) {
-    match row.split_once(" | ") {
-        None => ("size 0", row),
-        Some(("-", answer)) => ("", answer),
-        Some(found) => found,
-    }
-}
-
 impl Row for Tried {
     fn check<R: Abort + AllocGlobal>(&self, rt: &R, row: &str) {
         let (what, rest) = field(rt, row);
         let (host, rest) = changes(rt, rest);
         let (library, rest) = changes(rt, rest);
-        let (linked, answer) = outcome(rest);
+        // nothing is linked where there is the answer alone
+        let (linked, answer) = match rest.split_once(" | ") {
+            None => ("size 0", rest),
+            Some(("-", answer)) => ("", answer),
+            Some(found) => found,
+        };
         let memory = self.memory;
         let check = Answer {
             what,

@@ -2,8 +2,8 @@
 use super::answers::LITTLE;
 use super::calls::Link;
 use crate::code_file::{Changes, CodeFile};
-use crate::notation::behind_name;
 use ps_words::Order;
+use sample_files::behind_name;
 use std::process::Abort;
 
 /// The files that rows change, each made by the texts of these names, one after the other.
@@ -61,21 +61,15 @@ eleven | HOST NAMES_ELEVEN | FIVE_UNITS SIX_MORE | LINKED_NINE";
 
 /// The files of this name, in the other byte order behind the word `big`.
 pub(crate) fn base_named(rt: &impl Abort, name: &str) -> Base<'static> {
-    match name.strip_prefix("big ") {
-        None => base_in(rt, name),
-        Some(name) => Base {
-            order: Order::Big,
-            ..base_in(rt, name)
-        },
-    }
-}
-
-fn base_in(rt: &impl Abort, name: &str) -> Base<'static> {
-    let parts = behind_name(rt, FILES, " | ", name);
+    let (order, name) = match name.strip_prefix("big ") {
+        None => (LITTLE, name),
+        Some(name) => (Order::Big, name),
+    };
+    let parts = behind_name(FILES, " | ", name).expect(rt, name);
     let (host, parts) = parts.split_once(" |").expect(rt, parts);
     let (libraries, linked) = parts.split_once(" |").expect(rt, parts);
     Base {
-        order: LITTLE,
+        order,
         host,
         libraries,
         linked,
@@ -93,41 +87,12 @@ pub(crate) const HOST_TEXTS: &str = "HOST";
 
 pub(crate) const IN_PLACE_TEXTS: &str = "HOST HAS_UNIT";
 
-/// A file of the texts of these names, one after the other, with changes.
-fn file_of(
-    rt: &(impl Abort + AllocGlobal),
-    order: Order,
-    names: &str,
-    changes: Changes<'_>,
-) -> CodeFile {
-    CodeFile::new(rt, order, names).with(rt, changes)
-}
-
-/// A library; the words of one that begins with `turned` are in the other byte order.
-fn library_of(
-    rt: &(impl Abort + AllocGlobal),
-    order: Order,
-    names: &str,
-    changes: Changes<'_>,
-) -> CodeFile {
-    match (names.split_once("turned "), order) {
-        (None, _) => file_of(rt, order, names, changes),
-        (Some((_, names)), Order::Little) => file_of(rt, Order::Big, names, changes),
-        (Some((_, names)), Order::Big) => file_of(rt, Order::Little, names, changes),
-    }
-}
-
 /// What is checked of a link.
 pub(crate) trait Check {
     fn check<R: Abort + AllocGlobal>(&self, rt: &R, link: &Link<'_>);
 }
 
 impl Base<'_> {
-    /// The host with changes.
-    pub(crate) fn host(&self, rt: &(impl Abort + AllocGlobal), changes: Changes<'_>) -> CodeFile {
-        file_of(rt, self.order, self.host, changes)
-    }
-
     /// The libraries, the first of them with changes.
     fn libraries(&self, rt: &(impl Abort + AllocGlobal), changes: Changes<'_>) -> Vec<CodeFile> {
         let mut libraries = Vec::new(rt.alloc());
@@ -140,7 +105,8 @@ impl Base<'_> {
         libraries
     }
 
-    /// Adds a library with changes, if it has any names.
+    /// Adds a library with changes, if it has any names; the words of one that begins with `turned` are
+    /// in the other byte order.
     fn add_library(
         &self,
         rt: &(impl Abort + AllocGlobal),
@@ -148,15 +114,16 @@ impl Base<'_> {
         names: &str,
         changes: Changes<'_>,
     ) {
-        if !names.is_empty() {
-            let library = library_of(rt, self.order, names, changes);
-            libraries.push(library).expect(rt, "no memory");
+        if names.is_empty() {
+            return;
         }
-    }
-
-    /// What the files are linked to, with changes.
-    pub(crate) fn linked(&self, rt: &(impl Abort + AllocGlobal), changes: Changes<'_>) -> CodeFile {
-        file_of(rt, self.order, self.linked, changes)
+        let (order, names) = match (names.split_once("turned "), self.order) {
+            (None, order) => (order, names),
+            (Some((_, names)), Order::Little) => (Order::Big, names),
+            (Some((_, names)), Order::Big) => (Order::Little, names),
+        };
+        let library = CodeFile::of(rt, order, names, changes);
+        libraries.push(library).expect(rt, "no memory")
     }
 
     /// Checks the link of the files, with changes of the host, of the first library and of what
@@ -167,8 +134,8 @@ impl Base<'_> {
         (host, library, linked): (Changes<'_>, Changes<'_>, Changes<'_>),
         check: &impl Check,
     ) {
-        let host = self.host(rt, host);
-        let linked = self.linked(rt, linked);
+        let host = CodeFile::of(rt, self.order, self.host, host);
+        let linked = CodeFile::of(rt, self.order, self.linked, linked);
         let libraries = self.libraries(rt, library);
         let files = (host.as_slice(), linked.as_slice());
         checks(rt, files, libraries.as_slice(), check)
@@ -182,20 +149,14 @@ fn checks(
     libraries: &[CodeFile],
     check: &impl Check,
 ) {
-    let libraries = bytes_of(rt, libraries);
+    let mut bytes = Vec::new(rt.alloc());
+    for library in libraries {
+        bytes.push(library.as_slice()).expect(rt, "no memory");
+    }
     let link = Link {
         host,
-        libraries: libraries.as_slice(),
+        libraries: bytes.as_slice(),
         linked,
     };
     check.check(rt, &link)
-}
-
-/// The bytes of each file.
-fn bytes_of<'a>(rt: &(impl Abort + AllocGlobal), files: &'a [CodeFile]) -> Vec<&'a [u8]> {
-    let mut bytes = Vec::new(rt.alloc());
-    for file in files {
-        bytes.push(file.as_slice()).expect(rt, "no memory");
-    }
-    bytes
 }

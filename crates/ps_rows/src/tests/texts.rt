@@ -5,7 +5,7 @@ use super::calls::Link;
 use super::records::every_reference;
 use super::rows::{Row, changes, check_all, field};
 use super::tables::{Check, HOST_TEXTS, LIBRARY_TEXTS, base_named};
-use super::writers::Full;
+use super::writers::FAILS;
 use super::writing::{NO_WRITE, Writing, writes, writes_long_text, writes_text};
 use crate::code_file::CodeFile;
 use crate::line::Line;
@@ -104,13 +104,6 @@ impl<'a> Check for MapCheck<'a> {
     }
 }
 
-/// The lines of a text that has semicolons between them.
-fn lines_of(alloc: Global, lines: &str) -> Line {
-    let mut line = Line::new(alloc);
-    line.lines(lines);
-    line
-}
-
 /// The map of a link.
 struct MapRows;
 
@@ -118,7 +111,9 @@ impl Row for MapRows {
     fn check<R: Abort + AllocGlobal>(&self, rt: &R, row: &str) {
         let (files, rest) = field(rt, row);
         let (host, lines) = changes(rt, rest);
-        let text = lines_of(rt.alloc(), lines).text(rt);
+        let mut line = Line::new(rt.alloc());
+        line.lines(lines);
+        let text = line.text(rt);
         let check = MapCheck {
             text: text.as_str(),
         };
@@ -129,13 +124,6 @@ impl Row for MapRows {
 #[test]
 fn maps_of_pairs(rt: HostRuntime) {
     check_all(&rt, &MapRows, MAPS)
-}
-
-/// Checks the show of a file, as a text and written.
-fn shows(rt: &(impl Abort + AllocGlobal), what: &str, file: &[u8], text: &str) {
-    let call = Show { file };
-    refuses_each_allocation(rt, what, &call, text);
-    writes_text(rt, &call, text)
 }
 
 /// What slot 3 is said to have, the names of the texts of a library and its changes, which truncate
@@ -167,30 +155,21 @@ struct ShowRows {
 }
 
 impl Row for ShowRows {
+    /// As a text and written.
     fn check<R: Abort + AllocGlobal>(&self, rt: &R, row: &str) {
         let (third, rest) = row.split_once('|').expect(rt, row);
         let (names, rest) = rest.split_once('|').expect(rt, row);
         let (changes, links) = rest.split_once('|').expect(rt, row);
-        let file = CodeFile::new(rt, self.order, names).with(rt, changes);
-        is_shown(
-            rt,
-            row,
-            &file,
-            show_of(rt.alloc(), self.order, third, links),
-        )
+        let file = CodeFile::of(rt, self.order, names, changes);
+        let call = Show {
+            file: file.as_slice(),
+        };
+        let mut line = before_links(rt.alloc(), self.order, third);
+        line.lines(links);
+        let text = line.text(rt);
+        refuses_each_allocation(rt, row, &call, text.as_str());
+        writes_text(rt, &call, text.as_str())
     }
-}
-
-/// Checks the show of a file.
-fn is_shown(rt: &(impl Abort + AllocGlobal), what: &str, file: &CodeFile, wanted: Line) {
-    shows(rt, what, file.as_slice(), wanted.text(rt).as_str())
-}
-
-/// The show of a library of this byte order, whose slot 3 and whose lines are these.
-fn show_of(alloc: Global, order: Order, third: &str, links: &str) -> Line {
-    let mut line = before_links(alloc, order, third);
-    line.lines(links);
-    line
 }
 
 /// Checks the show of each row, of a library of this byte order.
@@ -208,21 +187,17 @@ const LINKS: &str = "links 02\n0 ";
 
 const LAST_LINK: &str = "\n1 EOFMARK next 0\n";
 
-/// The show of the library of that record.
-fn long_show(rt: &(impl Abort + AllocGlobal)) -> Line {
-    let mut before = before_links(rt.alloc(), LITTLE, "");
-    before.word(LINKS);
-    every_reference(rt.alloc(), before.text(rt).as_str(), LAST_LINK)
-}
-
 /// The show is written in many pieces, to writers that fail and stall.
 #[test]
 fn a_long_show(rt: HostRuntime) {
     let alloc = rt.alloc();
     let changes = every_reference(alloc, "size 132128; records 2; ", "; EOFMARK next 0");
     let changes = changes.text(&rt);
-    let library = CodeFile::new(&rt, LITTLE, LIBRARY_TEXTS).with(&rt, changes.as_str());
-    let text = long_show(&rt).text(&rt);
+    let library = CodeFile::of(&rt, LITTLE, LIBRARY_TEXTS, changes.as_str());
+    let mut before = before_links(alloc, LITTLE, "");
+    before.word(LINKS);
+    let before = before.text(&rt);
+    let text = every_reference(alloc, before.as_str(), LAST_LINK).text(&rt);
     let call = Show {
         file: library.as_slice(),
     };
@@ -232,7 +207,7 @@ fn a_long_show(rt: HostRuntime) {
 /// Checks that a text is refused without memory, and that nothing is written.
 fn refuses_text<T: Allocating + Writing>(rt: &(impl Abort + AllocGlobal), call: &T, refused: &str) {
     makes_no_allocation(rt, refused, call, refused);
-    let writer = (512, usize::MAX, Full::Fails);
+    let writer = (512, usize::MAX, FAILS);
     writes(rt, (call, &[]), writer, refused, NO_WRITE)
 }
 
@@ -241,13 +216,10 @@ fn maps_and_shows_that_are_refused(rt: HostRuntime) {
     let host = CodeFile::new(&rt, LITTLE, HOST_TEXTS);
     let link = host.alone();
     refuses_text(&rt, &Map { link }, "refused 13 MissingUnit file 0 slot 7");
-    let mixed = CodeFile::new(&rt, LITTLE, "").with(&rt, "size 512; at 192 0101");
-    refuses_shows(&rt, mixed.as_slice())
-}
-
-/// Checks the shows of a file that has no byte order, whole and cut.
-fn refuses_shows(rt: &(impl Abort + AllocGlobal), file: &[u8]) {
-    refuses_text(rt, &Show { file }, "refused 2 NoOrder file 0");
+    // a file that has no byte order, whole and cut
+    let mixed = CodeFile::of(&rt, LITTLE, "", "size 512; at 192 0101");
+    let file = mixed.as_slice();
+    refuses_text(&rt, &Show { file }, "refused 2 NoOrder file 0");
     let file = file.get(..511).unwrap_or(&[]);
-    refuses_text(rt, &Show { file }, "refused 1 ShortFile file 0")
+    refuses_text(&rt, &Show { file }, "refused 1 ShortFile file 0")
 }

@@ -28,16 +28,10 @@ fn operands(rt: HostRuntime) {
     holds_of(&rt, bytes == [0xAB, 0x81, 0x02, 0xAB], &bytes)
 }
 
-/// Checks how many blocks so many bytes take.
-fn take(rt: &impl Abort, len: usize, wanted: usize) {
-    holds_of(rt, blocks_of(len) == wanted, &len)
-}
-
 #[test]
 fn blocks(rt: HostRuntime) {
-    take(&rt, 0, 0);
-    take(&rt, BLOCK_SIZE, 1);
-    take(&rt, 513, 2)
+    let taken = [blocks_of(0), blocks_of(BLOCK_SIZE), blocks_of(513)];
+    holds_of(&rt, taken == [0, 1, 2], &taken)
 }
 
 /// A fault with every part, the last reference of the last record of a file as long as one can be.

@@ -1,15 +1,39 @@
 //! A writer that takes little, and then stalls or fails.
 use std::alloc::Global;
 use std::io;
-use std::io::Write;
+use std::io::{ErrorKind, Write};
 use std::process::Abort;
+
+/// An error that a write fails with.
+#[derive(Clone, Copy)]
+pub(crate) enum Broken {
+    /// Of this kind.
+    Of(ErrorKind),
+    /// The system's of this number.
+    OfSystem(i32),
+    /// One that has a text.
+    Torn,
+}
+
+impl Broken {
+    pub(crate) fn error(self) -> io::Error {
+        match self {
+            Broken::Of(kind) => io::Error::from(kind),
+            Broken::OfSystem(code) => io::Error::from_raw_os_error(code),
+            Broken::Torn => io::Error::other("the tape is torn"),
+        }
+    }
+}
 
 /// What a writer with no room left does at the next write.
 #[derive(Clone, Copy)]
 pub(crate) enum Full {
     Stalls,
-    Fails,
+    Fails(Broken),
 }
+
+/// How most writers fail.
+pub(crate) const FAILS: Full = Full::Fails(Broken::Of(ErrorKind::Interrupted));
 
 /// A writer's room, how much a write takes at most, and what it does where it has no room.
 pub(crate) type Writer = (usize, usize, Full);
@@ -78,9 +102,9 @@ impl Write for Room {
                     self.shorts = self.shorts.saturating_add(1);
                     Ok(0)
                 }
-                Full::Fails => {
+                Full::Fails(broken) => {
                     self.failures = self.failures.saturating_add(1);
-                    Err(io::Error::from(io::ErrorKind::Interrupted))
+                    Err(broken.error())
                 }
             };
         }

@@ -9,7 +9,7 @@ use super::rows::{Row, check_all};
 use super::tables::{Check, IN_PLACE_TEXTS, base_named};
 use super::texts::{Map, Show};
 use super::writers::Full::{Fails, Stalls};
-use super::writers::{Counts, Full, Room, Writer, room_for};
+use super::writers::{Broken, Counts, FAILS, Full, Room, Writer, room_for};
 use crate::code_file::CodeFile;
 use crate::line::Line;
 use crate::notation::{ends, holds, holds_of, number, number_of};
@@ -63,15 +63,6 @@ fn without_summary(answer: Result<(), LinkError>) -> Result<Option<Summary>, Lin
     }
 }
 
-/// The answer of a call that writes, as text.
-fn answer_of(alloc: Global, answer: Result<Option<Summary>, LinkError>) -> Line {
-    match answer {
-        Ok(Some(summary)) => text_of(alloc, Ok(summary)),
-        Ok(None) => Line::of(alloc, WRITTEN),
-        Err(error) => text_of_error(alloc, error),
-    }
-}
-
 /// Checks the answer of a call and what a writer was given: the prefix of these bytes for which it
 /// has room, and no flush. Returns how many writes of each kind there were.
 fn was_given(
@@ -81,7 +72,13 @@ fn was_given(
     (bytes, (room, _, _)): (&[u8], Writer),
     answer: &str,
 ) -> Counts {
-    is(rt, answer, answer_of(rt.alloc(), answered), answer);
+    let alloc = rt.alloc();
+    let line = match answered {
+        Ok(Some(summary)) => text_of(alloc, Ok(summary)),
+        Ok(None) => Line::of(alloc, WRITTEN),
+        Err(error) => text_of_error(alloc, error),
+    };
+    is(rt, answer, line, answer);
     let written = out.written() == bytes.get(..room).unwrap_or(bytes);
     holds_of(rt, written && out.flushes == 0, &room);
     out.counts()
@@ -191,7 +188,7 @@ fn writer_of(rt: &impl Abort, words: &mut SplitWhitespace<'_>) -> Writer {
 /// What a writer of a row does where it has no room.
 fn full_of(rt: &impl Abort, words: &mut SplitWhitespace<'_>) -> Full {
     match words.next().unwrap_or("no word") {
-        "fails" => Fails,
+        "fails" => FAILS,
         word => {
             holds(rt, word == "stalls", word);
             Stalls
@@ -268,7 +265,7 @@ fn writes_to_any_room(rt: &(impl Abort + AllocGlobal), files: &Link<'_>, linked:
         let writes_made = (room as u64 + 511) / 512 + 1;
         let shorts = if room % 512 == 0 { 0 } else { 1 };
         let wanted = [writes_made, 1, 0, shorts];
-        writes_by_each_call(rt, files, linked, ((room, ALL, Fails), FAILED, wanted));
+        writes_by_each_call(rt, files, linked, ((room, ALL, FAILS), FAILED, wanted));
         let wanted = [writes_made, 0, 1, shorts + 1];
         writes_by_each_call(rt, files, linked, ((room, ALL, Stalls), STALLED, wanted));
     }
@@ -289,21 +286,15 @@ enum WriteCheck {
 
 impl Check for WriteCheck {
     fn check<R: Abort + AllocGlobal>(&self, rt: &R, link: &Link<'_>) {
-        self.writes(rt, link, &prepared(rt, link, rt.alloc()))
-    }
-}
-
-impl WriteCheck {
-    /// Writes a linked file, and checks this of it.
-    fn writes(self, rt: &(impl Abort + AllocGlobal), link: &Link<'_>, linked: &Linked<'_>) {
-        match self {
-            WriteCheck::Each(summary) => writes_to_each(rt, link, linked, summary),
+        let linked = prepared(rt, link, rt.alloc());
+        match *self {
+            WriteCheck::Each(summary) => writes_to_each(rt, link, &linked, summary),
             WriteCheck::AnyRoom(summary) => {
-                writes_to_each(rt, link, linked, summary);
-                writes_to_any_room(rt, link, linked)
+                writes_to_each(rt, link, &linked, summary);
+                writes_to_any_room(rt, link, &linked)
             }
             WriteCheck::Texts => fail_at_each_write(rt, link),
-            WriteCheck::Errors => give_each_error(rt, link, linked),
+            WriteCheck::Errors => give_each_error(rt, link, &linked),
         }
     }
 }
@@ -340,7 +331,7 @@ fn writes_all<T: Writing>(rt: &(impl Abort + AllocGlobal), written: (&T, &[u8]),
     let (_, text) = written;
     let count = text.len().div_ceil(per_write) as u64;
     let wanted = [count, 0, 0, count.saturating_sub(1)];
-    writes(rt, written, (text.len(), per_write, Fails), WRITTEN, wanted)
+    writes(rt, written, (text.len(), per_write, FAILS), WRITTEN, wanted)
 }
 
 /// Writes a text into writers that take so many of its bytes alone, by as many writes that take
@@ -353,7 +344,7 @@ fn writes_part<T: Writing>(
 ) {
     let writes_made = shorts.saturating_add(1);
     let wanted = [writes_made, 1, 0, shorts];
-    writes(rt, written, (room, ALL, Fails), FAILED, wanted);
+    writes(rt, written, (room, ALL, FAILS), FAILED, wanted);
     let wanted = [writes_made, 0, 1, writes_made];
     writes(rt, written, (room, ALL, Stalls), STALLED, wanted)
 }
@@ -383,7 +374,8 @@ impl<'a, T: Writing> Row for HalfRows<'a, T> {
         let answer = answer_in(rt, &mut words, WRITTEN);
         let written = (self.call, self.text);
         let [_, failures, stalls, _] = counts_where_written(rt, written, writer, answer);
-        holds(rt, (failures, stalls) == failures_in(rt, &mut words), row);
+        let wanted = (number(rt, &mut words) as u64, number(rt, &mut words) as u64);
+        holds(rt, (failures, stalls) == wanted, row);
         ends(rt, &mut words, row)
     }
 }
@@ -393,11 +385,6 @@ impl<'a, T: Writing> Row for HalfRows<'a, T> {
 pub(crate) fn writes_long_text<T: Writing>(rt: &(impl Abort + AllocGlobal), call: &T, text: &str) {
     let text = text.as_bytes();
     check_all(rt, &HalfRows { call, text }, HALVES)
-}
-
-/// How many writes of a row fail, and how many stall.
-fn failures_in(rt: &impl Abort, words: &mut SplitWhitespace<'_>) -> (u64, u64) {
-    (number(rt, words) as u64, number(rt, words) as u64)
 }
 
 /// Single writes to a writer that counts, each a line: the writer, the bytes, how many of them it
@@ -433,16 +420,12 @@ fn writes_once(
     let mut out = Counting::new(room_for(rt, writer));
     has_counts(rt, &out, NO_WRITE);
     let taken = out.told_write(bytes.as_bytes()).ok();
-    holds(rt, taken == taken_in(rt, words), row);
-    has_counts(rt, &out, counts_in(rt, words))
-}
-
-/// How many bytes the write of a row takes.
-fn taken_in(rt: &impl Abort, words: &mut SplitWhitespace<'_>) -> Option<usize> {
-    match words.next().unwrap_or("no number") {
+    let wanted = match words.next().unwrap_or("no number") {
         "-" => None,
         word => Some(number_of(rt, word)),
-    }
+    };
+    holds(rt, taken == wanted, row);
+    has_counts(rt, &out, counts_in(rt, words))
 }
 
 #[test]
@@ -460,20 +443,14 @@ fn has_counts<W: Write>(rt: &impl Abort, out: &Counting<W>, wanted: Counts) {
 #[test]
 fn plain_writes_are_not_counted(rt: HostRuntime) {
     let bytes = Vec::from_elem(rt.alloc(), 0xD7, 100_000).expect(&rt, "unexpected error");
-    let inner = written_plainly(&rt, bytes.as_slice());
+    let mut out = Counting::new(room_for(&rt, (100_000, ALL, Stalls)));
+    takes(&rt, &mut out, bytes.as_slice(), 100_000);
+    takes(&rt, &mut out, b"more", 0);
+    is_not_flushed(&rt, &mut out, NO_WRITE);
+    let inner = out.into_inner();
     holds_of(&rt, inner.counts() == [2, 0, 1, 1], &inner.counts());
     holds_of(&rt, inner.flushes == 1, &inner.flushes);
     holds(&rt, inner.written() == bytes.as_slice(), "other bytes")
-}
-
-/// A writer with room for these bytes, into which they and more are written while it is made to
-/// count.
-fn written_plainly(rt: &(impl Abort + AllocGlobal), bytes: &[u8]) -> Room {
-    let mut out = Counting::new(room_for(rt, (100_000, ALL, Stalls)));
-    takes(rt, &mut out, bytes, 100_000);
-    takes(rt, &mut out, b"more", 0);
-    is_not_flushed(rt, &mut out, NO_WRITE);
-    out.into_inner()
 }
 
 /// Checks how many of these bytes a writer takes.
@@ -490,37 +467,6 @@ fn is_not_flushed<W: Write>(rt: &impl Abort, out: &mut Counting<W>, counts: Coun
 #[test]
 fn each_text_fails_once_and_stops(rt: HostRuntime) {
     writes_file(&rt, "pair", WriteCheck::Texts)
-}
-
-/// A writer whose calls all fail.
-#[derive(Clone, Copy)]
-enum Broken {
-    /// With an error of this kind.
-    Of(ErrorKind),
-    /// With the system's of this number.
-    OfSystem(i32),
-    /// With one that has a text.
-    Torn,
-}
-
-impl Broken {
-    fn error(self) -> io::Error {
-        match self {
-            Broken::Of(kind) => io::Error::from(kind),
-            Broken::OfSystem(code) => io::Error::from_raw_os_error(code),
-            Broken::Torn => io::Error::other("the tape is torn"),
-        }
-    }
-}
-
-impl Write for Broken {
-    fn write(&mut self, _buf: &[u8]) -> io::Result<usize> {
-        Err(self.error())
-    }
-
-    fn flush(&mut self) -> io::Result<()> {
-        Err(self.error())
-    }
 }
 
 /// Every way in which a write fails here.
@@ -558,13 +504,13 @@ fn is_error(rt: &(impl Abort + AllocGlobal), error: Option<LinkError>, way: Brok
 
 /// Checks that a call gives the error of a writer.
 fn gives_error<T: Writing>(rt: &(impl Abort + AllocGlobal), call: &T, way: Broken) {
-    let mut out = way;
+    let mut out = room_for(rt, (0, ALL, Fails(way)));
     is_error(rt, call.write(rt.alloc(), &mut out).err(), way)
 }
 
 /// Checks the same of a writer that counts.
 fn tells_error(rt: &(impl Abort + AllocGlobal), linked: &Linked<'_>, way: Broken) {
-    let (answer, mut out) = tell_to(linked, way);
+    let (answer, mut out) = tell_to(linked, room_for(rt, (0, ALL, Fails(way))));
     is_error(rt, answer.err(), way);
     is_not_flushed(rt, &mut out, [1, 1, 0, 0])
 }
