@@ -3,7 +3,7 @@ use Rattle.std.proofs.lemmas.List.{take_all}
 use Rattle.ps_resolve.specs.Sources.{contents}
 use Rattle.ps_segments.specs.Seen.{seen}
 use Rattle.ps_segments.specs.declared.segments.ReadSegment.{ReadSegment}
-use Rattle.ps_explained.specs.SegmentLines.{read_lines}
+use Rattle.ps_explained.specs.SegmentLines.{line_in_slot, read_line, read_lines}
 use Rattle.ps_explained.specs.SlotLines.{AddsSlotLines}
 use Rattle.ps_explained.proofs.LinesOfSegments.{adds_next_read}
 use Rattle.ps_explained.proofs.SlotLines.{adds_then_none}
@@ -16,10 +16,13 @@ loop-segment-preserved g c =
     let before = string_bytes c.loop-segment.text in
     let told = string_bytes c.add_segment.new.text in
     let after = string_bytes c.add_other_lines.new.text in
+    let s : ReadSegment = c.segment-item.result in
+    let one = adds_then_none before told after (line_in_slot s.slot (read_line paths (seen s)))
+    c.in_ok-add_segment.ensures c.in_ok-add_other_lines.ensures in
     adds_next_read paths (string_bytes c.args.text.now) before after c.args.list.now
     c.loop-segment.segment-index _ c.loop-segment-test.true c.loop-segment.invariant
-    (adds_then_none before told after _ c.in_ok-add_segment.ensures
-    c.in_ok-add_other_lines.ensures)
+    (subst (λ (x : ReadSegment). AddsSlotLines before
+    (line_in_slot x.slot (read_line paths (seen x))) after) c.segment-item.is one)
 
 pub returns : goal.returns
 returns g c =
