@@ -1,5 +1,5 @@
 //! The files, and the segments with where each comes from.
-ghost use Rattle.std.specs.Prelude.{◌≡◌, ◌∷◌, ◌++◌, [], IfOk, OnOk, map, string_bytes};
+ghost use Rattle.std.specs.Prelude.{◌≡◌, ◌∷◌, ◌++◌, [], IfOk, OnOk, Some, map, string_bytes};
 ghost use Rattle.ps_resolve.specs.Sources.{contents};
 ghost use Rattle.ps_segments.specs.Seen.{seen};
 ghost use Rattle.ps_segments.specs.SegmentParts.{absence_words};
