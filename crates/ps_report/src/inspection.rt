@@ -94,9 +94,8 @@ pub(crate) fn inspect<'a, A: Allocator + Copy>(
     })
 }
 
-/// Reads the files. A function by itself, so that what it moves takes room of the stack only until it
-/// returns.
-#[inline(never)]
+/// Reads the files. It stands in the body of its caller, as a reading is large, and is moved once less.
+#[inline(always)]
 pub(crate) fn read_files<'a>(host: &'a [u8], libs: &'a [&'a [u8]]) -> Reading<'a>
     ensures { result ≡ record { host = host.now; libs = contents libs.now } }
 {

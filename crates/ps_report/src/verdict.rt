@@ -68,7 +68,9 @@ fn refusal(error: LinkError) -> Result<Verdict, AllocError>
 /// of `ps_linkfile::link`.
 ///
 /// Returns an error only where memory was refused, which is requested only where the files have no
-/// fault in reading: of files that have one the verdict is never an error.
+/// fault in reading: of files that have one the verdict is never an error. A function by itself, so
+/// that the plan takes room of the stack only until it returns.
+#[inline(never)]
 pub fn verdict_of<A: Allocator + Copy>(
     alloc: A,
     reading: &Reading<'_>,
