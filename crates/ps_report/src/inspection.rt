@@ -17,7 +17,7 @@ use crate::names::verdict_name;
 use crate::verdict::Verdict;
 use ps_explained::{Case, Explanation, Overview, overview_of};
 use ps_filetype::is_code_type;
-use ps_resolve::{Reading, read};
+use ps_resolve::Reading;
 use ps_segments::{NamedFiles, ReadSegment, segments_of};
 use ps_warnings::{Findings, findings_of};
 use ps_words::{Fault, Name};
@@ -92,14 +92,6 @@ pub(crate) fn inspect<'a, A: Allocator + Copy>(
         explanation,
         findings,
     })
-}
-
-/// Reads the files. It stands in the body of its caller, as a reading is large, and is moved once less.
-#[inline(always)]
-pub(crate) fn read_files<'a>(host: &'a [u8], libs: &'a [&'a [u8]]) -> Reading<'a>
-    ensures { result ≡ record { host = host.now; libs = contents libs.now } }
-{
-    read(host, libs)
 }
 
 /// The segments of which a report tells: all, where the files are read without a fault.

@@ -10,7 +10,7 @@ ghost use Rattle.ps_report.specs.FindingLines.{AddsWarnings, finding_lines};
 ghost use Rattle.ps_report.specs.LastLine.{last_line};
 
 use crate::finding::{SaidFinding, said_findings};
-use crate::inspection::{Inspection, inspect, read_files};
+use crate::inspection::{Inspection, inspect};
 use crate::kept::string_of;
 use crate::last_line::add_last_line;
 use crate::lines::add_other_lines;
@@ -18,6 +18,7 @@ use crate::printed::PrintedFindings;
 use crate::verdict::{Verdict, verdict_of};
 use crate::without_host::lists_without_host;
 use ps_laws::first_of_all;
+use ps_resolve::{Reading, read};
 use ps_words::Name;
 use ps_writing::Form;
 use std::alloc::{AllocError, Allocator};
@@ -98,10 +99,35 @@ pub fn check<'a, A: Allocator + Copy>(
         ↔ (HasWarning (host_path.now ∷ contents paths.now) host.now (contents libs.now)
         ⊎ IsRefused host.now (contents libs.now))) }
 {
+    check_reading(alloc, host_path, paths, host, libs, &read(host, libs))
+}
+
+/// Checks a host and its libraries, which were read. A function by itself that borrows the reading,
+/// since each body that has one moves it, and it is large.
+#[inline(never)]
+fn check_reading<'a, A: Allocator + Copy>(
+    alloc: A,
+    host_path: &'a str,
+    paths: &'a [&'a str],
+    host: &'a [u8],
+    libs: &'a [&'a [u8]],
+    reading: &Reading<'a>,
+) -> Result<Report<'a, A>, AllocError>
+    requires { reading.now ≡ record { host = host.now; libs = contents libs.now } }
+    ensures report { IfOk result (λ r. IsReport (host_path.now ∷ contents paths.now) host.now
+        (contents libs.now) (reported r)) }
+    ensures links { IfOk result (λ r. (check_status false (warning_count (map said
+        r.findings.items)) r.verdict ≡ 0) ↔ NoneStands host.now (contents libs.now)) }
+    ensures refused { IfOk result (λ r. (check_status false (warning_count (map said
+        r.findings.items)) r.verdict ≡ 1) ↔ IsRefused host.now (contents libs.now)) }
+    ensures warned { IfOk result (λ r. (check_status true (warning_count (map said
+        r.findings.items)) r.verdict ≡ 1)
+        ↔ (HasWarning (host_path.now ∷ contents paths.now) host.now (contents libs.now)
+        ⊎ IsRefused host.now (contents libs.now))) }
+{
     first_of_all();
-    let reading = read_files(host, libs);
-    let verdict = verdict_of(alloc, &reading)?;
-    let inspection = inspect(alloc, host_path, paths, host, libs, &reading, verdict)?;
+    let verdict = verdict_of(alloc, reading)?;
+    let inspection = inspect(alloc, host_path, paths, host, libs, reading, verdict)?;
     let lists = lists_without_host(alloc, verdict, host_path, paths, host, libs)?;
     let parts = Sections {
         files: inspection.overview.files.as_str(),

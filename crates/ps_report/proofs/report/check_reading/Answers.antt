@@ -16,7 +16,7 @@ use Rattle.ps_explained.proofs.SlotLines.{lines_in}
 use Rattle.ps_report.proofs.SegmentTexts.{links_of, no_lists}
 use Rattle.ps_report.proofs.Reports.{is_report}
 use Rattle.ps_report.proofs.Verdicts.{linked_or_not, refused_or_not, warned_or_refused}
-use Rattle.ps_report.proofs.report.check.Goals as goal
+use Rattle.ps_report.proofs.report.check_reading.Goals as goal
 
 -- the verdict on what was read of files is that on the files
 of_files : (host : List ℕ) (libs : List (List ℕ)) (verdict : Verdict) {f : ReadFiles}
@@ -29,13 +29,13 @@ pub returns-clause-links : goal.returns-clause-links
 returns-clause-links g c = linked_or_not c.args.host.now (contents c.args.libs.now)
     (warning_count (map said c.in_ok-findings.findings.items)) c.in_ok-verdict.verdict
     (of_files c.args.host.now (contents c.args.libs.now) c.in_ok-verdict.verdict
-    c.read_files-reading.ensures c.in_ok-verdict.ensures.right)
+    c.requires c.in_ok-verdict.ensures.right)
 
 pub returns-clause-refused : goal.returns-clause-refused
 returns-clause-refused g c = refused_or_not c.args.host.now (contents c.args.libs.now)
     (warning_count (map said c.in_ok-findings.findings.items)) c.in_ok-verdict.verdict
     (of_files c.args.host.now (contents c.args.libs.now) c.in_ok-verdict.verdict
-    c.read_files-reading.ensures c.in_ok-verdict.ensures.right)
+    c.requires c.in_ok-verdict.ensures.right)
 
 pub returns-clause-report : goal.returns-clause-report
 returns-clause-report g c =
@@ -43,7 +43,7 @@ returns-clause-report g c =
     let libs : List (List ℕ) = contents c.args.libs.now in
     let paths : List (List ℕ) = c.args.host_path.now ∷ contents c.args.paths.now in
     let verdict = c.in_ok-verdict.verdict in
-    let right = of_files host libs verdict c.read_files-reading.ensures
+    let right = of_files host libs verdict c.requires
     c.in_ok-verdict.ensures.right in
     let front = string_bytes c.in_ok-front.front in
     let told = c.in_ok-front.ensures in
@@ -101,5 +101,5 @@ returns-clause-warned g c =
     (contents c.args.libs.now) (warning_count (map said c.in_ok-findings.findings.items))
     c.in_ok-verdict.verdict
     (of_files c.args.host.now (contents c.args.libs.now) c.in_ok-verdict.verdict
-    c.read_files-reading.ensures c.in_ok-verdict.ensures.right)
+    c.requires c.in_ok-verdict.ensures.right)
     (returns-clause-report g c).warnings
