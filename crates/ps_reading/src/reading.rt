@@ -61,6 +61,7 @@ fn slot_name(host: &HostSlots, segments: &[Segment], slot: u8) -> Name
 
 /// The names of all slots, 0 to 15, in the linked file of this host: of each slot that one of these
 /// segments is in that segment's name, and of the others the host's own.
+#[inline(always)]
 pub fn slot_names(host: &HostSlots, segments: &[Segment]) -> [Name; SLOT_COUNT]
     ensures { result ≡ slot_names_spec host.now.file segments.now }
 {
@@ -72,6 +73,7 @@ pub fn slot_names(host: &HostSlots, segments: &[Segment]) -> [Name; SLOT_COUNT]
 }
 
 /// The first fault of the slots of the host, of its want of a host segment, or of the libraries.
+#[inline(always)]
 fn files_fault(host: &HostSlots, libs: &[&[u8]]) -> Option<Fault>
     ensures { result ≡ option_or (slots_fault_spec host.now.order host.now.file)
         (option_or (no_host_fault_spec host.now.order host.now.file)
