@@ -7,9 +7,7 @@ use Rattle.std.specs.List.{flat_map, suffix_len}
 use Rattle.ps_words.specs.declared.order.Order.{Order}
 use Rattle.ps_words.specs.declared.order.Order.TheVariants.{Little, Big}
 use Rattle.ps_words.specs.FaultText.{number_of, name_of}
-use Rattle.ps_words.specs.declared.fault.Reason.{Reason}
 use Rattle.ps_words.specs.declared.fault.Fault.{Fault}
-use Rattle.ps_codefile.specs.Dictionary.{OpenedFile}
 use Rattle.ps_codefile.specs.Opened.{opened}
 use Rattle.ps_codefile.specs.declared.entry.Role.{Role}
 use Rattle.ps_codefile.specs.declared.entry.Role.TheVariants as role
@@ -26,7 +24,7 @@ use Rattle.ps_writing.specs.declared.rows.Form.TheVariants.{Lines, Json}
 use Rattle.ps_filetype.specs.Shown.{is_hidden}
 use Rattle.ps_filetype.specs.CodeFiles.{code_file_word}
 use Rattle.ps_filetype.specs.declared.code_file.CodeFile.{CodeFile}
-use Rattle.ps_listing.specs.Listed.{no_values, segments_of, values_of}
+use Rattle.ps_listing.specs.Listed.{no_values, segments_found, values_of}
 use Rattle.ps_listing.specs.declared.segments.ListedSegment.{ListedSegment}
 use Rattle.ps_listing.specs.declared.listed_file.FileValues.{FileValues}
 
@@ -167,16 +165,11 @@ file_in Json path phrase v = path_in Json path ++ length_in Json [] v.size
     ++ type_in Json phrase ++ order_in Json v.order ++ purpose_in Json v.purpose
     ++ fault_or_none Json v.fault ++ codes ",\"segments\":["
 
--- the segments of a file that was opened; another has none
-abbrev pub segments_as : Form → List ℕ → List ℕ → Result OpenedFile Reason → List ℕ
-segments_as form path phrase (Ok f) =
-    segments_in form path true (segments_of phrase f.order f.file)
-segments_as form path phrase (Err why) = []
-
 -- the file at a path; the phrase says what it is, where it is no code file as it ought to be
 unfoldable pub listed_in : Form → List ℕ → List ℕ → List ℕ → List ℕ
 listed_in form path phrase file = file_in form path phrase (values_of (length file) (opened file))
-    ++ segments_as form path phrase (opened file) ++ by_form form [] (codes "\n]}")
+    ++ segments_in form path true (segments_found phrase (opened file))
+    ++ by_form form [] (codes "\n]}")
 
 abbrev pub list_of : List ℕ → List ℕ → List ℕ → List ℕ
 list_of path phrase file = listed_in Lines path phrase file

@@ -16,8 +16,8 @@ use Rattle.ps_writing.specs.JsonText.{line_end}
 use Rattle.ps_writing.specs.Rows.{InSlot, value_in}
 use Rattle.ps_writing.specs.declared.rows.Form.TheVariants.{Json}
 use Rattle.ps_writing.specs.Lines.{line, shown_name, two_digits}
-use Rattle.ps_listing.specs.Listed.{values_of}
-use Rattle.ps_listing.specs.ListText.{fault_in, file_in, no_fault_in, refused_words, segments_as, shown_path}
+use Rattle.ps_listing.specs.Listed.{segments_found, values_of}
+use Rattle.ps_listing.specs.ListText.{fault_in, file_in, no_fault_in, refused_words, segments_in, shown_path}
 use Rattle.ps_listing.specs.declared.lone.LoneUnit.{LoneUnit}
 
 -- the unit in a slot of this role, where the file has its code
@@ -97,5 +97,5 @@ lone_items first (u ∷ us) = lone_item first u ++ lone_items false us
 unfoldable pub listed_with_units : List ℕ → List ℕ → List ℕ → List LoneUnit → List ℕ
 listed_with_units path phrase file units =
     file_in Json path phrase (values_of (length file) (opened file))
-    ++ segments_as Json path phrase (opened file)
+    ++ segments_in Json path true (segments_found phrase (opened file))
     ++ codes "\n],\"units\":[" ++ lone_items true units ++ codes "\n]}"
