@@ -64,11 +64,6 @@ not_both : {X : Type 0} (b c : Bool) (x : X) → c ≡ false
 not_both true c x h = rw h refl
 not_both false c x h = refl
 
-neither : {X : Type 0} (b c : Bool) (x : Option X) → c ≡ false
-    → (if b && c then x else None) ≡ None
-neither true c x h = rw h refl
-neither false c x h = refl
-
 module _ (paths : List (List ℕ)) (host : List ℕ) (libs : List (List ℕ)) (v : HostFiles)
     (none : first_in v ≡ None) where
   abbrev all : List Segment
@@ -99,8 +94,9 @@ module _ (paths : List (List ℕ)) (host : List ℕ) (libs : List (List ℕ)) (v
       → seen_by_outcome host libs v slot (outcome_by v slot (kept o))
       ≡ option_map (seen_segment v) o
   unfolding seen_read
-  seen_kept slot None = ap (seen_by_outcome host libs v slot) (neither (is_some (request_in v slot))
-      (is_some (first_in v)) (Some (Err absent.NotLookedFor)) (ap is_some none))
+  seen_kept slot None = ap (λ (f : Option Fault). seen_by_outcome host libs v slot
+      (if is_some f && is_some (request_in v slot) then Some (Err absent.NotLookedFor) else None))
+      none
   seen_kept slot (Some s) =
       not_both s.added (is_of_host v s.name) (seen_segment v s) (not_of_host s.name)
 

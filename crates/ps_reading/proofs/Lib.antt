@@ -15,6 +15,7 @@ pub mod OfRounds
 pub mod ReadingKnown
 pub mod OfLink
 pub mod RequestedSegments
+pub mod Requested
 pub mod ReadingSlots
 pub mod RequestQueue
 pub mod InSlots

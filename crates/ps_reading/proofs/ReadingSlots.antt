@@ -1,9 +1,9 @@
 -- What is read of the slots of a host, where reading has no fault: the segments of the link.
-use Rattle.ps_reading.proofs.Vocabulary.{arith, ◌≡◌, ◌<◌, ◌==◌, ℕ, Bool, false, if◌then◌else◌, List, [], ◌∷◌, ◌++◌, ◌≢◌, ap, take, Option, Some, None, Result, Ok, Err, refl, ◌∙◌, filter_map, option_and_then, option_map_or, option_or, result_ok, Order, in_file, Fault, Reason, OpenedFile, entry_at, opened_alone, role_of, slots, first_of, reading_fault, Request, segments_in_slots, MAX_REQUESTED, SLOTS}
+use Rattle.ps_reading.proofs.Vocabulary.{arith, ◌≡◌, ◌<◌, ◌==◌, ℕ, Bool, false, if◌then◌else◌, List, [], ◌∷◌, ◌++◌, ◌≢◌, ap, take, Option, Some, None, Result, Ok, Err, refl, ◌∙◌, filter_map, option_map_or, option_or, Order, in_file, Fault, Reason, OpenedFile, opened_alone, slots, first_of, reading_fault, segments_in_slots, MAX_REQUESTED, SLOTS}
 use Rattle.ps_reading.specs.Sources.{Segment, own_segment, own_segments, opened_files, order_of, units_of}
 use Rattle.ps_reading.specs.Faults.{slots_fault, no_host_fault, libraries_fault, source_fault, sources_fault}
 use Rattle.ps_reading.specs.Added.{RoundsOutcome, all_unit_references, empty_slots, requested_from, rounds, rounds_in, segments}
-use Rattle.ps_reading.specs.Readings.{HostFiles, all_read, fault_of_added, host_reading_fault, own_reading_fault, opened_host, read_requests, read_rounds, read_segment, read_segments, queued_request, slot_after, slot_fault, slot_request, wanted_request}
+use Rattle.ps_reading.specs.Readings.{HostFiles, all_read, fault_of_added, host_reading_fault, own_reading_fault, opened_host, read_requests, read_rounds, read_segment, read_segments, slot_after, slot_fault}
 use Rattle.ps_reading.proofs.FirstSlots.{neither_first, neither_second}
 use Rattle.ps_reading.proofs.InSlots.{in_slots_are}
 use Rattle.ps_reading.proofs.ReadingHosts.{host_is, host_read, host_refused, rest_of}
@@ -184,12 +184,3 @@ module _ (order : Order) (host : List ℕ) (files : List (List ℕ)) (slot : ℕ
   pub none_by : slot_after added (empty_slots order host) ≡ None
       → fault_of_added added (empty_slots order host) slot ≡ None
   none_by e = grind arith
-
-  -- the request of a slot
-  abbrev own : Option Request
-  own = option_and_then (wanted_request order host slot)
-      (result_ok (role_of (entry_at order host slot)))
-
-  pub request_by : own ≡ None → slot_request order host files slot
-      ≡ queued_request (read_requests order host files) (empty_slots order host) slot
-  request_by e = grind arith

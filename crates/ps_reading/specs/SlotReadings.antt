@@ -40,7 +40,7 @@ why_refused (Some entry) f = absent.Refused f
 -- a unit is requested for a slot, and there is a fault: if nothing was read of the slot, the unit was
 -- not looked for
 abbrev pub is_left : HostFiles → ℕ → Bool
-is_left h slot = is_some (request_in h slot) && is_some (first_in h)
+is_left h slot = is_some (first_in h) && is_some (request_in h slot)
 
 -- the segment of a slot, or why it has none, of which this was read
 abbrev pub outcome_by : HostFiles → ℕ → Option (Result Segment Fault)

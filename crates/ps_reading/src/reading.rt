@@ -360,7 +360,8 @@ impl<'a> HostReading<'a> {
         requires { slot < SLOTS }
         ensures { result ≡ is_left_spec self.now slot }
     {
-        self.request(slot).is_some() && self.fault.is_some()
+        let refused = self.fault.is_some();
+        refused && self.request(slot).is_some()
     }
 
     /// A slot, whose segment comes from there and is this, or is not there for this.

@@ -11,7 +11,7 @@ use crate::reading::AddedUnits;
 use crate::reading::added::UnitReference;
 use crate::reading::request::Request;
 use crate::reading::segment::Segment;
-use crate::reading::slots::HostSlots;
+use crate::reading::slots::{HostSlots, is_empty};
 use ps_codefile::Role;
 use ps_codefile::dictionary_layout::SLOTS;
 use std::marker::Model;
@@ -76,18 +76,17 @@ impl<'r, 'a> Model for ReadNames<'r, 'a> {
 impl<'r, 'a> ReadNames<'r, 'a> {
     /// The request for a unit that a slot has, if it has one: its own, where it wants a unit, or that
     /// of a name that is requested, which takes the slot if it is empty.
-    #[tactic(auto, using(crate::proofs::ReadingSlots::request_by))]
     pub(crate) fn request(&self, slot: u8) -> Option<Request>
         requires { slot < SLOTS }
         ensures { result ≡ request_in self.now slot }
     {
-        if let Some(request) = own_request(self.slots, slot) {
-            return Some(request);
+        if is_empty(self.slots, slot) {
+            return queued_request(
+                self.added.queue.as_slice(),
+                self.added.empty.as_slice(),
+                slot,
+            );
         }
-        queued_request(
-            self.added.queue.as_slice(),
-            self.added.empty.as_slice(),
-            slot,
-        )
+        own_request(self.slots, slot)
     }
 }

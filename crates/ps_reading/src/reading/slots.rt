@@ -44,6 +44,7 @@ impl<'a> Model for HostSlots<'a> {
 
 impl<'a> HostSlots<'a> {
     /// The slots of this dictionary.
+    #[inline(always)]
     pub fn of(dict: Dict<'a>) -> HostSlots<'a>
         ensures { result ≡ dict.entry }
     {

@@ -84,6 +84,7 @@ fn add_segment_or_fault<'a>(
 
 /// Reads the host's own slots: fills the table with their segments, by slot ascending, and answers
 /// the first fault of their sources.
+#[inline(always)]
 pub(crate) fn read_slots<'a>(
     host: &HostSlots<'a>,
     libs: &'a [&'a [u8]],
