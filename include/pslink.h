@@ -54,8 +54,8 @@
  * Memory: a call takes memory by malloc and realloc of the C library and returns all of it by free
  * before it ends. A link of a host with one library or none requests none before it has read the
  * files; with more, it first requests memory for their copy, one after another.
- * Stack: leave a call 64 KB; a link of up to 16 libraries takes about 22 and a refused one up to 32,
- * one of more up to 40, a check up to 33, and another text up to 40.
+ * Stack: leave a call 64 KB; a link of up to 16 libraries takes about 22, one of more about 30, a
+ * check up to 31, and another text up to 34, or 41 beside more than 16 libraries.
  * Signals: pslink_link and pslink_text are not to be called from a signal handler, nor, where the
  * process has threads, in a child between fork and exec.
  *

@@ -1,5 +1,5 @@
-/* Prints how many bytes of stack a link of these files takes, at most, then a link or a text that is no list and no report, and then a
- * check or any text: they are made on a thread whose stack was filled before. Usage: stack HOST [LIB]... */
+/* Prints how many bytes of stack a link of these files takes, at most, then a check, and then any call: they are made on a thread whose
+ * stack was filled before. Usage: stack HOST [LIB]... */
 #define _GNU_SOURCE
 #include <pslink.h>
 #include <pthread.h>
@@ -43,24 +43,23 @@ static void *a_link(void *room)
     return room;
 }
 
-/* A link, a map and a show, and the names of units. */
-static void *all_calls(void *room)
+/* A report, for a person and as a document. */
+static void *a_check(void *room)
 {
-    static const uint32_t texts[] = {PSLINK_MAP, PSLINK_SHOW, PSLINK_WANTED, PSLINK_HAD};
     pslink_answer answer;
-    size_t k;
 
-    a_link(room);
-    for (k = 0; k < sizeof texts / sizeof *texts; k++)
-        pslink_text(texts[k], files, count, room, PSLINK_LINKED_MAX, &answer);
+    pslink_text(PSLINK_CHECK, files, count, room, PSLINK_LINKED_MAX, &answer);
+    pslink_text(PSLINK_CHECK | PSLINK_JSON, files, count, room, PSLINK_LINKED_MAX, &answer);
     return room;
 }
 
-static void *a_check(void *room)
+/* A link, and each text in each of its forms. */
+static void *all_calls(void *room)
 {
     pslink_answer answer;
     uint32_t what;
 
+    a_link(room);
     for (what = PSLINK_MAP; what <= PSLINK_HAD; what++) {
         pslink_text(what, files, count, room, PSLINK_LINKED_MAX, &answer);
         pslink_text(what | PSLINK_JSON, files, count, room, PSLINK_LINKED_MAX, &answer);
@@ -86,7 +85,7 @@ static size_t of_thread(void *(*body)(void *), void *room)
 int main(int argc, char **argv)
 {
     void *room = malloc(PSLINK_LINKED_MAX);
-    size_t of_nothing;
+    size_t of_nothing, of_all, of_check;
 
     stack = (unsigned char *)aligned_alloc(4096, STACK);
     if (argc < 2 || argc > FILES + 1 || room == NULL || stack == NULL)
@@ -95,7 +94,8 @@ int main(int argc, char **argv)
         files[count] = read_file(argv[count + 1]);
     /* (what a thread itself takes of its stack is counted once more, and taken off) */
     of_nothing = of_thread(nothing, room);
-    printf("%zu %zu %zu\n", of_thread(a_link, room) - of_nothing, of_thread(all_calls, room) - of_nothing,
-           of_thread(a_check, room) - of_nothing);
+    of_all = of_thread(all_calls, room);
+    of_check = of_thread(a_check, room);
+    printf("%zu %zu %zu\n", of_thread(a_link, room) - of_nothing, of_check - of_nothing, of_all - of_nothing);
     return 0;
 }
