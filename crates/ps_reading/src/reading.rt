@@ -23,8 +23,7 @@ pub(crate) mod units;
 
 use crate::locations::EntryAt;
 use crate::reading::added::{
-    MAX_ADDED, MAX_REQUESTED, UnitReference, add_units, empty_slots, requested_at, requested_by,
-    slot_at,
+    AddedUnits, UnitReference, add_units, empty_slots, requested_at, requested_by, slot_at,
 };
 use crate::reading::libraries::libraries_fault;
 use crate::reading::names::ReadNames;
@@ -88,20 +87,6 @@ fn files_fault(host: &HostSlots, libs: &[&[u8]]) -> Option<Fault>
         return Some(fault);
     }
     libraries_fault(host.order(), libs)
-}
-
-/// What was requested in the rounds that add units to the own segments of a host.
-#[derive(Drop)]
-pub struct AddedUnits {
-    /// The empty slots that a unit may be added in, 7 to 15, ascending.
-    pub empty: ArrayVec<u8, MAX_ADDED>,
-    /// The names that are requested, each with the record that first gave it, at most
-    /// `MAX_REQUESTED`.
-    pub queue: ArrayVec<UnitReference, MAX_REQUESTED>,
-    /// The empty slot after those that were given, if one is left.
-    pub next: Option<u8>,
-    /// The fault of the first unit that could not be added, which ends the rounds.
-    pub fault: Option<Fault>,
 }
 
 /// Reads the own slots of a host and its libraries: fills the table, which has to be empty, with the
