@@ -1,5 +1,5 @@
-/* Prints how many bytes of stack the calls of these files take, at most, and then how many a check and the texts take: they are made
- * on a thread whose stack was filled before. Usage: stack HOST [LIB]... */
+/* Prints how many bytes of stack a link of these files takes, at most, then a link or a text that is no list and no report, and then a
+ * check or any text: they are made on a thread whose stack was filled before. Usage: stack HOST [LIB]... */
 #define _GNU_SOURCE
 #include <pslink.h>
 #include <pthread.h>
@@ -32,16 +32,25 @@ static void *nothing(void *unused)
     return unused;
 }
 
-/* A link, a map and a show, and the names of units, of the host beside all libraries. */
+/* A link of the host beside all libraries, and the line of its fault. */
+static void *a_link(void *room)
+{
+    pslink_answer answer;
+    char text[PSLINK_FAULT_TEXT_MAX];
+
+    pslink_link(files, count, room, PSLINK_LINKED_MAX, &answer);
+    pslink_fault_text(&answer, text, sizeof text);
+    return room;
+}
+
+/* A link, a map and a show, and the names of units. */
 static void *all_calls(void *room)
 {
     static const uint32_t texts[] = {PSLINK_MAP, PSLINK_SHOW, PSLINK_WANTED, PSLINK_HAD};
     pslink_answer answer;
-    char text[PSLINK_FAULT_TEXT_MAX];
     size_t k;
 
-    pslink_link(files, count, room, PSLINK_LINKED_MAX, &answer);
-    pslink_fault_text(&answer, text, sizeof text);
+    a_link(room);
     for (k = 0; k < sizeof texts / sizeof *texts; k++)
         pslink_text(texts[k], files, count, room, PSLINK_LINKED_MAX, &answer);
     return room;
@@ -86,6 +95,7 @@ int main(int argc, char **argv)
         files[count] = read_file(argv[count + 1]);
     /* (what a thread itself takes of its stack is counted once more, and taken off) */
     of_nothing = of_thread(nothing, room);
-    printf("%zu %zu\n", of_thread(all_calls, room) - of_nothing, of_thread(a_check, room) - of_nothing);
+    printf("%zu %zu %zu\n", of_thread(a_link, room) - of_nothing, of_thread(all_calls, room) - of_nothing,
+           of_thread(a_check, room) - of_nothing);
     return 0;
 }

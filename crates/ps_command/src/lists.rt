@@ -98,7 +98,8 @@ fn print_list<R: CodeFiles, A: Allocator + Copy, O: Write, E: Write>(
     err: &mut E,
 ) -> Result<Ended, WriteFault>
     ensures ok { IfOk result (λ ended. IsListed (Reads (R.opened rt.now) R.Opened.remaining)
-        (IsUnread (R.unopened rt.now) (R.opened rt.now) R.Opened.remaining) how first path.now (ended_status ended) (O.contents out.old) (O.contents out.new)) }
+        (IsUnread (R.unopened rt.now) (R.opened rt.now) R.Opened.remaining) how first path.now
+        (ended_status ended) (O.contents out.old) (O.contents out.new)) }
     ensures silent { IfOk result (λ ended. ended_status ended ≡ 0 → err.new ≡ err.old) }
 {
     let file = match files::read(rt, alloc, path) {

@@ -34,8 +34,8 @@ use std::io::Write;
 /// output; with `--quiet` it prints none. `map` prints the map of the link, and with `--references`
 /// what the link stores, `show` what one code file has, `check` a report on the files for a person,
 /// and `list` a line of each file and of each of its segments. With `--json` each of the five prints
-/// one JSON document of the same values, `link` in place of its summary. Each file is opened at the path that is named and read to its end,
-/// the libraries in the order in which they are named.
+/// one JSON document of the same values, `link` in place of its summary. Each file is opened at the
+/// path that is named and read to its end, the libraries in the order in which they are named.
 ///
 /// The status is 0 where the command was done, or where the help or the version was requested; 1
 /// where the files are refused; 2 where the program does not accept the arguments; 3 where a file

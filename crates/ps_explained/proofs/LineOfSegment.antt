@@ -6,8 +6,8 @@ use Rattle.ps_filetype.specs.Shown.{shown_name, shown_path}
 use Rattle.ps_explained.specs.SlotLines.{AddsSlotLines, one_line}
 use Rattle.ps_segments.specs.SegmentParts.{absence_words, part_words}
 use Rattle.ps_explained.specs.SegmentLines.{from_words, head_words, line_in_slot, slot_words, two_digits}
-use Rattle.ps_segments.specs.declared.segments.Absent.{Absent}
-use Rattle.ps_segments.specs.declared.segments.Absent.TheVariants as absent
+use Rattle.ps_reading.specs.declared.slot_reading.Absent.{Absent}
+use Rattle.ps_reading.specs.declared.slot_reading.Absent.TheVariants as absent
 use Rattle.ps_segments.specs.declared.segments.SegmentPart.{SegmentPart}
 use Rattle.ps_segments.specs.declared.segments.SegmentPart.TheVariants as part
 use Rattle.ps_explained.proofs.OneLine.{above, and_both, one_append, one_digits, one_name, one_path}
@@ -64,6 +64,7 @@ one_segment slot name what path index size text =
     (one_from path index size text)
 
 one_why : (why : Absent) → one_line (absence_words why) ≡ true
+one_why (absent.Refused f) = refl
 one_why absent.Missing = refl
 one_why absent.NoSlot = refl
 one_why absent.NotLookedFor = refl

@@ -12,6 +12,7 @@ use Rattle.ps_words.specs.declared.fault.Reason.{Reason}
 use Rattle.ps_codefile.specs.Dictionary.{slots}
 use Rattle.ps_resolve.specs.AllFaults.{reading_fault}
 use Rattle.ps_resolve.specs.Readings.{HostFiles, opened_host, slot_fault}
+use Rattle.ps_resolve.specs.SlotReadings.{first_in, outcome_by, reading_in, request_in}
 use Rattle.ps_resolve.specs.Sources.{Segment, opened_files, order_of}
 use Rattle.ps_resolve.specs.Added.{empty_slots, segments}
 use Rattle.ps_reading.specs.KnownSegments.{is_in_slot}
@@ -19,9 +20,9 @@ use Rattle.ps_reading.specs.declared.reading.added.UnitReference.{UnitReference}
 use Rattle.ps_reading.proofs.InSlots.{by_slot}
 use Rattle.ps_reading.proofs.ReadingSlots.{fault_of_host, fault_of_none, host_of_files, no_slot_fault, segments_are}
 use Rattle.ps_segments.specs.Seen.{Seen}
-use Rattle.ps_segments.specs.SeenSegments.{fault_in, is_fault, is_of_host, is_refused_unit, reading_in, requests_in, seen_by, seen_by_reading, seen_in, seen_of, seen_read, seen_segment, seen_segments, seen_unit, seen_unread, seen_with, segments_in, unplaced}
+use Rattle.ps_segments.specs.SeenSegments.{is_fault, is_of_host, is_refused_unit, requests_in, seen_by, seen_by_outcome, seen_in, seen_of, seen_read, seen_segment, seen_segments, seen_unit, seen_with, segments_in, unplaced}
 use Rattle.ps_segments.specs.SegmentParts.{added_by}
-use Rattle.ps_segments.specs.declared.segments.Absent.TheVariants as absent
+use Rattle.ps_reading.specs.declared.slot_reading.Absent.TheVariants as absent
 use Rattle.ps_explained.specs.SegmentLines.{line_in_slot, lines_of_segments, read_line, read_lines, segment_line, segment_lines}
 use Rattle.ps_codefile.specs.declared.dictionary_layout.TheConstants.{SLOTS}
 
@@ -64,7 +65,7 @@ not_both true c x h = rw h refl
 not_both false c x h = refl
 
 module _ (paths : List (List ℕ)) (host : List ℕ) (libs : List (List ℕ)) (v : HostFiles)
-    (none : fault_in v ≡ None) where
+    (none : first_in v ≡ None) where
   abbrev all : List Segment
   all = segments_in v
 
@@ -90,17 +91,20 @@ module _ (paths : List (List ℕ)) (host : List ℕ) (libs : List (List ℕ)) (v
   not_of_host name = none_pass (is_refused_unit v name) slots all_slots (not_refused name)
 
   seen_kept : (slot : ℕ) (o : Option Segment)
-      → seen_by_reading host libs v slot (kept o) ≡ option_map (seen_segment v) o
+      → seen_by_outcome host libs v slot (outcome_by v slot (kept o))
+      ≡ option_map (seen_segment v) o
   unfolding seen_read
-  seen_kept slot None = ap (λ (f : Option Fault). if is_some f
-      then seen_unread v slot (Err absent.NotLookedFor) else None) none
+  seen_kept slot None = ap (λ (f : Option Fault). seen_by_outcome host libs v slot
+      (if is_some f && is_some (request_in v slot) then Some (Err absent.NotLookedFor) else None))
+      none
   seen_kept slot (Some s) =
       not_both s.added (is_of_host v s.name) (seen_segment v s) (not_of_host s.name)
 
   seen_is : (slot : ℕ) → slot < SLOTS
       → seen_in host libs v slot ≡ option_map (seen_segment v) (found slot)
   unfolding seen_in
-  seen_is slot lt = ap (seen_by_reading host libs v slot) (reading_is slot lt)
+  seen_is slot lt = ap (λ (o : Option (Result Segment Fault)).
+      seen_by_outcome host libs v slot (outcome_by v slot o)) (reading_is slot lt)
       ∙ seen_kept slot (found slot)
 
   -- the line of a segment that was read is that of the link
@@ -166,7 +170,7 @@ read_lines_are paths host libs none = by (opened_host host libs) refl
         → read_lines paths (seen_by host libs r) ≡ segment_lines paths host libs
     by (Err why) e = let both = sym none ∙ fault_of_none host libs why e in cc
     by (Ok v) e =
-        let fine : fault_in v ≡ None = fault_of_host host libs v e ∙ none in
+        let fine : first_in v ≡ None = fault_of_host host libs v e ∙ none in
         let same = host_of_files host libs v e in
         let are : segments_in v ≡ segments v.order v.file v.libs =
         segments_are v.order v.file v.libs fine in

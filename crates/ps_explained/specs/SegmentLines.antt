@@ -10,7 +10,7 @@ use Rattle.ps_filetype.specs.Shown.{shown_name, shown_path}
 use Rattle.ps_segments.specs.SegmentParts.{absence_words, part_as, part_words}
 use Rattle.ps_segments.specs.Paths.{path_of}
 use Rattle.ps_segments.specs.Seen.{Origin, Seen}
-use Rattle.ps_segments.specs.declared.segments.Absent.{Absent}
+use Rattle.ps_reading.specs.declared.slot_reading.Absent.{Absent}
 use Rattle.ps_segments.specs.declared.segments.SegmentPart.{SegmentPart}
 
 -- the number of a slot or an entry, of two digits

@@ -11,8 +11,8 @@ use crate::file_lines::file_lines;
 use crate::slot_lines::add_other_lines;
 use ps_codefile::dictionary_layout::SLOTS;
 use ps_filetype::{ShownName, ShownPath};
-use ps_resolve::{HostReading, Reading};
-use ps_segments::{Absent, NamedFiles, ReadSegment, SegmentPart, in_slot};
+use ps_resolve::{Absent, HostReading, Reading};
+use ps_segments::{NamedFiles, ReadSegment, SegmentPart, in_slot, words_of};
 use ps_words::Name;
 use std::alloc::{AllocError, Allocator};
 use std::fmt::{self, Formatter, Write as _};
@@ -248,7 +248,8 @@ fn push_absent<A: Allocator>(
         ++ (head_words head.slot head.name head.part
         ++ (absence_words absent ++ 10 ∷ []))) }
 {
-    writeln!(text, "{head}{absent}")
+    let why = words_of(absent);
+    writeln!(text, "{head}{why}")
 }
 
 /// Which libraries after that of a segment have a unit of its name too, in a line, if some have.

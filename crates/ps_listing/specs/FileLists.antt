@@ -9,11 +9,12 @@ use Rattle.ps_filetype.specs.declared.code_file.CodeFile.{CodeFile}
 use Rattle.ps_filetype.specs.declared.code_file.CodeFile.TheVariants.{Host, Library, Linked, Mixed}
 use Rattle.ps_writing.specs.JsonText.{line_end}
 use Rattle.ps_writing.specs.declared.rows.Form.TheVariants.{Lines, Json}
-use Rattle.ps_listing.specs.Listed.{is_refused}
+use Rattle.ps_listing.specs.Listed.{is_refused, segments_found}
 use Rattle.ps_listing.specs.ListText.{listed_in, unread_json_of}
 use Rattle.ps_listing.specs.Phrases.{IsPhrase}
 use Rattle.ps_listing.specs.LoneText.{has_no_sound, listed_with_units, lone_text, lone_units}
 use Rattle.ps_listing.specs.declared.lone.LoneUnit.{LoneUnit}
+use Rattle.ps_listing.specs.declared.segments.ListedSegment.{ListedSegment}
 use Rattle.ps_listing.specs.declared.lists.ListForm.{ListForm}
 use Rattle.ps_listing.specs.declared.lists.ListForm.TheVariants as form
 
@@ -51,6 +52,13 @@ listed_units form.Lines file = []
 listed_units form.Json file = []
 listed_units form.Units file = lone_units file
 listed_units form.JsonUnits file = lone_units file
+
+-- what a file that is listed was opened as, and its segments, and its units where they are listed
+pub record IsListing (how : ListForm) (phrase file : List ℕ) (as : Result OpenedFile Reason)
+    (segments : List ListedSegment) (units : List LoneUnit) : Type 0 where
+  pub opens : as ≡ opened file
+  pub has : segments ≡ segments_found phrase (opened file)
+  pub alone : units ≡ listed_units how file
 
 -- what is listed of a file: its lines; in a document an item, the first or another; its lines and
 -- those of its units; or an item that has its units

@@ -167,16 +167,11 @@ file_in Json path phrase v = path_in Json path ++ length_in Json [] v.size
     ++ type_in Json phrase ++ order_in Json v.order ++ purpose_in Json v.purpose
     ++ fault_or_none Json v.fault ++ codes ",\"segments\":["
 
--- the segments of a file that was opened; another has none
-abbrev pub segments_as : Form → List ℕ → List ℕ → Result OpenedFile Reason → List ℕ
-segments_as form path phrase (Ok f) =
-    segments_in form path true (segments_of phrase f.order f.file)
-segments_as form path phrase (Err why) = []
-
 -- the file at a path; the phrase says what it is, where it is no code file as it ought to be
 unfoldable pub listed_in : Form → List ℕ → List ℕ → List ℕ → List ℕ
 listed_in form path phrase file = file_in form path phrase (values_of (length file) (opened file))
-    ++ segments_as form path phrase (opened file) ++ by_form form [] (codes "\n]}")
+    ++ segments_in form path true (segments_found phrase (opened file))
+    ++ by_form form [] (codes "\n]}")
 
 abbrev pub list_of : List ℕ → List ℕ → List ℕ → List ℕ
 list_of path phrase file = listed_in Lines path phrase file

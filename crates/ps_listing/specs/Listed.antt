@@ -66,6 +66,11 @@ abbrev pub segments_of : List ℕ → Order → List ℕ → List ListedSegment
 segments_of phrase order file = if length phrase == 0
     then filter_map (segment_at order file) slots else []
 
+-- those of a file that was opened; another has none
+abbrev pub segments_found : List ℕ → Result OpenedFile Reason → List ListedSegment
+segments_found phrase (Ok f) = segments_of phrase f.order f.file
+segments_found phrase (Err why) = []
+
 -- the values of a file of so many bytes that was opened, or was not
 abbrev pub values_of : ℕ → Result OpenedFile Reason → FileValues
 values_of size (Ok f) = record {
@@ -85,24 +90,17 @@ values_of size (Err why) = record {
 abbrev pub no_values : FileValues
 no_values = record { size = None; order = None; purpose = None; fault = None }
 
--- there is a segment, and it is refused
-abbrev pub is_refused_segment : Option ListedSegment → Bool
-is_refused_segment None = false
-is_refused_segment (Some s) = is_err s.found
+-- a segment is refused
+abbrev pub is_refused_segment : ListedSegment → Bool
+is_refused_segment s = is_err s.found
 
-unfoldable pub is_refused_slot : Order → List ℕ → ℕ → Bool
-is_refused_slot order file slot = is_refused_segment (segment_at order file slot)
-
--- some slot is refused
-unfoldable pub has_refused : Order → List ℕ → Bool
-has_refused order file = list_any (is_refused_slot order file) slots
-
--- a file cannot be read, has no segment, or has a slot that is refused
-abbrev pub is_refused_as : Result OpenedFile Reason → Bool
-is_refused_as (Ok f) = is_none (code_file f.order f.file) || has_refused f.order f.file
-is_refused_as (Err why) = true
+-- a file of this phrase cannot be read, has no segment, or has one that is refused
+abbrev pub is_refused_as : List ℕ → Result OpenedFile Reason → Bool
+is_refused_as phrase (Ok f) = is_none (code_file f.order f.file)
+    || list_any is_refused_segment (segments_of phrase f.order f.file)
+is_refused_as phrase (Err why) = true
 
 -- the list of a file says that the file or a segment is refused, that there is none, or, by the
 -- phrase, that the file is something else
 unfoldable pub is_refused : List ℕ → List ℕ → Bool
-is_refused phrase file = not (length phrase == 0) || is_refused_as (opened file)
+is_refused phrase file = not (length phrase == 0) || is_refused_as phrase (opened file)

@@ -97,5 +97,5 @@ lone_items first (u ∷ us) = lone_item first u ++ lone_items false us
 unfoldable pub listed_with_units : List ℕ → List ℕ → List ℕ → List LoneUnit → List ℕ
 listed_with_units path phrase file units =
     file_in Json path phrase (values_of (length file) (opened file))
-    ++ segments_as Json path phrase (opened file)
+    ++ segments_in Json path true (segments_found phrase (opened file))
     ++ codes "\n],\"units\":[" ++ lone_items true units ++ codes "\n]}"

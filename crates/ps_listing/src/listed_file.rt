@@ -1,21 +1,24 @@
 //! The list of a file, as lines or as an item of a JSON document.
-ghost use Rattle.std.specs.Prelude.{◌≡◌};
+ghost use Rattle.std.specs.Prelude.{◌≡◌, ◌++◌, [], ℕ, List, codes, true};
+ghost use Rattle.ps_codefile.specs.Opened.{opened as opened_spec};
 ghost use Rattle.ps_writing.specs.Adding.{Adds};
-ghost use Rattle.ps_listing.specs.Listed.{is_refused as is_refused_spec, is_refused_as as is_refused_as_spec, values_of as values_of_spec};
-ghost use Rattle.ps_listing.specs.ListText.{file_in, listed_in, segments_as, unread_json_of};
-ghost use Rattle.ps_listing.specs.LoneText.{listed_with_units};
+ghost use Rattle.ps_writing.specs.Rows.{by_form};
+ghost use Rattle.ps_writing.specs.declared.rows.Form.TheVariants.{Json};
+ghost use Rattle.ps_listing.specs.Listed.{is_refused as is_refused_spec, is_refused_as as is_refused_as_spec, segments_found, values_of as values_of_spec};
+ghost use Rattle.ps_listing.specs.ListText.{file_in, segments_in, unread_json_of};
+ghost use Rattle.ps_listing.specs.LoneText.{lone_items};
 
 use crate::lone::{LoneUnit, add_unit_items};
 use crate::parts::{add_fault_or_none, add_length, add_order, add_path, add_purpose, add_type};
-use crate::segments::{add_segments, has_refused};
-use ps_codefile::{Dict, open};
+use crate::segments::{ListedSegment, add_segments, has_refused};
+use ps_codefile::Dict;
 use ps_filetype::CodeFile;
 use ps_words::{Fault, Order, Reason};
 use ps_writing::{Form, TextWriter, add_by_form};
 
 /// The values of a file. One that could not be read has none.
 #[derive(Clone, Copy)]
-struct FileValues {
+pub(crate) struct FileValues {
     size: Option<usize>,
     order: Option<Order>,
     /// What the file is for, where it was opened.
@@ -24,7 +27,7 @@ struct FileValues {
 }
 
 /// The values of a file of so many bytes that was opened, or was not.
-fn values_of(size: usize, opened: &Result<Dict, Reason>) -> FileValues
+pub(crate) fn values_of(size: usize, opened: &Result<Dict, Reason>) -> FileValues
     ensures { result ≡ values_of_spec size opened.now }
 {
     match opened {
@@ -69,62 +72,41 @@ fn add_file<S: TextWriter>(text: &mut S, form: Form, path: &str, phrase: &str, v
     }
 }
 
-/// Adds the segments of a file of which the phrase does not say that it is something else.
-fn add_segments_of<S: TextWriter>(
-    text: &mut S,
-    form: Form,
-    path: &str,
-    phrase: &str,
-    opened: &Result<Dict, Reason>,
-)
-    ensures { Adds S.added text.old (segments_as form path.now phrase.now opened.now) text.new }
-{
-    match opened {
-        Ok(dict) => {
-            if phrase.is_empty() {
-                add_segments(text, form, path, dict);
-            } else {
-                text.add(b"");
-            }
-        }
-        Err(_) => text.add(b""),
-    }
-}
-
-/// Adds what a file at a path has, as lines made for grep, or as an item of the list of a document. The
-/// phrase says what it is, where it is no code file as it ought to be.
-#[tactic(auto, unfolding(crate::specs::ListText::listed_in))]
+/// Adds what a file at a path has, which are these values and segments, as lines made for grep, or as
+/// an item of the list of a document. The phrase says what it is, where it is no code file as it ought
+/// to be.
 pub(crate) fn add_listed<S: TextWriter>(
     text: &mut S,
     form: Form,
     path: &str,
     phrase: &str,
-    file: &[u8],
+    values: FileValues,
+    segments: &[ListedSegment],
 )
-    ensures { Adds S.added text.old (listed_in form path.now phrase.now file.now) text.new }
+    ensures { Adds S.added text.old (file_in form path.now phrase.now values
+        ++ segments_in form path.now true segments.now ++ by_form form [] (codes "\n]}"))
+        text.new }
 {
-    let opened = open(file);
-    let values = values_of(file.len(), &opened);
     add_file(text, form, path, phrase, values);
-    add_segments_of(text, form, path, phrase, &opened);
+    add_segments(text, form, path, segments);
     add_by_form(text, form, b"", b"\n]}");
 }
 
-/// Adds the item of a file, which has its units by themselves too.
+/// Adds the item of a file that has these values and segments, which has its units by themselves too.
 pub(crate) fn add_listed_with_units<S: TextWriter>(
     text: &mut S,
     path: &str,
     phrase: &str,
-    file: &[u8],
+    values: FileValues,
+    segments: &[ListedSegment],
     units: &[LoneUnit],
 )
-    ensures { Adds S.added text.old
-        (listed_with_units path.now phrase.now file.now units.now) text.new }
+    ensures { Adds S.added text.old (file_in Json path.now phrase.now values
+        ++ segments_in Json path.now true segments.now
+        ++ codes "\n],\"units\":[" ++ lone_items true units.now ++ codes "\n]}") text.new }
 {
-    let opened = open(file);
-    let values = values_of(file.len(), &opened);
     add_file(text, Form::Json, path, phrase, values);
-    add_segments_of(text, Form::Json, path, phrase, &opened);
+    add_segments(text, Form::Json, path, segments);
     text.add(b"\n],\"units\":[");
     add_unit_items(text, units);
     text.add(b"\n]}");
@@ -145,12 +127,13 @@ pub(crate) fn add_unread<S: TextWriter>(text: &mut S, path: &str)
     text.add(b"\n]}");
 }
 
-/// A file that was opened, or was not, is refused.
-fn is_refused_as(opened: Result<Dict, Reason>) -> bool
-    ensures { result ≡ is_refused_as_spec opened.entry }
+/// A file that was opened, or was not, and has these segments, is refused.
+fn is_refused_as(opened: &Result<Dict, Reason>, segments: &[ListedSegment]) -> bool
+    ensures { (phrase : List ℕ) → segments.now ≡ segments_found phrase opened.now
+        → result ≡ is_refused_as_spec phrase opened.now }
 {
     match opened {
-        Ok(dict) => CodeFile::of(&dict).is_none() || has_refused(&dict),
+        Ok(dict) => CodeFile::of(dict).is_none() || has_refused(segments),
         Err(_) => true,
     }
 }
@@ -158,8 +141,14 @@ fn is_refused_as(opened: Result<Dict, Reason>) -> bool
 /// The list of a file says that the file is refused, or one of its segments is, that it has none,
 /// or, by a phrase that is not empty, that it is something else.
 #[tactic(auto, unfolding(crate::specs::Listed::is_refused))]
-pub(crate) fn is_refused(phrase: &str, file: &[u8]) -> bool
-    ensures { result ≡ is_refused_spec phrase.now file.now }
+pub(crate) fn is_refused(
+    phrase: &str,
+    opened: &Result<Dict, Reason>,
+    segments: &[ListedSegment],
+) -> bool
+    ensures { (file : List ℕ) → opened.now ≡ opened_spec file
+        → segments.now ≡ segments_found phrase.now opened.now
+        → result ≡ is_refused_spec phrase.now file }
 {
-    !phrase.is_empty() || is_refused_as(open(file))
+    !phrase.is_empty() || is_refused_as(opened, segments)
 }

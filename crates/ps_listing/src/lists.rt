@@ -1,13 +1,20 @@
 //! The lists of files, one after another.
-ghost use Rattle.std.specs.Prelude.{◌≡◌, IfOk, true};
+ghost use Rattle.std.specs.Prelude.{◌≡◌, IfOk, length, true};
+ghost use Rattle.ps_codefile.specs.Opened.{opened as opened_spec};
 ghost use Rattle.ps_writing.specs.Adding.{Adds};
 ghost use Rattle.ps_listing.specs.FileLists.{listed, listed_from, listed_units};
+ghost use Rattle.ps_listing.specs.Listed.{segments_found as segments_found_spec, values_of as values_of_spec};
 ghost use Rattle.ps_listing.specs.ListText.{listed_in};
 ghost use Rattle.ps_listing.specs.LoneText.{listed_with_units, lone_text};
 
-use crate::listed_file::{add_listed, add_listed_with_units, add_unread, is_refused};
+use crate::listed_file::{
+    FileValues, add_listed, add_listed_with_units, add_unread, is_refused, values_of,
+};
 use crate::lone::{LoneUnit, add_unit_lines, has_no_sound, lone_units};
 use crate::phrases;
+use crate::segments::{ListedSegment, segments_found};
+use ps_codefile::{Dict, open};
+use ps_words::Reason;
 use ps_writing::{Form, Text, TextWriter, separator};
 use std::alloc::{AllocError, Allocator, Global};
 use std::marker::Model;
@@ -47,19 +54,23 @@ pub struct ListedFile<'a, A: Allocator = Global> {
     /// What the file is, where it is no code file as it ought to be.
     phrase: String<A>,
     file: &'a [u8],
+    /// The file as it was opened, or why it cannot be.
+    opened: Result<Dict<'a>, Reason>,
+    /// Its segments, by slot; none where the phrase says that it is something else.
+    segments: Vec<ListedSegment<'a>, A>,
     /// The units of the file by themselves, where they are listed.
     units: Vec<LoneUnit, A>,
 }
 
 impl<'a, A: Allocator> Model for ListedFile<'a, A> {
     ghost use Rattle.std.specs.Prelude.{◌≡◌, string_bytes};
-    ghost use Rattle.ps_listing.specs.FileLists.{Listed, listed_units};
+    ghost use Rattle.ps_listing.specs.FileLists.{IsListing, Listed};
 
     ghost Value = { Listed };
 
     ghost view = { λ l. record { how = l.how; path = l.path.now; phrase = string_bytes l.phrase; file = l.file.now } };
 
-    ghost invariant = { λ l. l.units.items ≡ listed_units l.how l.file.now };
+    ghost invariant = { λ l. IsListing l.how (string_bytes l.phrase) l.file.now l.opened l.segments.items l.units.items };
 }
 
 impl<'a, A: Allocator + Copy> ListedFile<'a, A> {
@@ -82,12 +93,16 @@ impl<'a, A: Allocator + Copy> ListedFile<'a, A> {
         ensures phrase { IfOk result (λ l. IsPhrase file.now l.phrase) }
     {
         let phrase = phrases::phrase(alloc, file)?;
+        let opened = open(file);
+        let segments = segments_found(alloc, phrase.as_str(), &opened)?;
         let units = units_in(alloc, how, file)?;
         Ok(ListedFile {
             how,
             path,
             phrase,
             file,
+            opened,
+            segments,
             units,
         })
     }
@@ -98,9 +113,26 @@ impl<'a, A: Allocator + Copy> ListedFile<'a, A> {
         ensures { result ≡ is_refused_in self.now }
     {
         match self.how {
-            ListForm::Lines | ListForm::Json => is_refused(self.phrase.as_str(), self.file),
+            ListForm::Lines | ListForm::Json => {
+                is_refused(self.phrase.as_str(), &self.opened, self.segments.as_slice())
+            }
             ListForm::Units | ListForm::JsonUnits => has_no_sound(self.units.as_slice()),
         }
+    }
+
+    /// Its values.
+    fn values(&self) -> FileValues
+        ensures { result ≡ values_of_spec (length self.now.file) (opened_spec self.now.file) }
+    {
+        values_of(self.file.len(), &self.opened)
+    }
+
+    /// Its segments.
+    fn segments(&self) -> &[ListedSegment<'a>]
+        ensures { result.now
+            ≡ segments_found_spec self.now.phrase (opened_spec self.now.file) }
+    {
+        self.segments.as_slice()
     }
 
     /// Adds its lines, or its item.
@@ -108,7 +140,15 @@ impl<'a, A: Allocator + Copy> ListedFile<'a, A> {
         ensures { Adds S.added text.old
             (listed_in form self.now.path self.now.phrase self.now.file) text.new }
     {
-        add_listed(text, form, self.path, self.phrase.as_str(), self.file);
+        let phrase = self.phrase.as_str();
+        add_listed(
+            text,
+            form,
+            self.path,
+            phrase,
+            self.values(),
+            self.segments(),
+        );
     }
 
     /// Adds the lines of its units, where they are listed.
@@ -124,8 +164,16 @@ impl<'a, A: Allocator + Copy> ListedFile<'a, A> {
         ensures { Adds S.added text.old (listed_with_units self.now.path self.now.phrase
             self.now.file (listed_units self.now.how self.now.file)) text.new }
     {
+        let phrase = self.phrase.as_str();
         let units = self.units.as_slice();
-        add_listed_with_units(text, self.path, self.phrase.as_str(), self.file, units);
+        add_listed_with_units(
+            text,
+            self.path,
+            phrase,
+            self.values(),
+            self.segments(),
+            units,
+        );
     }
 
     /// Adds what is listed of it, as the first or after another.

@@ -220,13 +220,13 @@ fn add_used<S: TextWriter>(text: &mut S, form: Form, first: bool, name: Name)
 
 /// Adds the unit that a record uses, where it is one that uses a unit. Returns whether the first is
 /// still to come.
-fn add_use<S: TextWriter>(text: &mut S, form: Form, first: bool, record: &LinkRecord) -> bool
-    ensures used { Adds S.added text.old (use_of form first record.now.name record.now.body)
+fn add_use<S: TextWriter>(text: &mut S, form: Form, first: bool, item: &LinkRecord) -> bool
+    ensures used { Adds S.added text.old (use_of form first item.now.name item.now.body)
         text.new }
-    ensures first { result ≡ is_first_after first record.now.body }
+    ensures first { result ≡ is_first_after first item.now.body }
 {
-    if record.body.kind().requests_unit() {
-        add_used(text, form, first, record.name);
+    if item.body.kind().requests_unit() {
+        add_used(text, form, first, item.name);
         false
     } else {
         text.add(b"");

@@ -1,12 +1,12 @@
 //! The segments of a file, as values and as text.
-ghost use Rattle.std.specs.Prelude.{◌≡◌, ◌<◌, Ok, true};
-ghost use Rattle.std.specs.List.{filter_map};
+ghost use Rattle.std.specs.Prelude.{◌≡◌, ◌<◌, IfOk, Ok, true};
+ghost use Rattle.std.specs.List.{filter_map, list_any};
 ghost use Rattle.ps_codefile.specs.Dictionary.{entry_at, role_of, slots};
 ghost use Rattle.ps_writing.specs.Adding.{Adds};
 ghost use Rattle.ps_writing.specs.JsonText.{line_end};
 ghost use Rattle.ps_writing.specs.Rows.{by_form};
-ghost use Rattle.ps_listing.specs.Listed.{found_segment as found_segment_spec, has_refused as has_refused_spec, is_refused_slot as is_refused_slot_spec, segment_as, segment_at as segment_at_spec, segment_with as segment_with_spec};
-ghost use Rattle.ps_listing.specs.ListText.{segment_in, segments_in, shown_path};
+ghost use Rattle.ps_listing.specs.Listed.{found_segment as found_segment_spec, is_refused_segment, segment_as, segment_at as segment_at_spec, segment_with as segment_with_spec, segments_found as segments_found_spec};
+ghost use Rattle.ps_listing.specs.ListText.{segment_in, segments_in as segments_in_spec, shown_path};
 
 use crate::by_itself::read_by_itself;
 use crate::escapes::add_path;
@@ -17,6 +17,7 @@ use ps_linkinfo::LinkInformation;
 use ps_words::{Fault, Name, Reason};
 use ps_writing::RowPart::InSlot;
 use ps_writing::{Form, TextWriter, add_part, end_row, separator};
+use std::alloc::{AllocError, Allocator};
 
 /// A segment, as its file has it.
 #[derive(Drop)]
@@ -130,40 +131,64 @@ fn add_segment<S: TextWriter>(
     end_row(text, form);
 }
 
-/// Adds the segments of a file.
-pub(crate) fn add_segments<S: TextWriter>(text: &mut S, form: Form, path: &str, dict: &Dict)
-    ensures { Adds S.added text.old (segments_in form path.now true
-        (filter_map (segment_at_spec dict.now.order dict.now.file) slots)) text.new }
+/// The segments of a file, by slot.
+fn segments_in<'a, A: Allocator>(
+    alloc: A,
+    dict: &Dict<'a>,
+) -> Result<Vec<ListedSegment<'a>, A>, AllocError>
+    ensures { IfOk result (λ list. list.items
+        ≡ filter_map (segment_at_spec dict.now.order dict.now.file) slots) }
 {
-    let mut first = true;
+    let mut list = Vec::new(alloc);
     for slot in 0..SLOTS {
         if let Some(segment) = segment_at(dict, slot) {
-            add_segment(text, form, path, first, &segment);
-            first = false;
+            list.push(segment)?;
         }
+    }
+    Ok(list)
+}
+
+/// The segments of a file that was opened, by slot; none of another, and none where the phrase says
+/// that the file is something else.
+pub(crate) fn segments_found<'a, A: Allocator>(
+    alloc: A,
+    phrase: &str,
+    opened: &Result<Dict<'a>, Reason>,
+) -> Result<Vec<ListedSegment<'a>, A>, AllocError>
+    ensures { IfOk result (λ list. list.items ≡ segments_found_spec phrase.now opened.now) }
+{
+    match opened {
+        Ok(dict) => {
+            if phrase.is_empty() {
+                segments_in(alloc, dict)
+            } else {
+                Ok(Vec::new(alloc))
+            }
+        }
+        Err(_) => Ok(Vec::new(alloc)),
     }
 }
 
-/// A slot is refused.
-#[tactic(auto, unfolding(crate::specs::Listed::is_refused_slot))]
-fn is_refused_slot(dict: &Dict, slot: u8) -> bool
-    requires { slot < SLOTS }
-    ensures { result ≡ is_refused_slot_spec dict.now.order dict.now.file slot }
+/// Adds the segments of a file.
+#[tactic(auto, using(std::proofs::lemmas::List::drop_more, ps_writing::proofs::Written::all_written, ps_writing::proofs::Written::none_yet, ps_writing::proofs::Written::some_more, crate::proofs::Rows::segments_left, crate::proofs::Rows::segments_over))]
+pub(crate) fn add_segments<S: TextWriter>(
+    text: &mut S,
+    form: Form,
+    path: &str,
+    segments: &[ListedSegment],
+)
+    ensures { Adds S.added text.old (segments_in_spec form path.now true segments.now) text.new }
 {
-    match segment_at(dict, slot) {
-        None => false,
-        Some(segment) => segment.found.is_err(),
+    let mut first = true;
+    for segment in segments {
+        add_segment(text, form, path, first, segment);
+        first = false;
     }
 }
 
-/// Some slot is refused.
-pub(crate) fn has_refused(dict: &Dict) -> bool
-    ensures { result ≡ has_refused_spec dict.now.order dict.now.file }
+/// Some segment is refused.
+pub(crate) fn has_refused(segments: &[ListedSegment]) -> bool
+    ensures { result ≡ list_any is_refused_segment segments.now }
 {
-    for slot in 0..SLOTS {
-        if is_refused_slot(dict, slot) {
-            return true;
-        }
-    }
-    false
+    segments.iter().any(|segment| segment.found.is_err())
 }

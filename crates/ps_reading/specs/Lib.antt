@@ -4,6 +4,7 @@ pub mod Faults
 pub mod Requests
 pub mod Added
 pub mod Readings
+pub mod SlotReadings
 pub mod KnownSegments
 pub mod OfLink
 pub mod Standing

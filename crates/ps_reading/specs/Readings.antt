@@ -7,7 +7,7 @@ use Rattle.std.specs.Result.{result_ok}
 use Rattle.ps_words.specs.declared.order.Order.{Order}
 use Rattle.ps_words.specs.declared.fault.Fault.{Fault}
 use Rattle.ps_words.specs.declared.fault.Reason.{Reason}
-use Rattle.ps_codefile.specs.Dictionary.{slots, entry_at, opened_alone, role_of}
+use Rattle.ps_codefile.specs.Dictionary.{OpenedFile, slots, entry_at, opened_alone, role_of}
 use Rattle.ps_codefile.specs.declared.entry.Role.{Role}
 use Rattle.ps_codefile.specs.declared.entry.Role.TheVariants.{Empty, Wanted, Plain, Host, Unit}
 use Rattle.ps_reading.specs.Requests.{is_missing, request_by_slot}
@@ -15,6 +15,7 @@ use Rattle.ps_reading.specs.Sources.{Segment, own_segment, opened_files, unit_so
 use Rattle.ps_reading.specs.Faults.{slots_fault, no_host_fault, libraries_fault, source_fault, sources_fault, host_fault}
 use Rattle.ps_reading.specs.Added.{RoundsOutcome, all_unit_references, empty_slots, requested_from, request_of, rounds_of, added_fault}
 use Rattle.ps_reading.specs.KnownSegments.{IsRead, segments_in_slots}
+use Rattle.ps_reading.specs.declared.reading.AddedUnits.{AddedUnits}
 use Rattle.ps_reading.specs.declared.reading.added.UnitReference.{UnitReference}
 use Rattle.ps_reading.specs.declared.reading.request.Request.{Request}
 use Rattle.ps_reading.specs.declared.reading.added.TheConstants.{MAX_REQUESTED}
@@ -150,20 +151,34 @@ pub record HostFiles : Type 0 where
   pub file : List ℕ
   pub libs : List (List ℕ)
 
+-- a host that was opened, with its libraries
+abbrev pub with_libraries : OpenedFile → List (List ℕ) → HostFiles
+with_libraries host libs = record { order = host.order; file = host.file; libs = libs }
+
+-- the segments that were read of such files without a fault, and what is requested there
+pub record AreReadNames (host : OpenedFile) (libs : List (List ℕ)) (segments : List Segment)
+    (added : AddedUnits) : Type 0 where
+  pub all : segments ≡ all_read host.order host.file (opened_files host.order libs)
+  pub requested : added.queue.items
+      ≡ read_requests host.order host.file (opened_files host.order libs)
+  pub slots_left : added.empty.items ≡ empty_slots host.order host.file
+
 -- what was read of such files
-pub record IsReading (order : Order) (host : List ℕ) (libs : List (List ℕ)) (empty : List ℕ)
-    (segments : List Segment) (refused : List (Option Fault)) (queue : List UnitReference)
-    (next : Option ℕ) (last : Option Fault) (fault : Option Fault) : Type 0 where
-  pub whole : 512 ≤ length host
-  pub slots_left : empty ≡ empty_slots order host
-  pub all : segments ≡ all_read order host (opened_files order libs)
-  pub read : All (IsRead order host (opened_files order libs)) segments
-  pub faults : refused ≡ own_faults order host (opened_files order libs)
-  pub requested : queue ≡ read_requests order host (opened_files order libs)
-  pub following : next ≡ slot_after (read_rounds order host (opened_files order libs))
-      (empty_slots order host)
-  pub ends : last ≡ (read_rounds order host (opened_files order libs)).fault
-  pub first : fault ≡ host_reading_fault order host libs
+pub record IsReading (host : OpenedFile) (libs : List (List ℕ)) (segments : List Segment)
+    (refused : List (Option Fault)) (added : AddedUnits) (fault : Option Fault) : Type 0 where
+  pub whole : 512 ≤ length host.file
+  pub slots_left : added.empty.items ≡ empty_slots host.order host.file
+  pub all : segments ≡ all_read host.order host.file (opened_files host.order libs)
+  pub read : All (IsRead host.order host.file (opened_files host.order libs)) segments
+  pub faults : refused ≡ own_faults host.order host.file (opened_files host.order libs)
+  pub requested : added.queue.items
+      ≡ read_requests host.order host.file (opened_files host.order libs)
+  pub following : added.next
+      ≡ slot_after (read_rounds host.order host.file (opened_files host.order libs))
+      (empty_slots host.order host.file)
+  pub ends : added.fault
+      ≡ (read_rounds host.order host.file (opened_files host.order libs)).fault
+  pub first : fault ≡ host_reading_fault host.order host.file libs
 
 -- the files of a reading
 pub record ReadFiles : Type 0 where
@@ -175,7 +190,7 @@ abbrev pub opened_host : List ℕ → List (List ℕ) → Result HostFiles Reaso
 opened_host host libs =
     elim (opened_alone host) [
       | Err why ↦ Err why
-      | Ok opened ↦ Ok (record { order = opened.order; file = opened.file; libs = libs })
+      | Ok opened ↦ Ok (with_libraries opened libs)
     ]
 
 -- the segments that were read of it without a fault, by slot; none where it cannot be opened

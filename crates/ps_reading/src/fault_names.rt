@@ -1,11 +1,16 @@
 //! The name of what a fault is about.
 ghost use Rattle.std.specs.Prelude.{◌≡◌, ◌<◌, IfSome, None};
 ghost use Rattle.ps_codefile.specs.Dictionary.{opened_alone};
+ghost use Rattle.ps_reading.specs.Readings.{with_libraries};
 ghost use Rattle.ps_reading.specs.Sources.{contents};
 ghost use Rattle.ps_reading.specs.FaultNames.{entry_name as entry_name_spec, fault_name as fault_name_spec, host_slot as host_slot_spec, name_at as name_at_spec, name_by_role as name_by_role_spec, name_in_record as name_in_record_spec, name_in_slot as name_in_slot_spec, name_of_record as name_of_record_spec, read_name as read_name_spec, slot_name as slot_name_spec};
 
+use crate::reading::names::ReadNames;
 use crate::reading::segment::Segment;
-use crate::reading::{HostReading, Reading, read, segment_in};
+use crate::reading::slots::HostSlots;
+use crate::reading::sources::read_slots;
+use crate::reading::{Reading, read_added, segment_in};
+use arrayvec::ArrayVec;
 use ps_codefile::dictionary_layout::SLOTS;
 use ps_codefile::{Dict, Role};
 use ps_words::{Fault, Name, Reason};
@@ -21,23 +26,23 @@ fn name_of_record(segment: &Segment, rec: usize) -> Option<Name>
 }
 
 /// The name in the record of this index of the segment in a slot.
-fn name_in_record(host: &HostReading, slot: u8, rec: usize) -> Option<Name>
+fn name_in_record(host: &ReadNames, slot: u8, rec: usize) -> Option<Name>
     ensures { result ≡ name_in_record_spec host.now slot rec }
 {
-    match segment_in(host.segments(), slot) {
+    match segment_in(host.segments, slot) {
         None => None,
         Some(segment) => name_of_record(segment, rec),
     }
 }
 
 /// The name of the unit that is requested in an empty slot, or that of the slot.
-fn name_in_slot(host: &HostReading, slot: u8) -> Name
+fn name_in_slot(host: &ReadNames, slot: u8) -> Name
     requires { slot < SLOTS }
     ensures { result ≡ name_in_slot_spec host.now slot }
 {
     match host.request(slot) {
         Some(request) => request.name,
-        None => host.entry(slot).name,
+        None => host.slots.entry(slot).name,
     }
 }
 
@@ -52,11 +57,11 @@ fn name_by_role(name: Name, role: Result<Role, Reason>) -> Option<Name>
 }
 
 /// The name of a slot: by its own entry, or else of the unit that is requested.
-fn slot_name(host: &HostReading, slot: u8) -> Name
+fn slot_name(host: &ReadNames, slot: u8) -> Name
     requires { slot < SLOTS }
     ensures { result ≡ slot_name_spec host.now slot }
 {
-    match name_by_role(host.entry(slot).name, host.role(slot)) {
+    match name_by_role(host.slots.entry(slot).name, host.slots.role(slot)) {
         Some(name) => name,
         None => name_in_slot(host, slot),
     }
@@ -64,7 +69,7 @@ fn slot_name(host: &HostReading, slot: u8) -> Name
 
 /// The name of a slot of the host or, where the index of a record is given, that in the record of
 /// its segment.
-fn name_at(host: &HostReading, slot: u8, rec: Option<usize>) -> Option<Name>
+fn name_at(host: &ReadNames, slot: u8, rec: Option<usize>) -> Option<Name>
     requires { slot < SLOTS }
     ensures { result ≡ name_at_spec host.now slot rec }
 {
@@ -81,19 +86,39 @@ fn name_in_reading(reading: &Reading, slot: u8, rec: Option<usize>) -> Option<Na
 {
     match reading.host() {
         Err(_) => None,
-        Ok(host) => name_at(host, slot, rec),
+        Ok(host) => name_at(&host.names(), slot, rec),
     }
 }
 
-/// The name of a slot, or in a record, of these files, which are read. A function by itself, so that what was read takes room of
-/// the stack only where it is needed.
+/// The name of a slot, or in a record, of a host that was opened and of these libraries, which are
+/// read. No reading is made, which takes more room of the stack than a link.
+fn name_in_host(slots: &HostSlots, libs: &[&[u8]], slot: u8, rec: Option<usize>) -> Option<Name>
+    requires { slot < SLOTS }
+    ensures { result ≡ name_at_spec (with_libraries slots.now (contents libs.now)) slot rec }
+{
+    let mut segments = ArrayVec::new();
+    read_slots(slots, libs, &mut segments);
+    let added = read_added(slots, libs, &mut segments);
+    let names = ReadNames {
+        slots,
+        libs,
+        segments: segments.as_slice(),
+        added: &added,
+    };
+    name_at(&names, slot, rec)
+}
+
+/// The name of a slot, or in a record, of these files, which are read. A function by itself, so that
+/// what was read takes room of the stack only where it is needed.
 #[inline(never)]
 fn read_name(host: &[u8], libs: &[&[u8]], slot: u8, rec: Option<usize>) -> Option<Name>
     requires { slot < SLOTS }
     ensures { result ≡ read_name_spec host.now (contents libs.now) slot rec }
 {
-    let reading = read(host, libs);
-    name_in_reading(&reading, slot, rec)
+    match Dict::read(host) {
+        Err(_) => None,
+        Ok(dict) => name_in_host(&HostSlots::of(dict), libs, slot, rec),
+    }
 }
 
 /// The name that a slot of a file has by its own entry.

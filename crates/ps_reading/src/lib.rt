@@ -6,6 +6,7 @@ mod fault_names;
 mod locations;
 mod reading;
 mod slot_name_law;
+mod slot_reading;
 
 pub use fault_names::{fault_name, fault_name_in};
 pub use locations::{EntryAt, RecordAt, ReferenceAt, SegmentAt};
@@ -17,3 +18,4 @@ pub use reading::slots::{HOST_FILE, HostSlots};
 pub use reading::unit_slots::{UnitSlots, is_same_name};
 pub use reading::{AddedUnits, HostReading, Reading, read, read_added, read_own, slot_names};
 pub use slot_name_law::slot_names_are_whole;
+pub use slot_reading::{Absent, SlotReading};

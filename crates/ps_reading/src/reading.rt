@@ -5,13 +5,15 @@ ghost use Rattle.ps_codefile.specs.Dictionary.{entry_at, role_of, opened_beside}
 ghost use Rattle.ps_reading.specs.Sources.{order_of, contents, opened, opened_files};
 ghost use Rattle.ps_reading.specs.Added.{request_of, empty_slots as empty_slots_spec, segments as all_segments, slot_name as slot_name_spec, slot_names as slot_names_spec};
 ghost use Rattle.ps_reading.specs.Faults.{source_fault, slots_fault as slots_fault_spec, no_host_fault as no_host_fault_spec, libraries_fault as libraries_fault_spec};
-ghost use Rattle.ps_reading.specs.Readings.{reading_fault, all_read, fault_of_added, host_reading_fault, opened_host, own_reading_fault, queued_request as queued_request_spec, read_requests, read_rounds, read_segments, segments_read, named_entry, slot_after, slot_entry, slot_fault, slot_reading, slot_request, wanted_request};
+ghost use Rattle.ps_reading.specs.Readings.{reading_fault, all_read, fault_of_added, host_reading_fault, opened_host, own_reading_fault, queued_request as queued_request_spec, read_requests, read_rounds, read_segments, segments_read, named_entry, slot_after, slot_entry, slot_fault, slot_reading, slot_request, wanted_request, with_libraries};
+ghost use Rattle.ps_reading.specs.SlotReadings.{entry_in, is_left as is_left_spec, outcome_in, request_in, source_in};
 ghost use Rattle.ps_reading.specs.OfLink.{AreOfLink};
 ghost use Rattle.ps_reading.specs.KnownSegments.{IsRead, IsSound, is_in_slot};
 
 pub(crate) mod added;
 pub(crate) mod entries;
 pub(crate) mod libraries;
+pub(crate) mod names;
 pub(crate) mod request;
 pub(crate) mod segment;
 pub(crate) mod slots;
@@ -25,11 +27,13 @@ use crate::reading::added::{
     slot_at,
 };
 use crate::reading::libraries::libraries_fault;
+use crate::reading::names::ReadNames;
 use crate::reading::request::{Request, unit_named};
 use crate::reading::segment::Segment;
 use crate::reading::slots::{HOST_FILE, HostSlots, no_host_fault, slots_fault};
 use crate::reading::sources::{first_fault, read_each_slot, read_slots};
 use crate::reading::unit_slots::UnitSlots;
+use crate::slot_reading::{Absent, SlotReading, why_refused};
 use arrayvec::ArrayVec;
 use ps_codefile::dictionary_layout::{SLOT_COUNT, SLOTS};
 use ps_codefile::{Dict, Entry, Role};
@@ -160,40 +164,6 @@ pub fn read_added<'a>(
     }
 }
 
-/// The request of a slot that wants a unit.
-fn own_request(host: &HostSlots, slot: u8) -> Option<Request>
-    requires { slot < SLOTS }
-    ensures { result ≡ option_and_then (wanted_request host.now.order host.now.file slot)
-        (result_ok (role_of (entry_at host.now.order host.now.file slot))) }
-{
-    match host.role(slot) {
-        Ok(Role::Wanted) => Some(Request::of_slot(host, slot)),
-        Ok(Role::Empty | Role::Plain | Role::Host | Role::Unit) | Err(_) => None,
-    }
-}
-
-/// The request of a name of the queue that takes this empty slot.
-fn queued_request(queue: &[UnitReference], empty: &[u8], slot: u8) -> Option<Request>
-    ensures { result ≡ queued_request_spec queue.now empty.now slot }
-{
-    for (k, other) in empty.iter().enumerate() {
-        if *other == slot {
-            return requested_from_queue(queue, k, slot);
-        }
-    }
-    None
-}
-
-/// The request of the k-th name of the queue, which takes this slot, where there are so many.
-fn requested_from_queue(queue: &[UnitReference], k: usize, slot: u8) -> Option<Request>
-    ensures { result ≡ option_map (λ g. request_of g slot) (slice_get queue.now k) }
-{
-    match queue.get(k) {
-        None => None,
-        Some(requested) => Some(requested.in_slot(slot)),
-    }
-}
-
 /// What was read of a host that can be opened, and of its libraries: of each slot its segment or
 /// its fault, also after the first fault.
 ///
@@ -204,55 +174,47 @@ fn requested_from_queue(queue: &[UnitReference], k: usize, slot: u8) -> Option<R
 pub struct HostReading<'a> {
     slots: HostSlots<'a>,
     libs: &'a [&'a [u8]],
-    /// The empty slots that a unit may be added in, ascending.
-    empty: ArrayVec<u8, MAX_ADDED>,
     /// The segments that have no fault, by slot ascending.
     segments: ArrayVec<Segment<'a>, SLOT_COUNT>,
     /// The fault of the source of each slot, for which it has no segment.
     refused: [Option<Fault>; SLOT_COUNT],
-    /// The names that are requested.
-    queue: ArrayVec<UnitReference, MAX_REQUESTED>,
-    /// The empty slot after those that were given.
-    next: Option<u8>,
-    /// The fault of the first unit that could not be added.
-    last: Option<Fault>,
+    /// What was requested.
+    added: AddedUnits,
     /// The first fault.
     fault: Option<Fault>,
 }
 
 impl<'a> Model for HostReading<'a> {
     ghost use Rattle.ps_reading.specs.Sources.{contents};
-    ghost use Rattle.ps_reading.specs.Readings.{HostFiles, IsReading};
+    ghost use Rattle.ps_reading.specs.Readings.{HostFiles, IsReading, with_libraries};
 
     ghost Value = { HostFiles };
 
-    ghost view = { λ r. record { order = r.slots.order; file = r.slots.file; libs = contents r.libs.now } };
+    ghost view = { λ r. with_libraries r.slots (contents r.libs.now) };
 
-    ghost invariant = { λ r. IsReading r.slots.order r.slots.file (contents r.libs.now) r.empty.items r.segments.items r.refused r.queue.items r.next r.last r.fault };
+    ghost invariant = { λ r. IsReading r.slots (contents r.libs.now) r.segments.items r.refused r.added r.fault };
 }
 
 impl<'a> HostReading<'a> {
     /// Reads the slots of a host that was opened, and its libraries.
     fn of(dict: Dict<'a>, libs: &'a [&'a [u8]]) -> HostReading<'a>
         requires { 512 ≤ length dict.file }
-        ensures { result
-            ≡ record { order = dict.entry.order; file = dict.entry.file; libs = contents libs.now } }
+        ensures { result ≡ with_libraries dict.entry (contents libs.now) }
     {
         let slots = HostSlots::of(dict);
         let mut segments = ArrayVec::new();
-        let refused = read_each_slot(&slots, libs, &mut segments);
+        let mut refused = [None; SLOT_COUNT];
+        read_each_slot(&slots, libs, &mut segments, &mut refused);
         let own = files_fault(&slots, libs).or(first_fault(&refused));
         let added = read_added(&slots, libs, &mut segments);
+        let fault = own.or(added.fault);
         HostReading {
             slots,
             libs,
-            empty: added.empty,
             segments,
             refused,
-            queue: added.queue,
-            next: added.next,
-            last: added.fault,
-            fault: own.or(added.fault),
+            added,
+            fault,
         }
     }
 
@@ -290,18 +252,25 @@ impl<'a> HostReading<'a> {
         self.slots.role(slot)
     }
 
+    /// What names are looked up in.
+    pub(crate) fn names(&self) -> ReadNames<'_, 'a>
+        ensures { result ≡ self.now }
+    {
+        ReadNames {
+            slots: &self.slots,
+            libs: self.libs,
+            segments: self.segments.as_slice(),
+            added: &self.added,
+        }
+    }
+
     /// The request for a unit that a slot, 0 to 15, has, if it has one: its own, where it wants a unit,
     /// or that of a name that is requested, which takes the slot if it is empty.
-    #[tactic(auto, using(crate::proofs::ReadingSlots::request_by))]
     pub fn request(&self, slot: u8) -> Option<Request>
         requires { slot < SLOTS }
-        ensures { result ≡ slot_request self.now.order self.now.file
-            (opened_files self.now.order self.now.libs) slot }
+        ensures { result ≡ request_in self.now slot }
     {
-        if let Some(request) = own_request(&self.slots, slot) {
-            return Some(request);
-        }
-        queued_request(self.queue.as_slice(), self.empty.as_slice(), slot)
+        self.names().request(slot)
     }
 
     /// The fault of the source of a slot.
@@ -319,8 +288,8 @@ impl<'a> HostReading<'a> {
             (opened_files self.now.order self.now.libs))
             (empty_slots_spec self.now.order self.now.file) slot }
     {
-        match self.next {
-            Some(next) if next == slot => self.last,
+        match self.added.next {
+            Some(next) if next == slot => self.added.fault,
             _ => None,
         }
     }
@@ -367,12 +336,11 @@ impl<'a> HostReading<'a> {
         }
     }
 
-    /// Where the segment of a slot, 0 to 15, comes from, also where it is refused: `None` where it
+    /// The entry that the segment of a slot comes from, also where it is refused: `None` where it
     /// has none, or where no library has the unit that it wants or that is requested.
-    pub fn source(&self, slot: u8) -> Option<EntryAt>
+    fn entry_of(&self, slot: u8) -> Option<EntryAt>
         requires { slot < SLOTS }
-        ensures { option_map (λ p. (p.file, p.index)) result ≡ slot_entry self.now.order
-            self.now.file (opened_files self.now.order self.now.libs) slot }
+        ensures { option_map (λ p. (p.file, p.index)) result ≡ entry_in self.now slot }
     {
         if let Some(request) = self.request(slot) {
             return self.entry_of_unit(request.name);
@@ -383,6 +351,65 @@ impl<'a> HostReading<'a> {
                 index: slot,
             }),
             Ok(Role::Empty | Role::Wanted) | Err(_) => None,
+        }
+    }
+
+    /// A unit is requested for a slot, and there is a fault. If nothing was read of the slot, the unit
+    /// was not looked for.
+    fn is_left(&self, slot: u8) -> bool
+        requires { slot < SLOTS }
+        ensures { result ≡ is_left_spec self.now slot }
+    {
+        self.request(slot).is_some() && self.fault.is_some()
+    }
+
+    /// A slot, whose segment comes from there and is this, or is not there for this.
+    fn with<'r>(
+        &self,
+        slot: u8,
+        source: Option<EntryAt>,
+        segment: Option<Result<&'r Segment<'a>, Absent>>,
+    ) -> SlotReading<'r, 'a>
+        requires { slot < SLOTS }
+        ensures entry { result.entry ≡ entry_at self.now.order self.now.file slot }
+        ensures role { result.role ≡ role_of (entry_at self.now.order self.now.file slot) }
+        ensures request { result.request ≡ request_in self.now slot }
+        ensures source { result.source ≡ source }
+        ensures segment { result.segment ≡ segment.entry }
+    {
+        SlotReading {
+            entry: self.entry(slot),
+            role: self.role(slot),
+            request: self.request(slot),
+            source,
+            segment,
+        }
+    }
+
+    /// What was read of a slot, 0 to 15, also after the first fault: what the host's dictionary says
+    /// of it, its role, its request, where its segment comes from, and the segment, or why it has
+    /// none.
+    pub fn slot(&self, slot: u8) -> SlotReading<'_, 'a>
+        requires { slot < SLOTS }
+        ensures entry { result.entry ≡ entry_at self.now.order self.now.file slot }
+        ensures role { result.role ≡ role_of (entry_at self.now.order self.now.file slot) }
+        ensures request { result.request ≡ request_in self.now slot }
+        ensures source { option_map (λ p. (p.file, p.index)) result.source
+            ≡ source_in self.now slot }
+        ensures read { IfSome result.segment (λ r. IfOk r (λ s.
+            outcome_in self.now slot ≡ Some (Ok s.now))) }
+        ensures absent { IfSome result.segment (λ r. IfErr r (λ why.
+            outcome_in self.now slot ≡ Some (Err why))) }
+        ensures none { result.segment ≡ None → outcome_in self.now slot ≡ None }
+    {
+        match self.segment(slot) {
+            Some(Ok(segment)) => self.with(slot, Some(segment.entry()), Some(Ok(segment))),
+            Some(Err(fault)) => {
+                let source = self.entry_of(slot);
+                self.with(slot, source, Some(Err(why_refused(source, fault))))
+            }
+            None if self.is_left(slot) => self.with(slot, None, Some(Err(Absent::NotLookedFor))),
+            None => self.with(slot, None, None),
         }
     }
 
@@ -404,7 +431,7 @@ impl<'a> HostReading<'a> {
         ensures { result.now
             ≡ read_requests self.now.order self.now.file (opened_files self.now.order self.now.libs) }
     {
-        self.queue.as_slice()
+        self.added.queue.as_slice()
     }
 
     /// The first of the requested names for which no empty slot is left, if there is one, with the
@@ -414,7 +441,7 @@ impl<'a> HostReading<'a> {
             (opened_files self.now.order self.now.libs))
             (length (empty_slots_spec self.now.order self.now.file)) }
     {
-        requested_at(&self.queue, self.empty.len())
+        requested_at(&self.added.queue, self.added.empty.len())
     }
 
     /// The segments that have no fault, by slot ascending.
@@ -463,14 +490,17 @@ impl<'a> Model for Reading<'a> {
 pub fn read<'a>(host: &'a [u8], libs: &'a [&'a [u8]]) -> Reading<'a>
     ensures { result ≡ record { host = host.now; libs = contents libs.now } }
 {
-    let read = match Dict::read(host) {
-        Err(reason) => Err(reason),
-        Ok(dict) => Ok(HostReading::of(dict, libs)),
-    };
-    Reading {
-        file: host,
-        libs,
-        host: read,
+    match Dict::read(host) {
+        Err(reason) => Reading {
+            file: host,
+            libs,
+            host: Err(reason),
+        },
+        Ok(dict) => Reading {
+            file: host,
+            libs,
+            host: Ok(HostReading::of(dict, libs)),
+        },
     }
 }
 

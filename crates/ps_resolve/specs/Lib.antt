@@ -28,4 +28,5 @@ pub use Rattle.ps_reading.specs.OfLink
 pub use Rattle.ps_reading.specs.Readings
 pub use Rattle.ps_reading.specs.Requests
 pub use Rattle.ps_reading.specs.Searches
+pub use Rattle.ps_reading.specs.SlotReadings
 pub use Rattle.ps_reading.specs.Sources

@@ -29,8 +29,8 @@ pub use linkage::{Linkage, Stop};
 pub use lone::lone_fault;
 pub use plan::Plan;
 pub use ps_reading::{
-    EntryAt, HostReading, Reading, RecordAt, ReferenceAt, Request, Requester, Segment,
-    Segment as Source, SegmentAt, UnitReference, fault_name, fault_name_in, read, read_linked,
-    slot_names_are_whole,
+    Absent, EntryAt, HostReading, Reading, RecordAt, ReferenceAt, Request, Requester, Segment,
+    Segment as Source, SegmentAt, SlotReading, UnitReference, fault_name, fault_name_in, read,
+    read_linked, slot_names_are_whole,
 };
 pub use resolving::resolve;

@@ -1,5 +1,5 @@
 -- Where segments come from, and what is seen of them.
-use Rattle.std.proofs.Common.{◌≡◌, ◌∙◌, ◌+◌, ◌-◌, ◌<◌, ◌≤◌, ◌++◌, ◌∷◌, [], ℕ, Bor, suc, List, true, false, length, refl, sym, ap, arith}
+use Rattle.std.proofs.Common.{◌≡◌, ◌∙◌, ◌+◌, ◌-◌, ◌<◌, ◌≤◌, ◌++◌, [], ℕ, Bor, suc, List, true, false, refl, sym, ap, arith}
 use Rattle.std.specs.Prelude.{Bool, Option, Some, None, Result, Ok, Err, filter_map, if◌then◌else◌}
 use Rattle.std.specs.List.{cons_option, range_with_len}
 use Rattle.std.specs.Result.{is_ok}
@@ -8,7 +8,7 @@ use Rattle.ps_codefile.specs.Dictionary.{IsViewOf, OpenedFile, entry_at}
 use Rattle.ps_linkinfo.specs.declared.record.LinkRecord.{LinkRecord as Record}
 use Rattle.ps_segments.specs.Seen.{Seen, part_needs_linking}
 use Rattle.ps_segments.specs.SeenSegments.{origin_in, records_at, seen_with}
-use Rattle.ps_segments.specs.declared.segments.Absent.{Absent}
+use Rattle.ps_reading.specs.declared.slot_reading.Absent.{Absent}
 use Rattle.ps_segments.specs.declared.segments.SegmentPart.{SegmentPart}
 
 none_of : (b : Bool) → ◌≡◌ {A = List Record} (if b then [] else []) []

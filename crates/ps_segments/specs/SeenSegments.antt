@@ -1,6 +1,6 @@
 -- The segments of a link as they were read: of each slot of the host its segment, also where it is
 -- refused, and then the first unit for which no slot is left.
-use Rattle.std.specs.Prelude.{ℕ, ◌&&◌, if◌then◌else◌, List, [], ◌++◌, length, nat_lt, slice_get, Bool, true, false, Option, Some, None, Result, Ok, Err, filter_map, is_some, option_and_then}
+use Rattle.std.specs.Prelude.{ℕ, ◌&&◌, if◌then◌else◌, List, [], ◌++◌, length, nat_lt, slice_get, Bool, true, false, Option, Some, None, Result, Ok, Err, filter_map, option_and_then}
 use Rattle.std.specs.List.{cons_option, list_any}
 use Rattle.std.specs.Option.{option_map}
 use Rattle.std.specs.Result.{is_ok}
@@ -13,7 +13,8 @@ use Rattle.ps_codefile.specs.declared.entry.Role.TheVariants as role
 use Rattle.ps_linkinfo.specs.Records.{reading}
 use Rattle.ps_linkinfo.specs.declared.record.LinkRecord.{LinkRecord as Record}
 use Rattle.ps_resolve.specs.Added.{empty_slots}
-use Rattle.ps_resolve.specs.Readings.{HostFiles, all_read, host_reading_fault, opened_host, read_requests, slot_entry, slot_reading, slot_request}
+use Rattle.ps_resolve.specs.Readings.{HostFiles, all_read, opened_host, read_requests}
+use Rattle.ps_resolve.specs.SlotReadings.{outcome_in, reading_in, request_in, source_in}
 use Rattle.ps_resolve.specs.Sources.{Segment, file_at, opened_files}
 use Rattle.ps_reading.specs.declared.reading.added.UnitReference.{UnitReference}
 use Rattle.ps_reading.specs.declared.reading.request.Request.{Request}
@@ -22,31 +23,19 @@ use Rattle.ps_reading.specs.declared.reading.request.Requester.TheVariants as by
 use Rattle.ps_segments.specs.Paths.{host_order}
 use Rattle.ps_segments.specs.Seen.{Origin, Seen, part_needs_linking}
 use Rattle.ps_segments.specs.SegmentParts.{added_by, part_as}
-use Rattle.ps_segments.specs.declared.segments.Absent.{Absent}
-use Rattle.ps_segments.specs.declared.segments.Absent.TheVariants as absent
+use Rattle.ps_reading.specs.declared.slot_reading.Absent.{Absent}
+use Rattle.ps_reading.specs.declared.slot_reading.Absent.TheVariants as absent
 use Rattle.ps_segments.specs.declared.segments.SegmentPart.{SegmentPart}
 use Rattle.ps_segments.specs.declared.segments.SegmentPart.TheVariants as part
 use Rattle.ps_codefile.specs.declared.dictionary_layout.TheConstants.{SLOTS}
 
--- 1. what a reading has: the segments that were read, by slot, the names that are requested, its
--- first fault, and of a slot its request, its entry, what was read of it, and its role
+-- 1. what a reading has: the segments that were read, by slot, the names that are requested, and of a
+-- slot its role
 abbrev pub segments_in : HostFiles → List Segment
 segments_in h = all_read h.order h.file (opened_files h.order h.libs)
 
 abbrev pub requests_in : HostFiles → List UnitReference
 requests_in h = read_requests h.order h.file (opened_files h.order h.libs)
-
-abbrev pub fault_in : HostFiles → Option Fault
-fault_in h = host_reading_fault h.order h.file h.libs
-
-abbrev pub request_in : HostFiles → ℕ → Option Request
-request_in h slot = slot_request h.order h.file (opened_files h.order h.libs) slot
-
-abbrev pub entry_in : HostFiles → ℕ → Option (ℕ × ℕ)
-entry_in h slot = slot_entry h.order h.file (opened_files h.order h.libs) slot
-
-abbrev pub reading_in : HostFiles → ℕ → Option (Result Segment Fault)
-reading_in h slot = slot_reading h.order h.file (opened_files h.order h.libs) slot
 
 abbrev pub role_in : HostFiles → ℕ → Result Role Reason
 role_in h slot = role_of (entry_at h.order h.file slot)
@@ -93,13 +82,13 @@ unfoldable pub seen_read : HostFiles → Segment → Option Seen
 seen_read h s = if s.added && is_of_host h s.name then None else Some (seen_segment h s)
 
 -- 4. a segment that is refused, or that was not looked for
--- the name that a slot of the dictionary has or wants
-abbrev pub name_by : HostFiles → ℕ → Option Request → List ℕ
-name_by h slot None = (entry_at h.order h.file slot).name
-name_by h slot (Some r) = r.name
+-- the name of a slot whose entry has this one and that has this request
+abbrev pub name_by : List ℕ → Option Request → List ℕ
+name_by name None = name
+name_by name (Some r) = r.name
 
-unfoldable pub name_of_slot : HostFiles → ℕ → List ℕ
-name_of_slot h slot = name_by h slot (request_in h slot)
+abbrev pub name_of_slot : HostFiles → ℕ → List ℕ
+name_of_slot h slot = name_by (entry_at h.order h.file slot).name (request_in h slot)
 
 -- what a unit is that is requested; none where it is one of the host's that is refused
 abbrev pub part_by : HostFiles → List ℕ → Requester → Option SegmentPart
@@ -116,13 +105,13 @@ part_of_role (Ok role.Empty) = None
 part_of_role (Ok role.Wanted) = None
 part_of_role (Err why) = None
 
--- what the segment of a slot is; none where there is none
-abbrev pub part_for : HostFiles → ℕ → Option Request → Option SegmentPart
-part_for h slot None = part_of_role (role_in h slot)
-part_for h slot (Some r) = part_by h r.name r.requester
+-- what the segment of a slot of this role is, that has this request; none where there is none
+abbrev pub part_for : HostFiles → Result Role Reason → Option Request → Option SegmentPart
+part_for h role None = part_of_role role
+part_for h role (Some r) = part_by h r.name r.requester
 
-unfoldable pub part_in : HostFiles → ℕ → Option SegmentPart
-part_in h slot = part_for h slot (request_in h slot)
+abbrev pub part_in : HostFiles → ℕ → Option SegmentPart
+part_in h slot = part_for h (role_in h slot) (request_in h slot)
 
 -- the records that can be read at an entry of a file that was opened, if it has a code
 abbrev pub records_at : ℕ → OpenedFile → List Record
@@ -147,10 +136,11 @@ origin_of host libs at = if nat_lt at.1 SLOTS
     then origin_in at.0 at.1 (opened_beside (host_order host) (file_at host libs at.0))
     else Err absent.Missing
 
-abbrev pub origin_at : List ℕ → List (List ℕ) → Option (ℕ × ℕ)
+-- of one that comes from no entry this says why
+abbrev pub origin_at : List ℕ → List (List ℕ) → Option (ℕ × ℕ) → Absent
     → Result (Origin × List Record) Absent
-origin_at host libs None = Err absent.Missing
-origin_at host libs (Some at) = origin_of host libs at
+origin_at host libs None why = Err why
+origin_at host libs (Some at) why = origin_of host libs at
 
 -- what is seen of a segment that comes from there
 abbrev pub place_from : Result (Origin × List Record) Absent → Result Origin Absent
@@ -176,24 +166,20 @@ seen_with slot name what origin = record {
   records = if part_needs_linking what then records_from origin else [];
 }
 
--- what is seen of a segment of a slot that was not read, which comes from there
-unfoldable pub seen_unread : HostFiles → ℕ → Result (Origin × List Record) Absent
-    → Option Seen
-seen_unread h slot origin = option_map
-    (λ what. seen_with (Some slot) (name_of_slot h slot) what origin) (part_in h slot)
+-- what is seen of the segment of a slot that was not read, for this reason
+unfoldable pub seen_absent : List ℕ → List (List ℕ) → HostFiles → ℕ → Absent → Option Seen
+seen_absent host libs h slot why = option_map (λ what. seen_with (Some slot)
+    (name_of_slot h slot) what (origin_at host libs (source_in h slot) why)) (part_in h slot)
 
--- 5. what is seen of the segment of a slot, from what was read of it: after the first fault a unit
--- that is requested is not looked for
-abbrev pub seen_by_reading : List ℕ → List (List ℕ) → HostFiles → ℕ
-    → Option (Result Segment Fault) → Option Seen
-seen_by_reading host libs h slot (Some (Ok s)) = seen_read h s
-seen_by_reading host libs h slot (Some (Err f)) =
-    seen_unread h slot (origin_at host libs (entry_in h slot))
-seen_by_reading host libs h slot None = if is_some (fault_in h)
-    then seen_unread h slot (Err absent.NotLookedFor) else None
+-- 5. what is seen of the segment of a slot, which is this, or is not there for a reason
+abbrev pub seen_by_outcome : List ℕ → List (List ℕ) → HostFiles → ℕ
+    → Option (Result Segment Absent) → Option Seen
+seen_by_outcome host libs h slot (Some (Ok s)) = seen_read h s
+seen_by_outcome host libs h slot (Some (Err why)) = seen_absent host libs h slot why
+seen_by_outcome host libs h slot None = None
 
 unfoldable pub seen_in : List ℕ → List (List ℕ) → HostFiles → ℕ → Option Seen
-seen_in host libs h slot = seen_by_reading host libs h slot (reading_in h slot)
+seen_in host libs h slot = seen_by_outcome host libs h slot (outcome_in h slot)
 
 -- what is seen of a unit that is requested and for which no slot is left
 abbrev pub seen_unit : HostFiles → UnitReference → Option Seen

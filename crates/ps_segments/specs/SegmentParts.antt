@@ -9,8 +9,8 @@ use Rattle.ps_resolve.specs.Sources.{Segment}
 use Rattle.ps_reading.specs.declared.locations.RecordAt.{RecordAt}
 use Rattle.ps_reading.specs.declared.reading.added.UnitReference.{UnitReference}
 use Rattle.ps_filetype.specs.Shown.{shown_name}
-use Rattle.ps_segments.specs.declared.segments.Absent.{Absent}
-use Rattle.ps_segments.specs.declared.segments.Absent.TheVariants as absent
+use Rattle.ps_reading.specs.declared.slot_reading.Absent.{Absent}
+use Rattle.ps_reading.specs.declared.slot_reading.Absent.TheVariants as absent
 use Rattle.ps_segments.specs.declared.segments.SegmentPart.{SegmentPart}
 use Rattle.ps_segments.specs.declared.segments.SegmentPart.TheVariants as part
 
@@ -53,6 +53,7 @@ part_words (part.Added requester rec) = codes "a unit that record "
 
 -- why a segment comes from nowhere
 abbrev pub absence_words : Absent → List ℕ
+absence_words (absent.Refused f) = codes ", refused"
 absence_words absent.Missing = codes ", which no library has"
 absence_words absent.NoSlot = codes ", for which no slot is left"
 absence_words absent.NotLookedFor = codes ", not looked for after the fault"

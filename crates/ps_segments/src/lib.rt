@@ -7,5 +7,5 @@ mod segments;
 
 pub use named_files::NamedFiles;
 pub use segments::{
-    Absent, ReadSegment, SegmentPart, Source, host_of, in_slot, length_of, segments_of,
+    ReadSegment, SegmentPart, Source, host_of, in_slot, length_of, segments_of, words_of,
 };

@@ -6,11 +6,11 @@ ghost use Rattle.ps_codefile.specs.Dictionary.{opened_beside, slots};
 ghost use Rattle.ps_linkinfo.specs.Records.{used_by};
 ghost use Rattle.ps_resolve.specs.Readings.{opened_host};
 ghost use Rattle.ps_resolve.specs.Sources.{contents, file_at};
-ghost use Rattle.ps_segments.specs.declared.segments.Absent.TheVariants.{NotLookedFor};
+ghost use Rattle.ps_resolve.specs.SlotReadings.{reading_in};
 ghost use Rattle.ps_segments.specs.Paths.{host_order};
 ghost use Rattle.ps_segments.specs.SegmentParts.{absence_words, added_by, is_added as is_added_spec, is_unit as is_unit_spec, name_in as name_in_spec, part_added as part_added_spec, part_as, part_words, requester_of as requester_of_spec};
 ghost use Rattle.ps_segments.specs.Seen.{is_host_part, part_needs_linking, seen};
-ghost use Rattle.ps_segments.specs.SeenSegments.{is_fault, is_for_unit as is_for_unit_spec, is_of_host as is_of_host_spec, is_refused_unit as is_refused_unit_spec, name_of_slot as name_of_slot_spec, origin_at, origin_in, origin_of, entry_in, part_by, part_in as part_in_spec, part_of_role, reading_in, records_at as records_at_spec, role_in, seen_as, seen_by, seen_in, seen_of, seen_read, seen_segment, seen_unit, seen_unread, seen_with, unplaced};
+ghost use Rattle.ps_segments.specs.SeenSegments.{is_fault, is_for_unit as is_for_unit_spec, is_of_host as is_of_host_spec, is_refused_unit as is_refused_unit_spec, name_by, origin_at, origin_in, origin_of, part_by, part_for, part_of_role, records_at as records_at_spec, role_in, seen_as, seen_by, seen_in, seen_of, seen_read, seen_segment, seen_unit, seen_with, unplaced};
 
 use crate::named_files::NamedFiles;
 use ps_codefile::dictionary_layout::SLOTS;
@@ -18,7 +18,8 @@ use ps_codefile::{Dict, Entry, Role};
 use ps_filetype::ShownName;
 use ps_linkinfo::LinkInformation;
 use ps_resolve::{
-    EntryAt, HostReading, Reading, RecordAt, Request, Requester, Segment, UnitReference,
+    Absent, EntryAt, HostReading, Reading, RecordAt, Request, Requester, Segment, SlotReading,
+    UnitReference,
 };
 use ps_words::{Name, Order, Reason};
 use std::alloc::{AllocError, Allocator};
@@ -104,26 +105,16 @@ pub struct Source<'a> {
     pub code: Result<&'a [u8], Reason>,
 }
 
-/// Why a segment of a link comes from nowhere. Its text is a phrase, as `, which no library has`.
-#[derive(Clone, Copy)]
-pub enum Absent {
-    /// No library has the unit.
-    Missing,
-    /// No empty slot of the host is left for the unit.
-    NoSlot,
-    /// The unit is requested after the first fault, so no library was searched for it.
-    NotLookedFor,
-}
-
-impl fmt::Display for Absent {
-    ghost output = { λ absent. Some (absence_words absent) };
-
-    fn fmt<W: fmt::Write>(&self, f: &mut Formatter<W>) -> fmt::Result {
-        match *self {
-            Absent::Missing => f.write_str(", which no library has"),
-            Absent::NoSlot => f.write_str(", for which no slot is left"),
-            Absent::NotLookedFor => f.write_str(", not looked for after the fault"),
-        }
+/// Why a segment of a link comes from nowhere, in words that follow its name, as `, which no library
+/// has`.
+pub fn words_of(absent: Absent) -> &'static str
+    ensures { result.now ≡ absence_words absent }
+{
+    match absent {
+        Absent::Refused(_) => ", refused",
+        Absent::Missing => ", which no library has",
+        Absent::NoSlot => ", for which no slot is left",
+        Absent::NotLookedFor => ", not looked for after the fault",
     }
 }
 
@@ -134,7 +125,7 @@ pub struct ReadSegment<'a> {
     pub slot: Option<u8>,
     pub name: Name,
     pub part: SegmentPart,
-    /// Where the segment comes from, or why from nowhere.
+    /// Where the segment comes from, also where it is refused, or why from nowhere.
     pub source: Result<Source<'a>, Absent>,
     /// The records of the segment, up to the first that cannot be read; none where they are not to
     /// be read.
@@ -368,18 +359,6 @@ fn read_from<'a>(
     }
 }
 
-/// The name that a slot of the dictionary has or wants.
-#[tactic(auto, unfolding(crate::specs::SeenSegments::name_of_slot))]
-fn name_of_slot(host: &HostReading<'_>, slot: u8) -> Name
-    requires { slot < SLOTS }
-    ensures { result ≡ name_of_slot_spec host.now slot }
-{
-    match host.request(slot) {
-        Some(request) => request.name,
-        None => host.entry(slot).name,
-    }
-}
-
 /// A slot of the host has or wants a unit.
 fn is_for_unit(host: &HostReading<'_>, slot: u8) -> bool
     requires { slot < SLOTS }
@@ -433,12 +412,11 @@ fn requested_part(host: &HostReading<'_>, request: Request) -> Option<SegmentPar
     }
 }
 
-/// What the segment of a slot is that is not requested; none where there is none.
-fn own_part(host: &HostReading<'_>, slot: u8) -> Option<SegmentPart>
-    requires { slot < SLOTS }
-    ensures { result ≡ part_of_role (role_in host.now slot) }
+/// What the segment of a slot of this role is, that is not requested; none where there is none.
+fn own_part(role: Result<Role, Reason>) -> Option<SegmentPart>
+    ensures { result ≡ part_of_role role }
 {
-    match host.role(slot) {
+    match role {
         Ok(Role::Plain) => Some(SegmentPart::Plain),
         Ok(Role::Host) => Some(SegmentPart::Host),
         Ok(Role::Unit) => Some(SegmentPart::Unit),
@@ -447,65 +425,61 @@ fn own_part(host: &HostReading<'_>, slot: u8) -> Option<SegmentPart>
 }
 
 /// What the segment of a slot is that was not read; none where there is none.
-#[tactic(auto, unfolding(crate::specs::SeenSegments::part_in))]
-fn part_in(host: &HostReading<'_>, slot: u8) -> Option<SegmentPart>
-    requires { slot < SLOTS }
-    ensures { result ≡ part_in_spec host.now slot }
+fn part_in(host: &HostReading<'_>, read: &SlotReading<'_, '_>) -> Option<SegmentPart>
+    ensures { result ≡ part_for host.now read.now.role read.now.request }
 {
-    match host.request(slot) {
+    match read.request {
         Some(request) => requested_part(host, request),
-        None => own_part(host, slot),
+        None => own_part(read.role),
     }
 }
 
-/// The segment of a slot, which is this and is refused.
-fn refused_as<'a>(
-    inputs: &NamedFiles<'a>,
-    host: &HostReading<'a>,
-    slot: u8,
-    part: SegmentPart,
-) -> ReadSegment<'a>
-    requires { slot < SLOTS }
-    ensures { seen result ≡ seen_with (Some slot) (name_of_slot_spec host.now slot) part
-        (origin_at inputs.now.host.now (contents inputs.now.libs.now) (entry_in host.now slot)) }
+/// The name that a slot of the dictionary has or wants.
+fn name_of(read: &SlotReading<'_, '_>) -> Name
+    ensures { result ≡ name_by read.now.entry.name read.now.request }
 {
-    let name = name_of_slot(host, slot);
-    match host.source(slot) {
-        None => without_entry(Some(slot), name, part, Absent::Missing),
+    match read.request {
+        Some(request) => request.name,
+        None => read.entry.name,
+    }
+}
+
+/// The segment of a slot that was not read, which is this: where it comes from, or why from nowhere.
+fn absent_as<'a>(
+    inputs: &NamedFiles<'a>,
+    slot: u8,
+    read: &SlotReading<'_, '_>,
+    part: SegmentPart,
+    why: Absent,
+) -> ReadSegment<'a>
+    ensures { seen result ≡ seen_with (Some slot) (name_by read.now.entry.name read.now.request)
+        part (origin_at inputs.now.host.now (contents inputs.now.libs.now)
+        (option_map (λ p. (p.file, p.index)) read.now.source) why) }
+{
+    let name = name_of(read);
+    match read.source {
+        None => without_entry(Some(slot), name, part, why),
         Some(at) => read_from(inputs, slot, name, part, at),
     }
 }
 
-/// The segment of a slot that is refused; none where a unit was requested there that is one of the
-/// host's.
-#[tactic(auto, unfolding(crate::specs::SeenSegments::seen_unread))]
-fn refused_segment<'a>(
+/// The segment of a slot that was not read, for this reason; none where a unit was requested there
+/// that is one of the host's.
+fn absent_segment<'a>(
     inputs: &NamedFiles<'a>,
     host: &HostReading<'a>,
     slot: u8,
+    read: &SlotReading<'_, '_>,
+    why: Absent,
 ) -> Option<ReadSegment<'a>>
-    requires { slot < SLOTS }
-    ensures { option_map seen result ≡ seen_unread host.now slot (origin_at inputs.now.host.now
-        (contents inputs.now.libs.now) (entry_in host.now slot)) }
+    ensures { option_map seen result ≡ option_map (λ part. seen_with (Some slot)
+        (name_by read.now.entry.name read.now.request) part (origin_at inputs.now.host.now
+        (contents inputs.now.libs.now) (option_map (λ p. (p.file, p.index)) read.now.source) why))
+        (part_for host.now read.now.role read.now.request) }
 {
-    match part_in(host, slot) {
+    match part_in(host, read) {
         None => None,
-        Some(part) => Some(refused_as(inputs, host, slot, part)),
-    }
-}
-
-/// The segment of a slot that was not looked for; none where there is none.
-#[tactic(auto, unfolding(crate::specs::SeenSegments::seen_unread))]
-fn segment_left<'a>(host: &HostReading<'a>, slot: u8) -> Option<ReadSegment<'a>>
-    requires { slot < SLOTS }
-    ensures { option_map seen result ≡ seen_unread host.now slot (Err NotLookedFor) }
-{
-    match part_in(host, slot) {
-        None => None,
-        Some(part) => {
-            let name = name_of_slot(host, slot);
-            Some(without_entry(Some(slot), name, part, Absent::NotLookedFor))
-        }
+        Some(part) => Some(absent_as(inputs, slot, read, part, why)),
     }
 }
 
@@ -520,10 +494,10 @@ fn segment_in<'a>(
     ensures { option_map seen result ≡ seen_in inputs.now.host.now
         (contents inputs.now.libs.now) host.now slot }
 {
-    match host.segment(slot) {
+    let read = host.slot(slot);
+    match read.segment {
         Some(Ok(segment)) => segment_read(host, segment),
-        Some(Err(_)) => refused_segment(inputs, host, slot),
-        None if host.fault().is_some() => segment_left(host, slot),
+        Some(Err(why)) => absent_segment(inputs, host, slot, &read, why),
         None => None,
     }
 }

@@ -4,7 +4,7 @@ ghost use Rattle.ps_linkinfo.specs.declared.record.LinkRecord.{LinkRecord as Rec
 ghost use Rattle.ps_codefile.specs.Roles.{needs_linking as needs_linking_spec};
 ghost use Rattle.ps_reading.specs.KnownSegments.{has_records_at, HasRecordsAt};
 
-use crate::locations::SegmentAt;
+use crate::locations::{EntryAt, SegmentAt};
 use ps_codefile::{ProcedureDictionary, Role};
 use ps_linkinfo::LinkInformation;
 use ps_words::{Name, Order, blocks_of};
@@ -184,6 +184,16 @@ impl<'a> Segment<'a> {
         SegmentAt {
             file: self.file,
             slot: self.slot,
+        }
+    }
+
+    /// The entry that the segment comes from.
+    pub(crate) fn entry(&self) -> EntryAt
+        ensures { result ≡ record { file = self.now.file; index = self.now.index } }
+    {
+        EntryAt {
+            file: self.file,
+            index: self.index,
         }
     }
 

@@ -129,26 +129,26 @@ fn add_segment<'a>(
     }
 }
 
-/// Reads the host's own slots as [`read_slots`] does, and keeps the fault of the source of each.
+/// Reads the host's own slots as [`read_slots`] does, and puts the fault of the source of each into the
+/// table of faults.
 pub(crate) fn read_each_slot<'a>(
     host: &HostSlots<'a>,
     libs: &'a [&'a [u8]],
     segments: &mut ArrayVec<Segment<'a>, SLOT_COUNT>,
-) -> [Option<Fault>; SLOT_COUNT]
+    refused: &mut [Option<Fault>; SLOT_COUNT],
+)
     requires { segments.old.items ≡ [] }
-    ensures faults { result ≡ own_faults host.now.order host.now.file
+    ensures faults { refused.new ≡ own_faults host.now.order host.now.file
         (opened host.now.order libs.now) }
     ensures segments { segments.new.items
         ≡ read_segments host.now.order host.now.file (opened host.now.order libs.now) }
     ensures read { All (IsRead host.now.order host.now.file (opened host.now.order libs.now))
         segments.new.items }
 {
-    let mut faults = [None; SLOT_COUNT];
     for slot in 0..SLOTS {
         let read = read_slot(host, libs, slot, segments.as_slice());
-        faults[slot as usize] = add_segment(segments, read);
+        refused[slot as usize] = add_segment(segments, read);
     }
-    faults
 }
 
 /// The first of these faults, which are those of the slots in their order.

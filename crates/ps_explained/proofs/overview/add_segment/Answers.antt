@@ -5,7 +5,7 @@ use Rattle.ps_resolve.specs.Sources.{contents}
 use Rattle.ps_segments.specs.Paths.{path_of}
 use Rattle.ps_segments.specs.Seen.{origin_by}
 use Rattle.ps_segments.specs.SegmentParts.{absence_words}
-use Rattle.ps_segments.specs.declared.segments.Absent.{Absent}
+use Rattle.ps_reading.specs.declared.slot_reading.Absent.{Absent}
 use Rattle.ps_segments.specs.declared.segments.Source.{Source}
 use Rattle.ps_explained.specs.SegmentLines.{from_words, head_words, line_in_slot, origin_words}
 use Rattle.ps_explained.specs.SlotLines.{AddsSlotLines}

@@ -1,13 +1,11 @@
 use Rattle.std.proofs.Common.{◌∙◌, sym, ap}
-use Rattle.ps_segments.specs.SeenSegments.{part_for, part_in}
+use Rattle.ps_segments.specs.SeenSegments.{part_for}
 use Rattle.ps_segments.proofs.segments.part_in.Goals as goal
 
 pub returns-in-Some : goal.returns-in-Some
-unfolding part_in
 returns-in-Some c = c.requested_part.ensures
-    ∙ sym (ap (part_for c.args.host.now c.args.slot) (sym c.request.ensures ∙ c.in-Some.is))
+    ∙ sym (ap (part_for c.args.host.now c.args.read.now.role) c.in-Some.is)
 
 pub returns-in-None : goal.returns-in-None
-unfolding part_in
 returns-in-None c = c.own_part.ensures
-    ∙ sym (ap (part_for c.args.host.now c.args.slot) (sym c.request.ensures ∙ c.in-None.is))
+    ∙ sym (ap (part_for c.args.host.now c.args.read.now.role) c.in-None.is)

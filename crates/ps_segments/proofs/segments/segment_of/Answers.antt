@@ -4,7 +4,7 @@ use Rattle.ps_resolve.specs.Sources.{Segment}
 use Rattle.ps_segments.specs.Seen.{Seen}
 use Rattle.ps_segments.specs.SegmentParts.{added_by}
 use Rattle.ps_segments.specs.SeenSegments.{seen_with, segments_in}
-use Rattle.ps_segments.specs.declared.segments.Absent.TheVariants.{NoSlot}
+use Rattle.ps_reading.specs.declared.slot_reading.Absent.TheVariants.{NoSlot}
 use Rattle.ps_segments.specs.declared.segments.SegmentPart.{SegmentPart}
 use Rattle.ps_segments.proofs.segments.segment_of.Goals as goal
 

@@ -8,7 +8,7 @@ returns-in-Some c =
     let o = c.self.inside.slots in
     let files = opened_files o.order (contents c.self.inside.libs.now) in
     subst
-    (λ (v : HostFiles). c.self.inside.last
+    (λ (v : HostFiles). c.self.inside.added.fault
     ≡ fault_of_added (read_rounds v.order v.file (opened_files v.order v.libs))
     (empty_slots v.order v.file) c.args.slot)
     c.self.view_is

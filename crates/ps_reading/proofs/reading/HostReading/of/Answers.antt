@@ -22,14 +22,14 @@ invariant_of-result c =
       slots_left = added.ensures.empty;
       all = added.ensures.all;
       read = added.ensures.read;
-      faults = c.read_each_slot-refused.ensures.faults;
+      faults = c.read_each_slot.ensures.faults;
       requested = added.ensures.requested;
       following = added.ensures.following;
       ends = added.ensures.ends;
-      first = c.or.ensures ∙ units_last host.order host.file libs c.or-own.result
+      first = c.or-fault.ensures ∙ units_last host.order host.file libs c.or-own.result
           added.result.fault (own_is host.order host.file libs c.files_fault.result
           c.first_fault.result c.or-own.result c.or-own.ensures c.files_fault.ensures
           (c.first_fault.ensures ∙ first_of_slots host.order host.file
-          (opened_files host.order libs) c.read_each_slot-refused.result
-          c.read_each_slot-refused.ensures.faults)) added.ensures.ends;
+          (opened_files host.order libs) c.read_each_slot.new.refused
+          c.read_each_slot.ensures.faults)) added.ensures.ends;
     }

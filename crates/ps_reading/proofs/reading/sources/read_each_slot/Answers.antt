@@ -1,4 +1,4 @@
-use Rattle.ps_reading.proofs.Vocabulary.{◌≡◌, ◌+◌, ◌<◌, ◌≤◌, ◌∙◌, ℕ, List, append-nil, Option, Result, length, take, map, refl, sym, subst, arith, IfSome, option_and_then, range_with_len, result_ok, take_all, take_more_set, map-range_with_len_more, common_steps, All-nil, Fault, Segment, opened, is_none, if◌then◌else◌, None, Some, IsRead, SLOT_COUNT, SLOTS}
+use Rattle.ps_reading.proofs.Vocabulary.{◌≡◌, ◌<◌, ◌≤◌, ◌∙◌, ℕ, append-nil, Option, length, take, map, refl, sym, subst, arith, option_and_then, range_with_len, result_ok, take_all, take_more_set, map-range_with_len_more, common_steps, All-nil, Segment, opened, IsRead, SLOT_COUNT, SLOTS}
 use Rattle.ps_reading.specs.Sources.{own_segment}
 use Rattle.ps_reading.specs.Faults.{source_fault}
 use Rattle.ps_reading.specs.Readings.{own_faults, read_segment, read_segments}
@@ -8,7 +8,7 @@ use Rattle.ps_reading.proofs.reading.sources.read_each_slot.Goals as goal
 pub loop-slot-init : goal.loop-slot-init
 unfolding read_segments
 loop-slot-init c = rw c.requires
-    (record { table = refl; faults = refl; all = refl; read = All-nil _; few = omega arith })
+    (record { table = c.told-refused; faults = refl; all = refl; read = All-nil _; few = omega arith })
 
 pub read_slot-read-requires-clause-read : goal.read_slot-read-requires-clause-read
 read_slot-read-requires-clause-read c = rw c.as_slice.ensures.value c.loop-slot.invariant.read
@@ -28,8 +28,8 @@ loop-slot-preserved c =
     ∙ by_fault (source_fault order host libs i) (own_segment order host libs i) in
     let fault : c.add_segment.result ≡ source_fault order host libs i =
     c.add_segment.ensures.fault ∙ c.read_slot-read.ensures.fault in
-    let in_table : i < length c.loop-slot.faults = omega (arith, inv.table) in
-    let fault_set = take_more_set c.loop-slot.faults i c.add_segment.result in_table in
+    let in_table : i < length c.loop-slot.refused = omega (arith, inv.table) in
+    let fault_set = take_more_set c.loop-slot.refused i c.add_segment.result in_table in
     record {
       table = grind (arith, common_steps);
       faults =
@@ -53,9 +53,9 @@ returns-clause-faults c =
     let order = c.args.host.now.order in
     let libs = opened order c.args.libs.now in
     let done : c.loop-slot.slot ≡ SLOTS = omega arith in
-    let whole : length c.loop-slot.faults ≤ SLOT_COUNT = omega (arith, inv.table) in
-    sym (take_all SLOTS c.loop-slot.faults whole)
-    ∙ subst (λ (n : ℕ). take n c.loop-slot.faults
+    let whole : length c.loop-slot.refused ≤ SLOT_COUNT = omega (arith, inv.table) in
+    sym (take_all SLOTS c.loop-slot.refused whole)
+    ∙ subst (λ (n : ℕ). take n c.loop-slot.refused
     ≡ map (source_fault order c.args.host.now.file libs) (range_with_len 0 n)) done inv.faults
 
 pub returns-clause-segments : goal.returns-clause-segments

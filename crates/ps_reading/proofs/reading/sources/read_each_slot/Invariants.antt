@@ -8,8 +8,8 @@ invariant-loop-slot l =
     let host = l.host.file in
     let libs = opened order l.libs in
     record {
-      table : length l.faults ≡ SLOT_COUNT;
-      faults : take l.slot l.faults
+      table : length l.refused ≡ SLOT_COUNT;
+      faults : take l.slot l.refused
           ≡ map (source_fault order host libs) (range_with_len 0 l.slot);
       all : read_segments order host libs ≡ l.segments.items
           ++ filter_map (read_segment order host libs) (range_with_len l.slot (SLOTS - l.slot));

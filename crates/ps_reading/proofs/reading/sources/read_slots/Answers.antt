@@ -1,4 +1,4 @@
-use Rattle.ps_reading.proofs.Vocabulary.{rules, ◌≡◌, ◌+◌, ◌<◌, ◌∙◌, ◌-◌, ℕ, List, append-nil, if◌then◌else◌, true, Option, Some, None, Result, Ok, Err, refl, sym, arith, is_none, IfOk, IfSome, option_and_then, range_with_len, option_or, result_err, result_ok, All-nil, Fault, Segment, opened, is_empty, first_of, SLOTS}
+use Rattle.ps_reading.proofs.Vocabulary.{rules, ◌≡◌, ◌+◌, ◌<◌, ◌∙◌, ◌-◌, ℕ, List, append-nil, true, Option, Some, None, refl, sym, arith, range_with_len, option_or, All-nil, Fault, Segment, opened, is_empty, first_of, SLOTS}
 use Rattle.ps_reading.specs.Faults.{is_role, source_fault, sources_fault}
 use Rattle.ps_reading.specs.Readings.{read_segment, read_segments}
 use Rattle.ps_reading.proofs.BySlot.{fine_of_empty, none_of_empty}

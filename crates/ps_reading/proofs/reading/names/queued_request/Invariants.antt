@@ -1,5 +1,5 @@
 use Rattle.ps_reading.proofs.Vocabulary.{◌≡◌, ◌==◌, drop, option_and_then, option_map, enumerate_from, find, slice_get, request_of, queued_request}
-use Rattle.ps_reading.proofs.reading.queued_request.Given as goal
+use Rattle.ps_reading.proofs.reading.names.queued_request.Given as goal
 
 -- the slot is the first of those that are left, where it is one of all
 abbrev pub invariant-loop-k : goal.invariant-loop-k
