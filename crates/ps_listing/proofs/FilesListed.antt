@@ -1,15 +1,22 @@
 -- The lists of files, one after another.
 use Rattle.std.proofs.Common.{◌≡◌, ◌≤◌, ◌<◌, ◌⊎◌, ◌+◌, ◌++◌, ◌∷◌, [], ℕ, Bool, Bor, List, ap, get_or, true, false, inl, inr, drop, length, refl, sym, subst, arith}
-use Rattle.std.specs.Prelude.{min, nat_le}
+use Rattle.std.specs.Prelude.{codes, min, nat_le}
 use Rattle.std.proofs.lemmas.Bool.Decides.{nat_tests}
 use Rattle.std.proofs.lemmas.List.{append_assoc, drop_all, drop_more}
 use Rattle.ps_resolve.specs.Sources.{contents}
 use Rattle.ps_writing.specs.JsonText.{line_end}
-use Rattle.ps_writing.specs.declared.rows.Form.TheVariants.{Lines}
+use Rattle.ps_codefile.specs.Opened.{opened}
+use Rattle.ps_writing.specs.Rows.{by_form}
+use Rattle.ps_writing.specs.declared.rows.Form.{Form}
+use Rattle.ps_writing.specs.declared.rows.Form.TheVariants.{Json, Lines}
 use Rattle.ps_listing.specs.FileLists.{AreListed, Listed, listed, listed_from, listed_units}
-use Rattle.ps_listing.specs.ListText.{listed_in}
+use Rattle.ps_listing.specs.Listed.{segments_found, values_of}
+use Rattle.ps_listing.specs.ListText.{file_in, listed_in, segments_in}
 use Rattle.ps_listing.specs.Phrases.{IsPhrase}
-use Rattle.ps_listing.specs.LoneText.{listed_with_units, lone_text}
+use Rattle.ps_listing.specs.LoneText.{listed_with_units, lone_items, lone_text}
+use Rattle.ps_listing.specs.declared.listed_file.FileValues.{FileValues}
+use Rattle.ps_listing.specs.declared.lone.LoneUnit.{LoneUnit}
+use Rattle.ps_listing.specs.declared.segments.ListedSegment.{ListedSegment}
 use Rattle.ps_listing.specs.declared.lists.ListForm.{ListForm}
 use Rattle.ps_listing.specs.declared.lists.ListForm.TheVariants as form
 
@@ -88,3 +95,25 @@ items_left first files i one h = ap (λ (ls : List Listed). listed_from first ls
 pub items_over : (first : Bool) (files : List Listed) (i : ℕ) → length files ≤ i
     → listed_from first (drop i files) ≡ []
 items_over first files i le = ap (λ (ls : List Listed). listed_from first ls) (drop_all i files le)
+
+-- what is added of these values and segments is what is listed of the file that has them
+pub listed_is : (how : Form) (l : Listed) (path phrase : List ℕ) (v : FileValues)
+    (ss : List ListedSegment) → path ≡ l.path → phrase ≡ l.phrase
+    → v ≡ values_of (length l.file) (opened l.file)
+    → ss ≡ segments_found l.phrase (opened l.file)
+    → file_in how path phrase v ++ segments_in how path true ss
+    ++ by_form how [] (codes "\n]}") ≡ listed_in how l.path l.phrase l.file
+unfolding listed_in
+listed_is how l path phrase v ss at_path said values has = rw (at_path, said, values, has) refl
+
+pub listed_with : (l : Listed) (path phrase : List ℕ) (v : FileValues) (ss : List ListedSegment)
+    (units : List LoneUnit) → path ≡ l.path → phrase ≡ l.phrase
+    → v ≡ values_of (length l.file) (opened l.file)
+    → ss ≡ segments_found l.phrase (opened l.file)
+    → units ≡ listed_units l.how l.file
+    → file_in Json path phrase v ++ segments_in Json path true ss
+    ++ codes "\n],\"units\":[" ++ lone_items true units ++ codes "\n]}"
+    ≡ listed_with_units l.path l.phrase l.file (listed_units l.how l.file)
+unfolding listed_with_units
+listed_with l path phrase v ss units at_path said values has alone =
+    rw (at_path, said, values, has, alone) refl

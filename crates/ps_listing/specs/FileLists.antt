@@ -54,9 +54,9 @@ listed_units form.Units file = lone_units file
 listed_units form.JsonUnits file = lone_units file
 
 -- what a file that is listed was opened as, and its segments, and its units where they are listed
-pub record IsListing (how : ListForm) (phrase file : List ℕ) (as : Result OpenedFile Reason)
+pub record IsListing (how : ListForm) (phrase file : List ℕ) (read : Result OpenedFile Reason)
     (segments : List ListedSegment) (units : List LoneUnit) : Type 0 where
-  pub opens : as ≡ opened file
+  pub opens : read ≡ opened file
   pub has : segments ≡ segments_found phrase (opened file)
   pub alone : units ≡ listed_units how file
 

@@ -7,9 +7,7 @@ use Rattle.std.specs.List.{flat_map, suffix_len}
 use Rattle.ps_words.specs.declared.order.Order.{Order}
 use Rattle.ps_words.specs.declared.order.Order.TheVariants.{Little, Big}
 use Rattle.ps_words.specs.FaultText.{number_of, name_of}
-use Rattle.ps_words.specs.declared.fault.Reason.{Reason}
 use Rattle.ps_words.specs.declared.fault.Fault.{Fault}
-use Rattle.ps_codefile.specs.Dictionary.{OpenedFile}
 use Rattle.ps_codefile.specs.Opened.{opened}
 use Rattle.ps_codefile.specs.declared.entry.Role.{Role}
 use Rattle.ps_codefile.specs.declared.entry.Role.TheVariants as role
@@ -26,7 +24,7 @@ use Rattle.ps_writing.specs.declared.rows.Form.TheVariants.{Lines, Json}
 use Rattle.ps_filetype.specs.Shown.{is_hidden}
 use Rattle.ps_filetype.specs.CodeFiles.{code_file_word}
 use Rattle.ps_filetype.specs.declared.code_file.CodeFile.{CodeFile}
-use Rattle.ps_listing.specs.Listed.{no_values, segments_of, values_of}
+use Rattle.ps_listing.specs.Listed.{no_values, segments_found, values_of}
 use Rattle.ps_listing.specs.declared.segments.ListedSegment.{ListedSegment}
 use Rattle.ps_listing.specs.declared.listed_file.FileValues.{FileValues}
 

@@ -1,5 +1,5 @@
 -- What files have, as values: those of a file, and those of each of its segments.
-use Rattle.std.specs.Prelude.{ℕ, ◌==◌, ◌||◌, not, is_none, is_err, if◌then◌else◌, List, [], length, Bool, true, false, Option, Some, None, Result, Ok, Err}
+use Rattle.std.specs.Prelude.{ℕ, ◌==◌, ◌||◌, not, is_none, is_err, if◌then◌else◌, List, [], length, Bool, true, Option, Some, None, Result, Ok, Err}
 use Rattle.std.specs.List.{filter_map, list_any}
 use Rattle.ps_words.specs.FaultPlaces.{in_file, in_slot}
 use Rattle.ps_words.specs.declared.order.Order.{Order}

@@ -16,8 +16,8 @@ use Rattle.ps_writing.specs.JsonText.{line_end}
 use Rattle.ps_writing.specs.Rows.{InSlot, value_in}
 use Rattle.ps_writing.specs.declared.rows.Form.TheVariants.{Json}
 use Rattle.ps_writing.specs.Lines.{line, shown_name, two_digits}
-use Rattle.ps_listing.specs.Listed.{values_of}
-use Rattle.ps_listing.specs.ListText.{fault_in, file_in, no_fault_in, refused_words, segments_as, shown_path}
+use Rattle.ps_listing.specs.Listed.{segments_found, values_of}
+use Rattle.ps_listing.specs.ListText.{fault_in, file_in, no_fault_in, refused_words, segments_in, shown_path}
 use Rattle.ps_listing.specs.declared.lone.LoneUnit.{LoneUnit}
 
 -- the unit in a slot of this role, where the file has its code

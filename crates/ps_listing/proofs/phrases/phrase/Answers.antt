@@ -1,5 +1,5 @@
 use Rattle.std.proofs.Common.{◌∙◌, string_bytes, sym}
-use Rattle.ps_listing.proofs.PhraseWords.{code_phrase, type_phrase}
+use Rattle.ps_listing.proofs.PhraseWords.{code_phrase}
 use Rattle.ps_listing.proofs.phrases.phrase.Goals as goal
 
 pub returns-then-is_code : goal.returns-then-is_code
