@@ -1,5 +1,5 @@
 -- The line of a segment is one line, and begins with `slot `.
-use Rattle.std.proofs.Common.{◌≡◌, ◌++◌, ◌∷◌, ◌+◌, ◌/◌, ◌%◌, ◌==◌, [], ℕ, Bool, List, true, false, not, codes, refl, arith}
+use Rattle.std.proofs.Common.{◌≡◌, ◌++◌, ◌∷◌, ◌+◌, ◌/◌, ◌%◌, ◌==◌, [], ℕ, List, true, not, codes, refl, arith}
 use Rattle.std.specs.Prelude.{Option, Some, None, decimal}
 use Rattle.std.specs.Str.{IsUtf8}
 use Rattle.ps_filetype.specs.Shown.{shown_name, shown_path}

@@ -1,7 +1,7 @@
 -- Where the files of a link are read without a fault, the lines of the segments as they were read are
 -- those of the segments of the link.
 use Rattle.std.proofs.Common.{◌≡◌, ◌∙◌, ◌++◌, ◌∷◌, ◌<◌, [], ℕ, List, true, false, append-nil, length, map, refl, sym, ap, subst, arith}
-use Rattle.std.specs.Prelude.{◌==◌, ◌&&◌, All, Bool, Err, None, Ok, Option, Result, Some, filter_map, if◌then◌else◌, is_some, option_and_then, slice_get}
+use Rattle.std.specs.Prelude.{◌&&◌, All, Bool, Err, None, Ok, Option, Result, Some, filter_map, if◌then◌else◌, is_some, option_and_then, slice_get}
 use Rattle.std.specs.List.{cons_option, find, list_any}
 use Rattle.std.specs.Option.{option_map}
 use Rattle.std.proofs.lemmas.Grind.{flat_map-append}
@@ -64,6 +64,11 @@ not_both : {X : Type 0} (b c : Bool) (x : X) → c ≡ false
 not_both true c x h = rw h refl
 not_both false c x h = refl
 
+neither : {X : Type 0} (b c : Bool) (x : Option X) → c ≡ false
+    → (if b && c then x else None) ≡ None
+neither true c x h = rw h refl
+neither false c x h = refl
+
 module _ (paths : List (List ℕ)) (host : List ℕ) (libs : List (List ℕ)) (v : HostFiles)
     (none : first_in v ≡ None) where
   abbrev all : List Segment
@@ -94,9 +99,8 @@ module _ (paths : List (List ℕ)) (host : List ℕ) (libs : List (List ℕ)) (v
       → seen_by_outcome host libs v slot (outcome_by v slot (kept o))
       ≡ option_map (seen_segment v) o
   unfolding seen_read
-  seen_kept slot None = ap (λ (f : Option Fault). seen_by_outcome host libs v slot
-      (if is_some f && is_some (request_in v slot) then Some (Err absent.NotLookedFor) else None))
-      none
+  seen_kept slot None = ap (seen_by_outcome host libs v slot) (neither (is_some (request_in v slot))
+      (is_some (first_in v)) (Some (Err absent.NotLookedFor)) (ap is_some none))
   seen_kept slot (Some s) =
       not_both s.added (is_of_host v s.name) (seen_segment v s) (not_of_host s.name)
 

@@ -1,6 +1,5 @@
 -- What a report says of each file: its number, its path, its length, and its byte order or what it is.
 use Rattle.std.specs.Prelude.{◌≡◌, ℕ, ◌+◌, ◌%◌, ◌==◌, if◌then◌else◌, List, [], ◌∷◌, ◌++◌, Ok, Err, length, true, codes, decimal}
-use Rattle.ps_words.specs.declared.order.Order.{Order}
 use Rattle.ps_words.specs.declared.order.Order.TheVariants.{Little, Big}
 use Rattle.ps_words.specs.declared.fault.Reason.{Reason}
 use Rattle.ps_words.specs.declared.fault.Reason.TheVariants.{NoHost}

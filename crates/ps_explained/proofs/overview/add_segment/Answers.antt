@@ -2,7 +2,6 @@ use Rattle.std.proofs.Common.{◌≡◌, ◌∙◌, ◌++◌, ◌∷◌, List, �
 use Rattle.std.specs.Prelude.{Result}
 use Rattle.std.specs.Result.{OnOk}
 use Rattle.ps_resolve.specs.Sources.{contents}
-use Rattle.ps_segments.specs.Paths.{path_of}
 use Rattle.ps_segments.specs.Seen.{origin_by}
 use Rattle.ps_segments.specs.SegmentParts.{absence_words}
 use Rattle.ps_reading.specs.declared.slot_reading.Absent.{Absent}
