@@ -17,6 +17,7 @@ pub mod OfLink
 pub mod RequestedSegments
 pub mod ReadingSlots
 pub mod RequestQueue
+pub mod OwnRead
 pub mod InSlots
 pub mod BySlot
 pub mod WholeNames

@@ -1,3 +1,4 @@
+pub mod SameSeen
 pub mod Paths
 pub mod Lengths
 pub mod Origins
