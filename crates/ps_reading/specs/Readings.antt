@@ -15,7 +15,7 @@ use Rattle.ps_reading.specs.Sources.{Segment, own_segment, opened_files, unit_so
 use Rattle.ps_reading.specs.Faults.{slots_fault, no_host_fault, libraries_fault, source_fault, sources_fault, host_fault}
 use Rattle.ps_reading.specs.Added.{RoundsOutcome, all_unit_references, empty_slots, requested_from, request_of, rounds_of, added_fault}
 use Rattle.ps_reading.specs.KnownSegments.{IsRead, segments_in_slots}
-use Rattle.ps_reading.specs.declared.reading.AddedUnits.{AddedUnits}
+use Rattle.ps_reading.specs.declared.reading.added.AddedUnits.{AddedUnits}
 use Rattle.ps_reading.specs.declared.reading.added.UnitReference.{UnitReference}
 use Rattle.ps_reading.specs.declared.reading.request.Request.{Request}
 use Rattle.ps_reading.specs.declared.reading.added.TheConstants.{MAX_REQUESTED}

@@ -23,8 +23,7 @@ pub(crate) mod units;
 
 use crate::locations::EntryAt;
 use crate::reading::added::{
-    MAX_ADDED, MAX_REQUESTED, UnitReference, add_units, empty_slots, requested_at, requested_by,
-    slot_at,
+    AddedUnits, UnitReference, add_units, empty_slots, requested_at, requested_by, slot_at,
 };
 use crate::reading::libraries::libraries_fault;
 use crate::reading::names::ReadNames;
@@ -88,20 +87,6 @@ fn files_fault(host: &HostSlots, libs: &[&[u8]]) -> Option<Fault>
         return Some(fault);
     }
     libraries_fault(host.order(), libs)
-}
-
-/// What was requested in the rounds that add units to the own segments of a host.
-#[derive(Drop)]
-pub struct AddedUnits {
-    /// The empty slots that a unit may be added in, 7 to 15, ascending.
-    pub empty: ArrayVec<u8, MAX_ADDED>,
-    /// The names that are requested, each with the record that first gave it, at most
-    /// `MAX_REQUESTED`.
-    pub queue: ArrayVec<UnitReference, MAX_REQUESTED>,
-    /// The empty slot after those that were given, if one is left.
-    pub next: Option<u8>,
-    /// The fault of the first unit that could not be added, which ends the rounds.
-    pub fault: Option<Fault>,
 }
 
 /// Reads the own slots of a host and its libraries: fills the table, which has to be empty, with the
@@ -365,6 +350,7 @@ impl<'a> HostReading<'a> {
     }
 
     /// A slot, whose segment comes from there and is this, or is not there for this.
+    #[inline(always)]
     fn with<'r>(
         &self,
         slot: u8,
@@ -389,7 +375,8 @@ impl<'a> HostReading<'a> {
 
     /// What was read of a slot, 0 to 15, also after the first fault: what the host's dictionary says
     /// of it, its role, its request, where its segment comes from, and the segment, or why it has
-    /// none.
+    /// none. It stands in the body of its caller, so that only what is looked at is looked for.
+    #[inline(always)]
     pub fn slot(&self, slot: u8) -> SlotReading<'_, 'a>
         requires { slot < SLOTS }
         ensures entry { result.entry ≡ entry_at self.now.order self.now.file slot }

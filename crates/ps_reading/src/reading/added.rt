@@ -56,6 +56,20 @@ impl UnitReference {
     }
 }
 
+/// What was requested in the rounds that add units to the own segments of a host.
+#[derive(Drop)]
+pub struct AddedUnits {
+    /// The empty slots that a unit may be added in, 7 to 15, ascending.
+    pub empty: ArrayVec<u8, MAX_ADDED>,
+    /// The names that are requested, each with the record that first gave it, at most
+    /// `MAX_REQUESTED`.
+    pub queue: ArrayVec<UnitReference, MAX_REQUESTED>,
+    /// The empty slot after those that were given, if one is left.
+    pub next: Option<u8>,
+    /// The fault of the first unit that could not be added, which ends the rounds.
+    pub fault: Option<Fault>,
+}
+
 /// Appends the slot if it is empty.
 fn add_empty(host: &HostSlots, slots: &mut ArrayVec<u8, MAX_ADDED>, slot: u8)
     requires in_range { slot < SLOTS }

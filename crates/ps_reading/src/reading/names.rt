@@ -7,8 +7,7 @@ ghost use Rattle.ps_reading.specs.Added.{request_of};
 ghost use Rattle.ps_reading.specs.Readings.{queued_request as queued_request_spec, wanted_request};
 ghost use Rattle.ps_reading.specs.SlotReadings.{request_in};
 
-use crate::reading::AddedUnits;
-use crate::reading::added::UnitReference;
+use crate::reading::added::{AddedUnits, UnitReference};
 use crate::reading::request::Request;
 use crate::reading::segment::Segment;
 use crate::reading::slots::{HostSlots, is_empty};
