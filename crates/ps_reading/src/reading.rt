@@ -64,6 +64,7 @@ fn slot_name(host: &HostSlots, segments: &[Segment], slot: u8) -> Name
 
 /// The names of all slots, 0 to 15, in the linked file of this host: of each slot that one of these
 /// segments is in that segment's name, and of the others the host's own.
+#[inline(always)]
 pub fn slot_names(host: &HostSlots, segments: &[Segment]) -> [Name; SLOT_COUNT]
     ensures { result ≡ slot_names_spec host.now.file segments.now }
 {
@@ -75,6 +76,7 @@ pub fn slot_names(host: &HostSlots, segments: &[Segment]) -> [Name; SLOT_COUNT]
 }
 
 /// The first fault of the slots of the host, of its want of a host segment, or of the libraries.
+#[inline(always)]
 fn files_fault(host: &HostSlots, libs: &[&[u8]]) -> Option<Fault>
     ensures { result ≡ option_or (slots_fault_spec host.now.order host.now.file)
         (option_or (no_host_fault_spec host.now.order host.now.file)
@@ -350,6 +352,7 @@ impl<'a> HostReading<'a> {
     }
 
     /// A slot, whose segment comes from there and is this, or is not there for this.
+    #[inline(always)]
     fn with<'r>(
         &self,
         slot: u8,
@@ -374,7 +377,8 @@ impl<'a> HostReading<'a> {
 
     /// What was read of a slot, 0 to 15, also after the first fault: what the host's dictionary says
     /// of it, its role, its request, where its segment comes from, and the segment, or why it has
-    /// none.
+    /// none. It stands in the body of its caller, so that only what is looked at is looked for.
+    #[inline(always)]
     pub fn slot(&self, slot: u8) -> SlotReading<'_, 'a>
         requires { slot < SLOTS }
         ensures entry { result.entry ≡ entry_at self.now.order self.now.file slot }

@@ -72,6 +72,9 @@ fn read_information<'a>(
 /// The link information of an entry, 0 to 15, of a file, with this code and this role, or the first
 /// fault: of its procedure tables, and then of the records. Neither is looked at where the segment is
 /// linked already. The fault is at `place`; what one of the segments `earlier` has is not read again.
+/// The function stands in the body of each caller, so that a link takes no more instructions for the
+/// other callers.
+#[inline(always)]
 pub fn read_linked<'a>(
     from: &Dict<'a>,
     index: u8,
