@@ -203,6 +203,7 @@ impl Answer {
     }
 
     /// The answer of a call that puts nothing in the room.
+    #[inline(always)]
     fn unput(why: Unput) -> Answer
         ensures { result ≡ unput_answer why }
     {
@@ -219,6 +220,7 @@ impl Answer {
     }
 
     /// The answer of a call that was not done.
+    #[inline(always)]
     fn not_done(why: NotDone) -> Answer
         ensures { result ≡ not_done_answer why }
     {
@@ -229,7 +231,9 @@ impl Answer {
         }
     }
 
-    /// The answer of a call: its status, and what goes with that status.
+    /// The answer of a call: its status, and what goes with that status. It is made where the caller
+    /// wants it: handed up from function to function it would be copied at each.
+    #[inline(always)]
     pub fn of(outcome: Result<Done, NotDone>) -> Answer
         ensures { result ≡ answer_of outcome }
     {
@@ -241,6 +245,7 @@ impl Answer {
 
     /// The answer of files that are refused for this fault: `REFUSED`, the parts of the fault, and
     /// the name of what it is about, where it has one.
+    #[inline(always)]
     pub fn refusal(fault: Fault, name: Option<Name>) -> Answer
         ensures { result ≡ refusal_spec fault name }
     {
