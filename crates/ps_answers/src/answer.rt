@@ -1,5 +1,5 @@
 //! What a call answers.
-ghost use Rattle.std.specs.Prelude.{◌≡◌, ◌++◌, unwrap_or};
+ghost use Rattle.std.specs.Prelude.{◌≡◌, unwrap_or};
 ghost use Rattle.ps_answers.specs.Answers.{capped as capped_spec, closed_name as closed_name_spec, part, slot_part};
 
 use crate::outcome::{Done, NotDone, Unmade, Unput, Verdict, WrongInputs};

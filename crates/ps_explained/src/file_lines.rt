@@ -1,7 +1,6 @@
 //! The lines of files.
-ghost use Rattle.std.specs.Prelude.{◌≡◌, ◌∷◌, ◌++◌, [], IfOk, List, OnOk, Some, length, string_bytes, ℕ};
+ghost use Rattle.std.specs.Prelude.{◌≡◌, ◌∷◌, ◌++◌, [], IfOk, OnOk, Some, length, string_bytes};
 ghost use Rattle.ps_resolve.specs.Sources.{contents};
-ghost use Rattle.ps_segments.specs.Paths.{path_of};
 ghost use Rattle.ps_explained.specs.FileLines.{AreFileLines, IsByteOrder, file_words, uneven_words};
 ghost use Rattle.ps_explained.specs.SlotLines.{AddsSlotLines};
 ghost use Rattle.ps_explained.specs.declared.orders.ByteOrder.{ByteOrder as Order};

@@ -1,7 +1,7 @@
 -- The last line of a report: it is no line of a segment, and no warning.
 use Rattle.std.proofs.Common.{◌≡◌, ◌∙◌, ◌+◌, ◌++◌, ◌∷◌, ◌==◌, ◌<◌, ◌||◌, [], ℕ, Bool, List, Bor, true, false, append-nil, ap, arith, codes, drop, get_or, length, map, refl, subst, sym}
 use Rattle.std.specs.Prelude.{if◌then◌else◌}
-use Rattle.std.specs.List.{flat_map, list_any}
+use Rattle.std.specs.List.{list_any}
 use Rattle.std.proofs.lemmas.List.{append_assoc, drop_more}
 use Rattle.ps_resolve.specs.Sources.{contents}
 use Rattle.ps_explained.proofs.OneLine.{one_append, one_before}
@@ -9,7 +9,7 @@ use Rattle.ps_explained.specs.SlotLines.{one_line}
 use Rattle.ps_explained.proofs.SlotLines.{adds_no_line}
 use Rattle.ps_report.specs.Reported.{Said, said, warning_count}
 use Rattle.ps_report.specs.declared.finding.SaidFinding.{SaidFinding}
-use Rattle.ps_report.specs.FindingLines.{AddsWarnings, finding_lines, first_line, warnings_in}
+use Rattle.ps_report.specs.FindingLines.{finding_lines, first_line}
 use Rattle.ps_report.specs.LastLine.{asked_paths, asked_words, asks_for, last_line, line_of_paths}
 use Rattle.ps_report.proofs.FindingLines.{AddsFindings, adds_finding_lines, adds_no_warning, lines_then, none_added}
 

@@ -1,10 +1,9 @@
 //! The names of the units that a link wants and that a file has.
-ghost use Rattle.std.specs.Prelude.{◌≡◌, ◌<◌, true, IfErr, IfOk, OnErr, OnOk, bytes_eq, is_some, length, option_to_list};
-ghost use Rattle.std.specs.List.{filter_map, list_any};
-ghost use Rattle.ps_codefile.specs.Dictionary.{entry_at, role_of};
+ghost use Rattle.std.specs.Prelude.{◌≡◌, ◌<◌, true, IfErr, IfOk, OnErr, OnOk, is_some, length, option_to_list};
+ghost use Rattle.std.specs.List.{filter_map};
 ghost use Rattle.ps_codefile.specs.Roles.{is_unit};
 ghost use Rattle.ps_resolve.specs.Faults.{is_role};
-ghost use Rattle.ps_texts.specs.UnitNames.{had_as, had_name as had_name_spec, has_name as has_name_spec, has_slot_of as has_slot_of_spec, is_slot_of as is_slot_of_spec, slots_wanted as slots_wanted_spec, sought_name as sought_name_spec, units_had as units_had_spec, units_wanted as units_wanted_spec, wanted_as, wanted_name as wanted_name_spec, with_each, with_name};
+ghost use Rattle.ps_texts.specs.UnitNames.{had_name as had_name_spec, has_name as has_name_spec, has_slot_of as has_slot_of_spec, is_slot_of as is_slot_of_spec, slots_wanted as slots_wanted_spec, sought_name as sought_name_spec, units_had as units_had_spec, units_wanted as units_wanted_spec, wanted_name as wanted_name_spec, with_each, with_name};
 
 use ps_codefile::dictionary_layout::SLOTS;
 use ps_codefile::{Dict, Role};

@@ -1,15 +1,12 @@
 -- Findings about the link that are added, one list after another.
-use Rattle.std.proofs.Common.{◌≡◌, ◌∙◌, ◌∷◌, ◌++◌, ◌+◌, ◌-◌, ◌<◌, ◌≤◌, [], ℕ, suc, false, true, List, length, drop, map, append_assoc, append-nil, refl, sym, ap, subst, arith}
+use Rattle.std.proofs.Common.{◌≡◌, ◌∙◌, ◌∷◌, ◌++◌, ◌+◌, ◌-◌, ◌<◌, ◌≤◌, [], ℕ, suc, false, List, length, drop, map, append_assoc, append-nil, sym, ap, subst, arith}
 use Rattle.std.specs.Prelude.{Bool, Option, if◌then◌else◌}
 use Rattle.std.specs.List.{enumerate_from, filter, flat_map, range_with_len}
 use Rattle.std.proofs.lemmas.List.{drop_all, map-append}
 use Rattle.std.proofs.lemmas.List.Elements.{filter-append}
 use Rattle.ps_warnings.specs.Found.{Adds, Stated, about_link_in, is_about_link, is_warning, stated, stated_at, warnings_among}
-use Rattle.ps_warnings.specs.Weights.{is_certain}
 use Rattle.ps_warnings.specs.declared.finding.Finding.{Finding}
-use Rattle.ps_warnings.specs.declared.finding.Finding.TheVariants as which
 use Rattle.ps_warnings.specs.declared.finding.FileFinding.TheVariants as file
-use Rattle.ps_warnings.specs.declared.finding.DictionaryFinding.TheVariants as dictionary
 use Rattle.ps_warnings.specs.declared.finding.Place.{Place}
 use Rattle.ps_warnings.specs.declared.finding.FindingAt.{FindingAt}
 

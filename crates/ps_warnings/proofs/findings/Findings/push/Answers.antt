@@ -1,4 +1,3 @@
-use Rattle.std.proofs.lemmas.Result.{on_ok_weaker}
 use Rattle.ps_warnings.proofs.Found.{pushed}
 use Rattle.ps_warnings.proofs.findings.Findings.push.Goals as goal
 
