@@ -6,7 +6,9 @@
 # make install PREFIX=/opt/pslink: installs the program, the library, their manual pages, the documents, the samples and the bindings; without PREFIX in /usr/local; the library in LIBDIR, which is PREFIX/lib
 # make install-program PREFIX=..: installs the program, its manual pages, the documents, the test vectors, and what shells, make and CMake read, without building the library
 # make uninstall PREFIX=/opt/pslink: removes what that installed
+# make page: proves and builds the library for WebAssembly, web/out/pslink.wasm, and the page with it, web/out/pslink.html
 # make dist: packs the same for people without the kit
+# make release: makes the files of a release, in releases/VERSION: the archive of make dist, the page, the module for a browser and for node, and their sums
 # make vectors: writes the cases of vectors/README.md
 # make bench: times links of large files, of malicious input, and in one process; with OTHER=ARCHIVE also those of another library, below the same library/pslink.c
 PREFIX ?= /usr/local
@@ -21,7 +23,9 @@ DOC = $(AT)/share/doc/pslink
 BASH_FOLDER = $(AT)/share/bash-completion/completions
 ZSH_FOLDER = $(AT)/share/zsh/site-functions
 FISH_FOLDER = $(AT)/share/fish/vendor_completions.d
-VERSION = 0.3.0
+# the newest release of CHANGES.md, and the first one with the interface of the library that this one has
+VERSION := $(firstword $(shell sed -n 's/^.. \([0-9.]*\)$$/\1/p' CHANGES.md))
+FIRST = 0.3
 LIBRARY = library/out
 DIST = pslink-$(VERSION)-x86_64-linux
 PACKED = $(LIBRARY)/$(DIST)
@@ -37,12 +41,12 @@ CALLS = pslink_link pslink_text pslink_fault pslink_fault_text pslink_status psl
 # (and not what someone linked there)
 SAMPLES = README.md make_samples.py relink.py compare.py big_host.code big_host.map big_library.code host.code host.map library.code \
 	nine.code nine.map procedures.code procedures.map two_units.code two_units.map used.code using.code using.map
-BESIDE = README.md CHANGES.md LICENSE NOTICES $(addprefix samples/,$(SAMPLES)) $(wildcard docs/*.md docs/*.json man/pslink.*) include/pslink.h \
+BESIDE = README.md CHANGES.md LICENSE NOTICES $(addprefix samples/,$(SAMPLES)) $(wildcard docs/*.md docs/*.json docs/pictures/*.png man/pslink.* web/README.md) include/pslink.h releases/README.md \
 	$(addprefix bindings/python/,pyproject.toml build_backend.py LICENSE pslink/__init__.py pslink/py.typed) \
 	$(addprefix bindings/rust/,Cargo.toml build.rs LICENSE src/lib.rs src/file.rs src/finding.rs src/name.rs src/raw.rs src/reason.rs tests/calls.rs) \
 	$(wildcard bindings/rust/tests/samples/*)
 
-.PHONY: try try-test demo build lib test bench vectors install install-program install-built install-built-program install-texts uninstall dist
+.PHONY: try try-test demo build lib test bench vectors install install-program install-built install-built-program install-texts uninstall dist release page
 
 # the commands that are tried: a file for each, with a word of it a line
 TRIED = $(PROGRAM)/out/tried
@@ -82,6 +86,11 @@ lib:
 	    library/build; \
 	fi
 
+# (where nothing that the module is made from changed, it is not built again)
+page:
+	web/build
+	python3 -B web/page/make_page.py
+
 bench: build lib
 	python3 bench/large_files.py "$(BINARY)"
 	python3 bench/in_process.py "$(BINARY)" $(LIBRARY) $(OTHER)
@@ -115,7 +124,7 @@ install-texts:
 	install -m 644 completions/pslink.fish "$(DESTDIR)$(FISH_FOLDER)/pslink.fish"
 	install -m 644 rules/pslink.mk "$(DESTDIR)$(INCLUDE)/pslink.mk"
 	sed -e 's|@BIN@|$(AT)/bin|' rules/pslink-config.cmake.in >"$(DESTDIR)$(CONFIG)/pslink-config.cmake"
-	sed -e 's|@VERSION@|$(VERSION)|' rules/pslink-config-version.cmake.in >"$(DESTDIR)$(CONFIG)/pslink-config-version.cmake"
+	sed -e 's|@VERSION@|$(VERSION)|' -e 's|@FIRST@|$(FIRST)|' rules/pslink-config-version.cmake.in >"$(DESTDIR)$(CONFIG)/pslink-config-version.cmake"
 	chmod 644 "$(DESTDIR)$(CONFIG)"/pslink-config*.cmake
 
 # that and the library
@@ -129,7 +138,7 @@ install-built: install-built-program
 	ln -sf libpslink.so.3 "$(DESTDIR)$(LIB)/libpslink.so"
 	sed -e 's|@PREFIX@|$(AT)|' -e 's|@LIBDIR@|$(LIB)|' -e 's|@VERSION@|$(VERSION)|' library/pslink.pc.in >"$(DESTDIR)$(LIB)/pkgconfig/pslink.pc"
 	sed -e 's|@INCLUDE@|$(INCLUDE)|' library/pslinkConfig.cmake.in >"$(DESTDIR)$(CONFIG)/pslinkConfig.cmake"
-	sed -e 's|@VERSION@|$(VERSION)|' rules/pslink-config-version.cmake.in >"$(DESTDIR)$(CONFIG)/pslinkConfigVersion.cmake"
+	cp "$(DESTDIR)$(CONFIG)/pslink-config-version.cmake" "$(DESTDIR)$(CONFIG)/pslinkConfigVersion.cmake"
 	chmod 644 "$(DESTDIR)$(LIB)/pkgconfig/pslink.pc" "$(DESTDIR)$(CONFIG)"/*.cmake
 
 # what install-built puts in place, the folders that are pslink's own, and those that it made and that are empty now
@@ -141,8 +150,8 @@ uninstall:
 	made=$$(sort -ru "$(DESTDIR)$(DOC)/FOLDERS" 2>/dev/null); rm -rf "$(DESTDIR)$(DOC)" "$(DESTDIR)$(CONFIG)" && \
 	    printf '%s\n' "$$made" | while IFS= read -r folder; do rmdir "$(DESTDIR)$$folder" 2>/dev/null || :; done
 
-# the program, the library and all that is read beside them, in one file, and what they need; the files have the time of the
-# commit that they are of, so that cargo, make and ninja see a newer archive. (Of pcfiledir, pkg-config itself marks a blank.)
+# the program, the library and all that is read beside them, in one file, and what they need; the files have the time of a
+# commit, so that cargo, make and ninja see a newer archive. (Of pcfiledir, pkg-config itself marks a blank.)
 dist: build lib
 	rm -rf "$(PACKED)"
 	$(MAKE) --no-print-directory install-built PREFIX=/usr/local LIBDIR=/usr/local/lib DESTDIR="$(PACKED)/root"
@@ -154,4 +163,8 @@ dist: build lib
 	sed -i 's|"/usr/local/include"|"../include"|' "$(PACKED)/lib/cmake/pslink/pslinkConfig.cmake"
 	sed -i 's|"/usr/local/bin" ||' "$(PACKED)/lib/cmake/pslink/pslink-config.cmake"
 	library/needs "$(PACKED)/bin/pslink" "$(PACKED)/lib/libpslink.so.3" | tee "$(PACKED)/NEEDS"
-	tar --sort=name --owner=0 --group=0 --numeric-owner --mtime=@$${SOURCE_DATE_EPOCH:-$$(git log -1 --format=%ct 2>/dev/null || date +%s)} -C "$(PACKED)" -czf "$(TARBALL)" --transform='s|^[.]|$(DIST)|' .
+	library/pack "$(PACKED)" $(DIST) "$(TARBALL)"
+
+# what is built is packed, and is put into releases/VERSION once
+release: build lib page
+	releases/make

@@ -7,16 +7,12 @@ import pathlib
 import re
 
 from descriptions.model import (
-    HOSTSEG, LINKED, PRIVREF, PUBLREF, UNITREF, File, Operand, Procedure, Segment, const_def, eof_mark, file_bytes, laid_out, priv_ref,
-    publ_def, publ_ref, unit_ref,
+    HOSTSEG, LINKED, PRIVREF, PUBLREF, UNITREF, File, Operand, Procedure, Segment, const_def, eof_mark, priv_ref, publ_def, publ_ref, unit_ref,
 )
+from generated_links import described
 
 SAMPLES = pathlib.Path(__file__).resolve().parent.parent / "samples"
 BLOCK = 512
-
-
-def described(*files):
-    return [file_bytes(file, laid_out(file)) for file in files]
 
 
 def many(plain):
@@ -72,13 +68,16 @@ RIGHT = [
     ("blocks are filled with another byte", "plain", ["600: 1A 1A 1A"], ["there are bytes between or after the codes that are not 0"]),
     ("interface texts keep their addresses", "plain", ["238: 01 00"], ["there are text addresses in the slots 07"]),
     ("the end of the dictionary has other bytes", "plain", ["300: 00"], ["bytes 256 to 511 of the dictionary are not those of the host"]),
-    ("empty slots have zeros for names", "plain", ["80: 00 00 00 00 00 00 00 00"], []),
-    ("an empty slot has an address", "plain", ["40: 05 00"], []),
+    ("text addresses are in empty slots", "plain", ["226: 01 00", "254: 01 00"], ["there are text addresses in the slots 01 15"]),
+    ("empty slots have zeros for names", "plain", ["80: 00 00 00 00 00 00 00 00", "184: 41"], ["the names are not those of the host in the empty slots 02 15"]),
+    ("an empty slot has an address", "plain", ["40: 05 00", "0: 00 01"], ["there are addresses in the empty slots 00 10"]),
     ("an added unit is in another slot", "added", [
-        "36: 03 00 18 00", "32: 00 00 00 00", "136: 41 55 58 20 20 20 20 20", "7+1: 09", "9+22: 09"], ["AUX, which the host does not name, is in slot 09, and not 08"]),
+        "36: 03 00 18 00", "32: 00 00 00 00", "136: 41 55 58 20 20 20 20 20", "7+1: 09", "9+22: 09"], [
+        "AUX, which the host does not name, is in slot 09, and not 08", "the names are not those of the host in the empty slots 08"]),
     ("an added unit is in a slot of the system", "added", [
         "24: 03 00 18 00", "32: 00 00 00 00", "112: 41 55 58 20 20 20 20 20", "7+1: 06", "6+22: 06"], [
-        "AUX, which the host does not name, is in slot 06, and not 08", "the codes are in the order of the slots 01 07 06"]),
+        "AUX, which the host does not name, is in slot 06, and not 08", "the codes are in the order of the slots 01 07 06",
+        "the names are not those of the host in the empty slots 08"]),
     ("private variables are in another order", "two", ["7+4: 80 0A", "8+4: 80 09"], ["private variables with another base offset: 2"]),
     ("a variable with two references is moved", "many", ["7+4: 80 0E", "7+7: 80 10"], ["private variables with another base offset: 1"]),
     ("private variables begin at an even word", "plain", ["7+4: 80 0C", "1+4: 16"], ["private variables with another base offset: 1", "the data size is 22, and 18 is enough"]),
@@ -169,6 +168,9 @@ CHOOSING = {
     "units are added in slots from 0 on", "units are added in slots from 2 on", "units are added in slots from 6 on", "units are added in slots from 8 on",
     "units are added from slot 15 down", "units are added after the last filled slot", "an added unit keeps its slot if that is empty",
     "the name asked for last is added first", "names are added by name",
+    "the program asks first", "the program asks last", "units of libraries ask first", "the program does not ask", "units of the host do not ask",
+    "the units that an added unit uses follow it at once", "the program comes first", "the program's private variables come first",
+    "the text addresses stay", "the text address of slot 15 stays", "the names of empty slots are blank", "codes are padded with a block more",
     "added units come last", "codes begin in block 2", "the last code is not padded",
     "the program's private variables come last", "private variables of added units come last", "private variables come by file",
     "private variables come by slot from the highest", "private variables come by name",

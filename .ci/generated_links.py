@@ -8,6 +8,11 @@ PUBLICS = {"COUNT": 3, "LIMIT": 200, "TOTAL": 1024}
 PRIVATES = {"STATE": 4, "CACHE": 1, "TABLE": 300}
 
 
+def described(*files):
+    """The bytes of files that are described."""
+    return [file_bytes(file, laid_out(file)) for file in files]
+
+
 def segment_of(numbers, name, kind, units, first=(), next_free=0):
     """A segment with a few operands of publics, privates and units, and a record for each name of them; `first` are its other records."""
     chosen = numbers.choices([(PUBLREF, each) for each in PUBLICS] + [(PRIVREF, each) for each in PRIVATES] + [(UNITREF, each) for each in units], k=numbers.randrange(9))
@@ -28,7 +33,7 @@ def segment_of(numbers, name, kind, units, first=(), next_free=0):
 
 def generated(numbers):
     """The bytes of a host and of its libraries. Units are wanted, in place, or named by a unit alone; a library may have a unit again, or
-    one that nothing names."""
+    one that nothing names. An empty slot of the host has a name."""
     order = numbers.choice(["little", "big"])
     units = [f"UNIT{index}" for index in range(numbers.randrange(1, 6))]
     in_place = set(units[: numbers.randrange(2)])
@@ -40,6 +45,7 @@ def generated(numbers):
             slots[slot] = segment_of(numbers, name, UNITSEG, units)
         elif numbers.randrange(3):
             slots[slot] = Segment(name)
+    slots[15] = Segment("GONE", LINKED)
     slots[free[-1]] = Segment("TOOLS", LINKED, code=numbers.randbytes(numbers.randrange(1, 1200)))
     libraries = [{} for _ in range(numbers.randrange(1, 4))]
     for name in [*units, "SPARE", numbers.choice(units)]:
@@ -48,5 +54,4 @@ def generated(numbers):
             library = numbers.choice(open_ones)
             library[numbers.choice([slot for slot in range(16) if slot not in library])] = segment_of(numbers, name, UNITSEG, units)
     tail = {place: numbers.randrange(256) for place in numbers.sample(range(256, 512), 9)}
-    files = [File(slots, order, tail=tail), *(File(library, order) for library in libraries)]
-    return [file_bytes(file, laid_out(file)) for file in files]
+    return described(File(slots, order, tail=tail), *(File(library, order) for library in libraries))

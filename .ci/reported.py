@@ -13,6 +13,7 @@ import zipfile
 ROOT = pathlib.Path(__file__).resolve().parent.parent
 sys.path[:0] = [str(ROOT / "samples")]
 import make_samples as m
+from damaged_files import macbinary, swapped
 
 SAMPLES = m.SAMPLES
 HOST, LIBRARY, USING, USED = (SAMPLES[name] for name in ("host.code", "library.code", "using.code", "used.code"))
@@ -129,7 +130,7 @@ def fitting(count):
 
 def of_bytes(number, digits):
     """A procedure of these bytes, in hexadecimal digits, and a return."""
-    return m.Procedure(number, [*(f"SLDC {byte}" for byte in bytes.fromhex(digits)), "RNP 0"])
+    return m.Procedure(number, [f"BYTES {digits}", "RNP 0"])
 
 
 def long_fitting(count):
@@ -197,11 +198,6 @@ def stripped(count):
     file = m.code_file({**m.HOST, 9: m.Segment("TOOLS", m.LINKED, [m.Procedure(1, ["NOP"] * count + ["RNP 0"])])})
     start = m.BLOCK * file[36]
     return changed(file, (start, bytes(byte & 127 for byte in file[start:])))
-
-
-def swapped(file):
-    """Each two bytes exchanged."""
-    return b"".join(file[at : at + 2][::-1] for at in range(0, len(file), 2))
 
 
 # a unit of the other byte order whose bytes are exchanged, but for its name
@@ -348,14 +344,6 @@ def zipped(file):
         with zipfile.ZipFile(room, "w") as archive:
             archive.writestr(zipfile.ZipInfo("DEMO.CODE"), file)
         return room.getvalue()
-
-
-def macbinary(file):
-    head = bytearray(128)
-    head[1:11] = b"\x09DEMO.CODE"
-    head[65:73] = b"BINApdos"
-    head[83:87] = len(file).to_bytes(4, "big")
-    return bytes(head) + m.whole(file, 128)
 
 
 def apple(number, file):

@@ -136,12 +136,15 @@ def likely(row, questions):
 
 
 def is_right(answers, linker):
-    """Whether a question is answered as expected; a linker that fails, or has no answer in some seconds, is wrong."""
+    """Whether a question is answered as expected. A linker that has no answer in some seconds is wrong. One that fails is not told by
+    that: its failure is none of the rule, but of its few words."""
     signal.alarm(SECONDS)
     try:
         return answers(linker)
-    except Exception:
+    except TimeoutError:
         return False
+    except Exception:
+        return True
     finally:
         signal.alarm(0)
 
@@ -170,7 +173,7 @@ def tell(cases, wrong_ones):
     """The wrong linkers, the cases that tell them, and what is wrong: a right linker that differs, a wrong one that does not."""
     signal.signal(signal.SIGALRM, stopped)
     QUESTIONS[:], ROWS[:], found = questions_of(cases), wrong_ones, []
-    if question := differing(linker, QUESTIONS):
+    if question := next((question for question in QUESTIONS if not question(linker)), None):
         found.append(f"linker.py answers {question.__self__.name} otherwise")
     with multiprocessing.get_context("fork").Pool() as pool:
         told = dict(pool.imap_unordered(told_by, range(len(ROWS)), chunksize=4))

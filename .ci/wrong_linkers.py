@@ -17,6 +17,8 @@ RAISE_32 = "if not reserved.isdisjoint(places):\n                    raise segme
 RAISE_33 = "if not used.isdisjoint(places):\n                    raise segment.fault(33, record.index, index)\n                "
 RAISE_34 = ("if width == 2 and reference + 1 < len(code) and code[reference] % 128 * 256 + code[reference + 1] + value > 32767:\n"
             "                    raise segment.fault(34, record.index, index)\n                ")
+# (a unit that is not asked for has slot 0)
+OR_0 = ("value_of", "self.units[record.name]", "self.units.get(record.name, 0)")
 BEFORE_LIST = "for index, reference in enumerate(record.references):\n                places = range(reference, reference + width)\n                "
 FOR_SEGMENTS = "for segment in self.segments:"
 PROGRAM_FIRST = "for segment in sorted(self.segments, key=lambda one: one.entry.role != HOST):"
@@ -257,7 +259,8 @@ RECORDS = [
     ("pieces are rounded down", "records_of", "(record.count + 7) // 8", "record.count // 8"),
     ("a piece has four references", "records_of", "(record.count + 7) // 8", "(record.count + 3) // 4"),
     ("a list has no more bytes than references", "records_of", "place += 16 * pieces", "place += 2 * record.count"),
-    ("the bytes of a list are counted in sixteen bits", "records_of", "(record.count + 7) // 8", "(record.count + 7) % 65536 // 8"),
+    ("the bytes of a list are counted in sixteen bits", "records_of", "(record.count + 7) // 8", "(record.count + 7) % 65536 // 8",
+     "record.references = ", "data += bytes(2 * record.count)\n            record.references = "),
     ("the number of references has fifteen bits", "records_of", "record = Record(index, type, data[place : place + 8], words)", "words[1] %= 32768 if type in FORMATS else 65536\n        record = Record(index, type, data[place : place + 8], words)"),
     ("the number of references has eight bits", "records_of", "record = Record(index, type, data[place : place + 8], words)", "words[1] %= 256 if type in FORMATS else 65536\n        record = Record(index, type, data[place : place + 8], words)"),
     ("a list may be cut off after its references", "records_of", "place + 16 * pieces > len(data)", "place + 2 * record.count > len(data)"),
@@ -366,14 +369,14 @@ ADDED = [
     ("units of libraries ask first", "add_units", FOR_SEGMENTS, "for segment in sorted(self.segments, key=lambda one: one.file.number == 0):"),
     ("the program does not ask", "add_units", "self.request(queue, segment)", "self.request(queue, segment) if segment.entry.role != HOST else None"),
     ("units of the host do not ask", "add_units", "self.request(queue, segment)", "self.request(queue, segment) if segment.file.number or segment.entry.role == HOST else None"),
-    ("added units do not ask", "add_units", "self.request(queue, unit)", "pass"),
-    ("units that added units use are not added", "add_units", "self.request(queue, unit)", "self.request(queue, unit) if segment.added is False else None"),
+    ("added units do not ask", "add_units", "self.request(queue, unit)", "pass", *OR_0),
+    ("units that added units use are not added", "add_units", "self.request(queue, unit)", "self.request(queue, unit) if segment.added is False else None", *OR_0),
     ("the name asked for last is added first", "add_units", "for name, segment, record in queue:", "while queue:\n            name, segment, record = queue.pop()"),
     ("the units that an added unit uses follow it at once", "add_units", "for name, segment, record in queue:", "while queue:\n            name, segment, record = queue.pop(0)",
      "self.request(queue, unit)", "later = queue[:]\n            self.request(queue, unit)\n            queue[:] = queue[len(later) :] + later"),
     ("names are added by name", "add_units", "for name, segment, record in queue:", "queue.sort(key=lambda one: one[0])\n        for name, segment, record in queue:"),
     ("a name is asked for again", "request", "known = record.name in self.units or any(record.name == name for name, _, _ in queue)", "known = record.name in self.units"),
-    ("a UNITREF without references does not ask", "request", "record.type == UNITREF", "record.type == UNITREF and record.references"),
+    ("a UNITREF without references does not ask", "request", "record.type == UNITREF", "record.type == UNITREF and record.references", *OR_0),
     ("plain segments are units", "Link.__init__", "one.entry.role == UNIT", "one.entry.role in (UNIT, PLAIN)"),
     ("the program is a unit", "Link.__init__", "one.entry.role == UNIT", "one.entry.role in (UNIT, HOST)"),
     ("only wanted units are units", "Link.__init__", "one.entry.role == UNIT", "one.entry.role == UNIT and one.file.number"),
@@ -382,7 +385,7 @@ ADDED = [
     ("a name of zero bytes is looked for", "add_units", "name in BLANK", 'name == b" " * 8'),
     ("a name of blanks is looked for", "add_units", "name in BLANK", "name == bytes(8)"),
     ("a name with a zero byte is blank", "add_units", "name in BLANK", 'not name.strip(b" \\0")'),
-    ("a blank name does not ask", "request", "record.type == UNITREF", "record.type == UNITREF and record.name not in BLANK"),
+    ("a blank name does not ask", "request", "record.type == UNITREF", "record.type == UNITREF and record.name not in BLANK", *OR_0),
     ("35 before 13", "add_units", "if not entries or", "if not free:\n                raise segment.fault(35, record.index)\n            if not entries or"),
     ("35 before 13 of a blank name", "add_units", "if not entries or", "if entries and not free:\n                raise segment.fault(35, record.index)\n            if not entries or"),
     ("15 before 35", "add_units", "if not free:", "if len(entries) > 1:\n                raise Fault(15, entries[0].file.number, (free or [0])[0])\n            if not free:"),
@@ -512,8 +515,8 @@ REFERENCES = [
     ("the last byte of a code is outside", "Link.resolve", LAST_BYTE, "places[-1] >= len(code) - 1"),
     ("the byte after a code is inside", "Link.resolve", LAST_BYTE, "places[-1] > len(code)"),
     ("only the first byte of an operand is to be inside", "Link.resolve", LAST_BYTE, "places[0] >= len(code)"),
-    ("places have sixteen bits", "Link.resolve", "places = range(reference, reference + width)", "places = [one % 65536 for one in range(reference, reference + width)]"),
-    ("places of a UNITREF are not checked", "Link.resolve", LAST_BYTE, "width == 2 and places[-1] >= len(code)"),
+    ("places have sixteen bits", "Link.resolve", "places = range(reference, reference + width)", "places = [one % 65536 for one in range(reference, reference + width)]\n                if reference >= len(code) > places[-1]:\n                    continue"),
+    ("places of a UNITREF are not checked", "Link.resolve", f"if {LAST_BYTE}:", f"if width == 1 and {LAST_BYTE}:\n                    continue\n                if {LAST_BYTE}:"),
     ("31 counts from the dictionary on", "Link.resolve", LAST_BYTE, "places[-1] >= dictionary_of(code)"),
     ("32 before 31", "Link.resolve", RAISE_31 + RAISE_32, RAISE_32 + RAISE_31),
     ("33 before 32", "Link.resolve", RAISE_32 + RAISE_33, RAISE_33 + RAISE_32),

@@ -66,9 +66,10 @@ OWN_COUNTS = "the definitions of the program are those of the link"
 IN_CODE, IN_RECORDS = "entry.file.number, slot", "entry.file.number, slot, index"
 ODD, SHORT = "entry.length % 2", "entry.length < 4"
 TWO_BYTES = "an operand of two bytes has another byte of the dictionary too"
-ONE_BYTE = "a UNITREF has one byte: it cannot be at two places, nor too large"
 LAST_BYTE, RESERVED, USED = "places[-1] >= len(code)", "not reserved.isdisjoint(places)", "not used.isdisjoint(places)"
 AT_RECORD = "HERE(segment.entry, record.type)"
+EARLIER = "[byte for one in record.references[:index] for byte in (one, one + 1)]"
+DEFINITIONS = ("PUBLDEF", "CONSTDEF")
 TABLES = "for table in segment.tables.values()"
 
 
@@ -88,11 +89,11 @@ CODES = [
     rule("a code of 32766 bytes is too long", "code_of", "entry.length > 32767", "entry.length > 32767 - 2 * HERE(entry)", at=ANY),
     rule("11 of an odd code is no fault", "code_of", ODD, f"{ODD} and not HERE(entry)"),
     rule("11 of a short code is no fault", "code_of", SHORT, f"{SHORT} and not HERE(entry)"),
-    rule("a code of two bytes is long enough", "code_of", SHORT, "entry.length < 4 - 2 * HERE(entry)"),
     rule("a code of four bytes is too short", "code_of", SHORT, f"{SHORT} + HERE(entry)", at=(UNIT, WANTED, ADDED), why=HAS_A_TABLE),
     rule("12 is no fault", "code_of", "if entry.address == 0:", "if entry.address == 0 and not HERE(entry):", at=(PROGRAM, PLAIN),
          why="a unit without an address is wanted or empty"),
-    rule("16 is no fault", "code_of", "> len(entry.file.data)", "> len(entry.file.data) and not HERE(entry)", at=ANY),
+    rule("16 is no fault", "code_of", "> len(entry.file.data)", "> len(entry.file.data) and not HERE(entry)",
+         "return entry.file.data[start : start + entry.length]", "return entry.file.data[start : start + entry.length].ljust(entry.length, bytes(1))", at=ANY),
     rule("a code may lack a byte", "code_of", "> len(entry.file.data)", "> len(entry.file.data) + HERE(entry)", at=ANY),
     rule("a code lies in the file with its blocks", "code_of", "start + entry.length >",
          "start + (BLOCK * blocks(entry.length) if HERE(entry) else entry.length) >", at=ANY),
@@ -104,10 +105,11 @@ CODES = [
     *other_parts("code_of", IN_CODE, "faults of a code", "entry"),
     rule("a dictionary may begin a word before the code", "tables_of", "if dictionary < 0:", "if dictionary < -2 * HERE(entry):",
          at=(UNIT, WANTED, ADDED), why=HAS_A_TABLE),
-    rule("a long dictionary is no procedure", "tables_of", "if dictionary < 0:", "if dictionary < 0 and HERE(entry):\n        return {}\n    if dictionary < 0:"),
+    rule("a long dictionary is no procedure", "tables_of", "if dictionary < 0:", "if dictionary < 0 and HERE(entry):\n        return {}\n    if dictionary < 0:",
+         at=(UNIT, WANTED, ADDED), why=HAS_A_TABLE),
     rule("a dictionary may not be the whole code", "tables_of", "if dictionary < 0:", "if dictionary < HERE(entry):", at=(UNIT, WANTED, ADDED),
          why=HAS_A_TABLE),
-    rule("a table may be before the code", "tables_of", "table < 8", "table < (-65536 if HERE(entry) else 8)"),
+    rule("a table may be before the code", "tables_of", "table < 8", "table < (-65536 if HERE(entry) else 8)", "tables[procedure] = table", "tables[procedure] = max(table, 8)"),
     rule("a table may be at byte 7", "tables_of", "table < 8", "table < 8 - HERE(entry)"),
     rule("a table may not be at byte 8", "tables_of", "table < 8", "table < 8 + HERE(entry)"),
     rule("a level may be the first byte of the dictionary", "tables_of", "table + 1 >= dictionary", "table + 1 >= dictionary + HERE(entry)"),
@@ -123,7 +125,7 @@ CODES = [
     rule("each segment needs a procedure 1", "tables_of", "entry.role == HOST and 1 not in tables", "(entry.role == HOST or HERE(entry)) and 1 not in tables",
          at=(UNIT, WANTED, ADDED), why="the program does need it"),
     only_order("a program needs no outer block", "tables_of", "if entry.role == HOST and 1 not in tables:",
-               "if entry.role == HOST and 1 not in tables and HERE(entry):\n        tables[1] = 12\n    if entry.role == HOST and 1 not in tables:"),
+               "if entry.role == HOST and 1 not in tables and len(code) > 12 and HERE(entry):\n        tables[1] = 12\n    if entry.role == HOST and 1 not in tables:"),
     rule("18 is no fault", "tables_of", "if any(code[table] == 0", "if not HERE(entry) and any(code[table] == 0"),
     rule("18 is 17", "tables_of", "raise Fault(18, *where)", "raise Fault(17 if HERE(entry) else 18, *where)"),
     rule("17 is 18", "tables_of", "table + 1 >= dictionary:\n            raise Fault(17, *where)", "table + 1 >= dictionary:\n            raise Fault(18 if HERE(entry) else 17, *where)"),
@@ -140,13 +142,14 @@ CODES = [
 RECORDS = [
     rule("link information is a block later where a code ends with one", "records_of", "blocks(entry.length)",
          "(entry.length // BLOCK + 1 if HERE(entry) else blocks(entry.length))"),
-    rule("the end of the file is an end mark", "records_of", "if place + 16 > len(data):", "if place + 16 > len(data) and HERE(entry):\n            return\n        if place + 16 > len(data):"),
+    rule("the end of the file is an end mark", "records_of", "if place + 16 > len(data):", "if place + 16 > len(data) and HERE(entry):\n            yield Record(index, EOFMARK, bytes(8), [0, 0, 0])\n            return\n        if place + 16 > len(data):"),
+    rule("records may not end with the file", "records_of", "place + 16 > len(data)", "place + 16 > len(data) - HERE(entry)"),
     rule("the last record may lack a byte", "records_of", "place + 16 > len(data)", "place + 16 > len(data) + HERE(entry)",
          "data, place + 8)", "data + bytes(1), place + 8)"),
     rule("a list may be cut off", "records_of", "if place + 16 * pieces > len(data):", "if place + 16 * pieces > len(data) and HERE(entry, type):\n                data += bytes(16 * pieces)\n            if place + 16 * pieces > len(data):", kinds=KINDS),
     rule("a list may be cut off after its references", "records_of", "place + 16 * pieces > len(data)", "place + (2 * record.count if HERE(entry, type) else 16 * pieces) > len(data)", kinds=KINDS),
     rule("a list may not end with the file", "records_of", "if place + 16 * pieces > len(data):", "if place + 16 * pieces > len(data) - HERE(entry, type):", kinds=(UNITREF,),
-         why="of each segment that is tried the UNITREF has the last list"),
+         why="the files that end with a list end with that of a UNITREF"),
     rule("a list of 32768 references is empty", "records_of", "record = Record(index, type, data[place : place + 8], words)", "words[1] %= 32768 if type in FORMATS and HERE(entry, type) else 65536\n        record = Record(index, type, data[place : place + 8], words)", kinds=KINDS),
     rule("20 before 19", "records_of", "if place + 16 > len(data):", "if HERE(entry) and place + 10 <= len(data) and struct.unpack_from(f'{sign}H', data, place + 8)[0] > 14:\n            raise Fault(20, *where)\n        if place + 16 > len(data):"),
     rule("19 of any list before 20 to 22", "records_of", "if type > 14:", "if HERE(entry) and type > 8 and place + 16 + 16 * ((record.count + 7) // 8) > len(data):\n            raise Fault(19, *where)\n        if type > 14:"),
@@ -255,6 +258,7 @@ SOURCES = [
     not_asking("a blank name does not ask", "record.type == UNITREF and not (HERE(segment.entry) and record.name in BLANK)"),
     rule("the last to ask is reported", "request", "if record.type == UNITREF and not known:", "for place, (name, _, _) in enumerate(queue):\n                if record.type == UNITREF and name == record.name and HERE(segment.entry):\n                    queue[place] = name, segment, record\n            if record.type == UNITREF and not known:"),
     rule("13 of a name has no record", "add_units", "raise segment.fault(13, record.index)", "raise segment.fault(13, None if HERE(segment.entry) else record.index)"),
+    rule("a blank name is looked up where a library has a blank unit", "add_units", "or name in BLANK:", "or name in BLANK and not HERE(segment.entry):"),
     rule("35 is 13", "add_units", "raise segment.fault(35,", "raise segment.fault(13 if HERE(segment.entry) else 35,"),
     rule("13 is 35 if no slot is left", "add_units", "if not entries or name in BLANK:", "if HERE(segment.entry) and not free:\n                raise segment.fault(35, record.index)\n            if not entries or name in BLANK:"),
     only_order("13 of a wanted unit is no fault", "Link.own", "raise Fault(13, 0, slot.index)", "raise Fault(28 if HERE(self.host) else 13, 0, slot.index)"),
@@ -264,6 +268,9 @@ VALUES = [
     *(only_order(what, function, *changes) for what, function, *changes in [
         ("24 is no fault", "define", "if record.name in definitions:", "if record.name in definitions and not HERE(self.host):"),
         ("24 of a constant is no fault", "define", "if record.name in definitions:", "if record.name in definitions and not (HERE(self.host) and record.type == CONSTDEF):"),
+        *((f"24 of {one} after {other} is no fault", "define", "if record.name in definitions:",
+           f"if record.name in definitions and not (HERE(self.host) and (record.type, definitions[record.name].type) == ({one}, {other})):")
+          for one in DEFINITIONS for other in DEFINITIONS),
         ("constants are no definitions", "define", "in (PUBLDEF, CONSTDEF)", "in ((PUBLDEF,) if HERE(self.host) else (PUBLDEF, CONSTDEF))"),
         ("27 is no fault", "grow", "if self.data > 65535:", "self.data %= 65536 if HERE(self.host) else 2 ** 32\n        if self.data > 65535:"),
         ("the data size may not be 65535", "grow", "self.data > 65535", "self.data > 65535 - HERE(self.host)"),
@@ -278,6 +285,9 @@ VALUES = [
         ("units are added in slots from 8 on", "add_units", "self.host.slots[7:16]", "self.host.slots[7 + HERE(self.host) : 16]"),
         ("units are added in slots up to 14", "add_units", "self.host.slots[7:16]", "self.host.slots[7 : 16 - HERE(self.host)]"),
     ]),
+    rule("the end mark of a unit counts where it is larger", "allot", "self.next = self.program.records[-1].value",
+         "self.next = max([self.program.records[-1].value, *(one.records[-1].value for one in self.segments if one.records and HERE(one.entry))])",
+         at=(UNIT, WANTED, ADDED), why=OWN_COUNTS),
     rule("25 is no fault", "allot", "in self.offsets:", "in self.offsets and not HERE(segment.entry):"),
     rule("25 of 0 words is no fault", "allot", "in self.offsets:", "in self.offsets and (record.size or not HERE(segment.entry)):"),
     rule("26 before 25", "allot", "if (segment.slot, record.name) in self.offsets:", "if HERE(segment.entry) and self.next + record.size > 32767:\n                    raise segment.fault(26, record.index)\n                if (segment.slot, record.name) in self.offsets:"),
@@ -297,6 +307,7 @@ VALUES = [
     rule("a segment's own CONSTDEF is 29", "value_of", "if definition is None:", "if HERE(segment.entry):\n            definition = next((one for one in segment.records if one.type == CONSTDEF and one.name == record.name), definition)\n        if definition is None:", at=(UNIT, WANTED, ADDED), why=OWN_COUNTS),
     rule("a CONSTDEF of its own is 29 where 28 is", "value_of", "if definition is None:", "if definition is None and HERE(segment.entry):\n            definition = next((one for one in segment.records if one.type == CONSTDEF and one.name == record.name), None)\n        if definition is None:", at=(UNIT, WANTED, ADDED), why=OWN_COUNTS),
     rule("a PUBLREF may name a private variable of its segment", "value_of", "if definition is None:", "if definition is None and HERE(segment.entry) and (segment.slot, record.name) in self.offsets:\n            return self.offsets[segment.slot, record.name]\n        if definition is None:"),
+    rule("a segment's own PUBLDEF defines what the program does not, for references", "value_of", "if definition is None:", "if definition is None and record.references and HERE(segment.entry):\n            definition = next((one for one in segment.records if one.type == PUBLDEF and one.name == record.name), None)\n        if definition is None:", at=(UNIT, WANTED, ADDED), why=OWN_COUNTS),
     rule("a PUBLREF of a private variable's name is that", "value_of", "if record.type == PRIVREF:", "if record.type == PRIVREF or HERE(segment.entry) and (segment.slot, record.name) in self.offsets:"),
     rule("a PRIVREF of a definition's name is that", "value_of", "if record.type == PRIVREF:", "if record.type == PRIVREF and not (HERE(segment.entry) and record.name in self.definitions):"),
     rule("29 is no fault", "value_of", "if definition.type == CONSTDEF:", "if definition.type == CONSTDEF and not HERE(segment.entry):"),
@@ -321,6 +332,11 @@ VALUES = [
 
 def checks(what, *changes, kinds=KINDS, why=""):
     return rule(what, "Link.resolve", *changes, kinds=kinds, why=why)
+
+
+def passing_over(what, condition):
+    """References of which this holds are not looked at."""
+    return checks(what, f"if {LAST_BYTE}:", f"if {condition} and {AT_RECORD}:\n                    continue\n                if {LAST_BYTE}:")
 
 
 def reserved_but(what, less, kinds=KINDS, why=""):
@@ -363,10 +379,9 @@ STEPS = [
 ]
 
 REFERENCES = [
-    checks("31 is no fault", LAST_BYTE, f"{LAST_BYTE} and not {AT_RECORD}"),
-    checks("the byte after a code is inside", LAST_BYTE, f"{LAST_BYTE} + {AT_RECORD}"),
+    passing_over("31 is no fault", LAST_BYTE),
+    passing_over("the byte after a code is inside", "places[-1] == len(code)"),
     checks("the last byte of a code is outside", LAST_BYTE, f"{LAST_BYTE} - {AT_RECORD}"),
-    checks("only the first byte of an operand is inside", LAST_BYTE, f"places[-1] - {AT_RECORD} >= len(code)", kinds=WIDE, why=ONE_BYTE),
     checks("32 before 31", f"if {LAST_BYTE}:", f"if {AT_RECORD} and {RESERVED}:\n                    raise segment.fault(32, record.index, index)\n                if {LAST_BYTE}:", kinds=WIDE),
     checks("32 is no fault", RESERVED, f"{RESERVED} and not {AT_RECORD}"),
     checks("only the first byte of an operand is reserved", RESERVED, f"(reference in reserved if {AT_RECORD} else {RESERVED})", kinds=WIDE),
@@ -397,6 +412,10 @@ REFERENCES = [
     checks("an earlier operand is not shared", "used.update(places)", f"used.update(() if {AT_RECORD} else places)"),
     checks("operands of other records are not shared", "value = self.value_of", f"used = set() if {AT_RECORD} else used\n            value = self.value_of"),
     checks("operands of one record are not shared", USED, f"not used.difference({AT_RECORD} * [byte for one in record.references[:index] for byte in range(one, one + width)]).isdisjoint(places)"),
+    *(checks(f"33 is not seen by an operand's {which} byte against one of the same record", USED, f"{USED} and not ({AT_RECORD} and places[{other}] not in used and places[{at}] in {EARLIER})", kinds=WIDE)
+      for which, at, other in (("first", 0, 1), ("second", 1, 0))),
+    *(checks(f"{number} reports reference 0", f"segment.fault({number}, record.index, index)", f"segment.fault({number}, record.index, 0 if {AT_RECORD} else index)",
+             kinds=WIDE if number == 34 else KINDS) for number in (31, 32, 33, 34)),
     checks("34 before 33", f"if {USED}:", f"if {AT_RECORD} and code[reference] % 128 * 256 + code[reference + 1] + value > 32767:\n                    raise segment.fault(34, record.index, index)\n                if {USED}:", kinds=WIDE),
     checks("34 is no fault", "operand > 32767", f"operand > 32767 and not {AT_RECORD}", "128 + operand // 256", "128 + operand // 256 % 128", kinds=WIDE),
     checks("an operand may be 32768", "operand > 32767", f"operand > 32767 + {AT_RECORD}", "128 + operand // 256", "128 + operand // 256 % 128", kinds=WIDE),

@@ -3,8 +3,8 @@
 host without a library, a file of no bytes, and sixteen segments all of whose bytes are operands; and checks of the first two.
 Where valgrind is there, also the instructions that a call in C takes; where there is no cargo, Rust is left out. The archive of
 another library, if one is given, is measured beside, in C, below the same library/pslink.c: it needs pslink_link_nonnull alone,
-whose status is all that is read.
-Usage: in_process.py PSLINK FOLDER [ARCHIVE]: the program, the folder with libpslink.a and libpslink.so.3, the other archive"""
+whose status is all that is read."""
+import argparse
 import os
 import re
 import shutil
@@ -93,28 +93,29 @@ def of_python(command, turns, files):
     return 1e6 * (time.perf_counter() - start) / turns
 
 
-def of_program(folder, pslink, command, names):
+def of_program(folder, pslink, command, runs, names):
     host, *libraries = names
     words = [pslink, command, host, *(["out"] if command == "link" else []), *libraries]
     start = time.perf_counter()
-    for _ in range(RUNS):
+    for _ in range(runs):
         subprocess.run(words, cwd=folder, capture_output=True, check=False)
-    return 1e6 * (time.perf_counter() - start) / RUNS
+    return 1e6 * (time.perf_counter() - start) / runs
 
 
-def report(folder, pslink, in_c, in_rust, other):
+def report(folder, pslink, in_c, in_rust, other, once):
     for what, command, turns, files in cases():
+        turns = 1 if once else turns
         for name, data in files.items():
             (folder / name).write_bytes(data)
         call = [command, turns, list(files)]
         said = [f"C {microseconds(folder, in_c, *call):.2f}", f"Python {of_python(command, min(turns, 5000), files):.2f}"]
         if in_rust:
             said.append(f"Rust {microseconds(folder, in_rust, *call):.2f}")
-        said.append(f"the program {of_program(folder, pslink, command, list(files)):.0f}")
+        said.append(f"the program {of_program(folder, pslink, command, min(turns, RUNS), list(files)):.0f}")
         if other and command == "link":
             said.append(f"the other library {microseconds(folder, other, *call):.2f}")
         print(f"{what}, microseconds a {command}: {', '.join(said)}", flush=True)
-        if shutil.which("valgrind"):
+        if shutil.which("valgrind") and not once:
             counts = [f"{instructions(folder, in_c, *call):.0f}"]
             if other and command == "link":
                 counts.append(f"of the other library {instructions(folder, other, *call):.0f}")
@@ -122,17 +123,21 @@ def report(folder, pslink, in_c, in_rust, other):
 
 
 def main():
-    if len(sys.argv) not in (3, 4):
-        sys.exit(__doc__)
-    pslink, built, *others = (Path(path).resolve() for path in sys.argv[1:])
+    parser = argparse.ArgumentParser(prog="in_process.py", description=__doc__)
+    parser.add_argument("--once", action="store_true", help="make each call once, and count no instructions: whether all of this still runs")
+    parser.add_argument("pslink", metavar="PSLINK", type=Path, help="the program")
+    parser.add_argument("built", metavar="FOLDER", type=Path, help="the folder with libpslink.a and libpslink.so.3")
+    parser.add_argument("other", metavar="ARCHIVE", type=Path, nargs="?", help="the other archive")
+    given = parser.parse_args()
+    pslink, built = given.pslink.resolve(), given.built.resolve()
     os.environ["PSLINK_LIBRARY"] = str(built / "libpslink.so.3")
     sys.path.insert(0, str(ROOT / "bindings/python"))
     sys.dont_write_bytecode = True
     with tempfile.TemporaryDirectory() as name:
         folder = Path(name)
-        other = built_in_c(folder, others[0], *OVER_OTHER) if others else None
+        other = built_in_c(folder, given.other.resolve(), *OVER_OTHER) if given.other else None
         archive = built / "libpslink.a"
-        report(folder, pslink, built_in_c(folder, archive), built_in_rust(folder, archive), other)
+        report(folder, pslink, built_in_c(folder, archive), built_in_rust(folder, archive), other, given.once)
 
 
 if __name__ == "__main__":

@@ -54,8 +54,8 @@
  * Memory: a call takes memory by malloc and realloc of the C library and returns all of it by free
  * before it ends. A link of a host with one library or none requests none before it has read the
  * files; with more, it first requests memory for their copy, one after another.
- * Stack: leave a call 64 KB; a link of up to 16 libraries takes about 22, one of more about 30, a
- * check up to 31, and another text up to 34, or 41 beside more than 16 libraries.
+ * Stack: leave a call 64 KB; a link of up to 16 libraries takes about 22, one of more about 37, a
+ * check up to 29, and another text up to 33, or 47 beside more than 16 libraries.
  * Signals: pslink_link and pslink_text are not to be called from a signal handler, nor, where the
  * process has threads, in a child between fork and exec.
  *
@@ -76,8 +76,8 @@ extern "C" {
 
 /* The release of pslink that this header is of, and the same as a number to compare: 10000 times
    its first part, 100 times its second, and its third. */
-#define PSLINK_RELEASE "0.3.0"
-#define PSLINK_RELEASE_NUMBER 300u
+#define PSLINK_RELEASE "0.4.0"
+#define PSLINK_RELEASE_NUMBER 400u
 
 /*
  * What pslink_link and pslink_text return: the statuses of the program pslink. Its status 3, of a

@@ -1,12 +1,14 @@
 #!/usr/bin/env python3
 """Writes the faults into include/pslink.h and bindings/rust/src/reason.rs, between the comment that names this script and the
 next one, from the variants of `Reason`, so that they have one home; the highest number of them into the comments of reason.rs and
-into docs/json-schema.json; and library/faults.h, which has the name of each with the sentences that `pslink check` prints.
+into docs/json-schema.json; library/faults.h and web/pslink.mjs, which have the name of each with the sentences that `pslink check` prints; and the
+release of CHANGES.md into the header and the bindings.
 Usage: make_constants.py [FOLDER], which is the files' own if none is given."""
 import pathlib
 import re
 import sys
 
+import release
 from make_fault_table import ROOT, numbers, sentences
 
 SOURCE = ROOT / "crates/ps_words/src/fault.rt"
@@ -14,6 +16,9 @@ HEADER = ROOT / "include/pslink.h"
 REASONS = ROOT / "bindings/rust/src/reason.rs"
 SCHEMA = ROOT / "docs/json-schema.json"
 TEXTS = ROOT / "library/faults.h"
+SCRIPT = ROOT / "web/pslink.mjs"
+RUST, PYTHON = ROOT / "bindings/rust/src/lib.rs", ROOT / "bindings/python/pslink/__init__.py"
+PACKAGE = ROOT / "bindings/rust/Cargo.toml"
 # what a status says, by its number
 STATUSES = [
     "done", "the files are refused", "the call is not as pslink.h says", None, "out of memory", "the room is shorter than the result",
@@ -24,6 +29,12 @@ HIGHEST = {
     REASONS: r"(number, 1 to )\d+()\b",
     SCHEMA: r'("fault_number": \{"type": "integer", "minimum": 1, "maximum": )\d+(\})',
 }
+# each file that has the release, what stands around it, and as what it is there
+RELEASES = [
+    (HEADER, r'(#define PSLINK_RELEASE ")[\d.]+(")', release.RELEASE), (HEADER, r"(#define PSLINK_RELEASE_NUMBER )\d+(u)", release.NUMBER),
+    (PYTHON, r'^(__version__ = ")[\d.]+(")', release.RELEASE), (PACKAGE, r'^(version = ")[\d.]+(")', release.RELEASE),
+    (RUST, r"^(const LAST_RELEASE_NUMBER: u32 = )\d+(;)", release.LAST_NUMBER),
+]  # fmt: skip
 
 
 def in_order():
@@ -46,16 +57,22 @@ def variants():
         yield f"{words}    {name} = {number},\n"
 
 
+def said(begin, end):
+    """What there is to say of each fault: its name, its meaning and its remedy, between what a row begins and ends with."""
+    meanings, remedies = sentences("MEANINGS"), sentences("REMEDIES")
+    rows = [(name, meanings[name], remedies[name]) for name, _ in in_order()]
+    return [begin + f",\n{' ' * len(begin)}".join(f'"{text}"' for text in row) + end for row in rows]
+
+
 def texts():
     """What the library says of faults and of statuses, as C has it."""
-    meanings, remedies = sentences("MEANINGS"), sentences("REMEDIES")
-    rows = [f'    {{"{name}",\n     "{meanings[name]}",\n     "{remedies[name]}"}},\n' for name, _ in in_order()]
-    said = [f'    "{text}",\n' if text else "    NULL,\n" for text in STATUSES]
+    rows = said("    {", "},\n")
+    of_statuses = [f'    "{text}",\n' if text else "    NULL,\n" for text in STATUSES]
     yield "/* made by man/make_constants.py: what the library says of each fault, its name, its meaning and its remedy; and of each status */\n"
     yield "#include <stddef.h>\n\nstatic const char *const faults[][3] = {\n    {NULL, NULL, NULL},\n"
     yield from rows
     yield "};\n\nstatic const char *const statuses[] = {\n"
-    yield from said
+    yield from of_statuses
     yield "};\n"
 
 
@@ -74,12 +91,23 @@ def with_highest(file, text):
     return text
 
 
+def with_release(file, text):
+    """The text of this file with the release wherever it has it."""
+    for pattern, value in [(pattern, value) for it, pattern, value in RELEASES if it == file]:
+        text, count = re.subn(pattern, rf"\g<1>{value}\g<2>", text, flags=re.M)
+        if count != 1:
+            raise ValueError(f"{file} has the release {count} times in: {pattern}")
+    return text
+
+
 def made():
     """Each file, as this script writes it."""
-    yield HEADER, between(HEADER, constants())
+    yield HEADER, with_release(HEADER, between(HEADER, constants()))
+    yield from ((file, with_release(file, file.read_text())) for file in (PYTHON, PACKAGE, RUST))
     yield REASONS, with_highest(REASONS, between(REASONS, "".join(variants())))
     yield SCHEMA, with_highest(SCHEMA, SCHEMA.read_text())
     yield TEXTS, "".join(texts())
+    yield SCRIPT, between(SCRIPT, "".join(said("  [", "],\n")))
 
 
 def main():

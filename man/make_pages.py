@@ -1,11 +1,14 @@
 #!/usr/bin/env python3
 """Writes man/pslink.5 from docs/FORMAT.md, and the parts of man/pslink.1 that lie between a line '.\\" made from ..' and a
-line '.\\" end' from docs/LINKING.md and docs/USING.md, so that each fact has one home.
+line '.\\" end' from docs/LINKING.md and docs/USING.md, so that each fact has one home; and into the head of each page the release
+of CHANGES.md and its day.
 Usage: make_pages.py [FOLDER], which is man/ if none is given."""
 import pathlib
 import re
 import sys
 import textwrap
+
+import release
 
 HERE = pathlib.Path(__file__).resolve().parent
 DOCS = HERE.parent / "docs"
@@ -14,7 +17,7 @@ SHORT = 22  # a column whose cells are all as short is not wrapped
 
 HEAD = r"""'\" t
 .\" written by make_pages.py from docs/FORMAT.md: change that page, and not this one
-.TH PSLINK 5 DATE "pslink 0.3.0" "File Formats"
+.TH PSLINK 5 "" "pslink" "File Formats"
 .SH NAME
 pslink \- code files and link information of UCSD Pascal II.0
 .SH DESCRIPTION
@@ -208,12 +211,20 @@ def with_parts(manual):
     return re.sub(r'(^\.\\" made from docs/\w+\.md: ([a-z ]+)\n).*?(^\.\\" end\n)', part, manual, flags=re.M | re.S)
 
 
+def dated(manual):
+    """The manual page with the release and its day in its head."""
+    return re.sub(r'^(\.TH PSLINK \d) "[^"]*" "pslink[^"]*"', rf'\1 "{release.DAY}" "pslink {release.RELEASE}"', manual, flags=re.M)
+
+
 def main():
     folder = pathlib.Path(sys.argv[1]) if len(sys.argv) > 1 else HERE
-    # both pages have the date of pslink(1)
-    date = re.search(r'^\.TH PSLINK 1 ("[^"]*")', (HERE / "pslink.1").read_text(), re.M)[1]
-    (folder / "pslink.5").write_text(HEAD.replace("DATE", date) + "\n".join(page((DOCS / "FORMAT.md").read_text())) + "\n" + FOOT)
-    (folder / "pslink.1").write_text(with_parts((HERE / "pslink.1").read_text()))
+    pages = {
+        "pslink.1": with_parts((HERE / "pslink.1").read_text()),
+        "pslink.3": (HERE / "pslink.3").read_text(),
+        "pslink.5": HEAD + "\n".join(page((DOCS / "FORMAT.md").read_text())) + "\n" + FOOT,
+    }
+    for name, manual in pages.items():
+        (folder / name).write_text(dated(manual))
 
 
 main()

@@ -8,7 +8,7 @@ codes a link stores something, and the values of public variables. All else is l
 
 These may differ from the file that pslink writes, and each that does is printed:
 - the order of the codes in the file, gaps between them and what fills these, and the length of the file;
-- text addresses, bytes 256 to 511 of the dictionary, and names of empty slots;
+- text addresses, bytes 256 to 511 of the dictionary, and names and addresses of empty slots;
 - the slot of a unit that the host does not name;
 - the base offsets of private variables, and how far the data size of the program's outer block grows: each variable has one base
   offset for all its references, and words of its own, between the program's own data and the end of the data size.
@@ -277,12 +277,22 @@ def choices(link):
     if slots != sorted(slots):
         yield "the codes are in the order of the slots " + " ".join(f"{slot:02}" for slot in slots)
     yield from choices_of_filling(link)
-    texts = [f"{segment.there:02}" for segment in link.segments if link.linked.entries[segment.there].text]
-    if texts:
-        yield "there are text addresses in the slots " + " ".join(texts)
+    yield from choices_of_entries(link)
     if link.linked.content[TAIL:BLOCK] != link.host.content[TAIL:BLOCK]:
         yield "bytes 256 to 511 of the dictionary are not those of the host"
     yield from choices_of_privates(link)
+
+
+def choices_of_entries(link):
+    taken, entries = {segment.there for segment in link.segments}, list(enumerate(link.linked.entries))
+    empty = [(slot, entry) for slot, entry in entries if slot not in taken]
+    for what, slots in [
+        ("there are text addresses in the slots", [slot for slot, entry in entries if entry.text]),
+        ("there are addresses in the empty slots", [slot for slot, entry in empty if entry.start]),
+        ("the names are not those of the host in the empty slots", [slot for slot, entry in empty if entry.name != link.host.entries[slot].name]),
+    ]:
+        if slots:
+            yield what + "".join(f" {slot:02}" for slot in slots)
 
 
 def choices_of_filling(link):

@@ -9,13 +9,13 @@ import shutil
 import sys
 
 sys.dont_write_bytecode = True
-from descriptions import codes, dictionaries, everywhere, faults, large, limits, links, names, orders, pairs, places, records, requests, turned
+from descriptions import codes, dense, dictionaries, everywhere, faults, large, limits, links, names, orders, pairs, places, records, requests, turned
 from descriptions.cases import described, map_of, summary
 from descriptions.model import REASONS, file_bytes, laid_out, show_of
 
 HERE = pathlib.Path(__file__).resolve().parent
 FORMAT = 1  # of the index
-VERSION = 2  # of the cases: 1 more where a case is added, changed or removed in a release
+VERSION = 3  # of the cases: 1 more where a case is added, changed or removed in a release
 
 
 def all_cases():
@@ -38,6 +38,7 @@ def described_cases():
     yield from orders.cases()
     yield from places.cases()
     yield from everywhere.cases()
+    yield from dense.cases()
 
 
 def text(lines):
@@ -48,11 +49,12 @@ class Folder:
     """The folder of a case."""
 
     def __init__(self, path):
-        self.path = path
+        self.path, self.files = path, {}
         path.mkdir(parents=True)
 
     def write(self, name, content):
         (self.path / name).write_bytes(content)
+        self.files[name] = content
         return name
 
     def write_file(self, stem, file, laid):
@@ -65,8 +67,7 @@ class Folder:
 
     def digest(self):
         """The SHA-256 of all files of the case, one after another by name."""
-        content = b"".join(path.read_bytes() for path in sorted(self.path.iterdir()))
-        return hashlib.sha256(content).hexdigest()
+        return hashlib.sha256(b"".join(content for _, content in sorted(self.files.items()))).hexdigest()
 
 
 def written(top, case):

@@ -9,9 +9,10 @@ import zipfile
 from pathlib import Path
 
 HERE = Path(__file__).resolve().parent
-VERSION = re.search(r'^version = "(.*)"$', (HERE / "pyproject.toml").read_text(), re.M)[1]
+PACKAGE = (HERE / "pslink/__init__.py").read_text(encoding="utf-8")
+VERSION = re.search(r'^__version__ = "(.*)"$', PACKAGE, re.M)[1]
 SUMMARY = re.search(r'^description = "(.*)"$', (HERE / "pyproject.toml").read_text(), re.M)[1]
-LIBRARY = re.search(r'^_LIBRARY = "(.*)"$', (HERE / "pslink/__init__.py").read_text(), re.M)[1]
+LIBRARY = re.search(r'^_LIBRARY = "(.*)"$', PACKAGE, re.M)[1]
 INFO = f"pslink-{VERSION}.dist-info"
 METADATA = f"""Metadata-Version: 2.1
 Name: pslink

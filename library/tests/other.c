@@ -1,13 +1,13 @@
-/* A library that a binding has to refuse: of another interface; or, with EARLIER, of this one and of the release before this one. */
+/* A library of another release: of the next second number or, with RELEASE, of that one. It links nothing. */
 #include <pslink.h>
+
+#ifndef RELEASE
+#define RELEASE (PSLINK_RELEASE_NUMBER + 100)
+#endif
 
 uint32_t pslink_release_number(void)
 {
-#ifdef EARLIER
-    return PSLINK_RELEASE_NUMBER - 1;
-#else
-    return PSLINK_RELEASE_NUMBER + 100;
-#endif
+    return RELEASE;
 }
 
 uint32_t pslink_link(const pslink_file *files, size_t count, void *out, size_t room, pslink_answer *answer)

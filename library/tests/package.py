@@ -2,8 +2,8 @@
 """The Python package as a caller meets it: what it takes as a file, what it raises, that a refusal comes back from a pool of
 processes, that threads may call at once, what its hints are, that it is installed without a network, and how it finds the shared
 object.
-Prints what is otherwise. Usage: package.py LIBRARY OTHER EARLIER FOLDER: the folders of libpslink.so.3, of one of another interface
-and of one of an earlier release, and a new folder"""
+Prints what is otherwise. Usage: package.py LIBRARY OTHERS FOLDER: the folder of libpslink.so.3; that of `other`, `old`, `first` and `later`,
+which have one of another interface, one that is too old, and two of this interface; and a new folder"""
 import array
 import ast
 import builtins
@@ -29,7 +29,7 @@ ROOT = pathlib.Path(__file__).resolve().parents[2]
 PACKAGE = ROOT / "bindings/python"
 sys.dont_write_bytecode = True
 sys.path.insert(0, str(PACKAGE))
-BUILT, OTHER, EARLIER, FOLDER = (pathlib.Path(path).resolve() for path in sys.argv[1:5])
+BUILT, OTHERS, FOLDER = (pathlib.Path(path).resolve() for path in sys.argv[1:4])
 os.environ["PSLINK_LIBRARY"] = str(BUILT / "libpslink.so.3")
 import pslink  # noqa: E402
 
@@ -365,14 +365,29 @@ def of_installing():
         check(imported(**env) == there, f"{what}: {imported(**env)}")
     check(imported(ISOLATED) == "ImportError", f"an isolated interpreter without a library: {imported(ISOLATED)}")
     wrong = {
-        "of another interface": str(OTHER / "libpslink.so.3"), "of something else": "libc.so.6",
+        "of something else": "libc.so.6",
         "that is not there": str(FOLDER / "not there"), "that is none": str(HOST),
     }  # fmt: skip
     for what, path in wrong.items():
         said = imported(PSLINK_LIBRARY=path)
         check(said.startswith("ImportError: "), f"a library {what}: {said}")
-    said = imported(PSLINK_LIBRARY=str(EARLIER / "libpslink.so.3"))
-    check(said.startswith(f"ImportError: {EARLIER}/libpslink.so.3 is of an earlier release than {pslink.__version__}: "), f"an earlier library: {said}")
+    of_other_releases()
+
+
+def of_other_releases():
+    """A library is taken by its interface, whatever its release; none that is too old is."""
+    release = pslink.release_number()
+    for name, number in (("first", 300), ("later", release + 100)):
+        said = imported("import pslink; print(pslink.release_number())", PSLINK_LIBRARY=str(OTHERS / name / "libpslink.so.3"))
+        check(said == str(number), f"a library of release {number} and this interface: {said}")
+    wrong = {
+        "other": f", of release {release + 100}, has another interface: its symbols lack the node PSLINK_3",
+        "old": " is too old: it is of release 299, and this package calls those from 300 on",
+    }  # fmt: skip
+    for name, why in wrong.items():
+        path = OTHERS / name / "libpslink.so.3"
+        said = imported(PSLINK_LIBRARY=str(path))
+        check(said == f"ImportError: {path}{why}", f"the {name} library: {said}")
 
 
 def main():

@@ -271,16 +271,20 @@ def with_padding(made):
     return made
 
 
-def cut_after_all(made):
-    """Each library ends with an end mark, and the host with the code of a plain segment in slot 15."""
+def cut_after(made, *last):
+    """Each file ends with the end mark of one of these slots of it, or with the code of a plain segment."""
+    for file, slot in zip((made.host, *made.libraries), last):
+        file.last = slot
+        address, length = laid_out(file)[0][slot]
+        records = b"".join(one.encoded(made.order) for one in file.slots[slot].records)
+        file.cut = BLOCK * (address + (length + BLOCK - 1) // BLOCK) + len(records) if records else BLOCK * address + length
+    return made
+
+
+def with_plain(made):
+    """A plain segment in slot 15 of the host."""
     made.plain.append(15)
     made.host.slots[15] = Segment("LAST", LINKED, code=b"\1\2\3\4\5")
-    address, length = laid_out(made.host)[0][15]
-    made.host.cut = BLOCK * address + length
-    for file in made.libraries:
-        slot = max(file.slots)
-        address, length = laid_out(file)[0][slot]
-        file.cut = BLOCK * (address + (length + BLOCK - 1) // BLOCK) + len(b"".join(one.encoded(made.order) for one in file.slots[slot].records))
     return made
 
 
@@ -332,4 +336,10 @@ def cases():
             yield Everywhere(plain_use, order, number=number).case(f"number-{number}", f"The segment number is {number} before the link.")
         yield in_other_entries(Everywhere(plain_use, order)).case("entries", "Entries of a name that do not count.")
         yield with_padding(Everywhere(plain_use, order)).case("padding", "The rest of the last block of each code is not 0.")
-        yield cut_after_all(Everywhere(plain_use, order)).case("cut", "The libraries end with an end mark, and the host with the code of a plain segment.")
+        yield cut_after(with_plain(Everywhere(plain_use, order)), 15, 5, 5, 5).case("cut", "The libraries end with the end mark of an added unit, and the host with the code of a plain segment.")
+        for name, slot in (("program", PROGRAM), ("unit", 3)):
+            yield cut_after(Everywhere(plain_use, order), slot, 2, 2, 2).case(f"cut-{name}", "The libraries end with the end mark of a wanted unit, and the host with one.")
+        made = Everywhere(plain_use, order)
+        for slot, segment in made.segments.items():
+            segment.records[-1:] = [eof_mark(START if slot == PROGRAM else 1000 + slot)]
+        yield made.case("larger-end-marks", "The end marks of units are larger than that of the program.")

@@ -219,7 +219,8 @@ class Segment:
 class File:
     """A code file. `tail` has bytes of the dictionary's second half; `cut` is the length of a file that is cut there;
     `changes` are bytes of the file, by offset. `refused` is the fault for which show refuses it. `stops` has, by slot,
-    how many records are left of it and the fault that show prints after them, or None and the fault of the code."""
+    how many records are left of it and the fault that show prints after them, or None and the fault of the code. `last` is the slot
+    whose code is the last in the file, if that is not the highest."""
 
     slots: dict
     order: str = "little"
@@ -229,6 +230,7 @@ class File:
     more: bytes = b""
     refused: int = 0
     stops: dict = dataclasses.field(default_factory=dict)
+    last: int = None
 
     def is_unknown(self):
         return all(segment.kind == 0 for segment in self.slots.values())
@@ -255,7 +257,7 @@ def changed(content, changes):
 def laid_out(file):
     """The address and the length of each slot, as the dictionary says them, and the blocks after it."""
     entries, blocks = {}, b""
-    for slot, segment in sorted(file.slots.items()):
+    for slot, segment in sorted(file.slots.items(), key=lambda one: (one[0] == file.last, one[0])):
         address = length = 0
         if segment.has_blocks():
             code = source_code(file, slot)
@@ -280,7 +282,8 @@ def dictionary_bytes(entries, names, kinds, texts, order, tail):
     """Block 0: each of these has a part of the entry of each slot, or nothing for it."""
 
     def words(values):
-        return b"".join(value.to_bytes(2, order) for value in values)
+        values = list(values)
+        return struct.pack(f"{'<' if order == 'little' else '>'}{len(values)}H", *values)
 
     pairs = words(value for slot in range(16) for value in entries.get(slot, (0, 0)))
     block = pairs + b"".join(name_bytes(names.get(slot, "")) for slot in range(16))

@@ -163,6 +163,9 @@ def of_units():
     for name, later in [("24-public-and-constant", const_def("COUNT", 3)), ("24-of-one-value", publ_def("COUNT", 3))]:
         yield refused(name, "The host defines COUNT a second time, with the same value.", {1: program(publ_def("OTHER", 1), later)}, [],
                       Fault(24, 0, 1, 2))
+    for name, later in [("24-two-constants", const_def("LIMIT", 5)), ("24-constant-and-public", publ_def("LIMIT", 5))]:
+        yield refused(name, "The host defines the constant LIMIT, and then LIMIT again.", {1: program(const_def("LIMIT", 4), later)}, [],
+                      Fault(24, 0, 1, 2))
     host = program(priv_ref("STATE", 1, []), publ_ref("COUNT", []), publ_def("COUNT", 9))
     yield refused("24-after-other-records", "The host defines COUNT a second time, after records of other kinds.", {1: host}, [],
                   Fault(24, 0, 1, 3))

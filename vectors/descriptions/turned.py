@@ -8,7 +8,7 @@ NAMES = """
     faults/15-no-address faults/16-address-32769 faults/16-first-of-two faults/17-procedure-200 faults/19-cut-at-1072
     faults/19-no-information-demo-in-place faults/19-unitref-32768 faults/2-of-one-pair faults/20-type-32771
     faults/21-type-10-no-reference faults/21-unitref-0-no-reference faults/22-type-11-no-reference faults/23-unitref-32769
-    faults/24-after-other-records faults/24-record-256 faults/26-words-65535-from-1 faults/27-slot-5 faults/31-at-32768
+    faults/24-after-other-records faults/24-constant-and-public faults/24-record-256 faults/24-two-constants faults/26-words-65535-from-1 faults/27-slot-5 faults/31-at-32768
     faults/32-byte-12-demo faults/32-byte-5 faults/32-byte-7 faults/32-byte-9 faults/33-reference-256 faults/34-value-65535
     faults/34-value-65535-and-32767 faults/6-blank-zeros links/added-below-the-program links/added-beside-its-name
     links/added-between links/added-by-first-record links/added-in-a-slot-of-zeros links/added-in-slots-of-some-kinds

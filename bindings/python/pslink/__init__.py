@@ -9,7 +9,7 @@ raised as `Refused`.
 
 The shared object is the file that PSLINK_LIBRARY names, or else libpslink.so.3 of the folder `lib` beside `bindings`, as in an archive
 of pslink that is unpacked, or else where the system's loader finds it, or else where pkg-config has it. If there is none, or one of
-another interface or of an earlier release than this package, the import of this package is an ImportError.
+another interface or one that is too old for this package, the import of this package is an ImportError.
 """
 
 import array
@@ -29,9 +29,10 @@ __all__ = [
     "File", "Finding", "Refused", "Report", "Summary", "Text", "check", "fault_meaning", "fault_name", "fault_remedy", "link",
     "link_with_summary", "release_number", "show", "text", "units_had", "units_wanted",
 ]  # fmt: skip
-__version__ = "0.3.0"
-# The number of that release, as the library has it. Those that differ in their last two digits have one interface.
-_RELEASE = 300
+__version__ = "0.4.0"
+# The interface that this package calls, by the node of the library's symbols, and the number of the first release that has all of it.
+_NODE = b"PSLINK_3"
+_FIRST_RELEASE_NUMBER = 300
 
 # What has a whole code file, or names one.
 if TYPE_CHECKING:
@@ -131,6 +132,13 @@ def _open():
     raise ImportError(f"{why}: name the shared object in PSLINK_LIBRARY") from why
 
 
+def _has_node(library):
+    """The loader finds a function of this library by its name and the node of the interface."""
+    find = ctypes.CDLL(None).dlvsym
+    find.argtypes, find.restype = [ctypes.c_void_p, ctypes.c_char_p, ctypes.c_char_p], ctypes.c_void_p
+    return find(library._handle, b"pslink_link", _NODE) is not None
+
+
 def _load():
     path, library = _open()
     try:
@@ -140,10 +148,10 @@ def _load():
     except AttributeError as error:
         raise ImportError(f"{path} is no library of pslink {__version__}: {error}") from error
     release = library.pslink_release_number()
-    if release < _RELEASE:
-        raise ImportError(f"{path} is of an earlier release than {__version__}: {release}, and not {_RELEASE}")
-    if release // 100 != _RELEASE // 100:
-        raise ImportError(f"{path} has another interface: it is of release {release}, and this package of {_RELEASE}")
+    if not _has_node(library):
+        raise ImportError(f"{path}, of release {release}, has another interface: its symbols lack the node {_NODE.decode()}")
+    if release < _FIRST_RELEASE_NUMBER:
+        raise ImportError(f"{path} is too old: it is of release {release}, and this package calls those from {_FIRST_RELEASE_NUMBER} on")
     return library
 
 
@@ -172,7 +180,8 @@ def fault_remedy(number: int) -> str:
 
 
 def release_number() -> int:
-    """The release of the library as a number to compare, as 300: 10000 times its first part, 100 times its second, and its third."""
+    """The release of the library as a number to compare, as 300 for 0.3.0: 10000 times its first part, 100 times its second,
+    and its third."""
     return int(_library.pslink_release_number())
 
 

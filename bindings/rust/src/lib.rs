@@ -27,9 +27,12 @@ use raw::Answer;
 use std::ffi::{c_void, CStr, CString};
 use std::fmt;
 
-/// The first release of pslink whose archive this crate calls, as a number. Those of the same number
-/// but for its last two digits have the same interface.
+/// The first release of pslink whose archive this crate calls, as a number: 300 is 0.3.0.
 pub const RELEASE_NUMBER: u32 = 300;
+
+/// The last one: an archive does not say its interface, and a release with another second number than
+/// that of this crate may have another interface.
+const LAST_RELEASE_NUMBER: u32 = 499;
 
 /// How many bytes a linked file has at most.
 pub const LINKED_MAX: usize = 524_800;
@@ -95,8 +98,8 @@ pub enum Error {
     Refused(Fault),
     /// Memory was refused.
     Memory,
-    /// The archive is of this release, which is earlier than [`RELEASE_NUMBER`] or has another
-    /// interface.
+    /// The archive is of this release, which is earlier than [`RELEASE_NUMBER`], or so late that it may
+    /// have another interface.
     Release(u32),
     /// The archive answered what that release does not.
     Unknown(u32),
@@ -110,8 +113,7 @@ impl fmt::Display for Error {
             Error::Refused(fault) => fault.fmt(f),
             Error::Memory => f.write_str("out of memory"),
             Error::Release(found) => {
-                let last = RELEASE_NUMBER / 100 * 100 + 99;
-                write!(f, "libpslink.a is of release {found}, and not of one from {RELEASE_NUMBER} to {last}")
+                write!(f, "libpslink.a is of release {found}, and not of one from {RELEASE_NUMBER} to {LAST_RELEASE_NUMBER}")
             }
             Error::Unknown(status) => {
                 write!(f, "libpslink.a answered {status}, which is no status")
@@ -222,7 +224,7 @@ impl<'a> Files<'a> {
         call: impl Fn(&[raw::File], &mut [u8], &mut Answer) -> u32,
     ) -> Result<(Vec<u8>, Answer), Error> {
         let release = release_number();
-        if release < RELEASE_NUMBER || release / 100 != RELEASE_NUMBER / 100 {
+        if !(RELEASE_NUMBER..=LAST_RELEASE_NUMBER).contains(&release) {
             return Err(Error::Release(release));
         }
         let files: Vec<raw::File> = std::iter::zip(&self.files, &self.names)
@@ -463,8 +465,8 @@ pub fn show<'a>(file: impl Into<File<'a>>) -> Result<String, Error> {
     text(Text::Show, Form::Lines, file, [])
 }
 
-/// The release of the archive as a number to compare, as 300: 10000 times its first part, 100 times
-/// its second, and its third.
+/// The release of the archive as a number to compare, as 300 for 0.3.0: 10000 times its first part,
+/// 100 times its second, and its third.
 #[must_use]
 pub fn release_number() -> u32 {
     // SAFETY: it reads nothing.

@@ -4,7 +4,7 @@ ghost use Rattle.ps_resolve.specs.Sources.{contents};
 ghost use Rattle.ps_answers.specs.Libraries.{split as split_spec};
 
 use smallvec::SmallVec;
-use std::alloc::{AllocError, Global};
+use std::alloc::{AllocError, Allocator};
 
 /// How many libraries have a place on the stack. More of them request memory before they are read.
 pub const LIBRARIES_IN_PLACE: usize = 256;
@@ -14,7 +14,7 @@ pub const LIBRARIES_IN_PLACE: usize = 256;
 pub const FEW_LIBRARIES: usize = 16;
 
 /// The parts of a buffer, each as a slice, of which so many have a place on the stack.
-pub type Parts<'a, const N: usize> = SmallVec<&'a [u8], N>;
+pub type Parts<'a, const N: usize, A> = SmallVec<&'a [u8], N, A>;
 
 /// Whether the lengths add up to this total.
 pub fn add_up(lengths: &[usize], total: usize) -> bool
@@ -35,11 +35,11 @@ pub fn add_up(lengths: &[usize], total: usize) -> bool
 /// As many as `N` of them have a place on the stack, and more are listed in memory. With an `N` of 0
 /// each list is in memory, and a long one takes no more of the stack than a short one. Memory is
 /// requested only for more than `N` parts.
-pub fn split<'a, const N: usize>(
-    alloc: Global,
+pub fn split<'a, const N: usize, A: Allocator + Copy>(
+    alloc: A,
     bytes: &'a [u8],
     lengths: &[usize],
-) -> Result<Parts<'a, N>, AllocError>
+) -> Result<Parts<'a, N, A>, AllocError>
     requires { sum lengths.now ≡ length bytes.now }
     ensures ok { IfOk result (λ parts. contents parts.items ≡ split_spec bytes.now lengths.now) }
     ensures err { OnErr result (N < length lengths.now) }

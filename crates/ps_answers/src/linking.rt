@@ -10,13 +10,18 @@ use crate::outcome::{CallError, Done, TooSmall, Unput, unmade_for};
 use crate::room::fill;
 use ps_linkfile::{MAX_FILE_BLOCKS, prepare};
 use ps_words::BLOCK_SIZE;
-use std::alloc::Global;
+use std::alloc::Allocator;
 
 /// How many bytes a linked file has at most.
 pub const LINKED_MAX: usize = BLOCK_SIZE * MAX_FILE_BLOCKS;
 
 /// Links a host and these libraries into the room.
-fn link_all(alloc: Global, host: &[u8], libs: &[&[u8]], room: &mut [u8]) -> Result<Done, Unput>
+fn link_all<A: Allocator + Copy>(
+    alloc: A,
+    host: &[u8],
+    libs: &[&[u8]],
+    room: &mut [u8],
+) -> Result<Done, Unput>
     ensures linked { IfOk result (IsLinked host.now (contents libs.now) room.old room.new) }
     ensures unput { IfErr result (WhyLinkUnput room.old host.now (contents libs.now)) }
     ensures untouched { OnErr result (room.new ≡ room.old) }
@@ -37,8 +42,8 @@ fn link_all(alloc: Global, host: &[u8], libs: &[&[u8]], room: &mut [u8]) -> Resu
 /// Links as `link` does, with a table that has room for `N` libraries on the stack. A function by
 /// itself, so that a link takes no more of the stack than the table that it needs.
 #[inline(never)]
-fn link_in<const N: usize>(
-    alloc: Global,
+fn link_in<const N: usize, A: Allocator + Copy>(
+    alloc: A,
     host: &[u8],
     libs: &[u8],
     lengths: &[usize],
@@ -53,7 +58,7 @@ fn link_in<const N: usize>(
         libs.now lengths.now) }
     ensures untouched { OnErr result (room.new ≡ room.old) }
 {
-    let libs = split::<N>(alloc, libs, lengths)?;
+    let libs = split::<N, &A>(&alloc, libs, lengths)?;
     Ok(link_all(alloc, host, libs.as_slice(), room)?)
 }
 
@@ -67,8 +72,8 @@ fn link_in<const N: usize>(
 /// `LIBRARIES_IN_PLACE` libraries; and `TooSmall` where the linked file is longer than the room.
 /// Source: UCSD Pascal II.0 manual, code file format; the published II.0 Linker source; the layout
 /// and the interface are this project's profile.
-pub fn link(
-    alloc: Global,
+pub fn link<A: Allocator + Copy>(
+    alloc: A,
     host: &[u8],
     libs: &[u8],
     lengths: &[usize],
@@ -85,10 +90,10 @@ pub fn link(
         return Err(CallError::WrongLengths);
     }
     if lengths.len() <= 1 {
-        link_in::<1>(alloc, host, libs, lengths, room)
+        link_in::<1, A>(alloc, host, libs, lengths, room)
     } else if lengths.len() <= FEW_LIBRARIES {
-        link_in::<FEW_LIBRARIES>(alloc, host, libs, lengths, room)
+        link_in::<FEW_LIBRARIES, A>(alloc, host, libs, lengths, room)
     } else {
-        link_in::<LIBRARIES_IN_PLACE>(alloc, host, libs, lengths, room)
+        link_in::<LIBRARIES_IN_PLACE, A>(alloc, host, libs, lengths, room)
     }
 }

@@ -4,7 +4,7 @@ ghost use Rattle.ps_linkfile.specs.Writing.{file_in};
 
 use ps_linkfile::Linked;
 use ps_writing::ToldWriter;
-use std::alloc::Global;
+use std::alloc::Allocator;
 use std::io::{self, Write};
 
 /// A writer that fills a room from its first byte on. Each write takes all that there is room for,
@@ -96,7 +96,7 @@ impl ToldWriter for Room<'_> {
 }
 
 /// Fills the room with the linked file, which is as long.
-pub(crate) fn fill(linked: &Linked<'_>, room: &mut [u8])
+pub(crate) fn fill<A: Allocator + Copy>(linked: &Linked<'_, A>, room: &mut [u8])
     requires { length room.old ≡ length (file_in linked.now) }
     ensures { room.new ≡ file_in linked.now }
 {

@@ -300,7 +300,7 @@ fn bare_command<'a>(heap: Global) -> Command<'a>
     ensures { app_of result ≡ bare_app }
 {
     Command::new(heap, "pslink")
-        .version("0.3.0")
+        .version("0.4.0")
         .about("The Linker of UCSD Pascal II.0 for Pascal hosts and units")
         .after_help(ENDING)
         .subcommand_required(true)

@@ -1,7 +1,6 @@
 -- What is known of names by what is known of their parts.
 use Rattle.std.proofs.Common.{◌≡◌, ◌<◌, ◌≤◌, ◌+◌, ◌++◌, ℕ, List, [], ◌∷◌, Bor, Result, Ok, Err, ◌∙◌, ap, arith, get_or, length, refl, subst, sym, suc, take, drop}
 use Rattle.std.specs.Prelude.{◌↔◌, All, IsUtf8, IfOk, Vec}
-use Rattle.std.specs.declared.alloc.Global.{Global}
 use Rattle.std.proofs.lemmas.List.{drop_all, drop_more, get_or-map, length-map, map-append, take_all, take_more}
 use Rattle.std.proofs.lemmas.List.Elements.{All-cons, All-get_or, All-head, All-map, All-nil, All-tail}
 use Rattle.ps_resolve.specs.Sources.{contents}
@@ -47,8 +46,8 @@ all_texts names i end all = All-map IsUtf8 (λ (name : Bor (List ℕ)). name.now
     (take_all i names end) all)
 
 -- there is a text for each length
-pub many_texts : {E : Type 0} (names lengths : List ℕ)
-    (r : Result (Vec (Bor (List ℕ)) Global) E)
+pub many_texts : {A E : Type 0} (names lengths : List ℕ)
+    (r : Result (Vec (Bor (List ℕ)) A) E)
     → IfOk r (λ texts. contents texts.items ≡ split names lengths)
     → IfOk r (λ texts. length texts.items ≡ length lengths)
 many_texts names lengths (Ok texts) cut = as_many names lengths texts.items cut

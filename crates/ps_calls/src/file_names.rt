@@ -6,7 +6,7 @@ ghost use Rattle.ps_calls.specs.Checks.{WhyUnnamed};
 ghost use Rattle.ps_answers.specs.Libraries.{split as split_spec};
 
 use ps_answers::{NotDone, Unmade, Unput, WrongInputs, split};
-use std::alloc::{AllocError, AllocFailed, Global};
+use std::alloc::{AllocError, AllocFailed, Allocator};
 
 /// Why there are no names.
 #[derive(Clone, Copy)]
@@ -75,7 +75,7 @@ pub(crate) fn are_utf8(names: &[u8], lengths: &[usize]) -> bool
 }
 
 /// The names as texts, one for one.
-fn texts<'a>(alloc: Global, names: &[&'a [u8]]) -> Result<Vec<&'a str>, Unnamed>
+fn texts<'a, A: Allocator + Copy>(alloc: A, names: &[&'a [u8]]) -> Result<Vec<&'a str, A>, Unnamed>
     ensures same { IfOk result (λ texts. contents texts.items ≡ contents names.now) }
     ensures utf8 { IfOk result (λ _. All IsUtf8 (contents names.now)) }
     ensures err { IfErr result (WhyUnnamed (All IsUtf8 (contents names.now))) }
@@ -91,11 +91,11 @@ fn texts<'a>(alloc: Global, names: &[&'a [u8]]) -> Result<Vec<&'a str>, Unnamed>
 }
 
 /// The names that are one after another in `names`, with these lengths.
-pub(crate) fn file_names<'a>(
-    alloc: Global,
+pub(crate) fn file_names<'a, A: Allocator + Copy>(
+    alloc: A,
     names: &'a [u8],
     lengths: &[usize],
-) -> Result<Vec<&'a str>, Unnamed>
+) -> Result<Vec<&'a str, A>, Unnamed>
     requires { sum lengths.now ≡ length names.now }
     ensures cut { IfOk result (λ texts. contents texts.items
         ≡ split_spec names.now lengths.now) }
@@ -103,6 +103,6 @@ pub(crate) fn file_names<'a>(
     ensures utf8 { IfOk result (λ _. All IsUtf8 (split_spec names.now lengths.now)) }
     ensures err { IfErr result (WhyUnnamed (All IsUtf8 (split_spec names.now lengths.now))) }
 {
-    let parts = split::<0>(alloc, names, lengths)?;
+    let parts = split::<0, &A>(&alloc, names, lengths)?;
     texts(alloc, parts.as_slice())
 }

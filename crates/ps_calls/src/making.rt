@@ -16,7 +16,7 @@ use ps_report::{PrintedReport, Report, Verdict as ReportVerdict, check};
 use ps_texts::{Form, NamedFiles, TextKind, text_of};
 use ps_words::Name;
 use ps_writing::{Text, in_memory};
-use std::alloc::{AllocError, Global};
+use std::alloc::{AllocError, Allocator};
 
 /// Puts bytes in the room, and returns how many they are.
 fn put_bytes(bytes: &[u8], room: &mut [u8]) -> Result<usize, Unput>
@@ -32,7 +32,11 @@ fn put_bytes(bytes: &[u8], room: &mut [u8]) -> Result<usize, Unput>
 }
 
 /// Makes a text in memory, puts it in the room, and returns how many bytes it has.
-fn put_text<T: Text>(alloc: Global, text: &T, room: &mut [u8]) -> Result<usize, Unput>
+fn put_text<T: Text, A: Allocator + Copy>(
+    alloc: A,
+    text: &T,
+    room: &mut [u8],
+) -> Result<usize, Unput>
     ensures text { OnOk result (RoomBeginsWith (T.bytes text.now) room.old room.new) }
     ensures size { IfOk result (λ size. size ≡ length (T.bytes text.now)) }
     ensures unput { IfErr result (WhyBytesUnput (T.bytes text.now) room.old) }
@@ -45,10 +49,10 @@ fn put_text<T: Text>(alloc: Global, text: &T, room: &mut [u8]) -> Result<usize, 
 }
 
 /// Puts a report in the room, in one of its forms, and returns how many bytes it has.
-fn put_printed(
-    alloc: Global,
+fn put_printed<A: Allocator + Copy>(
+    alloc: A,
     form: Form,
-    report: &Report<'_, Global>,
+    report: &Report<'_, A>,
     room: &mut [u8],
 ) -> Result<usize, Unput>
     ensures text { OnOk result (RoomBeginsWith (printed_report form (reported report.now))
@@ -77,7 +81,7 @@ fn told_verdict(verdict: ReportVerdict, name: Option<Name>) -> Verdict
 }
 
 /// What is told of a report that was put in a room, as so many bytes.
-fn told(report: &Report<'_, Global>, size: usize) -> Done
+fn told<A: Allocator + Copy>(report: &Report<'_, A>, size: usize) -> Done
     ensures { result ≡ told_report (reported report.now) size }
 {
     Done::Report {
@@ -89,7 +93,10 @@ fn told(report: &Report<'_, Global>, size: usize) -> Done
 
 /// The report on these files.
 #[inline(never)]
-fn report_on<'a>(alloc: Global, files: &NamedFiles<'a>) -> Result<Report<'a, Global>, AllocError>
+fn report_on<'a, A: Allocator + Copy>(
+    alloc: A,
+    files: &NamedFiles<'a>,
+) -> Result<Report<'a, A>, AllocError>
     ensures { IfOk result (λ report. IsReport (paths_in files.now) files.now.host.now
         (contents files.now.libs.now) (reported report)) }
 {
@@ -99,11 +106,11 @@ fn report_on<'a>(alloc: Global, files: &NamedFiles<'a>) -> Result<Report<'a, Glo
 
 /// Puts a report on these files in the room, in one of its forms. The verdict that is told, and the
 /// number of warnings, are those of this report.
-fn put_told(
-    alloc: Global,
+fn put_told<A: Allocator + Copy>(
+    alloc: A,
     form: Form,
     files: &NamedFiles<'_>,
-    report: &Report<'_, Global>,
+    report: &Report<'_, A>,
     room: &mut [u8],
 ) -> Result<Done, Unput>
     requires { IsReport (paths_in files.now) files.now.host.now (contents files.now.libs.now)
@@ -123,8 +130,8 @@ fn put_told(
 /// Puts the report on these files in the room, in one of its forms.
 #[inline(never)]
 #[tactic(auto, using(crate::proofs::PutTexts::report_lacks))]
-fn put_report(
-    alloc: Global,
+fn put_report<A: Allocator + Copy>(
+    alloc: A,
     form: Form,
     files: &NamedFiles<'_>,
     room: &mut [u8],
@@ -156,8 +163,8 @@ fn unmade_of(files: &NamedFiles<'_>, why: ps_texts::Unmade) -> Unmade
 /// Puts a text of these files in the room that is no report.
 #[inline(never)]
 #[tactic(auto, using(crate::proofs::PutTexts::other_put, crate::proofs::PutTexts::other_unput, crate::proofs::PutTexts::other_unmade))]
-fn put_other(
-    alloc: Global,
+fn put_other<A: Allocator + Copy>(
+    alloc: A,
     kind: TextKind,
     files: &NamedFiles<'_>,
     room: &mut [u8],
@@ -197,8 +204,8 @@ fn report_form(kind: TextKind) -> Option<Form>
 /// Makes a text of these files, and puts it in the room. Of a text that has no names of files,
 /// theirs are not looked at.
 #[tactic(auto, using(crate::proofs::PutTexts::is_report_put, crate::proofs::PutTexts::is_report_unput))]
-pub(crate) fn put_made(
-    alloc: Global,
+pub(crate) fn put_made<A: Allocator + Copy>(
+    alloc: A,
     kind: TextKind,
     files: &NamedFiles<'_>,
     room: &mut [u8],

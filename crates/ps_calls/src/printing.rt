@@ -14,7 +14,7 @@ use ps_answers::{
     host_first, split,
 };
 use ps_texts::{NamedFiles, TextKind};
-use std::alloc::Global;
+use std::alloc::Allocator;
 
 /// Whether so many names are one for the host and one for each of so many libraries.
 fn is_one_each(names: usize, libs: usize) -> bool
@@ -34,8 +34,8 @@ fn have_lengths(libs: &[u8], lengths: &[usize], names: &[u8], name_lengths: &[us
 }
 
 /// Puts a text of these files in the room; the first name is the host's.
-fn put_named(
-    alloc: Global,
+fn put_named<A: Allocator + Copy>(
+    alloc: A,
     kind: TextKind,
     names: &[&str],
     host: &[u8],
@@ -60,8 +60,8 @@ fn put_named(
 }
 
 /// Puts a text of which the files have names in the room, as `text` does.
-fn named(
-    alloc: Global,
+fn named<A: Allocator + Copy>(
+    alloc: A,
     kind: TextKind,
     host: &[u8],
     libs: &[u8],
@@ -83,14 +83,14 @@ fn named(
     if !are_utf8(names, name_lengths) {
         return Err(NotDone::Wrong(WrongInputs::Names));
     }
-    let libs = split::<0>(alloc, libs, lengths)?;
+    let libs = split::<0, &A>(&alloc, libs, lengths)?;
     let names = file_names(alloc, names, name_lengths)?;
     Ok(put_named(alloc, kind, names.as_slice(), host, libs.as_slice(), room)?)
 }
 
 /// Puts a text of a host and these libraries in the room, which have no names.
-fn put_nameless(
-    alloc: Global,
+fn put_nameless<A: Allocator + Copy>(
+    alloc: A,
     kind: TextKind,
     host: &[u8],
     libs: &[&[u8]],
@@ -129,8 +129,8 @@ fn is_of_host(kind: TextKind) -> bool
 /// Puts a text as `listed` does, with a table that has room for `N` libraries on the stack. A
 /// function by itself, so that a text takes no more of the stack than the table that it needs.
 #[inline(never)]
-fn listed_in<const N: usize>(
-    alloc: Global,
+fn listed_in<const N: usize, A: Allocator + Copy>(
+    alloc: A,
     kind: TextKind,
     host: &[u8],
     libs: &[u8],
@@ -146,14 +146,14 @@ fn listed_in<const N: usize>(
         libs.now lengths.now) }
     ensures untouched { OnErr result (room.new ≡ room.old) }
 {
-    let libs = split::<N>(alloc, libs, lengths)?;
+    let libs = split::<N, &A>(&alloc, libs, lengths)?;
     Ok(put_nameless(alloc, kind, host, libs.as_slice(), room)?)
 }
 
 /// Puts a text of a host and the libraries that are one after another in `libs` in the room, in
 /// which the files have no names.
-fn listed(
-    alloc: Global,
+fn listed<A: Allocator + Copy>(
+    alloc: A,
     kind: TextKind,
     host: &[u8],
     libs: &[u8],
@@ -168,18 +168,18 @@ fn listed(
     ensures untouched { OnErr result (room.new ≡ room.old) }
 {
     if lengths.len() <= 1 {
-        listed_in::<1>(alloc, kind, host, libs, lengths, room)
+        listed_in::<1, A>(alloc, kind, host, libs, lengths, room)
     } else if lengths.len() <= FEW_LIBRARIES {
-        listed_in::<FEW_LIBRARIES>(alloc, kind, host, libs, lengths, room)
+        listed_in::<FEW_LIBRARIES, A>(alloc, kind, host, libs, lengths, room)
     } else {
-        listed_in::<LIBRARIES_IN_PLACE>(alloc, kind, host, libs, lengths, room)
+        listed_in::<LIBRARIES_IN_PLACE, A>(alloc, kind, host, libs, lengths, room)
     }
 }
 
 /// Puts a text of which the files have no names in the room, as `text` does.
 #[tactic(auto, using(crate::proofs::PutTexts::nameless_put, crate::proofs::PutTexts::nameless_unput, crate::proofs::PutTexts::nameless_lengths, crate::proofs::PutTexts::of_host_put, crate::proofs::PutTexts::of_host_unput))]
-fn nameless(
-    alloc: Global,
+fn nameless<A: Allocator + Copy>(
+    alloc: A,
     kind: TextKind,
     host: &[u8],
     libs: &[u8],
@@ -226,8 +226,8 @@ fn nameless(
 /// unless there are more than `LIBRARIES_IN_PLACE` libraries, and what a file has and its names only
 /// of a file that is not refused; and `TooSmall` where the text is longer than the room.
 /// Source: UCSD Pascal II.0 manual, code file format; the texts are this project's profile.
-pub fn text(
-    alloc: Global,
+pub fn text<A: Allocator + Copy>(
+    alloc: A,
     kind: TextKind,
     host: &[u8],
     libs: &[u8],

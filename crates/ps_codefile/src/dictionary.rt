@@ -53,12 +53,7 @@ fn is_zero_from(file: &[u8], first: usize) -> bool
     requires { first + 31 ≤ length file.now }
     ensures { result ≡ list_all (λ i. slice_index file.now (first + 2 * i) == 0) slots }
 {
-    for i in 0..SLOT_COUNT {
-        if file[first + WORD_LEN * i] != 0 {
-            return false;
-        }
-    }
-    true
+    (0..SLOT_COUNT).all(|i| file[first + WORD_LEN * i] == 0)
 }
 
 impl<'a> Dict<'a> {

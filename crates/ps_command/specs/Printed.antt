@@ -229,9 +229,9 @@ Prints Reads Unread Writes Leads named status old new old_err new_err =
     ⊎ ((named ≡ Some (codes "list", rows))
     × PrintsLists Reads Unread (list_form (is_json rows)) (files_of rows) status old new))
 
--- `pslink 0.3.0`
+-- `pslink 0.4.0`
 abbrev pub version_line : List ℕ
-version_line = codes "pslink 0.3.0" ++ 10 ∷ []
+version_line = codes "pslink 0.4.0" ++ 10 ∷ []
 
 -- a known writer takes one text that ends with a line end
 abbrev pub PrintsLines : Option (List ℕ) → Option (List ℕ) → Type 0

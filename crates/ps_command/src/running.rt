@@ -145,7 +145,7 @@ fn carry_out<'a, R: CodeFiles + AllocGlobal, A: Allocator + Copy, O: Write, E: W
             Ok(Ended::Done)
         }
         Request::Version => {
-            write_all_of(out, b"pslink 0.3.0\n")?;
+            write_all_of(out, b"pslink 0.4.0\n")?;
             Ok(Ended::Done)
         }
         Request::Task(task) => Ok(perform(rt, alloc, task, out, err)?),

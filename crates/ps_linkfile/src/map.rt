@@ -16,7 +16,9 @@ use ps_laws::first_of_all;
 use ps_resolve::{Def, DefKind, Definitions, Plan, Private, Segment};
 use ps_words::Name;
 use ps_writing::RowPart::{Flag, InSlot, Named, Number, OfKind, Short, Total};
-use ps_writing::{Form, Text, TextWriter, add_by_form, add_part, begin_row, end_row, in_memory};
+use ps_writing::{
+    Form, Text, TextWriter, add_by_form, add_each_row, add_part, begin_row, end_row, in_memory,
+};
 use std::alloc::{AllocError, Allocator, Global};
 
 /// Adds the row of a segment, whose code begins in this block.
@@ -49,9 +51,9 @@ fn add_segments<A: Allocator + Copy, S: TextWriter>(
     ensures { Adds S.added text.old
         (rows_in form (row_among plan.now.sources) plan.now.sources) text.new }
 {
-    for (k, segment) in plan.sources().iter().enumerate() {
+    add_each_row(text, plan.sources(), |text, k, segment| {
         add_segment(text, form, k, segment, starts[k]);
-    }
+    });
 }
 
 /// What the map calls a definition.
@@ -106,12 +108,9 @@ fn add_private<S: TextWriter>(text: &mut S, form: Form, index: usize, private: &
 fn add_privates<S: TextWriter>(text: &mut S, form: Form, privates: &[Private])
     ensures { Adds S.added text.old (rows_in form private_row privates.now) text.new }
 {
-    for (i, private) in privates.iter().enumerate() {
-        if text.has_failed() {
-            return;
-        }
-        add_private(text, form, i, private);
-    }
+    add_each_row(text, privates, |text, i, private| {
+        add_private(text, form, i, private)
+    });
 }
 
 /// Adds the last row: what is free after the private variables, the data size, and the blocks.

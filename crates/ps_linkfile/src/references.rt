@@ -20,7 +20,7 @@ use ps_laws::first_of_all;
 use ps_linkinfo::Kind;
 use ps_words::{BLOCK_SIZE, Name};
 use ps_writing::RowPart::{Bytes, Named, Number, Stored};
-use ps_writing::{Form, Text, TextWriter, add_by_form, add_part, by_form, separator};
+use ps_writing::{Form, Text, TextWriter, add_by_form, add_each_row, add_part, by_form, separator};
 use std::alloc::{Allocator, Global};
 use std::marker::Model;
 
@@ -109,14 +109,11 @@ fn add_stored_segment<S: TextWriter, A: Allocator>(
     ensures { Adds S.added text.old (stored_rows form (index, stored.now)) text.new }
 {
     add_by_form(text, form, b"", separator(index == 0));
-    for (place, cause) in stored.causes.iter().enumerate() {
-        if text.has_failed() {
-            return;
-        }
+    add_each_row(text, stored.causes.as_slice(), |text, place, cause| {
         if let Some(cause) = cause {
             add_place(text, form, stored, place, *cause);
         }
-    }
+    });
 }
 
 /// Adds the rows of all segments, by slot.
@@ -128,14 +125,9 @@ fn add_stored_segments<S: TextWriter, A: Allocator>(
     ensures { Adds S.added text.old
         (flat_map (stored_rows form) (enumerate_from 0 all_stored.now)) text.new }
 {
-    let mut index = 0;
-    for stored in all_stored {
-        if text.has_failed() {
-            return;
-        }
-        add_stored_segment(text, form, index, stored);
-        index += 1;
-    }
+    add_each_row(text, all_stored, |text, index, stored| {
+        add_stored_segment(text, form, index, stored)
+    });
 }
 
 /// Adds what a link stores; in a document it is after the members of the map.

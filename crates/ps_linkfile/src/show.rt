@@ -22,8 +22,8 @@ use ps_linkinfo::{Body, LinkRecord, Records, walk_from_start};
 use ps_words::{Fault, Name, Order, Reason};
 use ps_writing::RowPart::{self, Flag, InSlot, Kind, Named, Number, Record, References};
 use ps_writing::{
-    Form, Text, TextWriter, add_by_form, add_fault, add_part, begin_row, end_row, in_memory,
-    two_digits,
+    Form, Text, TextWriter, add_by_form, add_each_slot, add_fault, add_part, begin_row, end_row,
+    in_memory, two_digits,
 };
 use std::alloc::Allocator;
 use std::marker::Model;
@@ -156,14 +156,11 @@ fn add_slot<S: TextWriter>(text: &mut S, dict: &Dict, slot: u8)
     add_entry(text, Form::Lines, slot, dict.entry(slot));
 }
 
-#[tactic(auto, using(ps_writing::proofs::Written::all_written, ps_writing::proofs::Written::none_yet, ps_writing::proofs::Written::slots_over))]
 fn add_slots<S: TextWriter>(text: &mut S, dict: &Dict)
     ensures { Adds S.added text.old
         (flat_map (slot_line dict.now.order dict.now.file) slots) text.new }
 {
-    for slot in 0..SLOTS {
-        add_slot(text, dict, slot);
-    }
+    add_each_slot(text, SLOTS, |text, slot| add_slot(text, dict, slot));
 }
 
 /// The slot has a unit, in place or wanted.
@@ -359,15 +356,15 @@ pub(crate) fn add_links<S: TextWriter>(
 }
 
 /// Adds the link information of each slot.
-#[tactic(auto, using(ps_writing::proofs::Written::all_written, ps_writing::proofs::Written::none_yet, ps_writing::proofs::Written::slots_over))]
 fn add_all_links<S: TextWriter>(text: &mut S, dict: &Dict)
     ensures { Adds S.added text.old
         (flat_map (links_in Lines dict.now.order dict.now.file) slots) text.new }
 {
-    let units = unit_names(dict);
-    for slot in 0..SLOTS {
-        add_links(text, Form::Lines, dict, units.as_slice(), slot);
-    }
+    let names = unit_names(dict);
+    let units = names.as_slice();
+    add_each_slot(text, SLOTS, |text, slot| {
+        add_links(text, Form::Lines, dict, units, slot);
+    });
 }
 
 /// What a code file has, as ASCII lines: its byte order; its sixteen slots; and for each slot with

@@ -9,7 +9,7 @@ use crate::show::{add_entry, add_links, unit_names};
 use ps_codefile::Dict;
 use ps_codefile::dictionary_layout::SLOTS;
 use ps_words::{Name, Order};
-use ps_writing::{Form, TextWriter};
+use ps_writing::{Form, TextWriter, add_each_slot};
 
 /// Adds the byte order, and what is before the slots.
 pub(crate) fn add_order_member<S: TextWriter>(text: &mut S, order: Option<Order>)
@@ -22,15 +22,15 @@ pub(crate) fn add_order_member<S: TextWriter>(text: &mut S, order: Option<Order>
     }
 }
 
-#[tactic(auto, using(ps_writing::proofs::Written::all_written, ps_writing::proofs::Written::none_yet, ps_writing::proofs::Written::slots_over))]
 pub(crate) fn add_slot_items<S: TextWriter>(text: &mut S, dict: &Dict)
     ensures { Adds S.added text.old
         (flat_map (slot_item dict.now.order dict.now.file) slots) text.new }
 {
-    let units = unit_names(dict);
-    for slot in 0..SLOTS {
-        add_slot(text, dict, units.as_slice(), slot);
-    }
+    let names = unit_names(dict);
+    let units = names.as_slice();
+    add_each_slot(text, SLOTS, |text, slot| {
+        add_slot(text, dict, units, slot);
+    });
 }
 
 /// Adds the item of a slot, in a file with these units.

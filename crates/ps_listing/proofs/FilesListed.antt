@@ -112,7 +112,7 @@ pub listed_with : (l : Listed) (path phrase : List ℕ) (v : FileValues) (ss : L
     → ss ≡ segments_found l.phrase (opened l.file)
     → units ≡ listed_units l.how l.file
     → file_in Json path phrase v ++ segments_in Json path true ss
-    ++ codes "\n],\"units\":[" ++ lone_items true units ++ codes "\n]}"
+    ++ codes "\n],\"units\":[" ++ lone_items units ++ codes "\n]}"
     ≡ listed_with_units l.path l.phrase l.file (listed_units l.how l.file)
 unfolding listed_with_units
 listed_with l path phrase v ss units at_path said values has alone =

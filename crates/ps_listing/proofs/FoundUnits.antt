@@ -1,6 +1,5 @@
 -- What is found in a file, slot by slot.
-use Rattle.ps_listing.proofs.Vocabulary.{◌≡◌, ℕ, suc, ◌+◌, ◌-◌, ◌<◌, List, [], ◌∷◌, ◌++◌, drop, Bool, true, false, Option, Some, None, append_assoc, append-nil, length, length-append, sym, ◌∙◌, ap, arith, is_some, true≢false, ◌||◌, Result, Ok, Err, IfErr, option_to_list, cons_option, filter_map, list_any, range_with_len, is_refused_unit, SLOTS}
-use Rattle.ps_listing.specs.declared.lone.LoneUnit.{LoneUnit}
+use Rattle.ps_listing.proofs.Vocabulary.{◌≡◌, ℕ, suc, ◌+◌, ◌-◌, ◌<◌, List, [], ◌∷◌, ◌++◌, true, false, Option, Some, None, append_assoc, append-nil, length, length-append, sym, ◌∙◌, ap, arith, is_some, true≢false, Result, Ok, Err, IfErr, option_to_list, cons_option, filter_map, range_with_len, SLOTS}
 
 -- what holds by itself holds of an error
 pub of_error : {T E : Type 0} (r : Result T E) {P : Type 0} → P → IfErr r (λ _. P)
@@ -51,16 +50,3 @@ module _ {X : Type 0} (f : ℕ → Option X) (all old : List X) (i : ℕ) where
       → all ≡ old
   no_more left h = h ∙ ap (λ (k : ℕ). old ++ filter_map f (range_with_len i k)) left
       ∙ append-nil old
-
--- some of them has a fault where the unit at i has, and else where one after it has
-pub refused_here : (us : List LoneUnit) (i : ℕ) (u : LoneUnit)
-    → drop i us ≡ u ∷ drop (i + 1) us → is_refused_unit u ≡ true
-    → list_any is_refused_unit (drop i us) ≡ true
-refused_here us i u split found = ap (list_any is_refused_unit) split
-    ∙ ap (λ (b : Bool). b || list_any is_refused_unit (drop (i + 1) us)) found
-
-pub refused_later : (us : List LoneUnit) (i : ℕ) (u : LoneUnit)
-    → drop i us ≡ u ∷ drop (i + 1) us → is_refused_unit u ≡ false
-    → list_any is_refused_unit (drop i us) ≡ list_any is_refused_unit (drop (i + 1) us)
-refused_later us i u split none = ap (list_any is_refused_unit) split
-    ∙ ap (λ (b : Bool). b || list_any is_refused_unit (drop (i + 1) us)) none

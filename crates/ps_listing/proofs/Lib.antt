@@ -3,5 +3,4 @@ pub mod Rows
 pub mod LinkedEntries
 pub mod FoundUnits
 pub mod FilesListed
-pub mod UnitsListed
 pub mod PhraseWords

@@ -6,7 +6,7 @@ pub use Rattle.ps_codefile.specs.declared.entry.Role.{Role}
 pub use Rattle.ps_writing.proofs.Written.{Written, adds_is, all_written, items_left, items_over, none_yet, slots_left, slots_over, some_more, ◌⨾◌}
 pub use Rattle.ps_linkinfo.specs.declared.record.LinkRecord.{LinkRecord as Record}
 pub use Rattle.ps_listing.specs.ListText.{shown_char}
-pub use Rattle.ps_listing.specs.LoneText.{is_refused_unit, lone_line, lone_text, lone_unit, units_as, units_of}
+pub use Rattle.ps_listing.specs.LoneText.{lone_line, lone_text, lone_unit, units_as, units_of}
 pub use Rattle.ps_words.specs.declared.fault.Fault.{Fault}
 pub use Rattle.ps_words.specs.declared.fault.Reason.{Reason}
 pub use Rattle.std.proofs.Common.{Bool, Err, IfErr, IfOk, List, None, Ok, Option, Result, Some, [], ap, append-nil, append_assoc, arith, codes, decimal, drop, false, flat_map, if◌then◌else◌, is_some, length, length-append, map-id, nat_le, not, option_to_list, refl, rules, subst, suc, sym, true, true≢false, ℕ, ◌&&◌, ◌++◌, ◌+◌, ◌-◌, ◌<◌, ◌==◌, ◌||◌, ◌∙◌, ◌∷◌, ◌≡◌, ◌≤◌}

@@ -1,6 +1,6 @@
 -- The units of a file by themselves: a line of each, made for grep, and an item of a JSON document.
 use Rattle.std.specs.Prelude.{ℕ, ◌||◌, if◌then◌else◌, List, [], ◌∷◌, ◌++◌, codes, Bool, true, false, Option, Some, None, Result, Ok, Err, is_some, length, ◌==◌}
-use Rattle.std.specs.List.{filter_map, flat_map, list_any}
+use Rattle.std.specs.List.{enumerate_from, filter_map, flat_map, list_any}
 use Rattle.ps_words.specs.FaultText.{part_text}
 use Rattle.ps_words.specs.declared.fault.Reason.{Reason}
 use Rattle.ps_words.specs.declared.fault.Fault.{Fault}
@@ -88,14 +88,13 @@ abbrev pub lone_item : Bool → LoneUnit → List ℕ
 lone_item first u = line_end first ++ value_in Json (InSlot (codes ": slot ") u.slot u.name)
     ++ lone_fault_member u.name u.fault ++ codes "}"
 
--- the items of units, of which the first is that of the list or not
-abbrev pub lone_items : Bool → List LoneUnit → List ℕ
-lone_items first [] = []
-lone_items first (u ∷ us) = lone_item first u ++ lone_items false us
+-- the items of units
+abbrev pub lone_items : List LoneUnit → List ℕ
+lone_items us = flat_map (λ p. lone_item (p.0 == 0) p.1) (enumerate_from 0 us)
 
 -- the item of a file, which has its units too
 unfoldable pub listed_with_units : List ℕ → List ℕ → List ℕ → List LoneUnit → List ℕ
 listed_with_units path phrase file units =
     file_in Json path phrase (values_of (length file) (opened file))
     ++ segments_in Json path true (segments_found phrase (opened file))
-    ++ codes "\n],\"units\":[" ++ lone_items true units ++ codes "\n]}"
+    ++ codes "\n],\"units\":[" ++ lone_items units ++ codes "\n]}"

@@ -103,7 +103,7 @@ pub(crate) fn add_listed_with_units<S: TextWriter>(
 )
     ensures { Adds S.added text.old (file_in Json path.now phrase.now values
         ++ segments_in Json path.now true segments.now
-        ++ codes "\n],\"units\":[" ++ lone_items true units.now ++ codes "\n]}") text.new }
+        ++ codes "\n],\"units\":[" ++ lone_items units.now ++ codes "\n]}") text.new }
 {
     add_file(text, Form::Json, path, phrase, values);
     add_segments(text, Form::Json, path, segments);

@@ -15,7 +15,7 @@ use ps_filetype::is_code_type;
 use ps_resolve::{HostReading, lone_fault, read};
 use ps_words::{Fault, Name};
 use ps_writing::RowPart::InSlot;
-use ps_writing::{Form, TextWriter, add_number, add_part, add_slot_name, separator};
+use ps_writing::{Form, TextWriter, add_each_row, add_number, add_part, add_slot_name, separator};
 use std::alloc::{AllocError, Allocator};
 
 /// A unit whose code a file has, and what is wrong with it by itself.
@@ -113,12 +113,7 @@ pub fn lone_units<A: Allocator + Copy>(
 fn has_refused(units: &[LoneUnit]) -> bool
     ensures { result ≡ list_any is_refused_unit units.now }
 {
-    for unit in units {
-        if unit.fault.is_some() {
-            return true;
-        }
-    }
-    false
+    units.iter().any(|unit| unit.fault.is_some())
 }
 
 /// There is no unit, or one that has a fault.
@@ -195,13 +190,10 @@ fn add_unit_item<S: TextWriter>(text: &mut S, first: bool, unit: &LoneUnit)
 }
 
 /// Adds an item of each unit of a file: its slot, its name, and its fault by itself.
-#[tactic(auto, using(std::proofs::lemmas::List::drop_more, ps_writing::proofs::Written::all_written, ps_writing::proofs::Written::none_yet, ps_writing::proofs::Written::some_more, crate::proofs::UnitsListed::items_left, crate::proofs::UnitsListed::items_over))]
 pub(crate) fn add_unit_items<S: TextWriter>(text: &mut S, units: &[LoneUnit])
-    ensures { Adds S.added text.old (lone_items true units.now) text.new }
+    ensures { Adds S.added text.old (lone_items units.now) text.new }
 {
-    let mut first = true;
-    for unit in units {
-        add_unit_item(text, first, unit);
-        first = false;
-    }
+    add_each_row(text, units, |text, index, unit| {
+        add_unit_item(text, index == 0, unit)
+    });
 }

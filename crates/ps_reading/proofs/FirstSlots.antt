@@ -14,19 +14,6 @@ pub first_later : {Y : Type 0} (f : ℕ → Option Y) (i n : ℕ) → i < n → 
     → first_of f (range_with_len i (n - i)) ≡ first_of f (range_with_len (i + 1) (n - (i + 1)))
 first_later f i n lt h = grind arith
 
--- the first number from i on that passes is i, where it passes, or else the first after it
-pub found_here : (p : ℕ → Bool) (i n : ℕ) → i < n → p i ≡ true
-    → find p (range_with_len i (n - i)) ≡ Some i
-found_here p i n lt h = grind arith
-
-pub found_later : (p : ℕ → Bool) (i n : ℕ) → i < n → p i ≡ false
-    → find p (range_with_len i (n - i)) ≡ find p (range_with_len (i + 1) (n - (i + 1)))
-found_later p i n lt h = grind arith
-
-pub found_none : (p : ℕ → Bool) (i n : ℕ) → n ≤ i
-    → find p (range_with_len i (n - i)) ≡ None
-found_none p i n le = grind arith
-
 -- some number passes where a first one does
 pub any_found : {X : Type 0} (p : X → Bool) (xs : List X)
     → list_any p xs ≡ is_some (find p xs)

@@ -1,5 +1,5 @@
 -- The segments of a link, slot by slot.
-use Rattle.ps_reading.proofs.Vocabulary.{◌≡◌, ◌∙◌, ℕ, ◌+◌, ◌-◌, ◌<◌, ◌≤◌, List, [], ◌∷◌, ◌++◌, append_assoc, length, length-append, map, if◌then◌else◌, Option, Some, None, Result, Ok, Err, ◌⊎◌, inl, inr, refl, sym, ap, arith, All, is_none, IfOk, option_and_then, option_or, option_to_list, result_err, result_ok, IfSome, range_with_len, filter_map, first_of, All-nil, All-cons, All-append, Fault, Order, Role, Segment, entry_at, role_of, own_segment, segment_from, source_fault, code_fault, slots}
+use Rattle.ps_reading.proofs.Vocabulary.{◌≡◌, ◌∙◌, ℕ, ◌+◌, ◌-◌, ◌<◌, ◌≤◌, List, [], ◌∷◌, ◌++◌, append_assoc, length, length-append, map, if◌then◌else◌, Option, Some, None, Result, Ok, Err, ◌⊎◌, inl, inr, refl, sym, ap, arith, All, is_none, IfOk, option_and_then, option_or, option_to_list, result_err, result_ok, IfSome, range_with_len, filter_map, take, take_all, SLOT_COUNT, first_of, All-nil, All-cons, All-append, Fault, Order, Role, Segment, entry_at, role_of, own_segment, segment_from, source_fault, code_fault, slots}
 use Rattle.ps_reading.specs.Faults.{sources_fault}
 use Rattle.ps_reading.specs.Readings.{own_faults}
 use Rattle.ps_codefile.specs.declared.entry.Role.TheVariants as role
@@ -70,9 +70,24 @@ first_listed f [] = refl
 first_listed f (x ∷ xs) = ap (option_or (f x)) (first_listed f xs)
 
 pub first_of_slots : (order : Order) (host : List ℕ) (libs : List (List ℕ))
-    (faults : List (Option Fault)) → faults ≡ own_faults order host libs
-    → first_of (λ (fault : Option Fault). fault) faults ≡ sources_fault order host libs
+    → first_of (λ (fault : Option Fault). fault) (own_faults order host libs)
+    ≡ sources_fault order host libs
 unfolding sources_fault own_faults
-first_of_slots order host libs faults is =
-    ap (first_of (λ (fault : Option Fault). fault)) is
-    ∙ first_listed (source_fault order host libs) slots
+first_of_slots order host libs = first_listed (source_fault order host libs) slots
+
+-- one fault more, of which the first is the first as before, and else this
+pub first_with : (faults : List (Option Fault)) (fault : Option Fault)
+    → first_of (λ (f : Option Fault). f) (faults ++ fault ∷ [])
+    ≡ option_or (first_of (λ (f : Option Fault). f) faults) fault
+first_with [] None = refl
+first_with [] (Some f) = refl
+first_with (None ∷ fs) fault = first_with fs fault
+first_with (Some f ∷ fs) fault = refl
+
+-- a table of the faults of all slots
+pub table_of_slots : (order : Order) (host : List ℕ) (libs : List (List ℕ))
+    (table : List (Option Fault)) → length table ≡ SLOT_COUNT
+    → take (length (own_faults order host libs)) table ≡ own_faults order host libs
+    → table ≡ own_faults order host libs
+unfolding own_faults
+table_of_slots order host libs table whole is = sym (take_all SLOT_COUNT table (omega arith)) ∙ is

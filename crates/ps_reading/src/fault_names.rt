@@ -97,7 +97,8 @@ fn name_in_host(slots: &HostSlots, libs: &[&[u8]], slot: u8, rec: Option<usize>)
     ensures { result ≡ name_at_spec (with_libraries slots.now (contents libs.now)) slot rec }
 {
     let mut segments = ArrayVec::new();
-    read_slots(slots, libs, &mut segments);
+    let mut first: Option<Fault> = None;
+    read_slots(slots, libs, &mut segments, &mut first);
     let added = read_added(slots, libs, &mut segments);
     let names = ReadNames {
         slots,

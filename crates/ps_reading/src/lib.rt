@@ -16,6 +16,6 @@ pub use reading::request::{Request, Requester};
 pub use reading::segment::{Resolvable, Segment};
 pub use reading::slots::{HOST_FILE, HostSlots};
 pub use reading::unit_slots::{UnitSlots, is_same_name};
-pub use reading::{HostReading, Reading, read, read_added, read_own, slot_names};
+pub use reading::{HostReading, Reading, read, read_to_fault, slot_names};
 pub use slot_name_law::slot_names_are_whole;
 pub use slot_reading::{Absent, SlotReading};

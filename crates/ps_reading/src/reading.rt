@@ -16,6 +16,7 @@ pub(crate) mod libraries;
 pub(crate) mod names;
 pub(crate) mod request;
 pub(crate) mod segment;
+pub(crate) mod slot_faults;
 pub(crate) mod slots;
 pub(crate) mod sources;
 pub(crate) mod unit_slots;
@@ -30,7 +31,7 @@ use crate::reading::names::ReadNames;
 use crate::reading::request::{Request, unit_named};
 use crate::reading::segment::Segment;
 use crate::reading::slots::{HOST_FILE, HostSlots, no_host_fault, slots_fault};
-use crate::reading::sources::{first_fault, read_each_slot, read_slots};
+use crate::reading::sources::{first_fault, read_slots};
 use crate::reading::unit_slots::UnitSlots;
 use crate::slot_reading::{Absent, SlotReading, why_refused};
 use arrayvec::ArrayVec;
@@ -94,7 +95,7 @@ fn files_fault(host: &HostSlots, libs: &[&[u8]]) -> Option<Fault>
 /// Reads the own slots of a host and its libraries: fills the table, which has to be empty, with the
 /// own segments that have no fault, by slot ascending, and returns the first fault: of the slots, of
 /// the want of a host segment, of the libraries, or of the sources of the slots.
-pub fn read_own<'a>(
+pub(crate) fn read_own<'a>(
     host: &HostSlots<'a>,
     libs: &'a [&'a [u8]],
     segments: &mut ArrayVec<Segment<'a>, SLOT_COUNT>,
@@ -106,8 +107,9 @@ pub fn read_own<'a>(
     ensures read { All (IsRead host.now.order host.now.file (opened host.now.order libs.now))
         segments.new.items }
 {
-    let sources = read_slots(host, libs, segments);
-    files_fault(host, libs).or(sources)
+    let mut first = None;
+    read_slots(host, libs, segments, &mut first);
+    files_fault(host, libs).or(first)
 }
 
 /// Adds the units that records request to the own segments of a host, which `read_own` has read into
@@ -115,7 +117,7 @@ pub fn read_own<'a>(
 /// unit that cannot be added. A function by itself, so that the queue takes room of the stack only
 /// until it returns.
 #[inline(never)]
-pub fn read_added<'a>(
+pub(crate) fn read_added<'a>(
     host: &HostSlots<'a>,
     libs: &'a [&'a [u8]],
     segments: &mut ArrayVec<Segment<'a>, SLOT_COUNT>,
@@ -148,6 +150,28 @@ pub fn read_added<'a>(
         queue,
         next,
         fault: rounds.err(),
+    }
+}
+
+/// Reads the slots of a host and its libraries as far as to the first fault, which it returns, as a
+/// link wants them: fills the table, which has to be empty, with segments by slot ascending. Where
+/// there is no fault, they are all segments of the link.
+#[inline(always)]
+pub fn read_to_fault<'a>(
+    host: &HostSlots<'a>,
+    libs: &'a [&'a [u8]],
+    segments: &mut ArrayVec<Segment<'a>, SLOT_COUNT>,
+) -> Option<Fault>
+    requires { segments.old.items ≡ [] }
+    ensures first { result ≡ host_reading_fault host.now.order host.now.file (contents libs.now) }
+    ensures all { result ≡ None → segments.new.items
+        ≡ all_read host.now.order host.now.file (opened host.now.order libs.now) }
+    ensures read { All (IsRead host.now.order host.now.file (opened host.now.order libs.now))
+        segments.new.items }
+{
+    match read_own(host, libs, segments) {
+        Some(fault) => Some(fault),
+        None => read_added(host, libs, segments).fault,
     }
 }
 
@@ -191,7 +215,7 @@ impl<'a> HostReading<'a> {
         let slots = HostSlots::of(dict);
         let mut segments = ArrayVec::new();
         let mut refused = [None; SLOT_COUNT];
-        read_each_slot(&slots, libs, &mut segments, &mut refused);
+        read_slots(&slots, libs, &mut segments, &mut refused);
         let own = files_fault(&slots, libs).or(first_fault(&refused));
         let added = read_added(&slots, libs, &mut segments);
         let fault = own.or(added.fault);
@@ -500,6 +524,13 @@ impl<'a> Reading<'a> {
         ensures { result.now ≡ self.now.host }
     {
         self.file
+    }
+
+    /// The libraries, which were read, in their order.
+    pub fn libs(&self) -> &'a [&'a [u8]]
+        ensures { contents result.now ≡ self.now.libs }
+    {
+        self.libs
     }
 
     /// The host as it was read, or why it cannot be opened: `ShortFile`, `NoOrder`, or `NoHost`

@@ -1,16 +1,14 @@
 -- The last line of a report: it is no line of a segment, and no warning.
-use Rattle.std.proofs.Common.{◌≡◌, ◌∙◌, ◌+◌, ◌++◌, ◌∷◌, ◌==◌, ◌<◌, ◌||◌, [], ℕ, Bool, List, Bor, true, false, append-nil, ap, arith, codes, drop, get_or, length, map, refl, subst, sym}
+use Rattle.std.proofs.Common.{◌≡◌, ◌∙◌, ◌+◌, ◌++◌, ◌∷◌, ◌==◌, ◌<◌, [], ℕ, Bool, List, Bor, true, false, append-nil, ap, arith, codes, drop, get_or, length, refl, subst, sym}
 use Rattle.std.specs.Prelude.{if◌then◌else◌}
-use Rattle.std.specs.List.{list_any}
 use Rattle.std.proofs.lemmas.List.{append_assoc, drop_more}
 use Rattle.ps_resolve.specs.Sources.{contents}
 use Rattle.ps_explained.proofs.OneLine.{one_append, one_before}
 use Rattle.ps_explained.specs.SlotLines.{one_line}
 use Rattle.ps_explained.proofs.SlotLines.{adds_no_line}
-use Rattle.ps_report.specs.Reported.{Said, said, warning_count}
-use Rattle.ps_report.specs.declared.finding.SaidFinding.{SaidFinding}
+use Rattle.ps_report.specs.Reported.{Said, warning_count}
 use Rattle.ps_report.specs.FindingLines.{finding_lines, first_line}
-use Rattle.ps_report.specs.LastLine.{asked_paths, asked_words, asks_for, last_line, line_of_paths}
+use Rattle.ps_report.specs.LastLine.{asked_paths, asked_words, last_line, line_of_paths}
 use Rattle.ps_report.proofs.FindingLines.{AddsFindings, adds_finding_lines, adds_no_warning, lines_then, none_added}
 
 -- the line, where there is a path or not
@@ -84,16 +82,6 @@ adds_last_lines paths old found =
     (subst (λ (n : ℕ). AddsFindings old n (here ++ last)) (none_more (warning_count found))
     (lines_then old here (here ++ last) (warning_count found) 0 (adds_finding_lines old found)
     (adds_line_of here (asked_paths found paths))))
-
--- the findings from i on are finding i and those behind it
-pub asks_left : {A : Type 0} (path : List ℕ) (found : List (SaidFinding A)) (i : ℕ)
-    (none : SaidFinding A) → i < length found
-    → list_any (asks_for path) (map said (drop i found))
-    ≡ (asks_for path (said (get_or found i none))
-    || list_any (asks_for path) (map said (drop (i + 1) found)))
-asks_left {A = A} path found i none lt =
-    ap (λ (left : List (SaidFinding A)). list_any (asks_for path) (map said left))
-    (drop_more found i none lt)
 
 -- the paths from i on are path i and those behind it
 pub paths_left : (found : List Said) (paths : List (Bor (List ℕ))) (i : ℕ)

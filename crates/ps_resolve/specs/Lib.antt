@@ -16,6 +16,7 @@ pub mod Standing
 pub mod FaultParts
 pub mod RequestedUnits
 pub mod Linkable
+pub mod FilesRead
 pub mod EditTables
 pub mod LinkedBytes
 pub mod Builders

@@ -27,16 +27,10 @@ fn covers(operand: Operand, entry: &LinkRecord<'_>, reference: usize) -> bool
 }
 
 /// The first reference of a record, of its first `count`, that has a byte of the operand.
-#[tactic(auto, using(ps_reading::proofs::FirstSlots::found_later))]
 fn first_covering(operand: Operand, count: usize, entry: &LinkRecord<'_>) -> Option<usize>
     ensures { result ≡ first_covering_spec operand count entry.now.body }
 {
-    for reference in 0..count {
-        if covers(operand, entry, reference) {
-            return Some(reference);
-        }
-    }
-    None
+    (0..count).find(|reference| covers(operand, entry, *reference))
 }
 
 /// How many references of a record with this index are before this place.

@@ -1,13 +1,11 @@
 ghost use Rattle.std.specs.Prelude.{◌≡◌, ◌≤◌, IfOk, IfErr, None, Ok, length};
-ghost use Rattle.ps_reading.specs.Sources.{opened_files, order_of};
 ghost use Rattle.ps_reading.specs.OfLink.{AreOfLink};
-ghost use Rattle.ps_reading.specs.Readings.{all_read, opened_host};
+ghost use Rattle.ps_reading.specs.Readings.{opened_host};
 ghost use Rattle.ps_resolve.specs.AllFaults.{first_fault};
 ghost use Rattle.ps_resolve.specs.LinkedBytes.{segments_of};
-ghost use Rattle.ps_resolve.specs.Plans.{AreLinks, IsPlan, IsStopped};
+ghost use Rattle.ps_resolve.specs.Plans.{IsPlan, IsStopped};
 
 use crate::linkage::Stop;
-use crate::links::Links;
 use crate::plan::Plan;
 use crate::resolving::link_read;
 use arrayvec::ArrayVec;
@@ -52,36 +50,21 @@ fn resolve_host<'a, A: Allocator + Copy>(
         (segments_of reading.now.host reading.now.libs)) }
     ensures stop { IfErr result (IsStopped reading.now.host reading.now.libs) }
 {
-    let links = link_host(alloc, reading, host)?;
+    let (file, segments) = (reading.file(), host.segments());
+    let links = link_read(
+        alloc,
+        file,
+        reading.libs(),
+        host.order(),
+        segments,
+        host.fault(),
+    )?;
     Ok(Plan {
-        host: reading.file(),
+        host: file,
         names: host.slot_names(),
-        sources: copied(host.segments()),
+        sources: copied(segments),
         links,
     })
-}
-
-/// Links the segments of a host that was opened, where its reading has no fault.
-fn link_host<A: Allocator + Copy>(
-    alloc: A,
-    reading: &Reading,
-    host: &HostReading,
-) -> Result<Links<A>, Stop>
-    requires { opened_host reading.now.host reading.now.libs ≡ Ok host.now }
-    ensures links { IfOk result (AreLinks (order_of reading.now.host)
-        (segments_of reading.now.host reading.now.libs)) }
-    ensures segments { IfOk result (λ _. all_read host.now.order host.now.file
-        (opened_files host.now.order host.now.libs)
-        ≡ segments_of reading.now.host reading.now.libs) }
-    ensures sound { IfOk result (λ _. first_fault reading.now.host reading.now.libs ≡ None) }
-    ensures known { IfOk result (λ _. AreOfLink reading.now.host reading.now.libs
-        (segments_of reading.now.host reading.now.libs)) }
-    ensures stop { IfErr result (IsStopped reading.now.host reading.now.libs) }
-{
-    match reading.fault() {
-        Some(fault) => Err(Stop::Refused(fault)),
-        None => link_read(alloc, host.order(), host.segments()),
-    }
 }
 
 /// A table of these segments.

@@ -4,6 +4,7 @@ ghost use Rattle.std.specs.List.{flat_map};
 ghost use Rattle.ps_writing.specs.Adding.{Adds};
 ghost use Rattle.ps_writing.specs.Lines.{hex_byte, hex_digit as hex_digit_spec};
 
+use crate::each::add_each;
 use crate::text_writer::TextWriter;
 
 /// A digit of a hexadecimal number, for a value below 16.
@@ -26,11 +27,8 @@ pub(crate) fn hex_digits(byte: u8) -> [u8; 2]
 }
 
 /// Adds these bytes in hexadecimal digits, two of each byte.
-#[tactic(auto, using(crate::proofs::Written::all_written, crate::proofs::Written::none_yet, crate::proofs::Written::items_over))]
 pub fn add_hex<S: TextWriter>(text: &mut S, bytes: &[u8])
     ensures { Adds S.added text.old (flat_map hex_byte bytes.now) text.new }
 {
-    for byte in bytes {
-        text.add(&hex_digits(*byte));
-    }
+    add_each(text, bytes, |text, byte| text.add(&hex_digits(*byte)));
 }

@@ -6,6 +6,7 @@ ghost use Rattle.ps_writing.specs.JsonText.{comma_unless, json_bool as json_bool
 ghost use Rattle.ps_writing.specs.FaultJson.{fault_json, number_or_null, place_members, reason_members};
 ghost use Rattle.ps_writing.specs.JsonStrings.{escape_letter as escape_letter_spec, json_char, json_text, name_members, name_or_null, other_char};
 
+use crate::each::add_each;
 use crate::hex::{add_hex, hex_digits};
 use crate::lines::{add_number, shown_code};
 use crate::text_writer::TextWriter;
@@ -24,13 +25,10 @@ fn add_byte<S: TextWriter>(text: &mut S, byte: u8)
 }
 
 /// Adds the bytes of a name inside a string.
-#[tactic(auto, using(std::proofs::lemmas::List::drop_more, crate::proofs::Written::all_written, crate::proofs::Written::items_left, crate::proofs::Written::items_over, crate::proofs::Written::none_yet, crate::proofs::Written::some_more))]
 fn add_bytes<S: TextWriter>(text: &mut S, bytes: &[u8])
     ensures { Adds S.added text.old (flat_map json_byte bytes.now) text.new }
 {
-    for byte in bytes {
-        add_byte(text, *byte);
-    }
+    add_each(text, bytes, |text, byte| add_byte(text, *byte));
 }
 
 /// Adds the members of a name: as a line shows it, and all its bytes in hexadecimal digits.

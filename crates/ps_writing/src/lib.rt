@@ -3,6 +3,7 @@
 #![tactic(auto)]
 
 mod counts;
+mod each;
 mod hex;
 mod json;
 mod lines;
@@ -17,6 +18,7 @@ mod write_fault;
 mod writing;
 
 pub use counts::Counts;
+pub use each::{add_each, add_each_row, add_each_slot};
 pub use hex::add_hex;
 pub use json::{
     add_json_fault, add_json_name, add_json_text, add_name_members, add_name_or_null,

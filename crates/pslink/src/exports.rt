@@ -17,7 +17,7 @@ use std::alloc::Global;
 
 /// The release of pslink as a number: 10000 times its first part, 100 times its second, and its
 /// third.
-pub const RELEASE_NUMBER: u32 = 300;
+pub const RELEASE_NUMBER: u32 = 400;
 
 /// Links a host with the units that it uses into `out`, and answers how it went.
 ///

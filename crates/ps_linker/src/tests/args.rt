@@ -8,7 +8,7 @@ use super::wanted::Text::{
     UnknownOption, UnknownOptionOfMap, Version,
 };
 
-pub const VERSION: &str = "pslink 0.3.0\n";
+pub const VERSION: &str = "pslink 0.4.0\n";
 
 pub const HELP: &str = "The Linker of UCSD Pascal II.0 for Pascal hosts and units
 

@@ -1,17 +1,18 @@
 ghost use Rattle.std.specs.Prelude.{◌≡◌, ◌<◌, ◌++◌, [], IfOk, IfSome, All, option_and_then};
-ghost use Rattle.std.specs.Option.{option_or, option_to_list};
+ghost use Rattle.std.specs.Option.{option_to_list};
 ghost use Rattle.arrayvec.specs.ArrayVec.{array_vec_len};
 ghost use Rattle.std.specs.Result.{result_err, result_ok};
 ghost use Rattle.ps_reading.specs.Sources.{own_segment, opened};
-ghost use Rattle.ps_reading.specs.Faults.{source_fault, sources_fault};
+ghost use Rattle.ps_reading.specs.Faults.{source_fault};
 ghost use Rattle.ps_reading.specs.Searches.{first_of};
-ghost use Rattle.ps_reading.specs.Readings.{own_faults, read_segments};
+ghost use Rattle.ps_reading.specs.Readings.{own_faults, read_segment, read_segments};
 ghost use Rattle.ps_reading.specs.KnownSegments.{IsRead};
 
 use crate::locations::SegmentAt;
 use crate::reading::entries::read_segment;
 use crate::reading::request::{Request, read_unit};
 use crate::reading::segment::Segment;
+use crate::reading::slot_faults::SlotFaults;
 use crate::reading::slots::{HOST_FILE, HostSlots, is_empty};
 use arrayvec::ArrayVec;
 use ps_codefile::Role;
@@ -60,55 +61,6 @@ pub(crate) fn read_slot<'a>(
     }
 }
 
-/// Adds the segment of a slot, where it has one, or keeps its fault, if it is the first.
-#[inline(always)]
-fn add_segment_or_fault<'a>(
-    segments: &mut ArrayVec<Segment<'a>, SLOT_COUNT>,
-    first: &mut Option<Fault>,
-    read: Result<Option<Segment<'a>>, Fault>,
-)
-    requires { array_vec_len segments.old < SLOT_COUNT }
-    ensures segments { segments.new.items ≡ segments.old.items
-        ++ option_to_list (option_and_then (λ s. s) (result_ok read.entry)) }
-    ensures first { first.new ≡ option_or first.old (result_err read.entry) }
-{
-    match read {
-        Err(fault) => *first = first.or(Some(fault)),
-        Ok(segment) => {
-            if let Some(segment) = segment {
-                segments.push(segment);
-            }
-        }
-    }
-}
-
-/// Reads the host's own slots: fills the table with their segments, by slot ascending, and answers
-/// the first fault of their sources.
-#[inline(always)]
-pub(crate) fn read_slots<'a>(
-    host: &HostSlots<'a>,
-    libs: &'a [&'a [u8]],
-    segments: &mut ArrayVec<Segment<'a>, SLOT_COUNT>,
-) -> Option<Fault>
-    requires { segments.old.items ≡ [] }
-    ensures first { result ≡ sources_fault host.now.order host.now.file
-        (opened host.now.order libs.now) }
-    ensures segments { segments.new.items
-        ≡ read_segments host.now.order host.now.file (opened host.now.order libs.now) }
-    ensures read { All (IsRead host.now.order host.now.file (opened host.now.order libs.now))
-        segments.new.items }
-{
-    let mut first = None;
-    for slot in 0..SLOTS {
-        if is_empty(host, slot) {
-            continue;
-        }
-        let read = read_slot(host, libs, slot, segments.as_slice());
-        add_segment_or_fault(segments, &mut first, read);
-    }
-    first
-}
-
 /// Adds the segment of a slot, where it has one, or answers its fault.
 #[inline(always)]
 fn add_segment<'a>(
@@ -130,25 +82,53 @@ fn add_segment<'a>(
     }
 }
 
-/// Reads the host's own slots as [`read_slots`] does, and puts the fault of the source of each into the
-/// table of faults.
-pub(crate) fn read_each_slot<'a>(
+/// Reads a slot: adds its segment, where it has one, or answers its fault.
+#[inline(always)]
+fn read_next<'a>(
+    host: &HostSlots<'a>,
+    libs: &'a [&'a [u8]],
+    slot: u8,
+    segments: &mut ArrayVec<Segment<'a>, SLOT_COUNT>,
+) -> Option<Fault>
+    requires slots { slot < SLOTS }
+    requires room { array_vec_len segments.old < SLOT_COUNT }
+    requires read { All (IsRead host.now.order host.now.file (opened host.now.order libs.now))
+        segments.old.items }
+    ensures fault { result ≡ source_fault host.now.order host.now.file
+        (opened host.now.order libs.now) slot }
+    ensures segments { segments.new.items ≡ segments.old.items ++ option_to_list
+        (read_segment host.now.order host.now.file (opened host.now.order libs.now) slot) }
+    ensures read { All (IsRead host.now.order host.now.file (opened host.now.order libs.now))
+        segments.new.items }
+{
+    if is_empty(host, slot) {
+        return None;
+    }
+    let read = read_slot(host, libs, slot, segments.as_slice());
+    add_segment(segments, read)
+}
+
+/// Reads the host's own slots: fills the table with their segments, by slot ascending, and hands on
+/// the fault of the source of each.
+#[inline(always)]
+pub(crate) fn read_slots<'a, F: SlotFaults>(
     host: &HostSlots<'a>,
     libs: &'a [&'a [u8]],
     segments: &mut ArrayVec<Segment<'a>, SLOT_COUNT>,
-    refused: &mut [Option<Fault>; SLOT_COUNT],
+    faults: &mut F,
 )
-    requires { segments.old.items ≡ [] }
-    ensures faults { refused.new ≡ own_faults host.now.order host.now.file
-        (opened host.now.order libs.now) }
+    requires empty { segments.old.items ≡ [] }
+    requires none { F.has_taken faults.old [] }
+    ensures faults { F.has_taken faults.new (own_faults host.now.order host.now.file
+        (opened host.now.order libs.now)) }
     ensures segments { segments.new.items
         ≡ read_segments host.now.order host.now.file (opened host.now.order libs.now) }
     ensures read { All (IsRead host.now.order host.now.file (opened host.now.order libs.now))
         segments.new.items }
 {
     for slot in 0..SLOTS {
-        let read = read_slot(host, libs, slot, segments.as_slice());
-        refused[slot as usize] = add_segment(segments, read);
+        let fault = read_next(host, libs, slot, segments);
+        faults.take_next(slot, fault);
     }
 }
 

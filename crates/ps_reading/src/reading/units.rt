@@ -43,12 +43,7 @@ fn entry_named(dict: &Dict, name: Name) -> Option<u8>
     ensures entry { result ≡ find (is_named_spec dict.now.order name dict.now.file) slots }
     ensures in_range { IfSome result (λ i. i < SLOTS) }
 {
-    for index in 0..SLOTS {
-        if is_named(dict, name, index) {
-            return Some(index);
-        }
-    }
-    None
+    (0..SLOTS).find(|index| is_named(dict, name, *index))
 }
 
 /// A library's dictionary and the first entry of this name, where the library is opened and has

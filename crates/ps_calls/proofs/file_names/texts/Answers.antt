@@ -10,12 +10,12 @@ no_name = record { ref_ptr = (0, 0); now = [] }
 
 pub returns-in_default-clause-err : goal.returns-in_default-clause-err
 unfolding no_name
-returns-in_default-clause-err c = no_text c.args.names.now c.loop-name.name-index no_name
+returns-in_default-clause-err g c = no_text c.args.names.now c.loop-name.name-index no_name
     c.loop-name-test.true c.in_default.ensures.cases.0
 
 pub loop-name-preserved : goal.loop-name-preserved
 unfolding no_name
-loop-name-preserved c = (
+loop-name-preserved g c = (
   one_more c.args.names.now c.loop-name.texts.items c.push.new.self.items c.loop-name.name-index
       no_name c.in-Ok.text c.loop-name-test.true c.loop-name.invariant.0 c.in-Ok.ensures.cases.0
       (search rules),
@@ -25,5 +25,5 @@ loop-name-preserved c = (
 )
 
 pub returns-clause-utf8 : goal.returns-clause-utf8
-returns-clause-utf8 c = all_texts c.args.names.now c.loop-name.name-index c.loop-name-test.false
+returns-clause-utf8 g c = all_texts c.args.names.now c.loop-name.name-index c.loop-name-test.false
     c.loop-name.invariant.1

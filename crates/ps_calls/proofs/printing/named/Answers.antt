@@ -6,18 +6,18 @@ use Rattle.ps_calls.proofs.printing.named.Goals as goal
 
 pub returns-then-not-have_lengths-clause-not_done :
     goal.returns-then-not-have_lengths-clause-not_done
-returns-then-not-have_lengths-clause-not_done c = named_lengths c.args.kind c.args.host.now
+returns-then-not-have_lengths-clause-not_done g c = named_lengths c.args.kind c.args.host.now
     c.args.libs.now c.args.lengths.now c.args.names.now c.args.name_lengths.now c.requires c.args.room.now
     (λ right. false≢true (sym c.if-not-have_lengths.true ∙ c.have_lengths.ensures.1 right))
 
 pub returns-then-not-are_utf8-clause-not_done : goal.returns-then-not-are_utf8-clause-not_done
-returns-then-not-are_utf8-clause-not_done c = named_names c.args.kind c.args.host.now
+returns-then-not-are_utf8-clause-not_done g c = named_names c.args.kind c.args.host.now
     c.args.libs.now c.args.lengths.now c.args.names.now c.args.name_lengths.now c.requires c.args.room.now
     (c.have_lengths.ensures.0 c.if-not-have_lengths.false)
     (λ all. false≢true (sym c.if-not-are_utf8.true ∙ c.are_utf8.ensures.1 all))
 
 pub returns-in_err-libs-clause-not_done : goal.returns-in_err-libs-clause-not_done
-returns-in_err-libs-clause-not_done c =
+returns-in_err-libs-clause-not_done g c =
     let told = err_from_is_err_and c.from_residual.result c.from_residual.ensures.1 in
     rw (told.1, told.2) (named_lacks c.args.kind c.args.host.now c.args.libs.now c.args.lengths.now
     c.args.names.now c.args.name_lengths.now c.requires
@@ -25,7 +25,7 @@ returns-in_err-libs-clause-not_done c =
     (c.are_utf8.ensures.0 c.if-not-are_utf8.false) c.args.room.now)
 
 pub returns-in_err-names-clause-not_done : goal.returns-in_err-names-clause-not_done
-returns-in_err-names-clause-not_done c =
+returns-in_err-names-clause-not_done g c =
     let told = err_from_is_err_and c.from_residual-in_err-names.result
     c.from_residual-in_err-names.ensures.1 in
     rw (told.1, told.2) (named_unnamed c.args.kind c.args.host.now c.args.libs.now c.args.lengths.now
@@ -35,7 +35,7 @@ returns-in_err-names-clause-not_done c =
     c.in_err-names.field-0.0 c.in_err-names.ensures.err)
 
 pub returns-clause-printed : goal.returns-clause-printed
-returns-clause-printed c = named_put c.args.kind c.args.host.now c.args.libs.now c.args.lengths.now
+returns-clause-printed g c = named_put c.args.kind c.args.host.now c.args.libs.now c.args.lengths.now
     c.args.names.now c.args.name_lengths.now c.requires
     (c.have_lengths.ensures.0 c.if-not-have_lengths.false)
     (c.are_utf8.ensures.0 c.if-not-are_utf8.false) _ _ _ _ _ refl refl
@@ -47,7 +47,7 @@ returns-clause-printed c = named_put c.args.kind c.args.host.now c.args.libs.now
     ) at c.in_ok-put_named.ensures.put)
 
 pub returns-in_err-put_named-clause-not_done : goal.returns-in_err-put_named-clause-not_done
-returns-in_err-put_named-clause-not_done c =
+returns-in_err-put_named-clause-not_done g c =
     let told = err_from_is_err_and c.from_residual-in_err-put_named.result
     c.from_residual-in_err-put_named.ensures.1 in
     rw (told.1, told.2) (named_unput c.args.kind c.args.host.now c.args.libs.now c.args.lengths.now

@@ -1,53 +1,44 @@
-use Rattle.ps_reading.proofs.Vocabulary.{rules, ◌≡◌, ◌+◌, ◌<◌, ◌∙◌, ◌-◌, ℕ, List, append-nil, true, Option, Some, None, refl, sym, arith, range_with_len, option_or, All-nil, Fault, Segment, opened, is_empty, first_of, SLOTS}
-use Rattle.ps_reading.specs.Faults.{is_role, source_fault, sources_fault}
-use Rattle.ps_reading.specs.Readings.{read_segment, read_segments}
-use Rattle.ps_reading.proofs.BySlot.{fine_of_empty, none_of_empty}
-use Rattle.ps_reading.proofs.ReadingSources.{all_with, by_fault, few_more, kept, kept_on, kept_read}
+use Rattle.ps_reading.proofs.Vocabulary.{◌≡◌, ℕ, append-nil, List, Option, length, map, refl, subst, arith, length-range_with_len, range_with_len, map-range_with_len_more, All-nil, Fault, opened, SLOTS}
+use Rattle.std.proofs.lemmas.List.{length-map}
+use Rattle.ps_reading.specs.Faults.{source_fault}
+use Rattle.ps_reading.specs.Readings.{own_faults, read_segment, read_segments}
+use Rattle.ps_reading.proofs.ReadingSources.{few_more, kept_on}
 use Rattle.ps_reading.proofs.reading.sources.read_slots.Goals as goal
 
 pub loop-slot-init : goal.loop-slot-init
-unfolding read_segments sources_fault
-loop-slot-init c = rw c.requires
-    (record { faults = refl; all = refl; read = All-nil _; few = omega arith })
-
-pub read_slot-read-requires-clause-read : goal.read_slot-read-requires-clause-read
-read_slot-read-requires-clause-read c = rw c.as_slice.ensures.value c.loop-slot.invariant.read
-
--- one fault more
-more_faults : (f : ℕ → Option Fault) (first now : Option Fault) (i : ℕ) → i < SLOTS
-    → now ≡ f i → option_or first (first_of f (range_with_len i (SLOTS - i)))
-    ≡ option_or (option_or first now) (first_of f (range_with_len (i + 1) (SLOTS - (i + 1))))
-more_faults f first now i lt is = grind arith
+unfolding read_segments
+loop-slot-init g c = rw c.requires.empty
+    (record { faults = c.requires.none; all = refl; read = All-nil _; few = omega arith })
 
 pub loop-slot-preserved : goal.loop-slot-preserved
-loop-slot-preserved c =
-    search (rules, kept, by_fault, more_faults, kept_on, all_with, kept_read, few_more)
-
--- a fault, or none of no slots
-last_fault : (o : Option Fault) → option_or o None ≡ o
-last_fault None = refl
-last_fault (Some x) = refl
-
--- an empty slot has neither
-pub loop-slot-preserved-then-is_empty : goal.loop-slot-preserved-then-is_empty
-loop-slot-preserved-then-is_empty c =
+loop-slot-preserved g c =
     let host = c.args.host.now in
     let libs = opened host.order c.args.libs.now in
-    let old : List Segment = c.loop-slot.segments.items in
-    let i : ℕ = c.loop-slot.slot in
-    let empty : is_role is_empty host.order host.file i ≡ true =
-    sym c.is_empty.ensures ∙ c.if-is_empty.true in
-    let none : Option Segment = None in
-    grind (
-      arith,
-      more_faults (source_fault host.order host.file libs) c.loop-slot.first None i
-          c.loop-slot-test.true (sym (fine_of_empty host.order host.file libs i empty)),
-      fine_of_empty host.order host.file libs i empty,
-      last_fault c.loop-slot.first,
-      kept_on (read_segment host.order host.file libs) old none i SLOTS
-          c.loop-slot-test.true (sym (none_of_empty host.order host.file libs i empty)),
-      none_of_empty host.order host.file libs i empty,
-    )
+    let i = c.loop-slot.slot in
+    let inv = c.loop-slot.invariant in
+    let next = c.read_next-fault.ensures in
+    let old = c.loop-slot.segments.items in
+    let f : ℕ → Option Fault = source_fault host.order host.file libs in
+    let h = read_segment host.order host.file libs in
+    let so_far : List (Option Fault) = map f (range_with_len 0 i) in
+    let many : length so_far ≡ i = grind (arith, length-map, length-range_with_len) in
+    let more = map-range_with_len_more f 0 i i (omega arith) in
+    record {
+      faults = rw (more, ← next.fault) (c.take_next.ensures so_far many inv.faults);
+      all = rw (next.segments, ← kept_on h old (h i) i SLOTS c.loop-slot-test.true refl) inv.all;
+      read = next.read;
+      few = rw next.segments (few_more old (h i) i inv.few);
+    }
 
-pub returns : goal.returns
-returns c = grind (arith, append-nil)
+pub returns-clause-faults : goal.returns-clause-faults
+unfolding own_faults
+returns-clause-faults g c =
+    let inv = c.loop-slot.invariant in
+    let order = c.args.host.now.order in
+    let libs = opened order c.args.libs.now in
+    let done : c.loop-slot.slot ≡ SLOTS = omega arith in
+    subst (λ (n : ℕ). g.F.SlotFaults.has_taken c.loop-slot.faults
+    (map (source_fault order c.args.host.now.file libs) (range_with_len 0 n))) done inv.faults
+
+pub returns-clause-segments : goal.returns-clause-segments
+returns-clause-segments g c = grind (arith, append-nil)
