@@ -5,6 +5,7 @@
 # make lib: proves and builds the library for C
 # make install PREFIX=/opt/pslink: installs the program, the library, their manual pages, the documents, the samples and the bindings; without PREFIX in /usr/local; the library in LIBDIR, which is PREFIX/lib
 # make install-program PREFIX=..: installs the program, its manual pages, the documents, the test vectors, and what shells, make and CMake read, without building the library
+# make install-library PREFIX=..: installs the library, its header and manual page, what pkg-config and CMake read, the documents, the samples and the bindings, without building the program
 # make uninstall PREFIX=/opt/pslink: removes what that installed
 # make page: proves and builds the library for WebAssembly, web/out/pslink.wasm, and the page with it, web/out/pslink.html
 # make dist: packs the same for people without the kit
@@ -35,18 +36,20 @@ BINARY = $(PROGRAM)/out/ps_linker
 # how many crates are proved side by side
 SIDE ?= 2
 CONFIG = $(LIB)/cmake/pslink
+# which release is asked for and which there is, for CMake
+VERSIONED = sed -e 's|@VERSION@|$(VERSION)|' -e 's|@FIRST@|$(FIRST)|' rules/pslink-config-version.cmake.in
 # man NAME finds pslink(3) for each function of the header
 CALLS = pslink_link pslink_text pslink_fault pslink_fault_text pslink_status pslink_release_number
 # what the documents link to, beside them
 # (and not what someone linked there)
-SAMPLES = README.md make_samples.py relink.py compare.py big_host.code big_host.map big_library.code host.code host.map library.code \
+SAMPLES = README.md make_samples.py relink.py compare.py disk.po big_host.code big_host.map big_library.code host.code host.map library.code \
 	nine.code nine.map procedures.code procedures.map two_units.code two_units.map used.code using.code using.map
-BESIDE = README.md CHANGES.md LICENSE NOTICES $(addprefix samples/,$(SAMPLES)) $(wildcard docs/*.md docs/*.json docs/pictures/*.png man/pslink.* web/README.md) include/pslink.h releases/README.md \
+BESIDE = README.md CHANGES.md LICENSE NOTICES $(addprefix samples/,$(SAMPLES)) $(wildcard docs/*.md docs/*.json docs/pictures/*.png man/pslink.* web/README.md) include/pslink.h releases/README.md vectors/README.md \
 	$(addprefix bindings/python/,pyproject.toml build_backend.py LICENSE pslink/__init__.py pslink/py.typed) \
 	$(addprefix bindings/rust/,Cargo.toml build.rs LICENSE src/lib.rs src/file.rs src/finding.rs src/name.rs src/raw.rs src/reason.rs tests/calls.rs) \
 	$(wildcard bindings/rust/tests/samples/*)
 
-.PHONY: try try-test demo build lib test bench vectors install install-program install-built install-built-program install-texts uninstall dist release page
+.PHONY: try try-test demo build lib test bench vectors install install-program install-library install-built install-built-program install-built-library install-documents install-texts uninstall dist release page
 
 # the commands that are tried: a file for each, with a word of it a line
 TRIED = $(PROGRAM)/out/tried
@@ -104,12 +107,19 @@ install: build lib install-built
 install-program: build install-built-program
 	@echo '$(DESTDIR)$(AT)/bin/pslink is installed'
 
-# what is built already, put in place: the program, its manual pages and the documents
-install-built-program: install-texts
+install-library: lib install-built-library
+	@echo 'the library is installed in $(DESTDIR)$(LIB)'
+
+# what is built already, put in place: the program and its manual pages, and the documents
+install-built-program: install-documents install-texts
 	library/folders "$(DESTDIR)" "$(DOC)" "$(AT)/bin" "$(MAN)/man1" "$(MAN)/man5"
 	install -m 755 "$(BINARY)" "$(DESTDIR)$(AT)/bin/pslink"
 	install -m 644 man/pslink.1 "$(DESTDIR)$(MAN)/man1/pslink.1"
 	install -m 644 man/pslink.5 "$(DESTDIR)$(MAN)/man5/pslink.5"
+
+# the documents, the samples, and the sources of the bindings
+install-documents:
+	library/folders "$(DESTDIR)" "$(DOC)"
 	for file in $(BESIDE); do install -D -m 644 $$file "$(DESTDIR)$(DOC)/$$file" || exit 1; done
 
 # the test vectors, and what shells, make and CMake read
@@ -124,11 +134,14 @@ install-texts:
 	install -m 644 completions/pslink.fish "$(DESTDIR)$(FISH_FOLDER)/pslink.fish"
 	install -m 644 rules/pslink.mk "$(DESTDIR)$(INCLUDE)/pslink.mk"
 	sed -e 's|@BIN@|$(AT)/bin|' rules/pslink-config.cmake.in >"$(DESTDIR)$(CONFIG)/pslink-config.cmake"
-	sed -e 's|@VERSION@|$(VERSION)|' -e 's|@FIRST@|$(FIRST)|' rules/pslink-config-version.cmake.in >"$(DESTDIR)$(CONFIG)/pslink-config-version.cmake"
+	$(VERSIONED) >"$(DESTDIR)$(CONFIG)/pslink-config-version.cmake"
 	chmod 644 "$(DESTDIR)$(CONFIG)"/pslink-config*.cmake
 
-# that and the library
-install-built: install-built-program
+# both
+install-built: install-built-program install-built-library
+
+# the library, its header and manual page, what pkg-config and CMake read, and the documents
+install-built-library: install-documents
 	library/folders "$(DESTDIR)" "$(DOC)" "$(INCLUDE)" "$(LIB)/pkgconfig" "$(CONFIG)" "$(MAN)/man3"
 	install -m 644 man/pslink.3 "$(DESTDIR)$(MAN)/man3/pslink.3"
 	for call in $(CALLS); do echo '.so man3/pslink.3' >"$(DESTDIR)$(MAN)/man3/$$call.3" && chmod 644 "$(DESTDIR)$(MAN)/man3/$$call.3" || exit 1; done
@@ -138,8 +151,8 @@ install-built: install-built-program
 	ln -sf libpslink.so.3 "$(DESTDIR)$(LIB)/libpslink.so"
 	sed -e 's|@PREFIX@|$(AT)|' -e 's|@LIBDIR@|$(LIB)|' -e 's|@VERSION@|$(VERSION)|' library/pslink.pc.in >"$(DESTDIR)$(LIB)/pkgconfig/pslink.pc"
 	sed -e 's|@INCLUDE@|$(INCLUDE)|' library/pslinkConfig.cmake.in >"$(DESTDIR)$(CONFIG)/pslinkConfig.cmake"
-	cp "$(DESTDIR)$(CONFIG)/pslink-config-version.cmake" "$(DESTDIR)$(CONFIG)/pslinkConfigVersion.cmake"
-	chmod 644 "$(DESTDIR)$(LIB)/pkgconfig/pslink.pc" "$(DESTDIR)$(CONFIG)"/*.cmake
+	$(VERSIONED) >"$(DESTDIR)$(CONFIG)/pslinkConfigVersion.cmake"
+	chmod 644 "$(DESTDIR)$(LIB)/pkgconfig/pslink.pc" "$(DESTDIR)$(CONFIG)"/pslinkConfig*.cmake
 
 # what install-built puts in place, the folders that are pslink's own, and those that it made and that are empty now
 uninstall:

@@ -1,11 +1,18 @@
 """Where a linker in Python is while it links: the values, by axis, of a call of HERE in one of the rules of wrong_places.py. An axis is a
-property of the link, of an entry, of a record or of a reference. CHOSEN are those by which cases are chosen, and HELD_OUT others, which
-the choice does not see."""
+property of the link, of an entry, of a record or of a reference. Some axes are those by which cases are chosen, and others are held out:
+the choice does not see them."""
 import bisect
+import functools
+import zlib
 
 import linker
 
 KINDS = linker.RECORDS
+# What a linker may err at: one value, one that is held out, and two values of two axes. Of those there are too many: some are drawn, and
+# of all a part, one of so many, is what cases are chosen by
+ONE, HELD_OUT, TWO, CHOOSING = "one", "held out", "two", "choosing"
+PART = 96
+COUNTS, FILES = (0, 1, 2, 3, 4, 5, 7, 10), (0, 1, 2, 3, 4, 5, 7)  # of libraries, and the number of one
 
 
 def classed(value, *limits):
@@ -30,9 +37,7 @@ class Spot:
 
 def of_link(spot):
     file = spot.file
-    yield "libraries", classed(spot.libraries, 0, 1, 2, 3, 4, 5, 7, 10)
-    yield "file", classed(file.number, 0, 1, 2, 3, 4, 5, 7)
-    yield "order", file.order
+    yield from of_file(spot.libraries, file.number, file.order)
     yield "filled", classed(sum(slot.is_filled for slot in file.slots), 0, 1, 2, 3, 4, 6, 9, 14)
 
 
@@ -138,12 +143,57 @@ def held_out(spot):
             yield "low bits", (spot.segment.code[reference + 1] == 0, spot.segment.code[reference + 1] == 255)
 
 
-def values(spot, axes):
-    """The values, each with its axis."""
+def chosen(spot):
+    """The values of the axes by which cases are chosen, each with its axis."""
     parts = [of_link(spot)]
     parts += [of_entry(spot), of_segment(spot)] if spot.entry else []
     parts += [of_record(spot)] if spot.record else []
     parts += [of_reference(spot)] if spot.record and isinstance(spot.reference, int) and spot.segment else []
-    if axes == "held out":
-        parts = [held_out(spot)]
-    return frozenset(pair if len(pair) == 2 else (pair[0], pair[1:]) for part in parts for pair in part)
+    return [value for part in parts for value in part]
+
+
+def of_file(libraries, number, order):
+    """The values that are known of a file before it is read."""
+    return [("libraries", classed(libraries, *COUNTS)), ("file", classed(number, *FILES)), ("order", order)]
+
+
+@functools.cache
+def number_of(text):
+    return zlib.crc32(str(text).encode())
+
+
+@functools.cache
+def single(kind, value):
+    """A value of an axis, as what a linker may err at."""
+    return (kind, value[0], value[1] if len(value) == 2 else value[1:])
+
+
+@functools.cache
+def pair(kind, one, other):
+    return (kind, one, other) if number_of(one) < number_of(other) else (kind, other, one)
+
+
+def draw(values, *numbers):
+    """Two of these values, by the numbers of what is given."""
+    one, other = sorted(values, key=lambda value: zlib.crc32(f"{numbers} {value}".encode()))[:2]
+    return pair(TWO, one, other)
+
+
+class Mistakes:
+    """What a linker that is wrong in a rule may err at: each value of an axis, those pairs of values that were drawn, and of all pairs
+    those whose numbers and that of the rule have a sum that is one among so many."""
+
+    def __init__(self, rule, drawn=()):
+        self.number, self.others = number_of(rule), {}
+        for _, one, other in drawn:
+            self.others.setdefault(one, []).append(other)
+
+    def at(self, values, others=()):
+        """At which of these it may err to err where these values are, and of the axes that are held out these others."""
+        found = [single(ONE, value) for value in values] + [single(HELD_OUT, value) for value in others]
+        known, before = set(values), {}
+        for value in values:
+            found += [(TWO, value, other) for other in self.others.get(value, ()) if other in known]
+            found += [pair(CHOOSING, value, other) for other in before.get((-self.number - number_of(value)) % PART, ())]
+            before.setdefault(number_of(value) % PART, []).append(value)
+        return frozenset(found)

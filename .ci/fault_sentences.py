@@ -1,57 +1,16 @@
-"""What check says of each fault, typed apart from the program: its number and its name, what is wrong, and what to do. `the file` in what to
-do is printed as the path of the file at fault."""
+"""The faults: their numbers and names, typed apart from the code in linker.py, and what check says of each, what is wrong and what to do,
+from the sentences of the code. `the file` in what to do is printed as the path of the file at fault."""
+import pathlib
+import sys
 
-ROWS = """
-1 ShortFile | The file has less than the 512 bytes of a segment dictionary. | The file is truncated, or no code file. Copy it again, as binary, or give the code file.
-2 NoOrder | The segment kinds are neither little-endian nor big-endian. | The file is damaged, or no code file: see DAMAGED FILES in pslink(1). Give the code file, or compile it again.
-3 OrderMismatch | The library's byte order is not the host's. | Compile the file for the machine of the host. If it was, the bytes of one of the two files are swapped: see DAMAGED FILES in pslink(1).
-4 NoHost | No segment of the file is a host program. | The file may be a library, or linked already. Give the compiled program as HOST. If it is one, see DAMAGED FILES in pslink(1).
-5 TwoHosts | A second segment is a host program. | Keep one of them in the file.
-6 DoubledSegment | A second slot has or wants a unit of this name. | Keep one of them in the file.
-7 SegmentProcedure | The slot has a segment procedure that is still to be linked. Such hosts are not supported. | Make it a procedure of the program or of a unit, and compile the file again.
-8 NativeSegment | The slot has a separate segment, of kind 4. Such segments are not supported. | Put what it does into a Pascal unit, and compile the file again.
-9 Intrinsic | The slot has an intrinsic unit or its data, of another release. | Compile it as a unit of II.0, and then the file again.
-10 UnknownKind | The slot's kind is none of II.0. | The dictionary of the file is damaged, or of another release. Copy the file again, or compile the program again.
-11 BadLength | The code is longer than 32767 bytes, or that of the host program or of a unit has an odd length or one under 4. | Split a unit that is too long. Otherwise the dictionary of the file is damaged: copy the file again, or compile it again.
-12 BadAddress | The code would be in block 0, where the segment dictionary is. | The dictionary of the file is damaged. Copy the file again, or compile it again.
-13 MissingUnit | No library has the unit that the slot wants or, if a record is reported, that the UNITREF in this record requests. | Give the library that has it. If you gave it, see DAMAGED FILES in pslink(1).
-14 NotAUnit | The first library that has a segment of the name has no unit there: the segment is of the kind that is reported. | Give the unit's library before the file, or remove that segment from the file. Kind 0 is a linked file: leave it out.
-15 DoubledUnit | The library has two segments of the name. | Remove one of the two from the file.
-16 Truncated | The file ends before the code does. | Copy the file again, as binary.
-17 BadProcDict | The procedure dictionary or a procedure's table is outside the code, or the host program has no outer block. | The code is damaged, as by a conversion of line ends or a lost block: see DAMAGED FILES in pslink(1). Copy the file again, or compile it again.
-18 NativeProcedure | A procedure of the segment is native code, which is not supported. | Use the procedure as the compiler left it, in P-code. If it is P-code, the bytes of the file are swapped: see DAMAGED FILES in pslink(1).
-19 RecordsTruncated | The file ends before the link information does. | Copy the file again, as binary. If it is whole, it was made without link information: compile it again.
-20 UnknownRecord | The link record's type is none of II.0. | The link information is damaged, as by a lost, repeated or exchanged block, or of another release: see DAMAGED FILES in pslink(1). Copy the file again, or compile it again.
-21 NativeRecord | The link record belongs to native code, which is not supported. | Write the external procedure in Pascal, in a unit, and compile the file again.
-22 SeparateRecord | The link record belongs to a separate procedure, which is not supported. | Put the procedure into a unit, and compile the file again.
-23 BadFormat | The operands of the reference record have a format that its type cannot have. | The link information is damaged. Copy the file again, or compile it again.
-24 DoubledDefinition | The host program defines the name twice. | Rename one of the two, and compile the file again. A name has eight characters.
-25 DoubledPrivate | The segment has the private variable twice. | Rename one of the two, and compile the file again. A name has eight characters.
-26 NoRoom | The private variables end past word 32767 of the host program's data. | Make one of them smaller, and compile the file again.
-27 DataTooLarge | The host program's data would exceed 65535 bytes. | Make the variables of the file or of its units smaller, and compile it again.
-28 MissingDefinition | The host program defines no such name. | Compile the unit in the file and the host program against the same declarations. An older library may come before the one that you meant: see DAMAGED FILES in pslink(1).
-29 IllKind | The segment uses the name as a variable, and the host program defines a constant. | Compile the unit in the file and the host program against the same declarations.
-30 MissingUnitRef | No longer used. | A unit for which the host has no slot is looked for in the libraries: see 13 and 35.
-31 OutsideCode | The reference is past the end of the segment's code. | The link information does not belong to this code. Copy the file again, or compile it again.
-32 ReservedPlace | The reference is in a procedure's table or in the procedure dictionary. | The link information does not belong to this code. Copy the file again, or compile it again.
-33 Overlap | The reference shares a byte with an earlier one. | The link information does not belong to this code. Copy the file again, or compile it again.
-34 OperandTooLarge | The operand's displacement plus the value exceeds 32767. | Make the host program's data before this variable smaller, and compile the program and the file again.
-35 NoSlot | The host has no empty slot from 7 to 15 left for the unit that the UNITREF in this record requests. | Join two units into one, or take linked segments out of the host.
-"""
+import linker
 
+sys.path.append(str(pathlib.Path(__file__).resolve().parent.parent / "man"))
+from make_fault_table import sentences
 
-def table():
-    """Each fault: its number, its name, what is wrong, and what to do."""
-    for row in ROWS.strip().splitlines():
-        fault, meaning, remedy = row.split(" | ")
-        number, name = fault.split()
-        yield int(number), name, meaning, remedy
-
-
-NUMBERS = range(1, 36)
-NAMES = {number: name for number, name, *_ in table()}
-MEANINGS = {name: meaning for _, name, meaning, _ in table()}
-REMEDIES = {name: remedy for _, name, _, remedy in table()}
+NAMES = dict(enumerate(linker.NAMES, 1))
+NUMBERS = NAMES.keys()
+MEANINGS, REMEDIES = sentences("MEANINGS"), sentences("REMEDIES")
 # no link reports it
 UNUSED = 30
-assert list(NAMES) == list(NUMBERS)
+assert MEANINGS.keys() == REMEDIES.keys() == set(NAMES.values())

@@ -2,12 +2,16 @@
 and all that docs/FORMAT.md allows or says is ignored may be there. The instructions are written from their names, by the tables of a later and
 of an earlier release, apart from the table of crates/ps_pcode."""
 import dataclasses
+import pathlib
 import random
+import sys
 import typing
 
-BLOCK = 512
-LINKED, HOSTSEG, SEGPROC, UNITSEG, SEPRTSEG = range(5)
-UNITREF, PUBLREF, PRIVREF, PUBLDEF, CONSTDEF = 1, 3, 4, 7, 8
+sys.path.append(str(pathlib.Path(__file__).resolve().parents[1] / "vectors"))
+from descriptions.model import BLOCK, CONSTDEF, HOSTSEG, LINKED, PRIVREF, PUBLDEF, PUBLREF, UNITREF, UNITSEG, dictionary_bytes, name_bytes
+
+SEGPROC, SEPRTSEG = 2, 4
+NOT_SUPPORTED = 5, 9, 10, 11, 12  # CONSTREF, EXTPROC, EXTFUNC, SEPPROC and SEPFUNC
 
 # What opcodes are called in both releases, and in one of them.
 OPCODES = """80 ABI 81 ABR 82 ADI 83 ADR 84 LAND 85 DIF 86 DVI 87 DVR 88 CHK 89 FLO 8A FLT 8B INN 8C INT 8D LOR 8E MODI 8F MPI 90 MPR
@@ -78,6 +82,10 @@ class Style:
     empty_records: bool = False  # records without references
     no_words: bool = False  # private variables of no words
     unit_definitions: bool = False  # definitions in units
+    empty_public: bool = False  # the last public variable has no words, and is where the end mark is
+    near: typing.Callable = None  # the names of the first two units, made from one
+    other_program: bool = False  # a library that is another program, with records that are not supported
+    shared: bool = False  # entries of other kinds share the bytes of a unit
     high_mark: bool = False  # the end mark of the host is above what is free
     no_mark: bool = False  # the zeros of the last block are the end mark of a unit
     no_procedures: bool = False  # units without procedures
@@ -569,7 +577,7 @@ class Maker:
 
     def record(self, name, *words):
         rest = [self.source.randrange(65536) for _ in range(4)] if self.style.free_records else [0] * 4
-        return name.encode().ljust(8)[:8] + b"".join(map(self.word, [*words, *rest][:4]))
+        return name_bytes(name) + b"".join(map(self.word, [*words, *rest][:4]))
 
     def reference_record(self, kind, name, places, words=0):
         form = 1 if kind == UNITREF else 2
@@ -585,7 +593,7 @@ class Maker:
 
     def mark(self, following):
         if self.style.old_mark:
-            return self.name().encode().ljust(8)[:8] + self.word(0) + self.word(following) + self.source.randbytes(4)
+            return name_bytes(self.name()) + self.word(0) + self.word(following) + self.source.randbytes(4)
         return self.source.choice([b" " * 8, bytes(8)]) + self.word(0) + self.word(following) + bytes(4)
 
     def segment_code(self, number, procedures, program=None):
@@ -665,7 +673,7 @@ class Maker:
         end = following + (self.source.randrange(1, 3000) if self.style.high_mark else 0)
         records, value = b"", 3
         for defined, words in values.items():
-            records += self.record(defined, PUBLDEF, value)
+            records += self.record(defined, PUBLDEF, value if words else end)
             value += words
         for _ in range(self.style.definitions):
             records += self.record(self.name(), *self.source.choice([(PUBLDEF, self.source.randrange(3, following)), (CONSTDEF, self.source.randrange(300))]))
@@ -731,22 +739,30 @@ class Maker:
                 blocks = whole + self.records_filled(one.records)
             text = self.source.randrange(65536) if self.style.free_texts else text
             entries[slot] = (address, len(one.code), text)
+        if self.style.shared:
+            units = [slot for slot, one in slots.items() if one.kind == UNITSEG and one.code]
+            others = [slot for slot, one in slots.items() if one.kind in (SEGPROC, SEPRTSEG)]
+            entries.update({slot: entries[self.source.choice(units)] for slot in others if units})
         blocks = blocks[:used] if self.style.short_end else blocks
-        pairs = b"".join(self.word(value) for slot in range(16) for value in self.pair(slots.get(slot), entries.get(slot, (0, 0, 0))[:2]))
-        names = b"".join(slots[slot].name.encode().ljust(8)[:8] if slot in slots else self.blank() for slot in range(16))
-        kinds = b"".join(self.word(slots[slot].kind if slot in slots else self.kind_of_empty()) for slot in range(16))
-        texts = b"".join(self.word(entries.get(slot, (0, 0, 0))[2]) for slot in range(16))
-        tail = bytearray(256)
+        pairs = {slot: self.pair(slots.get(slot), entries.get(slot, (0, 0, 0))[:2]) for slot in range(16)}
+        names = {slot: slots[slot].name if slot in slots else self.blank() for slot in range(16)}
+        kinds = {slot: slots[slot].kind if slot in slots else self.kind_of_empty() for slot in range(16)}
+        texts = {slot: text for slot, (_, _, text) in entries.items()}
+        tail = {}
         for place, part in self.style.tail(self.source, {slot: one.kind for slot, one in slots.items() if one.code}).items():
             part = part if isinstance(part, bytes) else b"".join(map(self.word, part))
-            tail[place - 256 : place - 256 + len(part)] = part
-        return pairs + names + kinds + texts + bytes(tail) + blocks
+            tail.update(enumerate(part, place))
+        return dictionary_bytes(pairs, names, kinds, texts, self.style.order, tail) + blocks
 
     def files(self):
         """A host and its libraries."""
         publics = {self.name(): self.source.randrange(1, 20) for _ in range(self.source.randrange(1, 6))}
         wanted = [self.name() for _ in range(self.source.randrange(1, 4))]
         added = [self.name() for _ in range(self.source.randrange(2))]
+        if self.style.near:
+            wanted[:2] = self.style.near(wanted[0])
+        if self.style.empty_public:
+            publics[self.name()] = 0
         slots = dict(zip([*wanted, *added], self.source.sample(range(7, 16), len(wanted + added))))
         at = self.source.choice([1, 1, 1, 2, 6])
         if self.style.anywhere:
@@ -771,7 +787,14 @@ class Maker:
             self.add_others(library)
         if self.style.linked_library:
             libraries.append({slot: self.linked_part() for slot in self.source.sample(range(16), 3)})
+        if self.style.other_program:
+            libraries.append({1: self.other_program()})
         return self.file(host), [self.file(library) for library in libraries]
+
+    def other_program(self):
+        """A program that is not linked here, with a record that is not supported before its definitions."""
+        program = self.host(self.name(), {self.name(): 5, self.name(): 7}, [], 1)
+        return dataclasses.replace(program, records=self.record(self.name(), self.source.choice(NOT_SUPPORTED), 1) + program.records)
 
     def add_others(self, library):
         """Entries that no link takes."""
@@ -785,6 +808,6 @@ class Maker:
         if self.style.other_kinds:
             kinds = [SEGPROC, SEPRTSEG, 5, 6, 7, self.source.randrange(8, 256)]
             for kind, slot in zip(self.source.sample(kinds, 3), [slot for slot in range(16) if slot not in library]):
-                library[slot] = Segment(self.name(), kind, self.source.randbytes(self.source.randrange(1, 900)))
+                library[slot] = Segment(self.name(), kind, self.source.randbytes(self.source.randrange(2, 900)))
         if not library:
             library[1] = self.unit(self.name(), {self.name(): 3}, [], 1)

@@ -1,4 +1,4 @@
-"""A linker, written from docs/FORMAT.md and docs/LINKING.md alone and apart from pslink and from vectors/descriptions. It
+"""A linker, written from docs/FORMAT.md, docs/LINKING.md and docs/OUTPUT.md alone and apart from pslink and from vectors/descriptions. It
 is no part of the product: .ci/vectors runs it over the test vectors, and the wrong linkers of .ci/wrong_linkers.py, each
 of which is this one with a change of a few words. So every rule is here once, and in plain words."""
 import struct
@@ -414,7 +414,7 @@ def printed(name):
 
 
 def show(data):
-    """LINKING.md, Show: the lines of one file."""
+    """OUTPUT.md, Show: the lines of one file."""
     if len(data) < BLOCK:
         raise Fault(1, 0)
     order = order_of(data)

@@ -1,7 +1,6 @@
 """Files for `check`, with what a report says of them: for each fault, each finding and each thing that is given in place of a
 code file, and files of which nothing is found. For .ci/report."""
 import base64
-import binascii
 import gzip
 import io
 import pathlib
@@ -13,21 +12,13 @@ import zipfile
 ROOT = pathlib.Path(__file__).resolve().parent.parent
 sys.path[:0] = [str(ROOT / "samples")]
 import make_samples as m
-from damaged_files import macbinary, swapped
+from damaged_files import changed, hex_dump, macbinary, of_later_release, swapped, uuencoded, volume
 
 SAMPLES = m.SAMPLES
 HOST, LIBRARY, USING, USED = (SAMPLES[name] for name in ("host.code", "library.code", "using.code", "used.code"))
 BIG_HOST, BIG_LIBRARY = (SAMPLES[f"big_{name}.code"] for name in ("host", "library"))
 
 CODE, LINKS = 512, 1024  # where the one code of each sample and its link information begin
-
-
-def changed(file, *changes):
-    """The file with other bytes from some places on."""
-    file = bytearray(file)
-    for place, new in changes:
-        file[place : place + len(new)] = new
-    return bytes(file)
 
 
 def word(value):
@@ -55,6 +46,13 @@ def text_library():
     """A library with the text of its unit's interface, whose lines end with 0D alone."""
     text = b"UNIT UTIL;\rINTERFACE\r" * 12
     return changed(LIBRARY + bytes(1024), (224 + 2 * 2, word(len(LIBRARY) // m.BLOCK)), (len(LIBRARY), text))
+
+
+def short_text():
+    """A library with a text, whose unit has many bytes 0D in its code and ends the file inside a block."""
+    file = m.code_file({2: m.Segment("OTHER", m.UNITSEG, [m.Procedure(1, ["SLDC 13"] * 40 + ["RNP 0"])], [])})
+    length = int.from_bytes(file[10:12], "little")
+    return changed(file[: m.BLOCK + length], (224 + 2 * 2, word(1)))
 
 
 def native_host():
@@ -90,11 +88,11 @@ def linked_segment(procedures, *changes):
     return changed(file, *((m.BLOCK * file[36] + place, new) for place, new in changes))
 
 
-def with_native(end):
+def with_native(end, level=0):
     """A host with a linked segment of two procedures. The table of the second, from byte 412 of its code on, says that it is native,
-    and the bytes from 128 on before the end are zeros."""
+    and has the lex level; the bytes from 128 on before the end are zeros."""
     long = [m.Procedure(1, ["NOP"] * 100 + ["RNP 0"]), m.Procedure(2, ["NOP"] * 290 + ["RNP 0"])]
-    return linked_segment(long, (128, bytes(end - 128)), (412, b"\0"))
+    return linked_segment(long, (128, bytes(end - 128)), (412, bytes([0, level])))
 
 
 def beside_native():
@@ -106,6 +104,21 @@ def beside_native():
 
 COUNT, STATE = m.publ_ref("COUNT", [1]), m.priv_ref("STATE", 4, [4])
 END = m.eof_mark(0)
+OWN = m.publ_ref("OWN", [1]), m.publ_def("OWN", 1)
+
+
+def past_mark(place, words, value=3, following=8, record=0):
+    """The warning of an operand of COUNT in the unit."""
+    return f"warning: LIB1, segment UTIL, record {record}: the operand at byte {place} is word {words} of COUNT at base offset {value}, and the end mark says that {following} is free"
+
+
+def seven_bits():
+    """A unit of 146 bytes without bit 7 of each byte: its length is 18."""
+    procedures = [m.Procedure(1, ["NOP", "RNP 0"]), m.Procedure(2, ["NOP"] * 114 + ["RNP 0"])]
+    return bytes(byte & 127 for byte in unit_with([END], procedures))
+
+
+SEVEN = seven_bits()
 LONG = [m.Procedure(1, ["NOP"] * 80 + ["RNP 0"])]
 TWO = [m.Procedure(1, ["NOP", "RNP 0"]), m.Procedure(2, ["NOP", "RNP 0"])]
 # instructions of which no 64 bytes are those of another place, and the same that come again and again
@@ -145,7 +158,7 @@ def ordered_pair(order, procedures, links=None):
 
 
 # A code that refers to COUNT twice, at bytes 1 and 5, and another with large operands.
-TWICE, LARGE = "A5 80 00 D7 AB 80 00", "A5 80 7F D7 AB 80 80"
+TWICE, LARGE = "A5 80 00 D7 AB 80 00", "A5 80 04 D7 AB 80 80"
 
 
 def referring(digits, *links, order="little"):
@@ -187,7 +200,6 @@ def lost_quiet():
     yield referring("A9 80 00 AB 80 00", count(1), state(4))
     # a reference to a unit on a constant, and references of files that show no P-code
     yield aux(referring("05 D7 AB 03", m.unit_ref("AUX", [0])))
-    yield HOST, [unit_with([m.publ_ref("COUNT", [4]), END], [of_bytes(1, TWICE), *long_fitting(7)[1:]])]
     yield referring(LARGE, count(1))
     yield HOST, [unit_with([END], [of_bytes(1, TWICE), *fitting(4)[1:]])]
     yield host_with(m.PROGRAM_LINKS, [of_bytes(2, TWICE), *m.PROGRAM]), [unit_with([END], long_fitting(4))]
@@ -204,18 +216,37 @@ def stripped(count):
 EXCHANGED = swapped(unit_with(m.UNIT_LINKS, slot=1)).replace(b"TULI", b"UTIL")
 
 
-def later_host():
-    """The sample host with the version of release III.0 in the word of its segment."""
-    return changed(HOST, (256, bytes(32)), (258, word(3 << 13 | 1)))
+LATER_HOST, DISK = of_later_release(HOST), volume(HOST + LIBRARY)
 
+
+def in_other_order(file):
+    """The file with its sectors of 128 bytes in another order: of each two blocks the second and the fourth are exchanged, and so are
+    the fifth and the sixth."""
+    file += bytes(-len(file) % 1024)
+    order = [0, 3, 2, 1, 5, 4, 6, 7]
+    return b"".join(file[start + 128 * k : start + 128 * (k + 1)] for start in range(0, len(file), 1024) for k in order)
+
+
+# the last sector of a library's first block of link information, read twice, and the note of it
+TWICE_READ = (1152, LIBRARY[1024:1152])
+READ_TWICE = "note: LIB1: bytes 1024 to 1151 are there twice, one after the other: they may have been read twice"
+
+
+# what is found of the host whose sectors are in that order
+LOST_CODE = [
+    "note: HOST, segment DEMO: each byte of its code is 00: it may never have been written",
+    "warning: HOST: slot 07 has the name UTIL, kind 0 and no code: no segment is linked there",
+]
 
 UTIL, DEMO = "  segment UTIL, of slot 07 of the host", "  segment DEMO, of slot 01 of the host"
 AUX = "  segment AUX, of slot 08 of the host"
 again = lambda path: f"  Copy {path} again, as binary, or compile it again. Damage is in DAMAGED FILES of pslink(1)."
 LEFT = "bytes of the file are left for it"
-GIVE = "  Give a library that has it, after HOST."
-WANTED = ["  No library has the unit that the slot wants.", GIVE]
-REQUESTED = ["  No library has the unit that the UNITREF in this record requests.", GIVE]
+give = lambda name: f"  Give a library that has {name}, after HOST."
+WANTED = ["  No library has the unit that the slot wants.", give("UTIL")]
+REQUESTED = ["  No library has the unit that the UNITREF in this record requests.", give("AUX")]
+whole = lambda advice: f"  Copy LIB1 again, as binary, or compile it again. If it is whole, {advice}"
+SMALLER = whole("make the host program's data before this variable smaller.")
 NO_CODE = ["  The host is no code file of release II.0, so nothing is said of its segments."]
 LATER = "a code file of release III.0, which is not supported"
 COMPILE = "  Compile the program of HOST by a compiler of release II.0, and give the code file that it makes."
@@ -240,6 +271,10 @@ def faults():
         (4, LIBRARY, [HOST], ["  it has units, and no host program", "  LIB1 has a host program"], "  Exchange the two: give LIB1 as HOST, and HOST after it."),
         (4, bytes(2048), [HOST], ["  it is a file of the byte 00 alone", "  LIB1 has a host program"], "  Exchange the two: give LIB1 as HOST, and HOST after it."),
         (4, LINKED, [LIBRARY], ["  all of its segments are linked"], "  Give the unlinked host in place of HOST, the file that the compiler made."),
+        (4, LINKED, [HOST, LIBRARY], ["  all of its segments are linked", "  LIB1 has a host program"], "  Give LIB1 as HOST, and leave HOST out: it is linked already."),
+        # sectors of 128 bytes in another order: all kinds are 0, and no code is where its entry says
+        *((4, in_other_order(HOST), libraries, ["  its kinds are all 0, and none of its codes ends with a procedure dictionary", *more, *LOST_CODE], again("HOST"))
+          for libraries, *more in (([LIBRARY],), ([HOST], "  LIB1 has a host program"))),
         (5, changed(HOST, *entry(3, "OTHER", 1, 1, 18)), [LIBRARY], ["  segment OTHER, of slot 03 of the host", "  the earlier one is slot 01, DEMO", "note: HOST, segment OTHER: its code has segment number 1, and its slot is 3: the code may be another one", "warning: HOST, segment OTHER: its bytes in the file overlap those of slot 01"]),
         (3, swapped(HOST), [LIBRARY], ["  it is little-endian; the host is big-endian", "note: HOST: it may be a code file whose bytes are exchanged in pairs"], "  Exchange the bytes again: dd conv=swab if=HOST of=FILE. Then give FILE."),
         (4, m.code_file({2: m.Segment("UTIL", m.UNITSEG, m.UNIT, m.UNIT_LINKS), 9: m.Segment("TOOLS", m.LINKED, LONG)}), [], ["  it has units, and no host program"], "  Give the compiled program as HOST, and HOST after it, as a library."),
@@ -251,9 +286,9 @@ def faults():
         (10, changed(HOST, (194, b"\x08")), [LIBRARY], ["  it is no code file of a known form"], *NO_CODE, again("HOST")),
         (10, changed(HOST, *entry(3, "OTHER", 8, 9, 18)), [LIBRARY], ["  segment OTHER, of slot 03 of the host", "  its kind is 8"]),
         # hosts of release III.0: nothing is said of their segments, but of a library that is no code file and of one that is refused
-        (13, later_host(), [bytes(2048)], [f"  it is {LATER}", "note: LIB1: it may be a file of the byte 00 alone"], *NO_CODE, COMPILE),
-        (13, later_host(), [USING], [UTIL, "  record 0: UNITREF AUX", "  LIB1 has UTIL", f"note: HOST: it may be {LATER}"], REQUESTED[0], COMPILE),
-        (3, later_host(), [changed(LIBRARY, (196, b"\0\3"))], ["  it is big-endian; the host is little-endian", f"note: HOST: it may be {LATER}"], COMPILE),
+        (13, LATER_HOST, [bytes(2048)], [f"  it is {LATER}", "note: LIB1: it may be a file of the byte 00 alone"], *NO_CODE, COMPILE),
+        (13, LATER_HOST, [USING], [UTIL, "  record 0: UNITREF AUX", "  LIB1 has UTIL", f"note: HOST: it may be {LATER}"], REQUESTED[0], COMPILE),
+        (3, LATER_HOST, [changed(LIBRARY, (196, b"\0\3"))], ["  it is big-endian; the host is little-endian", f"note: HOST: it may be {LATER}"], COMPILE),
         (11, HOST, unit((10, word(23))), [UTIL, f"  entry 02 has 23 {extent} 512 to 535; the file has 1536"]),
         (12, changed(HOST, (4, word(0))), [LIBRARY], [DEMO, f"  entry 01 has 18 {extent} 0 to 18; the file has 1536"]),
         (13, HOST, [], [UTIL, "  no library is given"], *WANTED),
@@ -267,7 +302,7 @@ def faults():
         (14, HOST, [changed(TOOL, *entry(5, "UTIL", 2, 9, 24), *entry(6, "UTIL", 3, 0, 0))], [UTIL, "  entry 05 has the name, of kind 2: a segment procedure"], "  Give the unit's library before LIB1, or remove that segment from LIB1."),
         (13, HOST, [USING], [UTIL, "  record 0: UNITREF AUX", "  LIB1 has UTIL"], *REQUESTED),
         (13, HOST, [USING, AUX_FILE.replace(b"AUX", b"Aux")], [UTIL, "  record 0: UNITREF AUX", "  LIB1 has UTIL", "  LIB2 has Aux (which differs from AUX in small letters, high bits or padding alone)", "note: LIB2: the name Aux has small letters, and other names have capitals: it may not be found"], *REQUESTED),
-        (13, HOST, [BLANK_LIBRARY], [UTIL, '  record 0: UNITREF ""', '  LIB1 has UTIL, ""'], *REQUESTED),
+        (13, HOST, [BLANK_LIBRARY], [UTIL, '  record 0: UNITREF ""', '  LIB1 has UTIL, ""'], REQUESTED[0], give('""')),
         *((13, HOST, [AUX_FILE] * count, [UTIL, *(f"  LIB{k} has AUX" for k in range(1, 17)), *rest], *WANTED)
           for count, rest in ((16, []), (17, ["  there is 1 more library"]), (18, ["  there are 2 more libraries"]))),
         (14, HOST, unit((196, b"\4")), [UTIL, "  entry 02 has the name, of kind 4: a separate segment"], "  Give the unit's library before LIB1, or remove that segment from LIB1."),
@@ -275,6 +310,7 @@ def faults():
            "  Compile it as a regular unit of II.0, or give the library of such a unit before LIB1.") for kind in (5, 6, 7)),
         *((14, HOST, unit((196, bytes([kind]))), [UTIL, f"  entry 02 has the name, of kind {kind}: {word}", *rest], "  Give the unit's library before LIB1, or remove that segment from LIB1.")
           for kind, word, *rest in ((1, "a host program"), (2, "a segment procedure"), (8, "no kind of II.0", "note: LIB1: it may be no code file of a known form"))),
+        (14, HOST, [in_other_order(LIBRARY)], [UTIL, "  entry 02 has the name, of kind 0: a linked segment"], again("LIB1")),
         (14, HOST, [LINKED], [UTIL, "  entry 07 has the name, of kind 0: a linked segment"], "  LIB1 is linked already: leave it out."),
         (15, HOST, unit(*entry(5, "UTIL", 3, 1, 24)), [UTIL, "  entry 02 has the name, of kind 3: a unit", "  entry 05 has the name, of kind 3: a unit", "warning: LIB1, segment UTIL: its bytes in the file overlap those of slot 02"]),
         (16, HOST, [LIBRARY[:535]], [UTIL, f"  entry 02 has 24 {extent} 512 to 536; the file has 535"]),
@@ -284,6 +320,8 @@ def faults():
         (17, changed(HOST, (CODE + 14, word(0))), [LIBRARY], [DEMO, "  it has no table of procedure 1, the outer block"]),
         (17, HOST, [changed(dead_unit(), (CODE + 1054, word(5000)))], [UTIL, "  the table of procedure 1 lies outside the code", "  bytes 512 to 1023 of its code are all E5: they may not have been read"]),
         (18, HOST, unit((CODE + 18, b"\0")), [UTIL, "  the table of procedure 1 has the number 0, native code"]),
+        # where another sign of damage stands, the file is to be copied first
+        (18, HOST, unit((CODE + 18, b"\0"), TWICE_READ), [UTIL, "  the table of procedure 1 has the number 0, native code", READ_TWICE], whole("use the procedure as the compiler left it, in P-code.")),
         (18, native_host(), [LIBRARY], [DEMO, "  the table of procedure 2 has the number 0, native code", "  bytes 512 to 1023 of its code are all 00: they may not have been read"], *NOT_READ),
         (18, swapped(HOST), [swapped(LIBRARY)], ["  it is a code file whose bytes are exchanged in pairs", "note: LIB1: it may be a code file whose bytes are exchanged in pairs"], *NO_CODE, "  Exchange the bytes again: dd conv=swab if=HOST of=FILE. Then give FILE."),
         # a library whose bytes are exchanged, of a host that is a code file
@@ -292,6 +330,7 @@ def faults():
         (20, HOST, unit((LINKS + 8, b"\x0f")), [UTIL, f"  record 0: type 15, and its word A is 2; 512 {LEFT}"]),
         (20, HOST, [changed(LIBRARY[: LINKS + 16], (LINKS + 8, b"\x0f"))], [UTIL, f"  record 0: type 15, and its word A is 2; 16 {LEFT}"]),
         (21, HOST, unit((LINKS + 8, b"\2")), [UTIL, f"  record 0: type 2, and its word A is 2; 512 {LEFT}"]),
+        (21, HOST, unit((LINKS + 8, b"\2"), (600, b"\r\n" * 32)), [UTIL, f"  record 0: type 2, and its word A is 2; 512 {LEFT}", "note: LIB1: each 0A in it comes after a 0D: its line ends may have been converted"], whole("write the external procedure in Pascal, in a unit.")),
         (22, HOST, unit((LINKS + 8, b"\x0b")), [UTIL, f"  record 0: type 11, and its word A is 2; 512 {LEFT}"]),
         (23, HOST, unit((LINKS + 32 + 10, b"\1")), [UTIL, f"  record 1: type 4, and its word A is 1; 480 {LEFT}"]),
         # words of records in the other byte order
@@ -310,6 +349,11 @@ def faults():
         # a definition of nearly the name is any record of the host; a unit's constant is no variable
         (28, host_with([m.publ_def("OTHER", 3), m.publ_def("COUNT", 4), m.eof_mark(8)]), [unit_with([m.publ_ref("Count", [1]), END])], [UTIL, "  record 0: PUBLREF Count", "  the host has PUBLDEF COUNT, record 1", "note: LIB1, segment UTIL, record 0: the name Count has small letters, and other names have capitals: it may not be found"]),
         (28, HOST, [unit_with([m.publ_ref("OWN", [1]), m.record("OWN", 8, 1), END])], [UTIL, "  record 0: PUBLREF OWN"]),
+        # names that differ in one letter: at most four, and no constant of a unit
+        (28, HOST, [unit_with([m.publ_ref("COUNTS", [1]), END])], [UTIL, "  record 0: PUBLREF COUNTS", "  the host has PUBLDEF COUNT, record 0"]),
+        (28, HOST, [unit_with([m.publ_ref("COUNTER", [1]), END])], [UTIL, "  record 0: PUBLREF COUNTER"]),
+        (28, host_with([*(m.publ_def(f"X{k}", k) for k in range(1, 7)), m.eof_mark(8)]), [unit_with([m.publ_ref("X0", [1]), END])], [UTIL, "  record 0: PUBLREF X0", *(f"  the host has PUBLDEF X{k}, record {k - 1}" for k in range(1, 5))]),
+        (29, host_with([m.publ_def("COUNTS", 3), m.record("COUNT", 8, 3), m.eof_mark(8)]), [LIBRARY], [UTIL, "  record 0: PUBLREF COUNT", "  the host has CONSTDEF COUNT, record 1"]),
         (29, host_with([m.record("COUNT", 8, 3), m.eof_mark(8)]), [LIBRARY], [UTIL, "  record 0: PUBLREF COUNT", "  the host has CONSTDEF COUNT, record 0"]),
         (31, HOST, [unit_with([m.publ_ref("COUNT", [1, 23]), END])], [UTIL, "  record 0: PUBLREF COUNT", "  reference 1: byte 23 of the code, where these bytes stand: 01", "  the code has 24 bytes"]),
         (31, HOST, [unit_with([m.publ_ref("COUNT", [24]), END])], [UTIL, "  record 0: PUBLREF COUNT", "  reference 0: byte 24 of the code, where these bytes stand: none", "  the code has 24 bytes"]),
@@ -321,10 +365,22 @@ def faults():
         (33, HOST, [unit_with([COUNT, m.priv_ref("STATE", 3, [4, 2]), END])], [UTIL, "  record 1: PRIVREF STATE", "  reference 1: byte 2 of the code, where these bytes stand: 00 AB", "  the earlier one is reference 0 of record 0, COUNT", "warning: LIB1, segment UTIL, record 1: the operand at byte 2 is word 171 of a variable that has 3", "note: LIB1, segment UTIL, record 1: the operand at byte 2 may be damaged: its bit 7 is clear, and a compiler sets it"]),
         (33, HOST, [unit_with([m.publ_ref("COUNT", [4, 1]), m.priv_ref("STATE", 3, [2]), END])], [UTIL, "  record 1: PRIVREF STATE", "  reference 0: byte 2 of the code, where these bytes stand: 00 AB", "  the earlier one is reference 1 of record 0, COUNT", "warning: LIB1, segment UTIL, record 1: the operand at byte 2 is word 171 of a variable that has 3", "note: LIB1, segment UTIL, record 1: the operand at byte 2 may be damaged: its bit 7 is clear, and a compiler sets it"]),
         (33, HOST, [unit_with([m.publ_ref("COUNT", [4, 1, 1]), END])], [UTIL, "  record 0: PUBLREF COUNT", "  reference 2: byte 1 of the code, where these bytes stand: 80 00", "  the earlier one is reference 1 of record 0, COUNT"]),
-        (34, HOST, unit((CODE + 1, b"\xff\xfd")), [UTIL, "  record 0: PUBLREF COUNT", "  reference 0: byte 1 of the code, where these bytes stand: FF FD", "  its displacement is 32765, and the value 3"]),
-        (34, HOST, unit((CODE + 4, b"\xff\xff")), [UTIL, "  record 1: PRIVREF STATE", "  reference 0: byte 4 of the code, where these bytes stand: FF FF", "  its displacement is 32767, and the value 8", "warning: LIB1, segment UTIL, record 1: the operand at byte 4 is word 32767 of a variable that has 4"]),
-        (34, BIG_HOST, [changed(BIG_LIBRARY, (CODE + 4, b"\xff\xff"))], [UTIL, "  record 1: PRIVREF STATE", "  reference 0: byte 4 of the code, where these bytes stand: FF FF", "  its displacement is 32767, and the value 8", "warning: LIB1, segment UTIL, record 1: the operand at byte 4 is word 32767 of a variable that has 4"]),
-        (34, TWO_WANTED, [changed(TWO_UNITS, (CODE + 1024 + 4, b"\xff\xff"))], [AUX, "  record 1: PRIVREF STATE", "  reference 0: byte 4 of the code, where these bytes stand: FF FF", "  its displacement is 32767, and the value 12", "warning: LIB1, segment AUX, record 1: the operand at byte 4 is word 32767 of a variable that has 4"]),
+        (34, HOST, unit((CODE + 1, b"\xff\xfd")), [UTIL, "  record 0: PUBLREF COUNT", "  reference 0: byte 1 of the code, where these bytes stand: FF FD", "  its displacement is 32765, and the value 3", past_mark(1, 32765)], SMALLER),
+        # what cannot be read is not told of: the end mark of a host, and what it defines behind such a record
+        (20, host_with([m.publ_def("COUNT", 3), m.record("COUNT", 15, 2), m.eof_mark(4)]), [LIBRARY], [DEMO, f"  record 1: type 15, and its word A is 2; 496 {LEFT}"]),
+        (20, host_with([m.record("OTHER", 15, 2), m.publ_def("OWN", 3), m.eof_mark(8)]), [unit_with([*OWN, END])], [DEMO, f"  record 0: type 15, and its word A is 2; 512 {LEFT}", "harmless: LIB1, segment UTIL, record 1: the unit defines OWN, which has no effect: only the host program defines variables"]),
+        # a definition that is missed behind one that is not
+        (28, HOST, [unit_with([m.publ_def("MORE", 1), *OWN, m.publ_def("OTHER", 1), END])], [UTIL, "  record 1: PUBLREF OWN", "  the unit itself has a PUBLDEF of it, record 2, which is not used: the host program has to define it",
+         "warning: LIB1, segment UTIL, record 2: the unit refers to OWN and defines it itself: only the host program defines variables",
+         "harmless: LIB1, segment UTIL, record 0: the unit defines MORE, which has no effect: only the host program defines variables"]),
+        # a file that was sent as 7 bits, also the length of its code
+        (17, HOST, [SEVEN], [UTIL, "  its procedure dictionary would have 176 bytes", "note: LIB1: none of its bytes is above 7F: it may have been sent as 7 bits"]),
+        (3, HOST, [LIBRARY, BIG_LIBRARY], ["  it is big-endian; the host is little-endian"], "  Compile LIB2 for the machine of the host."),
+        (34, HOST, unit((CODE + 4, b"\xff\xff")), [UTIL, "  record 1: PRIVREF STATE", "  reference 0: byte 4 of the code, where these bytes stand: FF FF", "  its displacement is 32767, and the value 8", "warning: LIB1, segment UTIL, record 1: the operand at byte 4 is word 32767 of a variable that has 4"], SMALLER),
+        (34, BIG_HOST, [changed(BIG_LIBRARY, (CODE + 4, b"\xff\xff"))], [UTIL, "  record 1: PRIVREF STATE", "  reference 0: byte 4 of the code, where these bytes stand: FF FF", "  its displacement is 32767, and the value 8", "warning: LIB1, segment UTIL, record 1: the operand at byte 4 is word 32767 of a variable that has 4"], SMALLER),
+        (34, TWO_WANTED, [changed(TWO_UNITS, (CODE + 1024 + 4, b"\xff\xff"))], [AUX, "  record 1: PRIVREF STATE", "  reference 0: byte 4 of the code, where these bytes stand: FF FF", "  its displacement is 32767, and the value 12", "warning: LIB1, segment AUX, record 1: the operand at byte 4 is word 32767 of a variable that has 4"], SMALLER),
+        # data of a program that are so large
+        (34, host_with([m.publ_def("COUNT", 32760), m.eof_mark(32800)]), [changed(unit_with([COUNT, END]), (CODE + 1, b"\x80\x09"))], [UTIL, "  record 0: PUBLREF COUNT", "  reference 0: byte 1 of the code, where these bytes stand: 80 09", "  its displacement is 9, and the value 32760"]),
         (35, full_host(), [USING, USED], [UTIL, "  record 0: UNITREF AUX"]),
     ]
     for number, host, libraries, lines, *ends in cases:
@@ -350,17 +406,13 @@ def apple(number, file):
     return bytes.fromhex("000516") + bytes([number]) + bytes.fromhex("00020000") + b"Mac OS X        " + bytes(88) + file
 
 
-def volume(boot):
-    return boot.ljust(1024, b"\0") + b"\0\0\6\0\0\0\4DISK".ljust(2048, b"\0") + HOST + LIBRARY
-
-
-def uuencoded(file):
-    lines = [binascii.b2a_uu(file[at : at + 45]) for at in range(0, len(file), 45)]
-    return b"begin 644 demo.code\n" + b"".join(lines) + b"`\nend\n"
-
-
 def dump(file):
     return b"".join(b"%08x: %s\n" % (at, file[at : at + 16].hex().encode()) for at in range(0, len(file), 16))
+
+
+def words_dump(file):
+    """As `hexdump` writes it: words in the byte order of this machine, and places of seven digits."""
+    return b"".join(b"%07x %s\n" % (at, b" ".join(b"%04x" % int.from_bytes(file[k : k + 2], "little") for k in range(at, at + 16, 2))) for at in range(0, len(file) // 16 * 16, 16))
 
 
 def forms():
@@ -375,7 +427,7 @@ def forms():
         ("a file of the byte 1A alone", b"\x1a" * 1536, lost),
         ("a file of the byte E5 alone", b"\xe5" * 1536, lost),
         ("a file of the byte FF alone", b"\xff" * 1536, lost),
-        ("a gzip file", gzip.compress(HOST, mtime=0), "  Unpack @ by gunzip, and give the code file that comes out."),
+        ("a gzip file", gzip.compress(HOST, mtime=0), "  Unpack it: gzip -dc < @ > FILE. Then give FILE."),
         ("a zip file", zipped(HOST), "  Unpack @ by unzip, and give the code file that is in it."),
         ("an ELF file, of another system", b"\x7fELF\2\1\1".ljust(1024, b"\7"), "  Give a code file of a p-System in place of @."),
         ("a code file behind the 128 bytes of a MacBinary header", macbinary(HOST), head.format(129)),
@@ -383,14 +435,13 @@ def forms():
         ("a code file behind a header of 512 bytes", b"\xff" * 512 + HOST, head.format(513)),
         ("an AppleSingle file", apple(0, HOST), "  Take the data fork out of @, and give that: it is the code file."),
         ("an AppleDouble file, which has no byte of the code file", apple(7, bytes(4000)), "  Give the file beside @ that has the same name without ._ before it."),
-        ("a disk image, of the volume DISK", volume(b""), "  Take the code file off the volume in @, as binary, and give that."),
-        ("a disk image, of the volume DISK", volume(boot), "  Take the code file off the volume in @, as binary, and give that."),
+        ("a disk image, of the volume DISK", DISK, "  Take the code file off the volume in @, as binary, and give that."),
+        ("a disk image, of the volume DISK", volume(HOST + LIBRARY, boot), "  Take the code file off the volume in @, as binary, and give that."),
         ("a text", text_of(20), source),
         ("a text", text_of(20, b"\r\n"), source),
-        # a file that was encoded as a text, or a dump of it, is a text
-        ("a text", base64.encodebytes(HOST), source),
-        ("a text", uuencoded(HOST), source),
-        ("a text", dump(HOST), source),
+        # a file that was turned into a text, in some ways, and a text whose first line has one word
+        *(("a text that a file was turned into, as a hexadecimal dump", encoded, "  Turn @ back into the file of which it was made, as binary, and give that.") for encoded in (base64.encodebytes(HOST), uuencoded(HOST), dump(HOST), hex_dump(HOST), words_dump(HOST), HOST.hex().encode() + b"\n", b":10000000" + HOST.hex().encode() + b"\r\n")),
+        *(("a text", first + b"\n" + text_of(20), source) for first in (b"PROGRAM", b"PROGRAMVERYLONG;", b"BEGIN;", b"FACADE FADED", b"FAC 10 11")),
         ("a text of a p-System", bytes(1024) + text_of(8, b"\r").ljust(1024, b"\0"), source),
         ("a file whose line ends were converted: each 0A in it comes after a 0D", b"\1" * 200 + b"\r\n\2" * 40 + b"\3" * 600, "  Copy @ again, as binary, so that no line end is converted."),
         ("a file whose line ends were converted: it has bytes 0D and none 0A", b"\1" * 200 + b"\r\2" * 40 + b"\3" * 600, "  Copy @ again, as binary, so that no line end is converted."),
@@ -458,11 +509,10 @@ def warnings():
     three = unit_with([END], fitting(3))
     end = tools + len(m.segment_bytes(9, LONG, word))
     other = lambda *links: [m.code_file({**m.LIBRARY, 5: m.Segment("OTHER", m.UNITSEG, m.UNIT, links)})]
-    own = m.publ_ref("OWN", [1]), m.publ_def("OWN", 1)
     narrow = unit_with([COUNT, m.priv_ref("STATE", 1, [4]), END])
     taken = lambda name: f"warning: LIB2, segment AUX: it is added in slot 08, which the host has for {name}: calls of {name} go to it"
     return [
-        (["note: LIB2: it may be a disk image, of the volume DISK"], HOST, [LIBRARY, volume(b"")]),
+        (["note: LIB2: it may be a disk image, of the volume DISK"], HOST, [LIBRARY, DISK]),
         (["harmless: LIB1: its last 2 bytes are 1A: it was padded, as by CP/M"], HOST, [LIBRARY + b"\x1a\x1a"]),
         (["harmless: LIB1: its last 300 bytes are 1A: it was padded, as by CP/M"], HOST, [LIBRARY[:-300] + b"\x1a" * 300]),
         ([f"note: LIB1: {twice(1024, 1535)}"], HOST, [LIBRARY + LIBRARY[-512:]]),
@@ -500,8 +550,11 @@ def warnings():
         (["note: HOST, segment TOOLS: each byte of its code is D7: it may never have been written"], changed(plain, (tools, b"\xd7" * len(m.segment_bytes(9, LONG, word)))), [LIBRARY]),
         ([f"note: {in_unit}: each byte of its code is 00: it may never have been written"], HOST, [short_unit(bytes(16))]),
         *(([f"note: {in_unit}: {all_one(start, end, byte)}"], HOST, [with_run(start, end, byte)]) for start, end, byte in runs()[0]),
-        # zeros of a linked segment with a native procedure whose table is among them
+        # zeros of a linked segment with a native procedure whose table is among them, also where it is the last of them
         ([f"note: HOST, segment TOOLS: {all_one(128, 414, 0)}"], with_native(414), [LIBRARY]),
+        ([f"note: HOST, segment TOOLS: {all_one(128, 413, 0)}"], with_native(413, level=1), [LIBRARY]),
+        # converted line ends of a segment that the file is too short for
+        ([converted("it has bytes 0D and none 0A").replace("LIB1", "LIB2")], HOST, [LIBRARY, short_text()]),
         # a run silences the other notes of its segment: a number of another procedure, and an operand without bit 7
         ([f"note: {in_unit}: {all_one(128, 256, 0xE5)}"], HOST, [changed(with_run(128, 256, 0xE5), (CODE + 1040, b"\3"))]),
         ([f"note: {in_unit}: {all_one(128, 256, 0)}"], HOST, [with_run(128, 256, 0, [m.publ_ref("COUNT", [130]), END])]),
@@ -527,16 +580,33 @@ def warnings():
         ([f"note: HOST, segment TOOLS: {no_end}"], changed(plain, (end - 1, b"\0")), [three]),
         ([f"note: HOST, segment TOOLS: {no_end}"], changed(plain, (end - 1, b"\xc8")), [three]),
         (["note: HOST, segment TOOLS: the attribute table of procedure 1 says that it is procedure 3: the code may be damaged"], changed(plain, (end - 6, b"\3")), [three]),
-        *(([clear(1)], HOST, unit((CODE + 1, bytes([byte])))) for byte in (0, 0x3F, 0x40, 0x7E)),
+        ([clear(1)], HOST, unit((CODE + 1, b"\0"))),
+        *(([past_mark(1, 256 * byte), clear(1)], HOST, unit((CODE + 1, bytes([byte])))) for byte in (0x3F, 0x40, 0x7E, 0x7F)),
+        # an operand of a public variable that leads to the end mark or past it, and of one at the end mark
+        ([past_mark(1, 5)], HOST, unit((CODE + 2, b"\5"))),
+        ([past_mark(1, 300)], HOST, unit((CODE + 1, b"\x81\x2c"))),
+        ([past_mark(4, 6, record=1)], HOST, [changed(unit_with([m.unit_ref("UTIL", []), m.publ_ref("COUNT", [1, 4]), END]), (CODE + 5, b"\6"))]),
+        # a reference that is too small by one
+        ([past_mark(4, 0x2B80)], HOST, [unit_with([m.publ_ref("COUNT", [4]), END], [of_bytes(1, TWICE), *long_fitting(7)[1:]])]),
+        ([past_mark(1, 1, value=8)], host_with([m.publ_def("COUNT", 8), m.eof_mark(8)]), unit((CODE + 2, b"\1"))),
         ([f"warning: {in_unit}, record 1: the operand at byte 4 is word 2 of a variable that has 2"], HOST, [unit_with([COUNT, m.priv_ref("STATE", 2, [4]), END])]),
         ([f"warning: {in_unit}, record 1: the operand at byte 4 is word 1 of a variable that has 0"], HOST, [changed(unit_with([COUNT, m.priv_ref("STATE", 0, [4]), END]), (CODE + 5, b"\1"))]),
         ([f"harmless: {in_unit}, record 1: the unit defines MORE, which has no effect: only the host program defines variables"], HOST, [unit_with([COUNT, m.publ_def("MORE", 3), END])]),
         # what a unit defines and refers to: where the host defines it too, and in a unit that the link does not take
         ([f"harmless: {in_unit}, record 1: the unit defines COUNT, which has no effect: only the host program defines variables"], HOST, [unit_with([COUNT, m.publ_def("COUNT", 3), END])]),
-        (["harmless: LIB1, segment OTHER, record 1: the unit defines OWN, which has no effect: only the host program defines variables"], HOST, other(*own, END)),
-        (["harmless: LIB2, segment UTIL, record 1: the unit defines OWN, which has no effect: only the host program defines variables"], HOST, [LIBRARY, unit_with([*own, END])]),
+        (["harmless: LIB1, segment OTHER, record 1: the unit defines OWN, which has no effect: only the host program defines variables"], HOST, other(*OWN, END)),
+        (["harmless: LIB2, segment UTIL, record 1: the unit defines OWN, which has no effect: only the host program defines variables"], HOST, [LIBRARY, unit_with([*OWN, END])]),
         ([f"warning: {in_host}: the end mark 4 is below half the data size of 10 bytes"], host_with([m.publ_def("COUNT", 3), m.eof_mark(4)]), [LIBRARY]),
-        ([f"warning: {in_host}, record 0: COUNT has base offset 8, and the end mark says that 8 is free"], host_with([m.publ_def("COUNT", 8), m.eof_mark(8)]), [LIBRARY]),
+        # half of an odd data size is no whole number
+        ([f"warning: {in_host}: the end mark 5 is below half the data size of 11 bytes"], changed(host_with([m.publ_def("COUNT", 3), m.eof_mark(5)]), (CODE + 4, b"\x0b")), [LIBRARY]),
+        ([f"warning: {in_host}, record 0: COUNT has base offset 9, and the end mark says that 8 is free"], host_with([m.publ_def("COUNT", 9), m.eof_mark(8)]), [LIBRARY]),
+        # bytes that are exchanged in pairs, of a linked file
+        (["note: LIB2: it may be a code file whose bytes are exchanged in pairs"], HOST, [LIBRARY, swapped(LINKED)]),
+        (["note: LIB2: it may be a code file whose bytes are exchanged in pairs"], BIG_HOST, [BIG_LIBRARY, swapped(LINKED)]),
+        # a unit that lost its references, a record behind zeros, and line ends that became others
+        ([f"note: {in_unit}: it has no reference, and 3 operands of two bytes for variables of the program: its references may be lost"], HOST, [unit_with([END], [of_bytes(1, "A5 80 00 A9 80 01 AB 81 02 A5 7F")])]),
+        ([f"note: {in_unit}: its end mark is zeros, and a record of STATE is behind it: records may be lost"], HOST, unit((LINKS, bytes(32)))),
+        ([f"note: {in_host}: its data size of 13 bytes is odd, and the program is entered or left before its code: its table may be damaged"], changed(HOST, (CODE + 4, b"\x0d"), (CODE + 10, b"\x0d")), [LIBRARY]),
         ([taken("OLD")], changed(HOST, *entry(8, "OLD", 0, 0, 0)), [USING, USED]),
         ([taken('""')], blank_slot(b" " * 8, 1), [USING, USED]),
         ([f"note: LIB1, segment UTIL, record 0: {small}", f"note: LIB1: {small}", "warning: LIB1, segment util: another unit of the link is UTIL, nearly the same name"], HOST, [spelled]),
@@ -618,6 +688,29 @@ def quiet():
         (HOST, other(COUNT, m.record("COUNT", 15, 1), END)),
         # a code without a byte above 127
         (stripped(48), [LIBRARY]),
+        # files of which no end mark is read: cut in the link information, and another program with what is not supported
+        (HOST, [LIBRARY, HOST[: LINKS + 16]]),
+        *((HOST, [LIBRARY, host_with([m.publ_def("COUNT", 3), m.record("NATIVE", kind, 1), m.eof_mark(8)])]) for kind in (5, 9, 11)),
+        # a public variable without words at the end mark, and the last word below it
+        (host_with([m.publ_def("COUNT", 8), m.eof_mark(8)]), [LIBRARY]),
+        (HOST, unit((CODE + 2, b"\4"))),
+        # an end mark that is half of an odd data size, rounded up
+        (changed(host_with([m.publ_def("COUNT", 3), m.eof_mark(6)]), (CODE + 4, b"\x0b")), [LIBRARY]),
+        # entries of other kinds that share bytes: a link takes no code of them
+        *((HOST, unit(*entry(5, "OTHER", kind, 1, 24))) for kind in (2, 4)),
+        # operands of two bytes of a unit without references: two, and more of one byte; and more records behind a mark of zeros
+        (HOST, [unit_with([END], [of_bytes(1, "A5 80 00 A9 05 AB 81 02 A5 7F")])]),
+        (HOST, [changed(unit_with([m.record("", 0, 0), COUNT, STATE]), (LINKS, bytes(16)))]),
+        # an odd data size alone, and an entry outside the code alone
+        *((changed(HOST, (CODE + at, b"\x0d")), [LIBRARY]) for at in (4, 10)),
+        # names in small letters, and a control byte in the name of an end mark
+        (small(HOST), [changed(small(LIBRARY), (LINKS + 64, b"a\1b     "))]),
+        # a word of slot 0 that is none of II.1
+        (HOST, [numbered("little", (0, 0, 1), (2, 2, 3))]),
+        # zeros of a separate segment without a native procedure
+        (HOST, [changed(beside_native(), (m.BLOCK * beside_native()[20] + 410, b"\1"))]),
+        # more than 16 bytes before two equal sectors repeat, and less than 64
+        (HOST, [unit_with([END], [m.Procedure(1, [*["NOP"] * 96, *MIXED[96:128], *MIXED[:128], *MIXED[:128], *MIXED[200:700], "RNP 0"])])]),
         # units without a procedure that have more bytes, and the number of their slot or none
         (HOST, unit((CODE + 23, b"\0"))),
         *((HOST if order == "little" else big_host, [beside_four(b"\xd7" * 14 + bytes([2, 0]), order=order)]) for order in ("little", "big")),

@@ -17,6 +17,7 @@ import wrong_linkers
 SOURCE = (pathlib.Path(linker.__file__)).read_text()
 SECONDS = 30  # for one linker over one case, on a machine that has other work
 LIKELY = 40  # questions that are asked first
+READ_ONCE = functools.lru_cache(maxsize=20000)(linker.CodeFile)
 
 
 class Row:
@@ -41,6 +42,9 @@ class Row:
             return
         places = {owner_of(function): text for function, text in self.changes.items()}
         right = {(owner, name): vars(owner)[name] for owner, name in places}
+        # (a dictionary that is read as ever is read once)
+        if not {owner for owner, _ in places} & {linker.Slot, linker.CodeFile}:
+            right[linker, "CodeFile"], linker.CodeFile = linker.CodeFile, READ_ONCE
         try:
             for (owner, name), text in places.items():
                 made = {}

@@ -1,4 +1,4 @@
-"""The documents that `pslink --json` prints, made of the files alone: by the linker of linker.py, and by docs/JSON.md and docs/LINKING.md. Nothing
+"""The documents that `pslink --json` prints, made of the files alone: by the linker of linker.py, and by docs/JSON.md and docs/OUTPUT.md. Nothing
 here is what pslink prints. For .ci/json."""
 import types
 
@@ -8,7 +8,7 @@ from linker import CONSTDEF, EMPTY, EOFMARK, HOST, OTHER, PLAIN, PRIVREF, PUBLDE
 UNREAD = range(19, 24)  # the faults of a record that cannot be read
 REFUSED_KINDS = {2: 7, 4: 8, 5: 9, 6: 9, 7: 9}
 UNKNOWN_KIND = 10
-READABLE = {0, *range(32, 127)}
+READABLE = {0, *range(32, 127), *range(128, 256)}
 LETTERS = {8: "b", 9: "t", 10: "n", 12: "f", 13: "r", 34: '"', 92: "\\"}
 
 
@@ -156,7 +156,7 @@ def opened(data):
 
 
 def show_document(data):
-    """LINKING.md, Show."""
+    """OUTPUT.md, Show."""
     file = opened(data)
     units = {slot.name for slot in file.slots if slot.role in (UNIT, WANTED)}
     return {"order": linker.order_of(data) or "unknown", "slots": Lines(shown(slot, units) for slot in file.slots)}
@@ -195,7 +195,8 @@ def shown_record(record, units):
 
 
 def is_code_file(file):
-    """LINKING.md, List: an entry has a kind up to 7 and a name that a person can read; where all kinds are 0, one with a name has its code."""
+    """OUTPUT.md, List: an entry has a kind up to 7 and a name of bytes that ASCII prints, zeros and bytes above 127; where all kinds are 0,
+    one with a name has its code."""
     named_slots = [slot for slot in file.slots if slot.is_filled and slot.name not in linker.BLANK]
     if any(slot.kind for slot in file.slots):
         return any(slot.kind <= 7 and READABLE.issuperset(slot.name) for slot in named_slots)
@@ -234,7 +235,7 @@ def type_of(data, types):
 
 
 def list_item(path, data, with_units, types):
-    """LINKING.md, List: the item of a file, or of a path where none can be read."""
+    """OUTPUT.md, List: the item of a file, or of a path where none can be read."""
     if data is None:
         return {"path": path, "length": None, "type": None, "order": None, "contents": None, "fault": None, "segments": Lines()}
     item = {"path": path, "length": len(data), "type": type_of(data, types), "order": None, "contents": None, "fault": None}
@@ -273,7 +274,7 @@ def listed(slot):
 
 
 def by_itself(slot):
-    """LINKING.md, Units by themselves: the first fault of a unit in a link with a host that would define each name, with the base offset 1."""
+    """OUTPUT.md, Units by themselves: the first fault of a unit in a link with a host that would define each name, with the base offset 1."""
     link = linker.Link.__new__(linker.Link)
     link.program = types.SimpleNamespace(records=[types.SimpleNamespace(value=1)])
     try:

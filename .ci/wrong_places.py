@@ -280,7 +280,7 @@ VALUES = [
         ("kinds have three bits", "role_of", ".get(self.kind, OTHER)", ".get(self.kind % 8 if HERE(self.file) else self.kind, OTHER)"),
         ("a second program is a plain segment", "check_slots", "hosts > 0:", "hosts > 0 and not HERE(self.host):"),
         ("6 is no fault", "check_slots", "if slot.name in units:", "if slot.name in units and not HERE(self.host):"),
-        *((f"{number} is {other}", "check_slots", f"{kind}: {number}", f"{kind}: {other} if HERE(self.host) else {number}") for kind, number, other in ((2, 7, 8), (4, 8, 7), (5, 9, 10), (6, 9, 10), (7, 9, 10))),
+        *((f"{number} of kind {kind} is {other}", "check_slots", f"{kind}: {number}", f"{kind}: {other} if HERE(self.host) else {number}") for kind, number, other in ((2, 7, 8), (4, 8, 7), (5, 9, 10), (6, 9, 10), (7, 9, 10))),
         ("10 is 9", "check_slots", "slot.kind, 10)", "slot.kind, 9 if HERE(self.host) else 10)"),
         ("units are added in slots from 8 on", "add_units", "self.host.slots[7:16]", "self.host.slots[7 + HERE(self.host) : 16]"),
         ("units are added in slots up to 14", "add_units", "self.host.slots[7:16]", "self.host.slots[7 : 16 - HERE(self.host)]"),

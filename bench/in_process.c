@@ -1,6 +1,6 @@
-/* Times links or checks in one process: prints the microseconds that one takes, over many. With NO_CHECK it needs no
- * function that checks.
- * Usage: in_process TURNS link|check HOST [LIB]... */
+/* Times links or texts in one process: prints the microseconds that one takes, over many. With NO_CHECK it needs no
+ * function that makes texts. WHAT is the number of a text in pslink.h.
+ * Usage: in_process TURNS link|check|WHAT HOST [LIB]... */
 #define _POSIX_C_SOURCE 200809L
 #include <pslink.h>
 #include <stdio.h>
@@ -31,13 +31,15 @@ static uint32_t link_once(size_t count)
 }
 
 #ifdef NO_CHECK
-#define check_once link_once
+#define text_once link_once
 #else
-static uint32_t check_once(size_t count)
+static uint32_t what = PSLINK_CHECK;
+
+static uint32_t text_once(size_t count)
 {
     pslink_answer answer;
 
-    return pslink_text(PSLINK_CHECK, files, count, out, sizeof out, &answer);
+    return pslink_text(what, files, count, out, sizeof out, &answer);
 }
 #endif
 
@@ -50,7 +52,11 @@ int main(int argc, char **argv)
 
     if (turns < 1 || argc > FILES + 3)
         return 2;
-    call = strcmp(argv[2], "check") == 0 ? check_once : link_once;
+    call = strcmp(argv[2], "link") == 0 ? link_once : text_once;
+#ifndef NO_CHECK
+    if (strcmp(argv[2], "check") != 0)
+        what = (uint32_t)strtoul(argv[2], NULL, 10);
+#endif
     for (; count + 3 < (size_t)argc; count++)
         files[count] = read_file(argv[count + 3]);
     start = microseconds();

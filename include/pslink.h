@@ -54,8 +54,7 @@
  * Memory: a call takes memory by malloc and realloc of the C library and returns all of it by free
  * before it ends. A link of a host with one library or none requests none before it has read the
  * files; with more, it first requests memory for their copy, one after another.
- * Stack: leave a call 64 KB; a link of up to 16 libraries takes about 22, one of more about 37, a
- * check up to 29, and another text up to 33, or 47 beside more than 16 libraries.
+ * Stack: leave a call 64 KB.
  * Signals: pslink_link and pslink_text are not to be called from a signal handler, nor, where the
  * process has threads, in a child between fork and exec.
  *
@@ -111,8 +110,10 @@ extern "C" {
    than a code file. */
 #define PSLINK_WANTED 7u /* those that the slots of the host want, by slot, and then those that a
                             record requests, of the host or of a unit that was found, and no slot of
-                            the host has, in the order of their requests, ten of these at most. Each
-                            name is there once */
+                            the host has, in the order of their requests, ten of these at most. They
+                            are told as far as a link reads: a segment that cannot be read requests
+                            none, and no unit is looked for after one that is missing. Each name is
+                            there once, whether the libraries have the unit or not */
 #define PSLINK_HAD 8u    /* those of the units whose code files[0] has, by slot */
 
 /* PSLINK_MAP | PSLINK_JSON and so on: one JSON document in place of lines, as the program prints it
@@ -172,7 +173,8 @@ extern "C" {
 
 /* A whole code file in memory. */
 typedef struct pslink_file {
-    const char *name;  /* what texts call it, UTF-8; or NULL: "file 0" for the first, and so on */
+    const char *name;  /* what texts call it, UTF-8, also ""; or NULL: "file 0" for the first, and
+                          so on */
     const void *bytes; /* NULL where it has none */
     size_t length;
 } pslink_file;

@@ -116,6 +116,6 @@ static const char *const statuses[] = {
     "the call is not as pslink.h says",
     NULL,
     "out of memory",
-    "the room is shorter than the result",
+    "out is smaller than the result",
     "a name of a file is no UTF-8",
 };

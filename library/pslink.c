@@ -7,6 +7,7 @@
 #include <string.h>
 
 #define NUMBERED 25 /* the bytes of "file " and of the longest number */
+#define ALIGNED 16  /* a block whose size this divides is aligned to it, as pslink.h asks of malloc */
 #define FILES_OF(laid) (laid)->host, (laid)->host_length, (laid)->libs, (laid)->libs_length, (laid)->lengths, (laid)->count
 #define NAMES_OF(laid) (laid)->names, (laid)->names_length, (laid)->name_lengths, (laid)->name_count
 #define ROOM_OF(out, room) (out) == NULL ? (void *)&nothing : (void *)(out), (out) == NULL ? 0 : (room)
@@ -90,18 +91,20 @@ static uint32_t bare(uint32_t status, pslink_answer *answer)
 /* Lays files out, or answers why not. The host is not copied, nor is a library that is alone, where no names are wanted. */
 static uint32_t lay(const pslink_file *files, size_t count, int named, struct laid *laid, pslink_answer *answer)
 {
-    static const pslink_file none;
-    const pslink_file *alone = count == 2 ? &files[1] : &none;
+    static const pslink_file none = {NULL, NULL, 0};
+    const pslink_file *alone;
     size_t total;
     const uint32_t status = answer == NULL ? PSLINK_MISUSE : measure(files, count, named, &total);
 
     if (status != PSLINK_DONE)
         return bare(status, answer);
+    alone = count == 2 ? &files[1] : &none;
     *laid = (struct laid){NULL, files->length == 0 ? &nothing : files->bytes, alone->length == 0 ? &nothing : alone->bytes, &nothing,
                           &laid->libs_length, &nothing, files->length, alone->length, 0, count - 1, named ? count : 0};
     if (!named && count <= 2)
         return PSLINK_DONE;
-    laid->block = malloc(total - files->length);
+    /* (so the lengths, which come first in it, are aligned) */
+    laid->block = malloc((total - files->length + ALIGNED - 1) / ALIGNED * ALIGNED);
     if (laid->block == NULL)
         return bare(PSLINK_NO_MEMORY, answer);
     fill(files, laid);

@@ -21,7 +21,7 @@ RUST, PYTHON = ROOT / "bindings/rust/src/lib.rs", ROOT / "bindings/python/pslink
 PACKAGE = ROOT / "bindings/rust/Cargo.toml"
 # what a status says, by its number
 STATUSES = [
-    "done", "the files are refused", "the call is not as pslink.h says", None, "out of memory", "the room is shorter than the result",
+    "done", "the files are refused", "the call is not as pslink.h says", None, "out of memory", "out is smaller than the result",
     "a name of a file is no UTF-8",
 ]  # fmt: skip
 # each file that has the highest number, and what stands around it

@@ -1,22 +1,20 @@
 #!/usr/bin/env python3
-"""Writes the table 'What to do about each fault' of docs/LINKING.md and the tables of warnings and of notes of docs/USING.md from
-the sentences that `pslink check` prints, so that they have one home. man/make_pages.py then copies the tables to man/pslink.1.
+"""Writes the last column of the faults in docs/LINKING.md, what to do about each, from the sentences that `pslink check` prints, so
+that they have one home. man/make_pages.py takes what check says of faults, warnings and notes from here for man/pslink.1.
 Usage: make_fault_table.py [FOLDER], which is docs/ if none is given."""
 import pathlib
 import re
 import sys
 
 ROOT = pathlib.Path(__file__).resolve().parent.parent
-LINKING, USING = ROOT / "docs/LINKING.md", ROOT / "docs/USING.md"
+LINKING = ROOT / "docs/LINKING.md"
 SENTENCES = next((ROOT / "crates").glob("*/src/sentences.rt"))
 FINDING = ROOT / "crates/ps_warnings/src/finding.rt"
 # In the order of the rows.
 FINDINGS = ["FileFinding", "DictionaryFinding", "EntryFinding", "NameFinding", "CodeFinding", "ProcedureFinding", "OperandFinding", "RecordFinding", "LinkFinding"]
 # A reader of LINKING and of pslink(1) has the section at hand.
 OF_THE_PAGE = " in pslink(1)"
-HEAD = "| No. | What is wrong | What to do |\n|---|---|---|\n"
-HEAD_OF_WARNINGS = "| What `check` warns of | What it means, and what to do |\n|---|---|\n"
-HEAD_OF_NOTES = "| What `check` notes | Word | What it means, and what to do |\n|---|---|---|\n"
+HEAD = "| No. | Name | Occurs when | What to do |\n|---|---|---|---|\n"
 
 
 def numbers():
@@ -36,10 +34,11 @@ def sentences(table):
     return {name: text for _, name, text in found if name}
 
 
-def rows():
+def faults():
+    """Of each fault, by its number, the number, the name, what is wrong and what to do."""
     meanings, remedies = sentences("MEANINGS"), sentences("REMEDIES")
     for name, number in sorted(numbers().items(), key=lambda fault: fault[1]):
-        yield f"| {number} | {meanings[name]} | {remedies[name]} |\n".replace(OF_THE_PAGE, "")
+        yield number, name, meanings[name].replace(OF_THE_PAGE, ""), remedies[name].replace(OF_THE_PAGE, "")
 
 
 def shown(text):
@@ -79,26 +78,17 @@ def findings():
             yield weight(enum, name), shown(text), meaning
 
 
-def warnings():
-    """A row for each finding that is a warning."""
-    return [f"| {text} | {meaning} |\n" for word, text, meaning in findings() if word == "warning"]
-
-
-def notes():
-    """A row for each other finding."""
-    return [f"| {text} | {word} | {meaning} |\n" for word, text, meaning in findings() if word != "warning"]
-
-
-def with_table(page, head, rows):
-    """The page with these rows below the head of a table."""
-    before, rest = page.split(head, 1)
-    return before + head + "".join(rows) + re.sub(r"\A(?:\|.*\n)+", "", rest)
+def with_remedies(page):
+    """The page with what to do in the last cell of each row of the table of the faults."""
+    remedies = {str(number): remedy for number, _, _, remedy in faults()}
+    before, rest = page.split(HEAD, 1)
+    rows, after = re.fullmatch(r"((?:\|.*\n)+)(.*)", rest, re.S).groups()
+    return before + HEAD + re.sub(r"^(\| (\d+) \|.*\| )[^|]*( \|)$", lambda row: row[1] + remedies[row[2]] + row[3], rows, flags=re.M) + after
 
 
 def main():
     folder = pathlib.Path(sys.argv[1]) if len(sys.argv) > 1 else ROOT / "docs"
-    for path, head, lines in [(LINKING, HEAD, rows()), (USING, HEAD_OF_WARNINGS, warnings()), (USING, HEAD_OF_NOTES, notes())]:
-        (folder / path.name).write_text(with_table(path.read_text(), head, lines))
+    (folder / LINKING.name).write_text(with_remedies(LINKING.read_text()))
 
 
 if __name__ == "__main__":

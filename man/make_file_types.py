@@ -1,15 +1,17 @@
 #!/usr/bin/env python3
-"""Writes the table 'What a file is' of docs/JSON.md from the phrases and the remedies of crates/ps_filetype, so that they have one
+"""Writes the table 'What a file is' of docs/OUTPUT.md from the phrases and the remedies of crates/ps_filetype, so that they have one
 home. Usage: make_file_types.py [FOLDER], which is docs/ if none is given."""
 import pathlib
 import re
 import sys
 
 ROOT = pathlib.Path(__file__).resolve().parent.parent
-SOURCE, PAGE = ROOT / "crates/ps_filetype/src", ROOT / "docs/JSON.md"
+SOURCE, PAGE = ROOT / "crates/ps_filetype/src", ROOT / "docs/OUTPUT.md"
 HEAD = "| TYPE | The way to the code file |\n|---|---|\n"
 # An arm of a match: its patterns, and the text that it gives or writes.
 ARM = re.compile(r'((?:\|?\s*\w+::\w+(?:\([^)]*\)|\s*\{[^}]*\})?\s*)+)=>\s*\{?\s*(?:(?:f\.)?write(?:_str|!)\((?:f,\s*)?)?"((?:[^"\\]|\\.)*)"')
+# An arm of the match over the files of which a command makes another one: its patterns, and what is said around the command.
+STEPS = re.compile(r'((?:\|?\s*FileType::\w+(?:\s*\{[^}]*\})?\s*)+)=>\s*Some\(Steps \{' + "".join(rf'\s*{part}: "([^"]*)",' for part in ("before", "between", "after", "end")))
 
 
 def texts(file, enum):
@@ -41,14 +43,31 @@ def phrases(variant):
     return list(found.values())
 
 
+def commands():
+    """The commands of remedies: for each variant, the number of its detail and the image, if it has them, the sentences around it."""
+    found = {}
+    for patterns, *parts in STEPS.findall((SOURCE / "remedy.rt").read_text()):
+        before, between, after, end = parts
+        for name, detail in re.findall(r"\bFileType::(\w+)(\s*\{[^}]*\})?", patterns):
+            for image in re.findall(r"Image::(\w+)", detail) or [""]:
+                found[name, "" if image else re.sub(r"\D", "", detail), image] = f"{before}PATH{between}FILE{after}FILE{end}"
+    return found
+
+
+def images():
+    """The image of each phrase of a disk image, by the phrase."""
+    return {f"{text}, of the volume NAME": name for name, _, text in texts("images.rt", "Image")}
+
+
 def rows():
-    remedies = {}
-    for name, detail, text in texts("remedy.rt", "FileType"):
-        remedies.setdefault(name, []).append((re.sub(r"\D", "", detail), text))
+    by_command, by_phrase = commands(), images()
+    sentences = {name: text for name, _, text in texts("remedy.rt", "FileType")}
     for variant in variants():
+        details = sorted((detail for name, detail, image in by_command if name == variant and not image), reverse=True) or [""]
         for phrase in phrases(variant):
             # a header of so many bytes has a remedy of its own
-            for bytes, remedy in remedies[variant]:
+            for bytes in details:
+                remedy = by_command.get((variant, bytes, by_phrase.get(phrase, "")), sentences[variant])
                 yield f"| {shown(phrase.replace('{bytes}', bytes or '512'))} | {shown(remedy)} |\n"
 
 

@@ -1,13 +1,14 @@
 #!/usr/bin/env python3
 """Writes man/pslink.5 from docs/FORMAT.md, and the parts of man/pslink.1 that lie between a line '.\\" made from ..' and a
-line '.\\" end' from docs/LINKING.md and docs/USING.md, so that each fact has one home; and into the head of each page the release
-of CHANGES.md and its day.
+line '.\\" end' from docs/OUTPUT.md, docs/LINKING.md, docs/USING.md and the sentences of check, so that each fact has one home; and
+into the head of each page the release of CHANGES.md and its day.
 Usage: make_pages.py [FOLDER], which is man/ if none is given."""
 import pathlib
 import re
 import sys
 import textwrap
 
+import make_fault_table
 import release
 
 HERE = pathlib.Path(__file__).resolve().parent
@@ -80,10 +81,18 @@ def table(rows):
     yield ".TE"
 
 
-def page(source):
-    """The lines of a manual page for the lines of a document."""
+def listed(rows):
+    """A list of lines that a command prints, each with what there is one for."""
+    for line, meaning in rows:
+        yield ".TP"
+        yield inline(line)
+        yield from lines_of(f"For {meaning}.")
+
+
+def page(lines):
+    """The lines of a manual page for the lines of a document; its examples are left out, with the words before them."""
     first = True
-    lines = source.splitlines()[1:]
+    lines = re.sub(r"(?m)^[^|\-#\n].*:\n\n(?=```)|^```\n(?:.*\n)*?```$", "", "\n".join(lines)).splitlines()
     while lines:
         line = lines.pop(0)
         if not line:
@@ -95,10 +104,12 @@ def page(source):
             rows = [line]
             while lines and lines[0].startswith("|"):
                 rows.append(lines.pop(0))
-            if not first:
-                yield ".PP"
             cells = [cells_of(row) for row in rows]
-            yield from table([cells[0], *cells[2:]])
+            if cells[0] == ["Line", "One line for"]:
+                yield from listed(cells[2:])
+            else:
+                yield from [] if first else [".PP"]
+                yield from table([cells[0], *cells[2:]])
             first = False
         elif line.startswith("- "):
             yield r".IP \(bu 2"
@@ -133,19 +144,13 @@ class Document:
         return [rows[2:] for rows in found]
 
 
-LINKING, USING = Document("LINKING.md"), Document("USING.md")
-NAMES = {row[0]: row[1] for row in LINKING.tables("When each fault occurs")[0] if row[0]}
+LINKING, USING, OUTPUT = Document("LINKING.md"), Document("USING.md"), Document("OUTPUT.md")
 
 
-def texts(title):
-    """The lines of a text and the parts of a line."""
-    lines, parts = LINKING.tables(title)
-    for line, meaning in lines:
-        yield ".TP"
-        yield inline(line)
-        yield from lines_of(f"For {meaning}.")
-    yield ".PP"
-    yield from table([["Part", "Meaning", "Range"], *parts])
+def texts():
+    """What each command prints: the page but for its first paragraph, with its sections as parts of one."""
+    lines = OUTPUT.text.split("\n\n", 2)[2].splitlines()
+    return page("#" + line if line.startswith("#") else line for line in lines)
 
 
 def faults():
@@ -155,9 +160,9 @@ def faults():
     yield "r lx"
     yield "r lx."
     yield "No.|Name, what is wrong, and what to do"
-    for number, wrong, remedy in LINKING.tables("What to do about each fault")[0]:
+    for number, name, wrong, remedy in make_fault_table.faults():
         yield f"{number}|T{{"
-        yield from lines_of(f"**{NAMES[number]}**: {wrong}")
+        yield from lines_of(f"**{name}**: {wrong}")
         yield from lines_of(remedy)
         yield "T}"
     yield ".TE"
@@ -183,8 +188,7 @@ def damage():
 def warnings():
     """What the line of each finding says, with the word that it begins with, what it means and what to do: the warnings, then the
     others."""
-    warned, noted = USING.tables("Warnings")[:2]
-    for text, word, meaning in [*((text, "warning", meaning) for text, meaning in warned), *noted]:
+    for word, text, meaning in sorted(make_fault_table.findings(), key=lambda finding: finding[0] != "warning"):
         yield ".TP"
         yield inline(f"{text} ({word})")
         yield from lines_of(meaning)
@@ -192,10 +196,9 @@ def warnings():
 
 PARTS = {
     "the warnings": warnings,
-    "the lines of map": lambda: texts("Map"),
-    "the lines of show": lambda: texts("Show"),
-    "the lines of list": lambda: texts("List"),
+    "the texts": texts,
     "the faults": faults,
+    "the line of a fault": lambda: page(LINKING.section("The line of a fault")),
     "the order of faults": order,
     "damaged files": damage,
     "the limits": lambda: table(LINKING.tables("Limits")[0]),
@@ -208,7 +211,7 @@ def with_parts(manual):
     def part(match):
         return match[1] + "".join(line + "\n" for line in PARTS[match[2]]()) + match[3]
 
-    return re.sub(r'(^\.\\" made from docs/\w+\.md: ([a-z ]+)\n).*?(^\.\\" end\n)', part, manual, flags=re.M | re.S)
+    return re.sub(r'(^\.\\" made from [\w/.]+: ([a-z ]+)\n).*?(^\.\\" end\n)', part, manual, flags=re.M | re.S)
 
 
 def dated(manual):
@@ -221,7 +224,7 @@ def main():
     pages = {
         "pslink.1": with_parts((HERE / "pslink.1").read_text()),
         "pslink.3": (HERE / "pslink.3").read_text(),
-        "pslink.5": HEAD + "\n".join(page((DOCS / "FORMAT.md").read_text())) + "\n" + FOOT,
+        "pslink.5": HEAD + "\n".join(page((DOCS / "FORMAT.md").read_text().splitlines()[1:])) + "\n" + FOOT,
     }
     for name, manual in pages.items():
         (folder / name).write_text(dated(manual))

@@ -30,7 +30,7 @@ def number_in(text, least, most, what):
 
 # P-code. A linker reads only the operands to which a reference points ------------------------------------------------
 # The names of instructions, what they do, and the lex levels below do not come from the sources of this project:
-# docs/FORMAT.md and docs/PCODE.md mark them (open).
+# docs/FORMAT.md and docs/PCODE.md mark them (unsourced).
 
 # By form of the operands the instructions, each with its opcode
 TABLE = {
@@ -375,7 +375,7 @@ SAMPLES = {
     # a host with a constant, and with a unit of nine references
     "nine.code": code_file(
         {
-            1: Segment("DEMO", HOSTSEG, PROGRAM, [publ_def("COUNT", 3), const_def("LIMIT", 100), eof_mark(8)]),
+            1: Segment("DEMO", HOSTSEG, PROGRAM, [publ_def("COUNT", 3), const_def("LIMIT", 100), eof_mark(12)]),
             7: Segment("UTIL", UNITSEG, NINE),
         }
     ),
@@ -388,6 +388,30 @@ SAMPLES = {
         }
     ),
 }
+
+# A volume ------------------------------------------------------------------------------------------------------------
+DIRECTORY, AFTER_DIRECTORY, CODE = 2, 6, 2
+
+
+def volume(name, blocks, files):
+    """The image of a little-endian volume with these code files, by name, one after another. docs/VOLUMES.md has the directory."""
+
+    def words(*values):
+        return b"".join(value.to_bytes(2, "little") for value in values)
+
+    def named(text):
+        return bytes([len(text)]) + text.encode()
+
+    directory = (words(0, AFTER_DIRECTORY, 0) + named(name).ljust(8, b"\0") + words(blocks, len(files))).ljust(26, b"\0")
+    contents = b""
+    for title, file in files.items():
+        first, last = AFTER_DIRECTORY + len(contents) // BLOCK, len(file) % BLOCK or BLOCK
+        contents += whole(file, BLOCK)
+        directory += words(first, AFTER_DIRECTORY + len(contents) // BLOCK, CODE) + named(title).ljust(16, b"\0") + words(last, 0)
+    return (bytes(DIRECTORY * BLOCK) + directory.ljust((AFTER_DIRECTORY - DIRECTORY) * BLOCK, b"\0") + contents).ljust(blocks * BLOCK, b"\0")
+
+
+VOLUMES = {"disk.po": volume("DISK", 280, {"HOST.CODE": SAMPLES["host.code"], "LIBRARY.CODE": SAMPLES["library.code"]})}
 
 # Files elsewhere in the repository: the host with UTIL in it, with which the tests run the program.
 UNIT = [Procedure(1, ["LAO BIG 0", "SRO BIG 2", "NOP", "NOP", "RNP 0"])]
@@ -409,7 +433,7 @@ def main():
     here = pathlib.Path(__file__).resolve().parent
     folder = pathlib.Path(sys.argv[1]) if len(sys.argv) > 1 else here
     folder.mkdir(parents=True, exist_ok=True)
-    for name, file in SAMPLES.items():
+    for name, file in [*SAMPLES.items(), *VOLUMES.items()]:
         (folder / name).write_bytes(file)
     if folder == here:
         for name, file in ELSEWHERE.items():

@@ -1,7 +1,10 @@
 #!/usr/bin/env python3
 """Writes the cases and their index from the descriptions in the folder descriptions. What is expected is described there,
-and no linker is run. Usage: make_vectors.py [FOLDER], or make_vectors.py --large FOLDER for the cases of megabytes, with the script
-'run' beside them. Without FOLDER it writes to the folder of this script."""
+and no linker is run. Usage: make_vectors.py [--cases PATTERN].. [FOLDER], with --cases for the cases of these names alone, or
+make_vectors.py --large FOLDER for the cases of megabytes, with the script 'run' beside them. Without FOLDER it writes to the folder of
+this script. Cases that are there already, and no older than the descriptions, are copied to another folder, and not made again."""
+import argparse
+import fnmatch
 import hashlib
 import json
 import pathlib
@@ -15,7 +18,7 @@ from descriptions.model import REASONS, file_bytes, laid_out, show_of
 
 HERE = pathlib.Path(__file__).resolve().parent
 FORMAT = 1  # of the index
-VERSION = 3  # of the cases: 1 more where a case is added, changed or removed in a release
+VERSION = 4  # of the cases: 1 more where a case is added, changed or removed in a release
 
 
 def all_cases():
@@ -99,14 +102,46 @@ def index_text(entries):
     return f'{{"format": {FORMAT}, "version": {VERSION}, "cases": [\n{cases}\n]}}\n'
 
 
-def write(top, cases=None):
-    """Writes the index and these cases, or all that are kept. A folder of cases without an index is not one that this script made."""
+def is_new():
+    """The index is there beside this script, and the descriptions are no newer."""
+    index, sources = HERE / "index.json", [HERE / "make_vectors.py", *(HERE / "descriptions").glob("*.py")]
+    return index.exists() and all(source.stat().st_mtime <= index.stat().st_mtime for source in sources)
+
+
+def copied(top, entry):
+    """Copies the files of a case that is there beside this script; whether they are those of its entry."""
+    path, folder = HERE / entry["folder"], Folder(top / entry["folder"])
+    for file in path.iterdir() if path.is_dir() else ():
+        folder.write(file.name, file.read_bytes())
+    return folder.digest() == entry["sha256"]
+
+
+def are_copied(top, patterns):
+    """Copies the cases of these names that are beside this script, if they are those of the descriptions."""
+    if top.resolve() == HERE or not is_new():
+        return False
+    entries = [entry for entry in json.loads((HERE / "index.json").read_text())["cases"] if is_named(entry["name"], patterns)]
+    if not all(copied(top, entry) for entry in entries):
+        shutil.rmtree(top / "cases")
+        return False
+    (top / "index.json").write_text(index_text(entries))
+    return True
+
+
+def is_named(name, patterns):
+    return any(fnmatch.fnmatch(name, one) for one in patterns)
+
+
+def write(top, cases=None, patterns=("*",)):
+    """Writes the index and these cases, or those of these names. A folder of cases without an index is not one that this script made."""
     if (top / "cases").exists():
         if not (top / "index.json").exists():
             sys.exit(f"make_vectors.py: {top} has a folder 'cases' and no index.json")
         shutil.rmtree(top / "cases")
     top.mkdir(parents=True, exist_ok=True)
-    entries = [written(top, case) for case in cases or all_cases()]
+    if cases is None and are_copied(top, patterns):
+        return
+    entries = [written(top, case) for case in cases or all_cases() if is_named(case.name, patterns)]
     names = [entry["name"] for entry in entries]
     assert len(names) == len(set(names)), "two cases have one name"
     (top / "index.json").write_text(index_text(entries))
@@ -119,12 +154,17 @@ def write_large(folder):
 
 
 def main():
-    is_large = sys.argv[1:2] == ["--large"]
-    names = sys.argv[1 + is_large :]
-    if len(names) > 1 or is_large and not names:
-        sys.exit("make_vectors.py: usage: make_vectors.py [FOLDER], or make_vectors.py --large FOLDER")
-    folder = pathlib.Path(names[0]) if names else HERE
-    write_large(folder) if is_large else write(folder)
+    parser = argparse.ArgumentParser(prog="make_vectors.py", description=__doc__)
+    parser.add_argument("--large", action="store_true", help="write the cases of megabytes")
+    parser.add_argument("--cases", metavar="PATTERN", action="append", help="write the cases of these names alone, as 'faults/*'")
+    parser.add_argument("folder", metavar="FOLDER", nargs="?", type=pathlib.Path)
+    given = parser.parse_args()
+    if not given.folder and (given.large or given.cases):
+        parser.error("FOLDER is missing")
+    if given.large:
+        write_large(given.folder)
+    else:
+        write(given.folder or HERE, patterns=given.cases or ("*",))
 
 
 if __name__ == "__main__":

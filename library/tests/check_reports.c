@@ -1,5 +1,5 @@
 /* What a C caller may rely on of a report, of a host that its library completes: prints what is otherwise, and is then not 0. malloc
- * and realloc are those of refusing_heap.h (-Wl,--wrap=malloc,--wrap=realloc). Usage: check_reports HOST LIBRARY */
+ * and realloc are those of refusing_heap.h (-Wl,--wrap=malloc,--wrap=realloc,--wrap=free). Usage: check_reports HOST LIBRARY */
 #include <pslink.h>
 #include <stdio.h>
 #include <stdlib.h>
@@ -32,7 +32,7 @@ static const char alone[] =
     "  segment UTIL, of slot 07 of the host\n"
     "  no library is given\n"
     "  No library has the unit that the slot wants.\n"
-    "  Give a library that has it, after HOST.\n";
+    "  Give a library that has UTIL, after HOST.\n";
 
 static pslink_file host, library;
 
@@ -194,6 +194,57 @@ static void check_all_memory(void)
     check_no_text();
 }
 
+/* Each allocation refused in turn of a text of these files: with the last of them it is the whole text. */
+static void check_whole_text(uint32_t what, const pslink_file *files, size_t count)
+{
+    static unsigned char whole[ROOM], room[ROOM];
+    pslink_answer answer;
+    size_t length;
+    long turn;
+
+    check(pslink_text(what, files, count, whole, sizeof whole, &answer) == PSLINK_DONE, "with all memory it is not done", what);
+    length = answer.size;
+    for (turn = 0; turn < 1000; turn++) {
+        uint32_t status;
+
+        memset(room, FILLER, sizeof room);
+        asked = 0;
+        refused_at = turn;
+        status = pslink_text(what, files, count, room, sizeof room, &answer);
+        refused_at = -1;
+        if (asked <= turn) {
+            check(status == PSLINK_DONE && answer.size == length && memcmp(room, whole, length) == 0, "the whole text is another", what);
+            check(turn != 0, "no memory is asked for", what);
+            return;
+        }
+        check(status == PSLINK_NO_MEMORY && is_bare(&answer, status), "memory is refused, and the answer is another", (size_t)turn);
+        check(is_untouched(room, 0, sizeof room), "memory is refused, and the room is written to", (size_t)turn);
+    }
+    check(0, "there is no end of memory that is asked for", what);
+}
+
+/* Files of which a report has lines of each kind: of a warning, of a unit that two libraries have, of a library that is not used, and of
+ * what to do; files that are refused, of which each has a line of its units; and libraries without a host, which are listed. */
+static void check_whole_texts(void)
+{
+    static unsigned char other[1 << 16];
+    pslink_file warned[3] = {host, library, library}, refused[3] = {host, host, host}, listed[3] = {library, library, library};
+    const pslink_file *sets[3] = {warned, refused, listed};
+    size_t k;
+
+    memcpy(other, library.bytes, library.length);
+    other[WORDS_OF_STATE] = 2;
+    warned[1].bytes = other;
+    for (k = 0; k < sizeof sets / sizeof *sets; k++) {
+        check_whole_text(PSLINK_CHECK, sets[k], 3);
+        check_whole_text(PSLINK_CHECK | PSLINK_JSON, sets[k], 3);
+        check_whole_text(PSLINK_FINDINGS, sets[k], 3);
+        check_whole_text(PSLINK_FINDINGS | PSLINK_JSON, sets[k], 3);
+        check_whole_text(PSLINK_LIST, sets[k], 3);
+        check_whole_text(PSLINK_LIST | PSLINK_JSON, sets[k], 3);
+    }
+}
+
 /* Names that are no UTF-8, are empty, or are not there; and some that are right. */
 static void check_names(void)
 {
@@ -237,6 +288,69 @@ static void check_names(void)
     }
     check(pslink_text(PSLINK_CHECK, &none, 1, room, sizeof room, &answer) == PSLINK_DONE && answer.fault == PSLINK_FAULT_SHORT_FILE,
           "nothing has no report", 0);
+}
+
+/* What a report calls a file: its name, also one of no bytes, and without one its number. */
+static void check_called(void)
+{
+    static const struct {
+        const char *host, *library, *report;
+    } cases[] = {
+        {"HOST", "LIB1", "file 0 HOST: 1536 bytes, little-endian\nfile 1 LIB1: 1536 bytes, little-endian\n"},
+        {"", "LIB1", "file 0 : 1536 bytes, little-endian\nfile 1 LIB1: 1536 bytes, little-endian\n"},
+        {"HOST", "", "file 0 HOST: 1536 bytes, little-endian\nfile 1 : 1536 bytes, little-endian\n"},
+        {"", NULL, "file 0 : 1536 bytes, little-endian\nfile 1 file 1: 1536 bytes, little-endian\n"},
+        {NULL, "", "file 0 file 0: 1536 bytes, little-endian\nfile 1 : 1536 bytes, little-endian\n"},
+    };
+    static unsigned char room[ROOM];
+    pslink_file files[2] = {host, library};
+    pslink_answer answer;
+    size_t k;
+
+    for (k = 0; k < sizeof cases / sizeof *cases; k++) {
+        files[0].name = cases[k].host;
+        files[1].name = cases[k].library;
+        check(pslink_text(PSLINK_CHECK, files, 2, room, sizeof room, &answer) == PSLINK_DONE &&
+                  memcmp(room, cases[k].report, strlen(cases[k].report)) == 0,
+              "a report calls files otherwise", k);
+    }
+}
+
+/* A character as a document has it: docs/JSON.md says which have a letter behind a backslash, and which a number. */
+static void put_escape(char *escape, unsigned character)
+{
+    static const char characters[] = "\b\t\n\f\r\"\\", letters[] = "btnfr\"\\";
+    const char *at = character < 128 ? strchr(characters, (int)character) : NULL;
+
+    if (at != NULL)
+        sprintf(escape, "\\%c", letters[at - characters]);
+    else
+        sprintf(escape, "\\u%04X", character);
+}
+
+/* A name with each character on which a terminal would act, a quote, a backslash, and one that is above U+FFFF. */
+static void check_escapes(void)
+{
+    static unsigned char room[ROOM + 1];
+    char name[16], escape[8], wanted[64];
+    pslink_answer answer;
+    pslink_file file = host;
+    unsigned character;
+
+    file.name = name;
+    for (character = 1; character < 160; character++) {
+        if (character >= ' ' && character < 127 && character != '"' && character != '\\')
+            continue;
+        if (character < 128)
+            sprintf(name, "\xF0\x9F\x92\xBE%cb", (char)character);
+        else
+            sprintf(name, "\xF0\x9F\x92\xBE\xC2%cb", (char)character);
+        put_escape(escape, character);
+        sprintf(wanted, "{\"path\":\"\xF0\x9F\x92\xBE%sb\",", escape);
+        check(pslink_text(PSLINK_LIST | PSLINK_JSON, &file, 1, room, ROOM, &answer) == PSLINK_DONE, "a file is not listed", character);
+        room[answer.size] = 0;
+        check(strstr((const char *)room, wanted) != NULL, "a document has a character of a name otherwise", character);
+    }
 }
 
 /* What files without names are called, up to a number of four digits. */
@@ -480,9 +594,12 @@ int main(int argc, char **argv)
     for (count = 0; count <= 1; count++)
         check_rooms(count);
     check_all_memory();
+    check_whole_texts();
     check_verdicts();
     check_warnings();
     check_names();
+    check_called();
+    check_escapes();
     check_numbers();
     check_texts();
     check_findings();

@@ -1,5 +1,5 @@
 /* What a C caller may rely on, of a host that its library completes: prints what is otherwise, and is then not 0. malloc and
- * realloc are those of refusing_heap.h (-Wl,--wrap=malloc,--wrap=realloc), and HIGHEST_FAULT is the highest number of a fault
+ * realloc are those of refusing_heap.h (-Wl,--wrap=malloc,--wrap=realloc,--wrap=free), and HIGHEST_FAULT is the highest number of a fault
  * (-DHIGHEST_FAULT=NUMBER). Usage: checks HOST LIBRARY LINKED MAP SHOW */
 #include <pslink.h>
 #include <pthread.h>
@@ -270,7 +270,7 @@ static void check_null(void)
 static void check_texts(void)
 {
     static const char *const statuses[] = {"done", "the files are refused", "the call is not as pslink.h says", NULL, "out of memory",
-                                           "the room is shorter than the result", "a name of a file is no UTF-8", NULL, NULL};
+                                           "out is smaller than the result", "a name of a file is no UTF-8", NULL, NULL};
     char text[PSLINK_FAULT_TEXT_MAX], wanted[2 * PSLINK_FAULT_TEXT_MAX];
     pslink_answer answer;
     size_t longest = 0, size;

@@ -1,7 +1,7 @@
 #!/usr/bin/env python3
 """Writes the examples of programs to a folder, for .ci/library to compile and run: header.c of include/pslink.h, whose function
-gets a main; embedding.c, embedding.py and embedding.rs of docs/EMBEDDING.md, its CMakeLists.txt, and report.c, found.c and found.py, whose
-functions get a main too; manual.c of man/pslink.3; and declarations.c, the declarations of that page. Prints where the page's
+gets a main; embedding.c and CMakeLists.txt of docs/EMBEDDING.md, embedding.py of docs/PYTHON.md and embedding.rs of docs/RUST.md, and
+report.c, found.c and found.py, whose functions get a main too; manual.c of man/pslink.3; and declarations.c, the declarations of that page. Prints where the page's
 types are not those of the header. Usage: examples.py FOLDER"""
 import pathlib
 import re
@@ -49,7 +49,7 @@ def main():
     (folder / "header.c").write_text(of_header() + (ROOT / "library/tests/link_two_main.c").read_text())
     (folder / "manual.c").write_text(of_manual())
     (folder / "declarations.c").write_text("\n".join(declarations()) + "\nint main(void) { return 0; }\n")
-    embedding = (ROOT / "docs/EMBEDDING.md").read_text()
+    embedding = "".join((ROOT / f"docs/{page}.md").read_text() for page in ("EMBEDDING", "PYTHON", "RUST"))
     for language, text in re.findall(r"^```(\w+)\n(.*?)^```$", embedding, re.M | re.S):
         if language == "cmake":
             (folder / "CMakeLists.txt").write_text(text)

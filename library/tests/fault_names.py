@@ -1,7 +1,7 @@
 #!/usr/bin/env python3
 """Names that the library answers, of each set of files of .ci/report and some of those that it generates: that of what a fault is about beside the words of the report, where
 a record was read its name, and else that of the segment; and those of units beside the document of the list. And the names of
-faults and the sentences on each beside the tables of docs/LINKING.md. Prints what is otherwise.
+faults and the sentences on each beside the tables of docs/LINKING.md and of pslink(1). Prints what is otherwise.
 Usage: fault_names.py LIBRARY"""
 import ctypes
 import json
@@ -14,7 +14,8 @@ ROOT = pathlib.Path(__file__).resolve().parents[2]
 sys.dont_write_bytecode = True
 sys.path[:0] = [str(ROOT / name) for name in ("bench", "samples", ".ci")]
 NAMES = re.compile(r"^\| (\d+) \| ([A-Z]\w+) \|", re.M)
-SENTENCES = re.compile(r"^\| (\d+) \| ([^|]*\.) \| ([^|]*) \|$", re.M)
+REMEDIES = re.compile(r"^\| (\d+) \|.*\| ([^|]*) \|$", re.M)
+SENTENCES = re.compile(r"^(\d+)\|T\{\n\\fB(\w+)\\fR: (.*?)\nT\}$", re.M | re.S)
 RECORD = re.compile(r"^  record \d+: [A-Z]+ (.*)$", re.M)
 SEGMENT = re.compile(r"^  segment (.*), of slot \d\d of the host$", re.M)
 ROOM = 1 << 20
@@ -134,18 +135,20 @@ def below(heading):
 
 def fault_differences(library):
     """What a number has another name or other sentences than in the tables, or has any without a row of it."""
-    names = {int(number): name for number, name in NAMES.findall(below("When each fault occurs"))}
-    rows = {int(number): sentences for number, *sentences in SENTENCES.findall(below("What to do about each fault"))}
-    if not names or names.keys() != rows.keys():
-        yield f"one table has the faults {sorted(names)}, and the other {sorted(rows)}"
+    page = below("When each fault occurs")
+    names = {int(number): name for number, name in NAMES.findall(page)}
+    remedies = {int(number): remedy for number, remedy in REMEDIES.findall(page)}
+    manual = (ROOT / "man/pslink.1").read_text().split("\n.SH DIAGNOSTICS\n", 1)[1].split("\n.SH ", 1)[0].replace("\\-", "-")
+    rows = {int(number): (name, " ".join(text.split())) for number, name, text in SENTENCES.findall(manual)}
+    if not names or names.keys() != rows.keys() or names.keys() != remedies.keys():
+        yield f"one table has the faults {sorted(names)}, and another {sorted(rows)} or {sorted(remedies)}"
     library.pslink_fault.restype = ctypes.c_char_p
     for number in range(256):
-        said = [(library.pslink_fault(number, part) or b"").decode() for part in (NAME, MEANING, REMEDY)]
-        if said[0] != names.get(number, ""):
-            yield f"fault {number} has the name {said[0]}"
-        found = [text.replace(" in pslink(1)", "") for text in said[1:]]
-        if found != rows.get(number, ["", ""]):
-            yield f"fault {number} has the sentences {found}"
+        name, meaning, remedy = [(library.pslink_fault(number, part) or b"").decode().replace(" in pslink(1)", "") for part in (NAME, MEANING, REMEDY)]
+        if (name, remedy) != (names.get(number, ""), remedies.get(number, "")):
+            yield f"fault {number} has the name {name} and the remedy {remedy}"
+        if (name, f"{meaning} {remedy}".strip()) != rows.get(number, ("", "")):
+            yield f"fault {number} has the sentences {meaning} {remedy}"
 
 
 def main():

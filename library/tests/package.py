@@ -3,7 +3,8 @@
 processes, that threads may call at once, what its hints are, that it is installed without a network, and how it finds the shared
 object.
 Prints what is otherwise. Usage: package.py LIBRARY OTHERS FOLDER: the folder of libpslink.so.3; that of `other`, `old`, `first` and `later`,
-which have one of another interface, one that is too old, and two of this interface; and a new folder"""
+which have one of another interface, one that is too old, and two of this interface, of `same`, `more` and `less`, which have one that asks
+for room each time, of `unknown`, which has one with a status of its own, and of `escapes`, which has one with a finding; and a new folder"""
 import array
 import ast
 import builtins
@@ -28,9 +29,10 @@ import zipfile
 ROOT = pathlib.Path(__file__).resolve().parents[2]
 PACKAGE = ROOT / "bindings/python"
 sys.dont_write_bytecode = True
-sys.path.insert(0, str(PACKAGE))
+sys.path[:0] = [str(PACKAGE), str(ROOT / "samples")]
 BUILT, OTHERS, FOLDER = (pathlib.Path(path).resolve() for path in sys.argv[1:4])
 os.environ["PSLINK_LIBRARY"] = str(BUILT / "libpslink.so.3")
+import make_samples  # noqa: E402
 import pslink  # noqa: E402
 
 HOST, LIBRARY, USING, USED, BOTH = (ROOT / f"samples/{name}.code" for name in ("host", "library", "using", "used", "two_units"))
@@ -150,6 +152,13 @@ def changed(file, **changes):
     return bytes(new)
 
 
+def unit(name, *uses):
+    """A library with the unit of this name, whose records request these."""
+    records = [*(make_samples.unit_ref(other, []) for other in uses), make_samples.eof_mark(0)]
+    body = [make_samples.Procedure(1, ["NOP", "RNP 0"])]
+    return make_samples.code_file({2: make_samples.Segment(name, make_samples.UNITSEG, body, records)})
+
+
 def of_what_is_at_fault():
     """The name of what a fault is about: nothing, a segment, a wanted unit, a requested one, and a symbol. (The entry of UTIL is slot
     2 of the library, its kind at 196, and the name of its first record at 1024; the host has the same places.)"""
@@ -168,6 +177,33 @@ def of_what_is_at_fault():
         check(report.fault == fault, f"the verdict of fault {number} is {report.fault} about {report.fault and report.fault.about}")
 
 
+def of_bytes_of_names():
+    """A name is without the blanks at its end, and else all of it, each byte a character. (Slot 7 of the host has its name at 120, slot 2 of
+    the library at 80; its slot 3 has the same code by a name that is printed, and a private variable has two words where the operand is
+    the third.)"""
+    slot = dict(at12=LIBRARY.read_bytes()[8:12], at88=b"OTHER   ", at198=b"\3")
+    names = {b" UTIL\t  ": " UTIL\t", b"\0UTIL   ": "\0UTIL", b"UT\0\xffL   ": "UT\0\xffL", b"UT\xc9L    ": "UT\xc9L", bytes(7) + b" ": "\0" * 7,
+             b"\tA  B\r\n ": "\tA  B\r\n"}  # fmt: skip
+    for data, name in names.items():
+        host, library = changed(HOST, at120=data), changed(LIBRARY, at80=data, **slot, **{f"at{WORDS_OF_STATE}": b"\2"})
+        fault = raised(pslink.Refused, pslink.link, host)
+        check((fault.number, fault.about) == (13, name), f"fault 13 of {data} is {fault} about {fault.about!r}")
+        check(pslink.units_wanted(host) == [name], f"the host wants {pslink.units_wanted(host)}, and not {data}")
+        check(pslink.units_had(library) == [name, "OTHER"], f"the library has {pslink.units_had(library)}, and not {data}")
+        warned = pslink.check(host, [library]).warnings
+        check(warned and warned[0][2:4] == (name, 1), f"the warning in {data} is {warned}")
+
+
+def of_paths_of_findings():
+    """The path of a finding is the name that was given: with each character on which a terminal would act, a quote, a backslash, and
+    others, also above U+FFFF."""
+    padded = LIBRARY.read_bytes() + b"\x1a\x1a"
+    for character in [*map(chr, range(1, 32)), *map(chr, range(127, 160)), *'"\\/\u200b\u2028\u2029\uffff\U0001f4be\U0010ffff']:
+        path = f"a{character}b"
+        paths = [finding.path for finding in pslink.check(HOST, [(path, padded)]).findings]
+        check(paths == [path], f"the path {path!r} of a finding is {paths}")
+
+
 def of_names_of_units():
     """The names of the units that a host wants, each once, and of those that a file has. (Slot 8 has its name at 128, its kind at 208.)"""
     linked, nameless = pslink.link(HOST, [LIBRARY]), bytes([1]) * 128
@@ -180,6 +216,14 @@ def of_names_of_units():
         ("a host of two slots with one name", wants_one_twice, [LIBRARY], [UTIL]), ("a linked file", linked, [LIBRARY], []),
         ("a host in which no name can be read", changed(HOST, at64=nameless), [LIBRARY], []),
     ]  # fmt: skip
+    # (as far as a link reads: a unit that is found after one that is missing is not read, nor one whose records cannot be)
+    missing_first, missing_last = unit(UTIL, "MISS", AUX), unit(UTIL, AUX, "MISS")
+    unread = changed(USING, at1064=b"\x55")
+    names += [
+        ("the host of a unit that is missing, and then one", HOST, [missing_first, unit(AUX, "ZZZ")], [UTIL, "MISS", AUX]),
+        ("the host of a unit, and then one that is missing", HOST, [missing_last, unit(AUX, "ZZZ")], [UTIL, AUX, "MISS", "ZZZ"]),
+        ("the host of a unit whose second record cannot be read", HOST, [unread, USED], [UTIL]),
+    ]
     for what, one, libs, wanted in names:
         check(pslink.units_wanted(one, libs) == wanted, f"{what} wants {pslink.units_wanted(one, libs)} beside {libs}")
     of_file = [
@@ -292,7 +336,7 @@ def imported(code="import pslink; print(pslink.link(*eval(input())) != b'', psli
     env = {"PATH": os.environ["PATH"], "HOME": str(FOLDER), "PYTHONPATH": str(FOLDER / "site"), **env}
     done = subprocess.run(
         [sys.executable, "-B", "-c", code],
-        input=repr((str(HOST), [str(LIBRARY)])), capture_output=True, text=True, env=env, cwd=FOLDER,
+        input=repr((str(HOST), [str(LIBRARY)])), capture_output=True, text=True, env=env, cwd=FOLDER, timeout=60,
     )  # fmt: skip
     return (done.stdout + done.stderr).strip().splitlines()[-1]
 
@@ -390,8 +434,21 @@ def of_other_releases():
         check(said == f"ImportError: {path}{why}", f"the {name} library: {said}")
 
 
+def of_other_answers():
+    """A library that asks for room each time is asked twice, and then that is an error, as a status that no release has is; and a path
+    of a finding has each escape of JSON."""
+    for name, status in (("same", 5), ("more", 5), ("less", 5), ("unknown", 77)):
+        for call in ("link", "check", "units_wanted"):
+            said = imported(f"import pslink; pslink.{call}(b'')", PSLINK_LIBRARY=str(OTHERS / name / "libpslink.so.3"))
+            check(said == f"RuntimeError: pslink: the library answered {status}", f"{call} over the library of {name}: {said}")
+    code = "import pslink; one, = pslink.check(b'').findings; print(ascii(one.path + one.text))"
+    said = imported(code, PSLINK_LIBRARY=str(OTHERS / "escapes/libpslink.so.3"))
+    wanted = 'a"\\/\b\f\n\r\t\0\1\x1f\xe9\u2028\uffff\U0001f4beb\U0001f4be'
+    check(said == ascii(wanted), f"the escapes of JSON are read as {said}")
+
+
 def main():
-    for part in (of_files, of_reports, of_refusals, of_what_is_at_fault, of_names_of_units, of_texts, of_names, of_hints, of_threads, of_room, of_archive, of_installing):
+    for part in (of_files, of_reports, of_refusals, of_what_is_at_fault, of_bytes_of_names, of_paths_of_findings, of_names_of_units, of_texts, of_names, of_hints, of_threads, of_room, of_archive, of_installing, of_other_answers):
         part()
     for line in found:
         print(line)

@@ -1,6 +1,6 @@
 """A case: its files, and what a linker answers to them. What is expected of a link is described (which segments stand
 where, the offset of each private variable); its bytes and its map follow from that and from the descriptions of the files
-(docs/LINKING.md, What a reference becomes, The linked file, Map)."""
+(docs/LINKING.md, What a reference becomes, The linked file; docs/OUTPUT.md, Map)."""
 import dataclasses
 import functools
 import itertools

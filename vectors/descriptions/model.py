@@ -25,12 +25,12 @@ BLANK = (bytes(8), b" " * 8)
 @functools.cache
 def name_bytes(name):
     """The eight bytes of a name, which is given as text without its blanks, or as its bytes."""
-    return name if isinstance(name, bytes) else name.encode().ljust(8)[:8]
+    return name if isinstance(name, bytes) else name.encode("latin-1").ljust(8)[:8]
 
 
 @functools.cache
 def printed(name):
-    """LINKING.md, Forms: a byte from 32 to 126 as itself, any other as '?'."""
+    """OUTPUT.md: a byte from 32 to 126 as itself, any other as '?'."""
     return "".join(chr(byte) if 32 <= byte <= 126 else "?" for byte in name_bytes(name))
 
 
@@ -310,7 +310,7 @@ def is_filled(segment, entry):
     return length > 0 and not (segment.kind == UNITSEG and address == 0)
 
 
-# Show (LINKING.md, Show) ----------------------------------------------------------------------------------------------
+# Show (OUTPUT.md, Show) -----------------------------------------------------------------------------------------------
 
 
 def record_line(record, units):

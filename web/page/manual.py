@@ -156,9 +156,9 @@ class Section:
         self.made.append(f"<dd>{self.text()}</dd>")
 
     def item(self, words):
-        self.enter("ol")
-        if not re.fullmatch(r"\d+\. 4", words):
+        if words != r"\(bu 2" and not re.fullmatch(r"\d+\. 4", words):
             raise ManualError(f"an item of {words!r} is not known")
+        self.enter("ul" if words == r"\(bu 2" else "ol")
         self.made.append(f"<li>{self.text()}</li>")
 
     def indented(self, _):

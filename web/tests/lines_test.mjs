@@ -27,10 +27,11 @@ const FOUND = [
   ["warning: h.code, slot 07: slot 07 has the name UTIL, kind 0 and no code: no segment is linked there", 1],
   ["warning: a, segment B: its bytes in the file overlap those of slot 03", 2],
   ["warning: a, segment B, record 1: the operand at byte 4 is word 2 of a variable that has 2", 3],
-  ["note: a: it may be a gzip file", 9],
-  ["harmless: a: its last 2 bytes are 1A: it was padded, as by CP/M", 10],
-  ["note: a: bytes 512 to 1023 are there twice, one after the other: they may have been read twice", 11],
-  ["harmless: a, segment B, record 0: the unit defines NAME, which has no effect: only the host program defines variables", 26],
+  ["warning: a, segment B, record 0: the operand at byte 1 is word 5 of COUNT at base offset 3, and the end mark says that 8 is free", 4],
+  ["note: a: it may be a gzip file", 10],
+  ["harmless: a: its last 2 bytes are 1A: it was padded, as by CP/M", 11],
+  ["note: a: bytes 512 to 1023 are there twice, one after the other: they may have been read twice", 12],
+  ["harmless: a, segment B, record 0: the unit defines NAME, which has no effect: only the host program defines variables", 31],
 ];
 
 let count = 0;
@@ -60,7 +61,7 @@ for (const {id, term} of terms) {
   const [, words, weight] = /^(.*) \((\w+)\)$/s.exec(term.replace(/\s+/g, " "));
   same(anchors(`${weight}: a file: ${words}`), [[weight, id]]);
 }
-same(terms.length, 26);
+same(terms.length, 31);
 
 same(shownName("a\nb\u202ec\u200bd\"\\"), '"a\\nb\\u{202e}c\\u{200b}d\\"\\\\"');
 same(shownName("a\"b\\c"), "a\"b\\c");

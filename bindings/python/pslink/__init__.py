@@ -375,22 +375,24 @@ class _Files:
         )
 
     def made(self, function, *what, size=_TEXT_GUESS):
-        """What a function of the library puts in a room of so many bytes, or of as many as it then asks for, and its answer."""
-        answer = _Answer()
-        while True:
+        """What a function of the library puts in a room of so many bytes, or of as many as it then asks for, and its answer. (It asks
+        once.)"""
+        answer = _Answer(size=size)
+        for _ in range(2):
+            size = answer.size
             room = ctypes.create_string_buffer(max(1, size))
             status = function(*what, self._array, self._count, room, size, answer)
-            if status == _DONE:
-                return ctypes.string_at(room, answer.size), answer
-            if status == _REFUSED:
-                raise self.refusal(answer)
-            if status == _NO_MEMORY:
-                raise MemoryError("pslink: out of memory")
-            if status == _MISUSE:
-                raise ValueError("pslink: there is no such text, or it has no document")
-            if status != _TOO_SMALL or answer.size <= size:
-                raise RuntimeError(f"pslink: the library answered {status}")
-            size = answer.size
+            if status != _TOO_SMALL:
+                break
+        if status == _DONE:
+            return ctypes.string_at(room, answer.size), answer
+        if status == _REFUSED:
+            raise self.refusal(answer)
+        if status == _NO_MEMORY:
+            raise MemoryError("pslink: out of memory")
+        if status == _MISUSE:
+            raise ValueError("pslink: there is no such text, or it has no document")
+        raise RuntimeError(f"pslink: the library answered {status}")
 
     def text(self, what):
         """A text of these files, and the answer."""
@@ -466,9 +468,10 @@ def units_wanted(host: File, libs: Iterable[File] = ()) -> List[str]:
     """The names of the units that a link takes from libraries, or would take if they had them, as 'UTIL'.
 
     First those that the host's slots want, by slot, then those that a record requests and no slot of the host has:
-    each name once. Those that a unit uses are told where the libraries have that unit. A host that is linked already,
-    or that its list calls something else than a code file, wants none. Raises Refused only where the host cannot be
-    opened, with fault 1 or 2, and else what `link` raises.
+    each name once, whether the libraries have the unit or not. They are told as far as a link reads: those that a unit
+    uses where the libraries have that unit, none of a segment that cannot be read, and none of a unit that is looked
+    for after one that is missing. A host that is linked already, or that its list calls something else than a code
+    file, wants none. Raises Refused only where the host cannot be opened, with fault 1 or 2, and else what `link` raises.
     """
     return _Files(host, libs).units(_WANTED)
 

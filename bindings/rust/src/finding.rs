@@ -78,17 +78,39 @@ impl Line<'_> {
         }
     }
 
-    /// The character after a backslash.
+    /// The character that a backslash, which is read, begins.
     fn escaped(&mut self) -> Option<char> {
         match self.next()? {
+            c @ ('"' | '\\' | '/') => Some(c),
+            'b' => Some('\u{8}'),
+            't' => Some('\t'),
             'n' => Some('\n'),
-            'u' => {
-                let digits = self.0.get(..4)?;
-                self.0 = self.0.get(4..)?;
-                char::from_u32(u32::from_str_radix(digits, 16).ok()?)
-            }
-            c => Some(c),
+            'f' => Some('\u{C}'),
+            'r' => Some('\r'),
+            'u' => self.numbered(),
+            _ => None,
         }
+    }
+
+    /// The character of a number whose `\u` is read: of two numbers, where it is above U+FFFF.
+    fn numbered(&mut self) -> Option<char> {
+        let first = self.unit()?;
+        if let Some(c) = char::from_u32(first.into()) {
+            return Some(c);
+        }
+        self.skip("\\u")?;
+        let units = [first, self.unit()?];
+        char::decode_utf16(units).next()?.ok()
+    }
+
+    /// A number of four hexadecimal digits.
+    fn unit(&mut self) -> Option<u16> {
+        let digits = self.0.get(..4)?;
+        self.0 = self.0.get(4..)?;
+        if !digits.bytes().all(|digit| digit.is_ascii_hexdigit()) {
+            return None;
+        }
+        u16::from_str_radix(digits, 16).ok()
     }
 
     /// A number, or `None` in place of `null`.
@@ -149,4 +171,68 @@ pub(crate) fn findings_in(document: &str) -> Option<Vec<Finding>> {
         .filter(|line| line.starts_with("{\"weight\":"))
         .map(|line| Line(line).finding())
         .collect()
+}
+
+#[cfg(test)]
+mod tests {
+    use super::*;
+
+    /// The text that a document has for a path.
+    fn path_in(text: &str) -> Option<String> {
+        let rest = "\"segment\":null,\"record\":null,\"text\":\"\"}";
+        let line = format!("{{\"weight\":\"note\",\"path\":\"{text}\",{rest}\n");
+        let found = findings_in(&format!("{{\"findings\":[\n{line}]}}\n"))?;
+        found.into_iter().next().map(|finding| finding.path)
+    }
+
+    #[test]
+    fn each_escape_of_json_is_its_character() {
+        let letters = [
+            (r#"\""#, '"'),
+            (r"\\", '\\'),
+            (r"\/", '/'),
+            (r"\b", '\u{8}'),
+            (r"\f", '\u{C}'),
+            (r"\n", '\n'),
+            (r"\r", '\r'),
+            (r"\t", '\t'),
+        ];
+        for (text, c) in letters {
+            assert_eq!(path_in(&format!("a{text}b")), Some(format!("a{c}b")));
+        }
+        for c in ('\0'..='\u{FFFF}').chain(['\u{10000}', '\u{1F4BE}', '\u{10FFFF}']) {
+            let numbered = |write: fn(&u16) -> String| -> String {
+                c.encode_utf16(&mut [0; 2]).iter().map(write).collect()
+            };
+            let lower = numbered(|unit| format!("\\u{unit:04x}"));
+            let upper = numbered(|unit| format!("\\u{unit:04X}"));
+            for text in [lower, upper] {
+                assert_eq!(path_in(&format!("a{text}b")), Some(format!("a{c}b")));
+            }
+        }
+    }
+
+    #[test]
+    fn what_is_no_string_of_json_is_no_finding() {
+        let wrong = [
+            r"\",
+            r"\a",
+            r"\0",
+            r"\N",
+            r"\u",
+            r"\u12",
+            r"\u+012",
+            r"\u123g",
+            r"\uD83D",
+            r"\uD83Dx",
+            r"\uD83D\n",
+            r"\uD83D\u0041",
+            r"\uD83D\uD83D",
+            r"\uDCBE",
+            r"\uDCBE\uD83D",
+        ];
+        for text in wrong {
+            assert_eq!(path_in(text), None, "{text}");
+        }
+    }
 }

@@ -116,7 +116,10 @@ impl fmt::Display for Error {
                 write!(f, "libpslink.a is of release {found}, and not of one from {RELEASE_NUMBER} to {LAST_RELEASE_NUMBER}")
             }
             Error::Unknown(status) => {
-                write!(f, "libpslink.a answered {status}, which is no status")
+                write!(
+                    f,
+                    "libpslink.a answered {status}, which its release does not"
+                )
             }
             Error::NoText => f.write_str("there is no such text"),
         }
@@ -170,6 +173,19 @@ fn line_of(answer: &Answer) -> String {
     String::from_utf8_lossy(line).into_owned()
 }
 
+/// What a call answers to which so many bytes of room are given: its status, the room, and the answer.
+fn in_room(
+    size: usize,
+    call: impl Fn(&mut [u8], &mut Answer) -> u32,
+) -> Result<(u32, Vec<u8>, Answer), Error> {
+    let mut room = Vec::new();
+    room.try_reserve_exact(size).map_err(|_| Error::Memory)?;
+    room.resize(size, 0);
+    let mut answer = Answer::default();
+    let status = call(&mut room, &mut answer);
+    Ok((status, room, answer))
+}
+
 /// A host and its libraries, as a call takes them.
 struct Files<'a> {
     files: Vec<File<'a>>,
@@ -217,10 +233,10 @@ impl<'a> Files<'a> {
         })
     }
 
-    /// What a call puts in a room of so many bytes, or of as many as it then asks for.
+    /// What a call puts in a room of so many bytes, or of as many as it then asks for: it asks once.
     fn made(
         &self,
-        mut size: usize,
+        size: usize,
         call: impl Fn(&[raw::File], &mut [u8], &mut Answer) -> u32,
     ) -> Result<(Vec<u8>, Answer), Error> {
         let release = release_number();
@@ -234,26 +250,24 @@ impl<'a> Files<'a> {
                 length: file.bytes.len(),
             })
             .collect();
-        loop {
-            let mut room = Vec::new();
-            room.try_reserve_exact(size).map_err(|_| Error::Memory)?;
-            room.resize(size, 0);
-            let mut answer = Answer::default();
-            match call(&files, &mut room, &mut answer) {
-                DONE => {
-                    room.truncate(answer.size);
-                    room.shrink_to_fit();
-                    return Ok((room, answer));
-                }
-                REFUSED => {
-                    let fault = self.fault(&answer).ok_or(Error::Unknown(REFUSED))?;
-                    return Err(Error::Refused(fault));
-                }
-                TOO_SMALL if answer.size > size => size = answer.size,
-                NO_MEMORY => return Err(Error::Memory),
-                MISUSE => return Err(Error::NoText),
-                status => return Err(Error::Unknown(status)),
+        let call = |room: &mut [u8], answer: &mut Answer| call(&files, room, answer);
+        let (mut status, mut room, mut answer) = in_room(size, call)?;
+        if status == TOO_SMALL {
+            (status, room, answer) = in_room(answer.size, call)?;
+        }
+        match status {
+            DONE => {
+                room.truncate(answer.size);
+                room.shrink_to_fit();
+                Ok((room, answer))
             }
+            REFUSED => {
+                let fault = self.fault(&answer).ok_or(Error::Unknown(REFUSED))?;
+                Err(Error::Refused(fault))
+            }
+            NO_MEMORY => Err(Error::Memory),
+            MISUSE => Err(Error::NoText),
+            status => Err(Error::Unknown(status)),
         }
     }
 
@@ -435,8 +449,10 @@ pub fn text<'a>(
 
 /// The names of the units that a link takes from libraries, or would take if they had them: first
 /// those that the host's slots want, by slot, then those that a record requests and no slot of the
-/// host has: each name once. Those that a unit uses are told where the libraries have that unit. A
-/// host that is linked already, or that its list calls something else than a code file, wants none.
+/// host has: each name once, whether the libraries have the unit or not. They are told as far as a
+/// link reads: those that a unit uses where the libraries have that unit, none of a segment that
+/// cannot be read, and none of a unit that is looked for after one that is missing. A host that is
+/// linked already, or that its list calls something else than a code file, wants none.
 ///
 /// # Errors
 /// [`Error::Refused`] where the host cannot be opened, with [`Reason::ShortFile`] or

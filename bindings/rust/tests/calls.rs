@@ -262,6 +262,65 @@ fn what_is_found_is_told_one_by_one() {
 }
 
 #[test]
+fn a_path_of_a_finding_is_the_name_that_was_given() {
+    let (host, mut library) = (sample("host.code"), sample("library.code"));
+    library.extend([0x1A; 2]);
+    let acted_on = ('\u{1}'..' ').chain('\u{7F}'..'\u{A0}');
+    let others = [
+        '"',
+        '\\',
+        '/',
+        '\u{200B}',
+        '\u{2028}',
+        '\u{2029}',
+        '\u{FFFF}',
+        '\u{1F4BE}',
+        '\u{10FFFF}',
+    ];
+    for c in acted_on.chain(others) {
+        let path = format!("a{c}b");
+        let report = pslink::check(("HOST", &host), [(&path[..], &library).into()]).unwrap();
+        let paths: Vec<&str> = report.findings.iter().map(|one| &one.path[..]).collect();
+        assert_eq!(paths, [path.as_str()]);
+    }
+}
+
+#[test]
+fn a_name_has_its_eight_bytes() {
+    let (mut host, mut library) = (sample("host.code"), sample("library.code"));
+    // A private variable has two words, and the operand is the third; slot 3 of the library has the code
+    // of slot 2 by a name that is printed.
+    library[WORDS_OF_STATE] = 2;
+    library.copy_within(8..12, 12);
+    library[88..96].copy_from_slice(b"OTHER   ");
+    library[198] = 3;
+    for bytes in [
+        b" UTIL\t  ",
+        b"\0UTIL   ",
+        b"UT\0\xFFL   ",
+        b"UT\xC9L    ",
+        b"\0\0\0\0\0\0\0 ",
+    ] {
+        let name = Name(*bytes);
+        host[120..128].copy_from_slice(bytes);
+        library[80..88].copy_from_slice(bytes);
+        let fault = refused(pslink::link(&host, []));
+        assert_eq!(
+            (fault.reason, fault.about),
+            (Reason::MissingUnit, Some(name))
+        );
+        assert_eq!(pslink::units_wanted(&host, []), Ok(vec![name]));
+        assert_eq!(
+            pslink::units_had(&library),
+            Ok(vec![name, Name(*b"OTHER   ")])
+        );
+        let report = pslink::check(&host, [(&library).into()]).unwrap();
+        let warned = report.warnings().next().unwrap();
+        assert_eq!((warned.segment, warned.record), (Some(name), Some(1)));
+    }
+}
+
+#[test]
 fn each_reason_has_its_sentences() {
     assert_eq!(
         Reason::TwoHosts.meaning(),

@@ -1,11 +1,11 @@
 -- What a request stands for, by the command and the files that clap finds named in the arguments.
-use Rattle.std.specs.Prelude.{◌≡◌, ◌++◌, Bool, true, false, List, ℕ, [], ◌∷◌, Option, None, Some, codes, is_some, map, option_map, string_bytes, unwrap_or, ⊤}
-use Rattle.std.specs.Borrow.{Bor}
+use Rattle.std.specs.Prelude.{◌≡◌, ◌≢◌, ◌⊎◌, ◌++◌, Bool, true, false, List, ℕ, [], ◌∷◌, Option, None, Some, codes, is_some, map, option_map, string_bytes, unwrap_or, ⊤}
 use Rattle.std.specs.List.{list_any}
 use Rattle.std.specs.Option.{option_map_or}
 use Rattle.std.specs.Str.{bytes_eq}
 use Rattle.clap.specs.Words.{IsAmong, Kinds, Row, Text, all_of, first_of}
 use Rattle.clap.specs.declared.error.ErrorKind.TheVariants.{DisplayHelp, DisplayVersion}
+use Rattle.ps_arguments.specs.CommandLine.{faults_in, named_in}
 use Rattle.ps_arguments.specs.declared.request.Inputs.{Inputs}
 use Rattle.ps_arguments.specs.declared.request.Link.{Link}
 use Rattle.ps_arguments.specs.declared.request.Request.{Request}
@@ -37,20 +37,42 @@ NamesInputs inputs rows = (host_of rows ≡ Some inputs.host.now)
 abbrev pub is_library : Text → List Text → Bool
 is_library path libraries = list_any (λ library. bytes_eq library path) libraries
 
--- the file that a link writes is no library of it
-abbrev pub IsUnread : {A : Type 0} → Link A → Type 0
-IsUnread link = is_library link.out.now (map (λ path. path.now) link.inputs.libraries.items) ≡ false
+-- a path was found to lead to the file of none of these; `OneFile` says of two paths whether they were
+-- found to lead to one file
+abbrev pub LeadsToNone : (Text → Text → Bool → Type 0) → Text → List Text → Type 0
+LeadsToNone OneFile path [] = ⊤
+LeadsToNone OneFile path (other ∷ others) =
+    OneFile path other false × LeadsToNone OneFile path others
+
+-- a path is none of these, byte for byte, and was found to lead to the file of none of them
+abbrev pub IsOther : (Text → Text → Bool → Type 0) → Text → List Text → Type 0
+IsOther OneFile path paths = (is_library path paths ≡ false) × LeadsToNone OneFile path paths
 
 -- the file of the map is none that the link reads or writes; there is one where the map is to have
 -- what the link stores
-abbrev pub IsApartFrom : Option (Bor Text) → Bool → Text → Text → List Text → Type 0
-IsApartFrom None references out host libraries = references ≡ false
-IsApartFrom (Some file) references out host libraries =
-    (is_library file.now (out ∷ host ∷ []) ≡ false) × (is_library file.now libraries ≡ false)
+abbrev pub IsApartFrom : (Text → Text → Bool → Type 0) → Option Text → Bool → Text → Text → List Text
+    → Type 0
+IsApartFrom OneFile None references out host libraries = references ≡ false
+IsApartFrom OneFile (Some file) references out host libraries =
+    IsOther OneFile file (out ∷ host ∷ []) × IsOther OneFile file libraries
 
-abbrev pub IsApart : {A : Type 0} → Link A → Type 0
-IsApart link = IsApartFrom link.map link.references link.out.now link.inputs.host.now
-    (map (λ path. path.now) link.inputs.libraries.items)
+-- a path was found to lead to the file of one of these
+abbrev pub LeadsToSome : (Text → Text → Bool → Type 0) → Text → List Text → Type 0
+LeadsToSome OneFile path [] = ⊥
+LeadsToSome OneFile path (other ∷ others) =
+    OneFile path other true ⊎ LeadsToSome OneFile path others
+
+-- a path is one of these, byte for byte, or was found to lead to the file of one of them
+abbrev pub IsSame : (Text → Text → Bool → Type 0) → Text → List Text → Type 0
+IsSame OneFile path paths = (is_library path paths ≡ true) ⊎ LeadsToSome OneFile path paths
+
+-- the file of the map is another file of the link; or there is none, and the map is to have what the
+-- link stores
+abbrev pub IsWrongMap : (Text → Text → Bool → Type 0) → Option Text → Bool → Text → Text → List Text
+    → Type 0
+IsWrongMap OneFile None references out host libraries = references ≡ true
+IsWrongMap OneFile (Some file) references out host libraries =
+    IsSame OneFile file (out ∷ host ∷ []) ⊎ IsSame OneFile file libraries
 
 -- the flag of this name is given
 abbrev pub has_flag : Text → List Row → Bool
@@ -94,46 +116,59 @@ map_file rows = file_of rows
 
 -- a link of the files that are named for it; it writes no file that is a library of it, and its map
 -- to no file of it
-pub record NamesLink {A : Type 0} (link : Link A) (rows : List Row) : Type 0 where
-  pub host : host_of rows ≡ Some link.inputs.host.now
-  pub files : out_and_libraries rows
-      ≡ Some (link.out.now, map (λ path. path.now) link.inputs.libraries.items)
-  pub by_option : link.by_option ≡ has_output rows
-  pub map_file : option_map (λ path. path.now) link.map ≡ map_file rows
-  pub references : link.references ≡ has_references rows
-  pub json : link.json ≡ is_json rows
-  pub quiet : link.quiet ≡ is_quiet rows
-  pub unread : IsUnread link
-  pub apart : IsApart link
+pub record NamesLink {A : Type 0} (OneFile : Text → Text → Bool → Type 0) (link : Link A)
+    (rows : List Row) : Type 0
+  where
+    pub host : host_of rows ≡ Some link.inputs.host.now
+    pub files : out_and_libraries rows
+        ≡ Some (link.out.now, map (λ path. path.now) link.inputs.libraries.items)
+    pub by_option : link.by_option ≡ has_output rows
+    pub map_file : option_map (λ path. path.now) link.map ≡ map_file rows
+    pub references : link.references ≡ has_references rows
+    pub json : link.json ≡ is_json rows
+    pub quiet : link.quiet ≡ is_quiet rows
+    pub no_library : IsOther OneFile link.out.now
+        (map (λ path. path.now) link.inputs.libraries.items)
+    pub apart : IsApartFrom OneFile (file_of rows) (has_references rows) link.out.now
+        link.inputs.host.now (map (λ path. path.now) link.inputs.libraries.items)
 
--- the command that is named, with the files that are named for it; a check of units is not strict
-abbrev pub IsNamedCommand : {A : Type 0} → Task A → Option (Text × List Row) → Type 0
-IsNamedCommand (task.Link link) named =
-    (rows : List Row) × (named ≡ Some (codes "link", rows)) × NamesLink link rows
-IsNamedCommand (task.Map inputs references json) named =
+-- the command that is named, which is no link, with the files that are named for it; a check of units
+-- is not strict
+abbrev pub IsOtherCommand : {A : Type 0} → Task A → Option (Text × List Row) → Type 0
+IsOtherCommand (task.Link link) named = ⊥
+IsOtherCommand (task.Map inputs references json) named =
     (rows : List Row) × (named ≡ Some (codes "map", rows)) × NamesInputs inputs rows
     × (references ≡ has_references rows) × (json ≡ is_json rows)
-IsNamedCommand (task.Show file json) named =
+IsOtherCommand (task.Show file json) named =
     (rows : List Row) × (named ≡ Some (codes "show", rows))
     × (file_of rows ≡ Some file.now) × (json ≡ is_json rows)
-IsNamedCommand (task.Check inputs strict unit json) named =
+IsOtherCommand (task.Check inputs strict unit json) named =
     (rows : List Row) × (named ≡ Some (codes "check", rows)) × NamesInputs inputs rows
     × (strict ≡ is_strict rows) × (unit ≡ is_unit rows) × (json ≡ is_json rows)
     × (unit ≡ true → strict ≡ false)
-IsNamedCommand (task.List files json) named =
+IsOtherCommand (task.List files json) named =
     (rows : List Row) × (named ≡ Some (codes "list", rows))
     × (map (λ path. path.now) files.items ≡ files_of rows) × (json ≡ is_json rows)
 
+-- the command that is named, with the files that are named for it
+abbrev pub IsNamedCommand : {A : Type 0} → (Text → Text → Bool → Type 0) → Task A
+    → Option (Text × List Row) → Type 0
+IsNamedCommand OneFile (task.Link link) named =
+    (rows : List Row) × (named ≡ Some (codes "link", rows)) × NamesLink OneFile link rows
+IsNamedCommand OneFile t named = IsOtherCommand t named
+
 -- the help or the version, or the command that is named
-abbrev pub IsAsked : {A : Type 0} → Request A → Option (Text × List Row) → Type 0
-IsAsked (request.Help text) named = ⊤
-IsAsked request.Version named = ⊤
-IsAsked (request.Task t) named = IsNamedCommand t named
+abbrev pub IsAsked : {A : Type 0} → (Text → Text → Bool → Type 0) → Request A
+    → Option (Text × List Row) → Type 0
+IsAsked OneFile (request.Help text) named = ⊤
+IsAsked OneFile request.Version named = ⊤
+IsAsked OneFile (request.Task t) named = IsNamedCommand OneFile t named
 
 -- a command, and not the help or the version, which is the one that is named
-abbrev pub IsTask : {A : Type 0} → Request A → Option (Text × List Row) → Type 0
-IsTask (request.Task t) named = IsNamedCommand t named
-IsTask _ named = ⊥
+abbrev pub IsTask : {A : Type 0} → (Text → Text → Bool → Type 0) → Request A
+    → Option (Text × List Row) → Type 0
+IsTask OneFile (request.Task t) named = IsNamedCommand OneFile t named
+IsTask OneFile _ named = ⊥
 
 -- a text ends with a line end
 abbrev pub EndsWithLine : List ℕ → Type 0
@@ -153,15 +188,39 @@ Answers (request.Help text) faults = MayAskForHelp faults × EndsWithLine (strin
 Answers request.Version faults = MayAskForVersion faults
 Answers (request.Task t) faults = faults ≡ []
 
--- a check is named
-abbrev pub NamesCheck : Option (Text × List Row) → Type 0
-NamesCheck named = (rows : List Row) × (named ≡ Some (codes "check", rows))
+-- why a link is wrong usage: no HOST is named, which clap does not accept, or no OUT; or OUT is a
+-- library of the link too; or so of the file of its map
+abbrev pub IsWrongLink : (Text → Text → Bool → Type 0) → List Row → Type 0
+IsWrongLink OneFile rows = (host_of rows ≡ None) ⊎ (out_and_libraries rows ≡ None)
+    ⊎ ((host : Text) × (out : Text) × (libraries : List Text) × (host_of rows ≡ Some host)
+    × (out_and_libraries rows ≡ Some (out, libraries)) × (IsSame OneFile out libraries
+    ⊎ IsWrongMap OneFile (map_file rows) (has_references rows) out host libraries))
 
--- a list is named
-abbrev pub NamesList : Option (Text × List Row) → Type 0
-NamesList named = (rows : List Row) × (named ≡ Some (codes "list", rows))
+-- why a check is wrong usage: no HOST is named, or it is a check of units that is to be strict
+abbrev pub IsWrongCheck : List Row → Type 0
+IsWrongCheck rows =
+    (host_of rows ≡ None) ⊎ ((is_strict rows ≡ true) × (is_unit rows ≡ true))
 
--- a command is named that prints a refusal as a document
-abbrev pub NamesDocument : Option (Text × List Row) → Type 0
-NamesDocument named = (name : Text) × (rows : List Row) × (named ≡ Some (name, rows))
-    × (is_json rows ≡ true)
+-- a name is none of the five commands
+abbrev pub IsNoCommand : Text → Type 0
+IsNoCommand name = (name ≢ codes "link") × (name ≢ codes "map") × (name ≢ codes "show")
+    × (name ≢ codes "check") × (name ≢ codes "list")
+
+-- why what is named is wrong usage, though clap finds no fault in it
+abbrev pub IsWrongCommand : (Text → Text → Bool → Type 0) → Text → List Row → Type 0
+IsWrongCommand OneFile name rows = ((name ≡ codes "link") × IsWrongLink OneFile rows)
+    ⊎ ((name ≡ codes "map") × (host_of rows ≡ None))
+    ⊎ ((name ≡ codes "show") × (file_of rows ≡ None))
+    ⊎ ((name ≡ codes "check") × IsWrongCheck rows) ⊎ IsNoCommand name
+
+abbrev pub IsWrongNamed : (Text → Text → Bool → Type 0) → Option (Text × List Row) → Type 0
+IsWrongNamed OneFile None = ⊤
+IsWrongNamed OneFile (Some (name, rows)) = IsWrongCommand OneFile name rows
+
+-- arguments are wrong usage: clap finds a fault in them, or they name a command that is not accepted
+abbrev pub IsWrongUsage : (Text → Text → Bool → Type 0) → List Text → Type 0
+IsWrongUsage OneFile args = (faults_in args ≢ []) ⊎ IsWrongNamed OneFile (named_in args)
+
+-- no link is named
+abbrev pub NamesNoLink : Option (Text × List Row) → Type 0
+NamesNoLink named = (rows : List Row) → named ≢ Some (codes "link", rows)

@@ -1,8 +1,8 @@
 //! What the arguments of a command line ask the program to do.
-ghost use Rattle.std.specs.Prelude.{◌≡◌, IfErr, IfOk, None, Some, [], ◌∷◌, codes, false, is_some, map, option_map, string_bytes, unwrap_or};
+ghost use Rattle.std.specs.Prelude.{◌≡◌, ◌⊎◌, IfErr, IfOk, IfSome, None, Some, [], ◌∷◌, codes, false, is_some, map, option_map, string_bytes, true, unwrap_or};
 ghost use Rattle.clap.specs.Words.{FailsBy, all_of, first_of, found_of, kind_of, rows_of, subcommand_rows_of};
 ghost use Rattle.ps_arguments.specs.CommandLine.{AreAccepted, AskForText, faults_in, named_in, texts};
-ghost use Rattle.ps_arguments.specs.Requests.{Answers, EndsWithLine, IsAsked, IsNamedCommand, IsTask, NamesInputs, IsApart, IsUnread, has_flag as has_flag_spec, is_library, out_among};
+ghost use Rattle.ps_arguments.specs.Requests.{Answers, EndsWithLine, IsAsked, IsApartFrom, IsNamedCommand, IsOther, IsOtherCommand, IsSame, IsTask, IsWrongCheck, IsWrongLink, IsWrongMap, IsWrongNamed, IsWrongUsage, NamesInputs, file_of as file_spec, has_flag as has_flag_spec, host_of, out_among};
 
 use crate::command_line::{check_usage, command, link_usage};
 use crate::same_file::{SameFile, first_to};
@@ -90,16 +90,19 @@ pub fn parse<'a, F: SameFile, A: Allocator + Copy>(
     alloc: A,
     args: &'a [&'a str],
 ) -> Result<Request<'a, A>, UsageError>
-    ensures asked { IfOk result (λ r. IsAsked r (named_in (texts args.now))) }
+    ensures asked { IfOk result (λ r. IsAsked (F.one_file files.now) r (named_in (texts args.now))) }
 
     // The help or the version only where it is asked for, and a command only where clap finds no
     // fault.
     ensures answers { IfOk result (λ r. Answers r (faults_in (texts args.now))) }
+    // Where they are refused, and not for want of memory, they are wrong usage.
+    ensures wrong { IfErr result (λ e. (e ≡ UsageError.Memory)
+        ⊎ IsWrongUsage (F.one_file files.now) (texts args.now)) }
     ensures text { AskForText (texts args.now) → IfErr result (λ e. e ≡ UsageError.Memory) }
 
     // Arguments that clap accepts name a command, and ask for no help.
     ensures named { AreAccepted (texts args.now)
-        → IfOk result (λ r. IsTask r (named_in (texts args.now))) }
+        → IfOk result (λ r. IsTask (F.one_file files.now) r (named_in (texts args.now))) }
 {
     match matches(heap, args) {
         Ok(matches) => Ok(Request::Task(task_of(files, heap, alloc, &matches)?)),
@@ -139,7 +142,10 @@ fn task_of<'a, F: SameFile, A: Allocator + Copy>(
     alloc: A,
     matches: &ArgMatches<'a>,
 ) -> Result<Task<'a, A>, UsageError>
-    ensures { IfOk result (λ t. IsNamedCommand t (subcommand_rows_of matches.now)) }
+    ensures named { IfOk result (λ t. IsNamedCommand (F.one_file files.now) t
+        (subcommand_rows_of matches.now)) }
+    ensures wrong { IfErr result (λ e. (e ≡ UsageError.Memory)
+        ⊎ IsWrongNamed (F.one_file files.now) (subcommand_rows_of matches.now)) }
 {
     let Some((name, found)) = matches.subcommand() else {
         return Err(missing_argument(heap));
@@ -160,8 +166,10 @@ fn link_of<'a, F: SameFile, A: Allocator + Copy>(
     alloc: A,
     found: &ArgMatches<'a>,
 ) -> Result<Task<'a, A>, UsageError>
-    ensures { IfOk result (λ t. IsNamedCommand t
+    ensures named { IfOk result (λ t. IsNamedCommand (F.one_file files.now) t
         (Some (codes "link", rows_of (found_of found.now)))) }
+    ensures wrong { IfErr result (λ e. (e ≡ UsageError.Memory)
+        ⊎ IsWrongLink (F.one_file files.now) (rows_of (found_of found.now))) }
 {
     let Inputs {
         host,
@@ -193,7 +201,10 @@ fn check_out<F: SameFile, A: Allocator>(
     heap: Global,
     link: &Link<'_, A>,
 ) -> Result<(), UsageError>
-    ensures { IfOk result (λ _. IsUnread link.now) }
+    ensures other { IfOk result (λ _. IsOther (F.one_file files.now) link.now.out.now
+        (map (λ path. path.now) link.now.inputs.libraries.items)) }
+    ensures same { IfErr result (λ _. IsSame (F.one_file files.now) link.now.out.now
+        (map (λ path. path.now) link.now.inputs.libraries.items)) }
 {
     match overwritten(files, link.inputs.libraries.as_slice(), link.out) {
         Some(library) => Err(written_library(heap, link.out, library)),
@@ -208,7 +219,12 @@ fn check_map<F: SameFile, A: Allocator>(
     heap: Global,
     link: &Link<'_, A>,
 ) -> Result<(), UsageError>
-    ensures { IfOk result (λ _. IsApart link.now) }
+    ensures apart { IfOk result (λ _. IsApartFrom (F.one_file files.now)
+        (option_map (λ path. path.now) link.now.map) link.now.references link.now.out.now
+        link.now.inputs.host.now (map (λ path. path.now) link.now.inputs.libraries.items)) }
+    ensures wrong { IfErr result (λ _. IsWrongMap (F.one_file files.now)
+        (option_map (λ path. path.now) link.now.map) link.now.references link.now.out.now
+        link.now.inputs.host.now (map (λ path. path.now) link.now.inputs.libraries.items)) }
 {
     match link.map {
         Some(file) => check_map_file(files, heap, link, file),
@@ -218,7 +234,8 @@ fn check_map<F: SameFile, A: Allocator>(
 
 /// Refuses a link without a map that is to write what it stores.
 fn check_references(heap: Global, references: bool) -> Result<(), UsageError>
-    ensures { IfOk result (λ _. references ≡ false) }
+    ensures none { IfOk result (λ _. references ≡ false) }
+    ensures wrong { IfErr result (λ _. references ≡ true) }
 {
     if references {
         return Err(references_alone(heap));
@@ -234,10 +251,14 @@ fn check_map_file<F: SameFile, A: Allocator>(
     link: &Link<'_, A>,
     file: &str,
 ) -> Result<(), UsageError>
-    ensures own { IfOk result (λ _. is_library file.now
-        (link.now.out.now ∷ link.now.inputs.host.now ∷ []) ≡ false) }
-    ensures libraries { IfOk result (λ _. is_library file.now
-        (map (λ path. path.now) link.now.inputs.libraries.items) ≡ false) }
+    ensures own { IfOk result (λ _. IsOther (F.one_file files.now) file.now
+        (link.now.out.now ∷ link.now.inputs.host.now ∷ [])) }
+    ensures libraries { IfOk result (λ _. IsOther (F.one_file files.now) file.now
+        (map (λ path. path.now) link.now.inputs.libraries.items)) }
+    ensures same { IfErr result (λ _. IsSame (F.one_file files.now) file.now
+        (link.now.out.now ∷ link.now.inputs.host.now ∷ [])
+        ⊎ IsSame (F.one_file files.now) file.now
+        (map (λ path. path.now) link.now.inputs.libraries.items)) }
 {
     let own = [link.out, link.inputs.host];
     if let Some(other) = overwritten(files, &own, file) {
@@ -258,10 +279,13 @@ fn out_of<'a, A: Allocator>(
     found: &ArgMatches<'a>,
     libraries: &mut Vec<&'a str, A>,
 ) -> Result<&'a str, UsageError>
-    ensures { IfOk result (λ out. out_among
+    ensures named { IfOk result (λ out. out_among
         (first_of (codes "OUT") (rows_of (found_of found.now)))
         (map (λ path. path.now) libraries.old.items)
         ≡ Some (out.now, map (λ path. path.now) libraries.new.items)) }
+    ensures none { IfErr result (λ _. out_among
+        (first_of (codes "OUT") (rows_of (found_of found.now)))
+        (map (λ path. path.now) libraries.old.items) ≡ None) }
 {
     match found.get_str("OUT") {
         Some(out) => Ok(out),
@@ -274,8 +298,10 @@ fn first_as_out<'a, A: Allocator>(
     heap: Global,
     libraries: &mut Vec<&'a str, A>,
 ) -> Result<&'a str, UsageError>
-    ensures { IfOk result (λ out. out_among None (map (λ path. path.now) libraries.old.items)
+    ensures named { IfOk result (λ out. out_among None (map (λ path. path.now) libraries.old.items)
         ≡ Some (out.now, map (λ path. path.now) libraries.new.items)) }
+    ensures none { IfErr result (λ _. out_among None
+        (map (λ path. path.now) libraries.old.items) ≡ None) }
 {
     if libraries.is_empty() {
         return Err(missing_out(heap));
@@ -285,8 +311,10 @@ fn first_as_out<'a, A: Allocator>(
 
 /// The first of these files that is written at `out`, by its path or by another that leads there.
 fn overwritten<'a, F: SameFile>(files: &F, libraries: &[&'a str], out: &'a str) -> Option<&'a str>
-    ensures { result ≡ None → is_library out.entry.now (map (λ path. path.now) libraries.now)
-        ≡ false }
+    ensures none { result ≡ None → IsOther (F.one_file files.now) out.entry.now
+        (map (λ path. path.now) libraries.now) }
+    ensures some { IfSome result (λ _. IsSame (F.one_file files.now) out.entry.now
+        (map (λ path. path.now) libraries.now)) }
 {
     if libraries.contains(&out) {
         return Some(out);
@@ -299,8 +327,10 @@ fn map_of<'a, A: Allocator + Copy>(
     alloc: A,
     found: &ArgMatches<'a>,
 ) -> Result<Task<'a, A>, UsageError>
-    ensures { IfOk result (λ t. IsNamedCommand t
+    ensures named { IfOk result (λ t. IsOtherCommand t
         (Some (codes "map", rows_of (found_of found.now)))) }
+    ensures wrong { IfErr result (λ e. (e ≡ UsageError.Memory)
+        ⊎ (host_of (rows_of (found_of found.now)) ≡ None)) }
 {
     let inputs = inputs_of(heap, alloc, found)?;
     let references = has_flag(found, "references");
@@ -316,8 +346,9 @@ fn show_of<'a, A: Allocator + Copy>(
     heap: Global,
     found: &ArgMatches<'a>,
 ) -> Result<Task<'a, A>, UsageError>
-    ensures { IfOk result (λ t. IsNamedCommand t
+    ensures named { IfOk result (λ t. IsOtherCommand t
         (Some (codes "show", rows_of (found_of found.now)))) }
+    ensures wrong { IfErr result (λ _. file_spec (rows_of (found_of found.now)) ≡ None) }
 {
     let file = file_of(heap, found, "FILE")?;
     let json = has_flag(found, "json");
@@ -329,8 +360,10 @@ fn check_of<'a, A: Allocator + Copy>(
     alloc: A,
     found: &ArgMatches<'a>,
 ) -> Result<Task<'a, A>, UsageError>
-    ensures { IfOk result (λ t. IsNamedCommand t
+    ensures named { IfOk result (λ t. IsOtherCommand t
         (Some (codes "check", rows_of (found_of found.now)))) }
+    ensures wrong { IfErr result (λ e. (e ≡ UsageError.Memory)
+        ⊎ IsWrongCheck (rows_of (found_of found.now))) }
 {
     let inputs = inputs_of(heap, alloc, found)?;
     let strict = has_flag(found, "strict");
@@ -351,8 +384,9 @@ fn list_of<'a, A: Allocator + Copy>(
     alloc: A,
     found: &ArgMatches<'a>,
 ) -> Result<Task<'a, A>, UsageError>
-    ensures { IfOk result (λ t. IsNamedCommand t
+    ensures named { IfOk result (λ t. IsOtherCommand t
         (Some (codes "list", rows_of (found_of found.now)))) }
+    ensures memory { IfErr result (λ e. e ≡ UsageError.Memory) }
 {
     let files = paths_of(alloc, found, "FILE")?;
     let json = has_flag(found, "json");
@@ -389,7 +423,9 @@ fn inputs_of<'a, A: Allocator + Copy>(
     alloc: A,
     found: &ArgMatches<'a>,
 ) -> Result<Inputs<'a, A>, UsageError>
-    ensures { IfOk result (λ inputs. NamesInputs inputs (rows_of (found_of found.now))) }
+    ensures named { IfOk result (λ inputs. NamesInputs inputs (rows_of (found_of found.now))) }
+    ensures none { IfErr result (λ e. (e ≡ UsageError.Memory)
+        ⊎ (host_of (rows_of (found_of found.now)) ≡ None)) }
 {
     let host = file_of(heap, found, "HOST")?;
     let libraries = paths_of(alloc, found, "LIB")?;
@@ -398,8 +434,10 @@ fn inputs_of<'a, A: Allocator + Copy>(
 
 /// The path that is given for an argument.
 fn file_of<'a>(heap: Global, found: &ArgMatches<'a>, argument: &str) -> Result<&'a str, UsageError>
-    ensures { IfOk result (λ path. first_of argument.now (rows_of (found_of found.now))
+    ensures named { IfOk result (λ path. first_of argument.now (rows_of (found_of found.now))
         ≡ Some path.now) }
+    ensures none { IfErr result (λ _. first_of argument.now (rows_of (found_of found.now))
+        ≡ None) }
 {
     match found.get_str(argument) {
         Some(path) => Ok(path),

@@ -1,4 +1,3 @@
 pub mod Linked
 pub mod ListsPrinted
-pub mod Named
 pub mod Unread

@@ -12,6 +12,8 @@ use Rattle.ps_listing.specs.Phrases.{IsPhrase}
 use Rattle.ps_listing.specs.declared.lists.ListForm.{ListForm}
 use Rattle.ps_listing.specs.declared.lists.ListForm.TheVariants as form
 use Rattle.ps_command.specs.Lists.{IsListText, list_status}
+use Rattle.ps_command.specs.ReadFaults.{IsNotRead}
+use Rattle.ps_output_files.specs.World.{Reads, World}
 use Rattle.ps_command.specs.Printed.{IsListed, PrintsFiles, PrintsUnread}
 use Rattle.ps_command.specs.Statuses.{ended_status}
 use Rattle.ps_command.specs.declared.ended.Ended.{Ended}
@@ -62,15 +64,15 @@ text_of_list how first path phrase file false is said =
     let words = said.words is in
     (words.0, words.1, ap (λ (p : List ℕ). listed_as how first path p file) words.2)
 
-module _ (Read : Text → List ℕ → Type 0) (Unread : Text → Type 0) (how : ListForm)
+module _ (world : World) (how : ListForm)
     (first : Bool) (path : Text) where
   -- a file was read, and its list printed
   pub is_listed : {E : Type 0} (file : List ℕ) (l : Listed) (r : Result Ended E)
-      (old new : Option (List ℕ)) → Read path file → l.how ≡ how → l.path ≡ path → l.file ≡ file
+      (old new : Option (List ℕ)) → Reads world path file → l.how ≡ how → l.path ≡ path → l.file ≡ file
       → IsPhrase file l.phrase
       → IfOk r (λ e. ended_status e ≡ (if is_refused_in l then 1 else 0))
       → OnOk r (Appends old new (listed first l))
-      → IfOk r (λ e. IsListed Read Unread how first path (ended_status e) old new)
+      → IfOk r (λ e. IsListed world how first path (ended_status e) old new)
   is_listed file l (Ok e) old new read how_is path_is file_is said ends prints =
       let status : ended_status e ≡ (if is_refused_as_listed how l.phrase file then 1 else 0) =
       rw (how_is, file_is) at ends in
@@ -87,13 +89,13 @@ module _ (Read : Text → List ℕ → Type 0) (Unread : Text → Type 0) (how :
   is_listed file l (Err e) old new read how_is path_is file_is said ends prints = tt
 
   -- a file was not read, and what there is of it printed
-  pub is_unread : {E : Type 0} (r : Result Ended E) (old new : Option (List ℕ)) → Unread path
+  pub is_unread : {E : Type 0} (r : Result Ended E) (old new : Option (List ℕ)) → IsNotRead world path
       → IfOk r (λ e. e ≡ ended.Unread) → OnOk r (PrintsUnread how first path old new)
-      → IfOk r (λ e. IsListed Read Unread how first path (ended_status e) old new)
+      → IfOk r (λ e. IsListed world how first path (ended_status e) old new)
   is_unread (Ok e) old new unread is prints = inr (ap ended_status is, unread, prints)
   is_unread (Err e) old new unread is prints = tt
 
-module _ (Read : Text → List ℕ → Type 0) (Unread : Text → Type 0) (how : ListForm)
+module _ (world : World) (how : ListForm)
     (all : List Text) (old : Option (List ℕ)) where
   -- the files before these have this status, and what is printed of those that are left is added to
   -- it
@@ -101,12 +103,12 @@ module _ (Read : Text → List ℕ → Type 0) (Unread : Text → Type 0) (how :
       (now : Option (List ℕ)) : Type 0
     where
       pub rest : (more : ℕ) (new : Option (List ℕ))
-          → PrintsFiles Read Unread how is_first left more now new
-          → PrintsFiles Read Unread how true all (max status more) old new
+          → PrintsFiles world how is_first left more now new
+          → PrintsFiles world how true all (max status more) old new
 
   pub listed_more : (is_first : Bool) (path : Text) (left : List Text) (status first : ℕ)
       (before between : Option (List ℕ))
-      → IsListed Read Unread how is_first path first before between
+      → IsListed world how is_first path first before between
       → ListsLeft is_first (path ∷ left) status before
       → ListsLeft false left (max status first) between
   listed_more is_first path left status first before between listed so_far = record {

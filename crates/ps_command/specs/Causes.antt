@@ -15,10 +15,6 @@ use Rattle.ps_arguments.specs.declared.usage.UsageError.{UsageError}
 use Rattle.ps_arguments.specs.declared.usage.UsageError.TheVariants as usage
 use Rattle.ps_command.specs.declared.files.FileFault.{FileFault}
 use Rattle.ps_command.specs.declared.files.FileFault.TheVariants as fault
-use Rattle.ps_outputs.specs.declared.unlinked.Unlinked.{Unlinked}
-use Rattle.ps_outputs.specs.declared.unlinked.Unlinked.TheVariants as unlinked
-use Rattle.ps_texts.specs.declared.texts.Unmade.{Unmade}
-use Rattle.ps_texts.specs.declared.texts.Unmade.TheVariants as unmade
 
 -- the cause that is of a kind of the system's errors; a path below a file names no file
 abbrev pub cause_of : ErrorKind → Cause
@@ -33,19 +29,8 @@ cause_of _ = cause.Other
 abbrev pub read_error : Bor (List ℕ) → FileFault → FileError
 read_error path (fault.Device cause) = file.Read path cause
 read_error path fault.TooLong = file.TooLong path
+read_error path fault.Endless = file.Read path cause.Other
 read_error path fault.Memory = file.Memory
-
--- why a command was not done whose link was not made
-abbrev pub run_error_of : Unlinked → RunError
-run_error_of (unlinked.Refused fault) = run.Refused fault
-run_error_of unlinked.Memory = run.Memory
-run_error_of (unlinked.Write path) = run.Write path
-run_error_of unlinked.StandardOutput = run.StandardOutput
-
--- why a command was not done whose text was not made
-abbrev pub run_error_of_unmade : Unmade → RunError
-run_error_of_unmade (unmade.Refused fault) = run.Refused fault
-run_error_of_unmade unmade.Memory = run.Memory
 
 -- what is reported of files that are not read
 abbrev pub told_of_file : FileError → CommandError
@@ -67,7 +52,6 @@ told_of_usage usage.Memory = error.Memory
 
 -- what is reported of a command that was not done
 abbrev pub told_of : RunError → CommandError
-told_of (run.Refused fault) = error.Refused fault
 told_of (run.File why) = told_of_file why
 told_of (run.Unchecked why) = told_with_cause why
 told_of (run.Write path) = error.Write path
@@ -79,4 +63,5 @@ told_of run.Memory = error.Memory
 abbrev pub unread_error : Bor (List ℕ) → FileFault → CommandError
 unread_error path (fault.Device cause) = error.Unreadable path cause
 unread_error path fault.TooLong = error.TooLong path
+unread_error path fault.Endless = error.Unreadable path cause.Other
 unread_error path fault.Memory = error.Unreadable path cause.Memory

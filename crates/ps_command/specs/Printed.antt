@@ -1,8 +1,6 @@
 -- What is printed on standard output once a command is done, by the command and the files that are
--- named, and what a link has written. `Reads` says of a path and of bytes that they were read
--- there, `Unread` of a path that the file there was not read or not listed, and `Writes` that a file
--- which was created there took them.
-use Rattle.std.specs.Prelude.{◌≡◌, ◌⊎◌, ◌++◌, ◌∷◌, [], ℕ, Bool, true, false, List, Option, None, Some, codes, max, ⊤}
+-- named, and what a link has written. A `World` says what paths gave, and which files were created.
+use Rattle.std.specs.Prelude.{◌≡◌, ◌⊎◌, ◌++◌, ◌∷◌, [], ℕ, Bool, true, false, List, Option, Some, codes, max}
 use Rattle.std.specs.List.{AllZip}
 use Rattle.std.specs.Io.KnownBytes.{Appends}
 use Rattle.ps_arguments.specs.CommandLine.{Kinds, Row, Text}
@@ -20,32 +18,35 @@ use Rattle.ps_resolve.specs.FaultNames.{fault_name}
 use Rattle.ps_texts.specs.Paths.{path_of}
 use Rattle.ps_texts.specs.Texts.{IsTextOf}
 use Rattle.ps_texts.specs.Unmade.{CanRefuse}
-use Rattle.ps_texts.specs.declared.texts.Unmade.{Unmade}
-use Rattle.ps_texts.specs.declared.texts.Unmade.TheVariants as unmade
+use Rattle.ps_texts.specs.declared.kinds.HostText.TheVariants as of_host
+use Rattle.ps_texts.specs.declared.kinds.LinkText.TheVariants as of_link
+use Rattle.ps_texts.specs.declared.kinds.NamedText.TheVariants as of_named
 use Rattle.ps_texts.specs.declared.kinds.TextKind.{TextKind}
 use Rattle.ps_texts.specs.declared.kinds.TextKind.TheVariants as kind
-use Rattle.ps_outputs.specs.Places.{IsPlace, PrintsAt}
-use Rattle.ps_outputs.specs.SummaryLine.{summary_text}
-use Rattle.ps_arguments.specs.Requests.{EndsWithLine, MayAskForHelp, MayAskForVersion, file_of, files_of, has_output, has_references, host_of, is_json, is_quiet, is_strict, is_unit, libraries_of, map_file, out_and_libraries}
+use Rattle.ps_output_files.specs.Links.{MapIsApart}
+use Rattle.ps_output_files.specs.Log.{AddsAll, AddsPart}
+use Rattle.ps_output_files.specs.Places.{IsPlace, PrintsAt}
+use Rattle.ps_output_files.specs.SummaryLine.{summary_text}
+use Rattle.ps_output_files.specs.World.{Reads, World}
+use Rattle.ps_arguments.specs.Requests.{EndsWithLine, IsApartFrom, IsOther, MayAskForHelp, MayAskForVersion, file_of, files_of, has_output, has_references, host_of, is_json, is_quiet, is_strict, is_unit, libraries_of, map_file, out_and_libraries}
 use Rattle.ps_command.specs.Lists.{IsListText, list_status}
-use Rattle.ps_outputs.specs.declared.linking.Place.{Place}
-use Rattle.ps_outputs.specs.declared.linking.Place.TheVariants as place
-
--- some link has this: of a host that was read at its path and of libraries that were read at
--- theirs, one for one in their order, and of their linked file
-abbrev pub SomeLink : (Text → List ℕ → Type 0) → Text → List Text
-    → (List ℕ → List (List ℕ) → List ℕ → Type 0) → Type 0
-SomeLink Reads path paths Holds =
-    (host : List ℕ) × (libs : List (List ℕ)) × (file : List ℕ) × Reads path host
-    × AllZip Reads paths libs × LinkedFile host libs file × Holds host libs file
+use Rattle.ps_command.specs.ReadFaults.{IsNotRead}
+use Rattle.ps_output_files.specs.declared.linking.MapContent.{MapContent}
+use Rattle.ps_output_files.specs.declared.linking.MapContent.TheVariants as content
+use Rattle.ps_output_files.specs.declared.linking.OutBy.{OutBy}
+use Rattle.ps_output_files.specs.declared.linking.OutBy.TheVariants as named_by
+use Rattle.ps_output_files.specs.declared.linking.Place.{Place}
+use Rattle.ps_output_files.specs.declared.linking.Place.TheVariants as place
+use Rattle.ps_output_files.specs.declared.linking.Telling.{Telling}
+use Rattle.ps_output_files.specs.declared.linking.Telling.TheVariants as tells
 
 -- by a text of a host that was read at its path and of libraries that were read at theirs, one for
 -- one in their order, which ends with this status
-abbrev pub PrintsTextOf : (Text → List ℕ → Type 0) → TextKind → Bool → Text → List Text
-    → ℕ → Option (List ℕ) → Option (List ℕ) → Type 0
-PrintsTextOf Reads k strict path paths status old new =
-    (host : List ℕ) × (libs : List (List ℕ)) × (text : List ℕ) × Reads path host
-    × AllZip Reads paths libs × IsTextOf k strict (path ∷ paths) host libs status text
+abbrev pub PrintsTextOf : World → TextKind → Bool → Text → List Text → ℕ → Option (List ℕ)
+    → Option (List ℕ) → Type 0
+PrintsTextOf world k strict path paths status old new =
+    (host : List ℕ) × (libs : List (List ℕ)) × (text : List ℕ) × Reads world path host
+    × AllZip (Reads world) paths libs × IsTextOf k strict (path ∷ paths) host libs status text
     × Appends old new text
 
 -- lines, or a document
@@ -53,40 +54,78 @@ abbrev pub form_of : Bool → Form
 form_of false = Lines
 form_of true = Json
 
+-- OUT is named by its option, or by its place after the host
+abbrev pub out_by : Bool → OutBy
+out_by false = named_by.Place
+out_by true = named_by.Option
+
+-- what the map of a link has
+abbrev pub map_content : Bool → MapContent
+map_content false = content.Places
+map_content true = content.References
+
+-- what a link prints, which is quiet or not
+abbrev pub telling : Bool → Telling
+telling false = tells.Summary
+telling true = tells.Nothing
+
 -- the map of a link, and with its references what it stores
 abbrev pub map_kind : Bool → Bool → TextKind
-map_kind false json = kind.Map (form_of json)
-map_kind true json = kind.References (form_of json)
+map_kind false json = kind.OfLink of_link.Map (form_of json)
+map_kind true json = kind.OfLink of_link.References (form_of json)
 
--- a file that was created at the path of the map, if there is one, took the map of the link of these
--- files
-abbrev pub WritesMap : (Text → List ℕ → Type 0) → Option Text → TextKind → List Text
-    → List ℕ → List (List ℕ) → Type 0
-WritesMap Writes None k paths host libs = ⊤
-WritesMap Writes (Some file) k paths host libs =
-    (text : List ℕ) × IsTextOf k false paths host libs 0 text × Writes file text
+-- a text is the map that a link of these files is to have, as `map` prints it
+abbrev pub IsMapNamed : List Row → List Text → List ℕ → List (List ℕ) → List ℕ → Type 0
+IsMapNamed rows paths host libs text =
+    IsTextOf (map_kind (has_references rows) (is_json rows)) false paths host libs 0 text
 
--- a file that was created at OUT took the linked file of the files at these paths, one that was
--- created for the map took the map of the same, and the summary of that link is printed at its place
-abbrev pub PrintsLink : (Text → List ℕ → Type 0) → (Text → List ℕ → Type 0)
-    → (Text → Bool → Type 0) → List Row → Text → Option (List ℕ) → Option (List ℕ)
-    → Option (List ℕ) → Option (List ℕ) → Type 0
-PrintsLink Reads Writes Leads rows path old new old_err new_err =
-    (out : Text) × (libraries : List Text) × (where_to : Place)
-    × (out_and_libraries rows ≡ Some (out, libraries))
-    × IsPlace Leads (is_quiet rows) (has_output rows) out (map_file rows) where_to
-    × SomeLink Reads path libraries (λ host libs file. Writes out file
-    × WritesMap Writes (map_file rows) (map_kind (has_references rows) (is_json rows))
-    (path ∷ libraries) host libs
+-- of files that were read at these paths, the linked file was written to OUT, and then their map to
+-- its file, if there is one; no other file was created. OUT is no library, and the file of the map is no
+-- file of the link.
+abbrev pub WritesNamed : {S : Type 0} → (S → World) → List Row → Text → Text → List Text → List ℕ
+    → List (List ℕ) → S → S → Type 0
+WritesNamed world rows path out libraries host libs old new = (file : List ℕ)
+    × Reads (world old) path host × AllZip (Reads (world old)) libraries libs
+    × LinkedFile host libs file
+    × IsOther (world old).one_file out libraries
+    × IsApartFrom (world old).one_file (map_file rows) (has_references rows) out path libraries
+    × AddsAll out (map_file rows) file (IsMapNamed rows (path ∷ libraries) host libs)
+    (world old).log (world new).log
+    × MapIsApart world (map_file rows) out file old
+
+-- a link writes its files, and the summary of the link is printed at its place
+abbrev pub PrintsLink : {S : Type 0} → (S → World) → List Row → Text → S → S → Option (List ℕ)
+    → Option (List ℕ) → Option (List ℕ) → Option (List ℕ) → Type 0
+PrintsLink world rows path before after old new old_err new_err =
+    (out : Text) × (libraries : List Text) × (host : List ℕ) × (libs : List (List ℕ))
+    × (where_to : Place) × (out_and_libraries rows ≡ Some (out, libraries))
+    × WritesNamed world rows path out libraries host libs before after
+    × IsPlace (world before).leads (telling (is_quiet rows)) (out_by (has_output rows)) out (map_file rows) where_to
     × PrintsAt where_to (summary_text (form_of (is_json rows)) (summary_of host libs)) old new
-    old_err new_err)
+    old_err new_err
+
+-- a link of files that were read at these paths created a part of what it was to write, from OUT on
+abbrev pub LinkLeavesPart : {S : Type 0} → (S → World) → List Row → Text → S → S → Type 0
+LinkLeavesPart world rows path before after =
+    (out : Text) × (libraries : List Text) × (host : List ℕ) × (libs : List (List ℕ))
+    × (file : List ℕ) × (out_and_libraries rows ≡ Some (out, libraries))
+    × Reads (world before) path host × AllZip (Reads (world before)) libraries libs
+    × LinkedFile host libs file
+    × AddsPart out (map_file rows) file (IsMapNamed rows (path ∷ libraries) host libs)
+    (world before).log (world after).log
+
+-- a link that is named did
+abbrev pub NamedLeavesPart : {S : Type 0} → (S → World) → Option (Text × List Row) → S → S → Type 0
+NamedLeavesPart world named before after = (rows : List Row) × (path : Text)
+    × (named ≡ Some (codes "link", rows)) × (host_of rows ≡ Some path)
+    × LinkLeavesPart world rows path before after
 
 -- a link that is named prints its summary on standard error
-abbrev pub TellsOnError : (Text → Bool → Type 0) → Option (Text × List Row) → Type 0
-TellsOnError Leads named =
+abbrev pub TellsOnError : World → Option (Text × List Row) → Type 0
+TellsOnError world named =
     (rows : List Row) × (out : Text) × (libraries : List Text)
     × (named ≡ Some (codes "link", rows)) × (out_and_libraries rows ≡ Some (out, libraries))
-    × IsPlace Leads (is_quiet rows) (has_output rows) out (map_file rows) place.Error
+    × IsPlace world.leads (telling (is_quiet rows)) (out_by (has_output rows)) out (map_file rows) place.Error
 
 -- the document of files that are refused: the path of the file that the fault is in, and the fault
 -- with the name of what it is about
@@ -94,48 +133,47 @@ abbrev pub refusal_json : Text → Option (List ℕ) → Fault → List ℕ
 refusal_json path name f = codes "{\"path\":\"" ++ json_text path ++ codes "\",\"fault\":"
     ++ fault_json name f ++ codes "}\n"
 
-abbrev pub refusal_of : List Text → List ℕ → List (List ℕ) → Fault → List ℕ
-refusal_of paths host libs f = refusal_json (path_of paths f.file) (fault_name host libs f) f
-
--- by that document, where nothing is made of files since they are refused
-abbrev pub PrintsUnmade : Unmade → List Text → List ℕ → List (List ℕ) → Option (List ℕ)
+-- by that document, if a document is asked for, and else by nothing
+abbrev pub PrintsFault : Bool → List Text → Option (List ℕ) → Fault → Option (List ℕ)
     → Option (List ℕ) → Type 0
-PrintsUnmade (unmade.Refused f) paths host libs old new =
-    Appends old new (refusal_of paths host libs f)
-PrintsUnmade unmade.Memory paths host libs old new = ⊥
+PrintsFault true paths name f old new =
+    Appends old new (refusal_json (path_of paths f.file) name f)
+PrintsFault false paths name f old new = new ≡ old
 
--- by that document, of why a text of these files is not made, if it is to be a document
-abbrev pub PrintsRefusal : (Text → List ℕ → Type 0) → TextKind → Bool → Text → List Text
-    → ℕ → Option (List ℕ) → Option (List ℕ) → Type 0
-PrintsRefusal Reads k json path paths status old new =
-    (json ≡ true) × (status ≡ 1) × (host : List ℕ) × (libs : List (List ℕ)) × (f : Fault)
-    × Reads path host × AllZip Reads paths libs × CanRefuse k host libs f
-    × Appends old new (refusal_of (path ∷ paths) host libs f)
+-- so, of files that were read at these paths, with status 1: of their faults it is the one for which this
+-- text of them is not made
+abbrev pub PrintsRefusal : World → TextKind → Bool → Text → List Text → ℕ → Option (List ℕ)
+    → Option (List ℕ) → Type 0
+PrintsRefusal world k json path paths status old new =
+    (status ≡ 1) × (host : List ℕ) × (libs : List (List ℕ)) × (f : Fault)
+    × Reads world path host × AllZip (Reads world) paths libs × CanRefuse k host libs f
+    × PrintsFault json (path ∷ paths) (fault_name host libs f) f old new
 
--- a text of files is printed, or with `json` the document of why it is not made
+-- a text of files is printed, or that they are refused
 abbrev pub IsPrinted : TextKind → Bool → Bool → List Text → List ℕ → List (List ℕ) → ℕ
     → Option (List ℕ) → Option (List ℕ) → Type 0
 IsPrinted k strict json paths host libs status old new =
     ((text : List ℕ) × IsTextOf k strict paths host libs status text × Appends old new text)
-    ⊎ ((json ≡ true) × (status ≡ 1) × (f : Fault) × CanRefuse k host libs f
-    × Appends old new (refusal_of paths host libs f))
+    ⊎ ((status ≡ 1) × (f : Fault) × CanRefuse k host libs f
+    × PrintsFault json paths (fault_name host libs f) f old new)
 
--- by a text, or by the document of a refusal
-abbrev pub PrintsOrRefuses : (Text → List ℕ → Type 0) → TextKind → Bool → Text → List Text
-    → ℕ → Option (List ℕ) → Option (List ℕ) → Type 0
-PrintsOrRefuses Reads k json path paths status old new =
-    PrintsTextOf Reads k false path paths status old new
-    ⊎ PrintsRefusal Reads k json path paths status old new
+-- by a text; or the files are refused
+abbrev pub PrintsOrRefuses : World → TextKind → Bool → Text → List Text → ℕ → Option (List ℕ)
+    → Option (List ℕ) → Type 0
+PrintsOrRefuses world k json path paths status old new =
+    PrintsTextOf world k false path paths status old new
+    ⊎ PrintsRefusal world k json path paths status old new
 
--- by a summary, or by the document of a refusal
-abbrev pub LinksOrRefuses : (Text → List ℕ → Type 0) → (Text → List ℕ → Type 0)
-    → (Text → Bool → Type 0) → List Row → Text → ℕ → Option (List ℕ) → Option (List ℕ)
-    → Option (List ℕ) → Option (List ℕ) → Type 0
-LinksOrRefuses Reads Writes Leads rows path status old new old_err new_err =
-    ((status ≡ 0) × PrintsLink Reads Writes Leads rows path old new old_err new_err)
+-- by a summary; or the files are refused, and no file was created
+abbrev pub LinksOrRefuses : {S : Type 0} → (S → World) → List Row → Text → ℕ → S → S
+    → Option (List ℕ) → Option (List ℕ) → Option (List ℕ) → Option (List ℕ) → Type 0
+LinksOrRefuses world rows path status before after old new old_err new_err =
+    ((status ≡ 0) × PrintsLink world rows path before after old new old_err new_err)
     ⊎ ((out : Text) × (libraries : List Text)
     × (out_and_libraries rows ≡ Some (out, libraries))
-    × PrintsRefusal Reads (kind.Map Lines) (is_json rows) path libraries status old new)
+    × PrintsRefusal (world before) (kind.OfLink of_link.Map Lines) (is_json rows) path libraries
+    status old new
+    × ((world after).log ≡ (world before).log))
 
 -- by nothing, where the file at a path cannot be read; or in a document by an item that says so
 abbrev pub PrintsUnread : ListForm → Bool → Text → Option (List ℕ) → Option (List ℕ)
@@ -146,22 +184,22 @@ PrintsUnread how first path old new = new ≡ old
 
 -- by the list of the file that was read at a path, which ends with its status; or by what there is
 -- of a file that was not read, or not listed
-abbrev pub IsListed : (Text → List ℕ → Type 0) → (Text → Type 0) → ListForm → Bool → Text → ℕ
+abbrev pub IsListed : World → ListForm → Bool → Text → ℕ
     → Option (List ℕ) → Option (List ℕ) → Type 0
-IsListed Reads Unread how first path status old new =
-    ((file : List ℕ) × (text : List ℕ) × Reads path file × (status ≡ list_status how file)
+IsListed world how first path status old new =
+    ((file : List ℕ) × (text : List ℕ) × Reads world path file × (status ≡ list_status how file)
     × IsListText (is_code_type file) how first path file text × Appends old new text)
-    ⊎ ((status ≡ 3) × Unread path × PrintsUnread how first path old new)
+    ⊎ ((status ≡ 3) × IsNotRead world path × PrintsUnread how first path old new)
 
 -- by the lists of the files at these paths, one after another, of which the first is that of all or
 -- not; they end with the greatest status
-abbrev pub PrintsFiles : (Text → List ℕ → Type 0) → (Text → Type 0) → ListForm → Bool → List Text
+abbrev pub PrintsFiles : World → ListForm → Bool → List Text
     → ℕ → Option (List ℕ) → Option (List ℕ) → Type 0
-PrintsFiles Reads Unread how is_first [] status old new = (status ≡ 0) × (new ≡ old)
-PrintsFiles Reads Unread how is_first (path ∷ paths) status old new =
+PrintsFiles world how is_first [] status old new = (status ≡ 0) × (new ≡ old)
+PrintsFiles world how is_first (path ∷ paths) status old new =
     (first : ℕ) × (rest : ℕ) × (between : Option (List ℕ))
-    × IsListed Reads Unread how is_first path first old between
-    × PrintsFiles Reads Unread how false paths rest between new × (status ≡ max first rest)
+    × IsListed world how is_first path first old between
+    × PrintsFiles world how false paths rest between new × (status ≡ max first rest)
 
 -- what a document of lists has before its items and after them
 abbrev pub document_start : List ℕ
@@ -171,23 +209,23 @@ abbrev pub document_end : List ℕ
 document_end = codes "\n]}\n"
 
 -- by one document of the lists of the files at these paths
-abbrev pub PrintsDocument : (Text → List ℕ → Type 0) → (Text → Type 0) → ListForm → List Text → ℕ
+abbrev pub PrintsDocument : World → ListForm → List Text → ℕ
     → Option (List ℕ) → Option (List ℕ) → Type 0
-PrintsDocument Reads Unread how paths status old new =
+PrintsDocument world how paths status old new =
     (started : Option (List ℕ)) × (ended : Option (List ℕ))
     × Appends old started document_start
-    × PrintsFiles Reads Unread how true paths status started ended
+    × PrintsFiles world how true paths status started ended
     × Appends ended new document_end
 
 -- by the lists of the files at these paths; or by one document of them
-abbrev pub PrintsLists : (Text → List ℕ → Type 0) → (Text → Type 0) → ListForm → List Text → ℕ
+abbrev pub PrintsLists : World → ListForm → List Text → ℕ
     → Option (List ℕ) → Option (List ℕ) → Type 0
-PrintsLists Reads Unread form.Json paths status old new =
-    PrintsDocument Reads Unread form.Json paths status old new
-PrintsLists Reads Unread form.JsonUnits paths status old new =
-    PrintsDocument Reads Unread form.JsonUnits paths status old new
-PrintsLists Reads Unread how paths status old new =
-    PrintsFiles Reads Unread how true paths status old new
+PrintsLists world form.Json paths status old new =
+    PrintsDocument world form.Json paths status old new
+PrintsLists world form.JsonUnits paths status old new =
+    PrintsDocument world form.JsonUnits paths status old new
+PrintsLists world how paths status old new =
+    PrintsFiles world how true paths status old new
 
 -- how a list is printed
 abbrev pub list_form : Bool → ListForm
@@ -201,33 +239,32 @@ units_form true = form.JsonUnits
 
 -- by a report of a host and libraries; or by the lists of these files, each with its units by
 -- themselves
-abbrev pub PrintsCheck : (Text → List ℕ → Type 0) → (Text → Type 0) → Bool → Text → List Text
+abbrev pub PrintsCheck : World → Bool → Text → List Text
     → Bool → Bool → ℕ → Option (List ℕ) → Option (List ℕ) → Type 0
-PrintsCheck Reads Unread false path paths strict json status old new =
-    PrintsTextOf Reads (kind.Check (form_of json)) strict path paths status old new
-PrintsCheck Reads Unread true path paths strict json status old new =
-    PrintsLists Reads Unread (units_form json) (path ∷ paths) status old new
+PrintsCheck world false path paths strict json status old new =
+    PrintsTextOf world (kind.Named (of_named.Check (form_of json))) strict path paths status old new
+PrintsCheck world true path paths strict json status old new =
+    PrintsLists world (units_form json) (path ∷ paths) status old new
 
 -- by what the command that is named prints of the files that are named for it, which ends with this
--- status; of standard error it says only what a link prints there
-abbrev pub Prints : (Text → List ℕ → Type 0) → (Text → Type 0) → (Text → List ℕ → Type 0)
-    → (Text → Bool → Type 0) → Option (Text × List Row) → ℕ → Option (List ℕ)
-    → Option (List ℕ) → Option (List ℕ) → Option (List ℕ) → Type 0
-Prints Reads Unread Writes Leads named status old new old_err new_err =
+-- status; of standard error it says only what a link prints there. No command but a link creates a file.
+abbrev pub Prints : {S : Type 0} → (S → World) → Option (Text × List Row) → ℕ → S → S
+    → Option (List ℕ) → Option (List ℕ) → Option (List ℕ) → Option (List ℕ) → Type 0
+Prints world named status before after old new old_err new_err =
     (rows : List Row) × (path : Text) × (
     ((named ≡ Some (codes "link", rows)) × (host_of rows ≡ Some path)
-    × LinksOrRefuses Reads Writes Leads rows path status old new old_err new_err)
+    × LinksOrRefuses world rows path status before after old new old_err new_err)
     ⊎ ((named ≡ Some (codes "map", rows)) × (host_of rows ≡ Some path)
-    × PrintsOrRefuses Reads (map_kind (has_references rows) (is_json rows)) (is_json rows) path
-    (libraries_of rows) status old new)
+    × PrintsOrRefuses (world before) (map_kind (has_references rows) (is_json rows)) (is_json rows)
+    path (libraries_of rows) status old new)
     ⊎ ((named ≡ Some (codes "show", rows)) × (file_of rows ≡ Some path)
-    × PrintsOrRefuses Reads (kind.Show (form_of (is_json rows))) (is_json rows) path [] status
-    old new)
+    × PrintsOrRefuses (world before) (kind.OfHost (of_host.Show (form_of (is_json rows))))
+    (is_json rows) path [] status old new)
     ⊎ ((named ≡ Some (codes "check", rows)) × (host_of rows ≡ Some path)
-    × PrintsCheck Reads Unread (is_unit rows) path (libraries_of rows) (is_strict rows)
+    × PrintsCheck (world before) (is_unit rows) path (libraries_of rows) (is_strict rows)
     (is_json rows) status old new)
     ⊎ ((named ≡ Some (codes "list", rows))
-    × PrintsLists Reads Unread (list_form (is_json rows)) (files_of rows) status old new))
+    × PrintsLists (world before) (list_form (is_json rows)) (files_of rows) status old new))
 
 -- `pslink 0.4.0`
 abbrev pub version_line : List ℕ

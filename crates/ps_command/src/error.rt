@@ -5,16 +5,11 @@ ghost use Rattle.ps_command.specs.declared.error.CommandError.TheVariants as tol
 ghost use Rattle.ps_command.specs.declared.error.FileError.TheVariants as file;
 ghost use Rattle.ps_command.specs.declared.error.RunError.TheVariants as run;
 ghost use Rattle.ps_arguments.specs.declared.usage.UsageError.TheVariants as usage;
-ghost use Rattle.ps_outputs.specs.declared.unlinked.Unlinked.TheVariants as unlinked;
-ghost use Rattle.ps_words.specs.declared.fault.Fault.{Fault};
-ghost use Rattle.ps_writing.specs.declared.write_fault.WriteFault.{WriteFault};
-ghost use Rattle.ps_command.specs.Causes.{cause_of, run_error_of, run_error_of_unmade, told_of, told_of_file, told_of_usage, told_with_cause as told_with_cause_spec};
+ghost use Rattle.ps_command.specs.Causes.{cause_of, told_of, told_of_file, told_of_usage, told_with_cause as told_with_cause_spec};
 ghost use Rattle.ps_command.specs.Statuses.{status_of};
 
 use ps_arguments::{UsageError, UsageText, WrongArgument};
 use ps_filetype::ShownPath;
-use ps_outputs::Unlinked;
-use ps_texts::Unmade;
 use ps_words::Fault;
 use ps_writing::WriteFault;
 use std::alloc::{AllocError, AllocFailed};
@@ -116,8 +111,6 @@ impl<'a> FileError<'a> {
 /// Why a command was not done that the command line asks for.
 #[derive(Drop)]
 pub(crate) enum RunError<'a> {
-    /// The files are refused.
-    Refused(Fault),
     /// The files are not read.
     File(FileError<'a>),
     /// The files of a check are not read: its line names the cause.
@@ -158,30 +151,6 @@ impl From<WriteFault> for RunError<'_> {
     /// What could not be written is standard output, since a file is named where it is written.
     fn from(_fault: WriteFault) -> Self {
         RunError::StandardOutput
-    }
-}
-
-impl From<Unmade> for RunError<'_> {
-    ghost from_gives = { λ why e. e ≡ run_error_of_unmade why };
-
-    fn from(why: Unmade) -> Self {
-        match why {
-            Unmade::Refused(fault) => RunError::Refused(fault),
-            Unmade::Memory => RunError::Memory,
-        }
-    }
-}
-
-impl<'a> From<Unlinked<'a>> for RunError<'a> {
-    ghost from_gives = { λ error e. (e ≡ run_error_of error) × (error ≡ unlinked.StandardOutput → e ≡ run.StandardOutput) };
-
-    fn from(error: Unlinked<'a>) -> Self {
-        match error {
-            Unlinked::Refused(fault) => RunError::Refused(fault),
-            Unlinked::Memory => RunError::Memory,
-            Unlinked::Write { path } => RunError::Write { path },
-            Unlinked::StandardOutput => RunError::StandardOutput,
-        }
     }
 }
 
@@ -249,11 +218,10 @@ impl From<UsageError> for CommandError<'_> {
 }
 
 impl<'a> From<RunError<'a>> for CommandError<'a> {
-    ghost from_gives = { λ error e. (e ≡ told_of error) × (error ≡ run.StandardOutput → status_of e ≡ 3) × (status_of e ≡ 1 → (fault : Fault) × (error ≡ run.Refused fault)) };
+    ghost from_gives = { λ error e. (e ≡ told_of error) × (error ≡ run.StandardOutput → status_of e ≡ 3) × (status_of e ≢ 1) };
 
     fn from(error: RunError<'a>) -> Self {
         match error {
-            RunError::Refused(fault) => CommandError::Refused(fault),
             RunError::File(error) => error.told(),
             RunError::Unchecked(error) => error.told_with_cause(),
             RunError::Write { path } => CommandError::Write { path },

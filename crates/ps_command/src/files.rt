@@ -1,14 +1,14 @@
 //! Files that are read whole.
-ghost use Rattle.std.specs.Prelude.{◌≡◌, ◌≤◌, length, map, IfErr, IfOk, IfSome};
+ghost use Rattle.std.specs.Prelude.{◌≡◌, ◌≢◌, ◌≤◌, length, map, IfErr, IfOk, IfSome};
 ghost use Rattle.std.specs.List.{AllZip};
 ghost use Rattle.ps_command.specs.Causes.{read_error};
 ghost use Rattle.ps_command.specs.ReadFaults.{IsReadFault, IsTooLong};
-ghost use Rattle.ps_outputs.specs.FilesRead.{Reads};
+ghost use Rattle.ps_output_files.specs.World.{Reads};
 ghost use Rattle.ps_command.specs.declared.files.FileFault.TheVariants.{Memory};
 
 use crate::error::{Cause, FileError};
 use ps_arguments::{Inputs, SameFile};
-use ps_outputs::CodeFiles;
+use ps_output_files::CodeFiles;
 use std::alloc::{AllocError, AllocFailed, Allocator};
 use std::io::Read;
 
@@ -18,11 +18,16 @@ pub(crate) const LONGEST: usize = 67_108_864;
 /// How many bytes a read requests.
 const CHUNK: usize = 16_384;
 
+/// The most reads of a file: each that is not the last gives a byte at least.
+const READS: usize = LONGEST + 1;
+
 /// Why a file was not read whole.
 #[derive(Clone, Copy)]
 pub(crate) enum FileFault {
     Device(Cause),
     TooLong,
+    /// It gave bytes in every read that it may take: no file is read so.
+    Endless,
     Memory,
 }
 
@@ -50,6 +55,10 @@ impl FileFault {
         match self {
             FileFault::Device(cause) => FileError::Read { path, cause },
             FileFault::TooLong => FileError::TooLong { path },
+            FileFault::Endless => FileError::Read {
+                path,
+                cause: Cause::Other,
+            },
             FileFault::Memory => FileError::Memory,
         }
     }
@@ -60,6 +69,8 @@ impl FileFault {
 pub(crate) struct Paths<'r, R: CodeFiles>(pub(crate) &'r R);
 
 impl<R: CodeFiles> SameFile for Paths<'_, R> {
+    ghost one_file = { λ paths. (R.world paths.0.now).one_file };
+
     fn lead_to_one_file(&self, path: &str, other: &str) -> bool {
         self.0.lead_to_one_file(path, other)
     }
@@ -78,10 +89,10 @@ pub(crate) fn read_inputs<'a, R: CodeFiles, A: Allocator + Copy>(
     alloc: A,
     inputs: &Inputs<'a, A>,
 ) -> Result<InputBytes<A>, FileError<'a>>
-    ensures host { IfOk result (λ contents. Reads (R.opened rt.now) R.Opened.remaining
+    ensures host { IfOk result (λ contents. Reads (R.world rt.now)
         inputs.now.host.now contents.host.items) }
     ensures libraries { IfOk result (λ contents. AllZip
-        (Reads (R.opened rt.now) R.Opened.remaining)
+        (Reads (R.world rt.now))
         (map (λ path. path.now) inputs.now.libraries.items)
         (map (λ library. library.items) contents.libraries.items)) }
 {
@@ -100,12 +111,11 @@ pub(crate) fn read<R: CodeFiles, A: Allocator + Copy>(
     path: &str,
 ) -> Result<Vec<u8, A>, FileFault>
     ensures bound { IfOk result (λ bytes. length bytes.items ≤ LONGEST) }
-    ensures whole { IfOk result (λ bytes. Reads (R.opened rt.now) R.Opened.remaining path.now
+    ensures whole { IfOk result (λ bytes. Reads (R.world rt.now) path.now
         bytes.items) }
 
     // No file could be opened; or one was, and a read failed, it is too long or memory ran out.
-    ensures why { IfErr result (IsReadFault (R.unopened rt.now) (R.opened rt.now)
-        R.Opened.remaining path.now) }
+    ensures why { IfErr result (IsReadFault (R.world rt.now) path.now) }
 {
     let mut file = match rt.open(path) {
         Ok(file) => file,
@@ -121,7 +131,7 @@ pub(crate) fn read_at<'a, R: CodeFiles, A: Allocator + Copy>(
     alloc: A,
     path: &'a str,
 ) -> Result<Vec<u8, A>, FileError<'a>>
-    ensures { IfOk result (λ bytes. Reads (R.opened rt.now) R.Opened.remaining path.entry.now
+    ensures { IfOk result (λ bytes. Reads (R.world rt.now) path.entry.now
         bytes.items) }
 {
     match read(rt, alloc, path) {
@@ -130,7 +140,7 @@ pub(crate) fn read_at<'a, R: CodeFiles, A: Allocator + Copy>(
     }
 }
 
-/// Reads what is left, in at most `LONGEST + 1` reads. No read is repeated after an error. There is
+/// Reads what is left, in at most `READS` reads. No read is repeated after an error. There is
 /// room for `hint` bytes from the start, so that no more memory is taken where so many are left: a
 /// read that finds the end takes none.
 fn read_to_end<F: Read, A: Allocator + Copy>(
@@ -143,10 +153,12 @@ fn read_to_end<F: Read, A: Allocator + Copy>(
         (λ left. bytes.items ≡ left)) }
     ensures long { IfErr result (λ fault. fault ≡ FileFault.TooLong
         → IsTooLong (F.remaining file.old)) }
+    ensures ended { IfErr result (λ fault. fault ≢ FileFault.Endless) }
 {
     let mut all = Vec::with_capacity(alloc, hint.min(LONGEST))?;
     let mut chunk = [0u8; CHUNK];
-    'read: for _ in 0..=LONGEST {
+    'read: for turn in 0..READS {
+        prove!(turn <= all.len());
         let n = match file.read(&mut chunk) {
             Ok(n) => n,
             Err(error) => return Err(FileFault::Device(Cause::of(error.kind()))),
@@ -159,5 +171,5 @@ fn read_to_end<F: Read, A: Allocator + Copy>(
         }
         all.extend_from_slice(&chunk[..n])?;
     }
-    Err(FileFault::Device(Cause::Other))
+    Err(FileFault::Endless)
 }

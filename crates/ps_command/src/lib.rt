@@ -1,5 +1,6 @@
 //! What the program `pslink` does: one command, from its arguments to its status. `run` does it over
-//! any runtime, allocator and writers, and `run_process` with the arguments of a process.
+//! the files of a runtime and any allocator and writers, `run_with_files` over any files too, and
+//! `run_process` with the arguments of a process.
 #![tactic(auto)]
 
 mod ended;
@@ -12,5 +13,5 @@ mod refusal;
 mod running;
 
 pub use process::run_process;
-pub use ps_outputs::CodeFiles;
-pub use running::run;
+pub use ps_output_files::CodeFiles;
+pub use running::{run, run_with_files};

@@ -1,15 +1,13 @@
 //! A link: its files are read and checked, OUT is written, then its map, and the summary is printed.
-ghost use Rattle.std.specs.Prelude.{◌≡◌, ◌≢◌, ◌⊎◌, List, IfErr, IfOk, map, option_map};
-ghost use Rattle.std.specs.List.{AllZip};
+ghost use Rattle.std.specs.Prelude.{◌≡◌, ◌≢◌, ◌⊎◌, List, IfErr, IfOk, map};
 ghost use Rattle.ps_arguments.specs.CommandLine.{Row};
 ghost use Rattle.ps_arguments.specs.Requests.{NamesLink};
-ghost use Rattle.ps_command.specs.Links.{IsLinked, outputs_of as outputs_of_spec};
-ghost use Rattle.ps_command.specs.Printed.{LinksOrRefuses, form_of as form_of_spec};
-ghost use Rattle.ps_command.specs.Statuses.{ended_status};
-ghost use Rattle.ps_outputs.specs.FilesRead.{Reads, Writes};
-ghost use Rattle.ps_outputs.specs.Links.{IsPlaceOf};
-ghost use Rattle.ps_outputs.specs.Places.{IsPlace};
-ghost use Rattle.ps_outputs.specs.declared.linking.Place.TheVariants as place;
+ghost use Rattle.ps_command.specs.Causes.{told_of};
+ghost use Rattle.ps_command.specs.Links.{IsLinked, LeavesPart, outputs_of as outputs_of_spec};
+ghost use Rattle.ps_command.specs.Printed.{LinkLeavesPart, LinksOrRefuses, form_of as form_of_spec, map_content as map_content_spec, out_by as out_by_spec, telling as telling_spec};
+ghost use Rattle.ps_command.specs.Statuses.{ended_status, status_of};
+ghost use Rattle.ps_output_files.specs.Links.{IsPlaceOf};
+ghost use Rattle.ps_output_files.specs.declared.linking.Place.TheVariants as place;
 ghost use Rattle.ps_texts.specs.Paths.{paths_in};
 ghost use Rattle.ps_texts.specs.Sources.{contents};
 
@@ -18,30 +16,35 @@ use crate::error::RunError;
 use crate::files;
 use crate::refusal::refuse;
 use ps_arguments::Link;
-use ps_outputs::{CodeFiles, Outputs, Unlinked, link_files};
-use ps_texts::{Form, NamedFiles, Unmade};
+use ps_output_files::{CodeFiles, MapContent, OutBy, Outputs, Telling, Unlinked, link_files};
+use ps_texts::{Form, NamedFiles, Refusal};
 use std::alloc::{AllocError, Allocator};
 use std::io::Write;
 
 /// Reads the files and links them. Returns how it ends.
 pub(crate) fn link<'a, R: CodeFiles, A: Allocator + Copy, O: Write, E: Write>(
-    rt: &R,
+    rt: &mut R,
     alloc: A,
     asked: Link<'a, A>,
     out: &mut O,
     err: &mut E,
 ) -> Result<Ended, RunError<'a>>
-    ensures ok { (rows : List Row) → NamesLink asked.entry rows
-        → IfOk result (λ ended. LinksOrRefuses (Reads (R.opened rt.now) R.Opened.remaining)
-        (Writes (R.created rt.now) (R.closed rt.now) R.Created.contents) (R.leads rt.now) rows
-        asked.entry.inputs.host.now (ended_status ended) (O.contents out.old) (O.contents out.new)
+    ensures ok { (rows : List Row) → NamesLink (R.world rt.old).one_file asked.entry rows
+        → IfOk result (λ ended. LinksOrRefuses R.world rows asked.entry.inputs.host.now
+        (ended_status ended) rt.old rt.new (O.contents out.old) (O.contents out.new)
         (E.contents err.old) (E.contents err.new)) }
+    ensures part { (rows : List Row) → NamesLink (R.world rt.old).one_file asked.entry rows
+        → IfErr result (λ _. ((R.world rt.new).log ≡ (R.world rt.old).log)
+        ⊎ LinkLeavesPart R.world rows asked.entry.inputs.host.now rt.old rt.new) }
+    ensures refused { IfOk result (λ ended. ended_status ended ≢ 0
+        → (R.world rt.new).log ≡ (R.world rt.old).log) }
+    ensures memory { IfErr result (λ e. status_of (told_of e) ≢ 3
+        → (R.world rt.new).log ≡ (R.world rt.old).log) }
     ensures silent { IfOk result (λ ended. ended_status ended ≡ 0 → (err.new ≡ err.old)
-        ⊎ IsPlace (R.leads rt.now) asked.entry.quiet asked.entry.by_option asked.entry.out.now
-        (option_map (λ path. path.now) asked.entry.map) place.Error) }
+        ⊎ IsPlaceOf (R.world rt.old) (outputs_of_spec asked.entry) place.Error) }
     ensures err { IfErr result (λ e. e ≢ RunError.StandardOutput → out.new ≡ out.old) }
 {
-    let bytes = files::read_inputs(rt, alloc, &asked.inputs)?;
+    let bytes = files::read_inputs(&*rt, alloc, &asked.inputs)?;
     let views = views(alloc, bytes.libraries.as_slice())?;
     let files = NamedFiles {
         host_path: asked.inputs.host,
@@ -52,42 +55,39 @@ pub(crate) fn link<'a, R: CodeFiles, A: Allocator + Copy, O: Write, E: Write>(
     link_read(rt, alloc, &files, &asked, out, err)
 }
 
-/// Links files that were read, and returns how it ends: files that are refused are reported here if a
-/// document of that is asked for.
+/// Links files that were read, and returns how it ends: files that are refused are reported here.
 fn link_read<'a, R: CodeFiles, A: Allocator + Copy, O: Write, E: Write>(
-    rt: &R,
+    rt: &mut R,
     alloc: A,
     files: &NamedFiles<'_>,
     asked: &Link<'a, A>,
     out: &mut O,
     err: &mut E,
 ) -> Result<Ended, RunError<'a>>
-    requires host { Reads (R.opened rt.now) R.Opened.remaining files.now.host_path.now
-        files.now.host.now }
-    requires libraries { AllZip (Reads (R.opened rt.now) R.Opened.remaining)
-        (contents files.now.paths.now) (contents files.now.libs.now) }
-    ensures ok { IfOk result (λ ended. IsLinked (Writes (R.created rt.now) (R.closed rt.now)
-        R.Created.contents) (R.leads rt.now) asked.now (paths_in files.now) files.now.host.now
-        (contents files.now.libs.now) ended (O.contents out.old) (O.contents out.new)
-        (E.contents err.old) (E.contents err.new)) }
+    ensures ok { IfOk result (λ ended. IsLinked R.world asked.now (paths_in files.now)
+        files.now.host.now (contents files.now.libs.now) ended rt.old rt.new (O.contents out.old)
+        (O.contents out.new) (E.contents err.old) (E.contents err.new)) }
+    ensures part { IfErr result (λ _. ((R.world rt.new).log ≡ (R.world rt.old).log)
+        ⊎ LeavesPart asked.now files.now.host.now (contents files.now.libs.now)
+        (R.world rt.old).log (R.world rt.new).log) }
+    ensures refused { IfOk result (λ ended. ended ≢ Ended.Done
+        → (R.world rt.new).log ≡ (R.world rt.old).log) }
+    ensures memory { IfErr result (λ e. status_of (told_of e) ≢ 3
+        → (R.world rt.new).log ≡ (R.world rt.old).log) }
     ensures silent { IfOk result (λ ended. ended ≡ Ended.Done → (err.new ≡ err.old)
-        ⊎ IsPlaceOf (R.leads rt.now) (outputs_of_spec asked.now) place.Error) }
+        ⊎ IsPlaceOf (R.world rt.old) (outputs_of_spec asked.now) place.Error) }
     ensures err { IfErr result (λ e. e ≢ RunError.StandardOutput → out.new ≡ out.old) }
 {
-    match link_files(
-        rt,
-        alloc,
-        files.host,
-        files.libs,
-        &outputs_of(asked),
-        out,
-        err,
-    ) {
+    let outputs = outputs_of(asked);
+    match link_files(rt, alloc, files.host, files.libs, &outputs, out, err) {
         Ok(()) => Ok(Ended::Done),
         Err(Unlinked::Refused(fault)) => {
-            refuse(files, Unmade::Refused(fault), asked.json, out, err)
+            let refusal = Refusal::of(files.host, files.libs, fault);
+            Ok(refuse(files, refusal, asked.json, out, err)?)
         }
-        Err(error) => Err(RunError::from(error)),
+        Err(Unlinked::Memory) => Err(RunError::Memory),
+        Err(Unlinked::Write { path }) => Err(RunError::Write { path }),
+        Err(Unlinked::StandardOutput) => Err(RunError::StandardOutput),
     }
 }
 
@@ -97,11 +97,41 @@ fn outputs_of<'a, A: Allocator>(asked: &Link<'a, A>) -> Outputs<'a>
 {
     Outputs {
         out: asked.out,
-        by_option: asked.by_option,
+        named: out_by(asked.by_option),
         map: asked.map,
-        references: asked.references,
+        content: map_content(asked.references),
         form: form_of(asked.json),
-        quiet: asked.quiet,
+        telling: telling(asked.quiet),
+    }
+}
+
+fn out_by(by_option: bool) -> OutBy
+    ensures { result ≡ out_by_spec by_option }
+{
+    if by_option {
+        OutBy::Option
+    } else {
+        OutBy::Place
+    }
+}
+
+fn map_content(references: bool) -> MapContent
+    ensures { result ≡ map_content_spec references }
+{
+    if references {
+        MapContent::References
+    } else {
+        MapContent::Places
+    }
+}
+
+fn telling(quiet: bool) -> Telling
+    ensures { result ≡ telling_spec quiet }
+{
+    if quiet {
+        Telling::Nothing
+    } else {
+        Telling::Summary
     }
 }
 

@@ -4,15 +4,13 @@ ghost use Rattle.std.specs.Io.KnownBytes.{Appends};
 ghost use Rattle.ps_listing.specs.FileLists.{is_refused_in, listed};
 ghost use Rattle.ps_command.specs.Printed.{IsListed, PrintsDocument, PrintsFiles, PrintsLists, PrintsUnread};
 ghost use Rattle.ps_command.specs.Causes.{unread_error};
-ghost use Rattle.ps_command.specs.ReadFaults.{IsUnread};
-ghost use Rattle.ps_outputs.specs.FilesRead.{Reads};
 ghost use Rattle.ps_command.specs.Statuses.{ended_status};
 
 use crate::ended::Ended;
 use crate::error::{Cause, CommandError};
 use crate::files::{self, FileFault};
 use ps_listing::{ListForm, ListItem, ListedFile, UnreadItem};
-use ps_outputs::CodeFiles;
+use ps_output_files::CodeFiles;
 use ps_writing::{WriteFault, write_all_of, write_text};
 use std::alloc::Allocator;
 use std::io::Write;
@@ -61,6 +59,10 @@ fn unread<'a>(path: &'a str, fault: FileFault) -> CommandError<'a>
     match fault {
         FileFault::Device(cause) => CommandError::Unreadable { path, cause },
         FileFault::TooLong => CommandError::TooLong { path },
+        FileFault::Endless => CommandError::Unreadable {
+            path,
+            cause: Cause::Other,
+        },
         FileFault::Memory => CommandError::Unreadable {
             path,
             cause: Cause::Memory,
@@ -97,8 +99,7 @@ fn print_list<R: CodeFiles, A: Allocator + Copy, O: Write, E: Write>(
     out: &mut O,
     err: &mut E,
 ) -> Result<Ended, WriteFault>
-    ensures ok { IfOk result (λ ended. IsListed (Reads (R.opened rt.now) R.Opened.remaining)
-        (IsUnread (R.unopened rt.now) (R.opened rt.now) R.Opened.remaining) how first path.now
+    ensures ok { IfOk result (λ ended. IsListed (R.world rt.now) how first path.now
         (ended_status ended) (O.contents out.old) (O.contents out.new)) }
     ensures silent { IfOk result (λ ended. ended_status ended ≡ 0 → err.new ≡ err.old) }
 {
@@ -123,8 +124,7 @@ fn print_files<'a, R: CodeFiles, A: Allocator + Copy, O: Write, E: Write>(
     out: &mut O,
     err: &mut E,
 ) -> Result<Ended, WriteFault>
-    ensures ok { IfOk result (λ ended. PrintsFiles (Reads (R.opened rt.now) R.Opened.remaining)
-        (IsUnread (R.unopened rt.now) (R.opened rt.now) R.Opened.remaining) how true
+    ensures ok { IfOk result (λ ended. PrintsFiles (R.world rt.now) how true
         (map (λ path. path.now) paths.now) (ended_status ended) (O.contents out.old)
         (O.contents out.new)) }
     ensures silent { IfOk result (λ ended. ended_status ended ≡ 0 → err.new ≡ err.old) }
@@ -149,8 +149,7 @@ fn print_document<'a, R: CodeFiles, A: Allocator + Copy, O: Write, E: Write>(
     out: &mut O,
     err: &mut E,
 ) -> Result<Ended, WriteFault>
-    ensures ok { IfOk result (λ ended. PrintsDocument (Reads (R.opened rt.now) R.Opened.remaining)
-        (IsUnread (R.unopened rt.now) (R.opened rt.now) R.Opened.remaining) how
+    ensures ok { IfOk result (λ ended. PrintsDocument (R.world rt.now) how
         (map (λ path. path.now) paths.now) (ended_status ended) (O.contents out.old)
         (O.contents out.new)) }
     ensures silent { IfOk result (λ ended. ended_status ended ≡ 0 → err.new ≡ err.old) }
@@ -171,8 +170,7 @@ pub(crate) fn print_lists<'a, R: CodeFiles, A: Allocator + Copy, O: Write, E: Wr
     out: &mut O,
     err: &mut E,
 ) -> Result<Ended, WriteFault>
-    ensures ok { IfOk result (λ ended. PrintsLists (Reads (R.opened rt.now) R.Opened.remaining)
-        (IsUnread (R.unopened rt.now) (R.opened rt.now) R.Opened.remaining) how
+    ensures ok { IfOk result (λ ended. PrintsLists (R.world rt.now) how
         (map (λ path. path.now) paths.now) (ended_status ended) (O.contents out.old)
         (O.contents out.new)) }
     ensures silent { IfOk result (λ ended. ended_status ended ≡ 0 → err.new ≡ err.old) }

@@ -1,17 +1,15 @@
 //! One command, from its arguments to its status.
-ghost use Rattle.std.specs.Prelude.{◌≡◌, ◌≢◌, ◌≤◌, ◌⊎◌, ◌∷◌, [], List, Option, IfErr, IfOk, OnOk, false, map};
+ghost use Rattle.std.specs.Prelude.{◌≡◌, ◌≢◌, ◌≤◌, ◌⊎◌, ◌∷◌, [], List, Option, IfErr, IfOk, OnOk, map};
 ghost use Rattle.std.specs.Io.KnownBytes.{Appends};
 ghost use Rattle.ps_texts.specs.Sources.{contents};
 ghost use Rattle.ps_texts.specs.Paths.{paths_in};
 ghost use Rattle.ps_texts.specs.Texts.{bytes_in, status_in};
-ghost use Rattle.ps_texts.specs.Unmade.{CanRefuse};
 ghost use Rattle.ps_arguments.specs.CommandLine.{AreAccepted, AskForText, Row, Text, faults_in, named_in, texts};
-ghost use Rattle.ps_command.specs.Printed.{IsPrinted, Prints, PrintsLists, PrintsOrRefuses, PrintsText, PrintsTextOf, TellsOnError, list_form as list_form_spec, map_kind as map_kind_spec, units_form as units_form_spec};
-ghost use Rattle.ps_command.specs.ReadFaults.{IsUnread};
-ghost use Rattle.ps_outputs.specs.FilesRead.{Reads, Writes};
-ghost use Rattle.ps_arguments.specs.Requests.{IsNamedCommand, NamesCheck, NamesDocument, NamesList};
+ghost use Rattle.ps_arguments.specs.Requests.{IsNamedCommand, NamesNoLink};
+ghost use Rattle.ps_command.specs.Causes.{told_of};
+ghost use Rattle.ps_command.specs.Printed.{IsPrinted, NamedLeavesPart, Prints, PrintsLists, PrintsOrRefuses, PrintsText, PrintsTextOf, TellsOnError, list_form as list_form_spec, map_kind as map_kind_spec, units_form as units_form_spec};
 ghost use Rattle.ps_command.specs.Statuses.{ended_status, status_of};
-ghost use Rattle.ps_words.specs.declared.fault.Fault.{Fault};
+ghost use Rattle.ps_output_files.specs.World.{unknown_world};
 
 use crate::ended::Ended;
 use crate::error::{CommandError, RunError};
@@ -20,11 +18,14 @@ use crate::linking::{form_of, link, views};
 use crate::lists::print_lists;
 use crate::refusal::refuse;
 use ps_arguments::{Inputs, Request, Task, parse};
-use ps_outputs::CodeFiles;
-use ps_texts::{FilesText, Form, ListForm, NamedFiles, TextKind, text_of};
+use ps_output_files::CodeFiles;
+use ps_texts::{
+    FilesText, Form, HostText, LinkText, ListForm, NamedFiles, NamedText, TextKind, Unmade, text_of,
+};
 use ps_writing::{WriteFault, write_all_of, write_text};
-use std::alloc::Allocator;
+use std::alloc::{Allocator, Global};
 use std::io::Write;
+use std::rt::Files;
 
 /// Does the command that `args` name, of which the first is the program's name, and returns the
 /// status of the process.
@@ -50,8 +51,34 @@ use std::io::Write;
 ///
 /// Memory for the arguments is taken from `rt`, all other from `alloc`. Source: this project's
 /// profile.
-pub fn run<R: CodeFiles + AllocGlobal, A: Allocator + Copy, O: Write, E: Write>(
+pub fn run<R: Files + AllocGlobal, A: Allocator + Copy, O: Write, E: Write>(
     rt: &R,
+    alloc: A,
+    args: &[&str],
+    out: &mut O,
+    err: &mut E,
+) -> u8
+    ensures known { result ≤ 4 }
+    ensures printed { faults_in (texts args.now) ≡ [] → result ≡ 0
+        → Prints (λ _. unknown_world) (named_in (texts args.now)) 0 rt.now rt.now (O.contents out.old)
+        (O.contents out.new) (E.contents err.old) (E.contents err.new) }
+    ensures accepted { AreAccepted (texts args.now) → result ≡ 0 → faults_in (texts args.now) ≡ [] }
+    ensures helped { result ≡ 0 → faults_in (texts args.now) ≢ []
+        → PrintsText (faults_in (texts args.now)) (O.contents out.old) (O.contents out.new) }
+    ensures asked { AskForText (texts args.now) → result ≢ 3 → result ≢ 4 → result ≡ 0 }
+    ensures reported { result ≡ 1
+        → Prints (λ _. unknown_world) (named_in (texts args.now)) 1 rt.now rt.now (O.contents out.old)
+        (O.contents out.new) (E.contents err.old) (E.contents err.new) }
+    ensures unprinted { result ≢ 0 → result ≢ 1 → result ≢ 3 → out.new ≡ out.old }
+{
+    let mut files = rt;
+    run_with_files(&mut files, rt.alloc(), alloc, args, out, err)
+}
+
+/// Does the command that `args` name, as `run` does, over any files.
+pub fn run_with_files<F: CodeFiles, A: Allocator + Copy, O: Write, E: Write>(
+    files: &mut F,
+    heap: Global,
     alloc: A,
     args: &[&str],
     out: &mut O,
@@ -62,16 +89,15 @@ pub fn run<R: CodeFiles + AllocGlobal, A: Allocator + Copy, O: Write, E: Write>(
     // Nothing is written there where a command was done, but for the summary of a link that writes
     // its file to standard output.
     ensures silent { result ≡ 0 → (err.new ≡ err.old)
-        ⊎ TellsOnError (R.leads rt.now) (named_in (texts args.now)) }
+        ⊎ TellsOnError (F.world files.old) (named_in (texts args.now)) }
 
-    // What was done printed what its command prints, and nothing else; the file that a link created
-    // at OUT took the linked file, and nothing else.
-    ensures printed { AreAccepted (texts args.now) → result ≡ 0
-        → Prints (Reads (R.opened rt.now) R.Opened.remaining)
-        (IsUnread (R.unopened rt.now) (R.opened rt.now) R.Opened.remaining)
-        (Writes (R.created rt.now) (R.closed rt.now) R.Created.contents) (R.leads rt.now)
-        (named_in (texts args.now)) 0 (O.contents out.old) (O.contents out.new)
-        (E.contents err.old) (E.contents err.new) }
+    // What was done printed what its command prints, and nothing else; a link wrote exactly its files.
+    ensures printed { faults_in (texts args.now) ≡ [] → result ≡ 0
+        → Prints F.world (named_in (texts args.now)) 0 files.old files.new (O.contents out.old)
+        (O.contents out.new) (E.contents err.old) (E.contents err.new) }
+
+    // Arguments that clap accepts have no fault where a command was done.
+    ensures accepted { AreAccepted (texts args.now) → result ≡ 0 → faults_in (texts args.now) ≡ [] }
 
     // Where the help or the version is asked for, its text is printed, and nothing else: of the help
     // a text that ends with a line end, of the version its one line.
@@ -79,67 +105,69 @@ pub fn run<R: CodeFiles + AllocGlobal, A: Allocator + Copy, O: Write, E: Write>(
         → PrintsText (faults_in (texts args.now)) (O.contents out.old) (O.contents out.new) }
     ensures asked { AskForText (texts args.now) → result ≢ 3 → result ≢ 4 → result ≡ 0 }
 
-    // Where files are refused nothing is printed but the report of a check, the lists of files, or a
-    // document, which name the refusal.
-    ensures reported { AreAccepted (texts args.now) → result ≡ 1 → (out.new ≡ out.old)
-        ⊎ Prints (Reads (R.opened rt.now) R.Opened.remaining)
-        (IsUnread (R.unopened rt.now) (R.opened rt.now) R.Opened.remaining)
-        (Writes (R.created rt.now) (R.closed rt.now) R.Created.contents) (R.leads rt.now)
-        (named_in (texts args.now)) 1 (O.contents out.old) (O.contents out.new)
-        (E.contents err.old) (E.contents err.new) }
+    // The status is 1 only where files that were read are refused, or a strict check warns of them: the
+    // report, the lists or the document of that is printed, and else nothing.
+    ensures reported { result ≡ 1
+        → Prints F.world (named_in (texts args.now)) 1 files.old files.new (O.contents out.old)
+        (O.contents out.new) (E.contents err.old) (E.contents err.new) }
 
-    // The status of a check is 1 only where its report was printed, and as that says: where the files
-    // are refused, or, if it is strict, where a definition warns of them. That of a list is 1 only
-    // where the lists were printed, and as they say.
-    ensures checked { AreAccepted (texts args.now) → NamesCheck (named_in (texts args.now))
-        ⊎ NamesList (named_in (texts args.now)) → result ≡ 1
-        → Prints (Reads (R.opened rt.now) R.Opened.remaining)
-        (IsUnread (R.unopened rt.now) (R.opened rt.now) R.Opened.remaining)
-        (Writes (R.created rt.now) (R.closed rt.now) R.Created.contents) (R.leads rt.now)
-        (named_in (texts args.now)) 1 (O.contents out.old) (O.contents out.new)
-        (E.contents err.old) (E.contents err.new) }
+    // Only what was done, what reports a refusal, or a fault of standard output itself, leaves anything
+    // there.
+    ensures unprinted { result ≢ 0 → result ≢ 1 → result ≢ 3 → out.new ≡ out.old }
 
-    // Only what was done, a report, lists, the document of a refusal, or a fault of standard output
-    // itself, leaves anything there.
-    ensures unprinted { result ≢ 0 → result ≢ 3
-        → (out.new ≡ out.old) ⊎ ((result ≡ 1) × (NamesCheck (named_in (texts args.now))
-        ⊎ NamesList (named_in (texts args.now)) ⊎ NamesDocument (named_in (texts args.now)))) }
+    // No file is created where files are refused, where the arguments are wrong usage, where memory is
+    // refused, or by another command than a link.
+    ensures kept { result ≢ 0 → result ≢ 3 → (F.world files.new).log ≡ (F.world files.old).log }
+    ensures alone { NamesNoLink (named_in (texts args.now))
+        → (F.world files.new).log ≡ (F.world files.old).log }
+
+    // Where a file or standard output failed, none was created, or by a link a part of what it writes.
+    ensures part { result ≡ 3 → ((F.world files.new).log ≡ (F.world files.old).log)
+        ⊎ NamedLeavesPart F.world (named_in (texts args.now)) files.old files.new }
 {
-    match carry_out(rt, alloc, args, out, err) {
+    match carry_out(files, heap, alloc, args, out, err) {
         Ok(ended) => ended.status(),
         Err(error) => error.report(err),
     }
 }
 
 /// Does the command that `args` name, and returns how it ends.
-fn carry_out<'a, R: CodeFiles + AllocGlobal, A: Allocator + Copy, O: Write, E: Write>(
-    rt: &R,
+fn carry_out<'a, F: CodeFiles, A: Allocator + Copy, O: Write, E: Write>(
+    files: &mut F,
+    heap: Global,
     alloc: A,
     args: &'a [&'a str],
     out: &mut O,
     err: &mut E,
 ) -> Result<Ended, CommandError<'a>>
-    ensures ok { AreAccepted (texts args.now)
-        → IfOk result (λ ended. Prints (Reads (R.opened rt.now) R.Opened.remaining)
-        (IsUnread (R.unopened rt.now) (R.opened rt.now) R.Opened.remaining)
-        (Writes (R.created rt.now) (R.closed rt.now) R.Created.contents) (R.leads rt.now)
-        (named_in (texts args.now)) (ended_status ended) (O.contents out.old)
-        (O.contents out.new) (E.contents err.old) (E.contents err.new)) }
+    ensures ok { faults_in (texts args.now) ≡ []
+        → IfOk result (λ ended. Prints F.world (named_in (texts args.now)) (ended_status ended)
+        files.old files.new (O.contents out.old) (O.contents out.new) (E.contents err.old)
+        (E.contents err.new)) }
+    ensures accepted { AreAccepted (texts args.now)
+        → IfOk result (λ _. faults_in (texts args.now) ≡ []) }
     ensures text { faults_in (texts args.now) ≢ []
         → IfOk result (λ ended. (ended ≡ Ended.Done) × PrintsText (faults_in (texts args.now))
         (O.contents out.old) (O.contents out.new)) }
     ensures asked { AskForText (texts args.now)
         → IfErr result (λ e. status_of e ≢ 3 → status_of e ≡ 4) }
     ensures silent { IfOk result (λ ended. ended_status ended ≡ 0 → (err.new ≡ err.old)
-        ⊎ TellsOnError (R.leads rt.now) (named_in (texts args.now))) }
-    ensures checked { IfOk result (λ ended. ended_status ended ≢ 0
-        → NamesCheck (named_in (texts args.now)) ⊎ NamesList (named_in (texts args.now))
-        ⊎ NamesDocument (named_in (texts args.now))) }
+        ⊎ TellsOnError (F.world files.old) (named_in (texts args.now))) }
+    ensures reported { IfOk result (λ ended. ended_status ended ≢ 0
+        → Prints F.world (named_in (texts args.now)) (ended_status ended) files.old files.new
+        (O.contents out.old) (O.contents out.new) (E.contents err.old) (E.contents err.new)) }
     ensures err { IfErr result (λ e. status_of e ≢ 3 → out.new ≡ out.old) }
-    ensures unrefused { AreAccepted (texts args.now) → NamesCheck (named_in (texts args.now))
-        ⊎ NamesList (named_in (texts args.now)) → IfErr result (λ e. status_of e ≢ 1) }
+    ensures unrefused { IfErr result (λ e. status_of e ≢ 1) }
+    ensures refused { IfOk result (λ ended. ended_status ended ≢ 0
+        → (F.world files.new).log ≡ (F.world files.old).log) }
+    ensures memory { IfErr result (λ e. status_of e ≢ 3
+        → (F.world files.new).log ≡ (F.world files.old).log) }
+    ensures alone { NamesNoLink (named_in (texts args.now))
+        → (F.world files.new).log ≡ (F.world files.old).log }
+    ensures part { IfErr result (λ _. ((F.world files.new).log ≡ (F.world files.old).log)
+        ⊎ NamedLeavesPart F.world (named_in (texts args.now)) files.old files.new) }
 {
-    match parse(&Paths(rt), rt.alloc(), alloc, args)? {
+    match parse(&Paths(&*files), heap, alloc, args)? {
         Request::Help(words) => {
             write_all_of(out, words.as_bytes())?;
             Ok(Ended::Done)
@@ -148,40 +176,47 @@ fn carry_out<'a, R: CodeFiles + AllocGlobal, A: Allocator + Copy, O: Write, E: W
             write_all_of(out, b"pslink 0.4.0\n")?;
             Ok(Ended::Done)
         }
-        Request::Task(task) => Ok(perform(rt, alloc, task, out, err)?),
+        Request::Task(task) => Ok(perform(files, alloc, task, out, err)?),
     }
 }
 
 /// Does what a command says, and returns how it ends.
-fn perform<'a, R: CodeFiles + AllocGlobal, A: Allocator + Copy, O: Write, E: Write>(
-    rt: &R,
+fn perform<'a, F: CodeFiles, A: Allocator + Copy, O: Write, E: Write>(
+    files: &mut F,
     alloc: A,
     task: Task<'a, A>,
     out: &mut O,
     err: &mut E,
 ) -> Result<Ended, RunError<'a>>
-    ensures ok { (named : Option (Text × List Row)) → IsNamedCommand task.entry named
-        → IfOk result (λ ended. Prints (Reads (R.opened rt.now) R.Opened.remaining)
-        (IsUnread (R.unopened rt.now) (R.opened rt.now) R.Opened.remaining)
-        (Writes (R.created rt.now) (R.closed rt.now) R.Created.contents) (R.leads rt.now)
-        named (ended_status ended) (O.contents out.old) (O.contents out.new)
-        (E.contents err.old) (E.contents err.new)) }
-    ensures silent { (named : Option (Text × List Row)) → IsNamedCommand task.entry named
+    ensures ok { (named : Option (Text × List Row))
+        → IsNamedCommand (F.world files.old).one_file task.entry named
+        → IfOk result (λ ended. Prints F.world named (ended_status ended) files.old files.new
+        (O.contents out.old) (O.contents out.new) (E.contents err.old) (E.contents err.new)) }
+    ensures silent { (named : Option (Text × List Row))
+        → IsNamedCommand (F.world files.old).one_file task.entry named
         → IfOk result (λ ended. ended_status ended ≡ 0 → (err.new ≡ err.old)
-        ⊎ TellsOnError (R.leads rt.now) named) }
+        ⊎ TellsOnError (F.world files.old) named) }
     ensures err { IfErr result (λ e. e ≢ RunError.StandardOutput → out.new ≡ out.old) }
-    ensures unrefused { (named : Option (Text × List Row)) → IsNamedCommand task.entry named
-        → NamesCheck named ⊎ NamesList named
-        → IfErr result (λ e. (fault : Fault) → e ≢ RunError.Refused fault) }
+    ensures refused { IfOk result (λ ended. ended_status ended ≢ 0
+        → (F.world files.new).log ≡ (F.world files.old).log) }
+    ensures memory { IfErr result (λ e. status_of (told_of e) ≢ 3
+        → (F.world files.new).log ≡ (F.world files.old).log) }
+    ensures alone { (named : Option (Text × List Row))
+        → IsNamedCommand (F.world files.old).one_file task.entry named → NamesNoLink named
+        → (F.world files.new).log ≡ (F.world files.old).log }
+    ensures part { (named : Option (Text × List Row))
+        → IsNamedCommand (F.world files.old).one_file task.entry named
+        → IfErr result (λ _. ((F.world files.new).log ≡ (F.world files.old).log)
+        ⊎ NamedLeavesPart F.world named files.old files.new) }
 {
     match task {
-        Task::Link(asked) => link(rt, alloc, asked, out, err),
+        Task::Link(asked) => link(files, alloc, asked, out, err),
         Task::Map {
             inputs,
             references,
             json,
         } => print(
-            rt,
+            &*files,
             alloc,
             map_kind(references, json),
             json,
@@ -195,9 +230,9 @@ fn perform<'a, R: CodeFiles + AllocGlobal, A: Allocator + Copy, O: Write, E: Wri
                 libraries: Vec::new(alloc),
             };
             print(
-                rt,
+                &*files,
                 alloc,
-                TextKind::Show(form_of(json)),
+                TextKind::OfHost(HostText::Show(form_of(json))),
                 json,
                 inputs,
                 out,
@@ -211,12 +246,12 @@ fn perform<'a, R: CodeFiles + AllocGlobal, A: Allocator + Copy, O: Write, E: Wri
             json,
         } => {
             if unit {
-                return check_units(rt, alloc, inputs, units_form(json), out, err);
+                return check_units(&*files, alloc, inputs, units_form(json), out, err);
             }
-            check(rt, alloc, form_of(json), strict, inputs, out, err)
+            check(&*files, alloc, form_of(json), strict, inputs, out, err)
         }
-        Task::List { files, json } => {
-            Ok(print_lists(rt, alloc, files.as_slice(), list_form(json), out, err)?)
+        Task::List { files: paths, json } => {
+            Ok(print_lists(&*files, alloc, paths.as_slice(), list_form(json), out, err)?)
         }
     }
 }
@@ -225,11 +260,12 @@ fn perform<'a, R: CodeFiles + AllocGlobal, A: Allocator + Copy, O: Write, E: Wri
 fn map_kind(references: bool, json: bool) -> TextKind
     ensures { result ≡ map_kind_spec references json }
 {
-    if references {
-        TextKind::References(form_of(json))
+    let what = if references {
+        LinkText::References
     } else {
-        TextKind::Map(form_of(json))
-    }
+        LinkText::Map
+    };
+    TextKind::OfLink(what, form_of(json))
 }
 
 /// Prints a text of these inputs, which were read, and returns how it ends. With `json` a refusal is
@@ -250,9 +286,6 @@ fn print_read<'a, A: Allocator + Copy, O: Write, E: Write>(
         (O.contents out.old) (O.contents out.new)) }
     ensures silent { IfOk result (λ ended. ended_status ended ≡ 0 → err.new ≡ err.old) }
     ensures err { IfErr result (λ e. e ≢ RunError.StandardOutput → out.new ≡ out.old) }
-    ensures refused { IfErr result (λ e. (fault : Fault) → e ≡ RunError.Refused fault
-        → CanRefuse kind bytes.now.host.items
-        (map (λ library. library.items) bytes.now.libraries.items) fault) }
 {
     let views = views(alloc, bytes.libraries.as_slice())?;
     let files = NamedFiles {
@@ -280,12 +313,11 @@ fn print_files<'a, A: Allocator + Copy, O: Write, E: Write>(
         (O.contents out.old) (O.contents out.new)) }
     ensures silent { IfOk result (λ ended. ended_status ended ≡ 0 → err.new ≡ err.old) }
     ensures err { IfErr result (λ e. e ≢ RunError.StandardOutput → out.new ≡ out.old) }
-    ensures refused { IfErr result (λ e. (fault : Fault) → e ≡ RunError.Refused fault
-        → CanRefuse kind files.now.host.now (contents files.now.libs.now) fault) }
 {
     match text_of(alloc, kind, files) {
         Ok(text) => Ok(print_text(&text, strict, out)?),
-        Err(unmade) => refuse(files, unmade, json, out, err),
+        Err(Unmade::Refused(refusal)) => Ok(refuse(files, refusal, json, out, err)?),
+        Err(Unmade::Memory) => Err(RunError::Memory),
     }
 }
 
@@ -314,8 +346,7 @@ fn print<'a, R: CodeFiles, A: Allocator + Copy, O: Write, E: Write>(
     out: &mut O,
     err: &mut E,
 ) -> Result<Ended, RunError<'a>>
-    ensures ok { IfOk result (λ ended. PrintsOrRefuses
-        (Reads (R.opened rt.now) R.Opened.remaining) kind json inputs.entry.host.now
+    ensures ok { IfOk result (λ ended. PrintsOrRefuses (R.world rt.now) kind json inputs.entry.host.now
         (contents inputs.entry.libraries.items) (ended_status ended) (O.contents out.old)
         (O.contents out.new)) }
     ensures silent { IfOk result (λ ended. ended_status ended ≡ 0 → err.new ≡ err.old) }
@@ -336,14 +367,14 @@ fn check<'a, R: CodeFiles, A: Allocator + Copy, O: Write, E: Write>(
     out: &mut O,
     err: &mut E,
 ) -> Result<Ended, RunError<'a>>
-    ensures ok { IfOk result (λ ended. PrintsTextOf (Reads (R.opened rt.now) R.Opened.remaining)
-        (TextKind.Check form) strict inputs.entry.host.now (contents inputs.entry.libraries.items)
-        (ended_status ended) (O.contents out.old) (O.contents out.new)) }
+    ensures ok { IfOk result (λ ended. PrintsTextOf (R.world rt.now)
+        (TextKind.Named (NamedText.Check form)) strict inputs.entry.host.now
+        (contents inputs.entry.libraries.items) (ended_status ended) (O.contents out.old)
+        (O.contents out.new)) }
     ensures silent { IfOk result (λ ended. ended_status ended ≡ 0 → err.new ≡ err.old) }
     ensures err { IfErr result (λ e. e ≢ RunError.StandardOutput → out.new ≡ out.old) }
-    ensures unrefused { IfErr result (λ e. (fault : Fault) → e ≢ RunError.Refused fault) }
 {
-    let kind = TextKind::Check(form);
+    let kind = TextKind::Named(NamedText::Check(form));
     match files::read_inputs(rt, alloc, &inputs) {
         Ok(bytes) => print_read(alloc, kind, strict, false, &inputs, &bytes, out, err),
         Err(error) => Err(RunError::Unchecked(error)),
@@ -382,13 +413,11 @@ fn check_units<'a, R: CodeFiles, A: Allocator + Copy, O: Write, E: Write>(
     out: &mut O,
     err: &mut E,
 ) -> Result<Ended, RunError<'a>>
-    ensures ok { IfOk result (λ ended. PrintsLists (Reads (R.opened rt.now) R.Opened.remaining)
-        (IsUnread (R.unopened rt.now) (R.opened rt.now) R.Opened.remaining) how
+    ensures ok { IfOk result (λ ended. PrintsLists (R.world rt.now) how
         (inputs.entry.host.now ∷ map (λ path. path.now) inputs.entry.libraries.items)
         (ended_status ended) (O.contents out.old) (O.contents out.new)) }
     ensures silent { IfOk result (λ ended. ended_status ended ≡ 0 → err.new ≡ err.old) }
     ensures err { IfErr result (λ e. e ≢ RunError.StandardOutput → out.new ≡ out.old) }
-    ensures unrefused { IfErr result (λ e. (fault : Fault) → e ≢ RunError.Refused fault) }
 {
     let Inputs {
         host,

@@ -4,9 +4,9 @@ use Rattle.std.specs.List.{range_with_len}
 use Rattle.std.proofs.lemmas.Bool.Decides.{Decides-eqb}
 use Rattle.std.proofs.lemmas.List.Elements.{All-cons, All-nil}
 use Rattle.ps_examples.specs.ReadAlike.{library_elsewhere}
-use Rattle.ps_relied.proofs.StoredLines.{made_at}
-use Rattle.ps_relied.specs.Alike.{IsReadAlike, AreReadAlike, AreFilesAlike, HasSameCode, HasSameRecords}
-use Rattle.ps_relied.specs.Used.{AreUsedAlike, IsLookedForIn}
+use Rattle.ps_rebuild_laws.proofs.StoredLines.{made_at}
+use Rattle.ps_rebuild_laws.specs.Alike.{IsReadAlike, AreReadAlike, AreFilesAlike, HasSameCode, HasSameRecords}
+use Rattle.ps_rebuild_laws.specs.Used.{AreUsedAlike, IsLookedForIn}
 use Rattle.ps_examples.proofs.NotOrigins.{same, util_aux}
 
 -- a test that no number below n passes

@@ -3,11 +3,11 @@ ghost use Rattle.ps_examples.specs.Expected.{linked_pair, linked_other_library};
 ghost use Rattle.ps_examples.specs.ReadAlike.{library_elsewhere};
 ghost use Rattle.ps_examples.specs.Files.{host, library, library_of_the_last, put_at, aux};
 ghost use Rattle.ps_linkfile.specs.LinkedFile.{LinkedFile, linked_file};
-ghost use Rattle.ps_relied.specs.Alike.{AreFilesAlike};
-ghost use Rattle.ps_relied.specs.Numbered.{exchanged, renumbered, without, HaveNoNameInCommon};
-ghost use Rattle.ps_relied.specs.SameSegments.{AreSameSegments, HaveSameHeads};
-ghost use Rattle.ps_relied.specs.StoredLines.{all_stored, AreMadeByLines, IsLine};
-ghost use Rattle.ps_relied.specs.Used.{AreUsedAlike};
+ghost use Rattle.ps_rebuild_laws.specs.Alike.{AreFilesAlike};
+ghost use Rattle.ps_rebuild_laws.specs.Numbered.{exchanged, renumbered, without, HaveNoNameInCommon};
+ghost use Rattle.ps_rebuild_laws.specs.SameSegments.{AreSameSegments, HaveSameHeads};
+ghost use Rattle.ps_rebuild_laws.specs.StoredLines.{all_stored, AreMadeByLines, IsLine};
+ghost use Rattle.ps_rebuild_laws.specs.Used.{AreUsedAlike};
 ghost use Rattle.ps_resolve.specs.AllFaults.{first_fault};
 ghost use Rattle.ps_resolve.specs.LinkedBytes.{segments_of};
 ghost use Rattle.ps_words.specs.FaultPlaces.{in_file, in_slot};
@@ -16,7 +16,7 @@ ghost use Rattle.ps_words.specs.declared.order.Order.TheVariants.{Little};
 
 use ps_laws::first_of_all;
 use ps_linkfile::linked_file_is_one;
-use ps_relied::{
+use ps_rebuild_laws::{
     library_is_appended, library_is_left_out, link_is_its_segments, neighbours_are_exchanged,
     references_make_the_file, what_is_not_read, what_is_not_used,
 };

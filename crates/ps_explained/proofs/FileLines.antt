@@ -18,7 +18,7 @@ use Rattle.ps_filetype.specs.declared.line_ends.LineEnds.{LineEnds}
 use Rattle.ps_filetype.specs.declared.line_ends.LineEnds.TheVariants as ends
 use Rattle.ps_filetype.specs.declared.release.Release.TheVariants as release
 use Rattle.ps_resolve.specs.Sources.{contents}
-use Rattle.ps_segments.specs.Paths.{path_of}
+use Rattle.ps_check_segments.specs.Paths.{path_of}
 use Rattle.ps_explained.specs.FileLines.{AreFileLines, IsByteOrder, file_words, order_words, uneven_words}
 use Rattle.ps_explained.specs.SlotLines.{AddsSlotLines, one_line}
 use Rattle.ps_explained.specs.declared.orders.ByteOrder.{ByteOrder}
@@ -72,6 +72,8 @@ one_image : (i : Image) → one_line (image_words i) ≡ true
 one_image image.Blocks = refl
 one_image image.DosOrder = refl
 one_image image.TwoImg = refl
+one_image image.OtherOrder = refl
+one_image image.TwoImgDosOrder = refl
 one_image image.DiskCopy = refl
 one_image image.Nibbles = refl
 
@@ -110,6 +112,7 @@ one_type (type.Disk form name) =
     one_append (image_words form) (volume_words name) (one_image form) (one_volume name)
 one_type type.SystemText = refl
 one_type type.Text = refl
+one_type type.Encoded = refl
 one_type type.WideText = refl
 one_type type.Empty = refl
 one_type (type.OneByte b) =

@@ -19,9 +19,9 @@ use Rattle.ps_reading.specs.KnownSegments.{is_in_slot}
 use Rattle.ps_reading.specs.declared.reading.added.UnitReference.{UnitReference}
 use Rattle.ps_reading.proofs.InSlots.{by_slot}
 use Rattle.ps_reading.proofs.ReadingSlots.{fault_of_host, fault_of_none, host_of_files, no_slot_fault, segments_are}
-use Rattle.ps_segments.specs.Seen.{Seen}
-use Rattle.ps_segments.specs.SeenSegments.{is_fault, is_of_host, is_refused_unit, requests_in, seen_by, seen_by_outcome, seen_in, seen_of, seen_read, seen_segment, seen_segments, seen_unit, seen_with, segments_in, unplaced}
-use Rattle.ps_segments.specs.SegmentParts.{added_by}
+use Rattle.ps_check_segments.specs.Seen.{Seen}
+use Rattle.ps_check_segments.specs.SeenSegments.{is_fault, is_of_host, is_refused_unit, requests_in, seen_by, seen_by_outcome, seen_in, seen_of, seen_read, seen_segment, seen_segments, seen_unit, seen_with, segments_in, unplaced}
+use Rattle.ps_check_segments.specs.SegmentParts.{added_by}
 use Rattle.ps_reading.specs.declared.slot_reading.Absent.TheVariants as absent
 use Rattle.ps_explained.specs.SegmentLines.{line_in_slot, lines_of_segments, read_line, read_lines, segment_line, segment_lines}
 use Rattle.ps_codefile.specs.declared.dictionary_layout.TheConstants.{SLOTS}
@@ -64,7 +64,8 @@ not_both : {X : Type 0} (b c : Bool) (x : X) → c ≡ false
 not_both true c x h = rw h refl
 not_both false c x h = refl
 
-module _ (paths : List (List ℕ)) (host : List ℕ) (libs : List (List ℕ)) (v : HostFiles)
+module _ (paths : List (List ℕ)) (unread : Bool) (host : List ℕ) (libs : List (List ℕ))
+    (v : HostFiles)
     (none : first_in v ≡ None) where
   abbrev all : List Segment
   all = segments_in v
@@ -108,66 +109,66 @@ module _ (paths : List (List ℕ)) (host : List ℕ) (libs : List (List ℕ)) (v
       ∙ seen_kept slot (found slot)
 
   -- the line of a segment that was read is that of the link
-  one : (s : Segment) → line_in_slot (seen_segment v s).slot (read_line paths (seen_segment v s))
+  one : (s : Segment) → line_in_slot (seen_segment v s).slot (read_line paths unread (seen_segment v s))
       ≡ line s ∷ []
   unfolding seen_segment segment_line
   one s = refl
 
   kept_lines : (o : Option Segment) (later : List Seen) (others : List Segment)
-      → read_lines paths later ≡ map line others
-      → read_lines paths (cons_option (option_map (seen_segment v) o) later)
+      → read_lines paths unread later ≡ map line others
+      → read_lines paths unread (cons_option (option_map (seen_segment v) o) later)
       ≡ map line (cons_option o others)
   kept_lines None later others h = h
   kept_lines (Some s) later others h =
-      ap (λ (ls : List (List ℕ)). ls ++ read_lines paths later) (one s)
+      ap (λ (ls : List (List ℕ)). ls ++ read_lines paths unread later) (one s)
       ∙ ap (λ (ls : List (List ℕ)). line s ∷ ls) h
 
   lines_in_slots : (xs : List ℕ) → All IsSlot xs
-      → read_lines paths (filter_map (seen_in host libs v) xs)
+      → read_lines paths unread (filter_map (seen_in host libs v) xs)
       ≡ map line (filter_map found xs)
   lines_in_slots [] in_range = refl
   lines_in_slots (x ∷ xs) in_range =
-      ap (λ (o : Option Seen). read_lines paths
+      ap (λ (o : Option Seen). read_lines paths unread
       (cons_option o (filter_map (seen_in host libs v) xs)))
       (seen_is x (All-head IsSlot x xs in_range))
       ∙ kept_lines (found x) (filter_map (seen_in host libs v) xs) (filter_map found xs)
       (lines_in_slots xs (All-tail IsSlot x xs in_range))
 
   -- a unit for which no slot is left has none
-  no_line : (b : Bool) (u : UnitReference) → read_lines paths (cons_option (if b then None
+  no_line : (b : Bool) (u : UnitReference) → read_lines paths unread (cons_option (if b then None
       else Some (seen_with None u.name (added_by all u.at) (Err absent.NoSlot))) []) ≡ []
   unfolding seen_with
   no_line true u = refl
   no_line false u = refl
 
   no_lines : (o : Option UnitReference)
-      → read_lines paths (cons_option (option_and_then (seen_unit v) o) []) ≡ []
+      → read_lines paths unread (cons_option (option_and_then (seen_unit v) o) []) ≡ []
   no_lines None = refl
   no_lines (Some u) = no_line (is_of_host v u.name) u
 
-  unplaced_lines : read_lines paths (cons_option (unplaced v) []) ≡ []
+  unplaced_lines : read_lines paths unread (cons_option (unplaced v) []) ≡ []
   unfolding unplaced
   unplaced_lines = no_lines (slice_get (requests_in v)
       (length (empty_slots v.order v.file)))
 
   all_lines : filter_map found slots ≡ all
-      → read_lines paths (seen_of host libs v) ≡ lines_of_segments paths all (requests_in v)
+      → read_lines paths unread (seen_of host libs v) ≡ lines_of_segments paths all (requests_in v)
   unfolding seen_of
   all_lines are =
       let kept_seen : List Seen = filter_map (seen_in host libs v) slots in
-      flat_map-append (λ (x : Seen). line_in_slot x.slot (read_line paths x)) kept_seen
+      flat_map-append (λ (x : Seen). line_in_slot x.slot (read_line paths unread x)) kept_seen
       (cons_option (unplaced v) [])
-      ∙ (ap (λ (ls : List (List ℕ)). read_lines paths kept_seen ++ ls) unplaced_lines
-      ∙ (append-nil (read_lines paths kept_seen)
+      ∙ (ap (λ (ls : List (List ℕ)). read_lines paths unread kept_seen ++ ls) unplaced_lines
+      ∙ (append-nil (read_lines paths unread kept_seen)
       ∙ (lines_in_slots slots all_slots ∙ ap (map line) are)))
 
-pub read_lines_are : (paths : List (List ℕ)) (host : List ℕ) (libs : List (List ℕ))
+pub read_lines_are : (paths : List (List ℕ)) (unread : Bool) (host : List ℕ) (libs : List (List ℕ))
     → reading_fault host libs ≡ None
-    → read_lines paths (seen_segments host libs) ≡ segment_lines paths host libs
-read_lines_are paths host libs none = by (opened_host host libs) refl
+    → read_lines paths unread (seen_segments host libs) ≡ segment_lines paths host libs
+read_lines_are paths unread host libs none = by (opened_host host libs) refl
   where
     by : (r : Result HostFiles Reason) → opened_host host libs ≡ r
-        → read_lines paths (seen_by host libs r) ≡ segment_lines paths host libs
+        → read_lines paths unread (seen_by host libs r) ≡ segment_lines paths host libs
     by (Err why) e = let both = sym none ∙ fault_of_none host libs why e in cc
     by (Ok v) e =
         let fine : first_in v ≡ None = fault_of_host host libs v e ∙ none in
@@ -180,7 +181,7 @@ read_lines_are paths host libs none = by (opened_host host libs) refl
         ≡ ss) (sym are) (by_slot v.order v.file v.libs) in
         let of_link : segments_in v ≡ segments (order_of host) host libs =
         are ∙ ap (λ (x : HostFiles). segments x.order x.file x.libs) same in
-        all_lines paths host libs v fine found_all
+        all_lines paths unread host libs v fine found_all
         ∙ (ap (λ (ss : List Segment). lines_of_segments paths ss (requests_in v)) of_link
         ∙ ap (λ (x : HostFiles). lines_of_segments paths (segments (order_of host) host libs)
         (requests_in x)) same)

@@ -3,7 +3,7 @@ use Rattle.std.proofs.Common.{◌≡◌, ◌∙◌, ◌++◌, ◌∷◌, ◌==�
 use Rattle.std.specs.Prelude.{if◌then◌else◌}
 use Rattle.std.specs.List.{filter}
 use Rattle.std.proofs.lemmas.List.{append_assoc}
-use Rattle.ps_explained.specs.SlotLines.{AddsSlotLines, indent, is_slot_line, lines_of, one_line, other_line, slot_lines, with_first}
+use Rattle.ps_explained.specs.SlotLines.{AddsSlotLines, indent, is_slot_line, lines_of, one_line, line_of_no_segment, slot_lines, with_first}
 use Rattle.ps_explained.proofs.OneLine.{and_left, and_right}
 
 -- a line ends at the first byte 10
@@ -52,8 +52,8 @@ adds_no_line old line new one begins is = (
 
 -- one that is no segment's
 pub adds_other : (old line new : List ℕ) → one_line line ≡ true
-    → new ≡ old ++ other_line line → AddsSlotLines old [] new
-unfolding other_line
+    → new ≡ old ++ line_of_no_segment line → AddsSlotLines old [] new
+unfolding line_of_no_segment
 adds_other old line new one is = by (is_slot_line line) refl
   where
     by : (t : Bool) → is_slot_line line ≡ t → AddsSlotLines old [] new

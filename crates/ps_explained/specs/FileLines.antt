@@ -7,7 +7,7 @@ use Rattle.ps_codefile.specs.Dictionary.{OpenedFile, opened_alone}
 use Rattle.ps_filetype.specs.Shown.{shown_path}
 use Rattle.ps_filetype.specs.CodeTypes.{is_code_type}
 use Rattle.ps_filetype.specs.TypeWords.{IsTypeOf, type_words}
-use Rattle.ps_segments.specs.Paths.{path_of}
+use Rattle.ps_check_segments.specs.Paths.{path_of}
 use Rattle.ps_explained.specs.declared.orders.ByteOrder.{ByteOrder}
 use Rattle.ps_explained.specs.declared.orders.ByteOrder.TheVariants as order
 

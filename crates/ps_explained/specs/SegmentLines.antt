@@ -1,26 +1,25 @@
 -- What a report says of each segment of a link: its slot and its name, what it is, and where its
 -- code comes from.
-use Rattle.std.specs.Prelude.{ℕ, ◌+◌, ◌/◌, ◌%◌, if◌then◌else◌, List, [], ◌∷◌, ◌++◌, Option, Some, None, Result, Ok, Err, is_some, length, map, codes, decimal}
-use Rattle.std.specs.List.{flat_map}
+use Rattle.std.specs.Prelude.{ℕ, if◌then◌else◌, Bool, true, false, List, [], ◌∷◌, ◌++◌, Option, Some, None, Result, Ok, Err, is_some, length, map, codes, decimal}
+use Rattle.std.specs.List.{flat_map, list_any}
+use Rattle.std.specs.Result.{is_err}
+use Rattle.ps_codefile.specs.Dictionary.{opened_beside}
 use Rattle.ps_resolve.specs.Sources.{Segment, opened_files, order_of}
 use Rattle.ps_resolve.specs.Added.{segments}
 use Rattle.ps_resolve.specs.Readings.{read_requests}
 use Rattle.ps_reading.specs.declared.reading.added.UnitReference.{UnitReference}
-use Rattle.ps_filetype.specs.Shown.{shown_name, shown_path}
-use Rattle.ps_segments.specs.SegmentParts.{absence_words, part_as, part_words}
-use Rattle.ps_segments.specs.Paths.{path_of}
-use Rattle.ps_segments.specs.Seen.{Origin, Seen}
+use Rattle.ps_filetype.specs.Shown.{shown_name, shown_path, slot_digits}
+use Rattle.ps_check_segments.specs.SegmentParts.{absence_words, part_as, part_words}
+use Rattle.ps_check_segments.specs.Paths.{host_order, path_of}
+use Rattle.ps_check_segments.specs.Seen.{Origin, Seen}
 use Rattle.ps_reading.specs.declared.slot_reading.Absent.{Absent}
-use Rattle.ps_segments.specs.declared.segments.SegmentPart.{SegmentPart}
-
--- the number of a slot or an entry, of two digits
-abbrev pub two_digits : ℕ → List ℕ
-two_digits n = (48 + n / 10) ∷ (48 + n % 10) ∷ []
+use Rattle.ps_reading.specs.declared.slot_reading.Absent.TheVariants as absent
+use Rattle.ps_check_segments.specs.declared.segments.SegmentPart.{SegmentPart}
 
 -- `slot 08 UTIL: a unit that record 0 of MAIN requests`, or `no slot UTIL: ..`
 abbrev pub slot_words : Option ℕ → List ℕ
 slot_words None = codes "no slot"
-slot_words (Some slot) = codes "slot " ++ two_digits slot
+slot_words (Some slot) = codes "slot " ++ slot_digits slot
 
 abbrev pub head_words : Option ℕ → List ℕ → SegmentPart → List ℕ
 head_words slot name what = slot_words slot
@@ -30,7 +29,7 @@ head_words slot name what = slot_words slot
 abbrev pub from_words : List ℕ → ℕ → ℕ → List ℕ
 from_words path index size = codes ", from "
     ++ (shown_path path ++ (codes " entry "
-    ++ (two_digits index ++ (codes ", " ++ (decimal size ++ codes " bytes")))))
+    ++ (slot_digits index ++ (codes ", " ++ (decimal size ++ codes " bytes")))))
 
 -- `slot 08 UTIL: a unit that record 0 of MAIN requests, from LIB entry 03, 24 bytes`
 unfoldable pub segment_line : List (List ℕ) → List Segment → List UnitReference → Segment
@@ -51,19 +50,32 @@ segment_lines paths host libs =
     lines_of_segments paths (segments order host libs)
     (read_requests order host (opened_files order libs))
 
--- where a segment comes from, or why from nowhere
-abbrev pub origin_words : List (List ℕ) → Result Origin Absent → List ℕ
-origin_words paths (Ok o) = from_words (path_of paths o.file) o.index o.size
-origin_words paths (Err why) = absence_words why
+-- some library cannot be read beside the host
+abbrev pub has_unread : List ℕ → List (List ℕ) → Bool
+has_unread host libs = list_any (λ lib. is_err (opened_beside (host_order host) lib)) libs
+
+-- why a segment comes from nowhere; a library that cannot be read may have the unit
+abbrev pub why_words : Bool → Absent → List ℕ
+why_words false why = absence_words why
+why_words true absent.Missing = codes ", which no library that can be read has"
+why_words true (absent.Refused f) = absence_words (absent.Refused f)
+why_words true absent.NoSlot = absence_words absent.NoSlot
+why_words true absent.NotLookedFor = absence_words absent.NotLookedFor
+
+-- where a segment comes from, or why from nowhere, where some library cannot be read or none
+abbrev pub origin_words : List (List ℕ) → Bool → Result Origin Absent → List ℕ
+origin_words paths unread (Ok o) = from_words (path_of paths o.file) o.index o.size
+origin_words paths unread (Err why) = why_words unread why
 
 -- the line of a segment as it was read, also where it is refused
-abbrev pub read_line : List (List ℕ) → Seen → List ℕ
-read_line paths s = head_words s.slot s.name s.part ++ origin_words paths s.origin
+abbrev pub read_line : List (List ℕ) → Bool → Seen → List ℕ
+read_line paths unread s = head_words s.slot s.name s.part ++ origin_words paths unread s.origin
 
 -- of one that has a slot
 abbrev pub line_in_slot : Option ℕ → List ℕ → List (List ℕ)
 line_in_slot slot line = if is_some slot then line ∷ [] else []
 
 -- the line of each segment that was read and has a slot
-abbrev pub read_lines : List (List ℕ) → List Seen → List (List ℕ)
-read_lines paths list = flat_map (λ s. line_in_slot s.slot (read_line paths s)) list
+abbrev pub read_lines : List (List ℕ) → Bool → List Seen → List (List ℕ)
+read_lines paths unread list =
+    flat_map (λ s. line_in_slot s.slot (read_line paths unread s)) list

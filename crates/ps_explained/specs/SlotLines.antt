@@ -37,5 +37,5 @@ abbrev pub indent : Bool → List ℕ
 indent begins = if begins then codes "  " else []
 
 -- a line that is no segment's, and its end
-unfoldable pub other_line : List ℕ → List ℕ
-other_line line = indent (is_slot_line line) ++ (line ++ 10 ∷ [])
+unfoldable pub line_of_no_segment : List ℕ → List ℕ
+line_of_no_segment line = indent (is_slot_line line) ++ (line ++ 10 ∷ [])

@@ -1,14 +1,56 @@
 //! A fault, and what the files say of it.
-ghost use Rattle.std.specs.Prelude.{◌<◌, IfSome};
+ghost use Rattle.std.specs.Prelude.{◌≡◌, ◌<◌, IfSome, length};
+ghost use Rattle.std.specs.List.{find, range_with_len};
+ghost use Rattle.std.specs.Option.{option_map};
+ghost use Rattle.ps_codefile.specs.Dictionary.{opened_alone};
+ghost use Rattle.ps_resolve.specs.Sources.{contents};
+ghost use Rattle.ps_explained.specs.Cases.{earlier_in as earlier_in_spec, earlier_of, first_host, host_entry, is_in_way as is_in_way_spec, missing_name, operand_in, record_in, records_of};
 
+use ps_check_segments::{NamedFiles, ReadSegment, SegmentPart, Source, in_slot};
 use ps_codefile::code_layout::NUMBERS;
 use ps_codefile::dictionary_layout::SLOTS;
 use ps_codefile::{Dict, Entry, ProcedureDictionary, ProcedureFault, Role};
-use ps_filetype::{CodeFile, FileType, ShownName};
+use ps_filetype::{ShownName, is_host_type};
 use ps_linkinfo::{LinkInformation, LinkRecord, Operand};
 use ps_resolve::{Reading, words_before};
-use ps_segments::{NamedFiles, ReadSegment, SegmentPart, Source, in_slot};
 use ps_words::{Fault, Name, Reason};
+
+/// The entry of an earlier slot stands in the way of that of another: a host program of a second one,
+/// and a unit that the host has or wants of a second one of its name.
+fn is_in_way(dict: &Dict<'_>, reason: Reason, slot: u8, earlier: u8) -> bool
+    requires slot { slot < SLOTS }
+    requires earlier { earlier < SLOTS }
+    ensures { result ≡ is_in_way_spec reason dict.now.order dict.now.file slot earlier }
+{
+    match (reason, dict.role(earlier)) {
+        (Reason::TwoHosts, Ok(Role::Host)) => true,
+        (Reason::DoubledSegment, Ok(Role::Unit | Role::Wanted)) => {
+            dict.entry(earlier).name == dict.entry(slot).name
+        }
+        _ => false,
+    }
+}
+
+/// The first slot before this one whose entry stands in its way.
+fn first_in_way(dict: &Dict<'_>, reason: Reason, slot: u8) -> Option<u8>
+    requires { slot < SLOTS }
+    ensures first { result ≡ find (is_in_way_spec reason dict.now.order dict.now.file slot)
+        (range_with_len 0 slot) }
+    ensures in_range { IfSome result (λ earlier. earlier < SLOTS) }
+{
+    (0..slot).find(|earlier| is_in_way(dict, reason, slot, *earlier))
+}
+
+/// That slot, with its name.
+fn earlier_in(dict: &Dict<'_>, reason: Reason, slot: u8) -> Option<(u8, ShownName)>
+    requires { slot < SLOTS }
+    ensures { option_map (λ e. (e.0, e.1.0)) result ≡ earlier_in_spec reason dict.now slot }
+{
+    match first_in_way(dict, reason, slot) {
+        Some(earlier) => Some((earlier, ShownName(dict.entry(earlier).name))),
+        None => None,
+    }
+}
 
 /// A fault, and what of the files it is about.
 #[derive(Clone, Copy)]
@@ -22,15 +64,19 @@ pub struct Case<'c, 'a> {
     pub segment: Option<&'c ReadSegment<'a>>,
     /// The words of the private variables before the record of the fault; of all if it has none.
     pub(crate) words: u64,
+    /// A warning or a note is told of its file: the file may be damaged.
+    pub(crate) is_suspect: bool,
 }
 
 impl<'c, 'a> Case<'c, 'a> {
-    /// The case of this fault, of the segments of a reading.
+    /// The case of this fault, of the segments of a reading, where a warning or a note is told of its
+    /// file or not.
     pub fn new(
         inputs: &'c NamedFiles<'a>,
         reading: &'c Reading<'a>,
         list: &'c [ReadSegment<'a>],
         fault: Fault,
+        is_suspect: bool,
     ) -> Self {
         let segment = match fault.slot {
             Some(slot) => in_slot(list, slot),
@@ -46,15 +92,18 @@ impl<'c, 'a> Case<'c, 'a> {
             fault,
             segment,
             words: u64::from(words.unwrap_or(u32::MAX)),
+            is_suspect,
         }
     }
 
     /// What the dictionary of the host says of its slot.
     /// Source: UCSD Pascal II.0 manual, code file format.
-    pub fn entry(&self) -> Option<Entry> {
-        let slot = self.fault.slot?;
-        match Dict::read(self.inputs.host) {
-            Ok(dict) if slot < SLOTS => Some(dict.entry(slot)),
+    pub fn entry(&self) -> Option<Entry>
+        ensures { result ≡ host_entry (opened_alone self.now.inputs.now.host.now)
+            self.now.fault.slot }
+    {
+        match (Dict::read(self.inputs.host), self.fault.slot) {
+            (Ok(dict), Some(slot)) if slot < SLOTS => Some(dict.entry(slot)),
             _ => None,
         }
     }
@@ -94,7 +143,9 @@ impl<'c, 'a> Case<'c, 'a> {
 
     /// The record that the fault is reported with, where it can be read.
     /// Source: the published II.0 Linker source.
-    pub fn record(&self) -> Option<LinkRecord<'a>> {
+    pub fn record(&self) -> Option<LinkRecord<'a>>
+        ensures { result ≡ record_in (records_of self.now.segment) self.now.fault }
+    {
         match self.fault.rec {
             Some(rec) => self.records().record(rec),
             None => None,
@@ -102,7 +153,9 @@ impl<'c, 'a> Case<'c, 'a> {
     }
 
     /// The records of its segment, up to the first that cannot be read.
-    pub(crate) fn records(&self) -> LinkInformation<'a> {
+    pub(crate) fn records(&self) -> LinkInformation<'a>
+        ensures { result ≡ records_of self.now.segment }
+    {
         match self.segment {
             Some(segment) => segment.records.copy(),
             None => LinkInformation::none(),
@@ -119,7 +172,9 @@ impl<'c, 'a> Case<'c, 'a> {
 
     /// The operand that the fault is reported with.
     /// Source: the published II.0 Linker source.
-    pub fn operand(&self) -> Option<Operand> {
+    pub fn operand(&self) -> Option<Operand>
+        ensures { result ≡ operand_in (records_of self.now.segment) self.now.fault }
+    {
         match (self.record(), self.fault.reference) {
             (Some(record), Some(reference)) => record.operand(reference),
             _ => None,
@@ -137,13 +192,12 @@ impl<'c, 'a> Case<'c, 'a> {
     }
 
     /// The first library that has a host program.
-    pub fn host_among_libraries(&self) -> Option<usize> {
-        for file in 1..=self.inputs.libs.len() {
-            if matches!(self.inputs.file_type(file), FileType::Code(CodeFile::Host)) {
-                return Some(file);
-            }
-        }
-        None
+    pub fn host_among_libraries(&self) -> Option<usize>
+        ensures { result ≡ first_host self.now.inputs.now.host.now
+            (contents self.now.inputs.now.libs.now) (length self.now.inputs.now.libs.now) }
+    {
+        let end = self.inputs.libs.len() + 1;
+        (1..end).find(|file| is_host_type(self.inputs.bytes(*file)))
     }
 
     /// The code of its segment, as far as it can be read.
@@ -155,7 +209,12 @@ impl<'c, 'a> Case<'c, 'a> {
         }
     }
 
-    pub fn missing_unit(&self) -> Option<Name> {
+    /// The name of the unit that no library has: the one that the record of the fault requests or,
+    /// without a record, that of its segment.
+    pub fn missing_unit(&self) -> Option<Name>
+        ensures { result ≡ missing_name self.now.segment
+            (record_in (records_of self.now.segment) self.now.fault) self.now.fault.rec }
+    {
         match self.fault.rec {
             Some(_) => Some(self.record()?.name),
             None => Some(self.segment?.name),
@@ -163,21 +222,14 @@ impl<'c, 'a> Case<'c, 'a> {
     }
 
     /// The earlier slot that has a host program, or a unit of the name, and the name of its segment.
-    pub fn earlier_entry(&self) -> Option<(u8, ShownName)> {
-        let dict = Dict::read(self.inputs.host).ok()?;
-        let (slot, name) = (self.fault.slot?, self.entry()?.name);
-        for earlier in 0..SLOTS {
-            let found = dict.entry(earlier).name;
-            let is_like = match (self.fault.reason, dict.role(earlier)) {
-                (Reason::TwoHosts, Ok(Role::Host)) => true,
-                (Reason::DoubledSegment, Ok(Role::Unit | Role::Wanted)) => found == name,
-                _ => false,
-            };
-            if earlier < slot && is_like {
-                return Some((earlier, ShownName(found)));
-            }
+    pub fn earlier_entry(&self) -> Option<(u8, ShownName)>
+        ensures { option_map (λ e. (e.0, e.1.0)) result ≡ earlier_of self.now.fault.reason
+            (opened_alone self.now.inputs.now.host.now) self.now.fault.slot }
+    {
+        match (Dict::read(self.inputs.host), self.fault.slot) {
+            (Ok(dict), Some(slot)) if slot < SLOTS => earlier_in(&dict, self.fault.reason, slot),
+            _ => None,
         }
-        None
     }
 
     /// The first thing that is wrong with the procedures of the code.

@@ -6,8 +6,8 @@ ghost use Rattle.ps_explained.specs.SlotLines.{AddsSlotLines};
 ghost use Rattle.ps_explained.specs.declared.orders.ByteOrder.{ByteOrder as Order};
 
 use crate::orders::ByteOrder;
+use ps_check_segments::NamedFiles;
 use ps_filetype::ShownPath;
-use ps_segments::NamedFiles;
 use ps_words::BLOCK_SIZE;
 use std::alloc::{AllocError, Allocator};
 use std::fmt::{self, Formatter, Write as _};

@@ -1,35 +1,21 @@
 //! The files, and the segments with where each comes from.
 ghost use Rattle.std.specs.Prelude.{◌≡◌, ◌∷◌, ◌++◌, [], IfOk, OnOk, Some, map, string_bytes};
 ghost use Rattle.ps_resolve.specs.Sources.{contents};
-ghost use Rattle.ps_segments.specs.Seen.{seen};
-ghost use Rattle.ps_segments.specs.SegmentParts.{absence_words};
+ghost use Rattle.ps_check_segments.specs.Seen.{seen};
 ghost use Rattle.ps_explained.specs.FileLines.{AreFileLines};
-ghost use Rattle.ps_explained.specs.SegmentLines.{from_words, head_words, line_in_slot, read_line, read_lines, slot_words, two_digits};
+ghost use Rattle.ps_explained.specs.SegmentLines.{from_words, has_unread as has_unread_spec, head_words, line_in_slot, read_line, read_lines, slot_words, why_words};
 ghost use Rattle.ps_explained.specs.SlotLines.{AddsSlotLines, slot_lines};
 
 use crate::file_lines::file_lines;
 use crate::slot_lines::add_other_lines;
+use ps_check_segments::{NamedFiles, ReadSegment, SegmentPart, in_slot, words_of};
+use ps_codefile::Dict;
 use ps_codefile::dictionary_layout::SLOTS;
-use ps_filetype::{ShownName, ShownPath};
+use ps_filetype::{ShownName, ShownPath, ShownSlot};
 use ps_resolve::{Absent, HostReading, Reading};
-use ps_segments::{NamedFiles, ReadSegment, SegmentPart, in_slot, words_of};
 use ps_words::Name;
 use std::alloc::{AllocError, Allocator};
 use std::fmt::{self, Formatter, Write as _};
-
-/// The number of a slot or an entry, in two digits.
-#[derive(Clone, Copy)]
-struct TwoDigits(u8);
-
-impl fmt::Display for TwoDigits {
-    ghost output = { λ number. Some (two_digits number.0) };
-
-    fn fmt<W: fmt::Write>(&self, f: &mut Formatter<W>) -> fmt::Result {
-        let tens = char::from(b'0' + self.0 / 10);
-        let ones = char::from(b'0' + self.0 % 10);
-        write!(f, "{tens}{ones}")
-    }
-}
 
 /// A slot in two digits, or that there is none.
 #[derive(Clone, Copy)]
@@ -41,7 +27,7 @@ impl fmt::Display for SlotOf {
     fn fmt<W: fmt::Write>(&self, f: &mut Formatter<W>) -> fmt::Result {
         match self.0 {
             Some(slot) => {
-                let slot = TwoDigits(slot);
+                let slot = ShownSlot(slot);
                 write!(f, "slot {slot}")
             }
             None => f.write_str("no slot"),
@@ -81,7 +67,7 @@ impl fmt::Display for Origin<'_> {
 
     fn fmt<W: fmt::Write>(&self, f: &mut Formatter<W>) -> fmt::Result {
         let path = ShownPath(self.path);
-        let index = TwoDigits(self.index);
+        let index = ShownSlot(self.index);
         let size = self.size;
         write!(f, ", from {path} entry {index}, {size} bytes")
     }
@@ -101,7 +87,7 @@ pub struct Overview<A: Allocator> {
 /// slot, or with `no slot`, and, where later libraries have a unit of its name too, one that names
 /// the first of them; the slots without a segment; and the first library from which nothing is taken.
 ///
-/// `reading` is what was read of the files of `inputs`, and `list` what `ps_segments::segments_of`
+/// `reading` is what was read of the files of `inputs`, and `list` what `ps_check_segments::segments_of`
 /// gives for it. The lines that begin with `slot ` are those of the segments of the list. Returns an
 /// error where memory was refused.
 pub fn overview_of<A: Allocator + Copy>(
@@ -115,11 +101,19 @@ pub fn overview_of<A: Allocator + Copy>(
         (inputs.now.host.now ∷ contents inputs.now.libs.now) (string_bytes made.files)) }
     ensures silent { IfOk result (λ made. AddsSlotLines [] [] (string_bytes made.files)) }
     ensures read { IfOk result (λ made. slot_lines (string_bytes made.segments) ≡ read_lines
-        (inputs.now.host_path.now ∷ contents inputs.now.paths.now) (map seen list.now)) }
+        (inputs.now.host_path.now ∷ contents inputs.now.paths.now)
+        (has_unread_spec inputs.now.host.now (contents inputs.now.libs.now)) (map seen list.now)) }
 {
     let files = file_lines(alloc, inputs)?;
     let mut segments = String::new(alloc);
-    add_segments(alloc, &mut segments, inputs, reading, list)?;
+    add_segments(
+        alloc,
+        &mut segments,
+        inputs,
+        reading,
+        list,
+        has_unread(inputs),
+    )?;
     Ok(Overview { files, segments })
 }
 
@@ -131,12 +125,13 @@ fn add_segments<A: Allocator + Copy>(
     inputs: &NamedFiles<'_>,
     reading: &Reading<'_>,
     list: &[ReadSegment<'_>],
+    unread: bool,
 ) -> Result<(), AllocError>
     ensures { OnOk result (AddsSlotLines (string_bytes text.old)
-        (read_lines (inputs.now.host_path.now ∷ contents inputs.now.paths.now) (map seen list.now))
-        (string_bytes text.new)) }
+        (read_lines (inputs.now.host_path.now ∷ contents inputs.now.paths.now) unread
+        (map seen list.now)) (string_bytes text.new)) }
 {
-    add_each(alloc, text, inputs, list)?;
+    add_each(alloc, text, inputs, list, unread)?;
     let lines = lines_after(alloc, inputs, reading, list)?;
     add_other_lines(text, lines.as_str())
 }
@@ -176,13 +171,14 @@ fn add_each<A: Allocator + Copy>(
     text: &mut String<A>,
     inputs: &NamedFiles<'_>,
     list: &[ReadSegment<'_>],
+    unread: bool,
 ) -> Result<(), AllocError>
     ensures { OnOk result (AddsSlotLines (string_bytes text.old)
-        (read_lines (inputs.now.host_path.now ∷ contents inputs.now.paths.now) (map seen list.now))
-        (string_bytes text.new)) }
+        (read_lines (inputs.now.host_path.now ∷ contents inputs.now.paths.now) unread
+        (map seen list.now)) (string_bytes text.new)) }
 {
     for segment in list {
-        add_segment(text, inputs, segment)?;
+        add_segment(text, inputs, segment, unread)?;
         let later = later_line_of(alloc, inputs, segment)?;
         add_other_lines(text, later.as_str())?;
     }
@@ -194,10 +190,11 @@ fn add_segment<A: Allocator>(
     text: &mut String<A>,
     inputs: &NamedFiles<'_>,
     segment: &ReadSegment<'_>,
+    unread: bool,
 ) -> Result<(), AllocError>
     ensures { OnOk result (AddsSlotLines (string_bytes text.old) (line_in_slot segment.now.slot
-        (read_line (inputs.now.host_path.now ∷ contents inputs.now.paths.now) (seen segment.now)))
-        (string_bytes text.new)) }
+        (read_line (inputs.now.host_path.now ∷ contents inputs.now.paths.now) unread
+        (seen segment.now))) (string_bytes text.new)) }
 {
     let head = Head {
         slot: segment.slot,
@@ -209,7 +206,7 @@ fn add_segment<A: Allocator>(
             let path = inputs.path(source.at.file);
             add_line(text, head, path, source.at.index, source.length)
         }
-        Err(absent) => add_absent(text, head, absent),
+        Err(absent) => add_absent(text, head, unread, absent),
     }
 }
 
@@ -229,26 +226,52 @@ fn later_line_of<A: Allocator>(
 fn add_absent<A: Allocator>(
     text: &mut String<A>,
     head: Head,
+    unread: bool,
     absent: Absent,
 ) -> Result<(), AllocError>
     ensures { OnOk result (AddsSlotLines (string_bytes text.old) (line_in_slot head.slot
-        (head_words head.slot head.name head.part ++ absence_words absent))
+        (head_words head.slot head.name head.part ++ why_words unread absent))
         (string_bytes text.new)) }
 {
-    push_absent(text, head, absent)
+    push_absent(text, head, unread, absent)
+}
+
+/// Some library cannot be read beside the host.
+fn has_unread(inputs: &NamedFiles<'_>) -> bool
+    ensures { result ≡ has_unread_spec inputs.now.host.now (contents inputs.now.libs.now) }
+{
+    let order = inputs.order();
+    for lib in inputs.libs {
+        if Dict::read_beside(lib, order).is_err() {
+            return true;
+        }
+    }
+    false
+}
+
+/// Why a segment comes from nowhere, in words that follow its name: where some library is `unread`, it
+/// may have the unit.
+fn why_of(unread: bool, absent: Absent) -> &'static str
+    ensures { result.now ≡ why_words unread absent }
+{
+    match absent {
+        Absent::Missing if unread => ", which no library that can be read has",
+        _ => words_of(absent),
+    }
 }
 
 /// Adds what a segment is and why it comes from no file, in a line.
 fn push_absent<A: Allocator>(
     text: &mut String<A>,
     head: Head,
+    unread: bool,
     absent: Absent,
 ) -> Result<(), AllocError>
     ensures { OnOk result (string_bytes text.new ≡ string_bytes text.old
         ++ (head_words head.slot head.name head.part
-        ++ (absence_words absent ++ 10 ∷ []))) }
+        ++ (why_words unread absent ++ 10 ∷ []))) }
 {
-    let why = words_of(absent);
+    let why = why_of(unread, absent);
     writeln!(text, "{head}{why}")
 }
 

@@ -1,8 +1,8 @@
 //! What the files say of private variables that do not fit.
 use crate::cases::Case;
+use ps_check_segments::host_of;
 use ps_linkinfo::Body;
 use ps_pcode::procedures_of;
-use ps_segments::host_of;
 
 impl Case<'_, '_> {
     /// The data size of the outer block of the host program, in bytes.

@@ -1,7 +1,7 @@
 //! What the link information says of a fault.
 use crate::cases::Case;
+use ps_check_segments::length_of;
 use ps_linkinfo::{LinkRecord, Sort};
-use ps_segments::length_of;
 use ps_words::{Name, Order, Reason};
 
 impl<'a> Case<'_, 'a> {

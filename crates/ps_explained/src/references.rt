@@ -1,9 +1,9 @@
 //! What the files say of the reference that a fault is reported with.
 use crate::cases::Case;
+use ps_check_segments::host_of;
 use ps_linkinfo::{Body, LinkRecord, Operand, Sort};
 use ps_pcode::procedures_of;
 use ps_resolve::{RecordAt, ReferenceAt, SegmentAt, covering_reference};
-use ps_segments::host_of;
 use ps_words::{Fault, Name, get_big};
 
 impl<'a> Case<'_, 'a> {
@@ -61,6 +61,25 @@ impl<'a> Case<'_, 'a> {
         match record.body {
             Body::PrivRef { .. } => self.base_offset(),
             _ => u64::from(self.defined_value(&record.name).unwrap_or(0)),
+        }
+    }
+
+    /// The operand leads past its variable: past the words of a private one, or past all that the
+    /// host program defines.
+    pub(crate) fn leads_past(&self) -> bool {
+        let (Some(record), Some(operand)) = (self.record(), self.operand()) else {
+            return false;
+        };
+        let displacement = self.displacement_of(operand);
+        match (&record.body, host_of(self.list)) {
+            (Body::PrivRef { words, .. }, _) => *words <= displacement,
+            (_, Some(host)) => {
+                let place = self
+                    .value_of(&record)
+                    .saturating_add(u64::from(displacement));
+                u64::from(host.records.next()) <= place
+            }
+            (_, None) => false,
         }
     }
 

@@ -1,6 +1,6 @@
 //! Lines that are no segment's.
 ghost use Rattle.std.specs.Prelude.{◌≡◌, ◌++◌, [], OnOk, string_bytes};
-ghost use Rattle.ps_explained.specs.SlotLines.{AddsSlotLines, indent as indent_spec, is_slot_line as is_slot_line_spec, other_line};
+ghost use Rattle.ps_explained.specs.SlotLines.{AddsSlotLines, indent as indent_spec, is_slot_line as is_slot_line_spec, line_of_no_segment};
 
 use std::alloc::{AllocError, Allocator};
 use std::fmt::Write as _;
@@ -24,9 +24,9 @@ pub fn indent(begins: bool) -> &'static str
 }
 
 /// Adds a line that is no segment's: one that begins as such a line is indented.
-#[tactic(auto, unfolding(crate::specs::SlotLines::other_line))]
+#[tactic(auto, unfolding(crate::specs::SlotLines::line_of_no_segment))]
 fn add_other_line<A: Allocator>(text: &mut String<A>, line: &str) -> Result<(), AllocError>
-    ensures { OnOk result (string_bytes text.new ≡ string_bytes text.old ++ other_line line.now) }
+    ensures { OnOk result (string_bytes text.new ≡ string_bytes text.old ++ line_of_no_segment line.now) }
 {
     let indent = indent(is_slot_line(line));
     writeln!(text, "{indent}{line}")

@@ -51,9 +51,13 @@ purpose_of order file =
 abbrev pub is_letter : ℕ → Bool
 is_letter byte = is_printed byte || byte == 0
 
--- a person can read the name: each of its bytes is such a one, and it is not blank
+-- a byte of a name: such a one, or one above 127, as some systems have for national letters
+abbrev pub is_name_byte : ℕ → Bool
+is_name_byte byte = is_letter byte || nat_le 128 byte
+
+-- a name can be read: each of its bytes is such a one, and it is not blank
 abbrev pub is_readable : List ℕ → Bool
-is_readable name = list_all is_letter name && not (is_nameless name)
+is_readable name = list_all is_name_byte name && not (is_nameless name)
 
 -- the entry of a slot is that of a code: its kind is one of those that there are, and its name can
 -- be read

@@ -2,7 +2,7 @@
 -- later release, whose bytes are not exchanged in pairs, and that are not one byte throughout.
 -- Source: this project's profile, over the segment dictionaries of UCSD Pascal II.0, III.0 and
 -- IV.0.
-use Rattle.std.specs.Prelude.{ℕ, ◌+◌, ◌-◌, ◌*◌, ◌/◌, ◌%◌, ◌==◌, ◌&&◌, ◌||◌, not, if◌then◌else◌, List, length, nat_le, nat_lt, slice_get, slice_index, take, Bool, false, Result, Ok, Err, is_some}
+use Rattle.std.specs.Prelude.{ℕ, ◌+◌, ◌-◌, ◌*◌, ◌/◌, ◌%◌, ◌==◌, ◌&&◌, ◌||◌, not, if◌then◌else◌, List, length, nat_le, nat_lt, slice_get, slice_index, take, Bool, true, false, Option, Some, None, Result, Ok, Err, is_some}
 use Rattle.std.specs.List.{list_all, list_any, range_with_len}
 use Rattle.std.specs.Option.{option_map_or}
 use Rattle.std.specs.Result.{is_ok}
@@ -13,6 +13,8 @@ use Rattle.ps_words.specs.declared.fault.Reason.{Reason}
 use Rattle.ps_codefile.specs.Dictionary.{OpenedFile, code_of, entry_at, is_filled, kind_needs_linking, name_at, slots}
 use Rattle.ps_codefile.specs.Opened.{opened}
 use Rattle.ps_filetype.specs.CodeFiles.{code_file, is_letter}
+use Rattle.ps_filetype.specs.declared.code_file.CodeFile.{CodeFile}
+use Rattle.ps_filetype.specs.declared.code_file.CodeFile.TheVariants.{Host, Library, Linked, Mixed}
 
 -- there are bytes, and all of them are one
 abbrev pub is_one_byte : List ℕ → Bool
@@ -116,8 +118,40 @@ unfoldable pub is_swapped_in : Order → List ℕ → Bool
 is_swapped_in order file = list_all (is_swapped_slot order file) slots
     && list_any (is_linkable order file) slots
 
+-- a slot is filled with a linked code
+abbrev pub is_linked : Order → List ℕ → ℕ → Bool
+is_linked order file slot = (entry_at order file slot).kind == 0
+    && is_filled (entry_at order file slot)
+
+-- the code of a slot has swapped bytes, if it is linked
+abbrev pub is_swapped_linked : Order → List ℕ → ℕ → Bool
+is_swapped_linked order file slot = not (is_linked order file slot)
+    || is_swapped_code order (code_of file (entry_at order file slot))
+
+-- the last two bytes of a code differ: the number of the segment and that of its procedures
+unfoldable pub has_two_numbers : List ℕ → Bool
+has_two_numbers code = not (nat_lt (length code) 2)
+    && not (slice_index code (length code - 2) == slice_index code (length code - 1))
+
+abbrev pub code_has_two_numbers : Result (List ℕ) Reason → Bool
+code_has_two_numbers (Ok code) = has_two_numbers code
+code_has_two_numbers (Err why) = false
+
+-- a linked code says by its last two bytes which of them is the number of its procedures
+abbrev pub is_shown_linked : Order → List ℕ → ℕ → Bool
+is_shown_linked order file slot = is_linked order file slot
+    && code_has_two_numbers (code_of file (entry_at order file slot))
+
+-- no code is to be linked, each linked one has swapped bytes, and one of them shows it: an assembled
+-- procedure of segment 1 may look so by right
+unfoldable pub is_swapped_link : Order → List ℕ → Bool
+is_swapped_link order file = not (list_any (is_linkable order file) slots)
+    && (list_all (is_swapped_linked order file) slots
+    && list_any (is_shown_linked order file) slots)
+
+-- the bytes of a file that can be read are exchanged in pairs
 abbrev pub is_swapped_file : Result OpenedFile Reason → Bool
-is_swapped_file (Ok f) = is_swapped_in f.order f.file
+is_swapped_file (Ok f) = is_swapped_in f.order f.file || is_swapped_link f.order f.file
 is_swapped_file (Err why) = false
 
 -- a file that can be read is a code file
@@ -125,7 +159,24 @@ abbrev pub is_for_something : Result OpenedFile Reason → Bool
 is_for_something (Ok f) = is_some (code_file f.order f.file)
 is_for_something (Err why) = false
 
+-- what a file that can be read is for
+abbrev pub purpose_in : Result OpenedFile Reason → Option CodeFile
+purpose_in (Ok f) = code_file f.order f.file
+purpose_in (Err why) = None
+
+-- it is for a host program
+abbrev pub is_hosts : Option CodeFile → Bool
+is_hosts (Some Host) = true
+is_hosts (Some Library) = false
+is_hosts (Some Linked) = false
+is_hosts (Some Mixed) = false
+is_hosts None = false
+
 -- the file is a code file as it ought to be
 unfoldable pub is_code_type : List ℕ → Bool
 is_code_type file = not (is_one_byte file) && not (is_later file)
     && is_for_something (opened file) && not (is_swapped_file (opened file))
+
+-- the file is a code file as it ought to be that has a host program
+abbrev pub is_host_type : List ℕ → Bool
+is_host_type file = is_code_type file && is_hosts (purpose_in (opened file))

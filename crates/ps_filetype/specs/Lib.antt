@@ -1,5 +1,6 @@
 pub mod CodeFiles
 pub mod Shown
+pub mod ShellWords
 pub mod CodeTypes
 pub mod Names
 pub mod TypeWords

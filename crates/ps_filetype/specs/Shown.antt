@@ -1,4 +1,4 @@
--- How names and paths are shown in a line for a person.
+-- How names, numbers of slots and paths are shown in a line for a person.
 use Rattle.std.specs.Prelude.{ℕ, ◌==◌, ◌&&◌, ◌||◌, ◌+◌, ◌/◌, ◌%◌, not, if◌then◌else◌, Bool, false, Option, Some, None, List, [], ◌∷◌, ◌++◌, length, nat_le, nat_lt, chars}
 use Rattle.std.specs.Char.{encode_utf8, is_ascii_graphic, is_control}
 use Rattle.std.specs.Fmt.{digits}
@@ -35,6 +35,10 @@ quotes quoted = if quoted then 34 ∷ [] else []
 unfoldable pub shown_name : List ℕ → List ℕ
 shown_name name = let mark = quotes (is_quoted (trimmed name)) in
     mark ++ (flat_map shown_byte (trimmed name) ++ mark)
+
+-- the number of a slot or an entry, of two digits
+abbrev pub slot_digits : ℕ → List ℕ
+slot_digits n = (48 + n / 10) ∷ (48 + n % 10) ∷ []
 
 -- a character that takes no room on a line or turns the direction of what follows: the soft hyphen,
 -- the marks of direction, joiners and blanks without width, the byte order mark

@@ -10,6 +10,8 @@ use Rattle.ps_filetype.specs.declared.images.Image.{Image}
 use Rattle.ps_filetype.specs.declared.images.Image.TheVariants as image
 use Rattle.ps_filetype.specs.declared.line_ends.LineEnds.{LineEnds}
 use Rattle.ps_filetype.specs.declared.line_ends.LineEnds.TheVariants as ends
+use Rattle.ps_filetype.specs.declared.odd_names.Oddity.{Oddity}
+use Rattle.ps_filetype.specs.declared.odd_names.Oddity.TheVariants as odd
 use Rattle.ps_filetype.specs.declared.release.Release.TheVariants as release
 
 -- it is a code file as it ought to be
@@ -26,6 +28,10 @@ abbrev pub image_words : Image → List ℕ
 image_words image.Blocks = codes "a disk image"
 image_words image.DosOrder = codes "a disk image with its sectors in the order of DOS 3.3"
 image_words image.TwoImg = codes "a disk image behind a header of the form 2IMG"
+image_words image.OtherOrder =
+    codes "a disk image with its sectors in another order than its blocks"
+image_words image.TwoImgDosOrder = codes "a disk image with its sectors in the order of DOS 3.3 "
+    ++ codes "behind a header of the form 2IMG"
 image_words image.DiskCopy = codes "a disk image behind a header of DiskCopy 4.2"
 image_words image.Nibbles = codes "a disk image of nibbles"
 
@@ -39,6 +45,13 @@ abbrev pub line_end_words : LineEnds → List ℕ
 line_end_words ends.Pairs = codes "each 0A in it comes after a 0D"
 line_end_words ends.Returns = codes "it has bytes 0D and none 0A"
 line_end_words ends.Feeds = codes "it has bytes 0A and none 0D"
+
+-- how a name is odd
+abbrev pub oddity_words : Oddity → List ℕ
+oddity_words odd.HighBytes = codes "has bytes above 127"
+oddity_words odd.ControlBytes = codes "has control bytes"
+oddity_words odd.Zeros = codes "is padded with zeros where blanks are expected"
+oddity_words odd.SmallLetters = codes "has small letters, and other names have capitals"
 
 -- the words for a type that has no part
 abbrev pub plain_words : FileType → List ℕ
@@ -55,6 +68,7 @@ plain_words (type.Later release.Four) =
     codes "a code file of release IV.0, which is not supported"
 plain_words type.SystemText = codes "a text of a p-System"
 plain_words type.Text = codes "a text"
+plain_words type.Encoded = codes "a text that a file was turned into, as a hexadecimal dump"
 plain_words type.WideText = codes "a text in UTF-16"
 plain_words type.Empty = codes "an empty file"
 plain_words t = codes "no code file of a known form"

@@ -1,10 +1,10 @@
 //! Which code file a file is.
-ghost use Rattle.std.specs.Prelude.{◌≡◌, ◌+◌, ◌-◌, ◌*◌, ◌<◌, ◌≤◌, is_some, length};
+ghost use Rattle.std.specs.Prelude.{◌≡◌, ◌+◌, ◌-◌, ◌*◌, ◌<◌, ◌≤◌, ◌||◌, is_some, length};
 ghost use Rattle.std.specs.List.{list_all, list_any, range_with_len};
 ghost use Rattle.ps_codefile.specs.Dictionary.{code_of, entry_at, role_of, slots};
 ghost use Rattle.ps_codefile.specs.Opened.{opened};
-ghost use Rattle.ps_filetype.specs.CodeFiles.{code_file, code_file_word, has_kind as has_kind_spec, has_kinds as has_kinds_spec, has_other as has_other_spec, has_other_kind as has_other_kind_spec, has_shown_code as has_shown_code_spec, is_code_file as is_code_file_spec, is_kind as is_kind_spec, is_letter as is_letter_spec, is_other as is_other_spec, is_readable as is_readable_spec, purpose_of as purpose_of_spec, shows_code as shows_code_spec, tells as tells_spec, wants_unit as wants_unit_spec};
-ghost use Rattle.ps_filetype.specs.CodeTypes.{distance as distance_spec, has_number as has_number_spec, has_numbers as has_numbers_spec, has_table as has_table_spec, has_word as has_word_spec, is_code_type as is_code_type_spec, is_for_something, is_linkable as is_linkable_spec, is_number_at as is_number_at_spec, is_swapped as is_swapped_spec, is_swapped_code as is_swapped_code_spec, is_swapped_file as is_swapped_file_spec, is_swapped_in as is_swapped_in_spec, is_swapped_slot as is_swapped_slot_spec, word_place};
+ghost use Rattle.ps_filetype.specs.CodeFiles.{code_file, code_file_word, has_kind as has_kind_spec, has_kinds as has_kinds_spec, has_other as has_other_spec, has_other_kind as has_other_kind_spec, has_shown_code as has_shown_code_spec, is_code_file as is_code_file_spec, is_kind as is_kind_spec, is_letter as is_letter_spec, is_name_byte as is_name_byte_spec, is_other as is_other_spec, is_readable as is_readable_spec, purpose_of as purpose_of_spec, shows_code as shows_code_spec, tells as tells_spec, wants_unit as wants_unit_spec};
+ghost use Rattle.ps_filetype.specs.CodeTypes.{code_has_two_numbers as code_has_two_numbers_spec, distance as distance_spec, has_number as has_number_spec, has_numbers as has_numbers_spec, has_table as has_table_spec, has_two_numbers as has_two_numbers_spec, has_word as has_word_spec, is_code_type as is_code_type_spec, is_for_something, is_host_type as is_host_type_spec, is_linkable as is_linkable_spec, is_linked as is_linked_spec, is_number_at as is_number_at_spec, is_shown_linked as is_shown_linked_spec, is_swapped as is_swapped_spec, is_swapped_code as is_swapped_code_spec, is_swapped_file as is_swapped_file_spec, is_swapped_in as is_swapped_in_spec, is_swapped_link as is_swapped_link_spec, is_swapped_linked as is_swapped_linked_spec, is_swapped_slot as is_swapped_slot_spec, purpose_in, word_place};
 
 use crate::bytes::is_one_byte;
 use crate::release::later_release;
@@ -99,7 +99,7 @@ impl CodeFile {
     /// What the file with this dictionary is for; none where it is no code file.
     ///
     /// A code file has a filled entry of a kind up to 7 with a name that is not blank and of which
-    /// ASCII prints each byte. Where all kinds are 0, as in a linked file, it has a code that is
+    /// ASCII prints each byte that is neither 0 nor above 127. Where all kinds are 0, as in a linked file, it has a code that is
     /// whole in the file and has a name. What it is for is said by each entry that is filled or
     /// wants a unit.
     #[tactic(auto, unfolding(crate::specs::CodeFiles::code_file))]
@@ -126,11 +126,27 @@ impl CodeFile {
     }
 }
 
-/// A person can read the name: ASCII prints each of its bytes that is not 0, and it is not blank.
+/// The name can be read: ASCII prints each of its bytes that is neither 0 nor above 127, and it is not
+/// blank.
 fn is_readable(name: &Name) -> bool
     ensures { result ≡ is_readable_spec name.now }
 {
-    are_letters(name) && !is_nameless(name)
+    are_name_bytes(name) && !is_nameless(name)
+}
+
+/// The byte may be one of a name: one that a person can read, or one above 127, as some systems have
+/// for national letters.
+fn is_name_byte(byte: u8) -> bool
+    ensures { result ≡ is_name_byte_spec byte }
+{
+    is_letter(byte) || 128 <= byte
+}
+
+/// Each byte may be one of a name.
+fn are_name_bytes(name: &[u8]) -> bool
+    ensures { result ≡ list_all is_name_byte_spec name.now }
+{
+    name.iter().all(|byte| is_name_byte(*byte))
 }
 
 /// The byte may be one of a name that a person can read: ASCII prints it, or it is a 0, which some
@@ -194,7 +210,8 @@ fn is_code_file(dict: &Dict<'_>) -> bool
 
 /// What a code file is for; none where the file is no code file.
 pub(crate) fn code_file_of(bytes: &[u8]) -> Option<CodeFile>
-    ensures { is_some result ≡ is_for_something (opened bytes.now) }
+    ensures some { is_some result ≡ is_for_something (opened bytes.now) }
+    ensures purpose { result ≡ purpose_in (opened bytes.now) }
 {
     match open(bytes) {
         Ok(dict) => CodeFile::of(&dict),
@@ -207,7 +224,8 @@ pub(crate) fn code_file_of(bytes: &[u8]) -> Option<CodeFile>
 /// The entries of the file say what it is for, as for [`CodeFile::of`]; it is no file of release
 /// III.0 or IV.0, it is not one byte throughout, and its bytes are not exchanged in pairs. The
 /// bytes of a file are exchanged where each code that is to be linked has its numbers right if they
-/// are exchanged back, and not as they are.
+/// are exchanged back, and not as they are; those of a file where none is to be linked, where this is so
+/// of each linked code.
 #[tactic(auto, unfolding(crate::specs::CodeTypes::is_code_type))]
 pub fn is_code_type(bytes: &[u8]) -> bool
     ensures { result ≡ is_code_type_spec bytes.now }
@@ -216,6 +234,13 @@ pub fn is_code_type(bytes: &[u8]) -> bool
         && later_release(bytes).is_none()
         && code_file_of(bytes).is_some()
         && !is_swapped_file(bytes)
+}
+
+/// The file is a code file as it ought to be that has a host program.
+pub fn is_host_type(bytes: &[u8]) -> bool
+    ensures { result ≡ is_host_type_spec bytes.now }
+{
+    is_code_type(bytes) && matches!(code_file_of(bytes), Some(CodeFile::Host))
 }
 
 /// The word of a procedure is in the code.
@@ -369,13 +394,89 @@ fn is_swapped_in(dict: &Dict<'_>) -> bool
     are_swapped(dict) && has_linkable(dict)
 }
 
+/// A slot is filled with a linked code.
+fn is_linked(dict: &Dict<'_>, slot: u8) -> bool
+    requires { slot < SLOTS }
+    ensures { result ≡ is_linked_spec dict.now.order dict.now.file slot }
+{
+    dict.entry(slot).kind == LINKED && dict.filled(slot)
+}
+
+/// The bytes of the code of a slot are exchanged in pairs, if it is linked.
+fn is_swapped_linked(dict: &Dict<'_>, slot: u8) -> bool
+    requires { slot < SLOTS }
+    ensures { result ≡ is_swapped_linked_spec dict.now.order dict.now.file slot }
+{
+    !is_linked(dict, slot) || is_swapped_code(dict, slot)
+}
+
+/// The last two bytes of a code differ: the number of the segment and that of its procedures.
+#[tactic(auto, unfolding(crate::specs::CodeTypes::has_two_numbers))]
+fn has_two_numbers(code: &[u8]) -> bool
+    ensures { result ≡ has_two_numbers_spec code.now }
+{
+    NUMBERS <= code.len() && code[code.len() - 2] != code[code.len() - 1]
+}
+
+/// The last two bytes of the code of a slot differ.
+fn code_has_two_numbers(dict: &Dict<'_>, slot: u8) -> bool
+    requires { slot < SLOTS }
+    ensures { result ≡ code_has_two_numbers_spec (code_of dict.now.file
+        (entry_at dict.now.order dict.now.file slot)) }
+{
+    match dict.code(slot) {
+        Ok(code) => has_two_numbers(code),
+        Err(_) => false,
+    }
+}
+
+/// A linked code says by its last two bytes which of them is the number of its procedures.
+fn is_shown_linked(dict: &Dict<'_>, slot: u8) -> bool
+    requires { slot < SLOTS }
+    ensures { result ≡ is_shown_linked_spec dict.now.order dict.now.file slot }
+{
+    is_linked(dict, slot) && code_has_two_numbers(dict, slot)
+}
+
+/// The bytes of each linked code are exchanged in pairs.
+fn are_swapped_linked(dict: &Dict<'_>) -> bool
+    ensures { result ≡ list_all (is_swapped_linked_spec dict.now.order dict.now.file) slots }
+{
+    (0..SLOTS).all(|slot| is_swapped_linked(dict, slot))
+}
+
+/// A linked code shows by its last two bytes whether they are exchanged.
+fn has_shown_linked(dict: &Dict<'_>) -> bool
+    ensures { result ≡ list_any (is_shown_linked_spec dict.now.order dict.now.file) slots }
+{
+    (0..SLOTS).any(|slot| is_shown_linked(dict, slot))
+}
+
+/// No code is to be linked, the bytes of each linked one are exchanged in pairs, and one of them shows
+/// it. An assembled procedure of segment 1 may look so by right.
+#[tactic(auto, unfolding(crate::specs::CodeTypes::is_swapped_link))]
+fn is_swapped_link(dict: &Dict<'_>) -> bool
+    ensures { result ≡ is_swapped_link_spec dict.now.order dict.now.file }
+{
+    !has_linkable(dict) && are_swapped_linked(dict) && has_shown_linked(dict)
+}
+
+/// The bytes of a file are exchanged in pairs, of one that is to be linked or of one that is linked.
+fn is_swapped_dict(dict: &Dict<'_>) -> bool
+    ensures { result ≡ (is_swapped_in_spec dict.now.order dict.now.file
+        || is_swapped_link_spec dict.now.order dict.now.file) }
+{
+    is_swapped_in(dict) || is_swapped_link(dict)
+}
+
 /// The bytes of a code file are exchanged in pairs: so are those of each code that is to be linked,
-/// and there is one. An assembled entry says nothing, since it has a native procedure by right.
+/// and there is one, or, where none is to be linked, those of each linked one. An assembled entry says
+/// nothing, since it has a native procedure by right.
 pub(crate) fn is_swapped_file(bytes: &[u8]) -> bool
     ensures { result ≡ is_swapped_file_spec (opened bytes.now) }
 {
     match open(bytes) {
-        Ok(dict) => is_swapped_in(&dict),
+        Ok(dict) => is_swapped_dict(&dict),
         Err(_) => false,
     }
 }
@@ -421,6 +522,15 @@ fn is_found(dict: &Dict<'_>, slot: u8) -> bool
     requires { slot < SLOTS }
 {
     dict.is_whole(slot) && is_readable(&dict.entry(slot).name) && has_dictionary(dict, slot)
+}
+
+/// Some code of the file ends with its procedure dictionary, as one does in each code file that is
+/// not damaged.
+pub fn has_procedure_dictionary(bytes: &[u8]) -> bool {
+    match open(bytes) {
+        Ok(dict) => (0..SLOTS).any(|slot| dict.is_whole(slot) && has_dictionary(&dict, slot)),
+        Err(_) => false,
+    }
 }
 
 /// The file is a code file, and its codes have their procedure dictionaries: each that is to be

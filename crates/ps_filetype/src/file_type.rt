@@ -38,6 +38,8 @@ pub enum FileType {
     /// A text of a p-System.
     SystemText,
     Text,
+    /// A text that a file was turned into, as a hexadecimal dump.
+    Encoded,
     /// A text in UTF-16.
     WideText,
     /// A file without a byte.
@@ -134,6 +136,7 @@ impl FileType {
             FileType::Later(Release::Four) => "a code file of release IV.0, which is not supported",
             FileType::SystemText => "a text of a p-System",
             FileType::Text => "a text",
+            FileType::Encoded => "a text that a file was turned into, as a hexadecimal dump",
             FileType::WideText => "a text in UTF-16",
             FileType::Empty => "an empty file",
             FileType::Code(_)

@@ -2,13 +2,36 @@
 ghost use Rattle.std.specs.Prelude.{◌≡◌};
 ghost use Rattle.ps_filetype.specs.TypeWords.{image_words};
 
-use ps_words::{Name, Order, get};
+use ps_codefile::dictionary_layout::{NAMES, PAIR, SLOTS};
+use ps_words::{NAME_LEN, Name, Order, get};
 
 /// Where the directory of a volume is: in block 2.
 const DIRECTORY: usize = 1024;
 
 /// Where block 2 begins in an image that has the sectors in the order of DOS 3.3.
 const DOS_DIRECTORY: usize = 2816;
+
+/// Where the second half of block 2 is in such an image.
+const DOS_REST: usize = 2560;
+
+/// How many bytes a sector has.
+const HALF: usize = 256;
+
+/// Where a directory has the block after its last, and the number of its files; how long the entry of
+/// a file is, and where that has its kind; and how many entries are in the first half of the first
+/// block, but for the last word of the last.
+const LAST_BLOCK: usize = 2;
+
+const FILE_COUNT: usize = 16;
+
+const ENTRY_LEN: usize = 26;
+
+const FILE_KIND: usize = 4;
+
+const FIRST_FILES: u16 = 8;
+
+/// The kind of a code file.
+const CODE_FILE: u16 = 2;
 
 /// The lengths of an image of 35 tracks: of 16 sectors of 256 bytes, and as it is on the disk.
 const DOS_LENGTH: usize = 143_360;
@@ -32,8 +55,12 @@ pub enum Image {
     Blocks,
     /// The sectors of the image stand in the order of DOS 3.3.
     DosOrder,
-    /// The blocks, or the sectors, are behind the header of the form 2IMG.
+    /// The sectors of the image stand in another order than that of its blocks and that of DOS 3.3.
+    OtherOrder,
+    /// The blocks are behind the header of the form 2IMG.
     TwoImg,
+    /// The sectors are behind that header, in the order of DOS 3.3.
+    TwoImgDosOrder,
     /// The blocks are behind the header of DiskCopy 4.2.
     DiskCopy,
     /// The bytes of the image are those that are on the disk.
@@ -48,6 +75,9 @@ impl Image {
         match self {
             Image::Blocks => "a disk image",
             Image::DosOrder => "a disk image with its sectors in the order of DOS 3.3",
+            Image::OtherOrder => "a disk image with its sectors in another order than its blocks",
+            Image::TwoImgDosOrder =>
+                "a disk image with its sectors in the order of DOS 3.3 behind a header of the form 2IMG",
             Image::TwoImg => "a disk image behind a header of the form 2IMG",
             Image::DiskCopy => "a disk image behind a header of DiskCopy 4.2",
             Image::Nibbles => "a disk image of nibbles",
@@ -61,10 +91,7 @@ pub(crate) fn image_of(bytes: &[u8]) -> Option<(Image, Option<Name>)> {
         return Some((Image::Blocks, Some(name)));
     }
     if bytes.starts_with(b"2IMG") {
-        // (its blocks, or its sectors, follow the header)
-        let name = volume_at(bytes, TWO_IMG + DIRECTORY);
-        let name = name.or(volume_at(bytes, TWO_IMG + DOS_DIRECTORY));
-        return Some((Image::TwoImg, name));
+        return Some(two_img_of(bytes));
     }
     if bytes.len() == NIBBLES_LENGTH {
         // (what begins the address of a sector is among the first bytes of a track)
@@ -83,7 +110,110 @@ pub(crate) fn image_of(bytes: &[u8]) -> Option<(Image, Option<Name>)> {
         return None;
     }
     let name = volume_at(bytes, DOS_DIRECTORY)?;
-    Some((Image::DosOrder, Some(name)))
+    if is_in_dos_order(bytes, 0) {
+        Some((Image::DosOrder, Some(name)))
+    } else {
+        Some((Image::OtherOrder, Some(name)))
+    }
+}
+
+/// What an image behind the header of the form 2IMG is: its blocks, or its sectors, follow it.
+fn two_img_of(bytes: &[u8]) -> (Image, Option<Name>) {
+    let in_dos_order = volume_at(bytes, TWO_IMG + DOS_DIRECTORY);
+    match volume_at(bytes, TWO_IMG + DIRECTORY) {
+        None if in_dos_order.is_some() && is_in_dos_order(bytes, TWO_IMG) => {
+            (Image::TwoImgDosOrder, in_dos_order)
+        }
+        name => (Image::TwoImg, name.or(in_dos_order)),
+    }
+}
+
+/// The sectors of an image from a place on are in the order of DOS 3.3: a code file that its directory
+/// names begins where it does in that order; without any, the directory goes on where it does. Other
+/// orders of sectors have the first half of the directory in the same place.
+fn is_in_dos_order(bytes: &[u8], start: usize) -> bool {
+    let image = bytes.get(start..).unwrap_or(&[]);
+    let directory = image.get(DOS_DIRECTORY..).unwrap_or(&[]);
+    let order = order_of(directory);
+    let files = word_in(order, directory, FILE_COUNT);
+    let mut told = None;
+    for file in 1..=FIRST_FILES {
+        let entry = directory
+            .get(ENTRY_LEN * usize::from(file)..)
+            .unwrap_or(&[]);
+        let block = word_in(order, entry, 0);
+        let is_code = word_in(order, entry, FILE_KIND) % 16 == CODE_FILE;
+        if file <= files && is_code && !is_shared(block) && told != Some(true) {
+            told = Some(is_dictionary(first_half(image, block)));
+        }
+    }
+    match told {
+        Some(is_found) => is_found,
+        None => goes_on(order, image, files),
+    }
+}
+
+/// The word at a place of bytes; 0 where they end before it.
+fn word_in(order: Order, bytes: &[u8], place: usize) -> u16 {
+    match bytes.get(place..) {
+        Some(rest) if 2 <= rest.len() => get(order, rest, 0),
+        _ => 0,
+    }
+}
+
+/// Another order of sectors has the first half of the block in the same place.
+fn is_shared(block: u16) -> bool {
+    matches!(block % 8, 0 | 2)
+}
+
+/// The first half of a block of an image in the order of DOS 3.3. A track has eight blocks; its first
+/// sector is where it was, and of the others up to the last but one the order is reversed.
+fn first_half(image: &[u8], block: u16) -> &[u8] {
+    let half = 2 * usize::from(block % 8);
+    let sector = if half == 0 { 0 } else { 15 - half };
+    let place = 16 * HALF * usize::from(block / 8) + HALF * sector;
+    image.get(place..).unwrap_or(&[]).get(..HALF).unwrap_or(&[])
+}
+
+/// The slot of the first half of a segment dictionary has a length, and a name in letters.
+fn has_segment(half: &[u8], slot: u8) -> bool {
+    let slot = usize::from(slot);
+    let length = half.get(PAIR * slot + 2..PAIR * slot + 4).unwrap_or(&[]);
+    let name = half.get(NAMES + NAME_LEN * slot..).unwrap_or(&[]);
+    let name = name.get(..NAME_LEN).unwrap_or(&[]);
+    length.iter().any(|byte| *byte != 0)
+        && matches!(name, [first, ..] if first.is_ascii_alphanumeric())
+        && name
+            .iter()
+            .all(|byte| *byte == b' ' || byte.is_ascii_graphic())
+}
+
+/// The bytes are the first half of a segment dictionary: a slot has a segment.
+fn is_dictionary(half: &[u8]) -> bool {
+    (0..SLOTS).any(|slot| has_segment(half, slot))
+}
+
+/// The directory goes on in the second half of its first block, as it is in the order of DOS 3.3: with
+/// the entries of its files, or with zeros.
+fn goes_on(order: Order, image: &[u8], files: u16) -> bool {
+    let Some(half) = image.get(DOS_REST..DOS_REST + HALF) else {
+        return false;
+    };
+    if files <= FIRST_FILES {
+        return half.iter().all(|byte| *byte == 0);
+    }
+    // (the last file of the first half has its last word here, and then the next file begins)
+    let used = word_in(order, half, 0);
+    let (first, next) = (word_in(order, half, 4), word_in(order, half, 6));
+    (1..=512).contains(&used) && (files == FIRST_FILES + 1 || first < next)
+}
+
+/// The order of the words of a directory, by its second word, which is 6 or 10.
+fn order_of(directory: &[u8]) -> Order {
+    match directory.get(LAST_BLOCK) {
+        Some(0) => Order::Big,
+        _ => Order::Little,
+    }
 }
 
 /// The word at a place of a directory, in either order.

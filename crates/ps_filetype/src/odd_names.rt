@@ -1,6 +1,8 @@
 //! Names that look wrong, and names as they ought to be written.
-ghost use Rattle.std.specs.Prelude.{◌≡◌};
-ghost use Rattle.ps_filetype.specs.Names.{is_near as is_near_spec, plain as plain_spec, plain_byte as plain_byte_spec};
+ghost use Rattle.std.specs.Prelude.{Some, ◌<◌, ◌≡◌};
+ghost use Rattle.std.specs.List.{list_all, range_with_len};
+ghost use Rattle.ps_filetype.specs.Names.{is_alike_at as is_alike_at_spec, is_near as is_near_spec, is_padding as is_padding_spec, is_respelled as is_respelled_spec, plain as plain_spec, plain_byte as plain_byte_spec};
+ghost use Rattle.ps_filetype.specs.TypeWords.{oddity_words};
 
 use ps_codefile::is_nameless;
 use ps_words::{NAME_LEN, Name};
@@ -16,14 +18,25 @@ pub enum Oddity {
     SmallLetters,
 }
 
-impl fmt::Display for Oddity {
-    fn fmt<W: fmt::Write>(&self, f: &mut Formatter<W>) -> fmt::Result {
-        f.write_str(match self {
+impl Oddity {
+    /// How it is odd.
+    fn words(&self) -> &'static str
+        ensures { result.now ≡ oddity_words self.now }
+    {
+        match self {
             Oddity::HighBytes => "has bytes above 127",
             Oddity::ControlBytes => "has control bytes",
             Oddity::Zeros => "is padded with zeros where blanks are expected",
             Oddity::SmallLetters => "has small letters, and other names have capitals",
-        })
+        }
+    }
+}
+
+impl fmt::Display for Oddity {
+    ghost output = { λ oddity. Some (oddity_words oddity) };
+
+    fn fmt<W: fmt::Write>(&self, f: &mut Formatter<W>) -> fmt::Result {
+        f.write_str(self.words())
     }
 }
 
@@ -82,4 +95,43 @@ pub fn is_near(a: &Name, b: &Name) -> bool
     ensures { result ≡ is_near_spec a.now b.now }
 {
     a != b && plain(a) == plain(b)
+}
+
+/// The byte may pad a name: a blank, or a 0 in its place.
+fn is_padding(byte: u8) -> bool
+    ensures { result ≡ is_padding_spec byte }
+{
+    byte == b' ' || byte == 0
+}
+
+/// Each of these bytes may pad a name.
+fn are_padding(rest: &[u8]) -> bool
+    ensures { result ≡ list_all is_padding_spec rest.now }
+{
+    rest.iter().all(|byte| is_padding(*byte))
+}
+
+/// At this place the names have one letter, a capital or a small one, or both have padding from here
+/// on.
+fn is_alike_at(a: &Name, b: &Name, place: usize) -> bool
+    requires { place < 8 }
+    ensures { result ≡ is_alike_at_spec a.now b.now place }
+{
+    a[place].to_ascii_uppercase() == b[place].to_ascii_uppercase()
+        || are_padding(&a[place..]) && are_padding(&b[place..])
+}
+
+/// At each place the names have one letter or both have padding from there on.
+fn are_alike(a: &Name, b: &Name) -> bool
+    ensures { result ≡ list_all (is_alike_at_spec a.now b.now) (range_with_len 0 8) }
+{
+    (0..NAME_LEN).all(|place| is_alike_at(a, b, place))
+}
+
+/// The names differ in capitals A to Z or in padding alone: blanks, or zeros in their place.
+#[tactic(auto, unfolding(crate::specs::Names::is_respelled))]
+pub fn is_respelled(a: &Name, b: &Name) -> bool
+    ensures { result ≡ is_respelled_spec a.now b.now }
+{
+    a != b && are_alike(a, b)
 }

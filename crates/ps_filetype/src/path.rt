@@ -38,7 +38,7 @@ pub fn is_hidden(c: char) -> bool
 }
 
 /// A character of the path is hidden.
-fn has_hidden(path: &str) -> bool
+pub(crate) fn has_hidden(path: &str) -> bool
     ensures { result ≡ list_any is_hidden_spec (chars path.now) }
 {
     path.chars().any(is_hidden)

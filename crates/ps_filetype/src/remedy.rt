@@ -1,18 +1,72 @@
 //! The way from a file to the code file.
 use crate::code_file::CodeFile;
 use crate::file_type::FileType;
-use crate::path::ShownPath;
+use crate::images::Image;
+use crate::path::{ShownPath, has_hidden};
+use crate::shell::{Command, Steps};
 use std::fmt::{self, Formatter};
 
 /// What to do with a file of this type so that a code file is given. Its text is one sentence, or
-/// two.
+/// two. A command in it has the path as a shell reads it.
 #[derive(Clone, Copy)]
 pub struct Remedy<'a> {
     pub file_type: FileType,
     pub path: &'a str,
+    /// The number of a file that is not there yet, which a command may write: 1 is `FILE`, and 2
+    /// `FILE.2`.
+    pub target: usize,
 }
 
 impl Remedy<'_> {
+    /// What to do by a command, if one does it.
+    fn steps(&self) -> Option<Steps> {
+        match self.file_type {
+            FileType::Swapped => Some(Steps {
+                before: "Exchange the bytes again: dd conv=swab if=",
+                between: " of=",
+                after: ". Then give ",
+                end: ".",
+            }),
+            FileType::MacBinary | FileType::Header { bytes: 128 } => Some(Steps {
+                before: "Remove the header: tail -c +129 ",
+                between: " > ",
+                after: ". Then give ",
+                end: ".",
+            }),
+            FileType::Header { .. } => Some(Steps {
+                before: "Remove the header: tail -c +513 ",
+                between: " > ",
+                after: ". Then give ",
+                end: ".",
+            }),
+            FileType::Gzip => Some(Steps {
+                before: "Unpack it: gzip -dc < ",
+                between: " > ",
+                after: ". Then give ",
+                end: ".",
+            }),
+            FileType::Disk {
+                image: Image::TwoImg | Image::TwoImgDosOrder,
+                ..
+            } => Some(Steps {
+                before: "Remove the header: tail -c +65 ",
+                between: " > ",
+                after: ". Then take the code file off the volume in ",
+                end: ", as binary, and give that.",
+            }),
+            FileType::Disk {
+                image: Image::DiskCopy,
+                ..
+            } => Some(Steps {
+                before: "Remove the header: tail -c +85 ",
+                between: " > ",
+                after: ". Then take the code file off the volume in ",
+                end: ", as binary, and give that.",
+            }),
+            _ => None,
+        }
+    }
+
     /// What to do, with `PATH` in place of the path.
     fn sentence(&self) -> &'static str {
         match self.file_type {
@@ -21,13 +75,8 @@ impl Remedy<'_> {
             FileType::Code(CodeFile::Host) => "Give PATH as HOST.",
             FileType::Code(CodeFile::Library | CodeFile::Mixed) =>
                 "Give the compiled program as HOST, and PATH after it, as a library.",
-            FileType::Swapped =>
-                "Exchange the bytes again: dd conv=swab if=PATH of=FILE. Then give FILE.",
-            FileType::MacBinary | FileType::Header { bytes: 128 } =>
-                "Remove the header: tail -c +129 PATH > FILE. Then give FILE.",
-            FileType::Header { .. } =>
-                "Remove the header: tail -c +513 PATH > FILE. Then give FILE.",
-            FileType::Gzip => "Unpack PATH by gunzip, and give the code file that comes out.",
+            FileType::Swapped | FileType::MacBinary | FileType::Header { .. } | FileType::Gzip =>
+                "Give PATH another name, one that a shell can be given, and check it again.",
             FileType::Zip => "Unpack PATH by unzip, and give the code file that is in it.",
             FileType::AppleSingle =>
                 "Take the data fork out of PATH, and give that: it is the code file.",
@@ -37,6 +86,8 @@ impl Remedy<'_> {
                 "Compile the program of PATH by a compiler of release II.0, and give the code file that it makes.",
             FileType::Disk { .. } =>
                 "Take the code file off the volume in PATH, as binary, and give that.",
+            FileType::Encoded =>
+                "Turn PATH back into the file of which it was made, as binary, and give that.",
             FileType::SystemText | FileType::Text | FileType::WideText =>
                 "Give the code file that the compiler made of PATH, or of its program.",
             FileType::Elf => "Give a code file of a p-System in place of PATH.",
@@ -48,15 +99,31 @@ impl Remedy<'_> {
                 "Copy PATH again, as binary, or compile it again. Damage is in DAMAGED FILES of pslink(1).",
         }
     }
-}
 
-impl fmt::Display for Remedy<'_> {
-    fn fmt<W: fmt::Write>(&self, f: &mut Formatter<W>) -> fmt::Result {
+    /// Writes the sentence with the path.
+    fn write_sentence<W: fmt::Write>(&self, f: &mut Formatter<W>) -> fmt::Result {
         let sentence = self.sentence();
         let path = ShownPath(self.path);
         match sentence.split_once("PATH") {
             Some((before, after)) => write!(f, "{before}{path}{after}"),
             None => f.write_str(sentence),
+        }
+    }
+}
+
+impl fmt::Display for Remedy<'_> {
+    fn fmt<W: fmt::Write>(&self, f: &mut Formatter<W>) -> fmt::Result {
+        let Remedy { path, target, .. } = *self;
+        match self.steps() {
+            Some(steps) if !has_hidden(path) => {
+                let command = Command {
+                    steps,
+                    path,
+                    target,
+                };
+                write!(f, "{command}")
+            }
+            _ => self.write_sentence(f),
         }
     }
 }

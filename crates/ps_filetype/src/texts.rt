@@ -45,8 +45,59 @@ fn is_utf_16(sample: &[u8]) -> bool {
     }
 }
 
-/// The kind of text of a file that is one. Most bytes of a text are ASCII. A dump of a file, or a file
-/// that was encoded as a text, is a text like any other.
+/// How many characters the first line of a file in base64 or of hexadecimal digits has at least.
+const ENCODED: usize = 16;
+
+/// How many zeros a hexadecimal dump begins with at least: the place of its first byte.
+const ZEROS: usize = 6;
+
+/// The character is one of base64, as are all hexadecimal digits.
+fn is_base64(byte: u8) -> bool {
+    byte.is_ascii_alphanumeric() || matches!(byte, b'+' | b'/' | b'=')
+}
+
+/// The bytes from the first on that is another one than these.
+fn after_all(bytes: &[u8], byte: u8) -> &[u8] {
+    match bytes.iter().position(|other| *other != byte) {
+        Some(place) => bytes.get(place..).unwrap_or(&[]),
+        None => &[],
+    }
+}
+
+/// The line begins as the first one of a hexadecimal dump: with zeros, a colon or none, blanks, and
+/// digits of a byte.
+fn is_dump(line: &[u8]) -> bool {
+    let after = after_all(line, b'0');
+    let zeros = line.len().saturating_sub(after.len());
+    let words = after.strip_prefix(b":").unwrap_or(after);
+    let is_apart = matches!(words, [b' ', ..]);
+    let digits = matches!(
+        after_all(words, b' '),
+        [high, low, ..] if high.is_ascii_hexdigit() && low.is_ascii_hexdigit()
+    );
+    ZEROS <= zeros && is_apart && digits
+}
+
+/// The first line is that of a file that was turned into a text: by uuencode, BinHex, in base64, as
+/// hexadecimal digits, as records of them, or as a dump.
+fn is_encoded(line: &[u8]) -> bool {
+    let digits = line.strip_prefix(b":").unwrap_or(line);
+    line.starts_with(b"begin ")
+        || line.starts_with(b"begin-base64 ")
+        || line.starts_with(b"(This file must be converted with BinHex")
+        || is_dump(line)
+        || ENCODED <= digits.len() && digits.iter().all(|byte| is_base64(*byte))
+}
+
+/// The first line of a text, without its end.
+fn first_line(sample: &[u8]) -> &[u8] {
+    match sample.iter().position(|byte| matches!(byte, b'\r' | b'\n')) {
+        Some(end) => sample.get(..end).unwrap_or(sample),
+        None => sample,
+    }
+}
+
+/// The kind of text of a file that is one. Most bytes of a text are ASCII.
 pub(crate) fn text_type(bytes: &[u8]) -> Option<FileType>
     ensures { IfSome result (λ t. is_code t ≡ false) }
 {
@@ -56,10 +107,12 @@ pub(crate) fn text_type(bytes: &[u8]) -> Option<FileType>
         Some(FileType::WideText)
     } else if sample.is_empty() || sample.len() / 4 * FOREIGN < foreign {
         None
-    } else if sample.iter().all(|byte| is_text(*byte)) {
-        Some(FileType::Text)
-    } else {
+    } else if !sample.iter().all(|byte| is_text(*byte)) {
         None
+    } else if is_encoded(first_line(sample)) {
+        Some(FileType::Encoded)
+    } else {
+        Some(FileType::Text)
     }
 }
 

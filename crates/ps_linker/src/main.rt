@@ -10,5 +10,8 @@ use std::io::{Stderr, Stdout};
 use std::process::ExitCode;
 
 fn main(rt: HostRuntime) -> ExitCode {
-    ps_command::run_process::<_, Stdout, Stderr>(&rt, &mut rt.stdout(), &mut rt.stderr())
+    let mut rt = rt;
+    let mut out = rt.stdout();
+    let mut err = rt.stderr();
+    ps_command::run_process::<_, Stdout, Stderr>(&mut rt, &mut out, &mut err)
 }

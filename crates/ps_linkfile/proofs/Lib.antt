@@ -8,6 +8,7 @@ pub mod Views
 pub mod Slots
 pub mod Plans
 pub mod Whole
+pub mod Prepared
 pub mod Maps
 pub mod Walks
 pub mod Shows

@@ -7,7 +7,7 @@ pub use Rattle.ps_linkfile.specs.LinkedFile.{LinkedFile, all_blocks, block_of, d
 pub use Rattle.ps_writing.specs.Prefixes.{AppendsPrefix}
 pub use Rattle.ps_linkfile.specs.Outcomes.{NamesFirst, error_of}
 pub use Rattle.ps_linkfile.specs.ReferencesText.{StoredIn, cause_at, stored_in, stored_rows, all_stored_in, all_stored_of, place_in, references_in, size_at}
-pub use Rattle.ps_linkfile.specs.ShowText.{entry_in, fault_in, links_in, order_shown, record_in, records_in, slot_line, unit_names}
+pub use Rattle.ps_linkfile.specs.ShowText.{entry_in, record_fault_in, links_in, order_shown, record_in, records_in, slot_line, unit_names}
 pub use Rattle.ps_linkfile.specs.Writing.{Ascend, HaveEdits, IsReady, file_in, padded_codes, starts_of, summary_in}
 pub use Rattle.ps_linkfile.specs.declared.cause.Cause.{Cause}
 pub use Rattle.ps_writing.specs.declared.counts.Counts.{Counts}

@@ -1,13 +1,10 @@
 -- The linked file is one list: where its facts hold, each byte is that of the list.
-use Rattle.ps_linkfile.proofs.Vocabulary.{flat_map, length-map-range_with_len, get_or-map-range_with_len, nat_tests, ext_get_or, all_blocks, LinkedFile, All-nil, in_file, Segment, drop_all, block_of, All-cons, order_of, drop-drop, blocks, get_or_append_left, get_or-replicate, Order, Fault, pair_of, Reason, Edit, padded_segment, linked_file, OpenedFile, patched_or_zero, linked_segments, ◌≡◌, ℕ, suc, List, ◌+◌, ◌-◌, ◌*◌, ◌/◌, ◌≤◌, ◌<◌, [], ◌∷◌, ◌++◌, length, get_or, take, drop, replicate, Option, Some, None, Result, Err, Bool, false, cond, refl, sym, ◌∙◌, ap, subst, inl, inr, arith, append_assoc, length-append, length-take, length-drop, All, slice_range, option_map, append-nil, get_or-take, get_or-drop, get_or-append-add, take_at, drop_at, cases_lt, ltb-false, le-ltb, IsLinkedByte, segments_of, HaveLinkedBytes, HaveOneLinkedByte, IsStopped, linked_byte, NamesFirst, error_of, All-map, SLOTS}
+use Rattle.ps_linkfile.proofs.Vocabulary.{flat_map, length-map-range_with_len, get_or-map-range_with_len, nat_tests, ext_get_or, all_blocks, LinkedFile, All-nil, in_file, Segment, drop_all, block_of, All-cons, order_of, drop-drop, blocks, get_or_append_left, get_or-replicate, Order, Fault, pair_of, Reason, Edit, padded_segment, linked_file, OpenedFile, patched_or_zero, linked_segments, ◌≡◌, ℕ, suc, List, ◌+◌, ◌-◌, ◌*◌, ◌/◌, ◌≤◌, ◌<◌, [], ◌∷◌, ◌++◌, length, get_or, take, drop, replicate, Option, Some, None, Result, Err, Bool, false, cond, refl, sym, ◌∙◌, ap, subst, inl, inr, arith, append_assoc, length-append, length-take, length-drop, All, slice_range, option_map, append-nil, get_or-take, get_or-drop, get_or-append-add, take_at, drop_at, cases_lt, ltb-false, le-ltb, IsLinkedByte, segments_of, HaveLinkedBytes, HaveOneLinkedByte, linked_byte, All-map, SLOTS}
 use Rattle.std.specs.Result.{result_err}
 use Rattle.std.proofs.lemmas.List.Folds.{drop_split}
 use Rattle.std.proofs.Math.Seq.{take-append_seam, drop-append-add}
 use Rattle.ps_words.specs.declared.fault.Reason.TheVariants as reason
-use Rattle.ps_resolve.specs.Standing.{NoneStands, NoneStandsInReading, FaultAt, IsFirst}
-use Rattle.ps_resolve.specs.Standing.Keys.{Step}
-use Rattle.ps_resolve.specs.FaultParts.{HasItsParts}
-use Rattle.ps_resolve.specs.declared.linkage.Stop.{Stop}
+use Rattle.ps_resolve.specs.Standing.{NoneStands, IsFirst}
 use Rattle.ps_resolve.specs.Added.{segments, slot_names}
 use Rattle.ps_resolve.specs.Faults.{host_fault}
 use Rattle.ps_resolve.specs.AllFaults.{first_fault, reading_fault}
@@ -350,14 +347,3 @@ module _ (host : List ℕ) (libs : List (List ℕ)) where
             | inr beyond ↦ h.padding i s lt j beyond within
                 ∙ sym (k.padding i s lt j beyond within)
           ]
-
--- why no plan was made says the first fault with its parts, or that none applies in the steps of
--- reading
-pub names_first : ((host : List ℕ) (libs : List (List ℕ)) (f : Fault)
-    → first_fault host libs ≡ Some f → IsFirst host libs f)
-    → ((host : List ℕ) (libs : List (List ℕ)) (step : Step) (f : Fault)
-    → FaultAt host libs step f → HasItsParts (order_of host) host libs f)
-    → ((host : List ℕ) (libs : List (List ℕ)) → reading_fault host libs ≡ None
-    → NoneStandsInReading host libs) → (host : List ℕ) (libs : List (List ℕ)) (why : Stop)
-    → IsStopped host libs why → NamesFirst host libs (error_of why)
-names_first h k m host libs why p = grind arith

@@ -1,6 +1,7 @@
 pub mod LinkedFile
 pub mod Writing
 pub mod Outcomes
+pub mod Refusals
 pub mod MapJson
 pub mod ShowJson
 pub mod MapText

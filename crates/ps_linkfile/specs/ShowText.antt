@@ -21,7 +21,7 @@ use Rattle.ps_resolve.specs.Sources.{known_order}
 use Rattle.ps_resolve.specs.Faults.{is_role}
 use Rattle.ps_writing.specs.JsonText.{separator}
 use Rattle.ps_writing.specs.Lines.{line, two_digits}
-use Rattle.ps_writing.specs.Rows.{Value, InSlot, Number, Flag, Record, Kind, Named, References, Refused as RefusedFor, by_form, fault_in as file_fault_in, row_in, values_in}
+use Rattle.ps_writing.specs.Rows.{Value, InSlot, Number, Flag, Record, Kind, Named, References, Refused as RefusedFor, by_form, fault_in, row_in, values_in}
 use Rattle.ps_writing.specs.declared.rows.Form.{Form}
 use Rattle.ps_writing.specs.declared.rows.Form.TheVariants.{Lines, Json}
 use Rattle.ps_linkfile.specs.declared.error.LinkError.{LinkError}
@@ -76,16 +76,16 @@ record_in form units r = row_in form r.0
 
 -- the row of a fault in place of a record of the segment in a slot, which has this name, as
 -- `2 fault 19 RecordsTruncated`
-abbrev pub fault_in : Form → ℕ → List ℕ → ℕ → Option Reason → List ℕ
-fault_in form slot name rec None = []
-fault_in form slot name rec (Some why) =
+abbrev pub record_fault_in : Form → ℕ → List ℕ → ℕ → Option Reason → List ℕ
+record_fault_in form slot name rec None = []
+record_fault_in form slot name rec (Some why) =
     row_in form rec (Record rec ∷ RefusedFor (in_record 0 slot rec why) name ∷ [])
 
 -- the records up to the end mark, or up to the first fault and that fault
 abbrev pub records_in : Form → List (List ℕ) → ℕ → List ℕ
     → List LinkRecord × Option Reason → List ℕ
 records_in form units slot name read = flat_map (record_in form units) (enumerate_from 0 read.0)
-    ++ fault_in form slot name (length read.0) read.1
+    ++ record_fault_in form slot name (length read.0) read.1
 
 -- the slot has a host segment or a unit
 abbrev pub has_links : Entry → Bool
@@ -104,7 +104,7 @@ links_in form order file slot =
     if has_links e
     then links_head form slot ++ (elim (code_of file e) [
       | Err why ↦ by_form form [] (codes ",\"fault\":")
-          ++ file_fault_in form (in_slot 0 slot why) e.name
+          ++ fault_in form (in_slot 0 slot why) e.name
           ++ by_form form (codes "\n") (codes ",\"records\":[]")
       | Ok code ↦ by_form form [] (codes ",\"fault\":null,\"records\":[")
           ++ records_in form (unit_names order file) slot e.name

@@ -1,7 +1,7 @@
 ghost use Rattle.std.specs.Prelude.{◌≡◌, ◌≤◌, length, IfOk, IfErr, OnOk, OnErr};
 ghost use Rattle.ps_resolve.specs.Sources.{contents};
 ghost use Rattle.std.specs.Io.KnownBytes.{Appends};
-ghost use Rattle.ps_resolve.specs.Plans.{IsPlan};
+ghost use Rattle.ps_resolve.specs.Plans.{IsPlan, IsStopped};
 ghost use Rattle.ps_resolve.specs.Standing.{NoneStands};
 ghost use Rattle.ps_writing.specs.Adding.{Adds};
 ghost use Rattle.ps_linkfile.specs.LinkedFile.{summary_of};
@@ -10,7 +10,7 @@ ghost use Rattle.ps_linkfile.specs.Writing.{file_in, summary_in, IsReady, Stands
 ghost use Rattle.ps_writing.specs.Prefixes.{AppendsPrefix};
 ghost use Rattle.ps_writing.specs.declared.write_fault.WriteFault.{WriteFault};
 ghost use Rattle.ps_linkfile.specs.declared.error.LinkError.TheVariants.{Write as WriteFailed};
-ghost use Rattle.ps_linkfile.specs.Outcomes.{AppendsLinkedFile, HasUsedNumber, NamesFirst, IsUnprepared, IsUnlinked, LeavesUntouched, LeavesPrefix};
+ghost use Rattle.ps_linkfile.specs.Outcomes.{AppendsLinkedFile, HasUsedNumber, NamesFirst, IsUnprepared, IsUnlinked, LeavesUntouched, LeavesPrefix, error_of};
 ghost use Rattle.ps_writing.specs.Counts.{AreAtMost, IfDevice, IfStalled, NoneFailed, OneError, OneStall, RisesByBytes, RisesByPieces};
 
 use crate::block_layout::{MAX_FILE_BLOCKS, lay_out};
@@ -19,7 +19,7 @@ use crate::map::add_map;
 use crate::summary::Summary;
 use crate::writing::write_file;
 use ps_laws::{bytes_are_linked, first_of_all};
-use ps_resolve::{Plan, Reading, resolve, resolve_reading, slot_names_are_whole};
+use ps_resolve::{Plan, Reading, Stop, resolve, resolve_reading, slot_names_are_whole};
 use ps_writing::{ByWriter, Counts, Form, TextWriter, ToldWriter, WriteFault};
 use std::alloc::{Allocator, Global};
 use std::io::Write;
@@ -142,9 +142,36 @@ pub fn prepare<'a, A: Allocator + Copy>(
     ensures first { IfErr result (NamesFirst host.now (contents libs.now)) }
     ensures used { IfErr result HasUsedNumber }
 {
+    match prepare_files(alloc, host, libs) {
+        Err(stop) => Err(LinkError::from(stop)),
+        Ok(linked) => Ok(linked),
+    }
+}
+
+/// Checks a host and the libraries of its units, and prepares their linked file as [`prepare`] does,
+/// for who writes nothing yet: the error has no write that failed.
+///
+/// Refuses `Refused` with the first fault of all, and `Memory` where memory was refused, which is
+/// requested only once the files were read and have no fault.
+pub fn prepare_files<'a, A: Allocator + Copy>(
+    alloc: A,
+    host: &'a [u8],
+    libs: &'a [&'a [u8]],
+) -> Result<Linked<'a, A>, Stop>
+    ensures linked { IfOk result (StandsFor host.now (contents libs.now)) }
+    ensures map { IfOk result (λ linked. map_in linked ≡ map_of host.now (contents libs.now)) }
+    ensures json { IfOk result (λ linked. map_json_in linked
+        ≡ map_json_of host.now (contents libs.now)) }
+    ensures plan { IfOk result (IsPlan host.now (contents libs.now)) }
+    ensures accepted { IfOk result (λ _. NoneStands host.now (contents libs.now)) }
+    ensures stop { IfErr result (IsStopped host.now (contents libs.now)) }
+    ensures first { IfErr result (λ stop. NamesFirst host.now (contents libs.now)
+        (error_of stop)) }
+    ensures used { IfErr result (λ stop. HasUsedNumber (error_of stop)) }
+{
     first_of_all();
     match resolve(alloc, host, libs) {
-        Err(stop) => Err(LinkError::from(stop)),
+        Err(stop) => Err(stop),
         Ok(plan) => {
             bytes_are_linked();
             slot_names_are_whole();
@@ -154,14 +181,14 @@ pub fn prepare<'a, A: Allocator + Copy>(
 }
 
 /// Checks a host and the libraries of its units that were read, and prepares their linked file as
-/// [`prepare`] does. It reads them no second time, and nothing is written yet.
+/// [`prepare_files`] does. It reads them no second time, and nothing is written yet.
 ///
 /// Refuses `Refused` with the first fault of all, and `Memory` where memory was refused, which is
 /// requested only where the files have no fault in reading.
 pub fn prepare_reading<'a, A: Allocator + Copy>(
     alloc: A,
     reading: &Reading<'a>,
-) -> Result<Linked<'a, A>, LinkError>
+) -> Result<Linked<'a, A>, Stop>
     ensures linked { IfOk result (StandsFor reading.now.host reading.now.libs) }
     ensures map { IfOk result (λ linked. map_in linked
         ≡ map_of reading.now.host reading.now.libs) }
@@ -169,13 +196,14 @@ pub fn prepare_reading<'a, A: Allocator + Copy>(
         ≡ map_json_of reading.now.host reading.now.libs) }
     ensures plan { IfOk result (IsPlan reading.now.host reading.now.libs) }
     ensures accepted { IfOk result (λ _. NoneStands reading.now.host reading.now.libs) }
-    ensures error { IfErr result (IsUnprepared reading.now.host reading.now.libs) }
-    ensures first { IfErr result (NamesFirst reading.now.host reading.now.libs) }
-    ensures used { IfErr result HasUsedNumber }
+    ensures stop { IfErr result (IsStopped reading.now.host reading.now.libs) }
+    ensures first { IfErr result (λ stop. NamesFirst reading.now.host reading.now.libs
+        (error_of stop)) }
+    ensures used { IfErr result (λ stop. HasUsedNumber (error_of stop)) }
 {
     first_of_all();
     match resolve_reading(alloc, reading) {
-        Err(stop) => Err(LinkError::from(stop)),
+        Err(stop) => Err(stop),
         Ok(plan) => {
             bytes_are_linked();
             slot_names_are_whole();

@@ -2,22 +2,23 @@
 ghost use Rattle.std.specs.Prelude.{◌≡◌, ◌<◌, ◌+◌, ◌*◌, ◌++◌, List, ℕ, length, IfOk, IfErr, Some};
 ghost use Rattle.std.specs.List.{enumerate_from, flat_map};
 ghost use Rattle.ps_writing.specs.Adding.{Adds};
+ghost use Rattle.ps_resolve.specs.Plans.{IsStopped};
 ghost use Rattle.ps_resolve.specs.Sources.{contents};
 ghost use Rattle.ps_resolve.specs.Standing.{NoneStands};
 ghost use Rattle.ps_linkfile.specs.LinkedFile.{LinkedFile};
 ghost use Rattle.ps_linkfile.specs.MapText.{map_of};
-ghost use Rattle.ps_linkfile.specs.Outcomes.{HasUsedNumber, IsUnprepared, NamesFirst};
+ghost use Rattle.ps_linkfile.specs.Outcomes.{HasUsedNumber, NamesFirst, error_of};
 ghost use Rattle.ps_linkfile.specs.ReferencesJson.{IsReferencesJson, referenced_json, references_text};
 ghost use Rattle.ps_linkfile.specs.Writing.{StandsFor};
 ghost use Rattle.ps_linkfile.specs.declared.cause.Cause.TheVariants.{Reference};
 ghost use Rattle.ps_linkfile.specs.ReferencesText.{bytes_at as bytes_at_spec, item_end as item_end_spec, stored_rows, place_in, record_in, references_in, references_of};
 
 use crate::cause::Cause;
-use crate::error::LinkError;
-use crate::linked::{Linked, prepare};
+use crate::linked::{Linked, prepare_files};
 use crate::stored_places::{StoredPlaces, stored_in_segments};
 use ps_laws::first_of_all;
 use ps_linkinfo::Kind;
+use ps_resolve::Stop;
 use ps_words::{BLOCK_SIZE, Name};
 use ps_writing::RowPart::{Bytes, Named, Number, Stored};
 use ps_writing::{Form, Text, TextWriter, add_by_form, add_each_row, add_part, by_form, separator};
@@ -199,13 +200,13 @@ impl<A: Allocator + Copy> Text for References<'_, '_, A> {
 /// and at most 32 more for each byte of its code.
 ///
 /// `host` and each of `libs` are whole code files; of the libraries that have a unit, the first is
-/// used. Refuses what `prepare` refuses: `Refused` with the first fault of all, and `Memory` where
+/// used. Refuses what `prepare_files` refuses: `Refused` with the first fault of all, and `Memory` where
 /// memory was refused, which is requested only once the files were read and have no fault.
 pub fn prepare_references<'a, A: Allocator + Copy>(
     alloc: A,
     host: &'a [u8],
     libs: &'a [&'a [u8]],
-) -> Result<ReferenceMap<'a, A>, LinkError>
+) -> Result<ReferenceMap<'a, A>, Stop>
     ensures text { IfOk result (λ map. references_text map ≡ map_of host.now (contents libs.now)
         ++ references_of host.now (contents libs.now)) }
     ensures json { IfOk result (λ map. IsReferencesJson host.now (contents libs.now)
@@ -214,12 +215,13 @@ pub fn prepare_references<'a, A: Allocator + Copy>(
     ensures stands { IfOk result (λ map. StandsFor host.now (contents libs.now) map.plan) }
     ensures linked { IfOk result (λ _. (file : List ℕ)
         × LinkedFile host.now (contents libs.now) file) }
-    ensures error { IfErr result (IsUnprepared host.now (contents libs.now)) }
-    ensures first { IfErr result (NamesFirst host.now (contents libs.now)) }
-    ensures used { IfErr result HasUsedNumber }
+    ensures stop { IfErr result (IsStopped host.now (contents libs.now)) }
+    ensures first { IfErr result (λ stop. NamesFirst host.now (contents libs.now)
+        (error_of stop)) }
+    ensures used { IfErr result (λ stop. HasUsedNumber (error_of stop)) }
 {
     first_of_all();
-    let linked = prepare(alloc, host, libs)?;
+    let linked = prepare_files(alloc, host, libs)?;
     let all_stored = stored_in_segments(alloc, linked.plan())?;
     Ok(ReferenceMap { linked, all_stored })
 }

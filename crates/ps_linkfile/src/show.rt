@@ -11,7 +11,7 @@ ghost use Rattle.ps_writing.specs.declared.rows.Form.TheVariants.{Lines};
 ghost use Rattle.ps_writing.specs.Lines.{line};
 ghost use Rattle.ps_writing.specs.Rows.{values_in};
 ghost use Rattle.ps_linkfile.specs.ShowJson.{show_json_of};
-ghost use Rattle.ps_linkfile.specs.ShowText.{entry_in, order_words, slot_line, unit_names as unit_names_spec, is_listed as is_listed_spec, body_row, record_in, fault_in, records_in, has_links as has_links_spec, links_head, links_in, show_of, order_shown, show_fault, IsUnshown};
+ghost use Rattle.ps_linkfile.specs.ShowText.{entry_in, order_words, slot_line, unit_names as unit_names_spec, is_listed as is_listed_spec, body_row, record_in, record_fault_in, records_in, has_links as has_links_spec, links_head, links_in, show_of, order_shown, show_fault, IsUnshown};
 
 use crate::error::LinkError;
 use crate::show_json::{add_order_member, add_slot_items};
@@ -257,7 +257,7 @@ fn add_record_fault<S: TextWriter>(
     rec: usize,
     reason: Reason,
 )
-    ensures { Adds S.added text.old (fault_in form slot name rec (Some reason)) text.new }
+    ensures { Adds S.added text.old (record_fault_in form slot name rec (Some reason)) text.new }
 {
     begin_row(text, form, rec);
     add_part(text, form, Record(rec));

@@ -9,7 +9,7 @@ use Rattle.ps_codefile.specs.Opened.{opened}
 use Rattle.ps_writing.specs.Rows.{by_form}
 use Rattle.ps_writing.specs.declared.rows.Form.{Form}
 use Rattle.ps_writing.specs.declared.rows.Form.TheVariants.{Json, Lines}
-use Rattle.ps_listing.specs.FileLists.{AreListed, Listed, listed, listed_from, listed_units}
+use Rattle.ps_listing.specs.FileLists.{AreListed, Listed, listed, listed_units}
 use Rattle.ps_listing.specs.Listed.{segments_found, values_of}
 use Rattle.ps_listing.specs.ListText.{file_in, listed_in, segments_in}
 use Rattle.ps_listing.specs.Phrases.{IsPhrase}
@@ -86,22 +86,12 @@ pub item_with_units : (first : Bool) (l : Listed) → l.how ≡ form.JsonUnits
     ≡ listed first l
 item_with_units first l h = rw h refl
 
--- the files from i on are file i and those behind it
-pub items_left : (first : Bool) (files : List Listed) (i : ℕ) (one : Listed)
-    → drop i files ≡ one ∷ drop (i + 1) files
-    → listed_from first (drop i files) ≡ listed first one ++ listed_from false (drop (i + 1) files)
-items_left first files i one h = ap (λ (ls : List Listed). listed_from first ls) h
-
-pub items_over : (first : Bool) (files : List Listed) (i : ℕ) → length files ≤ i
-    → listed_from first (drop i files) ≡ []
-items_over first files i le = ap (λ (ls : List Listed). listed_from first ls) (drop_all i files le)
-
 -- what is added of these values and segments is what is listed of the file that has them
 pub listed_is : (how : Form) (l : Listed) (path phrase : List ℕ) (v : FileValues)
     (ss : List ListedSegment) → path ≡ l.path → phrase ≡ l.phrase
     → v ≡ values_of (length l.file) (opened l.file)
     → ss ≡ segments_found l.phrase (opened l.file)
-    → file_in how path phrase v ++ segments_in how path true ss
+    → file_in how path phrase v ++ segments_in how path ss
     ++ by_form how [] (codes "\n]}") ≡ listed_in how l.path l.phrase l.file
 unfolding listed_in
 listed_is how l path phrase v ss at_path said values has = rw (at_path, said, values, has) refl
@@ -111,7 +101,7 @@ pub listed_with : (l : Listed) (path phrase : List ℕ) (v : FileValues) (ss : L
     → v ≡ values_of (length l.file) (opened l.file)
     → ss ≡ segments_found l.phrase (opened l.file)
     → units ≡ listed_units l.how l.file
-    → file_in Json path phrase v ++ segments_in Json path true ss
+    → file_in Json path phrase v ++ segments_in Json path ss
     ++ codes "\n],\"units\":[" ++ lone_items units ++ codes "\n]}"
     ≡ listed_with_units l.path l.phrase l.file (listed_units l.how l.file)
 unfolding listed_with_units

@@ -49,8 +49,13 @@ some_words (type.Disk image.DiskCopy name) other =
     some (type_words (type.Disk image.DiskCopy name)) refl
 some_words (type.Disk image.Nibbles name) other =
     some (type_words (type.Disk image.Nibbles name)) refl
+some_words (type.Disk image.OtherOrder name) other =
+    some (type_words (type.Disk image.OtherOrder name)) refl
+some_words (type.Disk image.TwoImgDosOrder name) other =
+    some (type_words (type.Disk image.TwoImgDosOrder name)) refl
 some_words type.SystemText other = refl
 some_words type.Text other = refl
+some_words type.Encoded other = refl
 some_words type.WideText other = refl
 some_words type.Empty other = refl
 some_words (type.OneByte byte) other = some (type_words (type.OneByte byte)) refl

@@ -1,6 +1,6 @@
 -- Several files, each by itself: which have a host program, and their lists one after another.
-use Rattle.std.specs.Prelude.{◌≡◌, ℕ, Bool, true, false, List, [], ◌∷◌, ◌++◌, codes, Option, Some, None, Result, Ok, Err}
-use Rattle.std.specs.List.{list_any}
+use Rattle.std.specs.Prelude.{◌≡◌, ◌==◌, ℕ, Bool, true, false, List, [], ◌∷◌, ◌++◌, codes, Option, Some, None, Result, Ok, Err}
+use Rattle.std.specs.List.{enumerate_from, flat_map, list_any}
 use Rattle.ps_words.specs.declared.fault.Reason.{Reason}
 use Rattle.ps_codefile.specs.Dictionary.{OpenedFile}
 use Rattle.ps_codefile.specs.Opened.{opened}
@@ -87,17 +87,16 @@ is_refused_as_listed form.JsonUnits phrase file = has_no_sound (lone_units file)
 abbrev pub is_refused_in : Listed → Bool
 is_refused_in l = is_refused_as_listed l.how l.phrase l.file
 
--- files, one after another, of which the first is that of the list or not
-abbrev pub listed_from : Bool → List Listed → List ℕ
-listed_from first [] = []
-listed_from first (l ∷ ls) = listed first l ++ listed_from false ls
+-- files, one after another
+abbrev pub listed_all : List Listed → List ℕ
+listed_all ls = flat_map (λ p. listed (p.0 == 0) p.1) (enumerate_from 0 ls)
 
 -- the list of files
 abbrev pub lists_in : ListForm → List Listed → List ℕ
-lists_in form.Lines ls = listed_from true ls
-lists_in form.Units ls = listed_from true ls
-lists_in form.Json ls = codes "{\"files\":[" ++ listed_from true ls ++ codes "\n]}\n"
-lists_in form.JsonUnits ls = codes "{\"files\":[" ++ listed_from true ls ++ codes "\n]}\n"
+lists_in form.Lines ls = listed_all ls
+lists_in form.Units ls = listed_all ls
+lists_in form.Json ls = codes "{\"files\":[" ++ listed_all ls ++ codes "\n]}\n"
+lists_in form.JsonUnits ls = codes "{\"files\":[" ++ listed_all ls ++ codes "\n]}\n"
 
 -- these are the files at these paths, one for one, each with a phrase for what it is
 abbrev pub AreListed : ListForm → List (List ℕ) → List (List ℕ) → List Listed → Type 0

@@ -3,7 +3,7 @@
 -- Source: RFC 8259; which words and members there are is this project's profile.
 use Rattle.std.specs.Prelude.{ℕ, ◌-◌, take, ◌==◌, if◌then◌else◌, List, [], ◌∷◌, ◌++◌, length, chars, codes, decimal, Bool, true, false, Option, Some, None, Result, Ok, Err}
 use Rattle.std.specs.Char.{encode_utf8, is_ascii_whitespace}
-use Rattle.std.specs.List.{flat_map, suffix_len}
+use Rattle.std.specs.List.{enumerate_from, flat_map, suffix_len}
 use Rattle.ps_words.specs.declared.order.Order.{Order}
 use Rattle.ps_words.specs.declared.order.Order.TheVariants.{Little, Big}
 use Rattle.ps_words.specs.FaultText.{number_of, name_of}
@@ -32,8 +32,8 @@ use Rattle.ps_listing.specs.declared.listed_file.FileValues.{FileValues}
 abbrev pub shown_char : ℕ → List ℕ
 shown_char c = if is_hidden c then 63 ∷ [] else encode_utf8 c
 
-abbrev pub shown_path : List ℕ → List ℕ
-shown_path path = flat_map shown_char (chars path)
+abbrev pub question_marked_path : List ℕ → List ℕ
+question_marked_path path = flat_map shown_char (chars path)
 
 -- a text without the white space at its end, which in a name as it is shown is blanks
 abbrev pub trimmed : List ℕ → List ℕ
@@ -41,7 +41,7 @@ trimmed text = take (length text - suffix_len is_ascii_whitespace text) text
 
 -- a text that is not ASCII throughout, and a name
 abbrev pub text_in : Form → List ℕ → List ℕ
-text_in Lines text = shown_path text
+text_in Lines text = question_marked_path text
 text_in Json text = json_text text
 
 abbrev pub name_in : Form → List ℕ → List ℕ
@@ -79,19 +79,19 @@ type_in form phrase = if length phrase == 0 then by_form form [] (codes ",\"type
     ++ by_form form [] (codes "\"")
 
 -- ` record 1`
-abbrev pub record_words : Option ℕ → List ℕ
-record_words None = []
-record_words (Some n) = codes " record " ++ decimal n
+abbrev pub record_part : Option ℕ → List ℕ
+record_part None = []
+record_part (Some n) = codes " record " ++ decimal n
 
 -- `, refused 19 RecordsTruncated record 1`
 abbrev pub refused_words : Fault → List ℕ
 refused_words f = codes ", refused " ++ decimal (number_of f.reason) ++ codes " "
-    ++ name_of f.reason ++ record_words f.rec
+    ++ name_of f.reason ++ record_part f.rec
 
 -- the words of a refusal, or `,"fault":{"number":19,..}`, with the name of what the fault is about
-abbrev pub fault_in : Form → Option (List ℕ) → Fault → List ℕ
-fault_in Lines name f = refused_words f
-fault_in Json name f = codes ",\"fault\":" ++ fault_json name f
+abbrev pub refused_in : Form → Option (List ℕ) → Fault → List ℕ
+refused_in Lines name f = refused_words f
+refused_in Json name f = codes ",\"fault\":" ++ fault_json name f
 
 -- the words where there is no fault: none in a line
 abbrev pub no_fault_in : Form → List ℕ
@@ -137,24 +137,24 @@ uses_in form records = by_form form [] (codes ",\"uses\":[") ++ uses_from form t
 -- what a segment of this name is refused for, or the units that it uses
 abbrev pub found_in : Form → List ℕ → Result (List Record) Fault → List ℕ
 found_in form name (Ok records) = no_fault_in form ++ uses_in form records
-found_in form name (Err f) = fault_in form (Some name) f ++ by_form form [] (codes ",\"uses\":[]")
+found_in form name (Err f) = refused_in form (Some name) f ++ by_form form [] (codes ",\"uses\":[]")
 
 -- a segment, the first of its file or not, as `PATH: slot 02 UTIL     unit, 24 bytes, uses AUX`
 unfoldable pub segment_in : Form → List ℕ → Bool → ListedSegment → List ℕ
-segment_in form path first s = by_form form (shown_path path) (line_end first)
+segment_in form path first s = by_form form (question_marked_path path) (line_end first)
     ++ value_in form (InSlot (codes ": slot ") s.slot s.name) ++ kind_in form s.kind s.role
     ++ length_in form (codes ", ") s.length ++ found_in form s.name s.found
     ++ by_form form (codes "\n") (codes "}")
 
-abbrev pub segments_in : Form → List ℕ → Bool → List ListedSegment → List ℕ
-segments_in form path first [] = []
-segments_in form path first (s ∷ ss) = segment_in form path first s
-    ++ segments_in form path false ss
+-- the segments of a file
+abbrev pub segments_in : Form → List ℕ → List ListedSegment → List ℕ
+segments_in form path ss =
+    flat_map (λ p. segment_in form path (p.0 == 0) p.1) (enumerate_from 0 ss)
 
 -- the fault of a file, if it has one
 abbrev pub fault_or_none : Form → Option Fault → List ℕ
 fault_or_none form None = no_fault_in form
-fault_or_none form (Some f) = fault_in form None f
+fault_or_none form (Some f) = refused_in form None f
 
 -- a file, as `PATH: little-endian, 1536 bytes, library`, and its item up to its segments
 unfoldable pub file_in : Form → List ℕ → List ℕ → FileValues → List ℕ
@@ -168,7 +168,7 @@ file_in Json path phrase v = path_in Json path ++ length_in Json [] v.size
 -- the file at a path; the phrase says what it is, where it is no code file as it ought to be
 unfoldable pub listed_in : Form → List ℕ → List ℕ → List ℕ → List ℕ
 listed_in form path phrase file = file_in form path phrase (values_of (length file) (opened file))
-    ++ segments_in form path true (segments_found phrase (opened file))
+    ++ segments_in form path (segments_found phrase (opened file))
     ++ by_form form [] (codes "\n]}")
 
 abbrev pub list_of : List ℕ → List ℕ → List ℕ → List ℕ

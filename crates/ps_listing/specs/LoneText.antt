@@ -17,7 +17,7 @@ use Rattle.ps_writing.specs.Rows.{InSlot, value_in}
 use Rattle.ps_writing.specs.declared.rows.Form.TheVariants.{Json}
 use Rattle.ps_writing.specs.Lines.{line, shown_name, two_digits}
 use Rattle.ps_listing.specs.Listed.{segments_found, values_of}
-use Rattle.ps_listing.specs.ListText.{fault_in, file_in, no_fault_in, refused_words, segments_in, shown_path}
+use Rattle.ps_listing.specs.ListText.{file_in, no_fault_in, question_marked_path, refused_in, refused_words, segments_in}
 use Rattle.ps_listing.specs.declared.lone.LoneUnit.{LoneUnit}
 
 -- the unit in a slot of this role, where the file has its code
@@ -70,7 +70,7 @@ lone_words (Some f) = refused_words f ++ part_text (codes "reference") f.referen
 
 -- the line of a unit, as `PATH: slot 02 UTIL     by itself, no fault`
 abbrev pub lone_line : List ℕ → LoneUnit → List ℕ
-lone_line path u = line (shown_path path
+lone_line path u = line (question_marked_path path
     ++ (codes ": slot " ++ two_digits u.slot ++ (32 ∷ []) ++ shown_name u.name)
     ++ codes " by itself" ++ lone_words u.fault)
 
@@ -82,7 +82,7 @@ lone_text path units = flat_map (lone_line path) units
 -- `{"slot":2,"name":"UTIL    ","name_hex":"5554494C20202020","fault":null}`
 abbrev pub lone_fault_member : List ℕ → Option Fault → List ℕ
 lone_fault_member name None = no_fault_in Json
-lone_fault_member name (Some f) = fault_in Json (Some name) f
+lone_fault_member name (Some f) = refused_in Json (Some name) f
 
 abbrev pub lone_item : Bool → LoneUnit → List ℕ
 lone_item first u = line_end first ++ value_in Json (InSlot (codes ": slot ") u.slot u.name)
@@ -96,5 +96,5 @@ lone_items us = flat_map (λ p. lone_item (p.0 == 0) p.1) (enumerate_from 0 us)
 unfoldable pub listed_with_units : List ℕ → List ℕ → List ℕ → List LoneUnit → List ℕ
 listed_with_units path phrase file units =
     file_in Json path phrase (values_of (length file) (opened file))
-    ++ segments_in Json path true (segments_found phrase (opened file))
+    ++ segments_in Json path (segments_found phrase (opened file))
     ++ codes "\n],\"units\":[" ++ lone_items units ++ codes "\n]}"

@@ -1,6 +1,6 @@
 //! Texts that are not ASCII throughout, in a line.
 ghost use Rattle.ps_writing.specs.Adding.{Adds};
-ghost use Rattle.ps_listing.specs.ListText.{shown_char, shown_path};
+ghost use Rattle.ps_listing.specs.ListText.{question_marked_path, shown_char};
 
 use ps_filetype::is_hidden;
 use ps_writing::TextWriter;
@@ -19,7 +19,7 @@ fn add_char<S: TextWriter>(text: &mut S, c: char)
 
 /// Adds a path in a line.
 pub(crate) fn add_path<S: TextWriter>(text: &mut S, path: &str)
-    ensures { Adds S.added text.old (shown_path path.now) text.new }
+    ensures { Adds S.added text.old (question_marked_path path.now) text.new }
 {
     for c in path.chars() {
         add_char(text, c);

@@ -84,7 +84,7 @@ pub(crate) fn add_listed<S: TextWriter>(
     segments: &[ListedSegment],
 )
     ensures { Adds S.added text.old (file_in form path.now phrase.now values
-        ++ segments_in form path.now true segments.now ++ by_form form [] (codes "\n]}"))
+        ++ segments_in form path.now segments.now ++ by_form form [] (codes "\n]}"))
         text.new }
 {
     add_file(text, form, path, phrase, values);
@@ -102,7 +102,7 @@ pub(crate) fn add_listed_with_units<S: TextWriter>(
     units: &[LoneUnit],
 )
     ensures { Adds S.added text.old (file_in Json path.now phrase.now values
-        ++ segments_in Json path.now true segments.now
+        ++ segments_in Json path.now segments.now
         ++ codes "\n],\"units\":[" ++ lone_items units.now ++ codes "\n]}") text.new }
 {
     add_file(text, Form::Json, path, phrase, values);

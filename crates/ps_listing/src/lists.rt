@@ -1,8 +1,8 @@
 //! The lists of files, one after another.
-ghost use Rattle.std.specs.Prelude.{◌≡◌, IfOk, length, true};
+ghost use Rattle.std.specs.Prelude.{◌≡◌, IfOk, length};
 ghost use Rattle.ps_codefile.specs.Opened.{opened as opened_spec};
 ghost use Rattle.ps_writing.specs.Adding.{Adds};
-ghost use Rattle.ps_listing.specs.FileLists.{listed, listed_from, listed_units};
+ghost use Rattle.ps_listing.specs.FileLists.{listed, listed_all, listed_units};
 ghost use Rattle.ps_listing.specs.Listed.{segments_found as segments_found_spec, values_of as values_of_spec};
 ghost use Rattle.ps_listing.specs.ListText.{listed_in};
 ghost use Rattle.ps_listing.specs.LoneText.{listed_with_units, lone_text};
@@ -15,7 +15,7 @@ use crate::phrases;
 use crate::segments::{ListedSegment, segments_found};
 use ps_codefile::{Dict, open};
 use ps_words::Reason;
-use ps_writing::{Form, Text, TextWriter, separator};
+use ps_writing::{Form, Text, TextWriter, add_each_row, separator};
 use std::alloc::{AllocError, Allocator, Global};
 use std::marker::Model;
 
@@ -275,15 +275,12 @@ impl<A: Allocator + Copy> Text for Lists<'_, A> {
 }
 
 /// Adds what is listed of each file.
-#[tactic(auto, using(std::proofs::lemmas::List::drop_more, ps_writing::proofs::Written::all_written, ps_writing::proofs::Written::none_yet, ps_writing::proofs::Written::some_more, crate::proofs::FilesListed::items_left, crate::proofs::FilesListed::items_over))]
 fn add_items<S: TextWriter, A: Allocator + Copy>(text: &mut S, files: &[ListedFile<'_, A>])
-    ensures { Adds S.added text.old (listed_from true files.now) text.new }
+    ensures { Adds S.added text.old (listed_all files.now) text.new }
 {
-    let mut first = true;
-    for file in files {
-        file.add_item(text, first);
-        first = false;
-    }
+    add_each_row(text, files, |text, index, file| {
+        file.add_item(text, index == 0);
+    });
 }
 
 impl<'a, A: Allocator + Copy> Lists<'a, A> {

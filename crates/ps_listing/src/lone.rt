@@ -15,7 +15,9 @@ use ps_filetype::is_code_type;
 use ps_resolve::{HostReading, lone_fault, read};
 use ps_words::{Fault, Name};
 use ps_writing::RowPart::InSlot;
-use ps_writing::{Form, TextWriter, add_each_row, add_number, add_part, add_slot_name, separator};
+use ps_writing::{
+    Form, TextWriter, add_each, add_each_row, add_number, add_part, add_slot_name, separator,
+};
 use std::alloc::{AllocError, Allocator};
 
 /// A unit whose code a file has, and what is wrong with it by itself.
@@ -160,13 +162,10 @@ fn add_line<S: TextWriter>(text: &mut S, path: &str, unit: &LoneUnit)
 /// Adds a line of each unit of a file, as `PATH: slot 02 UTIL     by itself, no fault`, or with its fault
 /// as `PATH: slot 02 UTIL     by itself, refused 33 Overlap record 1 reference 0`. Each begins with
 /// the path, in which a hidden character, as one that could end the line, is a question mark.
-#[tactic(auto, using(std::proofs::lemmas::List::drop_more, ps_writing::proofs::Written::all_written, ps_writing::proofs::Written::items_left, ps_writing::proofs::Written::items_over, ps_writing::proofs::Written::none_yet, ps_writing::proofs::Written::some_more))]
 pub(crate) fn add_unit_lines<S: TextWriter>(text: &mut S, path: &str, units: &[LoneUnit])
     ensures { Adds S.added text.old (lone_text path.now units.now) text.new }
 {
-    for unit in units {
-        add_line(text, path, unit);
-    }
+    add_each(text, units, |text, unit| add_line(text, path, unit));
 }
 
 /// Adds the fault of a unit of this name, or that there is none.

@@ -3,7 +3,7 @@ ghost use Rattle.std.specs.Prelude.{◌≡◌, [], codes, true};
 ghost use Rattle.ps_writing.specs.Adding.{Adds};
 ghost use Rattle.ps_writing.specs.JsonText.{member};
 ghost use Rattle.ps_writing.specs.Rows.{by_form};
-ghost use Rattle.ps_listing.specs.ListText.{fault_in, fault_or_none, found_in, is_first_after, kind_in, length_in, name_in, no_fault_in, order_in, path_in, purpose_in, record_words, refused_words, role_in, text_in, trimmed as trimmed_spec, type_in, use_in, use_of, uses_from, uses_in};
+ghost use Rattle.ps_listing.specs.ListText.{fault_or_none, found_in, is_first_after, kind_in, length_in, name_in, no_fault_in, order_in, path_in, purpose_in, record_part, refused_in, refused_words, role_in, text_in, trimmed as trimmed_spec, type_in, use_in, use_of, uses_from, uses_in};
 
 use crate::escapes::add_path as add_shown;
 use ps_codefile::Role;
@@ -121,7 +121,7 @@ pub(crate) fn add_type<S: TextWriter>(text: &mut S, form: Form, phrase: &str)
 
 /// Adds the index of a record, if there is one.
 fn add_record<S: TextWriter>(text: &mut S, rec: Option<usize>)
-    ensures { Adds S.added text.old (record_words rec) text.new }
+    ensures { Adds S.added text.old (record_part rec) text.new }
 {
     match rec {
         None => text.add(b""),
@@ -141,7 +141,7 @@ pub(crate) fn add_refused<S: TextWriter>(text: &mut S, fault: Fault)
 
 /// Adds why a file is refused, or a segment of this name.
 pub(crate) fn add_fault<S: TextWriter>(text: &mut S, form: Form, name: Option<Name>, fault: Fault)
-    ensures { Adds S.added text.old (fault_in form name fault) text.new }
+    ensures { Adds S.added text.old (refused_in form name fault) text.new }
 {
     match form {
         Form::Lines => add_refused(text, fault),

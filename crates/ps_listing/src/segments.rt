@@ -1,12 +1,12 @@
 //! The segments of a file, as values and as text.
-ghost use Rattle.std.specs.Prelude.{◌≡◌, ◌<◌, IfOk, Ok, true};
+ghost use Rattle.std.specs.Prelude.{◌≡◌, ◌<◌, IfOk, Ok};
 ghost use Rattle.std.specs.List.{filter_map, list_any};
 ghost use Rattle.ps_codefile.specs.Dictionary.{entry_at, role_of, slots};
 ghost use Rattle.ps_writing.specs.Adding.{Adds};
 ghost use Rattle.ps_writing.specs.JsonText.{line_end};
 ghost use Rattle.ps_writing.specs.Rows.{by_form};
 ghost use Rattle.ps_listing.specs.Listed.{found_segment as found_segment_spec, is_refused_segment, segment_as, segment_at as segment_at_spec, segment_with as segment_with_spec, segments_found as segments_found_spec};
-ghost use Rattle.ps_listing.specs.ListText.{segment_in, segments_in as segments_in_spec, shown_path};
+ghost use Rattle.ps_listing.specs.ListText.{question_marked_path, segment_in, segments_in as segments_in_spec};
 
 use crate::by_itself::read_by_itself;
 use crate::escapes::add_path;
@@ -16,7 +16,7 @@ use ps_codefile::{Dict, Entry, Role};
 use ps_linkinfo::LinkInformation;
 use ps_words::{Fault, Name, Reason};
 use ps_writing::RowPart::InSlot;
-use ps_writing::{Form, TextWriter, add_part, end_row, separator};
+use ps_writing::{Form, TextWriter, add_each_row, add_part, end_row, separator};
 use std::alloc::{AllocError, Allocator};
 
 /// A segment, as its file has it.
@@ -104,7 +104,7 @@ fn segment_at<'a>(dict: &Dict<'a>, slot: u8) -> Option<ListedSegment<'a>>
 
 /// Adds what is before a segment.
 fn begin_segment<S: TextWriter>(text: &mut S, form: Form, path: &str, first: bool)
-    ensures { Adds S.added text.old (by_form form (shown_path path.now) (line_end first))
+    ensures { Adds S.added text.old (by_form form (question_marked_path path.now) (line_end first))
         text.new }
 {
     match form {
@@ -170,20 +170,17 @@ pub(crate) fn segments_found<'a, A: Allocator>(
 }
 
 /// Adds the segments of a file.
-#[tactic(auto, using(std::proofs::lemmas::List::drop_more, ps_writing::proofs::Written::all_written, ps_writing::proofs::Written::none_yet, ps_writing::proofs::Written::some_more, crate::proofs::Rows::segments_left, crate::proofs::Rows::segments_over))]
 pub(crate) fn add_segments<S: TextWriter>(
     text: &mut S,
     form: Form,
     path: &str,
     segments: &[ListedSegment],
 )
-    ensures { Adds S.added text.old (segments_in_spec form path.now true segments.now) text.new }
+    ensures { Adds S.added text.old (segments_in_spec form path.now segments.now) text.new }
 {
-    let mut first = true;
-    for segment in segments {
-        add_segment(text, form, path, first, segment);
-        first = false;
-    }
+    add_each_row(text, segments, |text, index, segment| {
+        add_segment(text, form, path, index == 0, segment);
+    });
 }
 
 /// Some segment is refused.

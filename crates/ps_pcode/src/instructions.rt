@@ -101,6 +101,11 @@ impl Instruction {
         }
     }
 
+    /// The operand is a variable of the program, and has two bytes.
+    pub(crate) fn is_wide_variable(self) -> bool {
+        matches!(self.operands, Operands::Variable) && TWO_BYTES <= self.operand
+    }
+
     /// The instruction goes to one of several places, by an index.
     pub(crate) fn is_case(self) -> bool {
         matches!(self.operands, Operands::Case)

@@ -1,5 +1,5 @@
 -- The lines of a report to which a line is added that is a warning's, or none's.
-use Rattle.std.proofs.Common.{◌≡◌, ◌∙◌, ◌+◌, ◌++◌, ◌∷◌, ◌==◌, ◌&&◌, [], ℕ, List, Bool, true, false, not, cond, append-nil, length, ◌<◌, Bor, refl, sym, subst, ap, arith, get_or, codes}
+use Rattle.std.proofs.Common.{◌≡◌, ◌∙◌, ◌+◌, ◌++◌, ◌∷◌, ◌==◌, ◌&&◌, ◌||◌, [], ℕ, List, Bool, true, false, not, cond, append-nil, length, ◌<◌, Bor, refl, sym, subst, ap, arith, get_or, codes}
 use Rattle.std.specs.Prelude.{if◌then◌else◌, Option, Some, None, IfSome}
 use Rattle.std.specs.List.{after_first, before_first, filter, flat_map, list_all, position_or_len}
 use Rattle.std.proofs.lemmas.Bool.Decides.{nat_tests}
@@ -12,7 +12,9 @@ use Rattle.ps_warnings.specs.Weights.{is_certain_weight, weight_of, weight_word}
 use Rattle.ps_warnings.specs.declared.weight.Weight.{Weight}
 use Rattle.ps_warnings.specs.declared.weight.Weight.TheVariants.{Warning, Harmless, Note}
 use Rattle.ps_report.specs.Reported.{Said, is_warned, warning_count}
-use Rattle.ps_report.specs.FindingLines.{AddsWarnings, finding_line, finding_lines, finding_words, first_line, is_warning_line, other_line, other_lines, warning_lines, warnings_in}
+use Rattle.ps_report.specs.FindingLines.{AddsWarnings, finding_line, finding_lines, finding_words, first_line, is_mistaken, is_told_line, is_verdict_line, is_warning_line, part_line, part_lines, warning_lines, warnings_in}
+use Rattle.ps_report.specs.declared.lines.Part.{Part}
+use Rattle.ps_report.specs.declared.lines.Part.TheVariants.{Account, Segments}
 
 -- a last line that has no end
 more_alone : (b : ℕ) (line : List ℕ) (t : Bool) → (b == 10) ≡ t → not (b == 10) ≡ true
@@ -89,21 +91,37 @@ pub counted : (text before : List ℕ) (n : ℕ) → AddsWarnings [] 0 before
 counted text before n none some =
     warnings_are text (0 + n) (added_then [] before text 0 n none some) ∙ omega arith
 
--- a line that is no warning's
-other_is : (line : List ℕ) (t : Bool) → is_warning_line line ≡ t
-    → other_line line ≡ indent t ++ (line ++ 10 ∷ [])
-unfolding other_line
-other_is line t e = ap (λ (t : Bool). indent t ++ (line ++ 10 ∷ [])) e
+-- a line of a part
+part_is : (part : Part) (line : List ℕ) (t : Bool) → is_mistaken part line ≡ t
+    → part_line part line ≡ indent t ++ (line ++ 10 ∷ [])
+unfolding part_line
+part_is part line t e = ap (λ (t : Bool). indent t ++ (line ++ 10 ∷ [])) e
 
-pub adds_other_line : (old line new : List ℕ) → one_line line ≡ true
-    → new ≡ old ++ other_line line → AddsWarnings old 0 new
-adds_other_line old line new one is = by (is_warning_line line) refl
+-- one that begins as that of a warning would be mistaken
+or_left : (x y : Bool) → (x || y) ≡ false → x ≡ false
+or_left true y h = cc
+or_left false y h = refl
+
+or_right : (x y : Bool) → (x || y) ≡ false → y ≡ false
+or_right true y h = cc
+or_right false y h = h
+
+no_warning : (part : Part) (line : List ℕ) → is_mistaken part line ≡ false
+    → is_warning_line line ≡ false
+no_warning Segments line e = or_left (is_warning_line line) _
+    (or_right (is_verdict_line line) _ e)
+no_warning Account line e = or_left (is_warning_line line) _
+    (or_right (is_verdict_line line) _ (or_left (is_told_line line) _ e))
+
+pub adds_part_line : (part : Part) (old line new : List ℕ) → one_line line ≡ true
+    → new ≡ old ++ part_line part line → AddsWarnings old 0 new
+adds_part_line part old line new one is = by (is_mistaken part line) refl
   where
-    by : (t : Bool) → is_warning_line line ≡ t → AddsWarnings old 0 new
+    by : (t : Bool) → is_mistaken part line ≡ t → AddsWarnings old 0 new
     by true e = adds_no_warning old (32 ∷ 32 ∷ line) new one refl
-        (is ∙ ap (λ (l : List ℕ). old ++ l) (other_is line true e))
-    by false e = adds_no_warning old line new one e
-        (is ∙ ap (λ (l : List ℕ). old ++ l) (other_is line false e))
+        (is ∙ ap (λ (l : List ℕ). old ++ l) (part_is part line true e))
+    by false e = adds_no_warning old line new one (no_warning part line e)
+        (is ∙ ap (λ (l : List ℕ). old ++ l) (part_is part line false e))
 
 -- texts of such lines
 ends_first : (b : ℕ) (lines : List (List ℕ)) → not (b == 10) ≡ true
@@ -126,43 +144,44 @@ one_each : (text : List ℕ) → list_all one_line (lines_of text) ≡ true
 one_each [] = refl
 one_each (b ∷ text) = one_first b text (b == 10) refl (one_each text)
 
-adds_each : (old : List ℕ) (lines : List (List ℕ)) → list_all one_line lines ≡ true
-    → AddsWarnings old 0 (old ++ flat_map other_line lines)
-adds_each old [] h = ([], refl, λ rest. no_more (warnings_in rest))
-adds_each old (line ∷ lines) h =
-    let here : List ℕ = old ++ other_line line in
-    let first = adds_other_line old line here (and_left (one_line line) _ h) refl in
-    let more = adds_each here lines (and_right (one_line line) _ h) in
+adds_each : (part : Part) (old : List ℕ) (lines : List (List ℕ))
+    → list_all one_line lines ≡ true
+    → AddsWarnings old 0 (old ++ flat_map (part_line part) lines)
+adds_each part old [] h = ([], refl, λ rest. no_more (warnings_in rest))
+adds_each part old (line ∷ lines) h =
+    let here : List ℕ = old ++ part_line part line in
+    let first = adds_part_line part old line here (and_left (one_line line) _ h) refl in
+    let more = adds_each part here lines (and_right (one_line line) _ h) in
     subst (λ (new : List ℕ). AddsWarnings old 0 new)
-    (append_assoc old (other_line line) (flat_map other_line lines))
-    (added_then old here (here ++ flat_map other_line lines) 0 0 first more)
+    (append_assoc old (part_line part line) (flat_map (part_line part) lines))
+    (added_then old here (here ++ flat_map (part_line part) lines) 0 0 first more)
 
-pub adds_other_lines : (old lines new : List ℕ) → new ≡ old ++ other_lines lines
-    → AddsWarnings old 0 new
-unfolding other_lines
-adds_other_lines old lines new is = subst (λ (new : List ℕ). AddsWarnings old 0 new) (sym is)
-    (adds_each old (lines_of lines) (one_each lines))
+pub adds_part_lines : (part : Part) (old lines new : List ℕ)
+    → new ≡ old ++ part_lines part lines → AddsWarnings old 0 new
+unfolding part_lines
+adds_part_lines part old lines new is = subst (λ (new : List ℕ). AddsWarnings old 0 new) (sym is)
+    (adds_each part old (lines_of lines) (one_each lines))
 
 -- the line of a segment is as it was
-not_both : (line : List ℕ) → is_slot_line line ≡ true → is_warning_line line ≡ false
+not_both : (line : List ℕ) → is_slot_line line ≡ true → is_told_line line ≡ false
 not_both [] h = refl
 not_both (b ∷ line) h =
     let is : b ≡ 115 = grind (arith, nat_tests, and_left (115 == b) _ h) in rw is refl
 
 adds_slot : (old line new : List ℕ) (lines : List (List ℕ)) → one_line line ≡ true
-    → new ≡ old ++ other_line line
+    → new ≡ old ++ part_line Segments line
     → AddsSlotLines old (cond (is_slot_line line) (line ∷ []) []) new
-adds_slot old line new lines one is = by (is_slot_line line) refl (is_warning_line line) refl
+adds_slot old line new lines one is = by (is_slot_line line) refl (is_told_line line) refl
   where
-    by : (s : Bool) → is_slot_line line ≡ s → (w : Bool) → is_warning_line line ≡ w
+    by : (s : Bool) → is_slot_line line ≡ s → (w : Bool) → is_told_line line ≡ w
         → AddsSlotLines old (cond s (line ∷ []) []) new
     by true e true f = let no = sym f ∙ not_both line e in cc
     by true e false f = adds_line old line new one e
-        (is ∙ ap (λ (l : List ℕ). old ++ l) (other_is line false f))
+        (is ∙ ap (λ (l : List ℕ). old ++ l) (part_is Segments line false f))
     by false e true f = adds_no_line old (32 ∷ 32 ∷ line) new one refl
-        (is ∙ ap (λ (l : List ℕ). old ++ l) (other_is line true f))
+        (is ∙ ap (λ (l : List ℕ). old ++ l) (part_is Segments line true f))
     by false e false f = adds_no_line old line new one e
-        (is ∙ ap (λ (l : List ℕ). old ++ l) (other_is line false f))
+        (is ∙ ap (λ (l : List ℕ). old ++ l) (part_is Segments line false f))
 
 slots_of : (line : List ℕ) (lines : List (List ℕ)) (s : Bool)
     → cond s (line ∷ []) [] ++ lines ≡ cond s (line ∷ lines) lines
@@ -170,23 +189,23 @@ slots_of line lines true = refl
 slots_of line lines false = refl
 
 adds_slots : (old : List ℕ) (lines : List (List ℕ)) → list_all one_line lines ≡ true
-    → AddsSlotLines old (filter is_slot_line lines) (old ++ flat_map other_line lines)
+    → AddsSlotLines old (filter is_slot_line lines) (old ++ flat_map (part_line Segments) lines)
 adds_slots old [] h = ([], refl, λ rest. refl)
 adds_slots old (line ∷ lines) h =
-    let here : List ℕ = old ++ other_line line in
+    let here : List ℕ = old ++ part_line Segments line in
     let first = adds_slot old line here lines (and_left (one_line line) _ h) refl in
     let more = adds_slots here lines (and_right (one_line line) _ h) in
-    let all = adds_then old here (here ++ flat_map other_line lines)
+    let all = adds_then old here (here ++ flat_map (part_line Segments) lines)
     (cond (is_slot_line line) (line ∷ []) []) (filter is_slot_line lines) first more in
     let same = subst (λ (ls : List (List ℕ)). AddsSlotLines old ls
-    (here ++ flat_map other_line lines))
+    (here ++ flat_map (part_line Segments) lines))
     (slots_of line (filter is_slot_line lines) (is_slot_line line)) all in
     subst (λ (new : List ℕ). AddsSlotLines old (filter is_slot_line (line ∷ lines)) new)
-    (append_assoc old (other_line line) (flat_map other_line lines)) same
+    (append_assoc old (part_line Segments line) (flat_map (part_line Segments) lines)) same
 
-pub keeps_slot_lines : (old lines new : List ℕ) → new ≡ old ++ other_lines lines
+pub keeps_slot_lines : (old lines new : List ℕ) → new ≡ old ++ part_lines Segments lines
     → AddsSlotLines old (slot_lines lines) new
-unfolding other_lines slot_lines
+unfolding part_lines slot_lines
 keeps_slot_lines old lines new is =
     subst (λ (new : List ℕ). AddsSlotLines old (filter is_slot_line (lines_of lines)) new)
     (sym is)
@@ -296,28 +315,28 @@ pub adds_end_of_line : (old new : List ℕ) → new ≡ old ++ 10 ∷ [] → Add
 adds_end_of_line old new is = adds_no_warning old [] new refl refl is
 
 -- lines of a text that is cut at its first byte 10, and of one that has none
-pub other_lines_cut : (line rest : List ℕ) → one_line line ≡ true
-    → other_lines (line ++ 10 ∷ rest) ≡ other_line line ++ other_lines rest
-unfolding other_lines
-other_lines_cut line rest one = ap (flat_map other_line) (line_ends line rest one)
+pub part_lines_cut : (part : Part) (line rest : List ℕ) → one_line line ≡ true
+    → part_lines part (line ++ 10 ∷ rest) ≡ part_line part line ++ part_lines part rest
+unfolding part_lines
+part_lines_cut part line rest one = ap (flat_map (part_line part)) (line_ends line rest one)
 
-pub other_lines_none : other_lines [] ≡ []
-unfolding other_lines
-other_lines_none = refl
+pub part_lines_none : (part : Part) → part_lines part [] ≡ []
+unfolding part_lines
+part_lines_none part = refl
 
-pub other_lines_alone : (line : List ℕ) → 0 < length line → one_line line ≡ true
-    → other_lines line ≡ other_line line
-unfolding other_lines
-other_lines_alone [] some one = absurd (omega arith)
-other_lines_alone (b ∷ line) some one =
-    ap (flat_map other_line) (alone b line one) ∙ append-nil (other_line (b ∷ line))
+pub part_lines_alone : (part : Part) (line : List ℕ) → 0 < length line → one_line line ≡ true
+    → part_lines part line ≡ part_line part line
+unfolding part_lines
+part_lines_alone part [] some one = absurd (omega arith)
+part_lines_alone part (b ∷ line) some one =
+    ap (flat_map (part_line part)) (alone b line one) ∙ append-nil (part_line part (b ∷ line))
 
 -- nothing is left
-pub lines_done : (left text all : List ℕ) → length left ≡ 0
-    → text ++ other_lines left ≡ all → text ≡ all
-lines_done [] text all none h =
-    sym (append-nil text) ∙ (ap (λ (t : List ℕ). text ++ t) (sym other_lines_none) ∙ h)
-lines_done (b ∷ left) text all none h = absurd (omega arith)
+pub lines_done : (part : Part) (left text all : List ℕ) → length left ≡ 0
+    → text ++ part_lines part left ≡ all → text ≡ all
+lines_done part [] text all none h =
+    sym (append-nil text) ∙ (ap (λ (t : List ℕ). text ++ t) (sym (part_lines_none part)) ∙ h)
+lines_done part (b ∷ left) text all none h = absurd (omega arith)
 
 -- what a text is that was split at its first byte 10
 first_is : (bs : List ℕ) → position_or_len (λ b. b == 10) bs < length bs

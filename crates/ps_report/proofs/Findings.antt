@@ -3,6 +3,7 @@ use Rattle.std.proofs.Common.{◌≡◌, ◌∙◌, ◌+◌, ◌<◌, ◌++◌, 
 use mir.Val.{bool_byte}
 use Rattle.std.proofs.lemmas.List.{length-append, map-append, take_more}
 use Rattle.std.proofs.lemmas.List.Elements.{filter-append}
+use Rattle.ps_warnings.specs.FindingTexts.{finding_text}
 use Rattle.ps_warnings.specs.Places.{place_text}
 use Rattle.std.specs.List.{filter}
 use Rattle.ps_warnings.specs.Weights.{is_certain}
@@ -12,7 +13,7 @@ use Rattle.ps_warnings.specs.declared.finding.Finding.{Finding}
 use Rattle.ps_warnings.specs.declared.finding.Finding.TheVariants as which
 use Rattle.ps_warnings.specs.declared.finding.FindingAt.{FindingAt}
 use Rattle.ps_warnings.specs.Found.{Stated, about_link_in, is_about_link, is_warning, stated, warnings_among}
-use Rattle.ps_report.specs.Reported.{ArePlaced, Said, findings_in, is_warned, said, warning_count}
+use Rattle.ps_report.specs.Reported.{ArePlaced, AreWorded, Said, findings_in, is_warned, said, warning_count}
 use Rattle.ps_report.specs.declared.finding.SaidFinding.{SaidFinding}
 
 findings_more : (xs : List Said) (x : Said)
@@ -28,6 +29,16 @@ places_more xs x so_far here =
     map-append (λ (f : Said). f.place) xs (x ∷ [])
     ∙ (ap (λ (l : List (List ℕ)). l ++ x.place ∷ []) so_far
     ∙ (ap (λ (p : List ℕ). map place (findings_in xs) ++ p ∷ []) here ∙ sym right))
+
+words_more : (xs : List Said) (x : Said)
+    → AreWorded xs → x.words ≡ finding_text x.at.finding → AreWorded (xs ++ x ∷ [])
+words_more xs x so_far here =
+    let text : FindingAt → List ℕ = λ w. finding_text w.finding in
+    let right = ap (map text) (findings_more xs x)
+    ∙ map-append text (findings_in xs) (x.at ∷ []) in
+    map-append (λ (f : Said). f.words) xs (x ∷ [])
+    ∙ (ap (λ (l : List (List ℕ)). l ++ x.words ∷ []) so_far
+    ∙ (ap (λ (p : List ℕ). map text (findings_in xs) ++ p ∷ []) here ∙ sym right))
 
 module _ {A : Type 0} (before after : List (SaidFinding A)) (f : SaidFinding A)
     (is : after ≡ before ++ f ∷ []) where
@@ -47,6 +58,11 @@ module _ {A : Type 0} (before after : List (SaidFinding A)) (f : SaidFinding A)
   next_place so_far here =
       rw said_more (places_more (map said before) (said f) so_far here)
 
+  pub next_words : AreWorded (map said before)
+      → string_bytes f.words ≡ finding_text f.at.finding → AreWorded (map said after)
+  next_words so_far here =
+      rw said_more (words_more (map said before) (said f) so_far here)
+
 -- a warning is about the link
 certain_about : (f : Finding) → is_certain f ≡ true → is_about_link f ≡ true
 certain_about (which.Entry e) h = refl
@@ -56,6 +72,7 @@ certain_about (which.File (file.NoCodeFile t)) h = cc
 certain_about (which.File (file.Padded n)) h = cc
 certain_about (which.File (file.Doubled a b)) h = cc
 certain_about (which.File (file.Converted e)) h = cc
+certain_about (which.File file.SevenBits) h = cc
 certain_about (which.Dictionary (dictionary.DeadTail a b c)) h = cc
 certain_about (which.Dictionary (dictionary.IntrinsicKind a b)) h = cc
 certain_about (which.Name n) h = cc

@@ -1,13 +1,13 @@
 -- A text that is put together is that of a report.
 use Rattle.std.proofs.Common.{◌≡◌, ◌∙◌, ◌++◌, [], ℕ, List, length, ap, subst, sym}
 use Rattle.ps_resolve.specs.Standing.{NoneStands}
-use Rattle.ps_segments.specs.SeenSegments.{seen_segments}
+use Rattle.ps_check_segments.specs.SeenSegments.{seen_segments}
 use Rattle.ps_explained.specs.SegmentLines.{segment_lines}
 use Rattle.ps_explained.specs.SlotLines.{AddsSlotLines}
 use Rattle.ps_explained.proofs.SlotLines.{adds_then_none, lines_in}
 use Rattle.ps_warnings.specs.AllFindings.{link_findings_of}
 use Rattle.ps_warnings.specs.Found.{Stated, about_link_in, warnings_among}
-use Rattle.ps_report.specs.Reported.{ArePlaced, Reported, findings_in, warning_count}
+use Rattle.ps_report.specs.Reported.{ArePlaced, AreWorded, Reported, findings_in, warning_count}
 use Rattle.ps_report.specs.Reports.{AreSections, IsReport, Sections, front_of}
 use Rattle.ps_report.specs.Verdicts.{IsVerdict, verdict_name}
 use Rattle.ps_report.specs.FindingLines.{AddsWarnings, finding_lines}
@@ -32,8 +32,8 @@ pub is_report : (paths : List (List ℕ)) (host : List ℕ) (libs : List (List �
     → IsVerdict host libs r.verdict → r.name ≡ verdict_name host libs r.verdict
     → about_link_in (findings_in r.findings)
     ≡ link_findings_of paths host libs (seen_segments host libs)
-    → ArePlaced r.findings → IsReport paths host libs r
-is_report paths host libs r front is text right name findings placed =
+    → ArePlaced r.findings → AreWorded r.findings → IsReport paths host libs r
+is_report paths host libs r front is text right name findings placed worded =
     let lines = finding_lines r.findings ++ last_line paths r.findings in
     let whole = text ∙ ap (λ (t : List ℕ). t ++ lines) is.parts in
     let added = adds_last_lines paths front r.findings in record {
@@ -50,6 +50,7 @@ is_report paths host libs r front is text right name findings placed =
       warnings = warned_about r.findings
           ∙ ap (λ (l : List Stated). length (warnings_among l)) findings;
       placed = placed;
+      worded = worded;
       counted = counted r.text front (warning_count r.findings) is.warnings
           (subst (λ (t : List ℕ). AddsWarnings front (warning_count r.findings) t) (sym text)
           added.0);

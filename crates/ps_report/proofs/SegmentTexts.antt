@@ -13,17 +13,18 @@ use Rattle.ps_explained.proofs.OneLine.{one_append, one_digits}
 use Rattle.ps_explained.proofs.SlotLines.{adds_no_line, adds_then, adds_then_none}
 use Rattle.ps_report.specs.Lists.{lacks_host}
 use Rattle.ps_report.specs.Verdicts.{IsVerdict, fault_of, verdict_line}
-use Rattle.ps_report.specs.FindingLines.{AddsWarnings, other_lines}
+use Rattle.ps_report.specs.FindingLines.{AddsWarnings, part_lines}
+use Rattle.ps_report.specs.declared.lines.Part.{Part}
 use Rattle.ps_report.specs.declared.verdict.Verdict.{Verdict}
 use Rattle.ps_report.specs.declared.verdict.Verdict.TheVariants.{Links, Refused}
-use Rattle.ps_report.proofs.FindingLines.{added_then, adds_no_warning, other_lines_none}
+use Rattle.ps_report.proofs.FindingLines.{added_then, adds_no_warning, part_lines_none}
 
 -- a part that is empty
-pub adds_empty : (old part new : List ℕ) → new ≡ old ++ other_lines part → part ≡ []
-    → AddsSlotLines old [] new
-adds_empty old part new is e = (
+pub adds_empty : (part : Part) (old text new : List ℕ) → new ≡ old ++ part_lines part text
+    → text ≡ [] → AddsSlotLines old [] new
+adds_empty part old text new is e = (
   [],
-  is ∙ ap (λ (t : List ℕ). old ++ t) (ap other_lines e ∙ other_lines_none),
+  is ∙ ap (λ (t : List ℕ). old ++ t) (ap (part_lines part) e ∙ part_lines_none part),
   λ rest. refl,
 )
 

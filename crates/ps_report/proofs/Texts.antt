@@ -5,7 +5,9 @@ use Rattle.std.specs.List.{flat_map}
 use Rattle.std.proofs.lemmas.List.{append_assoc}
 use Rattle.ps_explained.specs.FileLines.{AreFileLines}
 use Rattle.ps_explained.specs.SlotLines.{indent, lines_of, with_first}
-use Rattle.ps_report.specs.FindingLines.{is_warning_line, other_line, other_lines}
+use Rattle.ps_report.specs.FindingLines.{is_mistaken, part_line, part_lines}
+use Rattle.ps_report.specs.declared.lines.Part.{Part}
+use Rattle.ps_report.specs.declared.lines.Part.TheVariants.{Account, Segments}
 use Rattle.ps_report.specs.Reports.{Sections, front_of}
 use Rattle.ps_report.specs.Verdicts.{Tells, verdict_line}
 use Rattle.ps_report.specs.declared.verdict.Verdict.{Verdict}
@@ -46,52 +48,55 @@ ended_after more text is = (
   ap (λ (t : List ℕ). more ++ t) is.1 ∙ sym (append_assoc more is.0 (codes "\n")),
 )
 
-ended_line : (line : List ℕ) → Ended (other_line line)
-unfolding other_line
+ended_line : (line : List ℕ) → Ended (part_line Segments line)
+unfolding part_line
 ended_line line = (
-  indent (is_warning_line line) ++ line,
-  sym (append_assoc (indent (is_warning_line line)) line (codes "\n")),
+  indent (is_mistaken Segments line) ++ line,
+  sym (append_assoc (indent (is_mistaken Segments line)) line (codes "\n")),
 )
 
-ended_lines : (line : List ℕ) (lines : List (List ℕ)) → Ended (flat_map other_line (line ∷ lines))
+ended_lines : (line : List ℕ) (lines : List (List ℕ))
+    → Ended (flat_map (part_line Segments) (line ∷ lines))
 ended_lines line [] = let is = ended_line line in
-    (is.0, append-nil (other_line line) ∙ is.1)
+    (is.0, append-nil (part_line Segments line) ∙ is.1)
 ended_lines line (next ∷ lines) =
-    ended_after (other_line line) (flat_map other_line (next ∷ lines)) (ended_lines next lines)
+    ended_after (part_line Segments line) (flat_map (part_line Segments) (next ∷ lines))
+    (ended_lines next lines)
 
-ended_first : (b : ℕ) (lines : List (List ℕ)) → Ended (flat_map other_line (with_first b lines))
+ended_first : (b : ℕ) (lines : List (List ℕ))
+    → Ended (flat_map (part_line Segments) (with_first b lines))
 ended_first b [] = ended_lines (b ∷ []) []
 ended_first b (line ∷ lines) = ended_lines (b ∷ line) lines
 
-ended_text : (b : ℕ) (text : List ℕ) → Ended (other_lines (b ∷ text))
-unfolding other_lines
+ended_text : (b : ℕ) (text : List ℕ) → Ended (part_lines Segments (b ∷ text))
+unfolding part_lines
 ended_text b text = by (b == 10)
   where
-    by : (t : Bool) → Ended (flat_map other_line
+    by : (t : Bool) → Ended (flat_map (part_line Segments)
         (if t then [] ∷ lines_of text else with_first b (lines_of text)))
     by true = ended_lines [] (lines_of text)
     by false = ended_first b (lines_of text)
 
-no_lines : other_lines [] ≡ []
-unfolding other_lines
+no_lines : part_lines Segments [] ≡ []
+unfolding part_lines
 no_lines = refl
 
 ended_both : (b : ℕ) (text more : List ℕ)
-    → Ended (other_lines (b ∷ text) ++ other_lines more)
+    → Ended (part_lines Segments (b ∷ text) ++ part_lines Segments more)
 ended_both b text [] = let is = ended_text b text in (
   is.0,
-  ap (λ (t : List ℕ). other_lines (b ∷ text) ++ t) no_lines
-      ∙ (append-nil (other_lines (b ∷ text)) ∙ is.1),
+  ap (λ (t : List ℕ). part_lines Segments (b ∷ text) ++ t) no_lines
+      ∙ (append-nil (part_lines Segments (b ∷ text)) ∙ is.1),
 )
 ended_both b text (c ∷ more) =
-    ended_after (other_lines (b ∷ text)) (other_lines (c ∷ more)) (ended_text c more)
+    ended_after (part_lines Segments (b ∷ text)) (part_lines Segments (c ∷ more)) (ended_text c more)
 
 -- the lines of the files and of the segments end so
 ended_files : (paths : List (List ℕ)) (file : List ℕ) (files : List (List ℕ))
     (text more : List ℕ) → AreFileLines paths 0 (file ∷ files) text
-    → Ended (other_lines text ++ other_lines more)
+    → Ended (part_lines Segments text ++ part_lines Segments more)
 ended_files paths file files text more are =
-    subst (λ (t : List ℕ). Ended (other_lines t ++ other_lines more)) (sym are.4)
+    subst (λ (t : List ℕ). Ended (part_lines Segments t ++ part_lines Segments more)) (sym are.4)
     (ended_both 102 _ more)
 
 pub told_in : (paths : List (List ℕ)) (file : List ℕ) (files : List (List ℕ))
@@ -99,10 +104,10 @@ pub told_in : (paths : List (List ℕ)) (file : List ℕ) (files : List (List �
     → AreFileLines paths 0 (file ∷ files) s.files → text ≡ front_of verdict s ++ found
     → Tells text verdict
 told_in paths file files verdict s found text are is =
-    let first = other_lines s.files in
-    let second = other_lines s.segments in
+    let first = part_lines Segments s.files in
+    let second = part_lines Segments s.segments in
     let line = verdict_line verdict in
-    let rest = other_lines s.explanation ++ other_lines s.lists in
+    let rest = part_lines Account s.explanation ++ part_lines Account s.lists in
     let ended = ended_files paths file files s.files s.segments are in
     let joined : (first ++ (second ++ (line ++ rest))) ++ found
     ≡ (first ++ second) ++ (line ++ (rest ++ found)) =

@@ -1,9 +1,12 @@
--- The lines of a report that begin with `warning: `: those of its warnings, and no others.
-use Rattle.std.specs.Prelude.{◌≡◌, ℕ, ◌+◌, ◌==◌, Bool, List, ◌∷◌, [], ◌++◌, codes, length}
+-- The lines of a report that begin with `warning: `: those of its warnings, and no others. No line of
+-- an explanation or of a list begins as that of the verdict, of a finding or of a segment.
+use Rattle.std.specs.Prelude.{◌≡◌, ℕ, ◌+◌, ◌==◌, ◌||◌, Bool, List, ◌∷◌, [], ◌++◌, codes, length}
 use Rattle.std.specs.List.{before_first, filter, flat_map, starts_with}
-use Rattle.ps_explained.specs.SlotLines.{indent, lines_of}
+use Rattle.ps_explained.specs.SlotLines.{indent, is_slot_line, lines_of}
 use Rattle.ps_warnings.specs.Weights.{weight_of, weight_word}
 use Rattle.ps_report.specs.Reported.{Said}
+use Rattle.ps_report.specs.declared.lines.Part.{Part}
+use Rattle.ps_report.specs.declared.lines.Part.TheVariants.{Account, Segments}
 
 -- a line begins with `warning: `
 abbrev pub is_warning_line : List ℕ → Bool
@@ -24,13 +27,38 @@ AddsWarnings old n new =
     (more : List ℕ) × (new ≡ old ++ more)
     × ((rest : List ℕ) → warnings_in (more ++ rest) ≡ n + warnings_in rest)
 
--- a line that is no warning's, and its end: one that begins as that of a warning is indented
-unfoldable pub other_line : List ℕ → List ℕ
-other_line line = indent (is_warning_line line) ++ (line ++ 10 ∷ [])
+-- a line begins with this word
+abbrev pub begins_with : List ℕ → List ℕ → Bool
+begins_with word line = starts_with (λ a b. a == b) line word
 
--- a text of such lines
-unfoldable pub other_lines : List ℕ → List ℕ
-other_lines text = flat_map other_line (lines_of text)
+-- a line begins as that of the verdict
+abbrev pub is_verdict_line : List ℕ → Bool
+is_verdict_line line = begins_with (codes "links: ") line || begins_with (codes "pslink: ") line
+
+-- a line begins as that of a finding
+abbrev pub is_remark_line : List ℕ → Bool
+is_remark_line line = begins_with (codes "harmless: ") line || begins_with (codes "note: ") line
+
+abbrev pub is_finding_line : List ℕ → Bool
+is_finding_line line = is_warning_line line || is_remark_line line
+
+-- a line begins as that of the verdict or of a finding
+abbrev pub is_told_line : List ℕ → Bool
+is_told_line line = is_verdict_line line || is_finding_line line
+
+-- a line of a part of the report begins as another line does: among the segments each begins as
+-- that of a segment
+abbrev pub is_mistaken : Part → List ℕ → Bool
+is_mistaken Segments line = is_told_line line
+is_mistaken Account line = is_told_line line || is_slot_line line
+
+-- a line of a part, and its end: one that would be mistaken for another is indented
+unfoldable pub part_line : Part → List ℕ → List ℕ
+part_line part line = indent (is_mistaken part line) ++ (line ++ 10 ∷ [])
+
+-- the lines of a part
+unfoldable pub part_lines : Part → List ℕ → List ℕ
+part_lines part text = flat_map (part_line part) (lines_of text)
 
 -- a text up to its first line end
 abbrev pub first_line : List ℕ → List ℕ

@@ -5,6 +5,7 @@ use Rattle.std.specs.List.{flat_map, list_any}
 use Rattle.std.specs.Str.{bytes_eq}
 use Rattle.ps_filetype.specs.Shown.{shown_path}
 use Rattle.ps_warnings.specs.Weights.{weight_of}
+use Rattle.ps_warnings.specs.declared.finding.FindingAt.{FindingAt}
 use Rattle.ps_warnings.specs.declared.weight.Weight.{Weight}
 use Rattle.ps_warnings.specs.declared.weight.Weight.TheVariants.{Warning, Harmless, Note}
 use Rattle.ps_report.specs.FindingLines.{first_line}
@@ -17,12 +18,12 @@ asks Harmless = false
 asks Note = true
 
 -- something is to be done about a finding, and it is in the file at this path
-abbrev pub asks_for : List ℕ → Said → Bool
-asks_for path f = asks (weight_of f.at.finding) && bytes_eq f.at.place.path.now path
+abbrev pub asks_for : List ℕ → FindingAt → Bool
+asks_for path f = asks (weight_of f.finding) && bytes_eq f.place.path.now path
 
 -- `library.code; `, of a file for which a finding asks
 unfoldable pub asked_words : List Said → List ℕ → List ℕ
-asked_words found path = if list_any (asks_for path) found
+asked_words found path = if list_any (λ f. asks_for path f.at) found
     then shown_path path ++ codes "; " else []
 
 -- the files for which findings ask, in the order in which they are given

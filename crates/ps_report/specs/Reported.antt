@@ -3,6 +3,7 @@
 use Rattle.std.specs.Prelude.{◌≡◌, ℕ, Bool, List, Option, length, map, string_bytes}
 use Rattle.std.specs.List.{filter}
 use Rattle.ps_warnings.specs.declared.finding.FindingAt.{FindingAt}
+use Rattle.ps_warnings.specs.FindingTexts.{finding_text}
 use Rattle.ps_warnings.specs.Places.{place_text}
 use Rattle.ps_warnings.specs.Weights.{is_certain}
 use Rattle.ps_report.specs.declared.finding.SaidFinding.{SaidFinding}
@@ -40,6 +41,11 @@ findings_in found = map (λ f. f.at) found
 -- each of these is said to be where it is
 abbrev pub ArePlaced : List Said → Type 0
 ArePlaced found = map (λ f. f.place) found ≡ map (λ f. place_text f.place) (findings_in found)
+
+-- each of these is said in its own words
+abbrev pub AreWorded : List Said → Type 0
+AreWorded found = map (λ f. f.words) found
+    ≡ map (λ f. finding_text f.finding) (findings_in found)
 
 -- it is a warning
 abbrev pub is_warned : Said → Bool

@@ -4,10 +4,10 @@ use Rattle.ps_words.specs.declared.fault.Fault.{Fault}
 use Rattle.ps_resolve.specs.AllFaults.{reading_fault}
 use Rattle.ps_resolve.specs.Standing.{NoneStands}
 use Rattle.ps_filetype.specs.CodeTypes.{is_code_type}
-use Rattle.ps_segments.specs.Seen.{Seen}
-use Rattle.ps_segments.specs.SeenSegments.{seen_segments}
+use Rattle.ps_check_segments.specs.Seen.{Seen}
+use Rattle.ps_check_segments.specs.SeenSegments.{seen_segments}
 use Rattle.ps_explained.specs.FileLines.{AreFileLines}
-use Rattle.ps_explained.specs.SegmentLines.{read_lines, segment_lines}
+use Rattle.ps_explained.specs.SegmentLines.{has_unread, read_lines, segment_lines}
 use Rattle.ps_explained.specs.SlotLines.{slot_lines}
 use Rattle.ps_warnings.specs.AllFindings.{link_findings_of, link_warnings_of}
 use Rattle.ps_warnings.specs.Found.{about_link_in}
@@ -16,10 +16,11 @@ use Rattle.ps_writing.specs.declared.rows.Form.TheVariants.{Lines, Json}
 use Rattle.ps_listing.specs.FileLists.{IsList}
 use Rattle.ps_listing.specs.declared.lists.ListForm.TheVariants as list
 use Rattle.ps_report.specs.Lists.{lacks_host}
-use Rattle.ps_report.specs.FindingLines.{finding_lines, other_lines, warnings_in}
+use Rattle.ps_report.specs.FindingLines.{finding_lines, part_lines, warnings_in}
+use Rattle.ps_report.specs.declared.lines.Part.TheVariants as part
 use Rattle.ps_report.specs.LastLine.{last_line}
 use Rattle.ps_report.specs.ReportJson.{findings_json, report_json}
-use Rattle.ps_report.specs.Reported.{ArePlaced, Reported, findings_in, warning_count}
+use Rattle.ps_report.specs.Reported.{ArePlaced, AreWorded, Reported, findings_in, warning_count}
 use Rattle.ps_report.specs.Verdicts.{IsVerdict, Tells, check_status, fault_of, verdict_line, verdict_name}
 use Rattle.ps_report.specs.declared.verdict.Verdict.{Verdict}
 
@@ -55,17 +56,20 @@ pub record AreSections (paths : List (List ℕ)) (host : List ℕ) (libs : List 
   pub linked : reading_fault host libs ≡ None
       → slot_lines s.segments ≡ segment_lines paths host libs
   pub read : (f : Fault) → reading_fault host libs ≡ Some f
-      → slot_lines s.segments ≡ read_lines paths (told_of host (seen_segments host libs))
+      → slot_lines s.segments ≡ read_lines paths (has_unread host libs)
+      (told_of host (seen_segments host libs))
   -- where the files are linked, nothing is explained
   pub silent : fault_of verdict ≡ None → s.explanation ≡ []
   -- where no file is a host, the list of each, and else no list
   pub listed : lacks_host verdict libs ≡ true → IsList list.Lines paths (host ∷ libs) s.lists
   pub unlisted : lacks_host verdict libs ≡ false → s.lists ≡ []
 
--- the text up to the findings: no line of it begins as that of a warning
+-- the text up to the findings: no line of it but that of the verdict begins as that of a verdict or
+-- of a finding, and none but those of the segments as that of a segment
 abbrev pub front_of : Verdict → Sections → List ℕ
-front_of verdict s = other_lines s.files ++ (other_lines s.segments ++ (verdict_line verdict
-    ++ (other_lines s.explanation ++ other_lines s.lists)))
+front_of verdict s = part_lines part.Segments s.files ++ (part_lines part.Segments s.segments
+    ++ (verdict_line verdict ++ (part_lines part.Account s.explanation
+    ++ part_lines part.Account s.lists)))
 
 -- The report of these files.
 pub record IsReport (paths : List (List ℕ)) (host : List ℕ) (libs : List (List ℕ))
@@ -90,6 +94,8 @@ pub record IsReport (paths : List (List ℕ)) (host : List ℕ) (libs : List (Li
   pub warnings : warning_count r.findings ≡ warnings_of_files paths host libs
   -- each finding is said to be where it is
   pub placed : ArePlaced r.findings
+  -- each finding is said in the words that are its own
+  pub worded : AreWorded r.findings
   -- so many lines of the text begin with `warning: ` as there are warnings
   pub counted : warnings_in r.text ≡ warning_count r.findings
 

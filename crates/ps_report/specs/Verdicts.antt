@@ -1,6 +1,5 @@
 -- What a check finds: whether the files are linked, the line that says so, and the status.
-use Rattle.std.specs.Prelude.{◌≡◌, ℕ, ◌==◌, ◌&&◌, not, if◌then◌else◌, Bool, List, ◌++◌, Option, Some, None, Result, Ok, codes, decimal}
-use Rattle.std.specs.Result.{IsErr}
+use Rattle.std.specs.Prelude.{◌≡◌, ℕ, ◌==◌, ◌&&◌, not, if◌then◌else◌, Bool, List, ◌++◌, Option, Some, None, codes, decimal}
 use Rattle.ps_resolve.specs.FaultNames.{fault_name}
 use Rattle.ps_resolve.specs.FaultParts.{HasItsParts}
 use Rattle.ps_resolve.specs.Sources.{order_of}
@@ -8,8 +7,6 @@ use Rattle.ps_words.specs.FaultText.{fault_text}
 use Rattle.ps_words.specs.declared.fault.Fault.{Fault}
 use Rattle.ps_resolve.specs.Standing.{IsFirst, NoneStands}
 use Rattle.ps_linkfile.specs.LinkedFile.{summary_of}
-use Rattle.ps_linkfile.specs.declared.error.LinkError.{LinkError}
-use Rattle.ps_linkfile.specs.declared.error.LinkError.TheVariants as link
 use Rattle.ps_report.specs.declared.verdict.Verdict.{Verdict}
 use Rattle.ps_report.specs.declared.verdict.Verdict.TheVariants.{Links, Refused}
 
@@ -27,12 +24,6 @@ verdict_line (Refused f) = codes "pslink: " ++ (fault_text f ++ codes "\n")
 abbrev pub IsVerdict : List ℕ → List (List ℕ) → Verdict → Type 0
 IsVerdict host libs (Links s) = NoneStands host libs × (s ≡ summary_of host libs)
 IsVerdict host libs (Refused f) = IsFirst host libs f × HasItsParts (order_of host) host libs f
-
--- what it is that nothing was prepared: a refusal with its fault, or want of memory
-abbrev pub IsRefusal : {E : Type 0} → LinkError → Result Verdict E → Type 0
-IsRefusal (link.Refused f) found = found ≡ Ok (Refused f)
-IsRefusal link.Memory found = IsErr found
-IsRefusal (link.Write why) found = IsErr found
 
 -- the fault for which the files are refused
 abbrev pub fault_of : Verdict → Option Fault

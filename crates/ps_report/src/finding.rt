@@ -1,7 +1,8 @@
 //! Findings with the words for them.
 ghost use Rattle.std.specs.Prelude.{◌≡◌, IfOk, map, string_bytes};
+ghost use Rattle.ps_warnings.specs.FindingTexts.{finding_text};
 ghost use Rattle.ps_warnings.specs.Places.{place_text};
-ghost use Rattle.ps_report.specs.Reported.{ArePlaced, findings_in, said};
+ghost use Rattle.ps_report.specs.Reported.{ArePlaced, AreWorded, findings_in, said};
 
 use ps_warnings::FindingAt;
 use std::alloc::{AllocError, Allocator};
@@ -23,6 +24,7 @@ fn said_finding<'a, A: Allocator + Copy>(
 ) -> Result<SaidFinding<'a, A>, AllocError>
     ensures finding { IfOk result (λ f. f.at ≡ at.entry) }
     ensures place { IfOk result (λ f. string_bytes f.place ≡ place_text at.entry.place) }
+    ensures words { IfOk result (λ f. string_bytes f.words ≡ finding_text at.entry.finding) }
 {
     let FindingAt { place, finding } = at;
     let place = format!(in alloc; "{place}")?;
@@ -37,6 +39,7 @@ pub(crate) fn said_findings<'a, A: Allocator + Copy>(
 ) -> Result<Vec<SaidFinding<'a, A>, A>, AllocError>
     ensures findings { IfOk result (λ found. findings_in (map said found.items) ≡ findings.now) }
     ensures places { IfOk result (λ found. ArePlaced (map said found.items)) }
+    ensures worded { IfOk result (λ found. AreWorded (map said found.items)) }
 {
     let mut found = Vec::new(alloc);
     for at in findings {

@@ -4,22 +4,23 @@ ghost use Rattle.ps_resolve.specs.AllFaults.{reading_fault};
 ghost use Rattle.ps_resolve.specs.Sources.{contents};
 ghost use Rattle.ps_warnings.specs.AllFindings.{link_findings_of};
 ghost use Rattle.ps_warnings.specs.Found.{about_link};
-ghost use Rattle.ps_segments.specs.Seen.{seen};
-ghost use Rattle.ps_segments.specs.SeenSegments.{seen_segments};
+ghost use Rattle.ps_check_segments.specs.Seen.{seen};
+ghost use Rattle.ps_check_segments.specs.SeenSegments.{seen_segments};
 ghost use Rattle.ps_explained.specs.FileLines.{AreFileLines};
-ghost use Rattle.ps_explained.specs.SegmentLines.{read_lines, segment_lines};
+ghost use Rattle.ps_explained.specs.SegmentLines.{has_unread, read_lines, segment_lines};
 ghost use Rattle.ps_explained.specs.SlotLines.{AddsSlotLines, slot_lines};
 ghost use Rattle.ps_words.specs.declared.fault.Fault.{Fault as Why};
 ghost use Rattle.ps_report.specs.Reports.{told_of};
 ghost use Rattle.ps_report.specs.Verdicts.{fault_of, verdict_name as verdict_name_spec};
 
+use crate::last_line::asks_for;
 use crate::names::verdict_name;
 use crate::verdict::Verdict;
+use ps_check_segments::{NamedFiles, ReadSegment, segments_of};
 use ps_explained::{Case, Explanation, Overview, overview_of};
 use ps_filetype::is_code_type;
 use ps_resolve::Reading;
-use ps_segments::{NamedFiles, ReadSegment, segments_of};
-use ps_warnings::{Findings, findings_of};
+use ps_warnings::{FindingAt, Findings, findings_of};
 use ps_words::{Fault, Name};
 use std::alloc::{AllocError, Allocator};
 use std::fmt::Write as _;
@@ -63,7 +64,7 @@ pub(crate) fn inspect<'a, A: Allocator + Copy>(
     ensures read { IfOk result (λ found. (why : Why)
         → reading_fault host.now (contents libs.now) ≡ Some why
         → slot_lines (string_bytes found.overview.segments) ≡ read_lines
-        (host_path.now ∷ contents paths.now)
+        (host_path.now ∷ contents paths.now) (has_unread host.now (contents libs.now))
         (told_of host.now (seen_segments host.now (contents libs.now)))) }
     ensures name { IfOk result (λ found. found.name
         ≡ verdict_name_spec host.now (contents libs.now) verdict) }
@@ -84,8 +85,9 @@ pub(crate) fn inspect<'a, A: Allocator + Copy>(
     let list = segments_of(alloc, &inputs, reading)?;
     let told = told_segments(&inputs, reading, list.as_slice());
     let overview = overview_of(alloc, &inputs, reading, told)?;
-    let explanation = explanation_of(alloc, &inputs, reading, list.as_slice(), fault)?;
     let findings = findings_of(alloc, &inputs, list.as_slice(), fault)?;
+    let is_suspect = is_suspect(&inputs, findings.list.as_slice(), fault);
+    let explanation = explanation_of(alloc, &inputs, reading, list.as_slice(), fault, is_suspect)?;
     Ok(Inspection {
         overview,
         name,
@@ -123,6 +125,17 @@ fn told_after_fault<'l, 'a>(
     if is_code_type(inputs.host) { list } else { &[] }
 }
 
+/// A warning or a note is told of the file of the fault.
+fn is_suspect(inputs: &NamedFiles<'_>, findings: &[FindingAt<'_>], fault: Option<Fault>) -> bool {
+    match fault {
+        Some(fault) => {
+            let path = inputs.path(fault.file);
+            findings.iter().any(|found| asks_for(found, path))
+        }
+        None => false,
+    }
+}
+
 /// What the fault is in these files, and what to do about it, in lines; empty where there is none.
 fn explanation_of<'a, A: Allocator>(
     alloc: A,
@@ -130,12 +143,13 @@ fn explanation_of<'a, A: Allocator>(
     reading: &Reading<'a>,
     list: &[ReadSegment<'a>],
     fault: Option<Fault>,
+    is_suspect: bool,
 ) -> Result<String<A>, AllocError>
     ensures { IfOk result (λ text. fault ≡ None → string_bytes text ≡ []) }
 {
     let mut text = String::new(alloc);
     if let Some(fault) = fault {
-        let explanation = Explanation(Case::new(inputs, reading, list, fault));
+        let explanation = Explanation(Case::new(inputs, reading, list, fault, is_suspect));
         write!(text, "{explanation}")?;
     }
     Ok(text)

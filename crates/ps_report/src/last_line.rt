@@ -8,7 +8,7 @@ ghost use Rattle.ps_report.specs.Reported.{said};
 use crate::finding::SaidFinding;
 use crate::finding_lines::first_line;
 use ps_filetype::ShownPath;
-use ps_warnings::Weight;
+use ps_warnings::{FindingAt, Weight};
 use std::alloc::{AllocError, Allocator};
 use std::fmt::Write as _;
 
@@ -23,18 +23,18 @@ fn asks(weight: Weight) -> bool
 }
 
 /// Something is to be done about the finding, and it is in the file at this path.
-fn asks_for<A: Allocator>(finding: &SaidFinding<'_, A>, path: &str) -> bool
-    ensures { result ≡ asks_for_spec path.now (said finding.now) }
+pub(crate) fn asks_for(found: &FindingAt<'_>, path: &str) -> bool
+    ensures { result ≡ asks_for_spec path.now found.now }
 {
-    asks(finding.at.finding.weight()) && finding.at.place.path == path
+    asks(found.finding.weight()) && found.place.path == path
 }
 
 /// A finding asks for the file at this path.
 fn is_asked_for<A: Allocator>(findings: &[SaidFinding<'_, A>], path: &str) -> bool
-    ensures { result ≡ list_any (asks_for_spec path.now) (map said findings.now) }
+    ensures { result ≡ list_any (λ f. asks_for_spec path.now f.at) (map said findings.now) }
 {
     for finding in findings {
-        if asks_for(finding, path) {
+        if asks_for(&finding.at, path) {
             return true;
         }
     }

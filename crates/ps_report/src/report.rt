@@ -13,7 +13,7 @@ use crate::finding::{SaidFinding, said_findings};
 use crate::inspection::{Inspection, inspect};
 use crate::kept::string_of;
 use crate::last_line::add_last_line;
-use crate::lines::add_other_lines;
+use crate::lines::{Part, add_lines};
 use crate::printed::PrintedFindings;
 use crate::verdict::{Verdict, verdict_of};
 use crate::without_host::lists_without_host;
@@ -202,7 +202,7 @@ fn add_verdict<A: Allocator>(text: &mut String<A>, verdict: Verdict) -> Result<(
 }
 
 /// The line of the verdict between what is before it and after it, in which no line begins as that of
-/// a warning.
+/// a verdict or of a finding, and after it none as that of a segment.
 fn with_verdict<A: Allocator>(
     alloc: A,
     verdict: Verdict,
@@ -220,10 +220,10 @@ fn with_verdict<A: Allocator>(
         → AddsSlotLines [] (slot_lines parts.entry.segments.now) (string_bytes text)) }
 {
     let mut text = String::new(alloc);
-    add_other_lines(&mut text, parts.files)?;
-    add_other_lines(&mut text, parts.segments)?;
+    add_lines(&mut text, Part::Segments, parts.files)?;
+    add_lines(&mut text, Part::Segments, parts.segments)?;
     add_verdict(&mut text, verdict)?;
-    add_other_lines(&mut text, parts.explanation)?;
-    add_other_lines(&mut text, parts.lists)?;
+    add_lines(&mut text, Part::Account, parts.explanation)?;
+    add_lines(&mut text, Part::Account, parts.lists)?;
     Ok(text)
 }

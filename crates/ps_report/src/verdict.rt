@@ -1,10 +1,10 @@
 //! The verdict: whether the files are linked.
 ghost use Rattle.std.specs.Prelude.{◌≡◌, IfErr, IfOk, None, Some};
 ghost use Rattle.ps_resolve.specs.AllFaults.{reading_fault};
-ghost use Rattle.ps_report.specs.Verdicts.{IsRefusal, IsVerdict, fault_of, verdict_line};
+ghost use Rattle.ps_report.specs.Verdicts.{IsVerdict, fault_of, verdict_line};
 
-use ps_linkfile::{LinkError, Summary, prepare_reading};
-use ps_resolve::Reading;
+use ps_linkfile::{Summary, prepare_reading};
+use ps_resolve::{Reading, Stop};
 use ps_words::Fault;
 use std::alloc::{AllocError, Allocator};
 use std::fmt::{self, Formatter};
@@ -53,17 +53,6 @@ impl fmt::Display for Verdict {
     }
 }
 
-/// What is answered where nothing was prepared: the verdict that the files are refused; or that
-/// memory ran out, since nothing is written.
-fn refusal(error: LinkError) -> Result<Verdict, AllocError>
-    ensures { IsRefusal error result }
-{
-    match error {
-        LinkError::Refused(fault) => Ok(Verdict::Refused(fault)),
-        LinkError::Memory | LinkError::Write(_) => Err(AllocError),
-    }
-}
-
 /// The verdict on a host and its libraries, which were read, and are prepared and not written: that
 /// of `ps_linkfile::link`.
 ///
@@ -80,6 +69,7 @@ pub fn verdict_of<A: Allocator + Copy>(
 {
     match prepare_reading(alloc, reading) {
         Ok(linked) => Ok(Verdict::Links(linked.summary())),
-        Err(error) => refusal(error),
+        Err(Stop::Refused(fault)) => Ok(Verdict::Refused(fault)),
+        Err(Stop::Memory) => Err(AllocError),
     }
 }

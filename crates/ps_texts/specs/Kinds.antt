@@ -5,11 +5,7 @@ use Rattle.ps_texts.specs.declared.kinds.TextKind.TheVariants as kind
 
 -- the files have names in the text
 abbrev pub needs_names : TextKind → Bool
-needs_names (kind.Map form) = false
-needs_names (kind.References form) = false
-needs_names (kind.Show form) = false
-needs_names (kind.Check form) = true
-needs_names (kind.Findings form) = true
-needs_names (kind.List how) = true
+needs_names (kind.OfLink what form) = false
+needs_names (kind.OfHost what) = false
 needs_names kind.Wanted = false
-needs_names kind.Had = false
+needs_names (kind.Named what) = true

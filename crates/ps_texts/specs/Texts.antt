@@ -13,6 +13,12 @@ use Rattle.ps_report.specs.Reported.{reported, said, warning_count}
 use Rattle.ps_report.specs.Reports.{ArePrintedFindings, IsPrintedReport, printed_findings, printed_report}
 use Rattle.ps_report.specs.Verdicts.{check_status}
 use Rattle.ps_texts.specs.UnitNames.{bytes_of, names_had, names_wanted}
+use Rattle.ps_texts.specs.declared.kinds.HostText.{HostText}
+use Rattle.ps_texts.specs.declared.kinds.HostText.TheVariants as of_host
+use Rattle.ps_texts.specs.declared.kinds.LinkText.{LinkText}
+use Rattle.ps_texts.specs.declared.kinds.LinkText.TheVariants as of_link
+use Rattle.ps_texts.specs.declared.kinds.NamedText.{NamedText}
+use Rattle.ps_texts.specs.declared.kinds.NamedText.TheVariants as of_named
 use Rattle.ps_texts.specs.declared.kinds.TextKind.{TextKind}
 use Rattle.ps_texts.specs.declared.kinds.TextKind.TheVariants as kind
 use Rattle.ps_texts.specs.declared.texts.FilesText.{FilesText}
@@ -29,28 +35,41 @@ references_text Lines host libs = map_of host libs ++ references_of host libs
 references_text Json host libs =
     members_of host libs ++ references_in Json (all_stored_of host libs)
 
--- The text of a host and these libraries, of which a report and a list have the paths. With
--- `strict`, a warning counts for the status: 1 where the files of a check are refused, else 0.
+-- the text of a link
+abbrev pub link_text : LinkText → Form → List ℕ → List (List ℕ) → List ℕ
+link_text of_link.Map form host libs = map_text form host libs
+link_text of_link.References form host libs = references_text form host libs
+
+-- the text of a file that can be read
+abbrev pub IsHostText : HostText → List ℕ → List ℕ → Type 0
+IsHostText (of_host.Show form) host text =
+    (show_fault host ≡ None) × (text ≡ show_as form host)
+IsHostText of_host.Had host text =
+    (names : List (List ℕ)) × (names_had host ≡ Ok names) × (text ≡ bytes_of names)
+
+-- The text of a host and these libraries that has their paths. With `strict`, a warning counts for
+-- the status: 1 where the files of a check are refused, else 0.
+abbrev pub IsNamedText : NamedText → Bool → List (List ℕ) → List ℕ → List (List ℕ) → ℕ
+    → List ℕ → Type 0
+IsNamedText (of_named.Check form) strict paths host libs status text =
+    IsPrintedReport paths host libs strict form status text
+IsNamedText (of_named.Findings form) strict paths host libs status text =
+    (status ≡ 0) × ArePrintedFindings paths host libs form text
+IsNamedText (of_named.List how) strict paths host libs status text =
+    (status ≡ 0) × IsList how paths (host ∷ libs) text
+
+-- the text of a host and these libraries; only a report can end with another status than 0
 abbrev pub IsTextOf : TextKind → Bool → List (List ℕ) → List ℕ → List (List ℕ)
     → ℕ → List ℕ → Type 0
-IsTextOf (kind.Map form) strict paths host libs status text =
-    NoneStands host libs × (status ≡ 0) × (text ≡ map_text form host libs)
-IsTextOf (kind.References form) strict paths host libs status text =
-    NoneStands host libs × (status ≡ 0) × (text ≡ references_text form host libs)
-IsTextOf (kind.Show form) strict paths host libs status text =
-    (show_fault host ≡ None) × (status ≡ 0) × (text ≡ show_as form host)
-IsTextOf (kind.Check form) strict paths host libs status text =
-    IsPrintedReport paths host libs strict form status text
-IsTextOf (kind.Findings form) strict paths host libs status text =
-    (status ≡ 0) × ArePrintedFindings paths host libs form text
-IsTextOf (kind.List how) strict paths host libs status text =
-    (status ≡ 0) × IsList how paths (host ∷ libs) text
+IsTextOf (kind.OfLink what form) strict paths host libs status text =
+    NoneStands host libs × (status ≡ 0) × (text ≡ link_text what form host libs)
+IsTextOf (kind.OfHost what) strict paths host libs status text =
+    (status ≡ 0) × IsHostText what host text
 IsTextOf kind.Wanted strict paths host libs status text =
-    (names : List (List ℕ)) × (names_wanted host libs ≡ Ok names) × (status ≡ 0)
+    (status ≡ 0) × (names : List (List ℕ)) × (names_wanted host libs ≡ Ok names)
     × (text ≡ bytes_of names)
-IsTextOf kind.Had strict paths host libs status text =
-    (names : List (List ℕ)) × (names_had host ≡ Ok names) × (status ≡ 0)
-    × (text ≡ bytes_of names)
+IsTextOf (kind.Named what) strict paths host libs status text =
+    IsNamedText what strict paths host libs status text
 
 -- the text that a value has
 abbrev pub bytes_in : {A : Type 0} → FilesText A → List ℕ
@@ -64,14 +83,9 @@ bytes_in (text.Names names) = bytes_of names.items
 
 -- what a process that prints it ends with
 abbrev pub status_in : {A : Type 0} → Bool → FilesText A → ℕ
-status_in strict (text.Map form linked) = 0
-status_in strict (text.References form map) = 0
-status_in strict (text.Show form file) = 0
 status_in strict (text.Report form report) =
     check_status strict (warning_count (map said report.findings.items)) report.verdict
-status_in strict (text.Findings form report) = 0
-status_in strict (text.Lists lists) = 0
-status_in strict (text.Names names) = 0
+status_in strict t = 0
 
 -- a value has the text of these files, and its status is that of the text
 abbrev pub IsMadeOf : {A : Type 0} → TextKind → List (List ℕ) → List ℕ → List (List ℕ)

@@ -1,4 +1,4 @@
-//! The texts that there are.
+//! The texts that there are, grouped by what they are of.
 ghost use Rattle.std.specs.Prelude.{◌≡◌};
 ghost use Rattle.ps_texts.specs.Kinds.{needs_names as needs_names_spec};
 
@@ -8,22 +8,43 @@ use ps_writing::Form;
 /// A text of a host and its libraries, and how it is printed.
 #[derive(Clone, Copy)]
 pub enum TextKind {
-    /// The map of a link.
-    Map(Form),
-    /// The map of a link, and each place at which it stores bytes.
-    References(Form),
-    /// What the host's file has.
+    /// A text of the link of the files.
+    OfLink(LinkText, Form),
+    /// A text of the host's file alone.
+    OfHost(HostText),
+    /// The names of the units that a link takes from libraries, or would take if they had them.
+    Wanted,
+    /// A text in which the files have names.
+    Named(NamedText),
+}
+
+/// A text of a link.
+#[derive(Clone, Copy)]
+pub enum LinkText {
+    /// The map.
+    Map,
+    /// The map, and each place at which the link stores bytes.
+    References,
+}
+
+/// A text of one file.
+#[derive(Clone, Copy)]
+pub enum HostText {
+    /// What the file has.
     Show(Form),
+    /// The names of the units whose code the file has.
+    Had,
+}
+
+/// A text in which files have names.
+#[derive(Clone, Copy)]
+pub enum NamedText {
     /// The report of a check.
     Check(Form),
     /// The findings of that report, one by one: warnings, what is harmless, and notes.
     Findings(Form),
     /// The list of each file.
     List(ListForm),
-    /// The names of the units that a link takes from libraries, or would take if they had them.
-    Wanted,
-    /// The names of the units whose code the host's file has.
-    Had,
 }
 
 impl TextKind {
@@ -32,12 +53,8 @@ impl TextKind {
         ensures { result ≡ needs_names_spec self }
     {
         match self {
-            TextKind::Check(_) | TextKind::Findings(_) | TextKind::List(_) => true,
-            TextKind::Map(_)
-            | TextKind::References(_)
-            | TextKind::Show(_)
-            | TextKind::Wanted
-            | TextKind::Had => false,
+            TextKind::Named(_) => true,
+            TextKind::OfLink(..) | TextKind::OfHost(_) | TextKind::Wanted => false,
         }
     }
 }

@@ -3,67 +3,33 @@ ghost use Rattle.std.specs.Prelude.{◌≡◌, IfErr, IfOk, List, Ok, ℕ};
 ghost use Rattle.ps_words.specs.FaultPlaces.{in_file};
 ghost use Rattle.ps_filetype.specs.CodeTypes.{is_code_type as is_code_type_spec};
 ghost use Rattle.ps_resolve.specs.Sources.{contents};
-ghost use Rattle.ps_segments.specs.Paths.{paths_in};
+ghost use Rattle.ps_linkfile.specs.Refusals.{refusal_of};
+ghost use Rattle.ps_linkfile.specs.declared.unmade.Unmade.TheVariants.{Refused};
+ghost use Rattle.ps_check_segments.specs.Paths.{paths_in};
 ghost use Rattle.ps_writing.specs.Adding.{Adds};
 ghost use Rattle.ps_texts.specs.Texts.{IsMadeOf, bytes_in};
 ghost use Rattle.ps_texts.specs.UnitNames.{HasNames, bytes_of, had_in, wanted_in as wanted_in_spec};
-ghost use Rattle.ps_texts.specs.Unmade.{WhyUnmade, unmade_of};
-ghost use Rattle.ps_texts.specs.declared.kinds.TextKind.TheVariants.{Check, Had, List as Listed, Findings as FindingsOf, Map as MapOf, References as ReferencesOf, Show as ShowOf, Wanted};
-ghost use Rattle.ps_texts.specs.declared.texts.Unmade.TheVariants.{Memory, Refused};
+ghost use Rattle.ps_texts.specs.Unmade.{WhyUnmade};
+ghost use Rattle.ps_texts.specs.declared.kinds.HostText.TheVariants.{Had, Show as ShowOf};
+ghost use Rattle.ps_texts.specs.declared.kinds.LinkText.TheVariants.{Map as MapOf, References as ReferencesOf};
+ghost use Rattle.ps_texts.specs.declared.kinds.NamedText.TheVariants.{Check, Findings as FindingsOf, List as Listed};
+ghost use Rattle.ps_texts.specs.declared.kinds.TextKind.TheVariants.{Named, OfHost, OfLink, Wanted};
 
-use crate::kinds::TextKind;
+use crate::kinds::{HostText, LinkText, NamedText, TextKind};
 use crate::units::{units_had, units_wanted};
+use ps_check_segments::NamedFiles;
 use ps_codefile::{Dict, open};
 use ps_filetype::is_code_type;
 use ps_linkfile::{
-    LinkError, LinkMap, Linked, ReferenceMap, References, Show, ShownFile, prepare,
+    LinkMap, Linked, ReferenceMap, References, Refusal, Show, ShownFile, Unmade, prepare_files,
     prepare_references,
 };
 use ps_listing::{ListForm, Lists};
 use ps_report::{PrintedFindings, PrintedReport, Report, check};
 use ps_resolve::{HostReading, Reading, read};
-use ps_segments::NamedFiles;
 use ps_words::{Fault, Name, Reason};
-use ps_writing::{Form, Text, TextWriter};
+use ps_writing::{Form, Text, TextWriter, add_each};
 use std::alloc::{AllocError, Allocator, Global};
-
-/// Why a text is not made.
-#[derive(Clone, Copy, Debug, PartialEq, Eq)]
-pub enum Unmade {
-    /// The files are refused for this fault: of a map the first of all, of a show and of names of units
-    /// why the host's file cannot be read.
-    Refused(Fault),
-    /// Memory was refused.
-    Memory,
-}
-
-impl From<AllocError> for Unmade {
-    ghost from_gives = { λ _ why. why ≡ Memory };
-
-    fn from(_error: AllocError) -> Unmade {
-        Unmade::Memory
-    }
-}
-
-impl From<Fault> for Unmade {
-    ghost from_gives = { λ fault why. why ≡ Refused fault };
-
-    fn from(fault: Fault) -> Unmade {
-        Unmade::Refused(fault)
-    }
-}
-
-impl From<LinkError> for Unmade {
-    ghost from_gives = { λ error why. why ≡ unmade_of error };
-
-    // Where nothing is written, no write fails.
-    fn from(error: LinkError) -> Unmade {
-        match error {
-            LinkError::Refused(fault) => Unmade::Refused(fault),
-            LinkError::Memory | LinkError::Write(_) => Unmade::Memory,
-        }
-    }
-}
 
 /// A text of files. It has views of them, and no copy. What is large of it is in memory, so that it takes
 /// little of the stack where it is handed on.
@@ -118,13 +84,10 @@ impl<A: Allocator + Copy> Text for FilesText<'_, A> {
 }
 
 /// Adds names, eight bytes each, one after another.
-#[tactic(auto, using(std::proofs::lemmas::List::drop_more, ps_writing::proofs::Written::all_written, ps_writing::proofs::Written::items_left, ps_writing::proofs::Written::items_over, ps_writing::proofs::Written::none_yet, ps_writing::proofs::Written::some_more))]
 fn add_names<S: TextWriter>(text: &mut S, names: &[Name])
     ensures { Adds S.added text.old (bytes_of names.now) text.new }
 {
-    for name in names {
-        text.add(name);
-    }
+    add_each(text, names, |text, name| text.add(name));
 }
 
 impl<A: Allocator + Copy> FilesText<'_, A> {
@@ -139,12 +102,7 @@ impl<A: Allocator + Copy> FilesText<'_, A> {
     {
         match self {
             FilesText::Report(_, report) => report.status(strict),
-            FilesText::Map(..)
-            | FilesText::References(..)
-            | FilesText::Show(..)
-            | FilesText::Findings(..)
-            | FilesText::Lists(_)
-            | FilesText::Names(_) => 0,
+            _ => 0,
         }
     }
 }
@@ -164,14 +122,14 @@ fn map_of<'a, A: Allocator + Copy>(
     form: Form,
     files: &NamedFiles<'a>,
 ) -> Result<FilesText<'a, A>, Unmade>
-    ensures made { IfOk result (IsMadeOf (MapOf form) (paths_in files.now) files.now.host.now
+    ensures made { IfOk result (IsMadeOf (OfLink MapOf form) (paths_in files.now) files.now.host.now
         (contents files.now.libs.now)) }
-    ensures unmade { IfErr result (WhyUnmade (MapOf form) files.now.host.now
+    ensures unmade { IfErr result (WhyUnmade (OfLink MapOf form) files.now.host.now
         (contents files.now.libs.now)) }
 {
-    match prepare(alloc, files.host, files.libs) {
+    match prepare_files(alloc, files.host, files.libs) {
         Ok(linked) => Ok(FilesText::Map(form, boxed(alloc, linked)?)),
-        Err(error) => Err(Unmade::from(error)),
+        Err(stop) => Err(Unmade::of(files.host, files.libs, stop)),
     }
 }
 
@@ -183,14 +141,14 @@ fn references_of<'a, A: Allocator + Copy>(
     form: Form,
     files: &NamedFiles<'a>,
 ) -> Result<FilesText<'a, A>, Unmade>
-    ensures made { IfOk result (IsMadeOf (ReferencesOf form) (paths_in files.now)
+    ensures made { IfOk result (IsMadeOf (OfLink ReferencesOf form) (paths_in files.now)
         files.now.host.now (contents files.now.libs.now)) }
-    ensures unmade { IfErr result (WhyUnmade (ReferencesOf form) files.now.host.now
+    ensures unmade { IfErr result (WhyUnmade (OfLink ReferencesOf form) files.now.host.now
         (contents files.now.libs.now)) }
 {
     match prepare_references(alloc, files.host, files.libs) {
         Ok(map) => Ok(FilesText::References(form, boxed(alloc, map)?)),
-        Err(error) => Err(Unmade::from(error)),
+        Err(stop) => Err(Unmade::of(files.host, files.libs, stop)),
     }
 }
 
@@ -199,14 +157,14 @@ fn show_of<'a, A: Allocator + Copy>(
     form: Form,
     files: &NamedFiles<'a>,
 ) -> Result<FilesText<'a, A>, Unmade>
-    ensures made { IfOk result (IsMadeOf (ShowOf form) (paths_in files.now) files.now.host.now
+    ensures made { IfOk result (IsMadeOf (OfHost (ShowOf form)) (paths_in files.now) files.now.host.now
         (contents files.now.libs.now)) }
-    ensures unmade { IfErr result (WhyUnmade (ShowOf form) files.now.host.now
+    ensures unmade { IfErr result (WhyUnmade (OfHost (ShowOf form)) files.now.host.now
         (contents files.now.libs.now)) }
 {
     match ShownFile::read(files.host) {
         Ok(file) => Ok(FilesText::Show(form, file)),
-        Err(fault) => Err(Unmade::Refused(fault)),
+        Err(fault) => Err(Unmade::Refused(Refusal::of(files.host, files.libs, fault))),
     }
 }
 
@@ -216,7 +174,7 @@ fn report_of<'a, A: Allocator + Copy>(
     form: Form,
     files: &NamedFiles<'a>,
 ) -> Result<FilesText<'a, A>, AllocError>
-    ensures { IfOk result (IsMadeOf (Check form) (paths_in files.now) files.now.host.now
+    ensures { IfOk result (IsMadeOf (Named (Check form)) (paths_in files.now) files.now.host.now
         (contents files.now.libs.now)) }
 {
     let report = check(alloc, files.host_path, files.paths, files.host, files.libs)?;
@@ -230,7 +188,7 @@ fn findings_of<'a, A: Allocator + Copy>(
     form: Form,
     files: &NamedFiles<'a>,
 ) -> Result<FilesText<'a, A>, AllocError>
-    ensures { IfOk result (IsMadeOf (FindingsOf form) (paths_in files.now) files.now.host.now
+    ensures { IfOk result (IsMadeOf (Named (FindingsOf form)) (paths_in files.now) files.now.host.now
         (contents files.now.libs.now)) }
 {
     let report = check(alloc, files.host_path, files.paths, files.host, files.libs)?;
@@ -243,7 +201,7 @@ fn lists_of<'a, A: Allocator + Copy>(
     how: ListForm,
     files: &NamedFiles<'a>,
 ) -> Result<FilesText<'a, A>, AllocError>
-    ensures { IfOk result (IsMadeOf (Listed how) (paths_in files.now) files.now.host.now
+    ensures { IfOk result (IsMadeOf (Named (Listed how)) (paths_in files.now) files.now.host.now
         (contents files.now.libs.now)) }
 {
     let lists = Lists::of(
@@ -289,7 +247,7 @@ fn wanted_in<'a, A: Allocator + Copy>(
     match reading.host() {
         Ok(host) => Ok(FilesText::Names(names_wanted(alloc, is_code, host)?)),
         Err(Reason::NoHost) => Ok(FilesText::Names(Vec::new(alloc))),
-        Err(reason) => Err(unopened(reason)),
+        Err(reason) => Err(unopened(reading.file(), reading.libs(), reason)),
     }
 }
 
@@ -332,22 +290,73 @@ fn had_of<'a, A: Allocator + Copy>(
     alloc: A,
     files: &NamedFiles<'a>,
 ) -> Result<FilesText<'a, A>, Unmade>
-    ensures made { IfOk result (IsMadeOf Had (paths_in files.now) files.now.host.now
+    ensures made { IfOk result (IsMadeOf (OfHost Had) (paths_in files.now) files.now.host.now
         (contents files.now.libs.now)) }
-    ensures unmade { IfErr result (WhyUnmade Had files.now.host.now
+    ensures unmade { IfErr result (WhyUnmade (OfHost Had) files.now.host.now
         (contents files.now.libs.now)) }
 {
     match open(files.host) {
-        Err(reason) => Err(unopened(reason)),
+        Err(reason) => Err(unopened(files.host, files.libs, reason)),
         Ok(dict) => Ok(FilesText::Names(names_had(alloc, files.host, &dict)?)),
     }
 }
 
 /// Why nothing is made of a host's file that cannot be opened.
-fn unopened(reason: Reason) -> Unmade
-    ensures { result ≡ Refused (in_file 0 reason) }
+fn unopened(host: &[u8], libs: &[&[u8]], reason: Reason) -> Unmade
+    ensures { result ≡ Refused (refusal_of host.now (contents libs.now) (in_file 0 reason)) }
 {
-    Unmade::Refused(Fault::in_file(0, reason))
+    Unmade::Refused(Refusal::of(host, libs, Fault::in_file(0, reason)))
+}
+
+/// A text of the link of the files.
+fn link_text<'a, A: Allocator + Copy>(
+    alloc: A,
+    what: LinkText,
+    form: Form,
+    files: &NamedFiles<'a>,
+) -> Result<FilesText<'a, A>, Unmade>
+    ensures made { IfOk result (IsMadeOf (OfLink what form) (paths_in files.now)
+        files.now.host.now (contents files.now.libs.now)) }
+    ensures unmade { IfErr result (WhyUnmade (OfLink what form) files.now.host.now
+        (contents files.now.libs.now)) }
+{
+    match what {
+        LinkText::Map => map_of(alloc, form, files),
+        LinkText::References => references_of(alloc, form, files),
+    }
+}
+
+/// A text of the host's file alone.
+fn host_text<'a, A: Allocator + Copy>(
+    alloc: A,
+    what: HostText,
+    files: &NamedFiles<'a>,
+) -> Result<FilesText<'a, A>, Unmade>
+    ensures made { IfOk result (IsMadeOf (OfHost what) (paths_in files.now) files.now.host.now
+        (contents files.now.libs.now)) }
+    ensures unmade { IfErr result (WhyUnmade (OfHost what) files.now.host.now
+        (contents files.now.libs.now)) }
+{
+    match what {
+        HostText::Show(form) => show_of(form, files),
+        HostText::Had => had_of(alloc, files),
+    }
+}
+
+/// A text in which the files have names: whatever they are, there is one.
+fn named_text<'a, A: Allocator + Copy>(
+    alloc: A,
+    what: NamedText,
+    files: &NamedFiles<'a>,
+) -> Result<FilesText<'a, A>, AllocError>
+    ensures { IfOk result (IsMadeOf (Named what) (paths_in files.now) files.now.host.now
+        (contents files.now.libs.now)) }
+{
+    match what {
+        NamedText::Check(form) => report_of(alloc, form, files),
+        NamedText::Findings(form) => findings_of(alloc, form, files),
+        NamedText::List(how) => lists_of(alloc, how, files),
+    }
 }
 
 /// The text of this kind of a host and its libraries.
@@ -368,13 +377,9 @@ pub fn text_of<'a, A: Allocator + Copy>(
         (contents files.now.libs.now)) }
 {
     match kind {
-        TextKind::Map(form) => map_of(alloc, form, files),
-        TextKind::References(form) => references_of(alloc, form, files),
-        TextKind::Show(form) => show_of(form, files),
-        TextKind::Check(form) => Ok(report_of(alloc, form, files)?),
-        TextKind::Findings(form) => Ok(findings_of(alloc, form, files)?),
-        TextKind::List(how) => Ok(lists_of(alloc, how, files)?),
+        TextKind::OfLink(what, form) => link_text(alloc, what, form, files),
+        TextKind::OfHost(what) => host_text(alloc, what, files),
         TextKind::Wanted => wanted_of(alloc, files),
-        TextKind::Had => had_of(alloc, files),
+        TextKind::Named(what) => Ok(named_text(alloc, what, files)?),
     }
 }

@@ -4,9 +4,8 @@ use Rattle.std.specs.Prelude.{Bool, Option, if◌then◌else◌}
 use Rattle.std.specs.List.{enumerate_from, filter, flat_map, range_with_len}
 use Rattle.std.proofs.lemmas.List.{drop_all, map-append}
 use Rattle.std.proofs.lemmas.List.Elements.{filter-append}
-use Rattle.ps_warnings.specs.Found.{Adds, Stated, about_link_in, is_about_link, is_warning, stated, stated_at, warnings_among}
+use Rattle.ps_warnings.specs.Found.{Adds, Stated, about_link_in, is_about_link, stated, stated_at}
 use Rattle.ps_warnings.specs.declared.finding.Finding.{Finding}
-use Rattle.ps_warnings.specs.declared.finding.FileFinding.TheVariants as file
 use Rattle.ps_warnings.specs.declared.finding.Place.{Place}
 use Rattle.ps_warnings.specs.declared.finding.FindingAt.{FindingAt}
 

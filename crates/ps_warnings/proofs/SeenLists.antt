@@ -5,8 +5,8 @@ use Rattle.std.specs.Prelude.{Result, Ok, Err}
 use Rattle.ps_words.specs.declared.fault.Reason.{Reason}
 use Rattle.ps_codefile.specs.Dictionary.{IsViewOf}
 use Rattle.ps_resolve.specs.Sources.{contents}
-use Rattle.ps_segments.specs.Seen.{Seen, seen}
-use Rattle.ps_segments.specs.declared.segments.ReadSegment.{ReadSegment}
+use Rattle.ps_check_segments.specs.Seen.{Seen, seen}
+use Rattle.ps_check_segments.specs.declared.segments.ReadSegment.{ReadSegment}
 
 -- the segments that are left, as they are seen
 pub seen_left : (ss : List ReadSegment) (i : ℕ) (s : ReadSegment)

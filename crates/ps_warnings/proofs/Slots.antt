@@ -10,16 +10,15 @@ use Rattle.ps_codefile.specs.Dictionary.{OpenedFile, entry_at, is_filled, kind_n
 use Rattle.ps_codefile.specs.declared.entry.Entry.{Entry}
 use Rattle.ps_filetype.specs.CodeTypes.{is_code_type}
 use Rattle.ps_linkinfo.specs.Numbered.{numbered_records}
-use Rattle.ps_linkinfo.specs.RecordCounts.{next_of}
 use Rattle.ps_linkinfo.specs.Records.{reading}
 use Rattle.ps_linkinfo.specs.declared.record.LinkRecord.{LinkRecord as Record}
 use Rattle.ps_warnings.specs.AllFindings.{findings_of_file, findings_of_link, findings_of_units}
 use Rattle.ps_warnings.specs.EntryFindings.{empty_finding, overlap}
 use Rattle.ps_warnings.specs.FileFindings.{definition_findings, findings_of_code_file, findings_of_entries, findings_of_records, findings_of_entry, findings_of_segment, findings_of_slot, host_met, overlap_finding}
 use Rattle.ps_warnings.specs.Found.{Stated, found_at, found_in_record}
-use Rattle.ps_segments.specs.Paths.{path_of}
-use Rattle.ps_warnings.specs.RecordFindings.{first_definition, first_high, low_mark}
-use Rattle.ps_segments.specs.Seen.{Seen, has_slot}
+use Rattle.ps_check_segments.specs.Paths.{path_of}
+use Rattle.ps_warnings.specs.RecordFindings.{end_mark, first_above, first_definition, low_mark}
+use Rattle.ps_check_segments.specs.Seen.{Seen, has_slot}
 use Rattle.ps_warnings.specs.declared.findings.extents.Extent.{Extent}
 use Rattle.ps_codefile.specs.declared.dictionary_layout.TheConstants.{SLOTS}
 
@@ -76,21 +75,24 @@ module _ (path : List ℕ) (host : Option (List Record)) (order : Order) (e : En
 module _ (path : List ℕ) (segment : Option (List ℕ)) (host : Option (List Record)) (kind : ℕ)
     (size : Option ℕ) (rs : List Record) where
   pub of_host : (kind == 1) ≡ true → definition_findings path segment host kind size rs
-      ≡ found_at path segment None (low_mark rs size)
-      ++ found_in_record path segment (first_high (next_of rs) (numbered_records 0 rs))
+      ≡ found_at path segment None (low_mark (end_mark rs) size)
+      ++ found_in_record path segment (first_above rs)
   unfolding definition_findings
   of_host h = ap (λ (b : Bool). if b
-      then found_at path segment None (low_mark rs size)
-      ++ found_in_record path segment (first_high (next_of rs) (numbered_records 0 rs))
-      else found_in_record path segment (first_definition rs host (numbered_records 0 rs))) h
+      then found_at path segment None (low_mark (end_mark rs) size)
+      ++ found_in_record path segment (first_above rs)
+      else found_in_record path segment (first_definition true rs host (numbered_records 0 rs))
+      ++ found_in_record path segment (first_definition false rs host (numbered_records 0 rs))) h
 
   pub of_unit : (kind == 1) ≡ false → definition_findings path segment host kind size rs
-      ≡ found_in_record path segment (first_definition rs host (numbered_records 0 rs))
+      ≡ found_in_record path segment (first_definition true rs host (numbered_records 0 rs))
+      ++ found_in_record path segment (first_definition false rs host (numbered_records 0 rs))
   unfolding definition_findings
   of_unit h = ap (λ (b : Bool). if b
-      then found_at path segment None (low_mark rs size)
-      ++ found_in_record path segment (first_high (next_of rs) (numbered_records 0 rs))
-      else found_in_record path segment (first_definition rs host (numbered_records 0 rs))) h
+      then found_at path segment None (low_mark (end_mark rs) size)
+      ++ found_in_record path segment (first_above rs)
+      else found_in_record path segment (first_definition true rs host (numbered_records 0 rs))
+      ++ found_in_record path segment (first_definition false rs host (numbered_records 0 rs))) h
 
 module _ (path : List ℕ) (order : Order) (bytes : List ℕ) (extents : List Extent) (x : Extent)
   where

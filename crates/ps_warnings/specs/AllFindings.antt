@@ -11,8 +11,8 @@ use Rattle.ps_linkinfo.specs.declared.record.LinkRecord.{LinkRecord as Record}
 use Rattle.ps_warnings.specs.FileFindings.{findings_of_code_file}
 use Rattle.ps_warnings.specs.Found.{Stated, found_at, warnings_among}
 use Rattle.ps_warnings.specs.LinkFindings.{other_spelling, taken_by}
-use Rattle.ps_segments.specs.Paths.{host_order, path_of}
-use Rattle.ps_segments.specs.Seen.{Seen, host_records}
+use Rattle.ps_check_segments.specs.Paths.{host_order, path_of}
+use Rattle.ps_check_segments.specs.Seen.{Seen, host_records}
 
 -- what looks wrong in a file of this number, if it is a code file
 unfoldable pub findings_of_file : List (List ℕ) → Option (List Record) → List Seen → Order

@@ -1,6 +1,6 @@
 -- The findings about the link in files: in the records of their segments, in their entries, and where
 -- entries overlap. Each file is looked at with the records of the host program.
-use Rattle.std.specs.Prelude.{ℕ, Bool, ◌+◌, ◌*◌, ◌==◌, ◌&&◌, if◌then◌else◌, List, [], ◌++◌, length, map, nat_lt, false, Option, Some, None, Result, Ok, Err, bytes_eq, option_and_then}
+use Rattle.std.specs.Prelude.{ℕ, Bool, ◌+◌, ◌*◌, ◌==◌, ◌&&◌, if◌then◌else◌, List, [], ◌++◌, length, map, nat_lt, false, true, Option, Some, None, Result, Ok, Err, bytes_eq, option_and_then}
 use Rattle.std.specs.List.{flat_map, list_any}
 use Rattle.std.specs.Option.{option_map_or}
 use Rattle.std.specs.Result.{is_ok, result_ok}
@@ -11,13 +11,12 @@ use Rattle.ps_codefile.specs.Dictionary.{slots, code_of, entry_at, information_o
 use Rattle.ps_codefile.specs.Procedures.{outer_data_size, read_tables}
 use Rattle.ps_codefile.specs.declared.entry.Entry.{Entry}
 use Rattle.ps_linkinfo.specs.Numbered.{numbered_records}
-use Rattle.ps_linkinfo.specs.RecordCounts.{next_of}
 use Rattle.ps_linkinfo.specs.Records.{reading, used_by}
 use Rattle.ps_linkinfo.specs.declared.record.LinkRecord.{LinkRecord as Record}
 use Rattle.ps_warnings.specs.EntryFindings.{empty_finding, overlap}
 use Rattle.ps_warnings.specs.Found.{Stated, found_at, found_in_record}
-use Rattle.ps_warnings.specs.RecordFindings.{first_definition, first_high, first_past, low_mark}
-use Rattle.ps_segments.specs.Seen.{Seen, has_slot}
+use Rattle.ps_warnings.specs.RecordFindings.{end_mark, first_above, first_definition, first_past, first_public, low_mark}
+use Rattle.ps_check_segments.specs.Seen.{Seen, has_slot}
 use Rattle.ps_warnings.specs.declared.findings.extents.Extent.{Extent}
 use Rattle.ps_codefile.specs.declared.dictionary_layout.TheConstants.{SLOTS}
 
@@ -28,19 +27,22 @@ data_size order code = if nat_lt (length code) 2 then None
     (result_ok (read_tables order code false))
 
 -- what looks wrong in the definitions of a segment: of a host program its end mark and the first
--- that is too high, of a unit the first, by what the host program of the link defines
+-- that is too high, of a unit the first that is missed and the first other one, by what the host
+-- program of the link defines
 unfoldable pub definition_findings : List ℕ → Option (List ℕ) → Option (List Record) → ℕ
     → Option ℕ → List Record → List Stated
 definition_findings path segment host kind size rs = if kind == 1
-    then found_at path segment None (low_mark rs size)
-    ++ found_in_record path segment (first_high (next_of rs) (numbered_records 0 rs))
-    else found_in_record path segment (first_definition rs host (numbered_records 0 rs))
+    then found_at path segment None (low_mark (end_mark rs) size)
+    ++ found_in_record path segment (first_above rs)
+    else found_in_record path segment (first_definition true rs host (numbered_records 0 rs))
+    ++ found_in_record path segment (first_definition false rs host (numbered_records 0 rs))
 
 -- what looks wrong in the records of a segment that has this name, this kind and this code
 unfoldable pub findings_of_records : List ℕ → Option (List Record) → Order → Entry → List ℕ
     → List Record → List Stated
 findings_of_records path host order e code rs =
     found_in_record path (Some e.name) (first_past code (numbered_records 0 rs))
+    ++ found_in_record path (Some e.name) (first_public code host (numbered_records 0 rs))
     ++ definition_findings path (Some e.name) host e.kind (data_size order code) rs
 
 -- what looks wrong in a segment, of which a link reads the records if it is the host program or a

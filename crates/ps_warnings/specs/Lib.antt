@@ -2,7 +2,11 @@ pub mod RecordFindings
 pub mod EntryFindings
 pub mod Weights
 pub mod Places
+pub mod FindingTexts
 pub mod LinkFindings
 pub mod Found
 pub mod FileFindings
 pub mod AllFindings
+pub mod Notes
+pub mod Warned
+pub mod SmallRecords

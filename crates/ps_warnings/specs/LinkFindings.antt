@@ -5,11 +5,11 @@ use Rattle.std.specs.Option.{option_map}
 use Rattle.ps_words.specs.declared.order.Order.{Order}
 use Rattle.ps_codefile.specs.Dictionary.{entry_at}
 use Rattle.ps_codefile.specs.declared.entry.Entry.{Entry}
-use Rattle.ps_filetype.specs.Names.{is_near}
-use Rattle.ps_segments.specs.SegmentParts.{is_added, is_unit}
-use Rattle.ps_segments.specs.declared.segments.SegmentPart.{SegmentPart}
+use Rattle.ps_filetype.specs.Names.{is_respelled}
+use Rattle.ps_check_segments.specs.SegmentParts.{is_added, is_unit}
+use Rattle.ps_check_segments.specs.declared.segments.SegmentPart.{SegmentPart}
 use Rattle.ps_warnings.specs.EntryFindings.{names_segment}
-use Rattle.ps_segments.specs.Seen.{Seen}
+use Rattle.ps_check_segments.specs.Seen.{Seen}
 use Rattle.ps_warnings.specs.declared.finding.LinkFinding.TheVariants as finding
 use Rattle.ps_warnings.specs.declared.finding.Finding.{Finding}
 use Rattle.ps_warnings.specs.declared.finding.Finding.TheVariants as which
@@ -26,11 +26,11 @@ taken_by order host None what = None
 taken_by order host (Some slot) what = if nat_lt slot SLOTS
     then taken_slot slot what (entry_at order host slot) else None
 
--- the segment is a unit of nearly this name
+-- the segment is a unit of another name that differs in capitals or padding alone
 abbrev pub is_near_unit : List ℕ → Seen → Bool
-is_near_unit name s = is_unit s.part && is_near s.name name
+is_near_unit name s = is_unit s.part && is_respelled s.name name
 
--- the first of the segments before a unit that is a unit of nearly its name
+-- the first of the segments before a unit that is a unit of such a name
 abbrev pub other_spelling : List Seen → Seen → Option Finding
 other_spelling earlier s = if is_unit s.part
     then option_map (λ o. which.Link (finding.OtherSpelling o.name))

@@ -22,6 +22,7 @@ abbrev pub record_weight : RecordFinding → Weight
 record_weight (rec.UnitDefinition name) = Harmless
 record_weight (rec.OwnDefinition name) = Warning
 record_weight (rec.PastPrivate place displacement words) = Warning
+record_weight (rec.PastPublic place name displacement value next) = Warning
 record_weight (rec.LowMark next size) = Warning
 record_weight (rec.HighDefinition name value next) = Warning
 
@@ -31,6 +32,7 @@ file_weight (file.NoCodeFile file_type) = Note
 file_weight (file.Padded bytes) = Harmless
 file_weight (file.Doubled start end) = Note
 file_weight (file.Converted line_ends) = Note
+file_weight file.SevenBits = Note
 
 -- an intrinsic unit of Apple Pascal is harmless, and each other finding in a dictionary a note
 abbrev pub dictionary_weight : DictionaryFinding → Weight

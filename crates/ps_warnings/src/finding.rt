@@ -4,13 +4,28 @@
 ghost use Rattle.std.specs.Prelude.{◌≡◌, Some, false};
 ghost use Rattle.std.specs.Fmt.{WritesOnOk};
 ghost use Rattle.ps_warnings.specs.Places.{place_text, record_words, segment_words};
+ghost use Rattle.ps_warnings.specs.FindingTexts.{byte_digits, code_text, dictionary_text, entry_text, file_text, finding_text, link_text, name_text, operand_text, procedure_text, record_text};
 ghost use Rattle.ps_warnings.specs.Found.{is_about_link};
 ghost use Rattle.ps_warnings.specs.Weights.{is_certain as is_certain_spec, weight_of};
 
 use crate::weight::Weight;
-use ps_filetype::{FileType, LineEnds, Oddity, ShownName, ShownPath};
+use ps_filetype::{FileType, LineEnds, Oddity, ShownName, ShownPath, ShownSlot};
 use ps_words::Name;
 use std::fmt::{self, Display, Formatter};
+
+/// A byte in two hexadecimal digits.
+#[derive(Clone, Copy)]
+struct ByteDigits(u8);
+
+impl fmt::Display for ByteDigits {
+    ghost output = { λ byte. Some (byte_digits byte.0) };
+
+    #[tactic(auto, using(std::proofs::lemmas::Fmt::hex_byte))]
+    fn fmt<W: fmt::Write>(&self, f: &mut Formatter<W>) -> fmt::Result {
+        let byte = self.0;
+        write!(f, "{byte:02X}")
+    }
+}
 
 /// What looks wrong in a file as a whole.
 #[derive(Clone, Copy)]
@@ -23,9 +38,14 @@ pub enum FileFinding {
     Doubled { start: usize, end: usize },
     /// A transfer may have converted the file as if it were a text. Copy it again, as binary.
     Converted { line_ends: LineEnds },
+    /// A transfer of 7 bits may have cleared bit 7 of each byte. Copy it again, as binary.
+    SevenBits,
 }
 
 impl fmt::Display for FileFinding {
+    ghost output = { λ finding. Some (file_text finding) };
+
+    #[tactic(auto, unfolding(crate::specs::FindingTexts::file_text))]
     fn fmt<W: fmt::Write>(&self, f: &mut Formatter<W>) -> fmt::Result {
         match *self {
             FileFinding::NoCodeFile { file_type } => write!(f, "it may be {file_type}"),
@@ -44,6 +64,9 @@ impl fmt::Display for FileFinding {
             FileFinding::Converted { line_ends } => {
                 write!(f, "{line_ends}: its line ends may have been converted")
             }
+            FileFinding::SevenBits => {
+                f.write_str("none of its bytes is above 7F: it may have been sent as 7 bits")
+            }
         }
     }
 }
@@ -58,18 +81,23 @@ pub enum DictionaryFinding {
 }
 
 impl fmt::Display for DictionaryFinding {
+    ghost output = { λ finding. Some (dictionary_text finding) };
+
+    #[tactic(auto, unfolding(crate::specs::FindingTexts::dictionary_text))]
     fn fmt<W: fmt::Write>(&self, f: &mut Formatter<W>) -> fmt::Result {
         match *self {
             DictionaryFinding::DeadTail { start, end, byte } => {
+                let byte = ByteDigits(byte);
                 write!(
                     f,
-                    "bytes {start} to {end} of its dictionary are all {byte:02X}: they may not have been read"
+                    "bytes {start} to {end} of its dictionary are all {byte}: they may not have been read"
                 )
             }
             DictionaryFinding::IntrinsicKind { slot, kind } => {
+                let slot = ShownSlot(slot);
                 write!(
                     f,
-                    "slot {slot:02} is of kind {kind}, an intrinsic unit of Apple Pascal or its data"
+                    "slot {slot} is of kind {kind}, an intrinsic unit of Apple Pascal or its data"
                 )
             }
         }
@@ -87,17 +115,21 @@ pub enum EntryFinding {
 }
 
 impl fmt::Display for EntryFinding {
+    ghost output = { λ finding. Some (entry_text finding) };
+
+    #[tactic(auto, unfolding(crate::specs::FindingTexts::entry_text))]
     fn fmt<W: fmt::Write>(&self, f: &mut Formatter<W>) -> fmt::Result {
         match *self {
             EntryFinding::EmptySlot { slot, name, kind } => {
-                let name = ShownName(name);
+                let (slot, name) = (ShownSlot(slot), ShownName(name));
                 write!(
                     f,
-                    "slot {slot:02} has the name {name}, kind {kind} and no code: no segment is linked there"
+                    "slot {slot} has the name {name}, kind {kind} and no code: no segment is linked there"
                 )
             }
             EntryFinding::Overlap { other } => {
-                write!(f, "its bytes in the file overlap those of slot {other:02}")
+                let other = ShownSlot(other);
+                write!(f, "its bytes in the file overlap those of slot {other}")
             }
         }
     }
@@ -111,6 +143,9 @@ pub enum NameFinding {
 }
 
 impl fmt::Display for NameFinding {
+    ghost output = { λ finding. Some (name_text finding) };
+
+    #[tactic(auto, unfolding(crate::specs::FindingTexts::name_text))]
     fn fmt<W: fmt::Write>(&self, f: &mut Formatter<W>) -> fmt::Result {
         match *self {
             NameFinding::OddName { name, oddity } => {
@@ -139,18 +174,23 @@ pub enum CodeFinding {
 }
 
 impl fmt::Display for CodeFinding {
+    ghost output = { λ finding. Some (code_text finding) };
+
+    #[tactic(auto, unfolding(crate::specs::FindingTexts::code_text))]
     fn fmt<W: fmt::Write>(&self, f: &mut Formatter<W>) -> fmt::Result {
         match *self {
             CodeFinding::OneByte { byte } => {
+                let byte = ByteDigits(byte);
                 write!(
                     f,
-                    "each byte of its code is {byte:02X}: it may never have been written"
+                    "each byte of its code is {byte}: it may never have been written"
                 )
             }
             CodeFinding::DeadRun { start, end, byte } => {
+                let byte = ByteDigits(byte);
                 write!(
                     f,
-                    "bytes {start} to {end} of its code are all {byte:02X}: they may not have been read"
+                    "bytes {start} to {end} of its code are all {byte}: they may not have been read"
                 )
             }
             CodeFinding::ZeroEnd => f.write_str(
@@ -187,9 +227,14 @@ pub enum ProcedureFinding {
     LostTables,
     /// A part of the code may stand in another place, or be another's. Compare two copies of the file.
     Misfit { procedure: usize },
+    /// A byte of the table may have been changed, as where line ends were converted. Copy the file again.
+    OddData { data: u16 },
 }
 
 impl fmt::Display for ProcedureFinding {
+    ghost output = { λ finding. Some (procedure_text finding) };
+
+    #[tactic(auto, unfolding(crate::specs::FindingTexts::procedure_text))]
     fn fmt<W: fmt::Write>(&self, f: &mut Formatter<W>) -> fmt::Result {
         match *self {
             ProcedureFinding::OtherProcedure { procedure, found } => {
@@ -207,24 +252,50 @@ impl fmt::Display for ProcedureFinding {
                     "procedure {procedure} may be damaged: its instructions do not fit together, as those of the others do"
                 )
             }
+            ProcedureFinding::OddData { data } => {
+                write!(
+                    f,
+                    "its data size of {data} bytes is odd, and the program is entered or left before its code: its table may be damaged"
+                )
+            }
         }
     }
 }
 
-/// What looks wrong in the operands that references name.
+/// What looks wrong in references: in the operands that they name, or where they may be lost.
 #[derive(Clone, Copy)]
 pub enum OperandFinding {
     /// A link sets the bit, and reads the operand without it. Compare two copies of the file.
     ClearMark { place: usize },
+    /// Without references each such operand stays as it is, for another variable. Copy the file again.
+    NoReferences { operands: usize },
+    /// The records before it may be lost, and a link stops at the zeros. Copy the file again.
+    ZeroMark { name: Name },
 }
 
 impl fmt::Display for OperandFinding {
+    ghost output = { λ finding. Some (operand_text finding) };
+
+    #[tactic(auto, unfolding(crate::specs::FindingTexts::operand_text))]
     fn fmt<W: fmt::Write>(&self, f: &mut Formatter<W>) -> fmt::Result {
         match *self {
             OperandFinding::ClearMark { place } => {
                 write!(
                     f,
                     "the operand at byte {place} may be damaged: its bit 7 is clear, and a compiler sets it"
+                )
+            }
+            OperandFinding::NoReferences { operands } => {
+                write!(
+                    f,
+                    "it has no reference, and {operands} operands of two bytes for variables of the program: its references may be lost"
+                )
+            }
+            OperandFinding::ZeroMark { name } => {
+                let name = ShownName(name);
+                write!(
+                    f,
+                    "its end mark is zeros, and a record of {name} is behind it: records may be lost"
                 )
             }
         }
@@ -239,6 +310,14 @@ pub enum RecordFinding {
         place: usize,
         displacement: u16,
         words: u16,
+    },
+    /// The operand is outside the program's variables. Compile the host and the unit again.
+    PastPublic {
+        place: usize,
+        name: Name,
+        displacement: u16,
+        value: u16,
+        next: u16,
     },
     /// Only the host program's definitions count. The link passes it over.
     UnitDefinition {
@@ -262,6 +341,9 @@ pub enum RecordFinding {
 }
 
 impl fmt::Display for RecordFinding {
+    ghost output = { λ finding. Some (record_text finding) };
+
+    #[tactic(auto, unfolding(crate::specs::FindingTexts::record_text))]
     fn fmt<W: fmt::Write>(&self, f: &mut Formatter<W>) -> fmt::Result {
         match *self {
             RecordFinding::PastPrivate {
@@ -272,6 +354,19 @@ impl fmt::Display for RecordFinding {
                 write!(
                     f,
                     "the operand at byte {place} is word {displacement} of a variable that has {words}"
+                )
+            }
+            RecordFinding::PastPublic {
+                place,
+                name,
+                displacement,
+                value,
+                next,
+            } => {
+                let name = ShownName(name);
+                write!(
+                    f,
+                    "the operand at byte {place} is word {displacement} of {name} at base offset {value}, and the end mark says that {next} is free"
                 )
             }
             RecordFinding::UnitDefinition { name } => {
@@ -316,13 +411,16 @@ pub enum LinkFinding {
 }
 
 impl fmt::Display for LinkFinding {
+    ghost output = { λ finding. Some (link_text finding) };
+
+    #[tactic(auto, unfolding(crate::specs::FindingTexts::link_text))]
     fn fmt<W: fmt::Write>(&self, f: &mut Formatter<W>) -> fmt::Result {
         match *self {
             LinkFinding::TakenSlot { slot, name } => {
-                let name = ShownName(name);
+                let (slot, name) = (ShownSlot(slot), ShownName(name));
                 write!(
                     f,
-                    "it is added in slot {slot:02}, which the host has for {name}: calls of {name} go to it"
+                    "it is added in slot {slot}, which the host has for {name}: calls of {name} go to it"
                 )
             }
             LinkFinding::OtherSpelling { name } => {
@@ -368,6 +466,7 @@ impl Finding {
             | Finding::Link(_)
             | Finding::Record(
                 RecordFinding::PastPrivate { .. }
+                | RecordFinding::PastPublic { .. }
                 | RecordFinding::OwnDefinition { .. }
                 | RecordFinding::LowMark { .. }
                 | RecordFinding::HighDefinition { .. },
@@ -375,7 +474,8 @@ impl Finding {
             Finding::File(
                 FileFinding::NoCodeFile { .. }
                 | FileFinding::Doubled { .. }
-                | FileFinding::Converted { .. },
+                | FileFinding::Converted { .. }
+                | FileFinding::SevenBits,
             )
             | Finding::Dictionary(DictionaryFinding::DeadTail { .. })
             | Finding::Name(_)
@@ -394,6 +494,9 @@ impl Finding {
 }
 
 impl fmt::Display for Finding {
+    ghost output = { λ finding. Some (finding_text finding) };
+
+    #[tactic(auto, unfolding(crate::specs::FindingTexts::finding_text))]
     fn fmt<W: fmt::Write>(&self, f: &mut Formatter<W>) -> fmt::Result {
         match *self {
             Finding::File(finding) => finding.fmt(f),

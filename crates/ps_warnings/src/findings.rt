@@ -6,8 +6,8 @@ ghost use Rattle.ps_resolve.specs.Sources.{contents};
 ghost use Rattle.ps_warnings.specs.AllFindings.{all_findings, link_findings_of, findings_of_file, findings_of_files};
 ghost use Rattle.ps_warnings.specs.FileFindings.{comes_from as comes_from_spec, host_met};
 ghost use Rattle.ps_warnings.specs.Found.{Adds, found_at, found_in_record, about_link, stated_at};
-ghost use Rattle.ps_segments.specs.Paths.{host_order, paths_in};
-ghost use Rattle.ps_segments.specs.Seen.{host_records, seen};
+ghost use Rattle.ps_check_segments.specs.Paths.{host_order, paths_in};
+ghost use Rattle.ps_check_segments.specs.Seen.{host_records, seen};
 
 mod codes;
 mod doubled;
@@ -22,8 +22,8 @@ mod procedures;
 mod records;
 
 use crate::finding::{Finding, FindingAt, Place, Unsure};
+use ps_check_segments::{NamedFiles, ReadSegment, host_of, in_slot};
 use ps_linkinfo::LinkInformation;
-use ps_segments::{NamedFiles, ReadSegment, host_of, in_slot};
 use ps_words::{Fault, Name};
 use std::alloc::{AllocError, Allocator};
 

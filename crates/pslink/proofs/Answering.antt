@@ -1,20 +1,20 @@
 -- What the answer of a link says of its linked file.
 use Rattle.std.proofs.Common.{◌≡◌, ℕ, List, ◌∙◌, ap, arith, length}
-use Rattle.ps_calls.specs.Calls.{Links, LinkNeeds}
-use Rattle.ps_answers.proofs.Summaries.{is_exact}
-use Rattle.ps_answers.specs.Answers.{small_answer}
-use Rattle.ps_answers.specs.Dones.{IsLinked}
-use Rattle.ps_answers.specs.Libraries.{split}
-use Rattle.ps_answers.specs.Outcomes.{done_answer, not_done_answer, not_done_of}
-use Rattle.ps_answers.specs.WhyUnmade.{WhyCallFails, WhyLinkUnput}
-use Rattle.ps_answers.specs.declared.answer.Answer.{Answer}
-use Rattle.ps_answers.specs.declared.answer.TheConstants.{DONE, TOO_SMALL}
-use Rattle.ps_answers.specs.declared.outcome.CallError.{CallError}
-use Rattle.ps_answers.specs.declared.outcome.CallError.TheVariants as call
-use Rattle.ps_answers.specs.declared.outcome.Done.{Done}
-use Rattle.ps_answers.specs.declared.outcome.Done.TheVariants.{Linked, Report, Text}
-use Rattle.ps_answers.specs.declared.outcome.Unmade.TheVariants.{Refused, NoMemory}
-use Rattle.ps_answers.specs.declared.outcome.Unput.TheVariants as unput
+use Rattle.ps_c_texts.specs.Calls.{Links, LinkNeeds}
+use Rattle.ps_c_link.proofs.Summaries.{is_exact}
+use Rattle.ps_c_link.specs.Answers.{small_answer}
+use Rattle.ps_c_link.specs.Dones.{IsLinked}
+use Rattle.ps_c_link.specs.Libraries.{split}
+use Rattle.ps_c_link.specs.Outcomes.{done_answer, not_done_answer, not_done_of}
+use Rattle.ps_c_link.specs.WhyUnmade.{WhyCallFails, WhyLinkUnput}
+use Rattle.ps_c_link.specs.declared.answer.Answer.{Answer}
+use Rattle.ps_c_link.specs.declared.answer.TheConstants.{DONE, TOO_SMALL}
+use Rattle.ps_c_link.specs.declared.outcome.CallError.{CallError}
+use Rattle.ps_c_link.specs.declared.outcome.CallError.TheVariants as call
+use Rattle.ps_c_link.specs.declared.outcome.Done.{Done}
+use Rattle.ps_c_link.specs.declared.outcome.Done.TheVariants.{Linked, Report, Text}
+use Rattle.ps_linkfile.specs.declared.unmade.Unmade.TheVariants.{Refused, Memory}
+use Rattle.ps_c_link.specs.declared.outcome.Unput.TheVariants as unput
 
 -- the answer of a link that was done
 pub links : (host : List ℕ) (libs : List (List ℕ)) (old new : List ℕ) (a : Answer)
@@ -33,7 +33,7 @@ pub not_linked : (a : Answer) (error : CallError) → a ≡ not_done_answer (not
 not_linked a call.WrongLengths e is = omega (arith, ap (λ (b : Answer). b.status) e, is)
 not_linked a (call.Unput (unput.Unmade (Refused r))) e is =
     omega (arith, ap (λ (b : Answer). b.status) e, is)
-not_linked a (call.Unput (unput.Unmade NoMemory)) e is =
+not_linked a (call.Unput (unput.Unmade Memory)) e is =
     omega (arith, ap (λ (b : Answer). b.status) e, is)
 not_linked a (call.Unput (unput.TooSmall t)) e is =
     omega (arith, ap (λ (b : Answer). b.status) e, is)
@@ -54,7 +54,7 @@ link_needs host libs lengths room a call.WrongLengths e h is =
     absurd (omega (arith, ap (λ (b : Answer). b.status) e, is))
 link_needs host libs lengths room a (call.Unput (unput.Unmade (Refused r))) e h is =
     absurd (omega (arith, ap (λ (b : Answer). b.status) e, is))
-link_needs host libs lengths room a (call.Unput (unput.Unmade NoMemory)) e h is =
+link_needs host libs lengths room a (call.Unput (unput.Unmade Memory)) e h is =
     absurd (omega (arith, ap (λ (b : Answer). b.status) e, is))
 link_needs host libs lengths room a (call.Unput (unput.TooSmall t)) e h is =
     let above = h.1.1.1.1 in

@@ -3,16 +3,16 @@
 //! `pslink_answer`.
 ghost use Rattle.std.specs.Prelude.{◌≡◌, ◌≢◌, ◌≤◌, ◌<◌, length, sum, IfNone, IfSome};
 ghost use Rattle.ps_resolve.specs.Standing.{NoneStandsInReading};
-ghost use Rattle.ps_answers.specs.Libraries.{split};
-ghost use Rattle.ps_answers.specs.Answers.{bare, closed_text, fault_told, IsStatus, IsTextStatus};
-ghost use Rattle.ps_answers.specs.Rooms.{RoomBeginsWith};
-ghost use Rattle.ps_calls.specs.Kinds.{text_kind as text_kind_spec};
-ghost use Rattle.ps_calls.specs.Calls.{IsAnswered, Links, LinkNeeds, Refuses};
+ghost use Rattle.ps_c_link.specs.Libraries.{split};
+ghost use Rattle.ps_c_link.specs.Answers.{bare, closed_text, fault_told, IsStatus, IsTextStatus};
+ghost use Rattle.ps_c_link.specs.Rooms.{RoomBeginsWith};
+ghost use Rattle.ps_c_texts.specs.Kinds.{text_kind as text_kind_spec};
+ghost use Rattle.ps_c_texts.specs.Calls.{IsAnswered, Links, LinkNeeds, Refuses};
 
-use ps_answers::{
+use ps_c_link::{
     Answer, DONE, LIBRARIES_IN_PLACE, LINKED_MAX, MISUSE, NO_MEMORY, REFUSED, TOO_SMALL, link,
 };
-use ps_calls::{FAULT_TEXT_MAX, put_fault, text, text_kind};
+use ps_c_texts::{FAULT_TEXT_MAX, put_fault, text, text_kind};
 use std::alloc::Global;
 
 /// The release of pslink as a number: 10000 times its first part, 100 times its second, and its
@@ -71,8 +71,8 @@ pub extern "C" fn pslink_link_nonnull(
 /// Puts a text of a host and its libraries in `out`, as the program prints it, or names of units,
 /// and answers how it went.
 ///
-/// `what` is the number of the text, `TEXT_MAP` to `TEXT_HAD`, and `JSON` more where it is a
-/// document, which names of units have not. `host`, `libs` and `lengths` are those of
+/// `what` is the number of the text, of those of `kinds`, and `JSON` more where it is a document,
+/// which names of units have not. `host`, `libs` and `lengths` are those of
 /// `pslink_link_nonnull`. `names` has the names of the files in the text, UTF-8, one after another,
 /// and `name_lengths` the length of each, that of the host first; of a text in which the files have
 /// no names, these two are not looked at. Answers `DONE`, and `out` then begins with the text, and

@@ -2,12 +2,17 @@
 //! where the files say more.
 use crate::cases::Case;
 use crate::sentences::{meaning_of, remedy_of};
+use ps_check_segments::NamedFiles;
 use ps_codefile::kinds::{FIRST_INTRINSIC, LAST_INTRINSIC, LINKED};
-use ps_filetype::{FileType, Remedy, ShownPath, is_swapped};
-use ps_segments::NamedFiles;
+use ps_filetype::{
+    CodeFile, FileType, Remedy, ShownName, ShownPath, has_procedure_dictionary, is_swapped,
+};
 use ps_warnings::dead_run;
-use ps_words::Reason;
+use ps_words::{Name, Reason};
 use std::fmt::{self, Display, Formatter};
+
+/// The name of the file that a command writes.
+const TARGET: &[u8] = b"FILE";
 
 /// What the fault is, and what to do about it, in two lines.
 pub(super) fn write_advice<W: fmt::Write>(
@@ -52,14 +57,57 @@ enum Advice<'a> {
     OfType(Remedy<'a>),
     /// The host is to be exchanged with a library.
     Exchange { host: &'a str, library: &'a str },
+    /// The host is linked already, and a library is to be given in its place.
+    LeaveOut { host: &'a str, library: &'a str },
+    /// A library that has the unit is to be given.
+    Library { name: Name, host: &'a str },
+}
+
+/// A file has the name that a command writes, or one that ends like it: `FILE` by the number 1, and
+/// `FILE.2` by 2.
+fn has_target_name(path: &str, number: usize) -> bool {
+    if number <= 1 {
+        let name = path.as_bytes();
+        let last = name
+            .get(name.len().saturating_sub(TARGET.len())..)
+            .unwrap_or(name);
+        return last.eq_ignore_ascii_case(TARGET);
+    }
+    match path.rsplit_once('.') {
+        Some((_, end)) => end.parse::<usize>().ok() == Some(number),
+        None => false,
+    }
+}
+
+/// No file of the check has the name of this number that a command may write.
+fn is_free(inputs: &NamedFiles<'_>, number: usize) -> bool {
+    !has_target_name(inputs.host_path, number)
+        && !inputs
+            .paths
+            .iter()
+            .any(|path| has_target_name(path, number))
+}
+
+/// The number of a name that a command may write: no file of the check has it.
+fn free_target(inputs: &NamedFiles<'_>) -> usize {
+    let last = inputs.paths.len().saturating_add(2);
+    (1..=last)
+        .find(|number| is_free(inputs, *number))
+        .unwrap_or(1)
 }
 
 impl<'a> Advice<'a> {
     /// What to do with this file.
     fn of_file(inputs: &NamedFiles<'a>, file: usize) -> Self {
+        Advice::of_type(inputs, file, inputs.file_type(file))
+    }
+
+    /// What to do with a file of this type.
+    fn of_type(inputs: &NamedFiles<'a>, file: usize, file_type: FileType) -> Self {
         Advice::OfType(Remedy {
-            file_type: inputs.file_type(file),
+            file_type,
             path: inputs.path(file),
+            target: free_target(inputs),
         })
     }
 }
@@ -76,6 +124,19 @@ impl fmt::Display for Advice<'_> {
                     f,
                     "Exchange the two: give {library} as HOST, and {host} after it."
                 )
+            }
+            Advice::LeaveOut { host, library } => {
+                let host = ShownPath(host);
+                let library = ShownPath(library);
+                write!(
+                    f,
+                    "Give {library} as HOST, and leave {host} out: it is linked already."
+                )
+            }
+            Advice::Library { name, host } => {
+                let name = ShownName(name);
+                let host = ShownPath(host);
+                write!(f, "Give a library that has {name}, after {host}.")
             }
         }
     }
@@ -109,7 +170,12 @@ fn remedy_in<'a>(case: &Case<'_, 'a>) -> Advice<'a> {
         }
         Reason::MissingUnit => return remedy_of_missing(case),
         Reason::NativeProcedure => return remedy_of_native(case),
+        Reason::NotAUnit { kind: LINKED } => return remedy_of_linked(case),
         Reason::NotAUnit { kind } => remedy_of_kind(kind),
+        Reason::OperandTooLarge if case.is_suspect || case.leads_past() =>
+            "Copy the file again, as binary, or compile it again. If it is whole, make the host program's data before this variable smaller.",
+        Reason::NativeRecord if case.is_suspect =>
+            "Copy the file again, as binary, or compile it again. If it is whole, write the external procedure in Pascal, in a unit.",
         reason => remedy_of(reason.number()),
     };
     let path = case.inputs.path(case.fault.file);
@@ -124,17 +190,32 @@ fn remedy_of_native<'a>(case: &Case<'_, 'a>) -> Advice<'a> {
         return Advice::Sentence { text, path };
     }
     if is_exchanged(case) {
-        let file_type = FileType::Swapped;
-        return Advice::OfType(Remedy { file_type, path });
+        return Advice::of_type(case.inputs, case.fault.file, FileType::Swapped);
     }
-    let text = remedy_of(Reason::NativeProcedure.number());
+    let text = if case.is_suspect {
+        "Copy the file again, as binary, or compile it again. If it is whole, use the procedure as the compiler left it, in P-code."
+    } else {
+        remedy_of(Reason::NativeProcedure.number())
+    };
     Advice::Sentence { text, path }
+}
+
+/// What to do about a linked segment in place of a unit: its file is linked, or damaged, where none of
+/// its codes ends with a procedure dictionary.
+fn remedy_of_linked<'a>(case: &Case<'_, 'a>) -> Advice<'a> {
+    let (inputs, file) = (case.inputs, case.fault.file);
+    if !has_procedure_dictionary(inputs.bytes(file)) {
+        return Advice::of_type(inputs, file, FileType::Unknown);
+    }
+    Advice::Sentence {
+        text: "The file is linked already: leave it out.",
+        path: inputs.path(file),
+    }
 }
 
 /// What to do about a segment of this kind that is no unit.
 fn remedy_of_kind(kind: u16) -> &'static str {
     match kind {
-        LINKED => "The file is linked already: leave it out.",
         FIRST_INTRINSIC..=LAST_INTRINSIC =>
             "Compile it as a regular unit of II.0, or give the library of such a unit before the file.",
         _ => "Give the unit's library before the file, or remove that segment from the file.",
@@ -145,19 +226,30 @@ fn remedy_of_kind(kind: u16) -> &'static str {
 fn remedy_of_file<'a>(case: &Case<'_, 'a>) -> Advice<'a> {
     let (inputs, file) = (case.inputs, case.fault.file);
     match case.fault.reason {
-        // (a library may be the host)
-        Reason::NoHost => match case.host_among_libraries() {
-            Some(library) => Advice::Exchange {
-                host: inputs.path(file),
-                library: inputs.path(library),
-            },
-            None => Advice::of_file(inputs, file),
-        },
+        Reason::NoHost => remedy_of_no_host(case),
         Reason::OrderMismatch if inputs.file_type(file).is_code() => Advice::Sentence {
             text: "Compile the file for the machine of the host.",
             path: inputs.path(file),
         },
         _ => Advice::of_file(inputs, file),
+    }
+}
+
+/// What to do where the first file is no host: a library may be one.
+fn remedy_of_no_host<'a>(case: &Case<'_, 'a>) -> Advice<'a> {
+    let inputs = case.inputs;
+    let is_linked = matches!(inputs.file_type(0), FileType::Code(CodeFile::Linked));
+    if is_linked && !has_procedure_dictionary(inputs.host) {
+        return Advice::of_type(inputs, 0, FileType::Unknown);
+    }
+    let Some(library) = case.host_among_libraries() else {
+        return Advice::of_file(inputs, 0);
+    };
+    let (host, library) = (inputs.path(0), inputs.path(library));
+    if is_linked {
+        Advice::LeaveOut { host, library }
+    } else {
+        Advice::Exchange { host, library }
     }
 }
 
@@ -169,8 +261,12 @@ fn remedy_of_missing<'a>(case: &Case<'_, 'a>) -> Advice<'a> {
             return Advice::of_file(inputs, file);
         }
     }
-    Advice::Sentence {
-        text: "Give a library that has it, after the file.",
-        path: inputs.path(0),
+    let host = inputs.path(0);
+    match case.missing_unit() {
+        Some(name) => Advice::Library { name, host },
+        None => Advice::Sentence {
+            text: "Give a library that has it, after the file.",
+            path: host,
+        },
     }
 }

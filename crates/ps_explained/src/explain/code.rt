@@ -2,7 +2,7 @@
 ghost use Rattle.std.specs.Prelude.{◌≡◌, ◌+◌, ◌*◌};
 
 use crate::cases::Case;
-use ps_segments::Source;
+use ps_check_segments::Source;
 use ps_warnings::dead_run;
 use ps_words::BLOCK_SIZE;
 use std::fmt::{self, Formatter, Write};

@@ -6,7 +6,7 @@ use ps_codefile::dictionary_layout::SLOTS;
 use ps_codefile::kinds::{
     FIRST_INTRINSIC, HOSTSEG, LAST_INTRINSIC, LINKED, SEGPROC, SEPRTSEG, UNITSEG,
 };
-use ps_filetype::{CodeFile, FileType, ShownName, ShownPath, is_near};
+use ps_filetype::{CodeFile, FileType, ShownName, ShownPath, has_procedure_dictionary, is_near};
 use ps_words::Name;
 use std::fmt::{self, Display, Formatter, Write};
 
@@ -32,7 +32,7 @@ pub(super) fn write_orders<W: Write>(f: &mut Formatter<W>, case: &Case<'_, '_>) 
 
 /// What the host is, and the first library that has a host program.
 pub(super) fn write_host<W: Write>(f: &mut Formatter<W>, case: &Case<'_, '_>) -> fmt::Result {
-    write_no_host(f, case.inputs.file_type(0))?;
+    write_no_host(f, case)?;
     match case.host_among_libraries() {
         Some(file) => {
             let path = ShownPath(case.inputs.path(file));
@@ -43,11 +43,15 @@ pub(super) fn write_host<W: Write>(f: &mut Formatter<W>, case: &Case<'_, '_>) ->
 }
 
 /// What a file is that is no host.
-fn write_no_host<W: Write>(f: &mut Formatter<W>, file_type: FileType) -> fmt::Result {
-    match file_type {
+fn write_no_host<W: Write>(f: &mut Formatter<W>, case: &Case<'_, '_>) -> fmt::Result {
+    match case.inputs.file_type(0) {
+        FileType::Code(CodeFile::Linked) if !has_procedure_dictionary(case.inputs.host) =>
+            f.write_str(
+                "  its kinds are all 0, and none of its codes ends with a procedure dictionary\n",
+            ),
         FileType::Code(CodeFile::Linked) => f.write_str("  all of its segments are linked\n"),
         FileType::Code(_) => f.write_str("  it has units, and no host program\n"),
-        _ => writeln!(f, "  it is {file_type}"),
+        file_type => writeln!(f, "  it is {file_type}"),
     }
 }
 

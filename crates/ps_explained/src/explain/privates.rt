@@ -1,6 +1,6 @@
 //! What is said of private variables that do not fit.
 use crate::cases::Case;
-use ps_segments::host_of;
+use ps_check_segments::host_of;
 use std::fmt::{self, Formatter, Write};
 
 /// How many words there are already, and how many the variable takes; or the sizes that together

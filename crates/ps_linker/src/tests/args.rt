@@ -29,6 +29,8 @@ Options:
 Example:
   pslink link -o linked.code host.code library.code
 
+If the files are refused, pslink check with the same files says why.
+
 Exit status:
   0  the command was done
   1  the files are refused
@@ -49,7 +51,7 @@ Arguments:
   [LIB]...  A library to search for units, in the order given
 
 Options:
-  -o, --output <OUT>  The code file to write; it may be HOST
+  -o, --output <OUT>  The code file to write; if it is HOST, the unlinked host is lost
       --map <FILE>    Writes the map of the link to FILE, too
       --references    Writes to FILE what the link stores at each place, too
       --json          Prints the summary and writes the map as JSON documents
@@ -69,8 +71,10 @@ the same files. FILE may be neither OUT nor a file of the link.
 The summary is printed on standard error where the OUT of -o or FILE is standard
 output, as /dev/stdout. A file is read from a pipe as /dev/stdin.
 
-Without -o the file after HOST is OUT. If it is forgotten there, the first LIB is taken
+Without -o the file after HOST is OUT. If OUT is forgotten there, the first LIB is taken
 as OUT, and is overwritten if the link succeeds.
+
+If the files are refused, pslink check with the same files says why.
 
 Exit status:
   0  the command was done
@@ -160,10 +164,10 @@ Example:
   pslink check host.code library.code
 
 The report is for a person: the files, where each segment comes from, whether they
-are linked, and if not what is wrong and what to do. A line that begins with
-'warning: ' reports what looks wrong and is no fault, one with 'harmless: ' what changes
-no link, and one with 'note: ' a guess. No file is written. With --json the verdict,
-what is found and the report are printed as one JSON document.
+link, and if not what is wrong and what to do. A line that begins with 'warning: ' is
+certain and no fault, one with 'note: ' is a guess, and one with 'harmless: ' changes
+no link. No file is written, so leave -o OUT out. With --json the verdict, what is
+found and the report are printed as one JSON document.
 
 With --unit, HOST and each LIB are files of any kind. They are listed as by list, and
 after the lines of each file comes a line of each unit that it has, with its first
@@ -172,7 +176,7 @@ before there is a host. A file without a unit is refused.
 
 Exit status:
   0  the files link, and there may be warnings
-  1  the files are refused; with --strict, or there is a warning
+  1  the files are refused, or with --strict there is a warning
   2  wrong usage
   3  a file could not be read, or standard output failed
   4  out of memory

@@ -1,5 +1,5 @@
 //! Files that fail.
-ghost use Rattle.std.specs.Prelude.{⊤};
+ghost use Rattle.ps_output_files.specs.World.{unknown_world};
 
 use ps_command::CodeFiles;
 use std::alloc::{Alloc, Global};
@@ -27,7 +27,7 @@ pub struct Faulty<'a, R: Files> {
     calls: u64,
     per_write: usize,
     opened: Cell<u64>,
-    created: Cell<u64>,
+    created: u64,
 }
 
 impl<'a, R: Files> Faulty<'a, R> {
@@ -39,7 +39,7 @@ impl<'a, R: Files> Faulty<'a, R> {
             calls,
             per_write,
             opened: Cell::new(0),
-            created: Cell::new(0),
+            created: 0,
         }
     }
 
@@ -60,7 +60,7 @@ impl<'a, R: Files> Faulty<'a, R> {
 
     /// How many files a program tried to open to be written.
     pub fn created(&self) -> u64 {
-        self.created.get()
+        self.created
     }
 }
 
@@ -107,15 +107,7 @@ impl<R: Files> CodeFiles for Faulty<'_, R> {
 
     type Created = FaultyFile<R::File>;
 
-    ghost opened = { λ rt path file. ⊤ };
-
-    ghost unopened = { λ rt path. ⊤ };
-
-    ghost created = { λ rt path file. ⊤ };
-
-    ghost closed = { λ rt path file. ⊤ };
-
-    ghost leads = { λ rt path found. ⊤ };
+    ghost world = { λ rt. unknown_world };
 
     fn open(&self, path: &str) -> io::Result<FaultyFile<R::File>> {
         if path == FORBIDDEN {
@@ -125,15 +117,16 @@ impl<R: Files> CodeFiles for Faulty<'_, R> {
         Ok(self.faulty(inner))
     }
 
-    fn create(&self, path: &str) -> io::Result<FaultyFile<R::File>> {
-        self.created.set(self.created.get().saturating_add(1));
+    fn create(&mut self, path: &str) -> io::Result<FaultyFile<R::File>> {
+        self.created = self.created.saturating_add(1);
         let inner = fs::create(self.inner, path)?;
         Ok(self.faulty(inner))
     }
 
-    fn close(&self, path: &str, file: FaultyFile<R::File>) -> io::Result<()> {
+    fn close(&mut self, path: &str, file: FaultyFile<R::File>) -> io::Result<()> {
         let FaultyFile { inner, .. } = file;
-        self.inner.close(path, inner)
+        let mut files = self.inner;
+        files.close(path, inner)
     }
 
     fn lead_to_one_file(&self, path: &str, other: &str) -> bool {

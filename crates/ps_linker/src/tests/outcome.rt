@@ -3,7 +3,7 @@ use super::faulty::{Faults, Faulty};
 use super::inputs::file_of;
 use super::writers::Limited;
 use crate::run;
-use ps_command::CodeFiles;
+use ps_command::run_with_files;
 use refusing::Refusing;
 use std::alloc::Global;
 use std::fmt::Debug;
@@ -42,37 +42,50 @@ pub fn done_refused<R: Files + AllocGlobal>(
     faults: Faults,
     args: &str,
 ) -> (Outcome, u64) {
-    let files = Faulty::taking(rt, faults);
-    let run = done_with(&files, heap, args);
-    (run, files.created())
+    let alloc = rt.alloc();
+    let mut files = Faulty::taking(rt, faults);
+    let mut out = Limited::taking_all(alloc);
+    let mut err = Limited::taking_all(alloc);
+    let words = words_of(alloc, args);
+    let status = run_with_files(
+        &mut files,
+        alloc,
+        heap,
+        words.as_slice(),
+        &mut out,
+        &mut err,
+    );
+    (Outcome { status, out, err }, files.created())
 }
 
 /// Runs the arguments with memory from `heap`.
-pub fn done_with<R: CodeFiles + AllocGlobal>(
-    rt: &R,
-    heap: &Refusing<Global>,
-    args: &str,
-) -> Outcome {
+pub fn done_with<R: Files + AllocGlobal>(rt: &R, heap: &Refusing<Global>, args: &str) -> Outcome {
     let alloc = rt.alloc();
     let writers = (Limited::taking_all(alloc), Limited::taking_all(alloc));
     done_into(rt, heap, args, writers)
 }
 
 /// Runs the arguments, which are words, with memory from `heap` and with these writers.
-pub fn done_into<R: CodeFiles + AllocGlobal>(
+pub fn done_into<R: Files + AllocGlobal>(
     rt: &R,
     heap: &Refusing<Global>,
     args: &str,
     (out, err): (Limited, Limited),
 ) -> Outcome {
-    let mut words = Vec::new(rt.alloc());
-    for word in args.split_whitespace() {
-        let _ = words.push(word);
-    }
+    let words = words_of(rt.alloc(), args);
     let mut out = out;
     let mut err = err;
     let status = run(rt, heap, words.as_slice(), &mut out, &mut err);
     Outcome { status, out, err }
+}
+
+/// The words of the arguments.
+fn words_of(alloc: Global, args: &str) -> Vec<&str> {
+    let mut words = Vec::new(alloc);
+    for word in args.split_whitespace() {
+        let _ = words.push(word);
+    }
+    words
 }
 
 impl Outcome {

@@ -103,12 +103,12 @@ fn failing_prints<R: Files + AllocGlobal + Abort>(
     most: usize,
     wanted: &str,
 ) -> u64 {
-    for writes in 0..1000 {
+    for writes in 0..2000 {
         if !fails_to_print(rt, args, (most, writes), wanted) {
             return writes;
         }
     }
-    1000
+    2000
 }
 
 static PRINTED: &str = "\

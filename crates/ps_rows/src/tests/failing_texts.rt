@@ -1,7 +1,9 @@
 //! Each text of files, written to writers of which the n-th write fails.
 use super::calls::Link;
 use crate::notation::{holds, holds_of};
-use ps_texts::{FilesText, Form, ListForm, NamedFiles, TextKind, text_of};
+use ps_texts::{
+    FilesText, Form, HostText, LinkText, ListForm, NamedFiles, NamedText, TextKind, text_of,
+};
 use ps_writing::{WriteFault, in_memory, write_text};
 use std::io;
 use std::io::Write;
@@ -9,21 +11,21 @@ use std::process::Abort;
 
 /// Each text that there is, in each form.
 static KINDS: [TextKind; 15] = [
-    TextKind::Map(Form::Lines),
-    TextKind::Map(Form::Json),
-    TextKind::References(Form::Lines),
-    TextKind::References(Form::Json),
-    TextKind::Show(Form::Lines),
-    TextKind::Show(Form::Json),
-    TextKind::Check(Form::Lines),
-    TextKind::Check(Form::Json),
-    TextKind::Findings(Form::Lines),
-    TextKind::Findings(Form::Json),
-    TextKind::List(ListForm::Lines),
-    TextKind::List(ListForm::Json),
-    TextKind::List(ListForm::Units),
+    TextKind::OfLink(LinkText::Map, Form::Lines),
+    TextKind::OfLink(LinkText::Map, Form::Json),
+    TextKind::OfLink(LinkText::References, Form::Lines),
+    TextKind::OfLink(LinkText::References, Form::Json),
+    TextKind::OfHost(HostText::Show(Form::Lines)),
+    TextKind::OfHost(HostText::Show(Form::Json)),
+    TextKind::Named(NamedText::Check(Form::Lines)),
+    TextKind::Named(NamedText::Check(Form::Json)),
+    TextKind::Named(NamedText::Findings(Form::Lines)),
+    TextKind::Named(NamedText::Findings(Form::Json)),
+    TextKind::Named(NamedText::List(ListForm::Lines)),
+    TextKind::Named(NamedText::List(ListForm::Json)),
+    TextKind::Named(NamedText::List(ListForm::Units)),
     TextKind::Wanted,
-    TextKind::Had,
+    TextKind::OfHost(HostText::Had),
 ];
 
 /// How many bytes a write takes at most: few, so that a text takes many writes, or all.

@@ -4,7 +4,7 @@ use super::calls::Link;
 use super::rows::{Row, changes, check_all, field};
 use super::tables::{Check, base_named};
 use crate::line::Line;
-use ps_texts::{NamedFiles, TextKind, Unmade, text_of};
+use ps_texts::{HostText, NamedFiles, TextKind, Unmade, text_of};
 use ps_writing::in_memory;
 use std::alloc::Global;
 use std::process::Abort;
@@ -46,7 +46,7 @@ fn names_of(alloc: Global, kind: TextKind, files: &NamedFiles<'_>) -> Line {
             }
             Err(_) => line.word(OUT_OF_MEMORY),
         },
-        Err(Unmade::Refused(fault)) => line.shown(&fault),
+        Err(Unmade::Refused(refusal)) => line.shown(&refusal.fault),
         Err(Unmade::Memory) => line.word(OUT_OF_MEMORY),
     }
     line
@@ -94,6 +94,6 @@ impl Row for NameRows {
 fn names_of_units(rt: HostRuntime) {
     let kind = TextKind::Wanted;
     check_all(&rt, &NameRows { kind }, WANTED);
-    let kind = TextKind::Had;
+    let kind = TextKind::OfHost(HostText::Had);
     check_all(&rt, &NameRows { kind }, HAD)
 }

@@ -4,7 +4,7 @@ ghost use Rattle.ps_warnings.specs.Found.{Adds, about_link};
 
 use super::Findings;
 use super::numbers::other_number;
-use super::procedures::{is_without_procedures, lost_tables, misfit_in, other_procedure};
+use super::procedures::{is_without_procedures, lost_tables, misfit_in, odd_data, other_procedure};
 use crate::dead::unread_run;
 use crate::finding::{CodeFinding, Place};
 use ps_codefile::Dict;
@@ -42,6 +42,7 @@ pub(super) fn look_at<'a, A: Allocator>(
     let (order, kind) = (dict.order(), dict.entry(slot).kind);
     findings.add_unsure(place, other_number(dict, slot, kind, code))?;
     findings.add_unsure(place, lost_tables(order, kind, slot, code))?;
+    findings.add_unsure(place, odd_data(order, kind, code))?;
     findings.add_unsure(place, other_procedure(order, code))?;
     findings.add_unsure(place, misfit_in(order, code))
 }

@@ -6,19 +6,19 @@ ghost use Rattle.ps_codefile.specs.Dictionary.{entry_at, information_of, kind_ne
 ghost use Rattle.ps_warnings.specs.EntryFindings.{empty_finding as empty_look_spec, empty_slot as empty_slot_spec, is_left_empty as is_left_empty_spec, names_segment as names_segment_spec};
 ghost use Rattle.ps_warnings.specs.FileFindings.{findings_of_entry, findings_of_segment, findings_of_slot};
 ghost use Rattle.ps_warnings.specs.Found.{Adds, about_link};
-ghost use Rattle.ps_segments.specs.Paths.{path_of, paths_in};
-ghost use Rattle.ps_segments.specs.Seen.{has_slot as has_slot_spec, seen};
+ghost use Rattle.ps_check_segments.specs.Paths.{path_of, paths_in};
+ghost use Rattle.ps_check_segments.specs.Seen.{has_slot as has_slot_spec, seen};
 
 use super::{Context, Findings, codes, in_file, records};
 use crate::dead::{REPEATED, SECTOR};
 use crate::finding::{DictionaryFinding, EntryFinding, Finding, NameFinding, Place};
+use ps_check_segments::ReadSegment;
 use ps_codefile::dictionary_layout::{SLOTS, TAIL};
 use ps_codefile::kinds::{
     FIRST_INTRINSIC, HOSTSEG, LAST_INTRINSIC, LINKED, SEGPROC, SEPRTSEG, UNITSEG,
 };
 use ps_codefile::{Dict, Entry, Role, is_nameless};
 use ps_filetype::{oddity_of, only_byte};
-use ps_segments::ReadSegment;
 use std::alloc::{AllocError, Allocator};
 
 /// Looks at the entries of a dictionary.

@@ -9,11 +9,11 @@ ghost use Rattle.ps_warnings.specs.Found.{Adds, about_link};
 
 use super::Findings;
 use crate::finding::{EntryFinding, Finding, Place};
+use ps_check_segments::length_of;
 use ps_codefile::Dict;
 use ps_codefile::dictionary_layout::{SLOT_COUNT, SLOTS};
 use ps_codefile::kinds::{HOSTSEG, LINKED, UNITSEG};
 use ps_linkinfo::LinkInformation;
-use ps_segments::length_of;
 use ps_words::{BLOCK_SIZE, Order, blocks_of};
 use std::alloc::{AllocError, Allocator};
 

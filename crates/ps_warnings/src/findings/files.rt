@@ -4,8 +4,8 @@ ghost use Rattle.std.specs.Option.{option_map};
 ghost use Rattle.ps_warnings.specs.AllFindings.{findings_of_file};
 ghost use Rattle.ps_warnings.specs.FileFindings.{findings_of_code_file, findings_of_entries};
 ghost use Rattle.ps_warnings.specs.Found.{Adds, about_link};
-ghost use Rattle.ps_segments.specs.Paths.{host_order, path_of, paths_in};
-ghost use Rattle.ps_segments.specs.Seen.{seen};
+ghost use Rattle.ps_check_segments.specs.Paths.{host_order, path_of, paths_in};
+ghost use Rattle.ps_check_segments.specs.Seen.{seen};
 
 use super::doubled::doubled_block;
 use super::extents::{Extent, extents_of};
@@ -19,6 +19,9 @@ use std::alloc::{AllocError, Allocator};
 
 /// The byte that CP/M pads files with.
 const PAD: u8 = 0x1A;
+
+/// The first byte that has bit 7.
+const HIGH: u8 = 0x80;
 
 /// How many line ends cannot be there by chance.
 const MANY_LINES: usize = 32;
@@ -81,6 +84,7 @@ fn look_at_code_file<'a, A: Allocator>(
 {
     let place = in_file(context.inputs.path(file));
     findings.add_unsure(place, padding_of(bytes))?;
+    findings.add_unsure(place, seven_bits(context, file, bytes))?;
     match Dict::read_beside(bytes, context.inputs.order()) {
         Ok(dict) => look_at_dictionary(findings, context, file, bytes, &dict),
         Err(_) => findings.add_unsure(place, converted(bytes)),
@@ -148,6 +152,18 @@ fn converted_in(bytes: &[u8], dict: &Dict<'_>, extents: &[Extent]) -> Option<Fil
         }
     }
     None
+}
+
+/// A file without a byte above 7F that is refused for its procedure dictionary: bit 7 of its bytes may
+/// have been lost.
+fn seven_bits(context: &Context<'_, '_>, file: usize, bytes: &[u8]) -> Option<FileFinding> {
+    match context.fault {
+        Some(fault) if fault.reason == Reason::BadProcDict && fault.file == file => {
+            let is_high = bytes.iter().any(|byte| HIGH <= *byte);
+            (!is_high).then_some(FileFinding::SevenBits)
+        }
+        _ => None,
+    }
 }
 
 /// The bytes 1A that a file ends with, if there is more than one.

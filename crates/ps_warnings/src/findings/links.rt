@@ -3,17 +3,17 @@ ghost use Rattle.std.specs.Prelude.{◌≡◌, ◌<◌, ◌≤◌, OnOk, length,
 ghost use Rattle.ps_codefile.specs.Dictionary.{entry_at};
 ghost use Rattle.ps_warnings.specs.AllFindings.{findings_of_unit, findings_of_units, findings_of_link};
 ghost use Rattle.ps_warnings.specs.Found.{Adds, about_link};
-ghost use Rattle.ps_segments.specs.Paths.{paths_in};
+ghost use Rattle.ps_check_segments.specs.Paths.{paths_in};
 ghost use Rattle.ps_warnings.specs.LinkFindings.{is_near_unit as is_near_unit_spec, other_spelling as other_spelling_spec, taken_by as taken_by_spec, taken_slot as taken_slot_spec};
-ghost use Rattle.ps_segments.specs.Seen.{seen};
+ghost use Rattle.ps_check_segments.specs.Seen.{seen};
 
 use super::entries::names_segment;
 use super::{Context, Findings};
 use crate::finding::{Finding, LinkFinding, Place};
+use ps_check_segments::{ReadSegment, SegmentPart};
 use ps_codefile::Dict;
 use ps_codefile::dictionary_layout::SLOTS;
-use ps_filetype::is_near;
-use ps_segments::{ReadSegment, SegmentPart};
+use ps_filetype::is_respelled;
 use ps_words::Name;
 use std::alloc::{AllocError, Allocator};
 
@@ -120,14 +120,14 @@ fn taken_by(host: &Dict<'_>, slot: Option<u8>, part: SegmentPart) -> Option<Find
     }
 }
 
-/// The segment is a unit of nearly this name.
+/// The segment is a unit of another name that differs in capitals or padding alone.
 fn is_near_unit(segment: &ReadSegment<'_>, name: &Name) -> bool
     ensures { result ≡ is_near_unit_spec name.now (seen segment.now) }
 {
-    segment.part.is_unit() && is_near(&segment.name, name)
+    segment.part.is_unit() && is_respelled(&segment.name, name)
 }
 
-/// An earlier unit whose name differs in small letters, high bits or padding alone.
+/// An earlier unit whose name differs in capitals or padding alone.
 fn other_spelling(earlier: &[ReadSegment<'_>], segment: &ReadSegment<'_>) -> Option<Finding>
     ensures { result ≡ other_spelling_spec (map seen earlier.now) (seen segment.now) }
 {

@@ -1,8 +1,8 @@
 //! Whether the names of files are in small letters.
+use ps_check_segments::NamedFiles;
 use ps_codefile::Dict;
 use ps_codefile::dictionary_layout::SLOTS;
 use ps_filetype::has_any;
-use ps_segments::NamedFiles;
 
 /// The name of an entry that is filled has a capital letter.
 fn has_capital(dict: &Dict<'_>) -> bool {

@@ -3,7 +3,7 @@ use crate::finding::ProcedureFinding;
 use ps_codefile::ProcedureDictionary;
 use ps_codefile::code_layout::NUMBERS;
 use ps_codefile::kinds::{HOSTSEG, LINKED, UNITSEG};
-use ps_pcode::{misfit, procedures_of};
+use ps_pcode::{Ends, misfit, procedures_of};
 use ps_words::{Order, Reason};
 
 /// The shortest code that has a procedure: an instruction, a table, its word of the procedure
@@ -39,6 +39,15 @@ pub(super) fn lost_tables(
         _ => false,
     };
     is_lost.then_some(ProcedureFinding::LostTables)
+}
+
+/// The data size of a host program that is odd, where its outer block is entered or left before the
+/// code. UCSD compilers count data in words.
+pub(super) fn odd_data(order: Order, kind: u16, code: &[u8]) -> Option<ProcedureFinding> {
+    let procedures = procedures_of(order, code)?;
+    let (data, table) = (procedures.data_size()?, procedures.table(1)?);
+    let is_outside = Ends::at(order, code, table).is_none();
+    (kind == HOSTSEG && data % 2 == 1 && is_outside).then_some(ProcedureFinding::OddData { data })
 }
 
 /// The first procedure of a code whose attribute table has another number.

@@ -11,6 +11,6 @@ taken : (files rest : List (Bor Text)) (out : Bor Text) → 0 < length files
 taken [] rest out some value left = grind arith
 taken (file ∷ files) rest out some value left = rw (left, value) refl
 
-pub returns : goal.returns
-returns g c = taken c.args.libraries.now.items _ c.remove.result (search rules)
+pub returns-clause-named : goal.returns-clause-named
+returns-clause-named g c = taken c.args.libraries.now.items _ c.remove.result (search rules)
     c.remove.ensures.value c.remove.ensures.items

@@ -6,6 +6,6 @@ pub returns-in-Err-clause-why : goal.returns-in-Err-clause-why
 returns-in-Err-clause-why g c = inl c.in-Err.ensures.unopened
 
 pub returns-clause-why : goal.returns-clause-why
-returns-clause-why g c = opened_unread (g.R.CodeFiles.unopened c.args.rt.now)
-    (g.R.CodeFiles.opened c.args.rt.now) g.R.Opened.Read.remaining c.args.path.now c.in-Ok.file
-    c.read_to_end.result c.in-Ok.ensures.opened c.read_to_end.ensures.long
+returns-clause-why g c = opened_unread (g.R.CodeFiles.world c.args.rt.now) c.args.path.now
+    (g.R.Opened.Read.remaining c.in-Ok.file) c.read_to_end.result c.in-Ok.ensures.opened
+    c.read_to_end.ensures.long c.read_to_end.ensures.ended

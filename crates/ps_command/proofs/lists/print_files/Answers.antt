@@ -23,7 +23,7 @@ loop-path-preserved g c =
     let next = ended_status c.in_ok-next.next in
     let left = ap (map (λ (path : Bor Text). path.now))
     (drop_more c.args.paths.now c.loop-path.path-index _ c.loop-path-test.true) in
-    let lists = listed_more _ _ _ _ _ c.loop-path.first _ _ mine next _ _
+    let lists = listed_more _ _ _ _ c.loop-path.first _ _ mine next _ _
     c.in_ok-next.ensures.ok (rw left at inv.lists) in
     record {
       lists = rw c.worse-ended.ensures lists;

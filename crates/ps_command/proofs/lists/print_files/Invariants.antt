@@ -1,6 +1,4 @@
 use Rattle.std.proofs.Common.{◌≡◌, drop, map}
-use Rattle.ps_outputs.specs.FilesRead.{Reads}
-use Rattle.ps_command.specs.ReadFaults.{IsUnread}
 use Rattle.ps_command.specs.Statuses.{ended_status}
 use Rattle.ps_command.proofs.ListsPrinted.{ListsLeft}
 use Rattle.ps_command.proofs.lists.print_files.Given as goal
@@ -8,9 +6,7 @@ use Rattle.ps_command.proofs.lists.print_files.Given as goal
 -- the lists of the files so far are printed, and those of the others are still to be printed
 abbrev pub invariant-loop-path : goal.invariant-loop-path
 invariant-loop-path g l = record {
-  lists : ListsLeft (Reads (g.R.CodeFiles.opened l.rt) g.R.Opened.Read.remaining)
-      (IsUnread (g.R.CodeFiles.unopened l.rt) (g.R.CodeFiles.opened l.rt)
-      g.R.Opened.Read.remaining) l.how
+  lists : ListsLeft (g.R.CodeFiles.world l.rt) l.how
       (map (λ path. path.now) l.paths) (g.O.Write.contents l.fn.out)
       l.first (map (λ path. path.now) (drop l.path-index l.paths)) (ended_status l.ended)
       (g.O.Write.contents l.out);

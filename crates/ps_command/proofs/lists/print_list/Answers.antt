@@ -1,34 +1,25 @@
 use Rattle.std.proofs.Common.{◌∙◌}
-use Rattle.ps_outputs.specs.FilesRead.{Reads}
-use Rattle.ps_command.specs.ReadFaults.{IsUnread}
 use Rattle.ps_command.specs.declared.files.FileFault.TheVariants as fault
 use Rattle.ps_command.proofs.ListsPrinted.{is_listed, is_unread}
 use Rattle.ps_command.proofs.lists.print_list.Goals as goal
 
 pub returns-in-Err-clause-ok : goal.returns-in-Err-clause-ok
-returns-in-Err-clause-ok g c =
-    is_unread (Reads (g.R.CodeFiles.opened c.args.rt.now) g.R.Opened.Read.remaining)
-    (IsUnread (g.R.CodeFiles.unopened c.args.rt.now) (g.R.CodeFiles.opened c.args.rt.now)
-    g.R.Opened.Read.remaining) c.args.how c.args.first c.args.path.now c.report_unread.result _ _
-    (c.in-Err.fault, c.in-Err.ensures.why) c.report_unread.ensures.ended
-    c.report_unread.ensures.text
+returns-in-Err-clause-ok g c = is_unread (g.R.CodeFiles.world c.args.rt.now) c.args.how c.args.first
+    c.args.path.now c.report_unread.result _ _ (c.in-Err.fault, c.in-Err.ensures.why)
+    c.report_unread.ensures.ended c.report_unread.ensures.text
 
 pub returns-in-Ok-of-clause-ok : goal.returns-in-Ok-of-clause-ok
 returns-in-Ok-of-clause-ok g c =
     let bytes = c.as_slice.ensures.value in
-    is_listed (Reads (g.R.CodeFiles.opened c.args.rt.now) g.R.Opened.Read.remaining)
-    (IsUnread (g.R.CodeFiles.unopened c.args.rt.now) (g.R.CodeFiles.opened c.args.rt.now)
-    g.R.Opened.Read.remaining) c.args.how c.args.first c.args.path.now c.in-Ok.file.items
-    c.in-Ok-of.listed c.print_file.result _ _ c.in-Ok.ensures.whole c.in-Ok-of.ensures.how
-    c.in-Ok-of.ensures.path (c.in-Ok-of.ensures.file ∙ bytes)
+    is_listed (g.R.CodeFiles.world c.args.rt.now) c.args.how c.args.first c.args.path.now
+    c.in-Ok.file.items c.in-Ok-of.listed c.print_file.result _ _ c.in-Ok.ensures.whole
+    c.in-Ok-of.ensures.how c.in-Ok-of.ensures.path (c.in-Ok-of.ensures.file ∙ bytes)
     (rw bytes at c.in-Ok-of.ensures.phrase) c.print_file.ensures.ended c.print_file.ensures.text
 
 -- memory ran out for the list of a file that was opened
 pub returns-clause-ok : goal.returns-clause-ok
 returns-clause-ok g c =
     let read = c.in-Ok.ensures.whole in
-    is_unread (Reads (g.R.CodeFiles.opened c.args.rt.now) g.R.Opened.Read.remaining)
-    (IsUnread (g.R.CodeFiles.unopened c.args.rt.now) (g.R.CodeFiles.opened c.args.rt.now)
-    g.R.Opened.Read.remaining) c.args.how c.args.first c.args.path.now
+    is_unread (g.R.CodeFiles.world c.args.rt.now) c.args.how c.args.first c.args.path.now
     c.report_unread-in-Err-of.result _ _ (fault.Memory, (read.0, read.1))
     c.report_unread-in-Err-of.ensures.ended c.report_unread-in-Err-of.ensures.text

@@ -14,6 +14,6 @@ returns-in-Ok-clause-ok g c =
         text.1,
         text.2,
       )
-      | inr refused ↦ cc
+      | inr refused ↦ absurd refused.2
     ])
     c.print_read.ensures.ok

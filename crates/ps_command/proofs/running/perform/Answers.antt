@@ -1,5 +1,5 @@
 use Rattle.std.proofs.Common.{◌∙◌, [], ap, map, sym, inl, inr}
-use Rattle.std.proofs.lemmas.Result.{IfOk-weaker}
+use Rattle.std.proofs.lemmas.Result.{IfErr-weaker, IfOk-weaker}
 use Rattle.ps_command.proofs.Linked.{tells}
 use Rattle.ps_command.proofs.running.perform.Goals as goal
 
@@ -18,7 +18,7 @@ returns-in-Link-clause-silent g c named is =
     let task = rw c.in-Link.is at is in
     IfOk-weaker c.link.result _ _ (λ ended quiet zero. elim (quiet zero) [
       | inl same ↦ inl same
-      | inr where_to ↦ inr (tells (g.R.CodeFiles.leads c.args.rt.now) c.in-Link.asked task.0 task.2 named task.1 where_to)
+      | inr where_to ↦ inr (tells g.F.CodeFiles.world c.args.files.now c.in-Link.asked task.0 task.2 named task.1 where_to)
     ])
     c.link.ensures.silent
 
@@ -104,3 +104,18 @@ returns-in_ok-print_lists-in-List-clause-ok g c named is =
       inr (inr (inr (inr
           (task.1, rw (c.list_form.ensures, task.3, paths) at printed)))),
     )
+
+pub returns-in-Link-clause-alone : goal.returns-in-Link-clause-alone
+returns-in-Link-clause-alone g c named is none =
+    let task = rw c.in-Link.is at is in
+    absurd (none task.0 task.1)
+
+pub returns-in-Link-clause-part : goal.returns-in-Link-clause-part
+returns-in-Link-clause-part g c named is =
+    let task = rw c.in-Link.is at is in
+    IfErr-weaker c.link.result _ _ (λ e left. elim left [
+      | inl same ↦ inl same
+      | inr part ↦ inr
+          (task.0, c.in-Link.asked.inputs.host.now, task.1, task.2.host, part)
+    ])
+    (c.link.ensures.part task.0 task.2)

@@ -11,14 +11,13 @@ returns-clause-ok g c =
       | inl text ↦ inl (host, libs, text.0, read.host, read.libraries, text.1, text.2)
       | inr refused ↦ inr (
         refused.0,
-        refused.1,
         host,
         libs,
-        refused.2,
+        refused.1,
         read.host,
         read.libraries,
+        refused.2,
         refused.3,
-        refused.4,
       )
     ])
     c.print_read.ensures.ok

@@ -5,8 +5,8 @@ use Rattle.ps_examples.specs.ReadAlike.{library_elsewhere}
 use Rattle.ps_examples.proofs.ReliedFiles.{of_aux, of_other_code, library_alike, host_alike, util_or_aux, used_alike, not_of_file_1}
 use Rattle.ps_examples.proofs.relied.what_may_be_relied_on.Goals as goal
 use Rattle.ps_linkfile.specs.LinkedFile.{LinkedFile, dictionary, all_pairs}
-use Rattle.ps_relied.specs.Alike.{AreFilesAlike}
-use Rattle.ps_relied.specs.SameSegments.{HaveSameHeads}
+use Rattle.ps_rebuild_laws.specs.Alike.{AreFilesAlike}
+use Rattle.ps_rebuild_laws.specs.SameSegments.{HaveSameHeads}
 use Rattle.ps_resolve.specs.Added.{empty_slots, rounds, segments, slot_names}
 use Rattle.ps_resolve.specs.AllFaults.{first_fault, reading_fault}
 use Rattle.ps_resolve.specs.Sources.{own_segments}

@@ -1,8 +1,7 @@
 use Rattle.std.proofs.Common.{◌∙◌, ◌++◌, ◌∷◌, [], List, ℕ, ap, sym, string_bytes}
 use Rattle.std.proofs.lemmas.List.{append_assoc}
 use Rattle.std.proofs.lemmas.Result.{on_ok_weaker}
-use Rattle.ps_segments.specs.SegmentParts.{absence_words}
-use Rattle.ps_explained.specs.SegmentLines.{head_words}
+use Rattle.ps_explained.specs.SegmentLines.{head_words, why_words}
 use Rattle.ps_explained.proofs.LineOfSegment.{adds_in_slot, one_absent}
 use Rattle.ps_explained.proofs.overview.add_absent.Goals as goal
 
@@ -10,9 +9,9 @@ pub returns : goal.returns
 returns g c =
     let h = c.args.head in
     let head = head_words h.slot h.name h.part in
-    let why = absence_words c.args.absent in
+    let why = why_words c.args.unread c.args.absent in
     let old = string_bytes c.args.text.now in
-    let one = one_absent h.slot h.name h.part c.args.absent in
+    let one = one_absent h.slot h.name h.part c.args.unread c.args.absent in
     on_ok_weaker c.push_absent.result
     (λ added. adds_in_slot h.slot h.name h.part why old (string_bytes c.push_absent.new.text) one
     (added ∙ ap (λ (t : List ℕ). old ++ t) (sym (append_assoc head why (10 ∷ [])))))

@@ -2,11 +2,10 @@ use Rattle.std.proofs.Common.{◌≡◌, ◌∙◌, ◌++◌, ◌∷◌, List, �
 use Rattle.std.specs.Prelude.{Result}
 use Rattle.std.specs.Result.{OnOk}
 use Rattle.ps_resolve.specs.Sources.{contents}
-use Rattle.ps_segments.specs.Seen.{origin_by}
-use Rattle.ps_segments.specs.SegmentParts.{absence_words}
+use Rattle.ps_check_segments.specs.Seen.{origin_by}
 use Rattle.ps_reading.specs.declared.slot_reading.Absent.{Absent}
-use Rattle.ps_segments.specs.declared.segments.Source.{Source}
-use Rattle.ps_explained.specs.SegmentLines.{from_words, head_words, line_in_slot, origin_words}
+use Rattle.ps_check_segments.specs.declared.segments.Source.{Source}
+use Rattle.ps_explained.specs.SegmentLines.{from_words, head_words, line_in_slot, origin_words, why_words}
 use Rattle.ps_explained.specs.SlotLines.{AddsSlotLines}
 use Rattle.ps_explained.proofs.overview.add_segment.Goals as goal
 
@@ -17,9 +16,9 @@ returns-in-Ok g c =
     ∷ contents c.args.inputs.now.paths.now in
     let from = c.in-Ok.source in
     let words : from_words c.path-path.result.now from.at.index from.length
-    ≡ origin_words paths (origin_by s.source) =
+    ≡ origin_words paths c.args.unread (origin_by s.source) =
     ap (λ (p : List ℕ). from_words p from.at.index from.length) c.path-path.ensures
-    ∙ ap (λ (o : Result Source Absent). origin_words paths (origin_by o)) (sym c.in-Ok.is) in
+    ∙ ap (λ (o : Result Source Absent). origin_words paths c.args.unread (origin_by o)) (sym c.in-Ok.is) in
     subst (λ (w : List ℕ). OnOk c.add_line.result (AddsSlotLines (string_bytes c.args.text.now)
     (line_in_slot s.slot (head_words s.slot s.name s.part ++ w))
     (string_bytes c.add_line.new.text))) words c.add_line.ensures
@@ -29,8 +28,8 @@ returns-in-Err g c =
     let s = c.args.segment.now in
     let paths : List (List ℕ) = c.args.inputs.now.host_path.now
     ∷ contents c.args.inputs.now.paths.now in
-    let words : absence_words c.in-Err.absent ≡ origin_words paths (origin_by s.source) =
-    ap (λ (o : Result Source Absent). origin_words paths (origin_by o)) (sym c.in-Err.is) in
+    let words : why_words c.args.unread c.in-Err.absent ≡ origin_words paths c.args.unread (origin_by s.source) =
+    ap (λ (o : Result Source Absent). origin_words paths c.args.unread (origin_by o)) (sym c.in-Err.is) in
     subst (λ (w : List ℕ). OnOk c.add_absent.result (AddsSlotLines (string_bytes c.args.text.now)
     (line_in_slot s.slot (head_words s.slot s.name s.part ++ w))
     (string_bytes c.add_absent.new.text))) words c.add_absent.ensures

@@ -1,4 +1,4 @@
-use Rattle.ps_linkfile.proofs.Vocabulary.{arith, refl, fault_in, record_in}
+use Rattle.ps_linkfile.proofs.Vocabulary.{arith, refl, record_fault_in, record_in}
 use Rattle.ps_linkfile.proofs.Walks.{walked, walked_all}
 use Rattle.ps_writing.proofs.Written.{none_yet, all_stopped}
 use Rattle.ps_linkfile.proofs.show.add_records.Goals as goal
@@ -8,7 +8,8 @@ loop-item-init g c = grind (
   arith,
   none_yet,
   walked,
-  walked_all (record_in c.args.form c.args.units.now) (fault_in c.args.form c.args.slot c.args.name) (λ n. refl),
+  walked_all (record_in c.args.form c.args.units.now)
+      (record_fault_in c.args.form c.args.slot c.args.name) (λ n. refl),
 )
 
 pub returns-then-has_failed : goal.returns-then-has_failed

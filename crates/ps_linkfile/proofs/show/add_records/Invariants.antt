@@ -1,4 +1,4 @@
-use Rattle.ps_linkfile.proofs.Vocabulary.{reading, ◌≤◌, ◌+◌, ◌/◌, length, items_left, fault_in, record_in, records_in}
+use Rattle.ps_linkfile.proofs.Vocabulary.{reading, ◌≤◌, ◌+◌, ◌/◌, length, items_left, record_fault_in, record_in, records_in}
 use Rattle.ps_linkfile.proofs.Walks.{walked}
 use Rattle.ps_writing.proofs.Written.{Written}
 use Rattle.ps_linkfile.proofs.show.add_records.Given as goal
@@ -10,7 +10,8 @@ invariant-loop-item g l = record {
   finite : (goal.iterator-loop-item g).is_finite l.item-iterator;
   lines : Written g.S.TextWriter.added l.fn.text
       (records_in l.form l.units l.slot l.name (reading l.fn.order l.information))
-      (walked (record_in l.form l.units) (fault_in l.form l.slot l.name) l.rec (items_left l.item-iterator))
+      (walked (record_in l.form l.units) (record_fault_in l.form l.slot l.name) l.rec
+      (items_left l.item-iterator))
       l.text;
   few : l.rec + length (items_left l.item-iterator) ≤ length l.information / 16 + 1;
 }

@@ -1,11 +1,11 @@
 use Rattle.std.proofs.Common.{◌∙◌, ◌∷◌, List, ℕ, ap, map}
 use Rattle.ps_warnings.specs.AllFindings.{link_findings_of}
-use Rattle.ps_segments.specs.Seen.{Seen, seen}
-use Rattle.ps_segments.specs.SeenSegments.{seen_by}
+use Rattle.ps_check_segments.specs.Seen.{Seen, seen}
+use Rattle.ps_check_segments.specs.SeenSegments.{seen_by}
 use Rattle.ps_resolve.specs.AllFaults.{reading_fault}
 use Rattle.ps_resolve.specs.Readings.{ReadFiles, opened_host}
 use Rattle.ps_resolve.specs.Sources.{contents}
-use Rattle.ps_explained.specs.SegmentLines.{read_lines}
+use Rattle.ps_explained.specs.SegmentLines.{has_unread, read_lines}
 use Rattle.ps_explained.proofs.ReadLines.{read_lines_are}
 use Rattle.ps_report.specs.Reports.{told_of}
 use Rattle.ps_report.specs.Verdicts.{verdict_name}
@@ -22,8 +22,8 @@ returns-clause-linked g c = λ none.
     c.requires) in
     let read = ap (λ (f : ReadFiles). reading_fault f.host f.libs) c.requires ∙ none in
     let told = c.told_segments-told.ensures.all read ∙ list in
-    c.in_ok-overview.ensures.read ∙ (ap (λ (l : List Seen). read_lines paths l) told
-    ∙ read_lines_are paths host libs none)
+    c.in_ok-overview.ensures.read ∙ (ap (λ (l : List Seen). read_lines paths (has_unread host libs) l) told
+    ∙ read_lines_are paths (has_unread host libs) host libs none)
 
 pub returns-clause-read : goal.returns-clause-read
 returns-clause-read g c = λ why is.
@@ -38,7 +38,7 @@ returns-clause-read g c = λ why is.
     in
     let told = c.told_segments-told.ensures.refused why read
     ∙ ap (λ (l : List Seen). told_of host l) list in
-    c.in_ok-overview.ensures.read ∙ ap (λ (l : List Seen). read_lines paths l) told
+    c.in_ok-overview.ensures.read ∙ ap (λ (l : List Seen). read_lines paths (has_unread host libs) l) told
 
 pub returns-clause-findings : goal.returns-clause-findings
 returns-clause-findings g c =
@@ -47,7 +47,7 @@ returns-clause-findings g c =
     let paths : List (List ℕ) = c.args.host_path.now ∷ contents c.args.paths.now in
     c.in_ok-findings.ensures
     ∙ ap (λ (l : List Seen). link_findings_of paths host libs l)
-    (ap (map seen) c.as_slice-3.ensures.value
+    (ap (map seen) c.as_slice-2.ensures.value
     ∙ (c.in_ok-list.ensures
     ∙ ap (λ (f : ReadFiles). seen_by host libs (opened_host f.host f.libs))
     c.requires))

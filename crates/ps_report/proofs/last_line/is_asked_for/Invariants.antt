@@ -6,5 +6,5 @@ use Rattle.ps_report.proofs.last_line.is_asked_for.Given as goal
 
 -- none so far asks for the file
 abbrev pub invariant-loop-finding : goal.invariant-loop-finding
-invariant-loop-finding g l = list_any (asks_for l.path) (map said l.findings)
-    ≡ list_any (asks_for l.path) (map said (drop l.finding-index l.findings))
+invariant-loop-finding g l = list_any (λ f. asks_for l.path f.at) (map said l.findings)
+    ≡ list_any (λ f. asks_for l.path f.at) (map said (drop l.finding-index l.findings))

@@ -93,7 +93,7 @@ returns-clause-report g c =
     ∙ ap (λ (t : List ℕ). front ++ t) (c.as_str-5.ensures.value ∙ c.in_ok-lines.ensures))
     right found.name
     (ap about_link_in (worded.findings ∙ c.as_slice.ensures.value) ∙ found.findings)
-    worded.places
+    worded.places worded.worded
 
 pub returns-clause-warned : goal.returns-clause-warned
 returns-clause-warned g c =

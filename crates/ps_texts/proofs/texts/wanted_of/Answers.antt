@@ -1,4 +1,4 @@
-use Rattle.ps_segments.specs.Paths.{paths_in}
+use Rattle.ps_check_segments.specs.Paths.{paths_in}
 use Rattle.ps_texts.proofs.texts.wanted_of.Goals as goal
 
 pub returns-clause-made : goal.returns-clause-made

@@ -4,8 +4,8 @@ use Rattle.std.specs.Option.{option_map}
 use Rattle.ps_linkinfo.specs.declared.record.LinkRecord.{LinkRecord as Record}
 use Rattle.ps_resolve.specs.Sources.{contents}
 use Rattle.ps_warnings.specs.AllFindings.{findings_of_file}
-use Rattle.ps_segments.specs.Paths.{host_order, paths_in}
-use Rattle.ps_segments.specs.Seen.{seen}
+use Rattle.ps_check_segments.specs.Paths.{host_order, paths_in}
+use Rattle.ps_check_segments.specs.Seen.{seen}
 use Rattle.ps_warnings.proofs.Found.{numbered_left, numbered_over, owes_all, owes_less, owes_none}
 use Rattle.ps_warnings.proofs.SeenLists.{contents_left, contents_over}
 use Rattle.ps_warnings.proofs.findings.add_of_libraries.Goals as goal

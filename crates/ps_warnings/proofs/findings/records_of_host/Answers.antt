@@ -1,7 +1,7 @@
 use Rattle.std.proofs.Common.{◌∙◌, Bor, sym, ap}
 use Rattle.std.specs.Option.{option_map}
-use Rattle.ps_segments.specs.Seen.{Seen, seen}
-use Rattle.ps_segments.specs.declared.segments.ReadSegment.{ReadSegment}
+use Rattle.ps_check_segments.specs.Seen.{Seen, seen}
+use Rattle.ps_check_segments.specs.declared.segments.ReadSegment.{ReadSegment}
 use Rattle.ps_warnings.proofs.findings.records_of_host.Goals as goal
 
 pub returns-in-None : goal.returns-in-None

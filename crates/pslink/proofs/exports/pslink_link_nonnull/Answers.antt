@@ -1,5 +1,5 @@
 use Rattle.std.proofs.Common.{◌∙◌, ap}
-use Rattle.ps_answers.specs.Outcomes.{not_done_answer}
+use Rattle.ps_c_link.specs.Outcomes.{not_done_answer}
 use Rattle.pslink.proofs.Answering.{links, link_needs, not_linked, not_small}
 use Rattle.pslink.proofs.exports.pslink_link_nonnull.Goals as goal
 use Rattle.pslink.proofs.exports.pslink_link_nonnull.Goals.{in-Ok, in-Err}

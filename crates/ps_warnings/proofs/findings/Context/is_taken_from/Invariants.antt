@@ -1,6 +1,6 @@
 use Rattle.std.proofs.Common.{◌≡◌, drop, map}
 use Rattle.std.specs.List.{list_any}
-use Rattle.ps_segments.specs.Seen.{seen}
+use Rattle.ps_check_segments.specs.Seen.{seen}
 use Rattle.ps_warnings.specs.FileFindings.{comes_from}
 use Rattle.ps_warnings.proofs.findings.Context.is_taken_from.Given as goal
 

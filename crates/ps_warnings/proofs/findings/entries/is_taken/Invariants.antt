@@ -1,6 +1,6 @@
 use Rattle.std.proofs.Common.{◌≡◌, drop, map}
 use Rattle.std.specs.List.{list_any}
-use Rattle.ps_segments.specs.Seen.{has_slot, seen}
+use Rattle.ps_check_segments.specs.Seen.{has_slot, seen}
 use Rattle.ps_warnings.proofs.findings.entries.is_taken.Given as goal
 
 -- the slot is looked for in what is left

@@ -4,8 +4,8 @@ use Rattle.std.specs.Option.{option_map}
 use Rattle.ps_codefile.specs.Dictionary.{slots}
 use Rattle.ps_warnings.specs.FileFindings.{findings_of_slot}
 use Rattle.ps_warnings.specs.Found.{about_link}
-use Rattle.ps_segments.specs.Paths.{path_of, paths_in}
-use Rattle.ps_segments.specs.Seen.{seen}
+use Rattle.ps_check_segments.specs.Paths.{path_of, paths_in}
+use Rattle.ps_check_segments.specs.Seen.{seen}
 use Rattle.ps_warnings.proofs.Found.{Owes}
 use Rattle.ps_codefile.specs.declared.dictionary_layout.TheConstants.{SLOTS}
 use Rattle.ps_warnings.proofs.findings.entries.look_at.Given as goal

@@ -2,7 +2,7 @@ use Rattle.std.proofs.Common.{Bor, List, sym}
 use Rattle.std.proofs.lemmas.Result.{on_ok_weaker}
 use Rattle.std.specs.Option.{option_map}
 use Rattle.ps_linkinfo.specs.declared.record.LinkRecord.{LinkRecord as Record}
-use Rattle.ps_segments.specs.Paths.{path_of, paths_in}
+use Rattle.ps_check_segments.specs.Paths.{path_of, paths_in}
 use Rattle.ps_codefile.specs.Dictionary.{code_of, entry_at, information_of}
 use Rattle.ps_warnings.proofs.Found.{adds_is, none_then}
 use Rattle.ps_warnings.proofs.Slots.{not_linked}

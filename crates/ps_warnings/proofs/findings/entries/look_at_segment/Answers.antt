@@ -7,7 +7,7 @@ use Rattle.ps_words.specs.declared.fault.Reason.{Reason}
 use Rattle.ps_codefile.specs.Dictionary.{entry_at, information_of}
 use Rattle.ps_warnings.specs.FileFindings.{findings_of_segment}
 use Rattle.ps_warnings.specs.Found.{about_link}
-use Rattle.ps_segments.specs.Paths.{path_of, paths_in}
+use Rattle.ps_check_segments.specs.Paths.{path_of, paths_in}
 use Rattle.ps_warnings.proofs.Found.{adds_is, adds_none}
 use Rattle.ps_warnings.proofs.SeenLists.{code_as, code_is}
 use Rattle.ps_warnings.proofs.Slots.{no_code}

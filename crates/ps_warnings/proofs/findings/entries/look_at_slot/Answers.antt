@@ -2,10 +2,10 @@ use Rattle.std.proofs.Common.{◌≡◌, ◌∙◌, ◌==◌, Bor, List, true, f
 use Rattle.std.proofs.lemmas.Result.{on_ok_weaker}
 use Rattle.std.specs.Option.{option_map}
 use Rattle.ps_linkinfo.specs.declared.record.LinkRecord.{LinkRecord as Record}
-use Rattle.ps_segments.specs.Seen.{seen}
+use Rattle.ps_check_segments.specs.Seen.{seen}
 use Rattle.std.proofs.lemmas.Bool.Decides.{nat_tests}
 use Rattle.ps_warnings.specs.Found.{about_link}
-use Rattle.ps_segments.specs.Paths.{path_of, paths_in}
+use Rattle.ps_check_segments.specs.Paths.{path_of, paths_in}
 use Rattle.ps_warnings.proofs.Found.{adds_is, adds_none}
 use Rattle.ps_warnings.proofs.Slots.{slot_beside, slot_empty, slot_filled}
 use Rattle.ps_warnings.proofs.findings.entries.look_at_slot.Goals as goal

@@ -2,8 +2,8 @@ use Rattle.std.proofs.Common.{◌∙◌, Bor, List, map, sym}
 use Rattle.std.proofs.lemmas.Result.{on_ok_weaker}
 use Rattle.std.specs.Option.{option_map}
 use Rattle.ps_linkinfo.specs.declared.record.LinkRecord.{LinkRecord as Record}
-use Rattle.ps_segments.specs.Seen.{seen}
-use Rattle.ps_segments.specs.Paths.{host_order, paths_in}
+use Rattle.ps_check_segments.specs.Seen.{seen}
+use Rattle.ps_check_segments.specs.Paths.{host_order, paths_in}
 use Rattle.ps_warnings.proofs.Found.{adds_is}
 use Rattle.ps_warnings.proofs.Slots.{is_code, no_code_file}
 use Rattle.ps_warnings.proofs.findings.files.look_at.Goals as goal

@@ -1,7 +1,7 @@
 use Rattle.std.proofs.Common.{◌∙◌, map, sym}
 use Rattle.std.proofs.lemmas.Result.{on_ok_weaker}
-use Rattle.ps_segments.specs.Paths.{paths_in}
-use Rattle.ps_segments.specs.Seen.{seen}
+use Rattle.ps_check_segments.specs.Paths.{paths_in}
+use Rattle.ps_check_segments.specs.Seen.{seen}
 use Rattle.ps_warnings.specs.Found.{about_link}
 use Rattle.ps_warnings.proofs.Found.{adds_is, adds_none}
 use Rattle.ps_warnings.proofs.Slots.{host_read, host_unread}

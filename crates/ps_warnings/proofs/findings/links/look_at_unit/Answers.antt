@@ -3,8 +3,8 @@ use Rattle.std.proofs.lemmas.List.{take-map}
 use Rattle.std.proofs.lemmas.Result.{on_ok_weaker}
 use Rattle.ps_warnings.specs.AllFindings.{findings_of_unit}
 use Rattle.ps_warnings.specs.LinkFindings.{other_spelling}
-use Rattle.ps_segments.specs.Seen.{Seen, seen}
-use Rattle.ps_segments.specs.declared.segments.ReadSegment.{ReadSegment}
+use Rattle.ps_check_segments.specs.Seen.{Seen, seen}
+use Rattle.ps_check_segments.specs.declared.segments.ReadSegment.{ReadSegment}
 use Rattle.ps_warnings.proofs.Found.{adds_both}
 use Rattle.ps_warnings.proofs.findings.links.look_at_unit.Goals as goal
 

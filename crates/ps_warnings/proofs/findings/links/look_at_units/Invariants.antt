@@ -1,9 +1,9 @@
 use Rattle.std.proofs.Common.{drop, map}
 use Rattle.std.specs.List.{enumerate_from, flat_map}
-use Rattle.ps_segments.specs.Paths.{paths_in}
+use Rattle.ps_check_segments.specs.Paths.{paths_in}
 use Rattle.ps_warnings.specs.AllFindings.{findings_of_unit, findings_of_units}
 use Rattle.ps_warnings.specs.Found.{about_link}
-use Rattle.ps_segments.specs.Seen.{seen}
+use Rattle.ps_check_segments.specs.Seen.{seen}
 use Rattle.ps_warnings.proofs.Found.{Owes}
 use Rattle.ps_warnings.proofs.findings.links.look_at_units.Given as goal
 

@@ -1,7 +1,7 @@
 use Rattle.std.proofs.Common.{◌≡◌, drop, map}
 use Rattle.std.specs.List.{find}
 use Rattle.ps_warnings.specs.LinkFindings.{is_near_unit}
-use Rattle.ps_segments.specs.Seen.{seen}
+use Rattle.ps_check_segments.specs.Seen.{seen}
 use Rattle.ps_warnings.proofs.findings.links.other_spelling.Given as goal
 
 -- the unit is looked for in what is left

@@ -14,6 +14,14 @@ returns g c =
       c.after-after.ensures,
     )
     at c.in_ok-add_of_record.ensures in
+    let public = rw (
+      c.first_public.ensures,
+      c.up_to_fault-records.ensures,
+      c.entry-entry.ensures,
+      c.order-order.ensures,
+      c.after-after.ensures,
+    )
+    at c.in_ok-add_of_record-2.ensures in
     let defined = rw (
       c.data_size-size.ensures,
       c.up_to_fault-records.ensures,
@@ -22,6 +30,8 @@ returns g c =
       c.after-after.ensures,
     )
     at c.look_at_definitions.ensures in
-    let before = none_then c.in_ok-add_unsure_of_record.ensures
-    (then_none past c.in_ok-add_unsure_of_record-2.ensures) in
-    on_ok_weaker c.look_at_definitions.result (λ more. adds_both before more) defined
+    let before = none_then c.in_ok-add_unsure_of_record.ensures past in
+    let between = then_none public (then_none c.in_ok-add_unsure_of_record-2.ensures
+    (then_none c.in_ok-add_unsure.ensures c.in_ok-add_unsure-2.ensures)) in
+    on_ok_weaker c.look_at_definitions.result
+    (λ more. adds_both (adds_both before between) more) defined

@@ -1,8 +1,0 @@
-use Rattle.ps_answers.proofs.Indexes.{indexes}
-use Rattle.ps_answers.proofs.refusal_law.faults_have_indexes_of_their_files.Goals as goal
-
-pub returns : goal.returns
-returns c = indexes (
-  λ order bytes rs e. (c.one_reading.ensures.spells order bytes rs).1 e,
-  λ order bytes rs why e. (c.one_reading.ensures.stops order bytes rs why).1 e,
-)

@@ -1,0 +1,4 @@
+pub mod Maps
+pub mod Outcomes
+pub mod Logs
+pub mod Written

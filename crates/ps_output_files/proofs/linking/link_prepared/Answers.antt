@@ -1,0 +1,57 @@
+use Rattle.std.proofs.Common.{◌≡◌, ◌∙◌, ap, refl, rules}
+use Rattle.std.proofs.lemmas.Result.{err_from_is_err_and}
+use Rattle.ps_linkfile.specs.Writing.{summary_in}
+use Rattle.ps_output_files.specs.Links.{IsPlaceOf}
+use Rattle.ps_output_files.specs.SummaryLine.{summary_text}
+use Rattle.ps_output_files.proofs.Logs.{adds_all, adds_part}
+use Rattle.ps_output_files.proofs.Outcomes.{same_or_told}
+use Rattle.ps_output_files.proofs.Written.{found_apart}
+use Rattle.ps_output_files.proofs.linking.link_prepared.Goals as goal
+
+pub returns-clause-written : goal.returns-clause-written
+returns-clause-written g c = adds_all _ _ _ _ _ _ _ _ refl
+    (rw c.linked-2.ensures at c.in_ok-write_linked.ensures.file) c.in_ok-write_map.ensures.file
+
+pub returns-clause-apart : goal.returns-clause-apart
+returns-clause-apart g c = found_apart g.R.CodeFiles.world _ _ _ _ c.write_linked.new.rt
+    (rw c.linked-2.ensures at c.in_ok-write_linked.ensures.file) c.in_ok-write_map.ensures.apart
+
+pub returns-clause-printed : goal.returns-clause-printed
+returns-clause-printed g c =
+    let text : c.as_bytes.result.now ≡ summary_text c.args.asked.now.form c.summary.result
+    = search rules in
+    let same = c.summary.ensures.value ∙ ap summary_in c.linked.ensures in (
+      c.place_of-place.result,
+      c.place_of-place.ensures,
+      rw (text ∙ ap (summary_text c.args.asked.now.form) same) at c.in_ok-print_at.ensures.printed,
+    )
+
+pub returns-clause-silent : goal.returns-clause-silent
+returns-clause-silent g c =
+    same_or_told (IsPlaceOf (g.R.CodeFiles.world c.args.rt.now) c.args.asked.now)
+    c.place_of-place.result c.place_of-place.ensures c.in_ok-print_at.ensures.silent
+
+pub returns-in_err-write_map-clause-left : goal.returns-in_err-write_map-clause-left
+returns-in_err-write_map-clause-left g c =
+    let told = err_from_is_err_and c.from_residual-in_err-write_map.result
+    c.from_residual-in_err-write_map.ensures.1 in
+    let file = c.in_err-write_map.ensures.err in
+    rw (told.1, told.2, file.1) (adds_part _ _ _ _ _ _ _ _ refl
+    (rw c.linked-2.ensures at c.in_ok-write_linked.ensures.file) c.in_err-write_map.ensures.part)
+
+pub returns-in_err-print_at-clause-left : goal.returns-in_err-print_at-clause-left
+returns-in_err-print_at-clause-left g c =
+    let told = err_from_is_err_and c.from_residual-in_err-print_at.result
+    c.from_residual-in_err-print_at.ensures.1 in
+    rw (told.1, told.2) (adds_all _ _ _ _ _ _ _ _ refl
+    (rw c.linked-2.ensures at c.in_ok-write_linked.ensures.file) c.in_ok-write_map.ensures.file)
+
+pub returns-in_err-print_at-clause-prefix : goal.returns-in_err-print_at-clause-prefix
+returns-in_err-print_at-clause-prefix g c =
+    let told = err_from_is_err_and c.from_residual-in_err-print_at.result
+    c.from_residual-in_err-print_at.ensures.1 in
+    let text : c.as_bytes.result.now ≡ summary_text c.args.asked.now.form c.summary.result
+    = search rules in
+    let same = c.summary.ensures.value ∙ ap summary_in c.linked.ensures in
+    rw told.1 (λ _. rw (text ∙ ap (summary_text c.args.asked.now.form) same)
+    at c.in_err-print_at.ensures.prefix)

@@ -1,0 +1,6 @@
+pub mod Log
+pub mod World
+pub mod SummaryLine
+pub mod Places
+pub mod Prepared
+pub mod Links

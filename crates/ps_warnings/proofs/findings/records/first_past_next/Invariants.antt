@@ -1,0 +1,9 @@
+use Rattle.std.proofs.Common.{◌≡◌, drop}
+use Rattle.ps_resolve.specs.Searches.{first_of}
+use Rattle.ps_warnings.specs.RecordFindings.{past_mark}
+use Rattle.ps_warnings.proofs.findings.records.first_past_next.Given as goal
+
+-- the first of all is the first from here on
+abbrev pub invariant-loop-reference : goal.invariant-loop-reference
+invariant-loop-reference l = first_of (past_mark l.code l.name l.next l.value) l.refs
+    ≡ first_of (past_mark l.code l.name l.next l.value) (drop l.reference l.refs)

@@ -1,0 +1,140 @@
+//! Laws of the warnings: what their definitions compute is what the pages say. Functions that do
+//! nothing, whose clauses are the laws.
+ghost use Rattle.std.specs.Prelude.{◌≡◌, ◌↔◌, ◌*◌, ◌<◌, ℕ, Bool, List, None, Some, is_some, false, true};
+ghost use Rattle.ps_check_segments.specs.SegmentParts.{is_added};
+ghost use Rattle.ps_check_segments.specs.declared.segments.SegmentPart.{SegmentPart as Part};
+ghost use Rattle.ps_codefile.specs.declared.entry.Entry.{Entry as EntryOf};
+ghost use Rattle.ps_filetype.specs.Names.{is_respelled};
+ghost use Rattle.ps_linkinfo.specs.Numbered.{numbered_records};
+ghost use Rattle.ps_linkinfo.specs.declared.record.LinkRecord.{LinkRecord as Record};
+ghost use Rattle.ps_warnings.specs.EntryFindings.{empty_slot, shares};
+ghost use Rattle.ps_warnings.specs.LinkFindings.{taken_slot};
+ghost use Rattle.ps_warnings.specs.RecordFindings.{end_mark, first_above, first_definition, first_past, first_public, low_mark};
+ghost use Rattle.ps_warnings.specs.SmallRecords.{count, cut_after, defining, defining_none, having, no_records, owning, referring, with_operand};
+ghost use Rattle.ps_warnings.specs.Warned.{IsEndMark, IsHigh, IsNamed, IsOwn, IsPast, IsPastMark, IsRespelled, ShareByte};
+ghost use Rattle.ps_warnings.specs.declared.finding.EntryFinding.TheVariants as entry;
+ghost use Rattle.ps_warnings.specs.declared.finding.Finding.{Finding as FindingOf};
+ghost use Rattle.ps_warnings.specs.declared.finding.Finding.TheVariants as which;
+ghost use Rattle.ps_warnings.specs.declared.finding.LinkFinding.TheVariants as link;
+ghost use Rattle.ps_warnings.specs.declared.finding.RecordFinding.TheVariants as finding;
+ghost use Rattle.ps_warnings.specs.declared.findings.extents.Extent.{Extent as Bytes};
+
+/// An end mark is compared with exactly where the records have one, and it is the first of them.
+pub fn end_marks_are_read()
+    ensures { (rs : List Record) (next : ℕ) → (end_mark rs ≡ Some next) ↔ IsEndMark rs next }
+{}
+
+/// An end mark is told of exactly where the records have it and two times its value is below the data
+/// size: where no end mark is read nothing is said of it.
+pub fn low_marks_are_told()
+    ensures found { (rs : List Record) (size : ℕ) (f : FindingOf)
+        → low_mark (end_mark rs) (Some size) ≡ Some f
+        → (next : ℕ) × (f ≡ which.Record (finding.LowMark next size)) × IsEndMark rs next
+        × (2 * next < size) }
+    ensures each { (rs : List Record) (size next : ℕ) → IsEndMark rs next → 2 * next < size
+        → low_mark (end_mark rs) (Some size) ≡ Some (which.Record (finding.LowMark next size)) }
+{}
+
+/// A definition is told of exactly where a record defines a variable above the end mark: what is told
+/// is one, and one is told where there is one.
+pub fn high_definitions_are_told()
+    ensures found { (rs : List Record) (i : ℕ) (f : FindingOf) → first_above rs ≡ Some (i, f)
+        → (next : ℕ) × (value : ℕ) × (name : List ℕ)
+        × (f ≡ which.Record (finding.HighDefinition name value next)) × IsEndMark rs next
+        × IsHigh rs i name value next }
+    ensures each { (rs : List Record) (i : ℕ) (name : List ℕ) (value next : ℕ)
+        → IsEndMark rs next → IsHigh rs i name value next → is_some (first_above rs) ≡ true }
+{}
+
+/// An operand of a private variable is told of exactly where one is outside its variable.
+pub fn past_privates_are_told()
+    ensures found { (code : List ℕ) (rs : List Record) (i : ℕ) (f : FindingOf)
+        → first_past code (numbered_records 0 rs) ≡ Some (i, f)
+        → (place : ℕ) × (displacement : ℕ) × (words : ℕ) × (f ≡ which.Record (finding.PastPrivate place displacement words))
+        × IsPast code rs i place displacement words }
+    ensures each { (code : List ℕ) (rs : List Record) (i place displacement words : ℕ)
+        → IsPast code rs i place displacement words
+        → is_some (first_past code (numbered_records 0 rs)) ≡ true }
+{}
+
+/// An operand of a public variable is told of exactly where one leads to the end mark of the host or
+/// past it.
+pub fn past_publics_are_told()
+    ensures found { (code : List ℕ) (host rs : List Record) (i : ℕ) (f : FindingOf)
+        → first_public code (Some host) (numbered_records 0 rs) ≡ Some (i, f)
+        → (place : ℕ) × (name : List ℕ) × (displacement : ℕ) × (value : ℕ) × (next : ℕ) × (f ≡ which.Record (finding.PastPublic place name displacement value next))
+        × IsPastMark code host rs i place name displacement value next }
+    ensures each { (code : List ℕ) (host rs : List Record) (i place : ℕ) (name : List ℕ)
+        (displacement value next : ℕ)
+        → IsPastMark code host rs i place name displacement value next
+        → is_some (first_public code (Some host) (numbered_records 0 rs)) ≡ true }
+{}
+
+/// A unit's own definition is told of exactly where the unit refers to the name and the host, whose end
+/// mark is read, does not define it.
+pub fn own_definitions_are_told()
+    ensures found { (host rs : List Record) (i : ℕ) (f : FindingOf)
+        → first_definition true rs (Some host) (numbered_records 0 rs) ≡ Some (i, f)
+        → (name : List ℕ) × (f ≡ which.Record (finding.OwnDefinition name))
+        × IsOwn host rs i name }
+    ensures each { (host rs : List Record) (i : ℕ) (name : List ℕ) → IsOwn host rs i name
+        → is_some (first_definition true rs (Some host) (numbered_records 0 rs)) ≡ true }
+{}
+
+/// Two entries that have bytes overlap exactly where they have a byte in common.
+pub fn overlaps_are_told()
+    ensures found { (e o : Bytes) → o.start < o.end → e.start < e.end → shares e o ≡ true
+        → (o.slot < e.slot) × ShareByte e o }
+    ensures each { (e o : Bytes) → o.slot < e.slot → ShareByte e o → shares e o ≡ true }
+{}
+
+/// An empty slot that no unit takes, and one that an added unit takes, is told of exactly where its entry
+/// has a name or a kind that a compiler does not leave there.
+pub fn named_slots_are_told()
+    ensures empty { (slot : ℕ) (taken : Bool) (e : EntryOf) (f : FindingOf)
+        → empty_slot slot taken e ≡ Some f
+        → (f ≡ which.Entry (entry.EmptySlot slot e.name e.kind)) × (taken ≡ false) × IsNamed e }
+    ensures each_empty { (slot : ℕ) (taken : Bool) (e : EntryOf) → taken ≡ false → IsNamed e
+        → empty_slot slot taken e ≡ Some (which.Entry (entry.EmptySlot slot e.name e.kind)) }
+    ensures taken { (slot : ℕ) (what : Part) (e : EntryOf) (f : FindingOf)
+        → taken_slot slot what e ≡ Some f
+        → (f ≡ which.Link (link.TakenSlot slot e.name)) × (is_added what ≡ true) × IsNamed e }
+    ensures each_taken { (slot : ℕ) (what : Part) (e : EntryOf) → is_added what ≡ true
+        → IsNamed e → taken_slot slot what e ≡ Some (which.Link (link.TakenSlot slot e.name)) }
+{}
+
+/// Two names are nearly the same exactly where they differ in capitals A to Z or in padding alone.
+pub fn near_names_are_told()
+    ensures { (a b : List ℕ) → (is_respelled a b ≡ true) ↔ IsRespelled a b }
+{}
+
+/// Each warning of records is found on small files, and not found on files beside them.
+pub fn each_warning_is_found_once()
+    ensures high { first_above (defining 9 8)
+        ≡ Some (0, which.Record (finding.HighDefinition count 9 8)) }
+    ensures not_high { first_above (defining 8 8) ≡ None }
+    ensures high_unread { first_above (cut_after 9) ≡ None }
+    ensures low { low_mark (end_mark (defining 3 5)) (Some 11)
+        ≡ Some (which.Record (finding.LowMark 5 11)) }
+    ensures not_low { low_mark (end_mark (defining 3 5)) (Some 10) ≡ None }
+    ensures low_unread { low_mark (end_mark (cut_after 3)) (Some 10) ≡ None }
+    ensures past { first_past (with_operand 4) (numbered_records 0 (having 4))
+        ≡ Some (0, which.Record (finding.PastPrivate 1 4 4)) }
+    ensures not_past { first_past (with_operand 3) (numbered_records 0 (having 4)) ≡ None }
+    ensures no_words { first_past (with_operand 0) (numbered_records 0 (having 0)) ≡ None }
+    ensures public { first_public (with_operand 5) (Some (defining 3 8))
+        (numbered_records 0 referring)
+        ≡ Some (0, which.Record (finding.PastPublic 1 count 5 3 8)) }
+    ensures not_public { first_public (with_operand 4) (Some (defining 3 8))
+        (numbered_records 0 referring) ≡ None }
+    ensures at_mark { first_public (with_operand 0) (Some (defining 8 8))
+        (numbered_records 0 referring) ≡ None }
+    ensures public_unread { first_public (with_operand 5) (Some (cut_after 3))
+        (numbered_records 0 referring) ≡ None }
+    ensures own { first_definition true owning (Some (defining_none 8))
+        (numbered_records 0 owning) ≡ Some (0, which.Record (finding.OwnDefinition count)) }
+    ensures not_own { first_definition true owning (Some (defining 3 8))
+        (numbered_records 0 owning) ≡ None }
+    ensures own_unread { first_definition true owning (Some no_records)
+        (numbered_records 0 owning) ≡ None }
+{}
