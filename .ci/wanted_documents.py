@@ -200,10 +200,10 @@ def is_code_file(file):
     named_slots = [slot for slot in file.slots if slot.is_filled and slot.name not in linker.BLANK]
     if any(slot.kind for slot in file.slots):
         return any(slot.kind <= 7 and READABLE.issuperset(slot.name) for slot in named_slots)
-    return any(refusal_of(linker.code_of, slot, slot.index) is None for slot in named_slots)
+    return any(fault_of_step(linker.code_of, slot, slot.index) is None for slot in named_slots)
 
 
-def refusal_of(step, *arguments):
+def fault_of_step(step, *arguments):
     """The fault of a step, or None."""
     try:
         step(*arguments)
@@ -230,7 +230,7 @@ def type_of(data, types):
         return types[data]
     if len(set(data)) == 1:
         return f"a file of the byte {data[0]:02X} alone"
-    is_code = refusal_of(opened, data) is None and is_code_file(opened(data))
+    is_code = fault_of_step(opened, data) is None and is_code_file(opened(data))
     return None if is_code else "no code file of a known form"
 
 
@@ -240,7 +240,7 @@ def list_item(path, data, with_units, types):
         return {"path": path, "length": None, "type": None, "order": None, "contents": None, "fault": None, "segments": Lines()}
     item = {"path": path, "length": len(data), "type": type_of(data, types), "order": None, "contents": None, "fault": None}
     slots = []
-    if fault := refusal_of(opened, data):
+    if fault := fault_of_step(opened, data):
         item["fault"] = fault_of(fault, None)
     else:
         file = opened(data)

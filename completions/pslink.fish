@@ -23,7 +23,7 @@ complete -c pslink -n "__pslink_has_words 1" -s V -l version -d 'Print version'
 complete -c pslink -n "not __pslink_runs help" -s h -l help -d 'Print help'
 complete -c pslink -n "__pslink_runs help; and __pslink_has_words 2" -a 'link map show check list help'
 complete -c pslink -n "__pslink_runs link map show check list" -F
-complete -c pslink -n "__pslink_runs link" -s o -l output -r -F -d 'The code file to write; if it is HOST, the unlinked host is lost'
+complete -c pslink -n "__pslink_runs link" -s o -l output -r -F -d 'The code file to write, which is no file of the link'
 complete -c pslink -n "__pslink_runs link" -l map -r -F -d 'Writes the map of the link to FILE, too'
 complete -c pslink -n "__pslink_runs link" -l references -d 'Writes to FILE what the link stores at each place, too'
 complete -c pslink -n "__pslink_runs link" -l json -d 'Prints the summary and writes the map as JSON documents'

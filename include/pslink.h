@@ -184,9 +184,9 @@ typedef struct pslink_file {
  * there is nothing but the status. A part that there is not is -1.
  *
  * `fault` is 0 where the files have none. After PSLINK_REFUSED it is the first fault of all, and so
- * it is after PSLINK_DONE of a report: it is the verdict, which is what a link of the files answers.
- * `segments`, `private_words` and `blocks` are of a link that is done, and of a report whose verdict
- * is that the files are linked.
+ * it is after PSLINK_DONE of a report or of what it finds: it is the verdict, which is what a link of
+ * the files answers. `segments`, `private_words` and `blocks` are of a link that is done, and of a
+ * report, or of what it finds, whose verdict is that the files are linked.
  *
  * `name` is what the fault is about, eight bytes as the files have them and a closing 0: of a fault
  * of a record that could be read, its name, which is the unit that is requested or the symbol; of any
@@ -205,7 +205,7 @@ typedef struct pslink_answer {
     uint32_t segments;      /* how many segments the linked file has, at most 16 */
     uint32_t private_words; /* the words of all private variables, 0 to 32767 */
     uint32_t blocks;        /* how many blocks of 512 bytes it has, at most 1025 */
-    uint32_t warnings;      /* how many warnings a report has */
+    uint32_t warnings;      /* how many warnings a report has, also where what it finds was made */
     size_t size;            /* how many bytes the result has, also after PSLINK_TOO_SMALL */
     uint32_t reserved[8];   /* 0: room for what a later release adds */
 } pslink_answer;
@@ -233,9 +233,9 @@ uint32_t pslink_link(const pslink_file *files, size_t count, void *out, size_t r
  * what is had are of files[0] alone.
  *
  * A map and its references are refused as a link is, a show and names of units as 1 ShortFile or
- * 2 NoOrder only. A report, what it finds, a list and its units are never PSLINK_REFUSED: what is
- * wrong with the files is in the text, and of a report in `answer` too, with the number of its
- * warnings.
+ * 2 NoOrder only. A report, what it finds, a list and its units are never PSLINK_REFUSED. What is
+ * wrong with the files is in the text of a report, a list and units; of a report and of what it finds
+ * the verdict is in `answer`, with the number of warnings.
  */
 uint32_t pslink_text(uint32_t what, const pslink_file *files, size_t count, void *out, size_t room,
                      pslink_answer *answer);

@@ -14,7 +14,7 @@ static const char *const faults[][3] = {
      "Compile the file for the machine of the host. If it was, the bytes of one of the two files are swapped: see DAMAGED FILES in pslink(1)."},
     {"NoHost",
      "No segment of the file is a host program.",
-     "The file may be a library, or linked already. Give the compiled program as HOST. If it is one, see DAMAGED FILES in pslink(1)."},
+     "The file may be a library, or linked already. Give the compiled program as the host. If it is one, see DAMAGED FILES in pslink(1)."},
     {"TwoHosts",
      "A second segment is a host program.",
      "Keep one of them in the file."},

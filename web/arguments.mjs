@@ -42,7 +42,7 @@ function named(command, name) {
 }
 
 /** A program with what each has: the option and the command for help, and that for the version. */
-function whole({name, about, ending, commands, hasVersion = false}) {
+export function whole({name, about, ending, commands, hasVersion = false}) {
   const own = commands.map((command) => ({...command, title: `${name} ${command.name}`, commands: [], arguments: [...command.arguments, HELP]}));
   const help = {...HELP_COMMAND, title: `${name} ${HELP_COMMAND.name}`};
   return {name, about, ending, title: name, commands: [...own, help], arguments: [HELP, ...(hasVersion ? [VERSION] : [])]};

@@ -6,7 +6,7 @@
 
 import {readFile as readModule} from "node:fs/promises";
 import {fileURLToPath} from "node:url";
-import {commandOf, parse} from "./arguments.mjs";
+import {commandOf, parse, whole} from "./arguments.mjs";
 import {PROGRAM} from "./command_line.mjs";
 import {areUnitsRefused, isListRefused, LIST_BEGINS, LIST_ENDS, listItem, refusal, summary, unreadItem} from "./documents.mjs";
 import {isOutOfMemory, leadToOneFile, readFile, Streams, Unread, Unwritten, writeFile} from "./files.mjs";
@@ -23,6 +23,9 @@ const OWN_ERROR = "an error in pslink itself, and not in the files";
 
 const COMMANDS = {link, map, show, check, list};
 const CALLED = {...PROGRAM, hasVersion: true};
+
+// the commands that write no file, and the option that names the file of link
+const WITHOUT_FILE = ["map", "show", "check", "list"], OUT_OPTIONS = ["-o", "--output"];
 
 // beside this file, as in the archive; and where the build leaves it
 const MODULE_PLACES = ["./pslink.wasm", "./out/pslink.wasm"];
@@ -75,10 +78,58 @@ async function carryOut(words, streams) {
   }
   if (given[0] === "volume") return runVolume(given.slice(1), streams);
   if (given[0] === "help" && given[1] === "volume") return runVolume(["help", ...given.slice(2)], streams);
-  const request = parse(CALLED, given);
+  const request = requestOf(given);
   if (request.help) return printed(streams, request.help);
   if (request.version) return printed(streams, `${PROGRAM.name} ${await version()}\n`);
   return COMMANDS[request.command.name](request.found, streams);
+}
+
+/** What the words ask for. Where they are refused and the program knows what was meant, a tip says it. */
+function requestOf(words) {
+  try {
+    return parse(CALLED, words);
+  } catch (error) {
+    throw isUnknown(error) ? tipped(words) ?? refusedHelp(words) ?? error : error;
+  }
+}
+
+/** Whether words are refused for one that is no option or no command. */
+function isUnknown(error) {
+  return error instanceof WrongUsage && /^error: (unexpected argument|unrecognized subcommand) /.test(error.message);
+}
+
+/** The refusal of words with a tip, if it is known what was meant. */
+function tipped([first, ...rest]) {
+  if (WITHOUT_FILE.includes(first)) return refusedOption(first, rest);
+  if (OUT_OPTIONS.includes(first)) return wrongUsage(whole(CALLED), `unexpected argument '${first}' found\n\n  tip: 'link ${first}' exists`);
+  const word = first === "help" && rest.length ? rest[0] : first, tip = meantBy(word);
+  return tip && wrongUsage(whole(CALLED), `unrecognized subcommand '${word}'\n\n  tip: ${tip}`);
+}
+
+/** The refusal of the option of OUT for a command that writes no file. Behind '--' no word is an option. */
+function refusedOption(name, words) {
+  const option = words.find((word) => word === "--" || OUT_OPTIONS.includes(word));
+  if (option === undefined || option === "--") return null;
+  return wrongUsage(commandOf(CALLED, name), `unexpected argument '${option}' found\n\n  tip: ${name} writes no file: leave ${option} OUT out`);
+}
+
+/** The tip for a word that stands where a command does. */
+function meantBy(word) {
+  const small = word.replace(/[A-Z]/g, (letter) => letter.toLowerCase());
+  if (Object.hasOwn(COMMANDS, small) || small === "help") return small === word ? null : `a similar subcommand exists: '${small}'`;
+  if (small === "version") return "a similar argument exists: '--version'";
+  return leadToOneFile(word, word) ? "to link files, use 'pslink link -o <OUT> <HOST> [LIB]...'" : null;
+}
+
+/** The refusal of the help of a word that is no command, with the commands that are like it. */
+function refusedHelp(words) {
+  if (words.length !== 2 || words[0] !== "help") return null;
+  try {
+    parse(CALLED, [words[1]]);
+  } catch (error) {
+    if (error instanceof WrongUsage && error.message.startsWith("error: unrecognized subcommand ")) return error;
+  }
+  return null;
 }
 
 /** Whether an argument is text. Node gives U+FFFD for what is not UTF-8, and Windows half a pair of UTF-16. */
@@ -176,13 +227,15 @@ function linkAsked(found) {
   return asked;
 }
 
-/** Refuses a link that would write a library of it, or its map to a file of it, or that has no OUT or no map where one is wanted. */
-function refuseWrongLink({inputs: [host], out, map, references}, libraries) {
+/** Refuses a link that would write an input of it, or its map to a file of it, or that has no OUT or no map where one is wanted. */
+function refuseWrongLink({inputs: [host], out, isByOption, map, references}, libraries) {
   const command = commandOf(CALLED, "link");
   const missing = (what) => wrongUsage(command, `the following required arguments were not provided:\n  ${what}`);
   if (out === undefined) throw missing("<OUT>");
   const library = firstTo(out, libraries);
   if (library !== undefined) throw sameFile(command, "<OUT>", out, {path: library, asNamed: "a library", asFile: "the library"});
+  const isHost = isByOption && firstTo(out, [host]) !== undefined;
+  if (isHost) throw sameFile(command, "--output <OUT>", out, {path: host, asNamed: "HOST", asFile: "the host"});
   if (map === null && references) throw missing("--map <FILE>");
   const other = map === null ? undefined : firstTo(map, [out, host]) ?? firstTo(map, libraries);
   if (other !== undefined) throw sameFile(command, "--map <FILE>", map, {path: other, asNamed: "another file", asFile: "the file"});

@@ -7,7 +7,7 @@ export const PROGRAM = {
     {
       "name": "link",
       "about": "Links a host with the units that it uses, and writes the linked file",
-      "ending": "Example:\n  pslink link -o linked.code host.code library.code\n\nOUT is opened once everything was checked, and is written in place. If a write fails,\nOUT has the first part of the linked file. A linked file is no host any more, so keep\nthe host:\n  pslink link -o linked.new host.code library.code &&\n      mv linked.new linked.code\nWith --map FILE the map is written to FILE once OUT is whole: what map would print of\nthe same files. FILE may be neither OUT nor a file of the link.\nThe summary is printed on standard error where the OUT of -o or FILE is standard\noutput, as /dev/stdout. A file is read from a pipe as /dev/stdin.\n\nWithout -o the file after HOST is OUT. If OUT is forgotten there, the first LIB is taken\nas OUT, and is overwritten if the link succeeds.\n\nIf the files are refused, pslink check with the same files says why.\n\nExit status:\n  0  the command was done\n  1  the files are refused\n  2  wrong usage\n  3  a file could not be read or written, or standard output failed\n  4  out of memory\n\nA name that begins with a dash is given as ./-name, or after --. See pslink(1).",
+      "ending": "Example:\n  pslink link -o linked.code host.code library.code\n\nOUT is opened once everything was checked, and is written in place. If a write fails,\nOUT has the first part of the linked file. A linked file is no host any more, so keep\nthe host:\n  pslink link -o linked.new host.code library.code &&\n      mv linked.new linked.code\nWith --map FILE the map is written to FILE once OUT is whole: what map would print of\nthe same files. FILE may be neither OUT nor a file of the link.\nThe summary is printed on standard error where the OUT of -o or FILE is standard\noutput, as /dev/stdout. A file is read from a pipe as /dev/stdin.\n\nWithout -o the file after HOST is OUT, and may be HOST. If OUT is forgotten there, the\nfirst LIB is taken as OUT: a unit that it alone has is then missing, and if none is, it\nis overwritten.\n\nIf the files are refused, pslink check with the same files says why.\n\nExit status:\n  0  the command was done\n  1  the files are refused\n  2  wrong usage\n  3  a file could not be read or written, or standard output failed\n  4  out of memory\n\nA name that begins with a dash is given as ./-name, or after --. See pslink(1).",
       "usage": "pslink link [OPTIONS] -o <OUT> <HOST> [LIB]...\n       pslink link [OPTIONS] <HOST> <OUT> [LIB]...",
       "arguments": [
         {
@@ -26,7 +26,7 @@ export const PROGRAM = {
         },
         {
           "id": "OUT",
-          "help": "The code file to write; if it is HOST, the unlinked host is lost",
+          "help": "The code file to write, which is no file of the link",
           "long": "output",
           "short": "o",
           "valued": true
@@ -116,8 +116,8 @@ export const PROGRAM = {
     {
       "name": "check",
       "about": "Says in words whether the files link, what is wrong and what looks wrong",
-      "ending": "Example:\n  pslink check host.code library.code\n\nThe report is for a person: the files, where each segment comes from, whether they\nlink, and if not what is wrong and what to do. A line that begins with 'warning: ' is\ncertain and no fault, one with 'note: ' is a guess, and one with 'harmless: ' changes\nno link. No file is written, so leave -o OUT out. With --json the verdict, what is\nfound and the report are printed as one JSON document.\n\nWith --unit, HOST and each LIB are files of any kind. They are listed as by list, and\nafter the lines of each file comes a line of each unit that it has, with its first\nfault in a link with a host that would define each name: so a unit can be checked\nbefore there is a host. A file without a unit is refused.\n\nExit status:\n  0  the files link, and there may be warnings\n  1  the files are refused, or with --strict there is a warning\n  2  wrong usage\n  3  a file could not be read, or standard output failed\n  4  out of memory\n\nA name that begins with a dash is given as ./-name, or after --. See pslink(1).",
-      "usage": null,
+      "ending": "Example:\n  pslink check host.code library.code\n\nThe report is for a person: the files, where each segment comes from, whether they\nlink, and if not what is wrong and what to do. A line that begins with 'warning: ' is\ncertain and no fault, one with 'note: ' is a guess, and one with 'harmless: ' changes\nno link. No file is written, so leave -o OUT out. With --json the verdict, what is\nfound and the report are printed as one JSON document.\n\nWith --unit, each FILE is of any kind. The files are listed as by list, and after the\nlines of each file comes a line of each unit that it has, with its first fault in a link\nwith a host that would define each name: so a unit can be checked before there is a\nhost. A file without a unit is refused.\n\nExit status:\n  0  the files link, and there may be warnings\n  1  the files are refused, or with --strict there is a warning\n  2  wrong usage\n  3  a file could not be read, or standard output failed\n  4  out of memory\n\nA name that begins with a dash is given as ./-name, or after --. See pslink(1).",
+      "usage": "pslink check [OPTIONS] <HOST> [LIB]...\n       pslink check --unit [--json] <FILE>...",
       "arguments": [
         {
           "id": "HOST",

@@ -18,8 +18,8 @@ const CAUSES = {
   ERR_INVALID_ARG_VALUE: "its name is not UTF-8",
 };
 
-// characters that take no room on a line, or turn the direction of what follows, and control characters
-const HIDDEN = /[\u0000-\u001f\u007f-\u009f\u00ad\u061c\u180e\u200b-\u200f\u202a-\u202e\u2060-\u206f\ufeff]/u;
+// control characters, and those that end a line, take no room on it or turn its direction
+const HIDDEN = /[\p{Cc}\p{Zl}\p{Zp}\p{Default_Ignorable_Code_Point}\uFFF9-\uFFFB]/u;
 const LETTERS = {"\0": "0", "\t": "t", "\n": "n", "\r": "r", '"': '"', "\\": "\\"};
 
 /** Why a file is not read: the cause, which is null where the file is too long. */

@@ -27,7 +27,7 @@
  * What the module answers, as `pslink_answer` of pslink.h; null is a part that there is not.
  * @typedef {object} Answer
  * @property {number} status the number of the status
- * @property {number} fault the number of the fault, or 0: the first of all where files are refused, and the verdict of a report
+ * @property {number} fault the number of the fault, or 0: the first of all where files are refused, and the verdict of a report or of its findings
  * @property {number | null} file the file at fault, by its place among those that were given
  * @property {number | null} record the record in the link information of its segment, from 0
  * @property {number | null} reference the reference in its record, from 0
@@ -37,12 +37,12 @@
  * @property {number} segments how many segments the linked file has
  * @property {number} privateWords the words of all private variables
  * @property {number} blocks how many blocks of 512 bytes the linked file has
- * @property {number} warnings how many warnings a report has
+ * @property {number} warnings how many warnings a report has, after its findings too
  * @property {number} size how many bytes the result has
  */
 
 /**
- * What a call gives. A report is done also where it says that the files are refused: `fault` is then its verdict.
+ * What a call gives. A report and its findings are done also where the files are refused: `fault` is then the verdict.
  * @typedef {object} Result
  * @property {boolean} done whether there is what was asked for
  * @property {string} status one of STATUSES
@@ -95,7 +95,7 @@ const FAULTS = [
    "Compile the file for the machine of the host. If it was, the bytes of one of the two files are swapped: see DAMAGED FILES in pslink(1)."],
   ["NoHost",
    "No segment of the file is a host program.",
-   "The file may be a library, or linked already. Give the compiled program as HOST. If it is one, see DAMAGED FILES in pslink(1)."],
+   "The file may be a library, or linked already. Give the compiled program as the host. If it is one, see DAMAGED FILES in pslink(1)."],
   ["TwoHosts",
    "A second segment is a host program.",
    "Keep one of them in the file."],

@@ -34,6 +34,9 @@ static const char alone[] =
     "  No library has the unit that the slot wants.\n"
     "  Give a library that has UTIL, after HOST.\n";
 
+/* The texts that are made of a report, so that the answer has its verdict and its warnings. */
+static const uint32_t of_report[] = {PSLINK_CHECK, PSLINK_CHECK | PSLINK_JSON, PSLINK_FINDINGS, PSLINK_FINDINGS | PSLINK_JSON};
+
 static pslink_file host, library;
 
 /* The report of the pair, or of the host alone where `count` is 0. */
@@ -97,16 +100,16 @@ static void check_verdicts(void)
     char text[PSLINK_FAULT_TEXT_MAX];
     static unsigned char room[ROOM];
     pslink_answer answer;
-    uint32_t form;
+    size_t k;
 
-    for (form = 0; form <= PSLINK_JSON; form += PSLINK_JSON) {
-        pslink_text(PSLINK_CHECK | form, files, 2, room, sizeof room, &answer);
-        check(is_linked(&answer, 0), "the verdict of the pair is another", form);
-        check(pslink_fault_text(&answer, text, sizeof text) == 0, "the pair has a fault", form);
-        pslink_text(PSLINK_CHECK | form, files, 1, room, sizeof room, &answer);
-        check(is_alone(&answer), "the verdict of the host alone is another", form);
+    for (k = 0; k < sizeof of_report / sizeof *of_report; k++) {
+        pslink_text(of_report[k], files, 2, room, sizeof room, &answer);
+        check(is_linked(&answer, 0), "the verdict of the pair is another", of_report[k]);
+        check(pslink_fault_text(&answer, text, sizeof text) == 0, "the pair has a fault", of_report[k]);
+        pslink_text(of_report[k], files, 1, room, sizeof room, &answer);
+        check(is_alone(&answer), "the verdict of the host alone is another", of_report[k]);
         check(pslink_fault_text(&answer, text, sizeof text) != 0 && strcmp(text, "refused 13 MissingUnit file 0 slot 7") == 0,
-              "the fault of the host alone is another", form);
+              "the fault of the host alone is another", of_report[k]);
     }
 }
 
@@ -116,18 +119,17 @@ static void check_warnings(void)
     static unsigned char room[ROOM], other[1 << 16];
     pslink_file files[2] = {host, library};
     pslink_answer answer;
-    uint32_t form;
+    size_t k;
 
     memcpy(other, library.bytes, library.length);
     other[WORDS_OF_STATE] = 2;
     files[1].bytes = other;
-    for (form = 0; form <= PSLINK_JSON; form += PSLINK_JSON) {
-        check(pslink_text(PSLINK_CHECK | form, files, 2, room, sizeof room, &answer) == PSLINK_DONE && answer.fault == 0 &&
+    for (k = 0; k < sizeof of_report / sizeof *of_report; k++)
+        check(pslink_text(of_report[k], files, 2, room, sizeof room, &answer) == PSLINK_DONE && answer.fault == 0 &&
                   answer.warnings == 1,
               "there is another count of warnings", answer.warnings);
-        check(pslink_text(PSLINK_FINDINGS | form, files, 2, room, sizeof room, &answer) == PSLINK_DONE && answer.warnings == 0,
-              "warnings are told of another text", answer.warnings);
-    }
+    check(pslink_text(PSLINK_LIST, files, 2, room, sizeof room, &answer) == PSLINK_DONE && answer.warnings == 0,
+          "warnings are told of another text", answer.warnings);
 }
 
 /* A host alone has no map. */

@@ -20,7 +20,7 @@ RECORD = re.compile(r"^  record \d+: [A-Z]+ (.*)$", re.M)
 SEGMENT = re.compile(r"^  segment (.*), of slot \d\d of the host$", re.M)
 ROOM = 1 << 20
 SOME = 100  # generated sets
-CHECK, LIST, WANTED, HAD, JSON = 3, 4, 7, 8, 256
+CHECK, LIST, FINDINGS, WANTED, HAD, JSON = 3, 4, 6, 7, 8, 256
 NAME, MEANING, REMEDY = 0, 1, 2
 
 
@@ -78,15 +78,16 @@ def name_to_tell(library, room, host, verdict):
 
 def differences(library, room, host, libraries):
     report, verdict = made(library, CHECK, room, host, libraries)
-    _, document = made(library, CHECK | JSON, room, host, libraries)
+    others = [made(library, what, room, host, libraries)[1] for what in (CHECK | JSON, FINDINGS, FINDINGS | JSON)]
     one = linked(library, room, host, libraries)
-    parts = [(it.fault, it.file, it.record, it.reference, it.slot, it.kind, bytes(it.name)) for it in (one, verdict, document)]
-    if verdict.status != 0 or document.status != 0 or (one.status == 1) != (verdict.fault != 0):
+    parts = [(it.fault, it.file, it.record, it.reference, it.slot, it.kind, bytes(it.name), it.segments, it.private_words, it.blocks)
+             for it in (one, verdict, *others)]  # fmt: skip
+    if any(it.status != 0 for it in (verdict, *others)) or (one.status == 1) != (verdict.fault != 0):
         yield f"status {verdict.status}, {one.status} of a link, fault {verdict.fault} of its verdict"
     elif len(set(parts)) != 1:
-        yield f"a link has {parts[0]}, its verdict {parts[1]}, and that of the document {parts[2]}"
-    elif verdict.warnings != document.warnings or verdict.warnings != len(re.findall(rb"^warning: ", report, re.M)):
-        yield f"{verdict.warnings} warnings are told, and {document.warnings} of the document"
+        yield f"a link has {parts[0]}, its verdict {parts[1]}, and those of the document and of what is found {parts[2:]}"
+    elif {it.warnings for it in (verdict, *others)} != {len(re.findall(rb"^warning: ", report, re.M))}:
+        yield f"{verdict.warnings} warnings are told, and {[it.warnings for it in others]} of the document and of what is found"
     elif verdict.name[8] != 0:
         yield f"the name {bytes(verdict.name)} is not closed"
     elif verdict.fault and told(report.decode()) != name_to_tell(library, room, host, verdict):

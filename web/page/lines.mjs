@@ -5,8 +5,8 @@
 
 /** @typedef {{text: string, anchor: string | null}} Piece a part of a line, and the place in the manual that it leads to */
 
-// Control characters, and those of Unicode that take no room on a line or turn its direction, as a report knows them.
-const HIDDEN = /[\u0000-\u001F\u007F-\u009F\u00AD\u061C\u180E\u200B-\u200F\u202A-\u202E\u2060-\u206F\uFEFF]/gu;
+// Control characters, and those of Unicode that end a line, take no room on it or turn its direction, as a report knows them.
+const HIDDEN = /[\p{Cc}\p{Zl}\p{Zp}\p{Default_Ignorable_Code_Point}\uFFF9-\uFFFB]/gu;
 const LETTERS = {__proto__: null, "\0": "\\0", "\t": "\\t", "\n": "\\n", "\r": "\\r", '"': '\\"', "\\": "\\\\"};
 
 /**

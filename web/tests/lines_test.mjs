@@ -64,6 +64,13 @@ for (const {id, term} of terms) {
 same(terms.length, 31);
 
 same(shownName("a\nb\u202ec\u200bd\"\\"), '"a\\nb\\u{202e}c\\u{200b}d\\"\\\\"');
+for (const hidden of ["2028", "2029", "34f", "115f", "180f", "206f", "3164", "fe0f", "fff9", "1d173", "e0001", "e0fff"]) {
+  same(shownName(`a${String.fromCodePoint(parseInt(hidden, 16))}b`), `"a\\u{${hidden}}b"`);
+}
+for (const shown of ["301", "a0", "2027", "202f", "205f", "2070", "fe10", "fffc", "1f4be", "e1000"]) {
+  const name = `a${String.fromCodePoint(parseInt(shown, 16))}b`;
+  same(shownName(name), name);
+}
 same(shownName("a\"b\\c"), "a\"b\\c");
 same(shownName("déjà <b>"), "déjà <b>");
 same(nameOfFile("a/b\\c:d*e?f\"g<h>i|j\u0000k"), "a_b_c_d_e_f_g_h_i_j_k");

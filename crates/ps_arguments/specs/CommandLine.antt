@@ -13,6 +13,8 @@ use Rattle.clap.specs.declared.Command.TheViews.{out-Command}
 use Rattle.ps_arguments.specs.declared.command_line.Argument.{Argument}
 use Rattle.ps_arguments.specs.declared.command_line.Argument.TheVariants as argument
 use Rattle.ps_arguments.specs.declared.command_line.CommandForm.{CommandForm}
+use Rattle.ps_arguments.specs.declared.command_line.CommandName.{CommandName}
+use Rattle.ps_arguments.specs.declared.command_line.CommandName.TheVariants as command
 
 -- a file that has to be named; with `Append` more of them may be
 abbrev pub file_rule : Text → ArgAction → Rule
@@ -145,3 +147,12 @@ faults_in args = fault_of pslink_app args
 abbrev pub AskForText : List Text → Type 0
 AskForText args = (faults_in args ≡ DisplayHelp ∷ [])
     ⊎ (faults_in args ≡ DisplayVersion ∷ [])
+
+-- the name of a command
+abbrev pub name_of : CommandName → Text
+name_of command.Link = codes "link"
+name_of command.Map = codes "map"
+name_of command.Show = codes "show"
+name_of command.Check = codes "check"
+name_of command.List = codes "list"
+name_of command.Help = codes "help"

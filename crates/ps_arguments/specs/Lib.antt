@@ -1,2 +1,4 @@
 pub mod CommandLine
+pub mod Outputs
+pub mod Tips
 pub mod Requests

@@ -6,6 +6,12 @@ use Rattle.std.specs.Str.{bytes_eq}
 use Rattle.clap.specs.Words.{IsAmong, Kinds, Row, Text, all_of, first_of}
 use Rattle.clap.specs.declared.error.ErrorKind.TheVariants.{DisplayHelp, DisplayVersion}
 use Rattle.ps_arguments.specs.CommandLine.{faults_in, named_in}
+use Rattle.ps_arguments.specs.Outputs.{form_of, map_content, out_by, telling}
+use Rattle.ps_arguments.specs.declared.outputs.MapContent.{MapContent}
+use Rattle.ps_arguments.specs.declared.outputs.MapContent.TheVariants as content
+use Rattle.ps_arguments.specs.declared.outputs.OutBy.{OutBy}
+use Rattle.ps_arguments.specs.declared.outputs.OutBy.TheVariants as named_by
+use Rattle.ps_arguments.specs.declared.outputs.Outputs.{Outputs}
 use Rattle.ps_arguments.specs.declared.request.Inputs.{Inputs}
 use Rattle.ps_arguments.specs.declared.request.Link.{Link}
 use Rattle.ps_arguments.specs.declared.request.Request.{Request}
@@ -50,10 +56,10 @@ IsOther OneFile path paths = (is_library path paths ≡ false) × LeadsToNone On
 
 -- the file of the map is none that the link reads or writes; there is one where the map is to have
 -- what the link stores
-abbrev pub IsApartFrom : (Text → Text → Bool → Type 0) → Option Text → Bool → Text → Text → List Text
-    → Type 0
-IsApartFrom OneFile None references out host libraries = references ≡ false
-IsApartFrom OneFile (Some file) references out host libraries =
+abbrev pub IsApartFrom : (Text → Text → Bool → Type 0) → Option Text → MapContent → Text → Text
+    → List Text → Type 0
+IsApartFrom OneFile None what out host libraries = what ≡ content.Places
+IsApartFrom OneFile (Some file) what out host libraries =
     IsOther OneFile file (out ∷ host ∷ []) × IsOther OneFile file libraries
 
 -- a path was found to lead to the file of one of these
@@ -68,11 +74,20 @@ IsSame OneFile path paths = (is_library path paths ≡ true) ⊎ LeadsToSome One
 
 -- the file of the map is another file of the link; or there is none, and the map is to have what the
 -- link stores
-abbrev pub IsWrongMap : (Text → Text → Bool → Type 0) → Option Text → Bool → Text → Text → List Text
-    → Type 0
-IsWrongMap OneFile None references out host libraries = references ≡ true
-IsWrongMap OneFile (Some file) references out host libraries =
+abbrev pub IsWrongMap : (Text → Text → Bool → Type 0) → Option Text → MapContent → Text → Text
+    → List Text → Type 0
+IsWrongMap OneFile None what out host libraries = what ≡ content.References
+IsWrongMap OneFile (Some file) what out host libraries =
     IsSame OneFile file (out ∷ host ∷ []) ⊎ IsSame OneFile file libraries
+
+-- OUT is not the host, or it is, where its option names it: by its place OUT may be the host
+abbrev pub IsNoHost : (Text → Text → Bool → Type 0) → OutBy → Text → Text → Type 0
+IsNoHost OneFile named_by.Option out host = IsOther OneFile out (host ∷ [])
+IsNoHost OneFile named_by.Place out host = ⊤
+
+abbrev pub IsHost : (Text → Text → Bool → Type 0) → OutBy → Text → Text → Type 0
+IsHost OneFile named_by.Option out host = IsSame OneFile out (host ∷ [])
+IsHost OneFile named_by.Place out host = ⊥
 
 -- the flag of this name is given
 abbrev pub has_flag : Text → List Row → Bool
@@ -114,23 +129,30 @@ out_and_libraries rows = out_among (first_of (codes "OUT") rows) (libraries_of r
 abbrev pub map_file : List Row → Option Text
 map_file rows = file_of rows
 
--- a link of the files that are named for it; it writes no file that is a library of it, and its map
--- to no file of it
+-- what a link writes beside OUT, and what it prints, is as the arguments ask for it
+pub record NamesOutputs (outputs : Outputs) (rows : List Row) : Type 0 where
+  pub named : outputs.named ≡ out_by (has_output rows)
+  pub map_file : option_map (λ path. path.now) outputs.map ≡ map_file rows
+  pub content : outputs.content ≡ map_content (has_references rows)
+  pub form : outputs.form ≡ form_of (is_json rows)
+  pub telling : outputs.telling ≡ telling (is_quiet rows)
+
+-- a link of the files that are named for it; it writes no file that is a library of it, nor its host
+-- where the option names OUT, and its map to no file of it
 pub record NamesLink {A : Type 0} (OneFile : Text → Text → Bool → Type 0) (link : Link A)
     (rows : List Row) : Type 0
   where
     pub host : host_of rows ≡ Some link.inputs.host.now
     pub files : out_and_libraries rows
-        ≡ Some (link.out.now, map (λ path. path.now) link.inputs.libraries.items)
-    pub by_option : link.by_option ≡ has_output rows
-    pub map_file : option_map (λ path. path.now) link.map ≡ map_file rows
-    pub references : link.references ≡ has_references rows
-    pub json : link.json ≡ is_json rows
-    pub quiet : link.quiet ≡ is_quiet rows
-    pub no_library : IsOther OneFile link.out.now
+        ≡ Some (link.outputs.out.now, map (λ path. path.now) link.inputs.libraries.items)
+    pub outputs : NamesOutputs link.outputs rows
+    pub no_library : IsOther OneFile link.outputs.out.now
         (map (λ path. path.now) link.inputs.libraries.items)
-    pub apart : IsApartFrom OneFile (file_of rows) (has_references rows) link.out.now
-        link.inputs.host.now (map (λ path. path.now) link.inputs.libraries.items)
+    pub no_host : IsNoHost OneFile (out_by (has_output rows)) link.outputs.out.now
+        link.inputs.host.now
+    pub apart : IsApartFrom OneFile (map_file rows) (map_content (has_references rows))
+        link.outputs.out.now link.inputs.host.now
+        (map (λ path. path.now) link.inputs.libraries.items)
 
 -- the command that is named, which is no link, with the files that are named for it; a check of units
 -- is not strict
@@ -189,12 +211,13 @@ Answers request.Version faults = MayAskForVersion faults
 Answers (request.Task t) faults = faults ≡ []
 
 -- why a link is wrong usage: no HOST is named, which clap does not accept, or no OUT; or OUT is a
--- library of the link too; or so of the file of its map
+-- library of the link too, or its host, where the option names OUT; or so of the file of its map
 abbrev pub IsWrongLink : (Text → Text → Bool → Type 0) → List Row → Type 0
 IsWrongLink OneFile rows = (host_of rows ≡ None) ⊎ (out_and_libraries rows ≡ None)
     ⊎ ((host : Text) × (out : Text) × (libraries : List Text) × (host_of rows ≡ Some host)
     × (out_and_libraries rows ≡ Some (out, libraries)) × (IsSame OneFile out libraries
-    ⊎ IsWrongMap OneFile (map_file rows) (has_references rows) out host libraries))
+    ⊎ IsHost OneFile (out_by (has_output rows)) out host
+    ⊎ IsWrongMap OneFile (map_file rows) (map_content (has_references rows)) out host libraries))
 
 -- why a check is wrong usage: no HOST is named, or it is a check of units that is to be strict
 abbrev pub IsWrongCheck : List Row → Type 0

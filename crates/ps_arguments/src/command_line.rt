@@ -1,7 +1,7 @@
 //! What the command line accepts, as a table, and the command of clap that it makes.
 ghost use Rattle.std.specs.Prelude.{◌≡◌, IfOk, None, Some, fold};
 ghost use Rattle.clap.specs.Words.{App, app_of, new_app};
-ghost use Rattle.ps_arguments.specs.CommandLine.{IsArgument, IsMade, app_in, bare_app, files_rule, flag_rule, pslink_app, rule_in, value_rule, with_form};
+ghost use Rattle.ps_arguments.specs.CommandLine.{IsArgument, IsMade, app_in, bare_app, files_rule, flag_rule, name_of, pslink_app, rule_in, value_rule, with_form};
 
 use Argument::{AnyFiles, File, Files, Flag, LetteredFlag, LetteredValue, Value};
 use clap::{Arg, ArgAction, Command};
@@ -40,8 +40,9 @@ the same files. FILE may be neither OUT nor a file of the link.
 The summary is printed on standard error where the OUT of -o or FILE is standard
 output, as /dev/stdout. A file is read from a pipe as /dev/stdin.
 
-Without -o the file after HOST is OUT. If OUT is forgotten there, the first LIB is taken
-as OUT, and is overwritten if the link succeeds.
+Without -o the file after HOST is OUT, and may be HOST. If OUT is forgotten there, the
+first LIB is taken as OUT: a unit that it alone has is then missing, and if none is, it
+is overwritten.
 
 If the files are refused, pslink check with the same files says why.
 
@@ -53,6 +54,10 @@ Exit status:
   4  out of memory
 
 A name that begins with a dash is given as ./-name, or after --. See pslink(1).";
+
+/// What the help of `check` names as its usage: of a link, and of units by themselves.
+const CHECK_USAGE: &str = "pslink check [OPTIONS] <HOST> [LIB]...
+       pslink check --unit [--json] <FILE>...";
 
 /// What the help of `map` ends with.
 const MAP_ENDING: &str = "Example:
@@ -98,10 +103,10 @@ certain and no fault, one with 'note: ' is a guess, and one with 'harmless: ' ch
 no link. No file is written, so leave -o OUT out. With --json the verdict, what is
 found and the report are printed as one JSON document.
 
-With --unit, HOST and each LIB are files of any kind. They are listed as by list, and
-after the lines of each file comes a line of each unit that it has, with its first
-fault in a link with a host that would define each name: so a unit can be checked
-before there is a host. A file without a unit is refused.
+With --unit, each FILE is of any kind. The files are listed as by list, and after the
+lines of each file comes a line of each unit that it has, with its first fault in a link
+with a host that would define each name: so a unit can be checked before there is a
+host. A file without a unit is refused.
 
 Exit status:
   0  the files link, and there may be warnings
@@ -176,7 +181,8 @@ impl Ending {
     fn usage(self) -> Option<&'static str> {
         match self {
             Ending::Link => Some(LINK_USAGE),
-            Ending::Map | Ending::Show | Ending::Check | Ending::List => None,
+            Ending::Check => Some(CHECK_USAGE),
+            Ending::Map | Ending::Show | Ending::List => None,
         }
     }
 }
@@ -207,7 +213,7 @@ const LINK: CommandForm = CommandForm {
             "OUT",
             "output",
             'o',
-            "The code file to write; if it is HOST, the unlinked host is lost",
+            "The code file to write, which is no file of the link",
         ),
         Value("FILE", "map", "Writes the map of the link to FILE, too"),
         Flag(
@@ -238,49 +244,75 @@ const CHECK: CommandForm = CommandForm {
     ],
 };
 
+const MAP: CommandForm = CommandForm {
+    name: "map",
+    about: "Prints where a link would put each segment and private variable, and writes no file",
+    ending: Ending::Map,
+    arguments: &[
+        HOST,
+        LIBRARIES,
+        Flag(
+            "references",
+            "Prints what the link stores at each place, too",
+        ),
+        JSON,
+    ],
+};
+
+const SHOW: CommandForm = CommandForm {
+    name: "show",
+    about: "Prints the segments of one code file and the link information of each",
+    ending: Ending::Show,
+    arguments: &[
+        File(
+            "FILE",
+            "The code file to show: a host, a library, or a linked file",
+        ),
+        JSON,
+    ],
+};
+
+const LIST: CommandForm = CommandForm {
+    name: "list",
+    about: "Prints a line of each file and of each of its segments, made for grep",
+    ending: Ending::List,
+    arguments: &[
+        Files(
+            "FILE",
+            "A file of any kind, as a host, a library, or a linked file",
+        ),
+        JSON,
+    ],
+};
+
 /// The commands, in the order in which the help names them.
-static FORMS: [CommandForm; 5] = [
-    LINK,
-    CommandForm {
-        name: "map",
-        about: "Prints where a link would put each segment and private variable, and writes no file",
-        ending: Ending::Map,
-        arguments: &[
-            HOST,
-            LIBRARIES,
-            Flag(
-                "references",
-                "Prints what the link stores at each place, too",
-            ),
-            JSON,
-        ],
-    },
-    CommandForm {
-        name: "show",
-        about: "Prints the segments of one code file and the link information of each",
-        ending: Ending::Show,
-        arguments: &[
-            File(
-                "FILE",
-                "The code file to show: a host, a library, or a linked file",
-            ),
-            JSON,
-        ],
-    },
-    CHECK,
-    CommandForm {
-        name: "list",
-        about: "Prints a line of each file and of each of its segments, made for grep",
-        ending: Ending::List,
-        arguments: &[
-            Files(
-                "FILE",
-                "A file of any kind, as a host, a library, or a linked file",
-            ),
-            JSON,
-        ],
-    },
-];
+static FORMS: [CommandForm; 5] = [LINK, MAP, SHOW, CHECK, LIST];
+
+/// The name of a command.
+#[derive(Clone, Copy)]
+pub(crate) enum CommandName {
+    Link,
+    Map,
+    Show,
+    Check,
+    List,
+    Help,
+}
+
+impl CommandName {
+    pub(crate) fn text(self) -> &'static str
+        ensures { result.now ≡ name_of self }
+    {
+        match self {
+            CommandName::Link => "link",
+            CommandName::Map => "map",
+            CommandName::Show => "show",
+            CommandName::Check => "check",
+            CommandName::List => "list",
+            CommandName::Help => "help",
+        }
+    }
+}
 
 /// What the command line accepts.
 pub(crate) fn command<'a>(heap: Global) -> Result<Command<'a>, AllocError>
@@ -289,14 +321,19 @@ pub(crate) fn command<'a>(heap: Global) -> Result<Command<'a>, AllocError>
     with_commands(bare_command(heap), heap, &FORMS)
 }
 
-/// The command `link` with the name that its usage has.
-pub(crate) fn link_usage<'a>(heap: Global) -> Result<Command<'a>, AllocError> {
-    command_of(heap, &LINK)?.bin_name("pslink link")
-}
-
-/// The command `check` with the name that its usage has.
-pub(crate) fn check_usage<'a>(heap: Global) -> Result<Command<'a>, AllocError> {
-    command_of(heap, &CHECK)?.bin_name("pslink check")
+/// The command of this name, with the name that its usage has.
+pub(crate) fn command_named<'a>(
+    heap: Global,
+    name: CommandName,
+) -> Result<Command<'a>, AllocError> {
+    match name {
+        CommandName::Link => command_of(heap, &LINK)?.bin_name("pslink link"),
+        CommandName::Map => command_of(heap, &MAP)?.bin_name("pslink map"),
+        CommandName::Show => command_of(heap, &SHOW)?.bin_name("pslink show"),
+        CommandName::Check => command_of(heap, &CHECK)?.bin_name("pslink check"),
+        CommandName::List => command_of(heap, &LIST)?.bin_name("pslink list"),
+        CommandName::Help => command(heap),
+    }
 }
 
 /// The program, of which a command is required, without its commands.

@@ -4,11 +4,15 @@
 
 mod command_line;
 mod given;
+mod outputs;
 mod request;
 mod same_file;
+mod tips;
 mod usage;
+mod wrong;
 
 pub use given::given_args;
+pub use outputs::{MapContent, OutBy, Outputs, Telling, form_of};
 pub use request::{Inputs, Link, Request, Task, parse};
 pub use same_file::SameFile;
 pub use usage::{UsageError, UsageText, WrongArgument};

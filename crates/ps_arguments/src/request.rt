@@ -2,13 +2,19 @@
 ghost use Rattle.std.specs.Prelude.{◌≡◌, ◌⊎◌, IfErr, IfOk, IfSome, None, Some, [], ◌∷◌, codes, false, is_some, map, option_map, string_bytes, true, unwrap_or};
 ghost use Rattle.clap.specs.Words.{FailsBy, all_of, first_of, found_of, kind_of, rows_of, subcommand_rows_of};
 ghost use Rattle.ps_arguments.specs.CommandLine.{AreAccepted, AskForText, faults_in, named_in, texts};
-ghost use Rattle.ps_arguments.specs.Requests.{Answers, EndsWithLine, IsAsked, IsApartFrom, IsNamedCommand, IsOther, IsOtherCommand, IsSame, IsTask, IsWrongCheck, IsWrongLink, IsWrongMap, IsWrongNamed, IsWrongUsage, NamesInputs, file_of as file_spec, has_flag as has_flag_spec, host_of, out_among};
+ghost use Rattle.ps_arguments.specs.Requests.{Answers, EndsWithLine, IsAsked, IsApartFrom, IsHost, IsNamedCommand, IsNoHost, IsOther, IsOtherCommand, IsSame, IsTask, IsWrongCheck, IsWrongLink, IsWrongMap, IsWrongNamed, IsWrongUsage, NamesInputs, NamesOutputs, file_of as file_spec, has_flag as has_flag_spec, host_of, out_among};
 
-use crate::command_line::{check_usage, command, link_usage};
+use crate::command_line::command;
+use crate::outputs::{MapContent, OutBy, Outputs, form_of, map_content, out_by, telling_of};
 use crate::same_file::{SameFile, first_to};
+use crate::tips::{tip_of, word_in};
 use crate::usage::UsageError;
+use crate::wrong::{
+    missing_argument, missing_out, references_alone, strict_units, tipped, written_by_map,
+    written_host, written_library,
+};
+use clap::ArgMatches;
 use clap::error::ErrorKind;
-use clap::{ArgMatches, Command};
 use std::alloc::{AllocError, Allocator, Global};
 
 /// What the arguments of a command line ask the program to do.
@@ -63,27 +69,17 @@ pub struct Inputs<'a, A: Allocator> {
     pub libraries: Vec<&'a str, A>,
 }
 
-/// A link: its files, the file to write, and what is printed.
+/// A link: its files, and what it writes and prints.
 #[derive(Drop)]
 pub struct Link<'a, A: Allocator> {
     pub inputs: Inputs<'a, A>,
-    /// The path of the file to write.
-    pub out: &'a str,
-    /// The option names that path, and not its place after the host.
-    pub by_option: bool,
-    /// The path of the file to which the map is written too.
-    pub map: Option<&'a str>,
-    /// The map has what the link stores, too.
-    pub references: bool,
-    /// The summary and the map are documents.
-    pub json: bool,
-    /// No summary is printed.
-    pub quiet: bool,
+    pub outputs: Outputs<'a>,
 }
 
 /// Reads the arguments, of which the first is the program's name. A link whose OUT is a library too,
-/// at this path or at another that leads there, is wrong usage, and so is one whose map would be written
-/// to a file of it, or that has no map to write what it stores to; and a check of units that is strict.
+/// at this path or at another that leads there, is wrong usage, and so is one whose OUT is the host, if
+/// the option names it; or whose map would be written to a file of it, or that has no map to write what
+/// it stores to; and a check of units that is strict.
 pub fn parse<'a, F: SameFile, A: Allocator + Copy>(
     files: &F,
     heap: Global,
@@ -109,7 +105,7 @@ pub fn parse<'a, F: SameFile, A: Allocator + Copy>(
         Err(error) => match error.kind() {
             ErrorKind::DisplayHelp => Ok(Request::Help(help_words(heap, error)?)),
             ErrorKind::DisplayVersion => Ok(Request::Version),
-            _ => Err(UsageError::from(error)),
+            _ => Err(refused(files, heap, args, error)),
         },
     }
 }
@@ -122,6 +118,47 @@ fn matches<'a>(heap: Global, args: &'a [&'a str]) -> Result<ArgMatches<'a>, clap
         → IfErr result (λ e. kind_of e ≡ ErrorKind.OutOfMemory) }
 {
     command(heap)?.try_get_matches_from(args)
+}
+
+/// What is said of arguments that clap refuses: where the program knows what was meant, a tip too.
+fn refused<F: SameFile>(files: &F, heap: Global, args: &[&str], error: clap::Error) -> UsageError
+    ensures memory { kind_of error ≡ ErrorKind.OutOfMemory → result ≡ UsageError.Memory }
+{
+    match error.kind() {
+        ErrorKind::UnknownArgument | ErrorKind::InvalidSubcommand => match tip_of(files, args) {
+            Some(tip) => tipped(heap, error.kind(), tip, word_in(args)),
+            None => refused_help(heap, args, error),
+        },
+        _ => UsageError::from(error),
+    }
+}
+
+/// What is said where the help is asked of a word that is no command: what clap says of that word, with
+/// the commands that are like it.
+fn refused_help(heap: Global, args: &[&str], error: clap::Error) -> UsageError {
+    match refused_command(heap, args) {
+        Some(other) => UsageError::from(other),
+        None => UsageError::from(error),
+    }
+}
+
+/// What clap says of the word of which the help is asked, where it is no command.
+fn refused_command(heap: Global, args: &[&str]) -> Option<clap::Error> {
+    let [program, "help", word] = args else {
+        return None;
+    };
+    let words = [*program, *word];
+    let error = refusal_of(heap, &words)?;
+    if error.kind() == ErrorKind::InvalidSubcommand {
+        Some(error)
+    } else {
+        None
+    }
+}
+
+/// What clap says of arguments that it refuses.
+fn refusal_of<'a>(heap: Global, args: &'a [&'a str]) -> Option<clap::Error> {
+    matches(heap, args).err()
 }
 
 /// The help, whose words are clap's, and a line end where these have none.
@@ -176,23 +213,29 @@ fn link_of<'a, F: SameFile, A: Allocator + Copy>(
         mut libraries,
     } = inputs_of(heap, alloc, found)?;
     let out = out_of(heap, found, &mut libraries)?;
-    let by_option = is_given(found, "OUT");
-    let map = value_of(found, "FILE");
-    let references = has_flag(found, "references");
-    let json = has_flag(found, "json");
-    let quiet = has_flag(found, "quiet");
     let link = Link {
         inputs: Inputs { host, libraries },
-        out,
-        by_option,
-        map,
-        references,
-        json,
-        quiet,
+        outputs: outputs_of(found, out),
     };
     check_out(files, heap, &link)?;
+    check_host(files, heap, &link)?;
     check_map(files, heap, &link)?;
     Ok(Task::Link(link))
+}
+
+/// What a link with this OUT writes and prints.
+fn outputs_of<'a>(found: &ArgMatches<'a>, out: &'a str) -> Outputs<'a>
+    ensures out { result.out ≡ out.entry }
+    ensures named { NamesOutputs result (rows_of (found_of found.now)) }
+{
+    Outputs {
+        out,
+        named: out_by(is_given(found, "OUT")),
+        map: value_of(found, "FILE"),
+        content: map_content(has_flag(found, "references")),
+        form: form_of(has_flag(found, "json")),
+        telling: telling_of(has_flag(found, "quiet")),
+    }
 }
 
 /// Refuses a link that would write a library of it.
@@ -201,13 +244,47 @@ fn check_out<F: SameFile, A: Allocator>(
     heap: Global,
     link: &Link<'_, A>,
 ) -> Result<(), UsageError>
-    ensures other { IfOk result (λ _. IsOther (F.one_file files.now) link.now.out.now
+    ensures other { IfOk result (λ _. IsOther (F.one_file files.now) link.now.outputs.out.now
         (map (λ path. path.now) link.now.inputs.libraries.items)) }
-    ensures same { IfErr result (λ _. IsSame (F.one_file files.now) link.now.out.now
+    ensures same { IfErr result (λ _. IsSame (F.one_file files.now) link.now.outputs.out.now
         (map (λ path. path.now) link.now.inputs.libraries.items)) }
 {
-    match overwritten(files, link.inputs.libraries.as_slice(), link.out) {
-        Some(library) => Err(written_library(heap, link.out, library)),
+    match overwritten(files, link.inputs.libraries.as_slice(), link.outputs.out) {
+        Some(library) => Err(written_library(heap, link.outputs.out, library)),
+        None => Ok(()),
+    }
+}
+
+/// Refuses a link whose option names the host as the file to write.
+fn check_host<F: SameFile, A: Allocator>(
+    files: &F,
+    heap: Global,
+    link: &Link<'_, A>,
+) -> Result<(), UsageError>
+    ensures apart { IfOk result (λ _. IsNoHost (F.one_file files.now) link.now.outputs.named
+        link.now.outputs.out.now link.now.inputs.host.now) }
+    ensures same { IfErr result (λ _. IsHost (F.one_file files.now) link.now.outputs.named
+        link.now.outputs.out.now link.now.inputs.host.now) }
+{
+    match link.outputs.named {
+        OutBy::Place => Ok(()),
+        OutBy::Option => check_host_apart(files, heap, link.outputs.out, link.inputs.host),
+    }
+}
+
+/// Refuses a host that would be written, by its path or by another that leads there.
+fn check_host_apart<F: SameFile>(
+    files: &F,
+    heap: Global,
+    out: &str,
+    host: &str,
+) -> Result<(), UsageError>
+    ensures other { IfOk result (λ _. IsOther (F.one_file files.now) out.now (host.now ∷ [])) }
+    ensures same { IfErr result (λ _. IsSame (F.one_file files.now) out.now (host.now ∷ [])) }
+{
+    let own = [host];
+    match overwritten(files, &own, out) {
+        Some(_) => Err(written_host(heap, out, host)),
         None => Ok(()),
     }
 }
@@ -220,27 +297,27 @@ fn check_map<F: SameFile, A: Allocator>(
     link: &Link<'_, A>,
 ) -> Result<(), UsageError>
     ensures apart { IfOk result (λ _. IsApartFrom (F.one_file files.now)
-        (option_map (λ path. path.now) link.now.map) link.now.references link.now.out.now
-        link.now.inputs.host.now (map (λ path. path.now) link.now.inputs.libraries.items)) }
+        (option_map (λ path. path.now) link.now.outputs.map) link.now.outputs.content
+        link.now.outputs.out.now link.now.inputs.host.now (map (λ path. path.now) link.now.inputs.libraries.items)) }
     ensures wrong { IfErr result (λ _. IsWrongMap (F.one_file files.now)
-        (option_map (λ path. path.now) link.now.map) link.now.references link.now.out.now
-        link.now.inputs.host.now (map (λ path. path.now) link.now.inputs.libraries.items)) }
+        (option_map (λ path. path.now) link.now.outputs.map) link.now.outputs.content
+        link.now.outputs.out.now link.now.inputs.host.now (map (λ path. path.now) link.now.inputs.libraries.items)) }
 {
-    match link.map {
+    match link.outputs.map {
         Some(file) => check_map_file(files, heap, link, file),
-        None => check_references(heap, link.references),
+        None => check_content(heap, link.outputs.content),
     }
 }
 
 /// Refuses a link without a map that is to write what it stores.
-fn check_references(heap: Global, references: bool) -> Result<(), UsageError>
-    ensures none { IfOk result (λ _. references ≡ false) }
-    ensures wrong { IfErr result (λ _. references ≡ true) }
+fn check_content(heap: Global, content: MapContent) -> Result<(), UsageError>
+    ensures none { IfOk result (λ _. content ≡ MapContent.Places) }
+    ensures wrong { IfErr result (λ _. content ≡ MapContent.References) }
 {
-    if references {
-        return Err(references_alone(heap));
+    match content {
+        MapContent::Places => Ok(()),
+        MapContent::References => Err(references_alone(heap)),
     }
-    Ok(())
 }
 
 /// Refuses a link whose map would be written to a file of it, by its path or by another that leads
@@ -252,15 +329,15 @@ fn check_map_file<F: SameFile, A: Allocator>(
     file: &str,
 ) -> Result<(), UsageError>
     ensures own { IfOk result (λ _. IsOther (F.one_file files.now) file.now
-        (link.now.out.now ∷ link.now.inputs.host.now ∷ [])) }
+        (link.now.outputs.out.now ∷ link.now.inputs.host.now ∷ [])) }
     ensures libraries { IfOk result (λ _. IsOther (F.one_file files.now) file.now
         (map (λ path. path.now) link.now.inputs.libraries.items)) }
     ensures same { IfErr result (λ _. IsSame (F.one_file files.now) file.now
-        (link.now.out.now ∷ link.now.inputs.host.now ∷ [])
+        (link.now.outputs.out.now ∷ link.now.inputs.host.now ∷ [])
         ⊎ IsSame (F.one_file files.now) file.now
         (map (λ path. path.now) link.now.inputs.libraries.items)) }
 {
-    let own = [link.out, link.inputs.host];
+    let own = [link.outputs.out, link.inputs.host];
     if let Some(other) = overwritten(files, &own, file) {
         return Err(written_by_map(heap, file, other));
     }
@@ -442,90 +519,6 @@ fn file_of<'a>(heap: Global, found: &ArgMatches<'a>, argument: &str) -> Result<&
     match found.get_str(argument) {
         Some(path) => Ok(path),
         None => Err(missing_argument(heap)),
-    }
-}
-
-/// The error of arguments that leave out a command or a file of one, which `clap` does not accept.
-fn missing_argument(heap: Global) -> UsageError {
-    usage_error(
-        command(heap),
-        ErrorKind::MissingSubcommand,
-        "a command and its files have to be named",
-    )
-}
-
-/// The error of a link of which no file to write is named.
-fn missing_out(heap: Global) -> UsageError {
-    usage_error(
-        link_usage(heap),
-        ErrorKind::MissingRequiredArgument,
-        "the following required arguments were not provided:\n  <OUT>",
-    )
-}
-
-/// The error of a check of units that is to be strict: no list has a warning.
-fn strict_units(heap: Global) -> UsageError {
-    usage_error(
-        check_usage(heap),
-        ErrorKind::ArgumentConflict,
-        "the argument '--strict' cannot be used with '--unit'",
-    )
-}
-
-/// The error of a link that is to write to its map what it stores, and has none.
-fn references_alone(heap: Global) -> UsageError {
-    usage_error(
-        link_usage(heap),
-        ErrorKind::MissingRequiredArgument,
-        "the following required arguments were not provided:\n  --map <FILE>",
-    )
-}
-
-/// The error of arguments that name the file of the map as another file of the link too.
-fn written_by_map(heap: Global, file: &str, other: &str) -> UsageError {
-    match written_by_map_text(heap, file, other) {
-        Ok(text) => usage_error(link_usage(heap), ErrorKind::ValueValidation, text.as_str()),
-        Err(error) => UsageError::from(error),
-    }
-}
-
-fn written_by_map_text(heap: Global, file: &str, other: &str) -> Result<String, AllocError> {
-    if file == other {
-        return format!(in heap;
-            "invalid value '{file}' for '--map <FILE>': it is named as another file too"
-        );
-    }
-    format!(in heap; "invalid value '{file}' for '--map <FILE>': it is the file '{other}'")
-}
-
-/// The error of arguments that name the file to write as a library too, at this path or another.
-fn written_library(heap: Global, out: &str, library: &str) -> UsageError {
-    match written_library_text(heap, out, library) {
-        Ok(text) => usage_error(link_usage(heap), ErrorKind::ValueValidation, text.as_str()),
-        Err(error) => UsageError::from(error),
-    }
-}
-
-fn written_library_text(heap: Global, out: &str, library: &str) -> Result<String, AllocError> {
-    if out == library {
-        return format!(in heap; "invalid value '{out}' for '<OUT>': it is named as a library too");
-    }
-    format!(in heap; "invalid value '{out}' for '<OUT>': it is the library '{library}'")
-}
-
-/// The error of this kind, with the usage of a command, if there was memory for the command.
-fn usage_error(made: Result<Command<'_>, AllocError>, kind: ErrorKind, text: &str) -> UsageError {
-    match made {
-        Ok(mut command) => error_with_usage(&mut command, kind, text),
-        Err(error) => UsageError::from(error),
-    }
-}
-
-/// The error of this kind, with the usage of this command.
-fn error_with_usage(command: &mut Command<'_>, kind: ErrorKind, text: &str) -> UsageError {
-    match command.error(kind, text) {
-        Ok(error) => UsageError::from(error),
-        Err(error) => UsageError::from(error),
     }
 }
 

@@ -24,7 +24,7 @@ pub enum Done {
     },
     /// A text of so many bytes.
     Text(usize),
-    /// The text of a report, of so many bytes, on files with this verdict and so many warnings.
+    /// So many bytes that are made of a report, on files with this verdict and so many warnings.
     Report {
         verdict: Verdict,
         warnings: usize,

@@ -7,9 +7,8 @@ use Rattle.ps_linkfile.specs.ShowText.{order_fault, show_fault}
 use Rattle.ps_linkfile.specs.declared.unmade.Refusal.{Refusal}
 use Rattle.ps_linkfile.specs.declared.unmade.Unmade.{Unmade}
 use Rattle.ps_linkfile.specs.declared.unmade.Unmade.TheVariants.{Refused, Memory}
-use Rattle.ps_writing.specs.declared.rows.Form.{Form}
 use Rattle.ps_report.specs.Reported.{Reported}
-use Rattle.ps_report.specs.Reports.{IsReport, printed_report, warnings_of_files}
+use Rattle.ps_report.specs.Reports.{IsReport, warnings_of_files}
 use Rattle.ps_report.specs.Verdicts.{check_status}
 use Rattle.ps_texts.specs.Kinds.{needs_names}
 use Rattle.ps_words.specs.FaultPlaces.{in_file}
@@ -37,77 +36,89 @@ use Rattle.ps_c_link.specs.declared.libraries.TheConstants.{LIBRARIES_IN_PLACE}
 use Rattle.ps_c_link.specs.declared.outcome.Unput.{Unput}
 use Rattle.ps_c_link.specs.declared.outcome.Unput.TheVariants as unput
 use Rattle.ps_c_link.specs.declared.outcome.WrongInputs.TheVariants as wrong
-use Rattle.ps_c_texts.specs.Checks.{HasItsLengths, WhyUnnamed, told_report}
-use Rattle.ps_c_texts.specs.Printed.{HasInputs, HavePlaces, IsMade, IsPrinted, IsPut, IsTold, MayLackMemory, WhyBytesUnput, WhyUnprinted, WhyUnprintedBy, WhyUnput, is_of_host, no_paths, report_form}
+use Rattle.ps_c_texts.specs.Checks.{HasItsLengths, WhyUnnamed, report_bytes, told_report}
+use Rattle.ps_c_texts.specs.Kinds.{kind_of_report, report_text}
+use Rattle.ps_c_texts.specs.Printed.{HasInputs, HavePlaces, IsMade, IsPrinted, IsPut, IsTold, MayLackMemory, WhyBytesUnput, WhyUnprinted, WhyUnprintedBy, WhyUnput, is_of_host, no_paths}
+use Rattle.ps_c_texts.specs.declared.kinds.ReportText.{ReportText}
+use Rattle.ps_c_texts.specs.declared.kinds.ReportText.TheVariants as of_report
 
-no_form : (form : Form) → None ≡ Some form → ⊥
-no_form form e = true≢false (sym (ap (λ (o : Option Form). is_some o) e))
+no_report : (what : ReportText) → None ≡ Some what → ⊥
+no_report what e = true≢false (sym (ap (λ (o : Option ReportText). is_some o) e))
 
--- a report that was put, and one that was not
-module _ (form : Form) (names : List (List ℕ)) (host : List ℕ) (libs : List (List ℕ))
+-- there may be no memory for a report
+pub report_lacks : (what : ReportText) (room : List ℕ) (names : List (List ℕ)) (host : List ℕ)
+    (libs : List (List ℕ))
+    → WhyUnput (kind_of_report what) room names host libs (unput.Unmade Memory)
+unfolding WhyUnput
+report_lacks (of_report.Whole form) room names host libs = inl tt
+report_lacks (of_report.Findings form) room names host libs = inl tt
+
+-- what is printed of a report that was put, and of one that was not
+module _ (what : ReportText) (names : List (List ℕ)) (host : List ℕ) (libs : List (List ℕ))
     (r : Reported) (is : IsReport names host libs r) where
-  is_made : IsMade (kind.Named (of_named.Check form)) names host libs (printed_report form r)
-  is_made = (
+  is_made : (text : ReportText) → IsMade (kind_of_report text) names host libs (report_bytes text r)
+  is_made (of_report.Whole form) = (
     check_status false (warnings_of_files names host libs) r.verdict,
     (r, is, refl, refl),
   )
+  is_made (of_report.Findings form) = (0, (refl, (r, is, refl)))
+
+  is_told : (text : ReportText) (d : Done)
+      → d ≡ told_report r (length (report_bytes text r))
+      → IsTold (report_text (kind_of_report text)) names host libs (report_bytes text r) d
+  is_told (of_report.Whole form) d told = (r, is, refl, told)
+  is_told (of_report.Findings form) d told = (r, is, refl, told)
 
   pub report_put : (old new : List ℕ) (size : ℕ) (d : Done)
-      → RoomBeginsWith (printed_report form r) old new
-      → size ≡ length (printed_report form r) → d ≡ told_report r size
-      → IsPut (kind.Named (of_named.Check form)) names host libs old new d
+      → RoomBeginsWith (report_bytes what r) old new
+      → size ≡ length (report_bytes what r) → d ≡ told_report r size
+      → IsPut (kind_of_report what) names host libs old new d
   unfolding IsPut
   report_put old new size d begins e told = (
-    printed_report form r,
-    is_made,
+    report_bytes what r,
+    is_made what,
     begins,
-    (r, is, refl, told ∙ ap (λ (n : ℕ). told_report r n) e),
+    is_told what d (told ∙ ap (λ (n : ℕ). told_report r n) e),
   )
 
   pub report_unput : (room : List ℕ) (why : Unput)
-      → WhyBytesUnput (printed_report form r) room why
-      → WhyUnput (kind.Named (of_named.Check form)) room names host libs why
+      → WhyBytesUnput (report_bytes what r) room why
+      → WhyUnput (kind_of_report what) room names host libs why
   unfolding WhyUnput
   report_unput room (unput.Unmade (Refused refusal)) h = absurd h
-  report_unput room (unput.Unmade Memory) h = inl tt
-  report_unput room (unput.TooSmall t) h = (printed_report form r, is_made, h)
+  report_unput room (unput.Unmade Memory) h = report_lacks what room names host libs
+  report_unput room (unput.TooSmall t) h = (report_bytes what r, is_made what, h)
 
--- there may be no memory for a report
-pub report_lacks : (form : Form) (room : List ℕ) (names : List (List ℕ)) (host : List ℕ)
-    (libs : List (List ℕ))
-    → WhyUnput (kind.Named (of_named.Check form)) room names host libs (unput.Unmade Memory)
-unfolding WhyUnput
-report_lacks form room names host libs = inl tt
+-- a text that is made of a report
+is_report : (k : TextKind) (what : ReportText) → report_text k ≡ Some what
+    → k ≡ kind_of_report what
+is_report (kind.Named (of_named.Check found)) what e =
+    ap (λ (o : Option ReportText). kind_of_report (unwrap_or o what)) e
+is_report (kind.Named (of_named.Findings found)) what e =
+    ap (λ (o : Option ReportText). kind_of_report (unwrap_or o what)) e
+is_report (kind.Named (of_named.List how)) what e = absurd (no_report what e)
+is_report (kind.OfLink text found) what e = absurd (no_report what e)
+is_report (kind.OfHost text) what e = absurd (no_report what e)
+is_report kind.Wanted what e = absurd (no_report what e)
 
--- a text that is a report
-is_report : (k : TextKind) (form : Form) → report_form k ≡ Some form
-    → k ≡ kind.Named (of_named.Check form)
-is_report (kind.Named (of_named.Check found)) form e =
-    ap (λ (f : Option Form). kind.Named (of_named.Check (unwrap_or f form))) e
-is_report (kind.Named (of_named.Findings found)) form e = absurd (no_form form e)
-is_report (kind.Named (of_named.List how)) form e = absurd (no_form form e)
-is_report (kind.OfLink what found) form e = absurd (no_form form e)
-is_report (kind.OfHost what) form e = absurd (no_form form e)
-is_report kind.Wanted form e = absurd (no_form form e)
-
-pub is_report_put : (k : TextKind) (form : Form) (names : List (List ℕ)) (host : List ℕ)
-    (libs : List (List ℕ)) (old new : List ℕ) (d : Done) → report_form k ≡ Some form
-    → IsPut (kind.Named (of_named.Check form)) names host libs old new d
+pub is_report_put : (k : TextKind) (what : ReportText) (names : List (List ℕ)) (host : List ℕ)
+    (libs : List (List ℕ)) (old new : List ℕ) (d : Done) → report_text k ≡ Some what
+    → IsPut (kind_of_report what) names host libs old new d
     → IsPut k names host libs old new d
-is_report_put k form names host libs old new d e h =
-    subst (λ (t : TextKind). IsPut t names host libs old new d) (sym (is_report k form e)) h
+is_report_put k what names host libs old new d e h =
+    subst (λ (t : TextKind). IsPut t names host libs old new d) (sym (is_report k what e)) h
 
-pub is_report_unput : (k : TextKind) (form : Form) (room : List ℕ) (names : List (List ℕ))
-    (host : List ℕ) (libs : List (List ℕ)) (why : Unput) → report_form k ≡ Some form
-    → WhyUnput (kind.Named (of_named.Check form)) room names host libs why
+pub is_report_unput : (k : TextKind) (what : ReportText) (room : List ℕ)
+    (names : List (List ℕ)) (host : List ℕ) (libs : List (List ℕ)) (why : Unput)
+    → report_text k ≡ Some what → WhyUnput (kind_of_report what) room names host libs why
     → WhyUnput k room names host libs why
-is_report_unput k form room names host libs why e h =
-    subst (λ (t : TextKind). WhyUnput t room names host libs why) (sym (is_report k form e)) h
+is_report_unput k what room names host libs why e h =
+    subst (λ (t : TextKind). WhyUnput t room names host libs why) (sym (is_report k what e)) h
 
--- a text that is no report and was put, or was not
+-- a text that is not made of a report and was put, or was not
 module _ (k : TextKind) (names : List (List ℕ)) (host : List ℕ) (libs : List (List ℕ)) where
   pub other_put : {A : Type 0} (t : FilesText A) (old new : List ℕ) (size : ℕ)
-      → report_form k ≡ None → IsMadeOf k names host libs t
+      → report_text k ≡ None → IsMadeOf k names host libs t
       → RoomBeginsWith (bytes_in t) old new → size ≡ length (bytes_in t)
       → IsPut k names host libs old new (done.Text size)
   unfolding IsPut
@@ -115,7 +126,7 @@ module _ (k : TextKind) (names : List (List ℕ)) (host : List ℕ) (libs : List
     bytes_in t,
     (status_in false t, made false),
     begins,
-    subst (λ (f : Option Form). IsTold f names host libs (bytes_in t) (done.Text size))
+    subst (λ (r : Option ReportText). IsTold r names host libs (bytes_in t) (done.Text size))
         (sym none) (ap (λ (n : ℕ). done.Text n) e),
   )
 
@@ -215,8 +226,8 @@ module _ (given names : List (List ℕ)) (host : List ℕ) (libs : List (List �
   any_made (kind.Named what) bytes none h = absurd (true≢false none)
 
   any_told : (k : TextKind) (bytes : List ℕ) (d : Done) → needs_names k ≡ false
-      → IsTold (report_form k) given host libs bytes d
-      → IsTold (report_form k) names host libs bytes d
+      → IsTold (report_text k) given host libs bytes d
+      → IsTold (report_text k) names host libs bytes d
   any_told (kind.OfLink what form) bytes d none h = h
   any_told (kind.OfHost what) bytes d none h = h
   any_told kind.Wanted bytes d none h = h
@@ -264,8 +275,8 @@ module _ (names : List (List ℕ)) (host : List ℕ) (libs : List (List ℕ)) wh
   host_made (kind.Named what) bytes alone h = absurd (true≢false (sym alone))
 
   host_told : (k : TextKind) (bytes : List ℕ) (d : Done) → is_of_host k ≡ true
-      → IsTold (report_form k) names host [] bytes d
-      → IsTold (report_form k) names host libs bytes d
+      → IsTold (report_text k) names host [] bytes d
+      → IsTold (report_text k) names host libs bytes d
   host_told (kind.OfLink what form) bytes d alone h = absurd (true≢false (sym alone))
   host_told (kind.OfHost what) bytes d alone h = h
   host_told kind.Wanted bytes d alone h = absurd (true≢false (sym alone))

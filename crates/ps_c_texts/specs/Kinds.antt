@@ -9,6 +9,8 @@ use Rattle.ps_texts.specs.declared.kinds.LinkText.TheVariants as of_link
 use Rattle.ps_texts.specs.declared.kinds.NamedText.TheVariants as of_named
 use Rattle.ps_texts.specs.declared.kinds.TextKind.{TextKind}
 use Rattle.ps_texts.specs.declared.kinds.TextKind.TheVariants as kind
+use Rattle.ps_c_texts.specs.declared.kinds.ReportText.{ReportText}
+use Rattle.ps_c_texts.specs.declared.kinds.ReportText.TheVariants as of_report
 use Rattle.ps_c_texts.specs.declared.kinds.TheConstants.{JSON, TEXT_CHECK, TEXT_FINDINGS, TEXT_HAD, TEXT_LIST, TEXT_MAP, TEXT_REFERENCES, TEXT_SHOW, TEXT_UNITS, TEXT_WANTED}
 
 -- how files are listed in this form
@@ -40,3 +42,14 @@ text_kind what =
     else if what == TEXT_HAD then Some (kind.OfHost of_host.Had)
     else if nat_lt what JSON then kind_in what form.Lines
     else kind_in (what - JSON) form.Json
+
+-- what of a report a text is, where it is made of one
+abbrev pub report_text : TextKind → Option ReportText
+report_text (kind.Named (of_named.Check form)) = Some (of_report.Whole form)
+report_text (kind.Named (of_named.Findings form)) = Some (of_report.Findings form)
+report_text k = None
+
+-- the text that is this of a report
+abbrev pub kind_of_report : ReportText → TextKind
+kind_of_report (of_report.Whole form) = kind.Named (of_named.Check form)
+kind_of_report (of_report.Findings form) = kind.Named (of_named.Findings form)

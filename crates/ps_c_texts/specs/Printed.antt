@@ -4,10 +4,8 @@ use Rattle.ps_linkfile.specs.declared.unmade.Unmade.TheVariants.{Refused, Memory
 use Rattle.ps_texts.specs.Kinds.{needs_names}
 use Rattle.ps_texts.specs.Texts.{IsTextOf}
 use Rattle.ps_texts.specs.Unmade.{CanLackMemory, IsRefusedFor}
-use Rattle.ps_texts.specs.declared.kinds.NamedText.TheVariants as of_named
 use Rattle.ps_texts.specs.declared.kinds.TextKind.{TextKind}
 use Rattle.ps_texts.specs.declared.kinds.TextKind.TheVariants as kind
-use Rattle.ps_writing.specs.declared.rows.Form.{Form}
 use Rattle.ps_c_link.specs.Libraries.{split}
 use Rattle.ps_c_link.specs.Rooms.{RoomBeginsWith}
 use Rattle.ps_c_link.specs.WhyUnmade.{IsAbove, WhyWrong}
@@ -20,11 +18,8 @@ use Rattle.ps_c_link.specs.declared.outcome.TooSmall.{TooSmall}
 use Rattle.ps_c_link.specs.declared.outcome.Unput.{Unput}
 use Rattle.ps_c_link.specs.declared.outcome.Unput.TheVariants as unput
 use Rattle.ps_c_texts.specs.Checks.{IsToldReport}
-
--- the form of a report, of a text that is one
-abbrev pub report_form : TextKind → Option Form
-report_form (kind.Named (of_named.Check form)) = Some form
-report_form k = None
+use Rattle.ps_c_texts.specs.Kinds.{report_text}
+use Rattle.ps_c_texts.specs.declared.kinds.ReportText.{ReportText}
 
 -- the text is of the host's file alone, and no library is looked at
 abbrev pub is_of_host : TextKind → Bool
@@ -47,11 +42,11 @@ abbrev pub IsMade : TextKind → List (List ℕ) → List ℕ → List (List ℕ
     → Type 0
 IsMade k names host libs text = (status : ℕ) × IsTextOf k false names host libs status text
 
--- what is told of a text that was put: its length, and of a report in some form what it says
-abbrev pub IsTold : Option Form → List (List ℕ) → List ℕ → List (List ℕ) → List ℕ
+-- what is told of a text that was put: its length, and of one that is made of a report what that says
+abbrev pub IsTold : Option ReportText → List (List ℕ) → List ℕ → List (List ℕ) → List ℕ
     → Done → Type 0
 IsTold None names host libs text d = d ≡ done.Text (length text)
-IsTold (Some form) names host libs text d = IsToldReport form names host libs text d
+IsTold (Some what) names host libs text d = IsToldReport what names host libs text d
 
 -- memory may be refused while the text is made, and once it is made, for its bytes
 abbrev pub MayLackMemory : TextKind → List (List ℕ) → List ℕ → List (List ℕ) → Type 0
@@ -68,7 +63,7 @@ WhyBytesUnput bytes room (unput.TooSmall t) = IsAbove bytes room t
 unfoldable pub IsPut : TextKind → List (List ℕ) → List ℕ → List (List ℕ) → List ℕ
     → List ℕ → Done → Type 0
 IsPut k names host libs old new d = (text : List ℕ) × IsMade k names host libs text
-    × RoomBeginsWith text old new × IsTold (report_form k) names host libs text d
+    × RoomBeginsWith text old new × IsTold (report_text k) names host libs text d
 
 -- the text has so many bytes, and there is less room
 abbrev pub IsLong : TextKind → List ℕ → List (List ℕ) → List ℕ → List (List ℕ)

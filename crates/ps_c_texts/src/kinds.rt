@@ -1,6 +1,6 @@
 //! The texts that there are, by their numbers.
 ghost use Rattle.std.specs.Prelude.{◌≡◌};
-ghost use Rattle.ps_c_texts.specs.Kinds.{kind_in as kind_in_spec, list_in as list_in_spec, text_kind as text_kind_spec, units_in as units_in_spec};
+ghost use Rattle.ps_c_texts.specs.Kinds.{kind_in as kind_in_spec, list_in as list_in_spec, report_text as report_text_spec, text_kind as text_kind_spec, units_in as units_in_spec};
 
 use ps_texts::{Form, HostText, LinkText, ListForm, NamedText, TextKind};
 
@@ -33,6 +33,15 @@ pub const TEXT_HAD: u32 = 8;
 
 /// What is added to the number of a text whose form is a JSON document.
 pub const JSON: u32 = 256;
+
+/// A text that is made of a report on files, so that its answer has what the report says of them.
+#[derive(Clone, Copy)]
+pub enum ReportText {
+    /// The report.
+    Whole(Form),
+    /// What it finds, one by one.
+    Findings(Form),
+}
 
 /// How files are listed in this form.
 fn list_in(form: Form) -> ListForm
@@ -85,5 +94,16 @@ pub fn text_kind(what: u32) -> Option<TextKind>
                 kind_in(what - JSON, Form::Json)
             }
         }
+    }
+}
+
+/// What of a report a text is, where it is made of one.
+pub(crate) fn report_text(kind: TextKind) -> Option<ReportText>
+    ensures { result ≡ report_text_spec kind }
+{
+    match kind {
+        TextKind::Named(NamedText::Check(form)) => Some(ReportText::Whole(form)),
+        TextKind::Named(NamedText::Findings(form)) => Some(ReportText::Findings(form)),
+        _ => None,
     }
 }

@@ -2,18 +2,18 @@
 ghost use Rattle.std.specs.Prelude.{◌≡◌, IfErr, IfOk, None, OnErr, OnOk, length};
 ghost use Rattle.ps_resolve.specs.Sources.{contents};
 ghost use Rattle.ps_report.specs.Reported.{reported};
-ghost use Rattle.ps_report.specs.Reports.{IsReport, printed_report};
+ghost use Rattle.ps_report.specs.Reports.{IsReport};
 ghost use Rattle.ps_texts.specs.Paths.{paths_in};
 ghost use Rattle.ps_c_link.specs.Rooms.{RoomBeginsWith};
-ghost use Rattle.ps_c_texts.specs.Checks.{told_report, told_verdict as told_verdict_spec};
-ghost use Rattle.ps_c_texts.specs.Printed.{IsPut, WhyBytesUnput, WhyUnput, report_form as report_form_spec};
-ghost use Rattle.ps_texts.specs.declared.kinds.NamedText.TheVariants.{Check};
-ghost use Rattle.ps_texts.specs.declared.kinds.TextKind.TheVariants.{Named};
+ghost use Rattle.ps_c_texts.specs.Checks.{report_bytes, told_report, told_verdict as told_verdict_spec};
+ghost use Rattle.ps_c_texts.specs.Kinds.{kind_of_report, report_text as report_text_spec};
+ghost use Rattle.ps_c_texts.specs.Printed.{IsPut, WhyBytesUnput, WhyUnput};
 
+use crate::kinds::{ReportText, report_text};
 use crate::room::put;
 use ps_c_link::{Done, Unput, Verdict};
-use ps_report::{PrintedReport, Report, Verdict as ReportVerdict, check};
-use ps_texts::{Form, NamedFiles, NamedText, Refusal, TextKind, Unmade, text_of};
+use ps_report::{PrintedFindings, PrintedReport, Report, Verdict as ReportVerdict, check};
+use ps_texts::{Form, NamedFiles, Refusal, TextKind, Unmade, text_of};
 use ps_words::Name;
 use ps_writing::{Text, in_memory};
 use std::alloc::{AllocError, Allocator};
@@ -48,25 +48,25 @@ fn put_text<T: Text, A: Allocator + Copy>(
     }
 }
 
-/// Puts a report in the room, in one of its forms, and returns how many bytes it has.
+/// Puts what is printed of a report in the room, and returns how many bytes it has.
 fn put_printed<A: Allocator + Copy>(
     alloc: A,
-    form: Form,
+    what: ReportText,
     report: &Report<'_, A>,
     room: &mut [u8],
 ) -> Result<usize, Unput>
-    ensures text { OnOk result (RoomBeginsWith (printed_report form (reported report.now))
+    ensures text { OnOk result (RoomBeginsWith (report_bytes what (reported report.now))
         room.old room.new) }
-    ensures size { IfOk result (λ size. size
-        ≡ length (printed_report form (reported report.now))) }
-    ensures unput { IfErr result (WhyBytesUnput (printed_report form (reported report.now))
+    ensures size { IfOk result (λ size. size ≡ length (report_bytes what (reported report.now))) }
+    ensures unput { IfErr result (WhyBytesUnput (report_bytes what (reported report.now))
         room.old) }
     ensures untouched { OnErr result (room.new ≡ room.old) }
 {
-    match form {
+    match what {
         // The lines are in memory.
-        Form::Lines => put_bytes(report.text.as_bytes(), room),
-        Form::Json => put_text(alloc, &PrintedReport { form, report }, room),
+        ReportText::Whole(Form::Lines) => put_bytes(report.text.as_bytes(), room),
+        ReportText::Whole(form) => put_text(alloc, &PrintedReport { form, report }, room),
+        ReportText::Findings(form) => put_text(alloc, &PrintedFindings { form, report }, room),
     }
 }
 
@@ -80,7 +80,7 @@ fn told_verdict(verdict: ReportVerdict, name: Option<Name>) -> Verdict
     }
 }
 
-/// What is told of a report that was put in a room, as so many bytes.
+/// What is told of a report of which so many bytes were put in a room.
 fn told<A: Allocator + Copy>(report: &Report<'_, A>, size: usize) -> Done
     ensures { result ≡ told_report (reported report.now) size }
 {
@@ -104,51 +104,51 @@ fn report_on<'a, A: Allocator + Copy>(
     Ok(report)
 }
 
-/// Puts a report on these files in the room, in one of its forms. The verdict that is told, and the
+/// Puts what is printed of a report on these files in the room. The verdict that is told, and the
 /// number of warnings, are those of this report.
 fn put_told<A: Allocator + Copy>(
     alloc: A,
-    form: Form,
+    what: ReportText,
     files: &NamedFiles<'_>,
     report: &Report<'_, A>,
     room: &mut [u8],
 ) -> Result<Done, Unput>
     requires { IsReport (paths_in files.now) files.now.host.now (contents files.now.libs.now)
         (reported report.now) }
-    ensures put { IfOk result (IsPut (Named (Check form)) (paths_in files.now) files.now.host.now
+    ensures put { IfOk result (IsPut (kind_of_report what) (paths_in files.now) files.now.host.now
         (contents files.now.libs.now) room.old room.new) }
-    ensures unput { IfErr result (WhyUnput (Named (Check form)) room.old (paths_in files.now)
+    ensures unput { IfErr result (WhyUnput (kind_of_report what) room.old (paths_in files.now)
         files.now.host.now (contents files.now.libs.now)) }
     ensures untouched { OnErr result (room.new ≡ room.old) }
 {
-    match put_printed(alloc, form, report, room) {
+    match put_printed(alloc, what, report, room) {
         Ok(size) => Ok(told(report, size)),
         Err(why) => Err(why),
     }
 }
 
-/// Puts the report on these files in the room, in one of its forms.
+/// Puts what is printed of the report on these files in the room.
 #[inline(never)]
 #[tactic(auto, using(crate::proofs::PutTexts::report_lacks))]
 fn put_report<A: Allocator + Copy>(
     alloc: A,
-    form: Form,
+    what: ReportText,
     files: &NamedFiles<'_>,
     room: &mut [u8],
 ) -> Result<Done, Unput>
-    ensures put { IfOk result (IsPut (Named (Check form)) (paths_in files.now) files.now.host.now
+    ensures put { IfOk result (IsPut (kind_of_report what) (paths_in files.now) files.now.host.now
         (contents files.now.libs.now) room.old room.new) }
-    ensures unput { IfErr result (WhyUnput (Named (Check form)) room.old (paths_in files.now)
+    ensures unput { IfErr result (WhyUnput (kind_of_report what) room.old (paths_in files.now)
         files.now.host.now (contents files.now.libs.now)) }
     ensures untouched { OnErr result (room.new ≡ room.old) }
 {
     match report_on(alloc, files) {
-        Ok(report) => put_told(alloc, form, files, &report, room),
+        Ok(report) => put_told(alloc, what, files, &report, room),
         Err(_) => Err(Unput::Unmade(Unmade::Memory)),
     }
 }
 
-/// Puts a text of these files in the room that is no report.
+/// Puts a text of these files in the room that is not made of a report.
 #[inline(never)]
 #[tactic(auto, using(crate::proofs::PutTexts::other_put, crate::proofs::PutTexts::other_unput, crate::proofs::PutTexts::other_unmade))]
 fn put_other<A: Allocator + Copy>(
@@ -157,7 +157,7 @@ fn put_other<A: Allocator + Copy>(
     files: &NamedFiles<'_>,
     room: &mut [u8],
 ) -> Result<Done, Unput>
-    requires { report_form_spec kind ≡ None }
+    requires { report_text_spec kind ≡ None }
     ensures put { IfOk result (IsPut kind (paths_in files.now) files.now.host.now
         (contents files.now.libs.now) room.old room.new) }
     ensures unput { IfErr result (WhyUnput kind room.old (paths_in files.now)
@@ -170,16 +170,6 @@ fn put_other<A: Allocator + Copy>(
             Err(why) => Err(why),
         },
         Err(why) => Err(Unput::Unmade(why)),
-    }
-}
-
-/// The form of a report, of a text that is one.
-fn report_form(kind: TextKind) -> Option<Form>
-    ensures { result ≡ report_form_spec kind }
-{
-    match kind {
-        TextKind::Named(NamedText::Check(form)) => Some(form),
-        _ => None,
     }
 }
 
@@ -198,8 +188,8 @@ pub(crate) fn put_made<A: Allocator + Copy>(
         files.now.host.now (contents files.now.libs.now)) }
     ensures untouched { OnErr result (room.new ≡ room.old) }
 {
-    match report_form(kind) {
-        Some(form) => put_report(alloc, form, files, room),
+    match report_text(kind) {
+        Some(what) => put_report(alloc, what, files, room),
         None => put_other(alloc, kind, files, room),
     }
 }

@@ -1,3 +1,4 @@
 pub mod Paths
 pub mod Lengths
 pub mod Origins
+pub mod SeenFacts

@@ -1,3 +1,4 @@
+pub mod Failed
 pub mod Linked
 pub mod ListsPrinted
 pub mod Unread

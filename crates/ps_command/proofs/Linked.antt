@@ -3,24 +3,29 @@ use Rattle.std.proofs.Common.{◌≡◌, ◌⊎◌, ◌∷◌, Bool, List, None,
 use Rattle.std.specs.Prelude.{IsSomeAnd, option_map}
 use Rattle.std.specs.List.{AllZip}
 use Rattle.ps_arguments.specs.CommandLine.{Row, Text}
-use Rattle.ps_arguments.specs.Requests.{NamesLink, has_output, is_quiet, map_file}
+use Rattle.ps_arguments.specs.Outputs.{form_of, map_content, out_by, telling}
+use Rattle.ps_arguments.specs.Requests.{NamesLink, has_output, has_references, is_json, is_quiet, map_file}
 use Rattle.ps_arguments.specs.declared.request.Link.{Link}
 use Rattle.ps_linkfile.specs.LinkedFile.{summary_of}
 use Rattle.ps_output_files.proofs.Logs.{all_weaker, part_weaker}
+use Rattle.ps_output_files.proofs.Unwritten.{fails_weaker}
 use Rattle.ps_output_files.specs.Links.{IsMapText, IsPlaceOf, MapIsApart}
 use Rattle.ps_output_files.specs.Log.{AddsAll, AddsPart}
 use Rattle.ps_output_files.specs.Places.{IsPlace, PrintsAt}
 use Rattle.ps_output_files.specs.SummaryLine.{summary_text}
+use Rattle.ps_output_files.specs.Unwritten.{FailsToWrite}
 use Rattle.ps_output_files.specs.World.{Reads, World, unknown_world}
 use Rattle.ps_output_files.specs.declared.linking.Place.{Place}
 use Rattle.ps_output_files.specs.declared.linking.Place.TheVariants as place
 use Rattle.ps_output_files.specs.declared.unlinked.Unlinked.{Unlinked}
 use Rattle.ps_output_files.specs.declared.unlinked.Unlinked.TheVariants as unlinked
+use Rattle.ps_writing.specs.Prefixes.{AppendsPrefix}
 use Rattle.ps_resolve.specs.Standing.{NoneStands}
 use Rattle.ps_texts.specs.Texts.{IsTextOf}
 use Rattle.ps_words.specs.declared.fault.Fault.{Fault}
-use Rattle.ps_command.specs.Links.{IsLinked, LeavesPart, outputs_of}
-use Rattle.ps_command.specs.Printed.{IsMapNamed, LinkLeavesPart, LinksOrRefuses, Prints, TellsOnError, form_of, map_content, map_kind, out_by, telling}
+use Rattle.ps_command.specs.Failures.{FailsRead, FailsToLink}
+use Rattle.ps_command.specs.Links.{FailsLink, IsLinked, LeavesPart, is_document}
+use Rattle.ps_command.specs.Printed.{IsMapNamed, LinkLeavesPart, LinksOrRefuses, Prints, TellsOnError, map_kind}
 use Rattle.ps_command.specs.Statuses.{ended_status}
 use Rattle.ps_command.specs.declared.ended.Ended.{Ended}
 use Rattle.ps_command.specs.declared.ended.Ended.TheVariants as ended
@@ -34,6 +39,11 @@ as_text false false paths host libs text none is = (none, refl, is)
 as_text false true paths host libs text none is = (none, refl, is)
 as_text true false paths host libs text none is = (none, refl, is)
 as_text true true paths host libs text none is = (none, refl, is)
+
+-- a document is asked for where the form is that of the flag
+as_document : (json : Bool) → is_document (form_of json) ≡ json
+as_document false = refl
+as_document true = refl
 
 -- what is refused is no fault of standard output
 pub not_output : (f : Fault) (e : Unlinked) → e ≡ unlinked.Refused f
@@ -92,7 +102,8 @@ prints_unknown named status before after now old new old_err new_err prints = (
               done.1.6.4,
               done.1.6.5,
               done.1.6.6,
-              apart_unknown (map_file prints.0) done.1.0 done.1.6.0 before now done.1.6.7,
+              done.1.6.7,
+              apart_unknown (map_file prints.0) done.1.0 done.1.6.0 before now done.1.6.8,
             ),
             done.1.7,
             done.1.8,
@@ -108,22 +119,22 @@ prints_unknown named status before after now old new old_err new_err prints = (
 module _ {S A : Type 0} (world : S → World) (before : S) (link : Link A) (rows : List Row)
     (names : NamesLink (world before).one_file link rows) where
   -- where the summary of the link that is asked for is printed
-  pub placed : (where_to : Place) → IsPlaceOf (world before) (outputs_of link) where_to
-      → IsPlace (world before).leads (telling (is_quiet rows)) (out_by (has_output rows)) link.out.now (map_file rows)
-      where_to
+  pub placed : (where_to : Place) → IsPlaceOf (world before) link.outputs where_to
+      → IsPlace (world before).leads (telling (is_quiet rows)) (out_by (has_output rows))
+      link.outputs.out.now (map_file rows) where_to
   placed where_to is =
-      let found : IsPlace (world before).leads (telling link.quiet) (out_by link.by_option) link.out.now
-      (option_map (λ path. path.now) link.map) where_to = is in
-      rw (names.quiet, names.by_option, names.map_file) at found
+      let found : IsPlace (world before).leads link.outputs.telling link.outputs.named
+      link.outputs.out.now (option_map (λ path. path.now) link.outputs.map) where_to = is in
+      rw (names.outputs.telling, names.outputs.named, names.outputs.map_file) at found
 
   -- the text of its map is that which `map` prints
   mapped : (paths : List Text) (host : List ℕ) (libs : List (List ℕ)) → NoneStands host libs
-      → (text : List ℕ) → IsMapText (map_content link.references) (form_of link.json) host libs text
+      → (text : List ℕ) → IsMapText link.outputs.content link.outputs.form host libs text
       → IsMapNamed rows paths host libs text
   mapped paths host libs none text is =
-      let named : IsTextOf (map_kind link.references link.json) false paths host libs 0 text =
-      as_text link.references link.json paths host libs text none is in
-      rw (names.references, names.json) at named
+      let named : IsMapText (map_content (has_references rows)) (form_of (is_json rows)) host libs
+      text = rw (names.outputs.content, names.outputs.form) at is in
+      as_text (has_references rows) (is_json rows) paths host libs text none named
 
   -- a link of files that were read ends as the link that is asked for
   pub links_or_refuses : (after : S) (host : List ℕ) (libs : List (List ℕ)) (e : Ended)
@@ -137,18 +148,18 @@ module _ {S A : Type 0} (world : S → World) (before : S) (link : Link A) (rows
   links_or_refuses after host libs ended.Done old new old_err new_err read all linked =
       let paths = map (λ path. path.now) link.inputs.libraries.items in
       let wrote = linked.0 in
-      let file = option_map (λ path. path.now) link.map in
-      let adds : AddsAll link.out.now file wrote.0
+      let file = option_map (λ path. path.now) link.outputs.map in
+      let adds : AddsAll link.outputs.out.now file wrote.0
       (IsMapNamed rows (link.inputs.host.now ∷ paths) host libs) (world before).log
-      (world after).log = all_weaker link.out.now file wrote.0 (world before).log (world after).log
+      (world after).log = all_weaker link.outputs.out.now file wrote.0 (world before).log (world after).log
       (mapped (link.inputs.host.now ∷ paths) host libs wrote.1.accepted) wrote.2 in
-      let apart : MapIsApart world file link.out.now wrote.0 before = wrote.3 in
-      let told : PrintsAt linked.1.0 (summary_text (form_of link.json) (summary_of host libs)) old new
+      let apart : MapIsApart world file link.outputs.out.now wrote.0 before = wrote.3 in
+      let told : PrintsAt linked.1.0 (summary_text link.outputs.form (summary_of host libs)) old new
       old_err new_err = linked.1.2 in
       inl (
         refl,
         (
-          link.out.now,
+          link.outputs.out.now,
           paths,
           host,
           libs,
@@ -160,21 +171,23 @@ module _ {S A : Type 0} (world : S → World) (before : S) (link : Link A) (rows
             all,
             wrote.1,
             names.no_library,
+            names.no_host,
             names.apart,
-            rw names.map_file at adds,
-            rw names.map_file at apart,
+            rw names.outputs.map_file at adds,
+            rw names.outputs.map_file at apart,
           ),
           placed linked.1.0 linked.1.1,
-          rw names.json at told,
+          rw names.outputs.form at told,
         ),
       )
   links_or_refuses after host libs ended.Refused old new old_err new_err read all refused =
       let paths = map (λ path. path.now) link.inputs.libraries.items in
+      let told = rw (names.outputs.form, as_document (is_json rows)) at refused.2 in
       inr (
-        link.out.now,
+        link.outputs.out.now,
         paths,
         names.files,
-        (refl, host, libs, refused.0, read, all, refused.1, rw names.json at refused.2),
+        (refl, host, libs, refused.0, read, all, refused.1, told),
         refused.3,
       )
   links_or_refuses after host libs ended.Unread old new old_err new_err read all none =
@@ -188,12 +201,12 @@ module _ {S A : Type 0} (world : S → World) (before : S) (link : Link A) (rows
       → LinkLeavesPart world rows link.inputs.host.now before after
   leaves_part after host libs read all part =
       let paths = map (λ path. path.now) link.inputs.libraries.items in
-      let file = option_map (λ path. path.now) link.map in
-      let adds : AddsPart link.out.now file part.0
+      let file = option_map (λ path. path.now) link.outputs.map in
+      let adds : AddsPart link.outputs.out.now file part.0
       (IsMapNamed rows (link.inputs.host.now ∷ paths) host libs) (world before).log
-      (world after).log = part_weaker link.out.now file part.0 (world before).log (world after).log
+      (world after).log = part_weaker link.outputs.out.now file part.0 (world before).log (world after).log
       (mapped (link.inputs.host.now ∷ paths) host libs part.1.accepted) part.2 in (
-        link.out.now,
+        link.outputs.out.now,
         paths,
         host,
         libs,
@@ -202,15 +215,63 @@ module _ {S A : Type 0} (world : S → World) (before : S) (link : Link A) (rows
         read,
         all,
         part.1,
-        rw names.map_file at adds,
+        rw names.outputs.map_file at adds,
       )
+
+  -- a link of files that were read fails as the link that is asked for
+  fails_read : (after : S) (host : List ℕ) (libs : List (List ℕ)) (old new : Option (List ℕ))
+      → FailsLink world link
+      (link.inputs.host.now ∷ map (λ path. path.now) link.inputs.libraries.items) host libs before
+      after old new
+      → FailsRead world rows link.inputs.host.now link.outputs.out.now
+      (map (λ path. path.now) link.inputs.libraries.items) host libs before after old new
+  fails_read after host libs old new (inl refused) =
+      inl (refused.0, refused.1, rw (names.outputs.form, as_document (is_json rows)) at refused.2, refused.3)
+  fails_read after host libs old new (inr wrote) =
+      let paths = map (λ path. path.now) link.inputs.libraries.items in
+      let file = option_map (λ path. path.now) link.outputs.map in
+      let none = wrote.1.accepted in
+      inr (
+        wrote.0,
+        wrote.1,
+        elim wrote.2 [
+          | inl part ↦
+              let fails : FailsToWrite (world before) (world after) link.outputs.out.now file wrote.0
+              (IsMapNamed rows (link.inputs.host.now ∷ paths) host libs) part.0 =
+              fails_weaker (world before) (world after) link.outputs.out.now file wrote.0 part.0
+              (mapped (link.inputs.host.now ∷ paths) host libs none) part.1 in
+              inl (part.0, rw names.outputs.map_file at fails, part.2)
+          | inr all ↦
+              let adds : AddsAll link.outputs.out.now file wrote.0
+              (IsMapNamed rows (link.inputs.host.now ∷ paths) host libs) (world before).log
+              (world after).log = all_weaker link.outputs.out.now file wrote.0 (world before).log
+              (world after).log (mapped (link.inputs.host.now ∷ paths) host libs none) all.0 in
+              let some : AppendsPrefix old new
+              (summary_text link.outputs.form (summary_of host libs)) = all.2 in
+              inr (rw names.outputs.map_file at adds, placed place.Output all.1, rw names.outputs.form at some)
+        ],
+      )
+
+  pub fails_to_link : (after : S) (host : List ℕ) (libs : List (List ℕ)) (old new : Option (List ℕ))
+      → Reads (world before) link.inputs.host.now host
+      → AllZip (Reads (world before)) (map (λ path. path.now) link.inputs.libraries.items) libs
+      → FailsLink world link
+      (link.inputs.host.now ∷ map (λ path. path.now) link.inputs.libraries.items) host libs before
+      after old new
+      → FailsToLink world rows link.inputs.host.now before after old new
+  fails_to_link after host libs old new read all failed = (
+    link.outputs.out.now,
+    map (λ path. path.now) link.inputs.libraries.items,
+    names.files,
+    inr (host, libs, read, all, fails_read after host libs old new failed),
+  )
 
   -- its summary is printed on standard error
   pub tells : (named : Option (Text × List Row)) → named ≡ Some (codes "link", rows)
-      → IsPlaceOf (world before) (outputs_of link) place.Error → TellsOnError (world before) named
+      → IsPlaceOf (world before) link.outputs place.Error → TellsOnError (world before) named
   tells named is where_to = (
     rows,
-    link.out.now,
+    link.outputs.out.now,
     map (λ path. path.now) link.inputs.libraries.items,
     is,
     names.files,

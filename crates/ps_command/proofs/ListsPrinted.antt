@@ -1,8 +1,9 @@
 -- The lists of files, one after another.
-use Rattle.std.proofs.Common.{◌≡◌, ◌∙◌, ◌==◌, ◌||◌, not, ℕ, Bool, Err, IfOk, List, [], ◌∷◌, Ok, OnOk, Option, Result, ap, arith, false, inl, inr, length, refl, true}
+use Rattle.std.proofs.Common.{◌≡◌, ◌∙◌, ◌==◌, ◌||◌, not, ℕ, Bool, Err, IfOk, List, [], ◌∷◌, Ok, OnErr, OnOk, Option, Result, ap, arith, false, inl, inr, length, refl, true}
 use Rattle.std.specs.Prelude.{if◌then◌else◌, max}
 use Rattle.std.specs.Io.KnownBytes.{Appends}
 use Rattle.std.proofs.lemmas.Bool.Decides.{nat_tests}
+use Rattle.std.proofs.lemmas.Result.{on_err_weaker}
 use Rattle.ps_arguments.specs.CommandLine.{Text}
 use Rattle.ps_filetype.specs.CodeTypes.{is_code_type}
 use Rattle.ps_listing.specs.FileLists.{Listed, is_refused_as_listed, is_refused_in, listed, listed_as}
@@ -11,6 +12,8 @@ use Rattle.ps_listing.specs.LoneText.{has_no_sound, units_in_entries}
 use Rattle.ps_listing.specs.Phrases.{IsPhrase}
 use Rattle.ps_listing.specs.declared.lists.ListForm.{ListForm}
 use Rattle.ps_listing.specs.declared.lists.ListForm.TheVariants as form
+use Rattle.ps_writing.specs.Prefixes.{AppendsPrefix}
+use Rattle.ps_command.specs.Failures.{CutsFiles, CutsListed, CutsUnread}
 use Rattle.ps_command.specs.Lists.{IsListText, list_status}
 use Rattle.ps_command.specs.ReadFaults.{IsNotRead}
 use Rattle.ps_output_files.specs.World.{Reads, World}
@@ -95,6 +98,28 @@ module _ (world : World) (how : ListForm)
   is_unread (Ok e) old new unread is prints = inr (ap ended_status is, unread, prints)
   is_unread (Err e) old new unread is prints = tt
 
+  -- a file was read, and a prefix of its list printed
+  pub cut_listed : {T E : Type 0} (file : List ℕ) (l : Listed) (r : Result T E)
+      (old new : Option (List ℕ)) → Reads world path file → l.how ≡ how → l.path ≡ path → l.file ≡ file
+      → IsPhrase file l.phrase → OnErr r (AppendsPrefix old new (listed first l))
+      → OnErr r (CutsListed world how first path old new)
+  cut_listed file l (Ok x) old new read how_is path_is file_is said cut = tt
+  cut_listed file l (Err e) old new read how_is path_is file_is said cut =
+      let text : AppendsPrefix old new (listed_as how first path l.phrase file) =
+      rw (how_is, path_is, file_is) at cut in
+      inl (
+        file,
+        listed_as how first path l.phrase file,
+        read,
+        text_of_list how first path l.phrase file (is_code_type file) refl said,
+        text,
+      )
+
+  -- a file was not read, and a prefix of what there is of it printed
+  pub cut_unread : {T E : Type 0} (r : Result T E) (old new : Option (List ℕ)) → IsNotRead world path
+      → OnErr r (CutsUnread how first path old new) → OnErr r (CutsListed world how first path old new)
+  cut_unread r old new unread cut = on_err_weaker r (λ some. inr (unread, some)) cut
+
 module _ (world : World) (how : ListForm)
     (all : List Text) (old : Option (List ℕ)) where
   -- the files before these have this status, and what is printed of those that are left is added to
@@ -105,6 +130,9 @@ module _ (world : World) (how : ListForm)
       pub rest : (more : ℕ) (new : Option (List ℕ))
           → PrintsFiles world how is_first left more now new
           → PrintsFiles world how true all (max status more) old new
+      -- and what is printed in part
+      pub cut : (new : Option (List ℕ)) → CutsFiles world how is_first left now new
+          → CutsFiles world how true all old new
 
   pub listed_more : (is_first : Bool) (path : Text) (left : List Text) (status first : ℕ)
       (before between : Option (List ℕ))
@@ -116,4 +144,5 @@ module _ (world : World) (how : ListForm)
         let worst : max status (max first more) ≡ max (max status first) more = omega arith in
         rw worst at (so_far.rest (max first more) new
         (first, more, between, listed, printed, refl));
+    cut = λ new some. so_far.cut new (inr (first, between, listed, some));
   }

@@ -3,4 +3,5 @@ pub mod Printed
 pub mod ReadFaults
 pub mod Statuses
 pub mod Causes
+pub mod Failures
 pub mod Links

@@ -7,8 +7,7 @@ use Rattle.ps_arguments.specs.CommandLine.{Kinds, Row, Text}
 use Rattle.ps_words.specs.declared.fault.Fault.{Fault}
 use Rattle.ps_writing.specs.FaultJson.{fault_json}
 use Rattle.ps_writing.specs.JsonStrings.{json_text}
-use Rattle.ps_writing.specs.declared.rows.Form.{Form}
-use Rattle.ps_writing.specs.declared.rows.Form.TheVariants.{Lines, Json}
+use Rattle.ps_writing.specs.declared.rows.Form.TheVariants.{Lines}
 use Rattle.ps_linkfile.specs.LinkedFile.{LinkedFile, summary_of}
 use Rattle.ps_filetype.specs.CodeTypes.{is_code_type}
 use Rattle.ps_listing.specs.FileLists.{unread}
@@ -28,17 +27,12 @@ use Rattle.ps_output_files.specs.Log.{AddsAll, AddsPart}
 use Rattle.ps_output_files.specs.Places.{IsPlace, PrintsAt}
 use Rattle.ps_output_files.specs.SummaryLine.{summary_text}
 use Rattle.ps_output_files.specs.World.{Reads, World}
-use Rattle.ps_arguments.specs.Requests.{EndsWithLine, IsApartFrom, IsOther, MayAskForHelp, MayAskForVersion, file_of, files_of, has_output, has_references, host_of, is_json, is_quiet, is_strict, is_unit, libraries_of, map_file, out_and_libraries}
+use Rattle.ps_arguments.specs.Outputs.{form_of, map_content, out_by, telling}
+use Rattle.ps_arguments.specs.Requests.{EndsWithLine, IsApartFrom, IsNoHost, IsOther, MayAskForHelp, MayAskForVersion, file_of, files_of, has_output, has_references, host_of, is_json, is_quiet, is_strict, is_unit, libraries_of, map_file, out_and_libraries}
 use Rattle.ps_command.specs.Lists.{IsListText, list_status}
 use Rattle.ps_command.specs.ReadFaults.{IsNotRead}
-use Rattle.ps_output_files.specs.declared.linking.MapContent.{MapContent}
-use Rattle.ps_output_files.specs.declared.linking.MapContent.TheVariants as content
-use Rattle.ps_output_files.specs.declared.linking.OutBy.{OutBy}
-use Rattle.ps_output_files.specs.declared.linking.OutBy.TheVariants as named_by
 use Rattle.ps_output_files.specs.declared.linking.Place.{Place}
 use Rattle.ps_output_files.specs.declared.linking.Place.TheVariants as place
-use Rattle.ps_output_files.specs.declared.linking.Telling.{Telling}
-use Rattle.ps_output_files.specs.declared.linking.Telling.TheVariants as tells
 
 -- by a text of a host that was read at its path and of libraries that were read at theirs, one for
 -- one in their order, which ends with this status
@@ -48,26 +42,6 @@ PrintsTextOf world k strict path paths status old new =
     (host : List ℕ) × (libs : List (List ℕ)) × (text : List ℕ) × Reads world path host
     × AllZip (Reads world) paths libs × IsTextOf k strict (path ∷ paths) host libs status text
     × Appends old new text
-
--- lines, or a document
-abbrev pub form_of : Bool → Form
-form_of false = Lines
-form_of true = Json
-
--- OUT is named by its option, or by its place after the host
-abbrev pub out_by : Bool → OutBy
-out_by false = named_by.Place
-out_by true = named_by.Option
-
--- what the map of a link has
-abbrev pub map_content : Bool → MapContent
-map_content false = content.Places
-map_content true = content.References
-
--- what a link prints, which is quiet or not
-abbrev pub telling : Bool → Telling
-telling false = tells.Summary
-telling true = tells.Nothing
 
 -- the map of a link, and with its references what it stores
 abbrev pub map_kind : Bool → Bool → TextKind
@@ -80,15 +54,17 @@ IsMapNamed rows paths host libs text =
     IsTextOf (map_kind (has_references rows) (is_json rows)) false paths host libs 0 text
 
 -- of files that were read at these paths, the linked file was written to OUT, and then their map to
--- its file, if there is one; no other file was created. OUT is no library, and the file of the map is no
--- file of the link.
+-- its file, if there is one; no other file was created. OUT is no library, nor the host where its option
+-- names it, and the file of the map is no file of the link.
 abbrev pub WritesNamed : {S : Type 0} → (S → World) → List Row → Text → Text → List Text → List ℕ
     → List (List ℕ) → S → S → Type 0
 WritesNamed world rows path out libraries host libs old new = (file : List ℕ)
     × Reads (world old) path host × AllZip (Reads (world old)) libraries libs
     × LinkedFile host libs file
     × IsOther (world old).one_file out libraries
-    × IsApartFrom (world old).one_file (map_file rows) (has_references rows) out path libraries
+    × IsNoHost (world old).one_file (out_by (has_output rows)) out path
+    × IsApartFrom (world old).one_file (map_file rows) (map_content (has_references rows)) out path
+    libraries
     × AddsAll out (map_file rows) file (IsMapNamed rows (path ∷ libraries) host libs)
     (world old).log (world new).log
     × MapIsApart world (map_file rows) out file old

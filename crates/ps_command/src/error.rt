@@ -87,6 +87,7 @@ impl<'a> FileError<'a> {
     fn told(self) -> CommandError<'a>
         ensures error { result ≡ told_of_file self.entry }
         ensures unrefused { status_of result ≢ 1 }
+        ensures right { status_of result ≢ 2 }
     {
         match self {
             FileError::Read { path, .. } => CommandError::Read { path },
@@ -99,6 +100,7 @@ impl<'a> FileError<'a> {
     fn told_with_cause(self) -> CommandError<'a>
         ensures error { result ≡ told_with_cause_spec self.entry }
         ensures unrefused { status_of result ≢ 1 }
+        ensures right { status_of result ≢ 2 }
     {
         match self {
             FileError::Read { path, cause } => CommandError::Unreadable { path, cause },
@@ -206,7 +208,7 @@ impl From<WriteFault> for CommandError<'_> {
 }
 
 impl From<UsageError> for CommandError<'_> {
-    ghost from_gives = { λ error e. (e ≡ told_of_usage error) × (error ≡ usage.Memory → e ≡ told.Memory) × (status_of e ≢ 1) };
+    ghost from_gives = { λ error e. (e ≡ told_of_usage error) × (error ≡ usage.Memory → e ≡ told.Memory) × (status_of e ≢ 1) × (status_of e ≢ 3) };
 
     fn from(error: UsageError) -> Self {
         match error {
@@ -218,7 +220,7 @@ impl From<UsageError> for CommandError<'_> {
 }
 
 impl<'a> From<RunError<'a>> for CommandError<'a> {
-    ghost from_gives = { λ error e. (e ≡ told_of error) × (error ≡ run.StandardOutput → status_of e ≡ 3) × (status_of e ≢ 1) };
+    ghost from_gives = { λ error e. (e ≡ told_of error) × (error ≡ run.StandardOutput → status_of e ≡ 3) × (status_of e ≢ 1) × (status_of e ≢ 2) };
 
     fn from(error: RunError<'a>) -> Self {
         match error {

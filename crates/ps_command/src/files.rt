@@ -1,7 +1,8 @@
 //! Files that are read whole.
-ghost use Rattle.std.specs.Prelude.{◌≡◌, ◌≢◌, ◌≤◌, length, map, IfErr, IfOk, IfSome};
+ghost use Rattle.std.specs.Prelude.{◌≡◌, ◌≢◌, ◌≤◌, ◌∷◌, Any, length, map, IfErr, IfOk, IfSome};
 ghost use Rattle.std.specs.List.{AllZip};
 ghost use Rattle.ps_command.specs.Causes.{read_error};
+ghost use Rattle.ps_command.specs.Failures.{IsUnreadable};
 ghost use Rattle.ps_command.specs.ReadFaults.{IsReadFault, IsTooLong};
 ghost use Rattle.ps_output_files.specs.World.{Reads};
 ghost use Rattle.ps_command.specs.declared.files.FileFault.TheVariants.{Memory};
@@ -95,6 +96,8 @@ pub(crate) fn read_inputs<'a, R: CodeFiles, A: Allocator + Copy>(
         (Reads (R.world rt.now))
         (map (λ path. path.now) inputs.now.libraries.items)
         (map (λ library. library.items) contents.libraries.items)) }
+    ensures unread { IfErr result (λ e. e ≢ FileError.Memory → Any (IsUnreadable (R.world rt.now))
+        (inputs.now.host.now ∷ map (λ path. path.now) inputs.now.libraries.items)) }
 {
     let host = read_at(rt, alloc, inputs.host)?;
     let mut libraries = Vec::new(alloc);
@@ -131,8 +134,10 @@ pub(crate) fn read_at<'a, R: CodeFiles, A: Allocator + Copy>(
     alloc: A,
     path: &'a str,
 ) -> Result<Vec<u8, A>, FileError<'a>>
-    ensures { IfOk result (λ bytes. Reads (R.world rt.now) path.entry.now
+    ensures whole { IfOk result (λ bytes. Reads (R.world rt.now) path.entry.now
         bytes.items) }
+    ensures unread { IfErr result (λ e. e ≢ FileError.Memory
+        → IsUnreadable (R.world rt.now) path.entry.now) }
 {
     match read(rt, alloc, path) {
         Ok(bytes) => Ok(bytes),

@@ -3,8 +3,9 @@ ghost use Rattle.std.specs.Prelude.{◌≡◌, ◌≢◌, ◌⊎◌, List, IfErr
 ghost use Rattle.ps_arguments.specs.CommandLine.{Row};
 ghost use Rattle.ps_arguments.specs.Requests.{NamesLink};
 ghost use Rattle.ps_command.specs.Causes.{told_of};
-ghost use Rattle.ps_command.specs.Links.{IsLinked, LeavesPart, outputs_of as outputs_of_spec};
-ghost use Rattle.ps_command.specs.Printed.{LinkLeavesPart, LinksOrRefuses, form_of as form_of_spec, map_content as map_content_spec, out_by as out_by_spec, telling as telling_spec};
+ghost use Rattle.ps_command.specs.Failures.{FailsToLink};
+ghost use Rattle.ps_command.specs.Links.{FailsLink, IsLinked, LeavesPart, is_document as is_document_spec};
+ghost use Rattle.ps_command.specs.Printed.{LinkLeavesPart, LinksOrRefuses};
 ghost use Rattle.ps_command.specs.Statuses.{ended_status, status_of};
 ghost use Rattle.ps_output_files.specs.Links.{IsPlaceOf};
 ghost use Rattle.ps_output_files.specs.declared.linking.Place.TheVariants as place;
@@ -16,7 +17,7 @@ use crate::error::RunError;
 use crate::files;
 use crate::refusal::refuse;
 use ps_arguments::Link;
-use ps_output_files::{CodeFiles, MapContent, OutBy, Outputs, Telling, Unlinked, link_files};
+use ps_output_files::{CodeFiles, Unlinked, link_files};
 use ps_texts::{Form, NamedFiles, Refusal};
 use std::alloc::{AllocError, Allocator};
 use std::io::Write;
@@ -41,8 +42,11 @@ pub(crate) fn link<'a, R: CodeFiles, A: Allocator + Copy, O: Write, E: Write>(
     ensures memory { IfErr result (λ e. status_of (told_of e) ≢ 3
         → (R.world rt.new).log ≡ (R.world rt.old).log) }
     ensures silent { IfOk result (λ ended. ended_status ended ≡ 0 → (err.new ≡ err.old)
-        ⊎ IsPlaceOf (R.world rt.old) (outputs_of_spec asked.entry) place.Error) }
+        ⊎ IsPlaceOf (R.world rt.old) asked.entry.outputs place.Error) }
     ensures err { IfErr result (λ e. e ≢ RunError.StandardOutput → out.new ≡ out.old) }
+    ensures failed { (rows : List Row) → NamesLink (R.world rt.old).one_file asked.entry rows
+        → IfErr result (λ e. status_of (told_of e) ≡ 3 → FailsToLink R.world rows
+        asked.entry.inputs.host.now rt.old rt.new (O.contents out.old) (O.contents out.new)) }
 {
     let bytes = files::read_inputs(&*rt, alloc, &asked.inputs)?;
     let views = views(alloc, bytes.libraries.as_slice())?;
@@ -75,15 +79,17 @@ fn link_read<'a, R: CodeFiles, A: Allocator + Copy, O: Write, E: Write>(
     ensures memory { IfErr result (λ e. status_of (told_of e) ≢ 3
         → (R.world rt.new).log ≡ (R.world rt.old).log) }
     ensures silent { IfOk result (λ ended. ended ≡ Ended.Done → (err.new ≡ err.old)
-        ⊎ IsPlaceOf (R.world rt.old) (outputs_of_spec asked.now) place.Error) }
+        ⊎ IsPlaceOf (R.world rt.old) asked.now.outputs place.Error) }
     ensures err { IfErr result (λ e. e ≢ RunError.StandardOutput → out.new ≡ out.old) }
+    ensures failed { IfErr result (λ e. status_of (told_of e) ≡ 3 → FailsLink R.world asked.now
+        (paths_in files.now) files.now.host.now (contents files.now.libs.now) rt.old rt.new
+        (O.contents out.old) (O.contents out.new)) }
 {
-    let outputs = outputs_of(asked);
-    match link_files(rt, alloc, files.host, files.libs, &outputs, out, err) {
+    match link_files(rt, alloc, files.host, files.libs, &asked.outputs, out, err) {
         Ok(()) => Ok(Ended::Done),
         Err(Unlinked::Refused(fault)) => {
             let refusal = Refusal::of(files.host, files.libs, fault);
-            Ok(refuse(files, refusal, asked.json, out, err)?)
+            Ok(refuse(files, refusal, is_document(asked.outputs.form), out, err)?)
         }
         Err(Unlinked::Memory) => Err(RunError::Memory),
         Err(Unlinked::Write { path }) => Err(RunError::Write { path }),
@@ -91,55 +97,11 @@ fn link_read<'a, R: CodeFiles, A: Allocator + Copy, O: Write, E: Write>(
     }
 }
 
-/// What a link writes, and where.
-fn outputs_of<'a, A: Allocator>(asked: &Link<'a, A>) -> Outputs<'a>
-    ensures { result ≡ outputs_of_spec asked.now }
+/// A document is asked for, and not lines.
+fn is_document(form: Form) -> bool
+    ensures { result ≡ is_document_spec form }
 {
-    Outputs {
-        out: asked.out,
-        named: out_by(asked.by_option),
-        map: asked.map,
-        content: map_content(asked.references),
-        form: form_of(asked.json),
-        telling: telling(asked.quiet),
-    }
-}
-
-fn out_by(by_option: bool) -> OutBy
-    ensures { result ≡ out_by_spec by_option }
-{
-    if by_option {
-        OutBy::Option
-    } else {
-        OutBy::Place
-    }
-}
-
-fn map_content(references: bool) -> MapContent
-    ensures { result ≡ map_content_spec references }
-{
-    if references {
-        MapContent::References
-    } else {
-        MapContent::Places
-    }
-}
-
-fn telling(quiet: bool) -> Telling
-    ensures { result ≡ telling_spec quiet }
-{
-    if quiet {
-        Telling::Nothing
-    } else {
-        Telling::Summary
-    }
-}
-
-/// Lines, or with `json` a document.
-pub(crate) fn form_of(json: bool) -> Form
-    ensures { result ≡ form_of_spec json }
-{
-    if json { Form::Json } else { Form::Lines }
+    matches!(form, Form::Json)
 }
 
 /// What each file has, in their order.

@@ -1,7 +1,9 @@
 //! Files that are refused, as a document.
-ghost use Rattle.std.specs.Prelude.{◌≡◌, IfOk, OnOk};
+ghost use Rattle.std.specs.Prelude.{◌≡◌, IfOk, OnErr, OnOk};
 ghost use Rattle.std.specs.Io.KnownBytes.{Appends};
 ghost use Rattle.ps_texts.specs.Paths.{path_of, paths_in};
+ghost use Rattle.ps_writing.specs.Prefixes.{AppendsPrefix};
+ghost use Rattle.ps_command.specs.Failures.{CutsFault};
 ghost use Rattle.ps_command.specs.Printed.{PrintsFault, refusal_json};
 
 use crate::ended::Ended;
@@ -37,8 +39,11 @@ fn print_refusal<O: Write>(
     refusal: Refusal,
     out: &mut O,
 ) -> Result<(), WriteFault>
-    ensures { OnOk result (Appends (O.contents out.old) (O.contents out.new) (refusal_json
+    ensures all { OnOk result (Appends (O.contents out.old) (O.contents out.new) (refusal_json
         (path_of (paths_in files.now) refusal.fault.file) refusal.name refusal.fault)) }
+    ensures prefix { OnErr result (AppendsPrefix (O.contents out.old) (O.contents out.new)
+        (refusal_json (path_of (paths_in files.now) refusal.fault.file) refusal.name
+        refusal.fault)) }
 {
     let refused = RefusedFile {
         path: files.path(refusal.fault.file),
@@ -58,6 +63,8 @@ pub(crate) fn refuse<O: Write, E: Write>(
 ) -> Result<Ended, WriteFault>
     ensures ended { IfOk result (λ ended. ended ≡ Ended.Refused) }
     ensures text { OnOk result (PrintsFault json (paths_in files.now) refusal.name refusal.fault
+        (O.contents out.old) (O.contents out.new)) }
+    ensures cut { OnErr result (CutsFault json (paths_in files.now) refusal.name refusal.fault
         (O.contents out.old) (O.contents out.new)) }
 {
     if json {

@@ -1,23 +1,25 @@
 //! One command, from its arguments to its status.
-ghost use Rattle.std.specs.Prelude.{◌≡◌, ◌≢◌, ◌≤◌, ◌⊎◌, ◌∷◌, [], List, Option, IfErr, IfOk, OnOk, map};
+ghost use Rattle.std.specs.Prelude.{◌≡◌, ◌≢◌, ◌≤◌, ◌⊎◌, ◌∷◌, [], List, Option, IfErr, IfOk, OnErr, OnOk, false, map};
 ghost use Rattle.std.specs.Io.KnownBytes.{Appends};
 ghost use Rattle.ps_texts.specs.Sources.{contents};
 ghost use Rattle.ps_texts.specs.Paths.{paths_in};
 ghost use Rattle.ps_texts.specs.Texts.{bytes_in, status_in};
 ghost use Rattle.ps_arguments.specs.CommandLine.{AreAccepted, AskForText, Row, Text, faults_in, named_in, texts};
-ghost use Rattle.ps_arguments.specs.Requests.{IsNamedCommand, NamesNoLink};
+ghost use Rattle.ps_arguments.specs.Requests.{IsNamedCommand, IsWrongUsage, NamesNoLink};
 ghost use Rattle.ps_command.specs.Causes.{told_of};
+ghost use Rattle.ps_command.specs.Failures.{CutsLists, CutsText, Fails, FailsNamed, FailsToPrint};
 ghost use Rattle.ps_command.specs.Printed.{IsPrinted, NamedLeavesPart, Prints, PrintsLists, PrintsOrRefuses, PrintsText, PrintsTextOf, TellsOnError, list_form as list_form_spec, map_kind as map_kind_spec, units_form as units_form_spec};
 ghost use Rattle.ps_command.specs.Statuses.{ended_status, status_of};
 ghost use Rattle.ps_output_files.specs.World.{unknown_world};
+ghost use Rattle.ps_writing.specs.Prefixes.{AppendsPrefix};
 
 use crate::ended::Ended;
 use crate::error::{CommandError, RunError};
 use crate::files::{self, InputBytes, Paths};
-use crate::linking::{form_of, link, views};
+use crate::linking::{link, views};
 use crate::lists::print_lists;
 use crate::refusal::refuse;
-use ps_arguments::{Inputs, Request, Task, parse};
+use ps_arguments::{Inputs, Request, Task, form_of, parse};
 use ps_output_files::CodeFiles;
 use ps_texts::{
     FilesText, Form, HostText, LinkText, ListForm, NamedFiles, NamedText, TextKind, Unmade, text_of,
@@ -69,6 +71,12 @@ pub fn run<R: Files + AllocGlobal, A: Allocator + Copy, O: Write, E: Write>(
     ensures reported { result ≡ 1
         → Prints (λ _. unknown_world) (named_in (texts args.now)) 1 rt.now rt.now (O.contents out.old)
         (O.contents out.new) (E.contents err.old) (E.contents err.new) }
+    ensures misused { result ≡ 2 → IsWrongUsage unknown_world.one_file (texts args.now) }
+    ensures failed { result ≡ 3
+        → Prints (λ _. unknown_world) (named_in (texts args.now)) 3 rt.now rt.now (O.contents out.old)
+        (O.contents out.new) (E.contents err.old) (E.contents err.new)
+        ⊎ Fails (λ _. unknown_world) (texts args.now) rt.now rt.now (O.contents out.old)
+        (O.contents out.new) }
     ensures unprinted { result ≢ 0 → result ≢ 1 → result ≢ 3 → out.new ≡ out.old }
 {
     let mut files = rt;
@@ -110,6 +118,18 @@ pub fn run_with_files<F: CodeFiles, A: Allocator + Copy, O: Write, E: Write>(
     ensures reported { result ≡ 1
         → Prints F.world (named_in (texts args.now)) 1 files.old files.new (O.contents out.old)
         (O.contents out.new) (E.contents err.old) (E.contents err.new) }
+
+    // Arguments are wrong usage only for one of the reasons that are stated.
+    ensures misused { result ≡ 2 → IsWrongUsage (F.world files.old).one_file (texts args.now) }
+
+    // With status 3 files could not be read, and the lists of all others are printed; or a file could not
+    // be read or written, and nothing is printed; or standard output failed, and has a prefix of what the
+    // command prints.
+    ensures failed { result ≡ 3
+        → Prints F.world (named_in (texts args.now)) 3 files.old files.new (O.contents out.old)
+        (O.contents out.new) (E.contents err.old) (E.contents err.new)
+        ⊎ Fails F.world (texts args.now) files.old files.new (O.contents out.old)
+        (O.contents out.new) }
 
     // Only what was done, what reports a refusal, or a fault of standard output itself, leaves anything
     // there.
@@ -158,6 +178,10 @@ fn carry_out<'a, F: CodeFiles, A: Allocator + Copy, O: Write, E: Write>(
         (O.contents out.old) (O.contents out.new) (E.contents err.old) (E.contents err.new)) }
     ensures err { IfErr result (λ e. status_of e ≢ 3 → out.new ≡ out.old) }
     ensures unrefused { IfErr result (λ e. status_of e ≢ 1) }
+    ensures misused { IfErr result (λ e. status_of e ≡ 2
+        → IsWrongUsage (F.world files.old).one_file (texts args.now)) }
+    ensures failed { IfErr result (λ e. status_of e ≡ 3 → Fails F.world (texts args.now) files.old
+        files.new (O.contents out.old) (O.contents out.new)) }
     ensures refused { IfOk result (λ ended. ended_status ended ≢ 0
         → (F.world files.new).log ≡ (F.world files.old).log) }
     ensures memory { IfErr result (λ e. status_of e ≢ 3
@@ -197,6 +221,10 @@ fn perform<'a, F: CodeFiles, A: Allocator + Copy, O: Write, E: Write>(
         → IfOk result (λ ended. ended_status ended ≡ 0 → (err.new ≡ err.old)
         ⊎ TellsOnError (F.world files.old) named) }
     ensures err { IfErr result (λ e. e ≢ RunError.StandardOutput → out.new ≡ out.old) }
+    ensures failed { (named : Option (Text × List Row))
+        → IsNamedCommand (F.world files.old).one_file task.entry named
+        → IfErr result (λ e. status_of (told_of e) ≡ 3 → FailsNamed F.world named files.old
+        files.new (O.contents out.old) (O.contents out.new)) }
     ensures refused { IfOk result (λ ended. ended_status ended ≢ 0
         → (F.world files.new).log ≡ (F.world files.old).log) }
     ensures memory { IfErr result (λ e. status_of (told_of e) ≢ 3
@@ -286,6 +314,10 @@ fn print_read<'a, A: Allocator + Copy, O: Write, E: Write>(
         (O.contents out.old) (O.contents out.new)) }
     ensures silent { IfOk result (λ ended. ended_status ended ≡ 0 → err.new ≡ err.old) }
     ensures err { IfErr result (λ e. e ≢ RunError.StandardOutput → out.new ≡ out.old) }
+    ensures cut { IfErr result (λ e. status_of (told_of e) ≡ 3 → CutsText kind strict json
+        (inputs.now.host.now ∷ contents inputs.now.libraries.items) bytes.now.host.items
+        (map (λ library. library.items) bytes.now.libraries.items) (O.contents out.old)
+        (O.contents out.new)) }
 {
     let views = views(alloc, bytes.libraries.as_slice())?;
     let files = NamedFiles {
@@ -313,6 +345,9 @@ fn print_files<'a, A: Allocator + Copy, O: Write, E: Write>(
         (O.contents out.old) (O.contents out.new)) }
     ensures silent { IfOk result (λ ended. ended_status ended ≡ 0 → err.new ≡ err.old) }
     ensures err { IfErr result (λ e. e ≢ RunError.StandardOutput → out.new ≡ out.old) }
+    ensures cut { IfErr result (λ e. status_of (told_of e) ≡ 3 → CutsText kind strict json
+        (paths_in files.now) files.now.host.now (contents files.now.libs.now) (O.contents out.old)
+        (O.contents out.new)) }
 {
     match text_of(alloc, kind, files) {
         Ok(text) => Ok(print_text(&text, strict, out)?),
@@ -330,6 +365,8 @@ fn print_text<A: Allocator + Copy, O: Write>(
 ) -> Result<Ended, WriteFault>
     ensures ended { IfOk result (λ ended. ended_status ended ≡ status_in strict text.now) }
     ensures all { OnOk result (Appends (O.contents out.old) (O.contents out.new)
+        (bytes_in text.now)) }
+    ensures cut { OnErr result (AppendsPrefix (O.contents out.old) (O.contents out.new)
         (bytes_in text.now)) }
 {
     write_text(text, out)?;
@@ -351,6 +388,9 @@ fn print<'a, R: CodeFiles, A: Allocator + Copy, O: Write, E: Write>(
         (O.contents out.new)) }
     ensures silent { IfOk result (λ ended. ended_status ended ≡ 0 → err.new ≡ err.old) }
     ensures err { IfErr result (λ e. e ≢ RunError.StandardOutput → out.new ≡ out.old) }
+    ensures failed { IfErr result (λ e. status_of (told_of e) ≡ 3
+        → FailsToPrint (R.world rt.now) kind false json inputs.entry.host.now
+        (contents inputs.entry.libraries.items) (O.contents out.old) (O.contents out.new)) }
 {
     let bytes = files::read_inputs(rt, alloc, &inputs)?;
     print_read(alloc, kind, false, json, &inputs, &bytes, out, err)
@@ -373,6 +413,10 @@ fn check<'a, R: CodeFiles, A: Allocator + Copy, O: Write, E: Write>(
         (O.contents out.new)) }
     ensures silent { IfOk result (λ ended. ended_status ended ≡ 0 → err.new ≡ err.old) }
     ensures err { IfErr result (λ e. e ≢ RunError.StandardOutput → out.new ≡ out.old) }
+    ensures failed { IfErr result (λ e. status_of (told_of e) ≡ 3
+        → FailsToPrint (R.world rt.now) (TextKind.Named (NamedText.Check form)) strict false
+        inputs.entry.host.now (contents inputs.entry.libraries.items) (O.contents out.old)
+        (O.contents out.new)) }
 {
     let kind = TextKind::Named(NamedText::Check(form));
     match files::read_inputs(rt, alloc, &inputs) {
@@ -418,6 +462,9 @@ fn check_units<'a, R: CodeFiles, A: Allocator + Copy, O: Write, E: Write>(
         (ended_status ended) (O.contents out.old) (O.contents out.new)) }
     ensures silent { IfOk result (λ ended. ended_status ended ≡ 0 → err.new ≡ err.old) }
     ensures err { IfErr result (λ e. e ≢ RunError.StandardOutput → out.new ≡ out.old) }
+    ensures cut { IfErr result (λ e. status_of (told_of e) ≡ 3 → CutsLists (R.world rt.now) how
+        (inputs.entry.host.now ∷ map (λ path. path.now) inputs.entry.libraries.items)
+        (O.contents out.old) (O.contents out.new)) }
 {
     let Inputs {
         host,

@@ -1,3 +1,4 @@
 pub mod Vocabulary
 pub mod NotOrigins
+pub mod NotLinked
 pub mod ReliedFiles

@@ -8,7 +8,7 @@ use Rattle.ps_codefile.specs.declared.entry.Role.TheVariants as role
 pub same : {A : Type 0} (a b : A) → ◌≡◌ {A = Option A} (Some a) (Some b) → a ≡ b
 same a b e = cc
 
-heads : (a b : ℕ) (xs ys : List ℕ) → ◌≡◌ {A = List ℕ} (a ∷ xs) (b ∷ ys) → a ≡ b
+pub heads : (a b : ℕ) (xs ys : List ℕ) → ◌≡◌ {A = List ℕ} (a ∷ xs) (b ∷ ys) → a ≡ b
 heads a b xs ys e = cc
 
 pub util_aux : util ≡ aux → ⊥

@@ -2,7 +2,7 @@
 -- has it, and what such files are changed by.
 -- Source: this project's examples.
 use Rattle.std.specs.Prelude.{ℕ, ◌+◌, ◌-◌, ◌*◌, ◌/◌, List, [], ◌∷◌, ◌++◌, length, replicate, take, drop}
-use Rattle.std.specs.List.{flat_map}
+use Rattle.std.specs.List.{flat_map, range_with_len}
 use Rattle.ps_words.specs.Words.{word_bytes}
 use Rattle.ps_words.specs.declared.order.Order.{Order}
 use Rattle.ps_words.specs.declared.order.Order.TheVariants.{Little, Big}
@@ -38,6 +38,10 @@ tools = 84 ∷ 79 ∷ 79 ∷ 76 ∷ 83 ∷ 32 ∷ 32 ∷ 32 ∷ []
 -- the name of a public variable of DEMO
 abbrev pub count : List ℕ
 count = 67 ∷ 79 ∷ 85 ∷ 78 ∷ 84 ∷ 32 ∷ 32 ∷ 32 ∷ []
+
+-- `count` misspelled
+abbrev pub cuont : List ℕ
+cuont = 67 ∷ 85 ∷ 79 ∷ 78 ∷ 84 ∷ 32 ∷ 32 ∷ 32 ∷ []
 
 -- the name of a private variable
 abbrev pub state : List ℕ
@@ -189,3 +193,9 @@ host_with_tools = with_slot Little 8 tools 0 3 5 host ++ (1 ∷ 2 ∷ 3 ∷ 4 �
 abbrev pub library_of_used : List ℕ → List ℕ
 library_of_used information = with_aux aux_code information
     (library_with Little (unit_ref Little aux (2 ∷ []) ++ eof_mark Little 0))
+
+-- the host whose slots from 8 on, n of them, have a segment that is linked already, without a name:
+-- the same five bytes in block 3
+abbrev pub filled_host : ℕ → List ℕ
+filled_host n = put_at 32 (flat_map (λ k. 3 ∷ 0 ∷ 5 ∷ 0 ∷ []) (range_with_len 0 n)) host
+    ++ (1 ∷ 2 ∷ 3 ∷ 4 ∷ 5 ∷ [])

@@ -3,3 +3,4 @@ pub mod Expected
 pub mod Texts
 pub mod Segments
 pub mod ReadAlike
+pub mod Refused

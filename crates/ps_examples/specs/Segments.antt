@@ -1,12 +1,12 @@
 -- The segments of the host and the library, as they were read.
 -- Source: this project's examples.
-use Rattle.std.specs.Prelude.{List, [], ◌∷◌, false, true, None}
+use Rattle.std.specs.Prelude.{ℕ, List, [], ◌∷◌, false, true, None}
 use Rattle.ps_codefile.specs.declared.entry.Role.TheVariants.{Host, Wanted, Plain}
-use Rattle.ps_linkinfo.specs.declared.record.Body.TheVariants.{UnitRef, PublRef, PrivRef, PublDef, Eof}
+use Rattle.ps_linkinfo.specs.declared.record.Body.TheVariants.{UnitRef, PublRef, PrivRef, PublDef, ConstDef, Eof}
 use Rattle.ps_linkinfo.specs.declared.record.LinkRecord.{LinkRecord as Record}
 use Rattle.ps_resolve.specs.Sources.{Segment, tables_of}
 use Rattle.ps_resolve.specs.LinkedBytes.{segments_of}
-use Rattle.ps_examples.specs.Files.{host, library, library_of_used, host_with_tools, blank_name, demo, util, aux, tools, count, state, nobody, demo_code, util_code, aux_code, util_information}
+use Rattle.ps_examples.specs.Files.{host, library, library_of_used, host_with_tools, put_at, blank_name, demo, util, aux, tools, count, state, nobody, demo_code, util_code, aux_code, util_information}
 use Rattle.ps_words.specs.declared.order.Order.TheVariants.{Little}
 
 -- a PUBLREF of COUNT with an operand at 1; UTIL has it, and the two records below
@@ -117,3 +117,52 @@ with_plain = segments_of host_with_tools (library ∷ [])
 -- AUX past the slot that is empty
 abbrev pub past_segment : Segment
 past_segment = record aux_segment { slot = 9 }
+
+-- the library, whose UTIL has displacement 256 in its operand at 1
+abbrev pub displaced_library : List ℕ
+displaced_library = put_at 513 (129 ∷ []) library
+
+-- UTIL as it is read from there
+abbrev pub displaced_segment : Segment
+displaced_segment =
+    let code = put_at 1 (129 ∷ []) (util_code Little) in
+    record util_segment { code = code; tables = tables_of Little code true }
+
+-- the segments of a link with it
+abbrev pub displaced_pair : List Segment
+displaced_pair = segments_of host (displaced_library ∷ [])
+
+-- UTIL with two records whose operands overlap at 2
+abbrev pub meeting_segment : Segment
+meeting_segment = record util_segment { records = count_reference ∷ aux_reference ∷ [] }
+
+-- UTIL with one record, two operands of which overlap
+abbrev pub twice_segment : Segment
+twice_segment = record util_segment {
+  records =
+      record { name = count; body = PublRef (1 ∷ 2 ∷ []) } ∷ [];
+}
+
+-- UTIL with an operand at its segment number
+abbrev pub numbered_segment : Segment
+numbered_segment = record util_segment {
+  records =
+      record { name = aux; body = UnitRef (22 ∷ []) } ∷ [];
+}
+
+-- the host segment with an operand at its data size
+abbrev pub sized_segment : Segment
+sized_segment = record demo_segment {
+  records =
+      record { name = count; body = PublRef (4 ∷ []) } ∷ [];
+}
+
+-- the host segment with COUNT as a constant
+abbrev pub with_constant : List Segment
+with_constant = record demo_segment { records = record { name = count; body = ConstDef 3 } ∷ [] }
+    ∷ []
+
+-- UTIL with a definition of STATE, which nothing uses
+abbrev pub with_unused : List Segment
+with_unused = demo_segment ∷ record util_segment
+    { records = record { name = state; body = PublDef 9 } ∷ [] } ∷ []

@@ -98,7 +98,7 @@ const REMEDIES: [&str; ROWS] = [
     // 3 OrderMismatch
     "Compile the file for the machine of the host. If it was, the bytes of one of the two files are swapped: see DAMAGED FILES in pslink(1).",
     // 4 NoHost
-    "The file may be a library, or linked already. Give the compiled program as HOST. If it is one, see DAMAGED FILES in pslink(1).",
+    "The file may be a library, or linked already. Give the compiled program as the host. If it is one, see DAMAGED FILES in pslink(1).",
     // 5 TwoHosts
     "Keep one of them in the file.",
     // 6 DoubledSegment

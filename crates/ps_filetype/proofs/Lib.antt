@@ -1,2 +1,5 @@
 pub mod Trimmed
 pub mod ShellWords
+pub mod CodeFileFacts
+pub mod MoreBytes
+pub mod Exchanged

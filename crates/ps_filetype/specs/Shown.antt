@@ -40,15 +40,37 @@ shown_name name = let mark = quotes (is_quoted (trimmed name)) in
 abbrev pub slot_digits : ℕ → List ℕ
 slot_digits n = (48 + n / 10) ∷ (48 + n % 10) ∷ []
 
--- a character that takes no room on a line or turns the direction of what follows: the soft hyphen,
--- the marks of direction, joiners and blanks without width, the byte order mark
-abbrev pub is_unseen : ℕ → Bool
-is_unseen c = c == 173 || c == 1564 || c == 6158 || (nat_le 8203 c && nat_le c 8207)
-    || (nat_le 8234 c && nat_le c 8238) || (nat_le 8288 c && nat_le c 8303) || c == 65279
+-- a character that ends a line or a paragraph: U+2028, U+2029
+abbrev pub is_separator : ℕ → Bool
+is_separator c = c == 8232 || c == 8233
 
--- a character that is not shown as it is: a control character, or one that is unseen
+-- The number is from the first to the second.
+abbrev pub is_from : ℕ → ℕ → ℕ → Bool
+is_from first last c = nat_le first c && nat_le c last
+
+-- A character that takes no room on a line, or turns the direction of what follows: those that the
+-- Unicode Character Database has as Default_Ignorable_Code_Point, and U+FFF9 to U+FFFB, which begin
+-- and end an annotation.
+abbrev pub is_unseen : ℕ → Bool
+is_unseen c =
+    -- U+00AD, U+034F, U+061C: soft hyphen, joiner of graphemes, mark of direction
+    c == 173 || c == 847 || c == 1564
+    -- U+115F to U+1160, U+17B4 to U+17B5, U+180B to U+180F: fillers, vowels, variation selectors
+    || is_from 4447 4448 c || is_from 6068 6069 c || is_from 6155 6159 c
+    -- U+200B to U+200F, U+202A to U+202E, U+2060 to U+206F: blanks without width, joiners, direction
+    || is_from 8203 8207 c || is_from 8234 8238 c || is_from 8288 8303 c
+    -- U+3164, U+FE00 to U+FE0F, U+FEFF: filler, variation selectors, byte order mark
+    || c == 12644 || is_from 65024 65039 c || c == 65279
+    -- U+FFA0, U+FFF0 to U+FFFB: filler, unassigned ones and annotations
+    || c == 65440 || is_from 65520 65531 c
+    -- U+1BCA0 to U+1BCA3, U+1D173 to U+1D17A: formats of shorthand and of music
+    || is_from 113824 113827 c || is_from 119155 119162 c
+    -- U+E0000 to U+E0FFF: tags, variation selectors
+    || is_from 917504 921599 c
+
+-- a character that is not shown as it is
 abbrev pub is_hidden : ℕ → Bool
-is_hidden c = is_control c || is_unseen c
+is_hidden c = is_control c || is_separator c || is_unseen c
 
 -- a hidden character by its number in hexadecimal digits, as `\u{1b}`
 abbrev pub control_escape : ℕ → List ℕ

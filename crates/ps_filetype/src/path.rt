@@ -2,7 +2,7 @@
 ghost use Rattle.std.specs.Prelude.{◌≡◌, Some, chars};
 ghost use Rattle.std.specs.Fmt.{WritesOnOk};
 ghost use Rattle.std.specs.List.{flat_map, list_any};
-ghost use Rattle.ps_filetype.specs.Shown.{control_escape, escape_letter as escape_letter_spec, is_hidden as is_hidden_spec, is_unseen as is_unseen_spec, other_char, quoted_char, shown_path};
+ghost use Rattle.ps_filetype.specs.Shown.{control_escape, escape_letter as escape_letter_spec, is_hidden as is_hidden_spec, is_separator as is_separator_spec, is_unseen as is_unseen_spec, other_char, quoted_char, shown_path};
 
 use std::fmt::{self, Formatter};
 
@@ -11,6 +11,13 @@ use std::fmt::{self, Formatter};
 #[derive(Clone, Copy)]
 pub struct ShownPath<'a>(pub &'a str);
 
+/// The character ends a line or a paragraph.
+fn is_separator(c: char) -> bool
+    ensures { result ≡ is_separator_spec c }
+{
+    matches!(c, '\u{2028}' | '\u{2029}')
+}
+
 /// The character takes no room on a line, or turns the direction of what follows.
 fn is_unseen(c: char) -> bool
     ensures { result ≡ is_unseen_spec c }
@@ -18,23 +25,34 @@ fn is_unseen(c: char) -> bool
     matches!(
         c,
         '\u{AD}'
+            | '\u{34F}'
             | '\u{61C}'
-            | '\u{180E}'
+            | '\u{115F}'..='\u{1160}'
+            | '\u{17B4}'..='\u{17B5}'
+            | '\u{180B}'..='\u{180F}'
             | '\u{200B}'..='\u{200F}'
             | '\u{202A}'..='\u{202E}'
             | '\u{2060}'..='\u{206F}'
+            | '\u{3164}'
+            | '\u{FE00}'..='\u{FE0F}'
             | '\u{FEFF}'
+            | '\u{FFA0}'
+            | '\u{FFF0}'..='\u{FFFB}'
+            | '\u{1BCA0}'..='\u{1BCA3}'
+            | '\u{1D173}'..='\u{1D17A}'
+            | '\u{E0000}'..='\u{E0FFF}'
     )
 }
 
-/// The character is not shown as it is: it is a control character, as the end of a line, or takes
-/// no room on a line, or turns the direction of what follows, as U+202E does.
+/// The character is not shown as it is: it is a control character, as the end of a line, or ends a
+/// line or a paragraph, as U+2028 does, or takes no room on a line, as U+200B, or turns the direction
+/// of what follows, as U+202E.
 ///
-/// Source: this project's profile, over the characters of Unicode.
+/// Source: this project's profile, over the Unicode Character Database.
 pub fn is_hidden(c: char) -> bool
     ensures { result ≡ is_hidden_spec c }
 {
-    c.is_control() || is_unseen(c)
+    c.is_control() || is_separator(c) || is_unseen(c)
 }
 
 /// A character of the path is hidden.

@@ -72,9 +72,9 @@ impl Remedy<'_> {
         match self.file_type {
             FileType::Code(CodeFile::Linked) =>
                 "Give the unlinked host in place of PATH, the file that the compiler made.",
-            FileType::Code(CodeFile::Host) => "Give PATH as HOST.",
+            FileType::Code(CodeFile::Host) => "Give PATH as the host.",
             FileType::Code(CodeFile::Library | CodeFile::Mixed) =>
-                "Give the compiled program as HOST, and PATH after it, as a library.",
+                "Give the compiled program as the host, and PATH after it, as a library.",
             FileType::Swapped | FileType::MacBinary | FileType::Header { .. } | FileType::Gzip =>
                 "Give PATH another name, one that a shell can be given, and check it again.",
             FileType::Zip => "Unpack PATH by unzip, and give the code file that is in it.",

@@ -1,6 +1,6 @@
 -- What a log has after the steps of a link.
-use Rattle.std.proofs.Common.{◌≡◌, ◌∙◌, ◌++◌, ◌∷◌, [], Err, List, None, Ok, OnErr, OnOk, Option, Result, Some, ap, append_assoc, arith, inl, inr, length, subst, sym, take, true, ℕ}
-use Rattle.std.specs.Prelude.{IfErr, IfOk, IsSomeAnd, is_ok}
+use Rattle.std.proofs.Common.{◌≡◌, ◌⊎◌, ◌∙◌, ◌++◌, ◌∷◌, [], Err, List, None, Ok, OnErr, OnOk, Option, Result, Some, ap, append_assoc, arith, inl, inr, length, subst, sym, take, true, ℕ}
+use Rattle.std.specs.Prelude.{IfErr, IfOk, is_ok}
 use Rattle.std.specs.Io.KnownBytes.{Appends}
 use Rattle.std.proofs.lemmas.List.{take_all}
 use Rattle.ps_writing.specs.Prefixes.{AppendsPrefix}
@@ -42,12 +42,13 @@ taken_whole (Err e) (Ok y) a b c path bytes first last created all closed whole 
 taken_whole wrote (Err e) a b c path bytes first last created all closed whole = tt
 
 -- a prefix of it, where it was not
-pub taken_part : {T E U V : Type 0} (wrote : Result T E) (r : Result U V) (a b c : Log)
+pub taken_part : {T E U V : Type 0} (Other : Type 0) (wrote : Result T E) (r : Result U V) (a b c : Log)
     (path bytes : List ℕ) (first last : Option (List ℕ)) → IsCreated a b path first
     → OnOk wrote (Appends first last bytes) → OnErr wrote (AppendsPrefix first last bytes)
-    → IsClosed b c path last → IfErr r (λ _. TakesPart a c path bytes)
-taken_part wrote (Ok y) a b c path bytes first last created all prefix closed = tt
-taken_part wrote (Err e) a b c path bytes first last created all prefix closed =
+    → IsClosed b c path last
+    → IfErr r (λ _. Other ⊎ ((n : ℕ) × Grows a c (took path (take n bytes))))
+taken_part Other wrote (Ok y) a b c path bytes first last created all prefix closed = tt
+taken_part Other wrote (Err e) a b c path bytes first last created all prefix closed =
     let some = written wrote first last bytes all prefix in
     inr (some.0, taken a b c path (take some.0 bytes) first last created some.1 closed)
 
@@ -93,17 +94,3 @@ adds_all P out None file text a b c is first later =
     subst (λ (l : Log). Grows a l (took out file)) (sym later) first
 adds_all P out (Some map) file text a b c is first later =
     (text, is, grows_then a b c (took out file) (took map text) first later)
-
--- OUT, and then a part of the map
-pub adds_part : (P : List ℕ → Type 0) (out : List ℕ) (map : Option (List ℕ)) (file text : List ℕ)
-    (a b c : Log) → P text → Grows a b (took out file)
-    → IsSomeAnd map (λ path. TakesPart b c path text) → AddsPart out map file P a c
-adds_part P out None file text a b c is first later = absurd later
-adds_part P out (Some map) file text a b c is first (inl same) =
-    inl (whole_part a c out file (subst (λ (l : Log). Grows a l (took out file)) (sym same) first))
-adds_part P out (Some map) file text a b c is first (inr part) = inr (
-  text,
-  part.0,
-  is,
-  grows_then a b c (took out file) (took map (take part.0 text)) first part.1,
-)

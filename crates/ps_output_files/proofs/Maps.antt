@@ -7,7 +7,7 @@ use Rattle.ps_resolve.specs.Plans.{Planned}
 use Rattle.ps_writing.specs.declared.rows.Form.{Form}
 use Rattle.ps_writing.specs.declared.rows.Form.TheVariants.{Lines, Json}
 use Rattle.ps_output_files.specs.Links.{IsMapText}
-use Rattle.ps_output_files.specs.declared.linking.MapContent.TheVariants as content
+use Rattle.ps_arguments.specs.declared.outputs.MapContent.TheVariants as content
 
 pub map_by : (form : Form) (plan : Planned) (host : List ℕ) (libs : List (List ℕ))
     → map_in plan ≡ map_of host libs → map_json_in plan ≡ map_json_of host libs

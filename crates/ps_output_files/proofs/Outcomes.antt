@@ -9,14 +9,14 @@ use Rattle.ps_linkfile.specs.Outcomes.{NamesFirst, error_of}
 use Rattle.ps_resolve.specs.declared.linkage.Stop.{Stop}
 use Rattle.ps_resolve.specs.declared.linkage.Stop.TheVariants as stop
 use Rattle.ps_output_files.specs.Links.{AddsBeforePrepared, IsWhyUnlinked, unlinked_of}
-use Rattle.ps_output_files.specs.Log.{Log}
 use Rattle.ps_output_files.specs.Places.{IsBeside, IsPlace}
-use Rattle.ps_output_files.specs.declared.linking.Outputs.{Outputs}
-use Rattle.ps_output_files.specs.declared.linking.OutBy.{OutBy}
-use Rattle.ps_output_files.specs.declared.linking.OutBy.TheVariants as named_by
+use Rattle.ps_output_files.specs.World.{World}
+use Rattle.ps_arguments.specs.declared.outputs.Outputs.{Outputs}
+use Rattle.ps_arguments.specs.declared.outputs.OutBy.{OutBy}
+use Rattle.ps_arguments.specs.declared.outputs.OutBy.TheVariants as named_by
 use Rattle.ps_output_files.specs.declared.linking.Place.{Place}
 use Rattle.ps_output_files.specs.declared.linking.Place.TheVariants as place
-use Rattle.ps_output_files.specs.declared.linking.Telling.TheVariants as telling
+use Rattle.ps_arguments.specs.declared.outputs.Telling.TheVariants as telling
 use Rattle.ps_output_files.specs.declared.prepared.Prepared.{Prepared}
 use Rattle.ps_output_files.specs.declared.unlinked.Unlinked.{Unlinked}
 use Rattle.ps_output_files.specs.declared.unlinked.Unlinked.TheVariants as unlinked
@@ -50,7 +50,7 @@ why_unprepared host libs (stop.Refused f) first = first
 why_unprepared host libs stop.Memory first = first
 
 -- why a link is not made that was prepared, since no fault applies
-pub why_unlinked : {A T : Type 0} (asked : Outputs) (p : Prepared A) (old new : Log) (host : List ℕ)
+pub why_unlinked : {A T : Type 0} (asked : Outputs) (p : Prepared A) (old new : World) (host : List ℕ)
     (libs : List (List ℕ)) (r : Result T Unlinked) → NoneStands host libs
     → IfErr r (AddsBeforePrepared asked p old new) → IfErr r (IsWhyUnlinked host libs)
 why_unlinked asked p old new host libs (Ok x) none left = tt

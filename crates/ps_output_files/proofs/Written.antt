@@ -5,12 +5,13 @@ use Rattle.ps_linkfile.specs.Writing.{file_in}
 use Rattle.ps_resolve.specs.declared.linkage.Stop.{Stop}
 use Rattle.ps_resolve.specs.declared.linkage.Stop.TheVariants as stop
 use Rattle.ps_writing.specs.declared.rows.Form.{Form}
-use Rattle.ps_output_files.proofs.Logs.{all_weaker, part_weaker}
+use Rattle.ps_output_files.proofs.Logs.{all_weaker}
+use Rattle.ps_output_files.proofs.Unwritten.{fails_weaker}
 use Rattle.ps_output_files.specs.Links.{AddsBefore, AddsBeforePrepared, AddsPrepared, IsMapIn, IsMapOf, IsMapText, MapIsApart, WritesLink, map_path, unlinked_of}
-use Rattle.ps_output_files.specs.Log.{Grows, Log, took}
+use Rattle.ps_output_files.specs.Log.{Grows, took}
 use Rattle.ps_output_files.specs.Prepared.{map_bytes, plan_of}
 use Rattle.ps_output_files.specs.World.{World}
-use Rattle.ps_output_files.specs.declared.linking.Outputs.{Outputs}
+use Rattle.ps_arguments.specs.declared.outputs.Outputs.{Outputs}
 use Rattle.ps_output_files.specs.declared.prepared.Prepared.{Prepared}
 use Rattle.ps_output_files.specs.declared.unlinked.Unlinked.{Unlinked}
 use Rattle.ps_output_files.specs.declared.unlinked.Unlinked.TheVariants as unlinked
@@ -24,10 +25,10 @@ found_apart world None out file before between wrote found = tt
 found_apart world (Some path) out file before between wrote found = (between, wrote, found)
 
 -- where a link is not even prepared, nothing is created
-pub before_prepared : (asked : Outputs) (host : List ℕ) (libs : List (List ℕ)) (log : Log)
-    (why : Stop) → AddsBefore asked host libs log log (unlinked_of why)
-before_prepared asked host libs log (stop.Refused f) = refl
-before_prepared asked host libs log stop.Memory = refl
+pub before_prepared : (asked : Outputs) (host : List ℕ) (libs : List (List ℕ)) (world : World)
+    (why : Stop) → AddsBefore asked host libs world world (unlinked_of why)
+before_prepared asked host libs world (stop.Refused f) = refl
+before_prepared asked host libs world stop.Memory = refl
 
 module _ {A : Type 0} (asked : Outputs) (p : Prepared A) (host : List ℕ) (libs : List (List ℕ))
     (linked : LinkedFile host libs (file_in (plan_of p)))
@@ -37,7 +38,7 @@ module _ {A : Type 0} (asked : Outputs) (p : Prepared A) (host : List ℕ) (libs
 
   -- what was prepared is what the files link to, and its map theirs
   pub writes_link : {S T E : Type 0} (world : S → World) (before after : S) (r : Result T E)
-      → IfOk r (λ _. AddsPrepared asked p (world before).log (world after).log)
+      → IfOk r (λ _. AddsPrepared asked p (world before) (world after))
       → IfOk r (λ _. MapIsApart world (map_path asked) asked.out.now (file_in (plan_of p)) before)
       → IfOk r (λ _. WritesLink world asked host libs before after)
   writes_link world before after (Ok x) adds apart = (
@@ -49,7 +50,7 @@ module _ {A : Type 0} (asked : Outputs) (p : Prepared A) (host : List ℕ) (libs
   )
   writes_link world before after (Err e) adds apart = tt
 
-  pub adds_before : {T : Type 0} (old new : Log) (r : Result T Unlinked)
+  pub adds_before : {T : Type 0} (old new : World) (r : Result T Unlinked)
       → IfErr r (AddsBeforePrepared asked p old new) → IfErr r (AddsBefore asked host libs old new)
   adds_before old new (Ok x) left = tt
   adds_before old new (Err (unlinked.Refused f)) left = absurd left
@@ -57,10 +58,12 @@ module _ {A : Type 0} (asked : Outputs) (p : Prepared A) (host : List ℕ) (libs
   adds_before old new (Err (unlinked.Write path)) left = (
     file_in (plan_of p),
     linked,
-    part_weaker asked.out.now (map_path asked) (file_in (plan_of p)) old new map_of_files left,
+    fails_weaker old new asked.out.now (map_path asked) (file_in (plan_of p)) path.now map_of_files
+        left,
   )
   adds_before old new (Err unlinked.StandardOutput) left = (
     file_in (plan_of p),
     linked,
-    all_weaker asked.out.now (map_path asked) (file_in (plan_of p)) old new map_of_files left,
+    all_weaker asked.out.now (map_path asked) (file_in (plan_of p)) old.log new.log map_of_files
+        left,
   )

@@ -14,14 +14,15 @@ use Rattle.ps_linkfile.specs.declared.summary.Summary.{Summary}
 use Rattle.ps_linkfile.specs.Writing.{file_in}
 use Rattle.ps_writing.specs.declared.rows.Form.{Form}
 use Rattle.ps_writing.specs.declared.rows.Form.TheVariants.{Lines, Json}
-use Rattle.ps_output_files.specs.Log.{AddsAll, AddsPart, Grows, Log, took}
+use Rattle.ps_output_files.specs.Log.{AddsAll, Grows, took}
 use Rattle.ps_output_files.specs.Places.{IsPlace, PrintsAt}
 use Rattle.ps_output_files.specs.Prepared.{map_bytes, plan_of}
 use Rattle.ps_output_files.specs.SummaryLine.{summary_text}
+use Rattle.ps_output_files.specs.Unwritten.{FailsToWrite}
 use Rattle.ps_output_files.specs.World.{World}
-use Rattle.ps_output_files.specs.declared.linking.MapContent.{MapContent}
-use Rattle.ps_output_files.specs.declared.linking.MapContent.TheVariants as content
-use Rattle.ps_output_files.specs.declared.linking.Outputs.{Outputs}
+use Rattle.ps_arguments.specs.declared.outputs.MapContent.{MapContent}
+use Rattle.ps_arguments.specs.declared.outputs.MapContent.TheVariants as content
+use Rattle.ps_arguments.specs.declared.outputs.Outputs.{Outputs}
 use Rattle.ps_output_files.specs.declared.linking.Place.{Place}
 use Rattle.ps_output_files.specs.declared.prepared.Prepared.{Prepared}
 use Rattle.ps_output_files.specs.declared.unlinked.Unlinked.{Unlinked}
@@ -58,31 +59,32 @@ WritesLink world asked host libs old new = (file : List ℕ) × LinkedFile host 
     × MapIsApart world (map_path asked) asked.out.now file old
 
 -- what was created where files are not linked: nothing where they are refused or memory runs out; of
--- files that link, a part of what is to be written where a write fails, and all where standard output
--- does
-abbrev pub AddsBefore : Outputs → List ℕ → List (List ℕ) → Log → Log → Unlinked → Type 0
-AddsBefore asked host libs old new (unlinked.Refused fault) = new ≡ old
-AddsBefore asked host libs old new unlinked.Memory = new ≡ old
+-- files that link, a part of what is to be written where the file at a path was not written whole, and all
+-- where standard output failed
+abbrev pub AddsBefore : Outputs → List ℕ → List (List ℕ) → World → World → Unlinked → Type 0
+AddsBefore asked host libs old new (unlinked.Refused fault) = new.log ≡ old.log
+AddsBefore asked host libs old new unlinked.Memory = new.log ≡ old.log
 AddsBefore asked host libs old new (unlinked.Write path) = (file : List ℕ)
     × LinkedFile host libs file
-    × AddsPart asked.out.now (map_path asked) file (IsMapOf asked host libs) old new
+    × FailsToWrite old new asked.out.now (map_path asked) file (IsMapOf asked host libs) path.now
 AddsBefore asked host libs old new unlinked.StandardOutput = (file : List ℕ)
     × LinkedFile host libs file
-    × AddsAll asked.out.now (map_path asked) file (IsMapOf asked host libs) old new
+    × AddsAll asked.out.now (map_path asked) file (IsMapOf asked host libs) old.log new.log
 
 -- the same of a link that was prepared
 abbrev pub IsMapIn : {A : Type 0} → Form → Prepared A → List ℕ → Type 0
 IsMapIn form p text = text ≡ map_bytes form p
 
-abbrev pub AddsPrepared : {A : Type 0} → Outputs → Prepared A → Log → Log → Type 0
-AddsPrepared asked p old new =
-    AddsAll asked.out.now (map_path asked) (file_in (plan_of p)) (IsMapIn asked.form p) old new
+abbrev pub AddsPrepared : {A : Type 0} → Outputs → Prepared A → World → World → Type 0
+AddsPrepared asked p old new = AddsAll asked.out.now (map_path asked) (file_in (plan_of p))
+    (IsMapIn asked.form p) old.log new.log
 
-abbrev pub AddsBeforePrepared : {A : Type 0} → Outputs → Prepared A → Log → Log → Unlinked → Type 0
+abbrev pub AddsBeforePrepared : {A : Type 0} → Outputs → Prepared A → World → World → Unlinked
+    → Type 0
 AddsBeforePrepared asked p old new (unlinked.Refused fault) = ⊥
-AddsBeforePrepared asked p old new unlinked.Memory = new ≡ old
-AddsBeforePrepared asked p old new (unlinked.Write path) =
-    AddsPart asked.out.now (map_path asked) (file_in (plan_of p)) (IsMapIn asked.form p) old new
+AddsBeforePrepared asked p old new unlinked.Memory = new.log ≡ old.log
+AddsBeforePrepared asked p old new (unlinked.Write path) = FailsToWrite old new asked.out.now
+    (map_path asked) (file_in (plan_of p)) (IsMapIn asked.form p) path.now
 AddsBeforePrepared asked p old new unlinked.StandardOutput = AddsPrepared asked p old new
 
 -- where its summary is printed

@@ -2,12 +2,12 @@
 use Rattle.std.specs.Prelude.{◌≡◌, ◌⊎◌, ℕ, Bool, true, false, List, Option, IfSome, IsSomeAnd}
 use Rattle.std.specs.Io.KnownBytes.{Appends}
 use Rattle.ps_writing.specs.Prefixes.{AppendsPrefix}
-use Rattle.ps_output_files.specs.declared.linking.OutBy.{OutBy}
-use Rattle.ps_output_files.specs.declared.linking.OutBy.TheVariants as named_by
+use Rattle.ps_arguments.specs.declared.outputs.OutBy.{OutBy}
+use Rattle.ps_arguments.specs.declared.outputs.OutBy.TheVariants as named_by
 use Rattle.ps_output_files.specs.declared.linking.Place.{Place}
 use Rattle.ps_output_files.specs.declared.linking.Place.TheVariants as place
-use Rattle.ps_output_files.specs.declared.linking.Telling.{Telling}
-use Rattle.ps_output_files.specs.declared.linking.Telling.TheVariants as telling
+use Rattle.ps_arguments.specs.declared.outputs.Telling.{Telling}
+use Rattle.ps_arguments.specs.declared.outputs.Telling.TheVariants as telling
 
 -- Where the summary of a link is printed: nowhere if it prints none; on standard error if its option
 -- names OUT, and OUT leads to standard output, or if the file of the map does; and else on standard

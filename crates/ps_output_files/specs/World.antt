@@ -10,6 +10,8 @@ pub record World : Type 1 where
   pub opened : List ℕ → Option (List ℕ) → Type 0
   -- of a path at which nothing could be opened
   pub unopened : List ℕ → Type 0
+  -- of a path at which no file could be created
+  pub uncreated : List ℕ → Type 0
   -- of a path, and of whether it was found to lead to standard output
   pub leads : List ℕ → Bool → Type 0
   -- of two paths, and of whether they were found to lead to one file
@@ -22,6 +24,7 @@ abbrev pub unknown_world : World
 unknown_world = record {
   opened = λ path left. ⊤;
   unopened = λ path. ⊤;
+  uncreated = λ path. ⊤;
   leads = λ path found. ⊤;
   one_file = λ path other found. ⊤;
   log = None;

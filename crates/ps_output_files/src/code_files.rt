@@ -33,7 +33,8 @@ pub trait CodeFiles {
     fn create(&mut self, path: &str) -> io::Result<Self::Created>
         ensures created { IfOk result (λ file. IsCreated (world self.old).log (world self.new).log
             path.now (Self.Created.contents file)) }
-        ensures err { IfErr result (λ _. (world self.new).log ≡ (world self.old).log) };
+        ensures err { IfErr result (λ _. (world self.new).log ≡ (world self.old).log) }
+        ensures uncreated { IfErr result (λ _. (world self.new).uncreated path.now) };
 
     /// Closes the file that was created at `path`, whether all was written to it or not: no more is.
     fn close(&mut self, path: &str, file: Self::Created) -> io::Result<()>

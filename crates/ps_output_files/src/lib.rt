@@ -9,5 +9,5 @@ mod summary;
 mod unlinked;
 
 pub use code_files::CodeFiles;
-pub use linking::{MapContent, OutBy, Outputs, Place, Telling, link_files};
+pub use linking::{Place, link_files};
 pub use unlinked::Unlinked;

@@ -1,13 +1,14 @@
 //! What a link writes: OUT, then its map, and the summary that it prints.
-ghost use Rattle.std.specs.Prelude.{◌≡◌, ◌≢◌, ◌⊎◌, List, ℕ, IfErr, IfOk, IfSome, IsSomeAnd, OnErr, OnOk, false, option_map, true};
+ghost use Rattle.std.specs.Prelude.{◌≡◌, ◌≢◌, ◌⊎◌, List, ℕ, IfErr, IfOk, IfSome, OnErr, OnOk, Some, false, option_map, true};
 ghost use Rattle.std.specs.Borrow.{Bor};
 ghost use Rattle.ps_linkfile.specs.LinkedFile.{summary_of};
 ghost use Rattle.ps_linkfile.specs.Writing.{file_in, summary_in};
 ghost use Rattle.ps_output_files.specs.Links.{AddsBefore, AddsBeforePrepared, AddsPrepared, IsPlaceOf, IsWhyUnlinked, MapIsApart, PrintsPlaced, WritesLink, map_path};
-ghost use Rattle.ps_output_files.specs.Log.{Grows, IsClosed, TakesMap, TakesPart, took};
+ghost use Rattle.ps_output_files.specs.Log.{Grows, IsClosed, TakesMap, took};
 ghost use Rattle.ps_output_files.specs.Places.{IsBeside, IsPlace, PrintsAt};
 ghost use Rattle.ps_output_files.specs.Prepared.{map_bytes, plan_of};
 ghost use Rattle.ps_output_files.specs.SummaryLine.{summary_text};
+ghost use Rattle.ps_output_files.specs.Unwritten.{FailsAt, FailsBeside};
 ghost use Rattle.ps_resolve.specs.Sources.{contents};
 ghost use Rattle.ps_writing.specs.Prefixes.{AppendsPrefix};
 
@@ -15,52 +16,11 @@ use crate::code_files::CodeFiles;
 use crate::prepared::{Prepared, prepare_link};
 use crate::summary::add_summary;
 use crate::unlinked::Unlinked;
+use ps_arguments::{OutBy, Outputs, Telling};
 use ps_linkfile::Linked;
 use ps_writing::{Counting, Form, WriteFault, write_all_of};
 use std::alloc::Allocator;
 use std::io::Write;
-
-/// What a link writes, and where.
-#[derive(Clone, Copy)]
-pub struct Outputs<'a> {
-    /// The path of OUT, the linked file.
-    pub out: &'a str,
-    /// How OUT is named.
-    pub named: OutBy,
-    /// The path of the file to which the map is written too.
-    pub map: Option<&'a str>,
-    /// What the map has.
-    pub content: MapContent,
-    /// The summary and the map are lines, or documents.
-    pub form: Form,
-    /// What the link prints.
-    pub telling: Telling,
-}
-
-/// How OUT is named.
-#[derive(Clone, Copy)]
-pub enum OutBy {
-    /// By its option.
-    Option,
-    /// By its place after the host.
-    Place,
-}
-
-/// What the map of a link has.
-#[derive(Clone, Copy)]
-pub enum MapContent {
-    /// Where the link puts each segment and variable.
-    Places,
-    /// That, and what the link stores.
-    References,
-}
-
-/// What a link prints once all is written.
-#[derive(Clone, Copy)]
-pub enum Telling {
-    Summary,
-    Nothing,
-}
 
 /// Room for the summary that a link prints.
 const SUMMARY_LENGTH: usize = 128;
@@ -92,10 +52,10 @@ pub fn link_files<'a, 'f, R: CodeFiles, A: Allocator + Copy, O: Write, E: Write>
     ensures written { IfOk result (λ _. WritesLink R.world asked.now host.now (contents libs.now)
         rt.old rt.new) }
 
-    // Where it is not linked, no file was created; but of files that link a part was written where a
-    // write failed, and all where standard output did.
+    // Where it is not linked, no file was created; but of files that link a part was written where the
+    // file at the path that is named was not written whole, and all where standard output failed.
     ensures left { IfErr result (AddsBefore asked.now host.now (contents libs.now)
-        (R.world rt.old).log (R.world rt.new).log) }
+        (R.world rt.old) (R.world rt.new)) }
 
     // The summary is printed at its place, and nothing else.
     ensures printed { OnOk result (PrintsPlaced (R.world rt.old) asked.now
@@ -107,6 +67,9 @@ pub fn link_files<'a, 'f, R: CodeFiles, A: Allocator + Copy, O: Write, E: Write>
     // Where it is not linked, standard output is as it was, unless it failed itself.
     ensures err { IfErr result (λ e. e ≢ Unlinked.StandardOutput → out.new ≡ out.old) }
     ensures why { IfErr result (IsWhyUnlinked host.now (contents libs.now)) }
+    // Where standard output failed, it was to take the summary, and has a prefix of it.
+    ensures placed { IfErr result (λ e. e ≡ Unlinked.StandardOutput
+        → IsPlaceOf (R.world rt.old) asked.now Place.Output) }
     ensures prefix { IfErr result (λ e. e ≡ Unlinked.StandardOutput
         → AppendsPrefix (O.contents out.old) (O.contents out.new)
         (summary_text asked.now.form (summary_of host.now (contents libs.now)))) }
@@ -127,18 +90,20 @@ fn link_prepared<'a, R: CodeFiles, A: Allocator + Copy, O: Write, E: Write>(
     out: &mut O,
     err: &mut E,
 ) -> Result<(), Unlinked<'a>>
-    ensures written { IfOk result (λ _. AddsPrepared asked.now prepared.now (R.world rt.old).log
-        (R.world rt.new).log) }
+    ensures written { IfOk result (λ _. AddsPrepared asked.now prepared.now (R.world rt.old)
+        (R.world rt.new)) }
     ensures apart { IfOk result (λ _. MapIsApart R.world (map_path asked.now) asked.now.out.now
         (file_in (plan_of prepared.now)) rt.old) }
-    ensures left { IfErr result (AddsBeforePrepared asked.now prepared.now (R.world rt.old).log
-        (R.world rt.new).log) }
+    ensures left { IfErr result (AddsBeforePrepared asked.now prepared.now (R.world rt.old)
+        (R.world rt.new)) }
     ensures printed { OnOk result (PrintsPlaced (R.world rt.old) asked.now
         (summary_in (plan_of prepared.now)) (O.contents out.old) (O.contents out.new)
         (E.contents err.old) (E.contents err.new)) }
     ensures silent { IfOk result (λ _. (err.new ≡ err.old)
         ⊎ IsPlaceOf (R.world rt.old) asked.now Place.Error) }
     ensures err { IfErr result (λ e. e ≢ Unlinked.StandardOutput → out.new ≡ out.old) }
+    ensures placed { IfErr result (λ e. e ≡ Unlinked.StandardOutput
+        → IsPlaceOf (R.world rt.old) asked.now Place.Output) }
     ensures prefix { IfErr result (λ e. e ≡ Unlinked.StandardOutput
         → AppendsPrefix (O.contents out.old) (O.contents out.new)
         (summary_text asked.now.form (summary_in (plan_of prepared.now)))) }
@@ -221,6 +186,7 @@ fn print_at<O: Write, E: Write>(
     ensures printed { OnOk result (PrintsAt place text.now (O.contents out.old)
         (O.contents out.new) (E.contents err.old) (E.contents err.new)) }
     ensures silent { place ≢ Place.Error → err.new ≡ err.old }
+    ensures placed { OnErr result (place ≡ Place.Output) }
     ensures prefix { OnErr result (AppendsPrefix (O.contents out.old) (O.contents out.new)
         text.now) }
 {
@@ -242,8 +208,8 @@ fn write_linked<'a, R: CodeFiles, A: Allocator + Copy>(
 ) -> Result<(), Unlinked<'a>>
     ensures file { IfOk result (λ _. Grows (R.world rt.old).log (R.world rt.new).log
         (took path.entry.now (file_in linked.now))) }
-    ensures part { IfErr result (λ _. TakesPart (R.world rt.old).log (R.world rt.new).log
-        path.entry.now (file_in linked.now)) }
+    ensures part { IfErr result (λ _. FailsAt (R.world rt.old) (R.world rt.new) path.entry.now
+        (file_in linked.now)) }
     ensures err { IfErr result (λ e. e ≡ Unlinked.Write path.entry) }
 {
     let Ok(file) = rt.create(path) else {
@@ -267,10 +233,9 @@ fn write_map<'a, R: CodeFiles, A: Allocator + Copy>(
         (option_map (λ path. path.now) path.entry) (map_bytes form prepared.now)) }
     ensures apart { IfOk result (λ _. IfSome (option_map (λ path. path.now) path.entry)
         (λ path. (R.world rt.old).one_file path out.now false)) }
-    ensures part { IfErr result (λ _. IsSomeAnd (option_map (λ path. path.now) path.entry)
-        (λ path. TakesPart (R.world rt.old).log (R.world rt.new).log path
-        (map_bytes form prepared.now))) }
-    ensures err { IfErr result (λ e. (file : Bor (List ℕ)) × (e ≡ Unlinked.Write file)) }
+    ensures part { IfErr result (λ e. (file : Bor (List ℕ)) × (path.entry ≡ Some file)
+        × (e ≡ Unlinked.Write file) × FailsBeside (R.world rt.old) (R.world rt.new) file.now out.now
+        (map_bytes form prepared.now)) }
 {
     match path {
         Some(path) => write_map_to(rt, prepared, form, path, out),
@@ -291,8 +256,8 @@ fn write_map_to<'a, R: CodeFiles, A: Allocator + Copy>(
     ensures file { IfOk result (λ _. Grows (R.world rt.old).log (R.world rt.new).log
         (took path.entry.now (map_bytes form prepared.now))) }
     ensures apart { IfOk result (λ _. (R.world rt.old).one_file path.entry.now out.now false) }
-    ensures part { IfErr result (λ _. TakesPart (R.world rt.old).log (R.world rt.new).log
-        path.entry.now (map_bytes form prepared.now)) }
+    ensures part { IfErr result (λ _. FailsBeside (R.world rt.old) (R.world rt.new)
+        path.entry.now out.now (map_bytes form prepared.now)) }
     ensures err { IfErr result (λ e. e ≡ Unlinked.Write path.entry) }
 {
     if rt.lead_to_one_file(path, out) {

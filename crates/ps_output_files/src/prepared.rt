@@ -8,7 +8,7 @@ ghost use Rattle.ps_output_files.specs.Prepared.{map_bytes, plan_of};
 ghost use Rattle.ps_resolve.specs.Sources.{contents};
 ghost use Rattle.ps_writing.specs.declared.rows.Form.{Form};
 
-use crate::linking::MapContent;
+use ps_arguments::MapContent;
 use ps_linkfile::{LinkMap, Linked, ReferenceMap, References, prepare_files, prepare_references};
 use ps_resolve::Stop;
 use ps_writing::{Form, WriteFault, write_text};

@@ -4,3 +4,9 @@ pub mod Slots
 pub mod Warned
 pub mod WarnedPublics
 pub mod WarnedSlots
+pub mod InLists
+pub mod FoundAt
+pub mod InFiles
+pub mod Extents
+pub mod Said
+pub mod SaidEach

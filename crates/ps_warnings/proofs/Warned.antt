@@ -1,5 +1,5 @@
 -- What the definitions of the warnings compute is what the pages say.
-use Rattle.std.proofs.Common.{◌≡◌, ◌∙◌, ◌+◌, ◌*◌, ◌<◌, ◌≤◌, ◌∷◌, [], ℕ, zero, suc, Bool, true, false, List, Option, Some, None, ap, sym, refl, inl, inr, arith}
+use Rattle.std.proofs.Common.{◌≡◌, ◌∙◌, ◌+◌, ◌*◌, ◌<◌, ◌≤◌, ◌∷◌, [], ℕ, zero, suc, Bool, true, false, List, Option, Some, None, ap, sym, subst, refl, inl, inr, arith}
 use Rattle.std.specs.Prelude.{◌≢◌, ◌⊎◌, ◌&&◌, ◌==◌, if◌then◌else◌, is_some, length, nat_lt, not, option_and_then, slice_get, unwrap_or}
 use Rattle.std.specs.Option.{option_or}
 use Rattle.std.proofs.lemmas.Bool.{false≢true, and_from, and_parts, both_ways, eq-eqb, eqb-true, false_from_ne_true, le-ltb, lt-ltb, ltb-false, ltb-true, not-true, not_from_false}
@@ -13,7 +13,7 @@ use Rattle.ps_linkinfo.specs.declared.record.LinkRecord.{LinkRecord as Record}
 use Rattle.ps_resolve.specs.Searches.{first_of}
 use Rattle.ps_warnings.specs.EntryFindings.{shares}
 use Rattle.ps_warnings.specs.RecordFindings.{at_index, end_mark, first_above, first_high, first_past, high_as, is_past, low_mark, mark_in, past_as, past_words}
-use Rattle.ps_warnings.specs.Warned.{IsEndMark, IsHigh, IsPast, ShareByte}
+use Rattle.ps_warnings.specs.Warned.{IsEndMark, IsFoundUpTo, IsHigh, IsPast, ShareByte}
 use Rattle.ps_warnings.specs.declared.finding.Finding.{Finding}
 use Rattle.ps_warnings.specs.declared.finding.Finding.TheVariants as which
 use Rattle.ps_warnings.specs.declared.finding.RecordFinding.TheVariants as finding
@@ -110,19 +110,31 @@ pub record_found : (g : Record → Option Finding) (rs : List Record) (i : ℕ) 
     → (r : Record) × (slice_get rs i ≡ Some r) × (g r ≡ Some f)
 record_found g rs i f h = record_at g rs i f (numbered_found g 0 rs i f h)
 
-indexed : (k : ℕ) (o : Option Finding) → is_some o ≡ true → is_some (at_index k o) ≡ true
-indexed k (Some f) h = refl
-indexed k None h = elim (false≢true h) [ ]
+upto_here : (k : ℕ) (o : Option Finding) (rest : Option (ℕ × Finding)) (n : ℕ) → k ≤ n
+    → is_some o ≡ true → IsFoundUpTo (option_or (at_index k o) rest) n
+upto_here k (Some f) rest n le h = (k, f, refl, le)
+upto_here k None rest n le h = elim (false≢true h) [ ]
 
-pub record_each : (g : Record → Option Finding) (k : ℕ) (rs : List Record) (j : ℕ) (r : Record)
+upto_later : (k : ℕ) (o : Option Finding) (rest : Option (ℕ × Finding)) (n : ℕ) → k ≤ n
+    → IsFoundUpTo rest n → IsFoundUpTo (option_or (at_index k o) rest) n
+upto_later k (Some f) rest n le h = (k, f, refl, le)
+upto_later k None rest n le h = h
+
+record_from : (g : Record → Option Finding) (k : ℕ) (rs : List Record) (j : ℕ) (r : Record) (n : ℕ)
+    → slice_get rs j ≡ Some r → is_some (g r) ≡ true → n ≡ k + j
+    → IsFoundUpTo (first_of (searched g) (numbered_records k rs)) n
+record_from g k [] j r n at s e = none r _ at
+record_from g k (z ∷ rs) zero r n at s e = upto_here k (g z)
+    (first_of (searched g) (numbered_records (k + 1) rs)) n (omega (arith, e))
+    (ap (λ (w : Record). is_some (g w)) (same z r at) ∙ s)
+record_from g k (z ∷ rs) (suc j) r n at s e = upto_later k (g z)
+    (first_of (searched g) (numbered_records (k + 1) rs)) n (omega (arith, e))
+    (record_from g (k + 1) rs j r n at s (omega (arith, e)))
+
+pub record_each : (g : Record → Option Finding) (rs : List Record) (j : ℕ) (r : Record)
     → slice_get rs j ≡ Some r → is_some (g r) ≡ true
-    → is_some (first_of (searched g) (numbered_records k rs)) ≡ true
-record_each g k [] j r at s = none r _ at
-record_each g k (z ∷ rs) zero r at s = or_first (at_index k (g z))
-    (first_of (searched g) (numbered_records (k + 1) rs))
-    (indexed k (g z) (ap (λ (w : Record). is_some (g w)) (same z r at) ∙ s))
-record_each g k (z ∷ rs) (suc j) r at s = or_second (at_index k (g z))
-    (first_of (searched g) (numbered_records (k + 1) rs)) (record_each g (k + 1) rs j r at s)
+    → IsFoundUpTo (first_of (searched g) (numbered_records 0 rs)) j
+record_each g rs j r at s = record_from g 0 rs j r j at s (omega arith)
 
 -- 3. the end mark
 no_mark : (b : Body) → is_end b ≡ false → next_in b ≡ None
@@ -189,7 +201,7 @@ low_each rs size next m lt = ap (λ (o : Option ℕ). low_mark o (Some size)) (e
     (lt-ltb (2 * next) size lt)
 
 -- 5. a definition above the end mark
-abbrev HighFound : List Record → ℕ → Finding → Type 0
+abbrev pub HighFound : List Record → ℕ → Finding → Type 0
 HighFound rs i f = (next : ℕ) × (value : ℕ) × (name : List ℕ)
     × (f ≡ which.Record (finding.HighDefinition name value next)) × IsEndMark rs next
     × IsHigh rs i name value next
@@ -231,17 +243,17 @@ high_found rs i f h = high_step rs i f (end_mark rs) refl h
 
 high_there : (rs : List Record) (i : ℕ) (name : List ℕ) (value next : ℕ)
     → IsHigh rs i name value next
-    → is_some (first_high next (numbered_records 0 rs)) ≡ true
+    → IsFoundUpTo (first_high next (numbered_records 0 rs)) i
 high_there rs i name value next (r, at, named, body, lt) =
-    record_each (λ (q : Record). high_as next q.name q.body) 0 rs i r at
+    record_each (λ (q : Record). high_as next q.name q.body) rs i r at
     (ap (λ (b : Body). is_some (high_as next r.name b)) body ∙ if_some (nat_lt next value)
     (which.Record (finding.HighDefinition r.name value next)) (lt-ltb next value lt))
 
 pub high_each : (rs : List Record) (i : ℕ) (name : List ℕ) (value next : ℕ) → IsEndMark rs next
-    → IsHigh rs i name value next → is_some (first_above rs) ≡ true
-high_each rs i name value next m h = ap (λ (o : Option ℕ). is_some (option_and_then
-    (λ (n : ℕ). first_high n (numbered_records 0 rs)) o)) (end_mark_there rs next m)
-    ∙ high_there rs i name value next h
+    → IsHigh rs i name value next → IsFoundUpTo (first_above rs) i
+high_each rs i name value next m h = subst (λ (o : Option ℕ). IsFoundUpTo (option_and_then
+    (λ (n : ℕ). first_high n (numbered_records 0 rs)) o) i) (sym (end_mark_there rs next m))
+    (high_there rs i name value next h)
 
 -- 6. an operand past its private variable
 both_zero : (words displacement : ℕ) → (words == 0 && displacement == 0) ≡ true
@@ -269,7 +281,7 @@ facts_past words displacement le apart = and_from (not (nat_lt displacement word
     (false_from_ne_true (words == 0 && displacement == 0)
     (λ z. apart (both_zero words displacement z))))
 
-abbrev PastFound : List ℕ → List Record → ℕ → Finding → Type 0
+abbrev pub PastFound : List ℕ → List Record → ℕ → Finding → Type 0
 PastFound code rs i f = (place : ℕ) × (displacement : ℕ) × (words : ℕ) × (f ≡ which.Record (finding.PastPrivate place displacement words))
     × IsPast code rs i place displacement words
 
@@ -315,11 +327,11 @@ past_found code rs i f h =
 
 pub past_each : (code : List ℕ) (rs : List Record) (i place displacement words : ℕ)
     → IsPast code rs i place displacement words
-    → is_some (first_past code (numbered_records 0 rs)) ≡ true
+    → IsFoundUpTo (first_past code (numbered_records 0 rs)) i
 past_each code rs i place displacement words (r, refs, k, at, body, there, inside, is, le, apart) =
     let reach : words ≤ displacement_at code place = omega (arith, le, is) in
     let other : words + displacement_at code place ≢ 0 = λ s. apart (omega (arith, s, is)) in
-    record_each (λ (q : Record). past_as code q.body) 0 rs i r at
+    record_each (λ (q : Record). past_as code q.body) rs i r at
     (ap (λ (b : Body). is_some (past_as code b)) body
     ∙ each_in (past_words code words) refs k place there
     (if_some (nat_lt (place + 1) (length code) && is_past words (displacement_at code place))

@@ -1,8 +1,8 @@
 -- What the definitions of the warnings compute of public variables is what the pages say: of operands
 -- that lead to the end mark, and of definitions that are missed.
 use Rattle.std.proofs.Common.{◌≡◌, ◌∙◌, ◌+◌, ◌-◌, ◌≤◌, ◌∷◌, [], ℕ, zero, suc, Bool, true, false, List, Option, Some, None, ap, cond, sym, refl, inl, inr, arith}
-use Rattle.std.specs.Prelude.{◌≢◌, ◌⊎◌, ◌&&◌, ◌||◌, is_none, is_some, length, nat_le, nat_lt, not, option_and_then, slice_get, bytes_eq}
-use Rattle.std.proofs.lemmas.Bool.{false≢true, and_from, and_parts, both_ways, leb-true, le-leb, lt-ltb, ltb-true, not-true, not_from_false, or_parts}
+use Rattle.std.specs.Prelude.{◌≢◌, ◌⊎◌, ◌&&◌, is_none, is_some, length, nat_le, nat_lt, not, option_and_then, slice_get, bytes_eq}
+use Rattle.std.proofs.lemmas.Bool.{false≢true, and_from, and_parts, both_ways, leb-true, le-leb, lt-ltb, ltb-true, not-true, not_from_false, or_from, or_parts}
 use Rattle.std.proofs.lemmas.Slice.Eq.{bytes_eq-Decides}
 use Rattle.ps_words.specs.Words.{displacement_at}
 use Rattle.ps_linkinfo.specs.Numbered.{numbered_records}
@@ -15,7 +15,7 @@ use Rattle.ps_linkinfo.specs.declared.sort.Sort.{Sort}
 use Rattle.ps_linkinfo.specs.declared.sort.Sort.TheVariants as sort
 use Rattle.ps_resolve.specs.Searches.{first_of}
 use Rattle.ps_warnings.specs.RecordFindings.{definition_as, end_mark, first_definition, first_past_mark, first_public, is_defined, is_missed, is_past, is_past_mark, is_requested, missed_or_not, past_mark, public_as, value_in, value_of}
-use Rattle.ps_warnings.specs.Warned.{Defines, IsDefinition, IsEndMark, IsOwn, IsPastMark, IsPublic, Refers}
+use Rattle.ps_warnings.specs.Warned.{Defines, IsDefinition, IsEndMark, IsFoundUpTo, IsOwn, IsPastMark, IsPublic, IsVariable, Refers}
 use Rattle.ps_warnings.specs.declared.finding.Finding.{Finding}
 use Rattle.ps_warnings.specs.declared.finding.Finding.TheVariants as which
 use Rattle.ps_warnings.specs.declared.finding.RecordFinding.TheVariants as finding
@@ -191,7 +191,7 @@ value_each name k (r ∷ rs) value (inr (other, more)) = value_second
     (value_each name (k + 1) rs value more)
 
 -- 4. an operand that leads to the end mark or past it
-abbrev MarkFound : List ℕ → List Record → List Record → ℕ → Finding → Type 0
+abbrev pub MarkFound : List ℕ → List Record → List Record → ℕ → Finding → Type 0
 MarkFound code host rs i f = (place : ℕ) × (name : List ℕ) × (displacement : ℕ) × (value : ℕ) × (next : ℕ) × (f ≡ which.Record (finding.PastPublic place name displacement value next))
     × IsPastMark code host rs i place name displacement value next
 
@@ -303,14 +303,14 @@ known_each code name refs o v next value e g h =
 
 pub mark_each : (code : List ℕ) (host rs : List Record) (i place : ℕ) (name : List ℕ)
     (displacement value next : ℕ) → IsPastMark code host rs i place name displacement value next
-    → is_some (first_public code (Some host) (numbered_records 0 rs)) ≡ true
+    → IsFoundUpTo (first_public code (Some host) (numbered_records 0 rs)) i
 mark_each code host rs i place name displacement value next
     (r, refs, k, at, named, body, there, inside, is, m, v, below, far, apart) =
     let d = displacement_at code place in
     let reach : next ≤ value + displacement_at code place = omega (arith, far, is) in
     let own : value_of host r.name ≡ Some value = ap (λ (n : List ℕ). value_of host n) named
     ∙ value_each name 0 host value v in
-    record_each (λ (q : Record). public_as code host q.name q.body) 0 rs i r at
+    record_each (λ (q : Record). public_as code host q.name q.body) rs i r at
     (ap (λ (b : Body). is_some (public_as code host r.name b)) body
     ∙ known_each code r.name refs (end_mark host) (value_of host r.name) next value
     (end_mark_there host next m) own
@@ -321,69 +321,72 @@ mark_each code host rs i place name displacement value next
     (lt-ltb (place + 1) (length code) inside)
     (facts_mark next value d below reach (λ e z. apart e (sym is ∙ z)))))))
 
--- 5. a definition that is missed
-abbrev OwnFound : List Record → List Record → ℕ → Finding → Type 0
-OwnFound host rs i f = (name : List ℕ) × (f ≡ which.Record (finding.OwnDefinition name))
-    × IsOwn host rs i name
+-- 5. a definition of a unit that is missed, or one that is not
+abbrev pub told_as : Bool → List ℕ → Finding
+told_as true name = which.Record (finding.OwnDefinition name)
+told_as false name = which.Record (finding.UnitDefinition name)
 
-missed_is : (name : List ℕ) (m : Bool) (f : Finding) → missed_or_not true m name ≡ Some f
-    → (m ≡ true) × (f ≡ which.Record (finding.OwnDefinition name))
-missed_is name true f h = (refl, sym (same (which.Record (finding.OwnDefinition name)) f h))
-missed_is name false f h = none f _ h
+abbrev pub DefinitionFound : Bool → List Record → Option (List Record) → ℕ → Finding → Type 0
+DefinitionFound b rs host i f = (name : List ℕ) × (f ≡ told_as b name) × IsVariable rs i name
+    × (is_missed rs host name ≡ b)
 
-own_body : (rs host : List Record) (name : List ℕ) (b : Body) (f : Finding)
-    → definition_as true rs (Some host) name b ≡ Some f
-    → (value : ℕ) × (b ≡ PublDef value)
-    × (missed_or_not true (is_missed rs (Some host) name) name ≡ Some f)
-own_body rs host name (PublDef v) f h = (v, refl, h)
-own_body rs host name (ConstDef v) f h = none f _ h
-own_body rs host name (UnitRef refs) f h = none f _ h
-own_body rs host name (PublRef refs) f h = none f _ h
-own_body rs host name (PrivRef words refs) f h = none f _ h
-own_body rs host name (Eof at) f h = none f _ h
+missed_is : (name : List ℕ) (b m : Bool) (f : Finding) → missed_or_not b m name ≡ Some f
+    → (m ≡ b) × (f ≡ told_as b name)
+missed_is name true true f h = (refl, sym (same (told_as true name) f h))
+missed_is name false false f h = (refl, sym (same (told_as false name) f h))
+missed_is name true false f h = none f _ h
+missed_is name false true f h = none f _ h
 
+some_missed : (b m : Bool) (name : List ℕ) → m ≡ b → is_some (missed_or_not b m name) ≡ true
+some_missed true true name h = refl
+some_missed false false name h = refl
+some_missed true false name h = elim (false≢true h) [ ]
+some_missed false true name h = elim (false≢true (sym h)) [ ]
+
+module _ (b : Bool) (rs : List Record) (host : Option (List Record)) where
+  definition_body_is : (name : List ℕ) (body : Body) (f : Finding)
+      → definition_as b rs host name body ≡ Some f
+      → (value : ℕ) × (body ≡ PublDef value)
+      × (missed_or_not b (is_missed rs host name) name ≡ Some f)
+  definition_body_is name (PublDef v) f h = (v, refl, h)
+  definition_body_is name (ConstDef v) f h = none f _ h
+  definition_body_is name (UnitRef refs) f h = none f _ h
+  definition_body_is name (PublRef refs) f h = none f _ h
+  definition_body_is name (PrivRef words refs) f h = none f _ h
+  definition_body_is name (Eof at) f h = none f _ h
+
+  definition_at : (i : ℕ) (f : Finding) (r : Record) → slice_get rs i ≡ Some r
+      → ((value : ℕ) × (r.body ≡ PublDef value)
+      × (missed_or_not b (is_missed rs host r.name) r.name ≡ Some f))
+      → DefinitionFound b rs host i f
+  definition_at i f r at (value, body, h) =
+      let t = missed_is r.name b (is_missed rs host r.name) f h in
+      (r.name, t.1, (r, value, at, refl, body), t.0)
+
+  definition_in_record : (i : ℕ) (f : Finding) → ((r : Record) × (slice_get rs i ≡ Some r)
+      × (definition_as b rs host r.name r.body ≡ Some f)) → DefinitionFound b rs host i f
+  definition_in_record i f (r, at, is) =
+      definition_at i f r at (definition_body_is r.name r.body f is)
+
+  pub definition_found : (i : ℕ) (f : Finding)
+      → first_definition b rs host (numbered_records 0 rs) ≡ Some (i, f)
+      → DefinitionFound b rs host i f
+  definition_found i f h = definition_in_record i f
+      (record_found (λ (r : Record). definition_as b rs host r.name r.body) rs i f h)
+
+  pub definition_each : (i : ℕ) (name : List ℕ) → IsVariable rs i name
+      → is_missed rs host name ≡ b
+      → IsFoundUpTo (first_definition b rs host (numbered_records 0 rs)) i
+  definition_each i name (r, value, at, named, body) m =
+      record_each (λ (q : Record). definition_as b rs host q.name q.body) rs i r at
+      (ap (λ (c : Body). is_some (definition_as b rs host r.name c)) body
+      ∙ (ap (λ (n : List ℕ). is_some (missed_or_not b (is_missed rs host n) n)) named
+      ∙ some_missed b (is_missed rs host name) name m))
+
+-- 6. a definition is missed exactly where the page says so
 read_mark : (o : Option ℕ) → is_none o ≡ false → (next : ℕ) × (o ≡ Some next)
 read_mark (Some next) h = (next, refl)
 read_mark None h = elim (false≢true (sym h)) [ ]
-
-mark_read : (host : List Record) → ((next : ℕ) × (end_mark host ≡ Some next))
-    → (next : ℕ) × IsEndMark host next
-mark_read host (next, e) = (next, end_mark_read host next e)
-
-own_of : (host rs : List Record) (i : ℕ) (f : Finding) (r : Record) (value : ℕ)
-    → slice_get rs i ≡ Some r → r.body ≡ PublDef value
-    → f ≡ which.Record (finding.OwnDefinition r.name) → Refers rs r.name
-    → (Defines host r.name → ⊥) → ((next : ℕ) × IsEndMark host next) → OwnFound host rs i f
-own_of host rs i f r value at body is refers never (next, m) =
-    (r.name, is, (r, value, next, at, refl, body, refers, m, never))
-
-own_at : (host rs : List Record) (i : ℕ) (f : Finding) (r : Record) → slice_get rs i ≡ Some r
-    → ((value : ℕ) × (r.body ≡ PublDef value)
-    × (missed_or_not true (is_missed rs (Some host) r.name) r.name ≡ Some f))
-    → OwnFound host rs i f
-own_at host rs i f r at (value, body, h) =
-    let t = missed_is r.name (is_missed rs (Some host) r.name) f h in
-    let both = and_parts (is_requested rs r.name) (not (is_defined (Some host) r.name)) t.0 in
-    let never = or_parts (is_none (end_mark host))
-    (is_some (first_named r.name sort.Definition (numbered_records 0 host)))
-    (not-true (is_defined (Some host) r.name) both.1) in
-    own_of host rs i f r value at body t.1
-    (referred rs r.name (named_found r.name sort.Request 0 rs both.0))
-    (λ d. both_ways (is_some (first_named r.name sort.Definition (numbered_records 0 host))) never.1
-    (defines host r.name d))
-    (mark_read host (read_mark (end_mark host) never.0))
-
-own_in_record : (host rs : List Record) (i : ℕ) (f : Finding)
-    → ((r : Record) × (slice_get rs i ≡ Some r)
-    × (definition_as true rs (Some host) r.name r.body ≡ Some f)) → OwnFound host rs i f
-own_in_record host rs i f (r, at, is) =
-    own_at host rs i f r at (own_body rs host r.name r.body f is)
-
-pub own_found : (host rs : List Record) (i : ℕ) (f : Finding)
-    → first_definition true rs (Some host) (numbered_records 0 rs) ≡ Some (i, f)
-    → OwnFound host rs i f
-own_found host rs i f h = own_in_record host rs i f
-    (record_found (λ (r : Record). definition_as true rs (Some host) r.name r.body) rs i f h)
 
 not_defined : (host : List Record) (name : List ℕ) (t : Bool)
     → is_some (first_named name sort.Definition (numbered_records 0 host)) ≡ t
@@ -392,28 +395,49 @@ not_defined host name true e h = elim (h (defined host name
     (named_found name sort.Definition 0 host e))) [ ]
 not_defined host name false e h = refl
 
-both_no : (a b : Bool) → a ≡ false → b ≡ false → (a || b) ≡ false
-both_no false b e h = h
-both_no true b e h = elim (false≢true (sym e)) [ ]
+module _ (host rs : List Record) (i : ℕ) (name : List ℕ) where
+  variable_of : IsOwn host rs i name → IsVariable rs i name
+  variable_of (r, value, next, at, named, body, refers, m, never) = (r, value, at, named, body)
 
-missed_some : (m : Bool) (name : List ℕ) → m ≡ true
-    → is_some (missed_or_not true m name) ≡ true
-missed_some true name h = refl
-missed_some false name h = elim (false≢true h) [ ]
+  pub own_missed : IsOwn host rs i name → is_missed rs (Some host) name ≡ true
+  own_missed (r, value, next, at, named, body, refers, m, never) =
+      let unread : is_none (end_mark host) ≡ false =
+      ap (λ (o : Option ℕ). is_none o) (end_mark_there host next m) in
+      let none_there = not_defined host name
+      (is_some (first_named name sort.Definition (numbered_records 0 host))) refl never in
+      and_from (is_requested rs name) (not (is_defined (Some host) name))
+      (requested rs name refers) (not_from_false (is_defined (Some host) name)
+      (or_from (is_none (end_mark host))
+      (is_some (first_named name sort.Definition (numbered_records 0 host))) unread none_there))
 
-pub own_each : (host rs : List Record) (i : ℕ) (name : List ℕ) → IsOwn host rs i name
-    → is_some (first_definition true rs (Some host) (numbered_records 0 rs)) ≡ true
-own_each host rs i name (r, value, next, at, named, body, refers, m, never) =
-    let unread : is_none (end_mark host) ≡ false =
-    ap (λ (o : Option ℕ). is_none o) (end_mark_there host next m) in
-    let none_there = not_defined host name
-    (is_some (first_named name sort.Definition (numbered_records 0 host))) refl never in
-    let missed : is_missed rs (Some host) name ≡ true =
-    and_from (is_requested rs name) (not (is_defined (Some host) name))
-    (requested rs name refers) (not_from_false (is_defined (Some host) name)
-    (both_no (is_none (end_mark host))
-    (is_some (first_named name sort.Definition (numbered_records 0 host))) unread none_there)) in
-    record_each (λ (q : Record). definition_as true rs (Some host) q.name q.body) 0 rs i r at
-    (ap (λ (b : Body). is_some (definition_as true rs (Some host) r.name b)) body
-    ∙ (ap (λ (n : List ℕ). is_some (missed_or_not true (is_missed rs (Some host) n) n)) named
-    ∙ missed_some (is_missed rs (Some host) name) name missed))
+  own_with : IsVariable rs i name → Refers rs name → (Defines host name → ⊥)
+      → ((next : ℕ) × (end_mark host ≡ Some next)) → IsOwn host rs i name
+  own_with (r, value, at, named, body) refers never (next, e) =
+      (r, value, next, at, named, body, refers, end_mark_read host next e, never)
+
+  pub missed_own : IsVariable rs i name → is_missed rs (Some host) name ≡ true
+      → IsOwn host rs i name
+  missed_own v h =
+      let both = and_parts (is_requested rs name) (not (is_defined (Some host) name)) h in
+      let never = or_parts (is_none (end_mark host))
+      (is_some (first_named name sort.Definition (numbered_records 0 host)))
+      (not-true (is_defined (Some host) name) both.1) in
+      own_with v (referred rs name (named_found name sort.Request 0 rs both.0))
+      (λ d. both_ways (is_some (first_named name sort.Definition (numbered_records 0 host)))
+      never.1 (defines host name d))
+      (read_mark (end_mark host) never.0)
+
+  pub own_each : IsOwn host rs i name
+      → IsFoundUpTo (first_definition true rs (Some host) (numbered_records 0 rs)) i
+  own_each h = definition_each true rs (Some host) i name (variable_of h) (own_missed h)
+
+own_told : (host rs : List Record) (i : ℕ) (f : Finding)
+    → DefinitionFound true rs (Some host) i f
+    → (name : List ℕ) × (f ≡ which.Record (finding.OwnDefinition name)) × IsOwn host rs i name
+own_told host rs i f (name, is, v, m) = (name, is, missed_own host rs i name v m)
+
+pub own_found : (host rs : List Record) (i : ℕ) (f : Finding)
+    → first_definition true rs (Some host) (numbered_records 0 rs) ≡ Some (i, f)
+    → (name : List ℕ) × (f ≡ which.Record (finding.OwnDefinition name)) × IsOwn host rs i name
+own_found host rs i f h =
+    own_told host rs i f (definition_found true rs (Some host) i f h)

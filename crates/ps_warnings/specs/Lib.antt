@@ -9,4 +9,6 @@ pub mod FileFindings
 pub mod AllFindings
 pub mod Notes
 pub mod Warned
+pub mod WarnedFiles
 pub mod SmallRecords
+pub mod SmallEntries

@@ -1,6 +1,6 @@
 -- What a check warns of, in the words of the pages: of records and of bytes of a file, and not by the
 -- steps of a search.
-use Rattle.std.specs.Prelude.{◌≡◌, ◌≢◌, ◌⊎◌, ℕ, ◌+◌, ◌<◌, ◌≤◌, true, false, List, [], ◌∷◌, drop, length, slice_get, slice_index, Some}
+use Rattle.std.specs.Prelude.{◌≡◌, ◌≢◌, ◌⊎◌, ℕ, ◌+◌, ◌<◌, ◌≤◌, true, false, List, [], ◌∷◌, drop, length, slice_get, slice_index, Option, Some}
 use Rattle.std.specs.Char.{to_ascii_uppercase}
 use Rattle.std.specs.List.{list_all}
 use Rattle.ps_words.specs.Words.{displacement_at}
@@ -10,12 +10,17 @@ use Rattle.ps_filetype.specs.Names.{is_padding}
 use Rattle.ps_linkinfo.specs.Records.{is_eof}
 use Rattle.ps_linkinfo.specs.declared.record.Body.TheVariants.{PublDef, ConstDef, PublRef, PrivRef, Eof}
 use Rattle.ps_linkinfo.specs.declared.record.LinkRecord.{LinkRecord as Record}
+use Rattle.ps_warnings.specs.declared.finding.Finding.{Finding}
 use Rattle.ps_warnings.specs.declared.findings.extents.Extent.{Extent}
 
 -- the first end mark of these records says this base offset
 abbrev pub IsEndMark : List Record → ℕ → Type 0
 IsEndMark [] next = ⊥
 IsEndMark (r ∷ rs) next = (r.body ≡ Eof next) ⊎ ((is_eof r ≡ false) × IsEndMark rs next)
+
+-- something is found, of record i or of one before it
+abbrev pub IsFoundUpTo : Option (ℕ × Finding) → ℕ → Type 0
+IsFoundUpTo found i = (j : ℕ) × (f : Finding) × (found ≡ Some (j, f)) × (j ≤ i)
 
 -- record i is a PUBLDEF of the name above the end mark
 abbrev pub IsHigh : List Record → ℕ → List ℕ → ℕ → ℕ → Type 0
@@ -59,6 +64,11 @@ IsPastMark code host rs i place name displacement value next = (r : Record) × (
     × (displacement_at code place ≡ displacement) × IsEndMark host next × IsPublic host name value
     × (value ≤ next) × (next ≤ value + displacement)
     × ((value ≡ next) → (displacement ≢ 0))
+
+-- record i is a PUBLDEF of the name
+abbrev pub IsVariable : List Record → ℕ → List ℕ → Type 0
+IsVariable rs i name = (r : Record) × (value : ℕ) × (slice_get rs i ≡ Some r) × (r.name ≡ name)
+    × (r.body ≡ PublDef value)
 
 -- record i is a PUBLDEF of the name in a unit that refers to it, of which the host, whose end mark is
 -- read, has no definition

@@ -1,17 +1,23 @@
 //! Laws of the warnings: what their definitions compute is what the pages say. Functions that do
 //! nothing, whose clauses are the laws.
-ghost use Rattle.std.specs.Prelude.{◌≡◌, ◌↔◌, ◌*◌, ◌<◌, ℕ, Bool, List, None, Some, is_some, false, true};
+ghost use Rattle.std.specs.Prelude.{◌≡◌, ◌↔◌, ◌*◌, ◌<◌, ◌∷◌, [], ℕ, Bool, List, None, Some, false, true};
+ghost use Rattle.ps_check_segments.specs.Seen.{Seen};
 ghost use Rattle.ps_check_segments.specs.SegmentParts.{is_added};
 ghost use Rattle.ps_check_segments.specs.declared.segments.SegmentPart.{SegmentPart as Part};
+ghost use Rattle.ps_check_segments.specs.declared.segments.SegmentPart.TheVariants as part;
 ghost use Rattle.ps_codefile.specs.declared.entry.Entry.{Entry as EntryOf};
 ghost use Rattle.ps_filetype.specs.Names.{is_respelled};
 ghost use Rattle.ps_linkinfo.specs.Numbered.{numbered_records};
 ghost use Rattle.ps_linkinfo.specs.declared.record.LinkRecord.{LinkRecord as Record};
-ghost use Rattle.ps_warnings.specs.EntryFindings.{empty_slot, shares};
-ghost use Rattle.ps_warnings.specs.LinkFindings.{taken_slot};
+ghost use Rattle.ps_warnings.specs.AllFindings.{link_findings_of};
+ghost use Rattle.ps_warnings.specs.EntryFindings.{empty_slot, overlap, shares};
+ghost use Rattle.ps_warnings.specs.FileFindings.{extent};
+ghost use Rattle.ps_warnings.specs.LinkFindings.{other_spelling, taken_slot};
 ghost use Rattle.ps_warnings.specs.RecordFindings.{end_mark, first_above, first_definition, first_past, first_public, low_mark};
+ghost use Rattle.ps_warnings.specs.SmallEntries.{blank, empty_entry, other_util, segment_of, small_util, util, zero_util};
 ghost use Rattle.ps_warnings.specs.SmallRecords.{count, cut_after, defining, defining_none, having, no_records, owning, referring, with_operand};
-ghost use Rattle.ps_warnings.specs.Warned.{IsEndMark, IsHigh, IsNamed, IsOwn, IsPast, IsPastMark, IsRespelled, ShareByte};
+ghost use Rattle.ps_warnings.specs.Warned.{IsEndMark, IsFoundUpTo, IsHigh, IsNamed, IsOwn, IsPast, IsPastMark, IsRespelled, ShareByte};
+ghost use Rattle.ps_warnings.specs.WarnedFiles.{AreSaid};
 ghost use Rattle.ps_warnings.specs.declared.finding.EntryFinding.TheVariants as entry;
 ghost use Rattle.ps_warnings.specs.declared.finding.Finding.{Finding as FindingOf};
 ghost use Rattle.ps_warnings.specs.declared.finding.Finding.TheVariants as which;
@@ -43,7 +49,7 @@ pub fn high_definitions_are_told()
         × (f ≡ which.Record (finding.HighDefinition name value next)) × IsEndMark rs next
         × IsHigh rs i name value next }
     ensures each { (rs : List Record) (i : ℕ) (name : List ℕ) (value next : ℕ)
-        → IsEndMark rs next → IsHigh rs i name value next → is_some (first_above rs) ≡ true }
+        → IsEndMark rs next → IsHigh rs i name value next → IsFoundUpTo (first_above rs) i }
 {}
 
 /// An operand of a private variable is told of exactly where one is outside its variable.
@@ -54,7 +60,7 @@ pub fn past_privates_are_told()
         × IsPast code rs i place displacement words }
     ensures each { (code : List ℕ) (rs : List Record) (i place displacement words : ℕ)
         → IsPast code rs i place displacement words
-        → is_some (first_past code (numbered_records 0 rs)) ≡ true }
+        → IsFoundUpTo (first_past code (numbered_records 0 rs)) i }
 {}
 
 /// An operand of a public variable is told of exactly where one leads to the end mark of the host or
@@ -67,7 +73,7 @@ pub fn past_publics_are_told()
     ensures each { (code : List ℕ) (host rs : List Record) (i place : ℕ) (name : List ℕ)
         (displacement value next : ℕ)
         → IsPastMark code host rs i place name displacement value next
-        → is_some (first_public code (Some host) (numbered_records 0 rs)) ≡ true }
+        → IsFoundUpTo (first_public code (Some host) (numbered_records 0 rs)) i }
 {}
 
 /// A unit's own definition is told of exactly where the unit refers to the name and the host, whose end
@@ -78,7 +84,7 @@ pub fn own_definitions_are_told()
         → (name : List ℕ) × (f ≡ which.Record (finding.OwnDefinition name))
         × IsOwn host rs i name }
     ensures each { (host rs : List Record) (i : ℕ) (name : List ℕ) → IsOwn host rs i name
-        → is_some (first_definition true rs (Some host) (numbered_records 0 rs)) ≡ true }
+        → IsFoundUpTo (first_definition true rs (Some host) (numbered_records 0 rs)) i }
 {}
 
 /// Two entries that have bytes overlap exactly where they have a byte in common.
@@ -106,6 +112,15 @@ pub fn named_slots_are_told()
 /// Two names are nearly the same exactly where they differ in capitals A to Z or in padding alone.
 pub fn near_names_are_told()
     ensures { (a b : List ℕ) → (is_respelled a b ≡ true) ↔ IsRespelled a b }
+{}
+
+/// In whole files, each finding about the link is so, in the segment and the record that it names, and
+/// whatever is so is said. Of an end mark, an empty slot and a slot that is taken, each is said. Of
+/// operands and definitions the first record of a segment is said, of entries that share bytes the
+/// first earlier one, of units that have nearly one name an earlier one.
+pub fn findings_are_said()
+    ensures { (paths : List (List ℕ)) (host : List ℕ) (libs : List (List ℕ)) (list : List Seen)
+        → AreSaid paths host libs list (link_findings_of paths host libs list) }
 {}
 
 /// Each warning of records is found on small files, and not found on files beside them.
@@ -137,4 +152,34 @@ pub fn each_warning_is_found_once()
         (numbered_records 0 owning) ≡ None }
     ensures own_unread { first_definition true owning (Some no_records)
         (numbered_records 0 owning) ≡ None }
+{}
+
+/// Each warning of entries and of units is found on small ones, and not found on those beside them.
+pub fn each_warning_of_slots_is_found_once()
+    ensures named { empty_slot 8 false (empty_entry util 0)
+        ≡ Some (which.Entry (entry.EmptySlot 8 util 0)) }
+    ensures of_kind { empty_slot 8 false (empty_entry blank 1)
+        ≡ Some (which.Entry (entry.EmptySlot 8 blank 1)) }
+    ensures not_named { empty_slot 8 false (empty_entry blank 3) ≡ None }
+    ensures not_free { empty_slot 8 true (empty_entry util 0) ≡ None }
+    ensures shared { overlap (extent 1 512 1024 ∷ extent 2 1023 1042 ∷ []) (extent 2 1023 1042)
+        ≡ Some (which.Entry (entry.Overlap 1)) }
+    ensures shared_later { overlap (extent 1 512 1024 ∷ extent 2 1023 1042 ∷ [])
+        (extent 1 512 1024) ≡ None }
+    ensures not_shared { overlap (extent 1 512 1024 ∷ extent 2 1024 1042 ∷ [])
+        (extent 2 1024 1042) ≡ None }
+    ensures taken { taken_slot 8 (part.Added util 0) (empty_entry util 0)
+        ≡ Some (which.Link (link.TakenSlot 8 util)) }
+    ensures not_taken { taken_slot 8 (part.Added util 0) (empty_entry blank 3) ≡ None }
+    ensures not_added { taken_slot 8 part.Wanted (empty_entry util 0) ≡ None }
+    ensures spelled { other_spelling (segment_of util part.Unit ∷ [])
+        (segment_of small_util part.Wanted) ≡ Some (which.Link (link.OtherSpelling util)) }
+    ensures padded { other_spelling (segment_of util part.Unit ∷ [])
+        (segment_of zero_util part.Wanted) ≡ Some (which.Link (link.OtherSpelling util)) }
+    ensures not_spelled { other_spelling (segment_of util part.Unit ∷ [])
+        (segment_of util part.Wanted) ≡ None }
+    ensures not_near { other_spelling (segment_of util part.Unit ∷ [])
+        (segment_of other_util part.Wanted) ≡ None }
+    ensures no_unit { other_spelling (segment_of util part.Plain ∷ [])
+        (segment_of small_util part.Wanted) ≡ None }
 {}

@@ -76,8 +76,8 @@ pub extern "C" fn pslink_link_nonnull(
 /// `pslink_link_nonnull`. `names` has the names of the files in the text, UTF-8, one after another,
 /// and `name_lengths` the length of each, that of the host first; of a text in which the files have
 /// no names, these two are not looked at. Answers `DONE`, and `out` then begins with the text, and
-/// the answer of a report has its verdict and how many warnings it has; `MISUSE` where there is no
-/// such text, where `lengths` do not add up to the length of `libs` or `name_lengths` to that of
+/// the answer of a report, or of what it finds, has its verdict and how many warnings it has;
+/// `MISUSE` where there is no such text, where `lengths` do not add up to the length of `libs` or `name_lengths` to that of
 /// `names`, and where there is not one name for each file; `WRONG_NAMES` where all that is right
 /// and a name is no UTF-8; `REFUSED` with the first fault of all, of a map, and where `host` cannot
 /// be read, of what it has and of names of units; `NO_MEMORY` where memory was refused; and

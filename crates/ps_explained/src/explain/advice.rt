@@ -122,7 +122,7 @@ impl fmt::Display for Advice<'_> {
                 let library = ShownPath(library);
                 write!(
                     f,
-                    "Exchange the two: give {library} as HOST, and {host} after it."
+                    "Exchange the two: give {library} as the host, and {host} after it."
                 )
             }
             Advice::LeaveOut { host, library } => {
@@ -130,7 +130,7 @@ impl fmt::Display for Advice<'_> {
                 let library = ShownPath(library);
                 write!(
                     f,
-                    "Give {library} as HOST, and leave {host} out: it is linked already."
+                    "Give {library} as the host, and leave {host} out: it is linked already."
                 )
             }
             Advice::Library { name, host } => {

@@ -1,12 +1,15 @@
 //! The arguments of the command line: help, version and wrong usage.
-use super::outcome::gives;
+use super::inputs::save_text;
+use super::outcome::{clean, done, gives};
 use super::wanted::Text;
 use super::wanted::Text::{
-    CheckHelp, EmptyOut, Help, LinkHelp, ListHelp, MapHelp, NoArgs, NoCheckedFile, NoCheckedHost,
-    NoCommand, NoFile, NoHost, NoLinkedHost, NoListedFile, NoOut, NotListed, NotThere,
-    NotThereToCheck, Nothing, OutIsLibrary, ShowHelp, StrictUnits, TwoFiles, TwoOuts,
-    UnknownOption, UnknownOptionOfMap, Version,
+    CheckHelp, EmptyOut, Help, LinkHelp, ListHelp, MapHelp, NoArgs, NoCheckedFile, NoCommand,
+    NoFile, NoHost, NoLinkedHost, NoListedFile, NoOut, NotListed, NotThere, NotThereToCheck,
+    Nothing, OutIsLibrary, ShowHelp, StrictUnits, TwoFiles, TwoOuts, UnknownOption,
+    UnknownOptionOfMap, Version,
 };
+use std::process::Abort;
+use std::rt::Files;
 
 pub const VERSION: &str = "pslink 0.4.0\n";
 
@@ -51,7 +54,7 @@ Arguments:
   [LIB]...  A library to search for units, in the order given
 
 Options:
-  -o, --output <OUT>  The code file to write; if it is HOST, the unlinked host is lost
+  -o, --output <OUT>  The code file to write, which is no file of the link
       --map <FILE>    Writes the map of the link to FILE, too
       --references    Writes to FILE what the link stores at each place, too
       --json          Prints the summary and writes the map as JSON documents
@@ -71,8 +74,9 @@ the same files. FILE may be neither OUT nor a file of the link.
 The summary is printed on standard error where the OUT of -o or FILE is standard
 output, as /dev/stdout. A file is read from a pipe as /dev/stdin.
 
-Without -o the file after HOST is OUT. If OUT is forgotten there, the first LIB is taken
-as OUT, and is overwritten if the link succeeds.
+Without -o the file after HOST is OUT, and may be HOST. If OUT is forgotten there, the
+first LIB is taken as OUT: a unit that it alone has is then missing, and if none is, it
+is overwritten.
 
 If the files are refused, pslink check with the same files says why.
 
@@ -149,6 +153,7 @@ pub const CHECK_HELP: &str =
     "Says in words whether the files link, what is wrong and what looks wrong
 
 Usage: pslink check [OPTIONS] <HOST> [LIB]...
+       pslink check --unit [--json] <FILE>...
 
 Arguments:
   <HOST>    The code file that holds the host program
@@ -169,10 +174,10 @@ certain and no fault, one with 'note: ' is a guess, and one with 'harmless: ' ch
 no link. No file is written, so leave -o OUT out. With --json the verdict, what is
 found and the report are printed as one JSON document.
 
-With --unit, HOST and each LIB are files of any kind. They are listed as by list, and
-after the lines of each file comes a line of each unit that it has, with its first
-fault in a link with a host that would define each name: so a unit can be checked
-before there is a host. A file without a unit is refused.
+With --unit, each FILE is of any kind. The files are listed as by list, and after the
+lines of each file comes a line of each unit that it has, with its first fault in a link
+with a host that would define each name: so a unit can be checked before there is a
+host. A file without a unit is refused.
 
 Exit status:
   0  the files link, and there may be warnings
@@ -255,18 +260,11 @@ Usage: pslink map <HOST> [LIB]...
 For more information, try '--help'.
 ";
 
-pub const NO_CHECKED_HOST: &str = "error: the following required arguments were not provided:
-  <HOST>
-
-Usage: pslink check --strict <HOST> [LIB]...
-
-For more information, try '--help'.
-";
-
 pub const NO_CHECKED_FILE: &str = "error: the following required arguments were not provided:
   <HOST>
 
-Usage: pslink check <HOST> [LIB]...
+Usage: pslink check [OPTIONS] <HOST> [LIB]...
+       pslink check --unit [--json] <FILE>...
 
 For more information, try '--help'.
 ";
@@ -334,6 +332,7 @@ For more information, try '--help'.
 pub const STRICT_UNITS: &str = "error: the argument '--strict' cannot be used with '--unit'
 
 Usage: pslink check [OPTIONS] <HOST> [LIB]...
+       pslink check --unit [--json] <FILE>...
 
 For more information, try '--help'.
 ";
@@ -348,9 +347,9 @@ pub const NOT_THERE: &str = "pslink: cannot read not-there\n";
 
 pub const NOT_THERE_TO_CHECK: &str = "pslink: cannot read not-there (no such file)\n";
 
-/// Args, and the status and the two texts that they give. HOST may be OUT or a library, and no file
-/// of these is there.
-static ROWS: [(&str, u8, Text, Text); 55] = [
+/// Args, and the status and the two texts that they give. HOST may be a library, or by its place OUT, and
+/// no file of these is there.
+static ROWS: [(&str, u8, Text, Text); 56] = [
     ("pslink --help", 0, Help, Nothing),
     ("pslink -h", 0, Help, Nothing),
     ("pslink link --help", 0, LinkHelp, Nothing),
@@ -377,7 +376,7 @@ static ROWS: [(&str, u8, Text, Text); 55] = [
     ("pslink show", 2, Nothing, NoFile),
     ("pslink list", 2, Nothing, NoListedFile),
     ("pslink check", 2, Nothing, NoCheckedFile),
-    ("pslink check --strict", 2, Nothing, NoCheckedHost),
+    ("pslink check --strict", 2, Nothing, NoCheckedFile),
     (
         "pslink check not-there --strict",
         3,
@@ -403,8 +402,9 @@ static ROWS: [(&str, u8, Text, Text); 55] = [
         Nothing,
         OutIsLibrary,
     ),
-    ("pslink link -o not-there not-there b", 3, Nothing, NotThere),
-    ("pslink link not-there -o not-there", 3, Nothing, NotThere),
+    ("pslink link -o b not-there c", 3, Nothing, NotThere),
+    ("pslink link not-there -o b", 3, Nothing, NotThere),
+    ("pslink map --frob -- -o", 2, Nothing, UnknownOptionOfMap),
     ("pslink link not-there b c --output d", 3, Nothing, NotThere),
     ("pslink link not-there -qo d -- b", 3, Nothing, NotThere),
     ("pslink link -o -q not-there b", 2, Nothing, EmptyOut),
@@ -427,6 +427,131 @@ static ROWS: [(&str, u8, Text, Text); 55] = [
     ("pslink link not-there b not-there", 3, Nothing, NotThere),
     ("pslink link not-there b ./b B bb", 3, Nothing, NotThere),
 ];
+
+const USAGE: &str = "
+
+Usage: pslink <COMMAND>
+
+For more information, try '--help'.
+";
+
+const USAGE_OF_MAP: &str = "
+
+Usage: pslink map [OPTIONS] <HOST> [LIB]...
+
+For more information, try '--help'.
+";
+
+const USAGE_OF_SHOW: &str = "
+
+Usage: pslink show [OPTIONS] <FILE>
+
+For more information, try '--help'.
+";
+
+const USAGE_OF_CHECK: &str = "
+
+Usage: pslink check [OPTIONS] <HOST> [LIB]...
+       pslink check --unit [--json] <FILE>...
+
+For more information, try '--help'.
+";
+
+const USAGE_OF_LIST: &str = "
+
+Usage: pslink list [OPTIONS] <FILE>...
+
+For more information, try '--help'.
+";
+
+const OPTION_OF_LINK: &str = "error: unexpected argument '-o' found
+
+  tip: 'link -o' exists";
+
+const WORD_OF_LINK: &str = "error: unexpected argument '--output' found
+
+  tip: 'link --output' exists";
+
+const NO_FILE_OF_MAP: &str = "error: unexpected argument '--output' found
+
+  tip: map writes no file: leave --output OUT out";
+
+const NO_FILE_OF_SHOW: &str = "error: unexpected argument '-o' found
+
+  tip: show writes no file: leave -o OUT out";
+
+const NO_FILE_OF_CHECK: &str = "error: unexpected argument '-o' found
+
+  tip: check writes no file: leave -o OUT out";
+
+const NO_FILE_OF_LIST: &str = "error: unexpected argument '-o' found
+
+  tip: list writes no file: leave -o OUT out";
+
+const LIKE_LINK: &str = "error: unrecognized subcommand 'lnik'
+
+  tip: a similar subcommand exists: 'link'";
+
+const LINK_IN_CAPITALS: &str = "error: unrecognized subcommand 'LINK'
+
+  tip: a similar subcommand exists: 'link'";
+
+const HELP_IN_CAPITALS: &str = "error: unrecognized subcommand 'Help'
+
+  tip: a similar subcommand exists: 'help'";
+
+const VERSION_WORD: &str = "error: unrecognized subcommand 'version'
+
+  tip: a similar argument exists: '--version'";
+
+const FILE_FIRST: &str = "error: unrecognized subcommand 'tips-file'
+
+  tip: to link files, use 'pslink link -o <OUT> <HOST> [LIB]...'";
+
+/// Args that are wrong usage, what is said of them, and the usage after it. Of the files `tips-file` alone
+/// is there.
+static TIPS: [(&str, &str, &str); 18] = [
+    ("pslink tips-file b", FILE_FIRST, USAGE),
+    ("pslink help tips-file", FILE_FIRST, USAGE),
+    ("pslink -o a tips-file", OPTION_OF_LINK, USAGE),
+    ("pslink --output a b", WORD_OF_LINK, USAGE),
+    ("pslink lnik", LIKE_LINK, USAGE),
+    ("pslink help lnik", LIKE_LINK, USAGE),
+    ("pslink LINK -o a b", LINK_IN_CAPITALS, USAGE),
+    ("pslink help LINK", LINK_IN_CAPITALS, USAGE),
+    ("pslink Help", HELP_IN_CAPITALS, USAGE),
+    ("pslink version", VERSION_WORD, USAGE),
+    ("pslink help version", VERSION_WORD, USAGE),
+    ("pslink map a --output b", NO_FILE_OF_MAP, USAGE_OF_MAP),
+    ("pslink show -o b a", NO_FILE_OF_SHOW, USAGE_OF_SHOW),
+    (
+        "pslink check -o a tips-file",
+        NO_FILE_OF_CHECK,
+        USAGE_OF_CHECK,
+    ),
+    ("pslink check a b -o c", NO_FILE_OF_CHECK, USAGE_OF_CHECK),
+    (
+        "pslink check --unit --frob -o a",
+        NO_FILE_OF_CHECK,
+        USAGE_OF_CHECK,
+    ),
+    ("pslink list a b -o c", NO_FILE_OF_LIST, USAGE_OF_LIST),
+    ("pslink list -o -- -o", NO_FILE_OF_LIST, USAGE_OF_LIST),
+];
+
+/// Each row is wrong usage, and says what was meant.
+fn says_what_is_meant<R: Files + AllocGlobal + Abort>(rt: &R) {
+    save_text(rt, "tips-file", "a file of any kind");
+    for (args, complained, usage) in &TIPS {
+        done(rt, *args).is_wrong_usage(rt, *args, *complained, *usage);
+    }
+    clean(rt, "tips-file");
+}
+
+#[test]
+fn wrong_usage_says_what_is_meant(rt: HostRuntime) {
+    says_what_is_meant(&rt)
+}
 
 #[test]
 fn args_are_taken_or_are_wrong_usage(rt: HostRuntime) {

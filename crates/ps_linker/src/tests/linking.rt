@@ -142,8 +142,52 @@ static SPELLED: [(&str, &str); 2] = [
     ),
 ];
 
+/// A link whose option names a file that leads to its host, and what is said of it.
+static LED_BY_OPTION: &str = "pslink link -o led-out led-host led-library";
+
+/// A link whose OUT is the host, by its place after it: it is written.
+static LED_BY_PLACE: &str = "pslink link led-host led-host led-library";
+
+const LEADS_TO_HOST: &str =
+    "error: invalid value 'led-out' for '--output <OUT>': it is the host 'led-host'
+
+Usage: pslink link [OPTIONS] -o <OUT> <HOST> [LIB]...
+       pslink link [OPTIONS] <HOST> <OUT> [LIB]...
+
+For more information, try '--help'.
+";
+
+const IS_HOST: &str = "error: invalid value 'led-host' for '--output <OUT>': it is named as HOST too
+
+Usage: pslink link [OPTIONS] -o <OUT> <HOST> [LIB]...
+       pslink link [OPTIONS] <HOST> <OUT> [LIB]...
+
+For more information, try '--help'.
+";
+
+const SPELLS_HOST: &str =
+    "error: invalid value './led-host' for '--output <OUT>': it is the host 'led-host'
+
+Usage: pslink link [OPTIONS] -o <OUT> <HOST> [LIB]...
+       pslink link [OPTIONS] <HOST> <OUT> [LIB]...
+
+For more information, try '--help'.
+";
+
+/// Links whose option names the host by its path, or by another spelling of it, and what is said of them.
+static SPELLED_HOST: [(&str, &str); 2] = [
+    (
+        "pslink link led-host led-library --output led-host",
+        IS_HOST,
+    ),
+    (
+        "pslink link -o ./led-host led-host led-library",
+        SPELLS_HOST,
+    ),
+];
+
 /// The link is wrong usage, and no file is opened to be written.
-fn overwrites_no_library<R: Files + AllocGlobal + Abort>(
+fn overwrites_no_input<R: Files + AllocGlobal + Abort>(
     rt: &R,
     args: &str,
     complained: &str,
@@ -153,27 +197,42 @@ fn overwrites_no_library<R: Files + AllocGlobal + Abort>(
     run.is(rt, row, 2, "", complained);
     says(rt, created == 0, &row);
     holds_image(rt, "led-library", "LIBRARY", row);
+    holds_image(rt, "led-host", "HOST", row);
     clean(rt, "led-out");
 }
 
-/// A library and links to it are no OUT, and a copy of it is.
+/// A library and links to it are no OUT, and a copy of it is. So is the host, where the option names OUT.
 fn takes_a_copy<R: Files + AllocGlobal + Abort>(rt: &R) {
     clean(rt, "led-out");
     save_all(rt, LED_FILES);
     for (args, complained) in &SPELLED {
-        overwrites_no_library(rt, *args, *complained, *args);
+        overwrites_no_input(rt, *args, *complained, *args);
+    }
+    for (args, complained) in &SPELLED_HOST {
+        overwrites_no_input(rt, *args, *complained, *args);
     }
     let _ = fs::hard_link(rt, "led-library", "led-out");
-    overwrites_no_library(rt, LED, LEADS_TO_LIBRARY, "a hard link");
+    overwrites_no_input(rt, LED, LEADS_TO_LIBRARY, "a hard link");
     let _ = symlink(rt, "led-library", "led-out");
-    overwrites_no_library(rt, LED, LEADS_TO_LIBRARY, "a symbolic link");
+    overwrites_no_input(rt, LED, LEADS_TO_LIBRARY, "a symbolic link");
+    let _ = fs::hard_link(rt, "led-host", "led-out");
+    overwrites_no_input(rt, LED_BY_OPTION, LEADS_TO_HOST, "a hard link to the host");
+    let _ = symlink(rt, "led-host", "led-out");
+    overwrites_no_input(
+        rt,
+        LED_BY_OPTION,
+        LEADS_TO_HOST,
+        "a symbolic link to the host",
+    );
     save_all(rt, LED_OUT);
     gives(rt, LED, 0, SUMMARY_OF_PAIR, "");
     holds_image(rt, "led-out", "LINKED_PAIR", "a copy");
+    gives(rt, LED_BY_PLACE, 0, SUMMARY_OF_PAIR, "");
+    holds_image(rt, "led-host", "LINKED_PAIR", "the host by its place");
     clean(rt, "led-host led-library led-other led-out");
 }
 
 #[test]
-fn a_path_that_leads_to_a_library_is_no_out(rt: HostRuntime) {
+fn a_path_that_leads_to_an_input_is_no_out(rt: HostRuntime) {
     takes_a_copy(&rt)
 }

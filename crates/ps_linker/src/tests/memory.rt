@@ -172,34 +172,79 @@ fn each_allocation_is_refused(rt: HostRuntime) {
     );
 }
 
-const LIST: &str = "pslink list memory-listed";
-
 static LISTED_FILE: &str = "memory-listed LIBRARY";
 
 const LISTED: &str = "memory-listed: little-endian, 1536 bytes, library
 memory-listed: slot 02 UTIL     unit, 24 bytes
 ";
 
+const LISTED_UNITS: &str = "memory-listed: little-endian, 1536 bytes, library
+memory-listed: slot 02 UTIL     unit, 24 bytes
+memory-listed: slot 02 UTIL     by itself, no fault
+";
+
+const JSON_LISTED: &str = "{\"files\":[
+{\"path\":\"memory-listed\",\"length\":1536,\"type\":null,\"order\":\"little\",\"contents\":\"library\",\"fault\":null,\"segments\":[
+{\"slot\":2,\"name\":\"UTIL    \",\"name_hex\":\"5554494C20202020\",\"kind\":3,\"role\":\"unit\",\"length\":24,\"fault\":null,\"uses\":[]}
+]}
+]}
+";
+
+const JSON_LISTED_UNITS: &str = "{\"files\":[
+{\"path\":\"memory-listed\",\"length\":1536,\"type\":null,\"order\":\"little\",\"contents\":\"library\",\"fault\":null,\"segments\":[
+{\"slot\":2,\"name\":\"UTIL    \",\"name_hex\":\"5554494C20202020\",\"kind\":3,\"role\":\"unit\",\"length\":24,\"fault\":null,\"uses\":[]}
+],\"units\":[
+{\"slot\":2,\"name\":\"UTIL    \",\"name_hex\":\"5554494C20202020\",\"fault\":null}
+]}
+]}
+";
+
+const JSON_UNLISTED: &str = "{\"files\":[
+{\"path\":\"memory-listed\",\"length\":null,\"type\":null,\"order\":null,\"contents\":null,\"fault\":null,\"segments\":[
+]}
+]}
+";
+
 const UNLISTED: &str = "pslink: cannot read memory-listed (out of memory)\n";
+
+/// The args, what is printed of the file, and what is printed where there is no memory for it.
+static LISTS: [(&str, &str, &str); 4] = [
+    ("pslink list memory-listed", LISTED, ""),
+    (
+        "pslink list --json memory-listed",
+        JSON_LISTED,
+        JSON_UNLISTED,
+    ),
+    ("pslink check --unit memory-listed", LISTED_UNITS, ""),
+    (
+        "pslink check --unit --json memory-listed",
+        JSON_LISTED_UNITS,
+        JSON_UNLISTED,
+    ),
+];
 
 /// Refuses the allocation of this number in the run of a list. Returns its status, which is 0 exactly
 /// where there was none: it is 4 before a file is read, and 3 where the file or its list has no memory.
-fn status_of_list<R: Files + AllocGlobal + Abort>(rt: &R, number: u64) -> u8 {
+fn status_of_list<R: Files + AllocGlobal + Abort>(
+    rt: &R,
+    number: u64,
+    (args, listed, unlisted): (&str, &str, &str),
+) -> u8 {
     let heap = Refusing::once(rt.alloc(), number);
-    let (run, _) = done_refused(rt, &heap, NO_FAULTS, LIST);
+    let (run, _) = done_refused(rt, &heap, NO_FAULTS, args);
     match (heap.has_refused(), run.status) {
-        (false, _) => run.is(rt, number, 0, LISTED, ""),
-        (true, 4) => run.is(rt, number, 4, "", NO_MEMORY),
-        (true, _) => run.is(rt, number, 3, "", UNLISTED),
+        (false, _) => run.is(rt, (args, number), 0, listed, ""),
+        (true, 4) => run.is(rt, (args, number), 4, "", NO_MEMORY),
+        (true, _) => run.is(rt, (args, number), 3, unlisted, UNLISTED),
     }
     run.status
 }
 
 /// Has each allocation of a list refused in turn, until none is: how many lists end with status 3.
-fn unread_lists<R: Files + AllocGlobal + Abort>(rt: &R) -> u64 {
+fn unread_lists<R: Files + AllocGlobal + Abort>(rt: &R, row: (&str, &str, &str)) -> u64 {
     let mut unread = 0u64;
     for number in 1..1000 {
-        match status_of_list(rt, number) {
+        match status_of_list(rt, number, row) {
             0 => return unread,
             3 => unread = unread.saturating_add(1),
             _ => {}
@@ -208,11 +253,13 @@ fn unread_lists<R: Files + AllocGlobal + Abort>(rt: &R) -> u64 {
     1000
 }
 
-/// Refuses each allocation of the list of the library: at least one ends with status 3.
+/// Refuses each allocation of each list of the library: at least one ends with status 3.
 fn lacks_memory<R: Files + AllocGlobal + Abort>(rt: &R) {
     save_all(rt, LISTED_FILE);
-    let unread = unread_lists(rt);
-    says(rt, (1..1000).contains(&unread), &unread);
+    for row in &LISTS {
+        let unread = unread_lists(rt, *row);
+        says(rt, (1..1000).contains(&unread), &(row.0, unread));
+    }
     clean(rt, "memory-listed");
 }
 

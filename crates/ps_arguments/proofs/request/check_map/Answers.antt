@@ -9,7 +9,7 @@ pub returns-in-Some-clause-wrong : goal.returns-in-Some-clause-wrong
 returns-in-Some-clause-wrong g c = rw c.in-Some.is c.check_map_file.ensures.same
 
 pub returns-in-None-clause-apart : goal.returns-in-None-clause-apart
-returns-in-None-clause-apart g c = rw c.in-None.is c.check_references.ensures.none
+returns-in-None-clause-apart g c = rw c.in-None.is c.check_content.ensures.none
 
 pub returns-in-None-clause-wrong : goal.returns-in-None-clause-wrong
-returns-in-None-clause-wrong g c = rw c.in-None.is c.check_references.ensures.wrong
+returns-in-None-clause-wrong g c = rw c.in-None.is c.check_content.ensures.wrong

@@ -1,6 +1,7 @@
-use Rattle.std.proofs.Common.{◌≡◌, ◌∙◌, Bor, map, ap, refl, arith}
+use Rattle.std.proofs.Common.{◌≡◌, ◌∙◌, Bor, map, ap, inl, refl, arith}
 use Rattle.std.specs.Prelude.{max}
 use Rattle.std.proofs.lemmas.List.{drop_all, drop_more}
+use Rattle.std.proofs.lemmas.Result.{err_from_is_err_and}
 use Rattle.ps_arguments.specs.CommandLine.{Text}
 use Rattle.ps_command.specs.Statuses.{ended_status}
 use Rattle.ps_command.proofs.ListsPrinted.{listed_more}
@@ -12,6 +13,7 @@ loop-path-init g c = record {
     rest = λ more new printed.
         let same : max 0 more ≡ more = omega arith in
         rw same printed;
+    cut = λ new some. some;
   };
   silent = λ zero. refl;
 }
@@ -40,3 +42,12 @@ returns-clause-ok g c =
     let lists = rw none at c.loop-path.invariant.lists in
     let zero : max (ended_status c.loop-path.ended) 0 ≡ ended_status c.loop-path.ended = omega arith in
     rw zero at (lists.rest 0 (g.O.Write.contents c.loop-path.out) (refl, refl))
+
+pub returns-in_err-next-clause-cut : goal.returns-in_err-next-clause-cut
+returns-in_err-next-clause-cut g c =
+    let told = err_from_is_err_and c.from_residual.result
+    c.from_residual.ensures.1 in
+    let left = ap (map (λ (path : Bor Text). path.now))
+    (drop_more c.args.paths.now c.loop-path.path-index _ c.loop-path-test.true) in
+    let lists = rw left at c.loop-path.invariant.lists in
+    rw told.1 (lists.cut _ (inl c.in_err-next.ensures.cut))

@@ -37,3 +37,22 @@ pub returns-in-Ok-clause-part : goal.returns-in-Ok-clause-part
 returns-in-Ok-clause-part g c three =
     let is = sym c.status.ensures.value ∙ three in
     inl (c.in-Ok.ensures.refused (λ zero. grind (arith, is, zero)))
+
+pub returns-in-Ok-clause-misused : goal.returns-in-Ok-clause-misused
+returns-in-Ok-clause-misused g c two = elim c.status.ensures.known [
+  | inl zero ↦ absurd (omega (arith, zero, two))
+  | inr (inl one) ↦ absurd (omega (arith, one, two))
+  | inr (inr three) ↦ absurd (omega (arith, three, two))
+]
+
+pub returns-in-Err-clause-misused : goal.returns-in-Err-clause-misused
+returns-in-Err-clause-misused g c two = c.in-Err.ensures.misused (sym c.report.ensures ∙ two)
+
+pub returns-in-Ok-clause-failed : goal.returns-in-Ok-clause-failed
+returns-in-Ok-clause-failed g c three =
+    let is = sym c.status.ensures.value ∙ three in
+    inl (rw is at (c.in-Ok.ensures.reported (λ zero. grind (arith, is, zero))))
+
+pub returns-in-Err-clause-failed : goal.returns-in-Err-clause-failed
+returns-in-Err-clause-failed g c three =
+    inr (c.in-Err.ensures.failed (sym c.report.ensures ∙ three))

@@ -10,7 +10,8 @@ returns-in-Ok-clause-written g c = writes_link c.args.asked.now c.in-Ok.prepared
 
 pub returns-in-Ok-clause-left : goal.returns-in-Ok-clause-left
 returns-in-Ok-clause-left g c = adds_before c.args.asked.now c.in-Ok.prepared _ _
-    c.in-Ok.ensures.stands.file c.in-Ok.ensures.map _ _ c.link_prepared.result
+    c.in-Ok.ensures.stands.file c.in-Ok.ensures.map (g.R.CodeFiles.world c.args.rt.now)
+    (g.R.CodeFiles.world c.link_prepared.new.rt) c.link_prepared.result
     c.link_prepared.ensures.left
 
 pub returns-in-Ok-clause-printed : goal.returns-in-Ok-clause-printed
@@ -18,7 +19,8 @@ returns-in-Ok-clause-printed g c =
     rw c.in-Ok.ensures.stands.summary at c.link_prepared.ensures.printed
 
 pub returns-in-Ok-clause-why : goal.returns-in-Ok-clause-why
-returns-in-Ok-clause-why g c = why_unlinked c.args.asked.now c.in-Ok.prepared _ _ _ _
+returns-in-Ok-clause-why g c = why_unlinked c.args.asked.now c.in-Ok.prepared
+    (g.R.CodeFiles.world c.args.rt.now) (g.R.CodeFiles.world c.link_prepared.new.rt) _ _
     c.link_prepared.result c.in-Ok.ensures.stands.file.accepted c.link_prepared.ensures.left
 
 pub returns-in-Err-clause-why : goal.returns-in-Err-clause-why
@@ -27,7 +29,7 @@ returns-in-Err-clause-why g c = rw c.from.ensures (why_unprepared _ _ c.in-Err.s
 
 pub returns-in-Err-clause-left : goal.returns-in-Err-clause-left
 returns-in-Err-clause-left g c = rw c.from.ensures
-    (before_prepared c.args.asked.now _ _ _ c.in-Err.stop)
+    (before_prepared c.args.asked.now _ _ (g.R.CodeFiles.world c.args.rt.now) c.in-Err.stop)
 
 pub returns-in-Ok-clause-prefix : goal.returns-in-Ok-clause-prefix
 returns-in-Ok-clause-prefix g c =

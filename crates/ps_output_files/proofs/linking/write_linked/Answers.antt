@@ -8,6 +8,6 @@ returns-clause-file g c = taken_whole c.write_told-written.result c.close_writte
     (rw c.is_ok.ensures.value at c.close_written.ensures.whole)
 
 pub returns-clause-part : goal.returns-clause-part
-returns-clause-part g c = taken_part c.write_told-written.result c.close_written.result _ _ _ _ _ _ _
+returns-clause-part g c = taken_part _ c.write_told-written.result c.close_written.result _ _ _ _ _ _ _
     (rw c.new-told.ensures.inner c.in-Ok.ensures.created) c.write_told-written.ensures.file
     c.write_told-written.ensures.prefix (rw c.into_inner.ensures at c.close_written.ensures.closed)

@@ -7,6 +7,6 @@ returns-clause-file g c = taken_whole c.write_map-written.result c.close_written
     (rw c.is_ok.ensures.value at c.close_written.ensures.whole)
 
 pub returns-clause-part : goal.returns-clause-part
-returns-clause-part g c = taken_part c.write_map-written.result c.close_written.result _ _ _ _ _ _ _
+returns-clause-part g c = taken_part _ c.write_map-written.result c.close_written.result _ _ _ _ _ _ _
     c.in-Ok.ensures.created c.write_map-written.ensures.all c.write_map-written.ensures.prefix
     c.close_written.ensures.closed

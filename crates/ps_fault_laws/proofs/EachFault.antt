@@ -1,0 +1,435 @@
+-- The fault that is first is about what has the name that is computed.
+use Rattle.std.proofs.Common.{◌≡◌, ◌∙◌, ◌<◌, ◌≤◌, ◌∷◌, ◌⊎◌, ℕ, Bool, true, false, List, take, Option, Some, None, Result, Ok, arith, ap, inl, inr, refl, subst, sym}
+use Rattle.std.proofs.lemmas.Option.{some_pair_parts}
+use Rattle.std.specs.List.{slice_get}
+use Rattle.std.specs.Option.{option_map_or}
+use Rattle.std.specs.Prelude.{if◌then◌else◌}
+use Rattle.std.specs.Result.{result_ok}
+use Rattle.ps_words.specs.FaultPlaces.{in_file, in_record, is_unread, read_record}
+use Rattle.ps_words.specs.FaultText.{number_of}
+use Rattle.ps_words.specs.declared.fault.Fault.{Fault}
+use Rattle.ps_words.specs.declared.fault.Reason.{Reason}
+use Rattle.ps_words.specs.declared.fault.Reason.TheVariants as reason
+use Rattle.ps_words.specs.declared.order.Order.{Order}
+use Rattle.ps_codefile.specs.Dictionary.{entry_at}
+use Rattle.ps_codefile.specs.Roles.{is_empty, is_host}
+use Rattle.ps_codefile.specs.declared.dictionary_layout.TheConstants.{SLOTS}
+use Rattle.ps_codefile.specs.declared.entry.Entry.{Entry}
+use Rattle.ps_codefile.specs.declared.entry.Role.{Role}
+use Rattle.ps_codefile.specs.declared.entry.Role.TheVariants as role
+use Rattle.ps_linkinfo.specs.Records.{bad}
+use Rattle.ps_linkinfo.specs.declared.record.Body.{Body}
+use Rattle.ps_linkinfo.specs.declared.record.Body.TheVariants.{PublRef}
+use Rattle.ps_linkinfo.specs.declared.record.LinkRecord.{LinkRecord as Record}
+use Rattle.ps_reading.specs.Added.{added_segments, empty_slots, segment_at, segments}
+use Rattle.ps_reading.specs.FaultNames.{fault_name}
+use Rattle.ps_reading.specs.Faults.{host_fault, libraries_fault, sources_fault}
+use Rattle.ps_reading.specs.Readings.{reading_fault}
+use Rattle.ps_reading.specs.Sources.{Segment, file_at, host_of, library_file, order_of, own_segments, source_of}
+use Rattle.ps_reading.specs.Standing.Slots.{HasRole, SlotHas}
+use Rattle.ps_reading.specs.declared.reading.added.UnitReference.{UnitReference}
+use Rattle.ps_resolve.specs.Standing.{IsFirst, StandsIn}
+use Rattle.ps_resolve.specs.Standing.Keys.{OfAdded, OfDataSize, OfDefinitions, OfHost, OfLibraries, OfNoHost, OfPrivates, OfReferences, OfSlots, OfSources, Step, is_of_reading, key, turn}
+use Rattle.ps_resolve.specs.Standing.Privates.{PrivateHas}
+use Rattle.ps_resolve.specs.Standing.References.{RecordHas, ReferenceHas}
+use Rattle.ps_resolve.specs.Standing.Rounds.{IsRequested}
+use Rattle.ps_resolve.specs.Standing.Segments.{IsSegment}
+use Rattle.ps_resolve.specs.Standing.Sources.{CodeFault, EntryFault}
+use Rattle.ps_resolve.specs.First.{Before}
+use Rattle.ps_reading.specs.OfLink.{IsOfLink}
+use Rattle.ps_laws.proofs.AddedUnits.{given, split_at}
+use Rattle.ps_laws.proofs.FaultParts.{record_reason}
+use Rattle.ps_laws.proofs.Items.{find_in, find_passes, of_take}
+use Rattle.ps_laws.proofs.Least.{Least, this}
+use Rattle.ps_laws.proofs.OfLink.{of_link}
+use Rattle.ps_laws.proofs.OneName.{of_segments}
+use Rattle.ps_laws.proofs.RequestedUnits.{empty_slot, found_added, own_at}
+use Rattle.ps_laws.proofs.Segments.{own_in_slot}
+use Rattle.ps_laws.proofs.Sources.{OneStop, step_5}
+use Rattle.ps_laws.proofs.Steps.{step_1, step_4}
+use Rattle.ps_laws.proofs.Whole.{unread}
+use Rattle.ps_reading.proofs.OfRounds.{in_empty}
+use Rattle.ps_fault_laws.specs.About.{IsAbout, IsNameInRecord, IsNameOfSlot, IsOfUnread}
+use Rattle.ps_fault_laws.proofs.ReadNames.{named_by_entry, named_by_record, named_by_request}
+use Rattle.ps_fault_laws.proofs.RequestedNames.{requested_at}
+
+-- 1. the numbers of records that cannot be read
+pub unread_between : (why : Reason) → is_unread why ≡ true
+    → (19 ≤ number_of why) × (number_of why ≤ 23)
+unread_between why h = grind arith
+
+pub between_unread : (why : Reason) → 19 ≤ number_of why → number_of why ≤ 23
+    → is_unread why ≡ true
+between_unread why low high = grind arith
+
+-- the record of a fault, where it was read
+either : (b : Bool) (o : Option ℕ) → o ≡ None → (if b then None else o) ≡ None
+either true o none = refl
+either false o none = none
+
+none_read : (f : Fault) → (f.rec ≡ None) ⊎ IsOfUnread f → read_record f ≡ None
+none_read f (inl none) = either (is_unread f.reason) f.rec none
+none_read f (inr t) = rw (between_unread f.reason t.0 t.1) refl
+
+one_read : (f : Fault) (rec : ℕ) → f.rec ≡ Some rec → is_unread f.reason ≡ false
+    → read_record f ≡ Some rec
+one_read f rec e read = rw read e
+
+pub not_unread : (f : Fault) → is_unread f.reason ≡ false → IsOfUnread f → ⊥
+not_unread f read t = let e = sym read ∙ between_unread f.reason t.0 t.1 in cc
+
+-- 2. the name of a fault by its parts
+module _ (host : List ℕ) (libs : List (List ℕ)) where
+  abbrev IsNamed : Fault → Type 0
+  IsNamed f = IsAbout host libs f (fault_name host libs f)
+
+  of_file : (f : Fault) (file : ℕ) (why : Reason) → f ≡ in_file file why → IsNamed f
+  unfolding fault_name
+  of_file f file why is = subst IsNamed (sym is) (record {
+    in_record = λ rec h. absurd (let e = h.0 in cc);
+    in_slot = λ slot h. absurd (let e = h.0 in cc);
+    of_file = λ e. refl;
+  })
+
+  of_slot : (f : Fault) (slot : ℕ) → f.slot ≡ Some slot → (f.rec ≡ None) ⊎ IsOfUnread f
+      → (of : List ℕ) → IsNameOfSlot (order_of host) host libs slot of
+      → fault_name host libs f ≡ Some of → IsNamed f
+  of_slot f slot at none of has is = record {
+    in_record = λ rec h. absurd (elim none [
+      | inl e ↦ (let u = h.0 in cc)
+      | inr t ↦ h.1 t
+    ]);
+    in_slot = λ other h. (
+      of,
+      subst (λ (i : ℕ). IsNameOfSlot (order_of host) host libs i of)
+          (let e = h.0 in cc) has,
+      is,
+    );
+    of_file = λ e. absurd (cc);
+  }
+
+  of_record : (f : Fault) (slot rec : ℕ) → f.slot ≡ Some slot → f.rec ≡ Some rec
+      → is_unread f.reason ≡ false → (of : List ℕ)
+      → IsNameInRecord (order_of host) host libs f rec of
+      → fault_name host libs f ≡ Some of → IsNamed f
+  of_record f slot rec at e read of has is = record {
+    in_record = λ other h. (
+      of,
+      subst (λ (i : ℕ). IsNameInRecord (order_of host) host libs f i of)
+          (let u = h.0 in cc) has,
+      is,
+    );
+    in_slot = λ other h. absurd (elim h.1 [
+      | inl none ↦ cc
+      | inr t ↦ not_unread f read t
+    ]);
+    of_file = λ none. absurd (cc);
+  }
+
+-- 3. steps
+-- a key begins with the turn of its step
+key_turn : (s : Step) (f : Fault) → (rest : List ℕ) × (key s f ≡ turn s ∷ rest)
+key_turn OfHost f = (_, refl)
+key_turn other f = (_, refl)
+
+-- a key is before none of an earlier turn
+not_before : (s t : Step) (f g : Fault) → turn t < turn s → Before (key s f) (key t g) → ⊥
+not_before s t f g lt b =
+    let a = key_turn s f in
+    let c = key_turn t g in
+    elim (subst (λ (k : List ℕ). Before k (turn t ∷ c.0)) a.1
+    (subst (λ (k : List ℕ). Before (key s f) k) c.1 b)) [
+      | inl less ↦ omega (arith, lt, less)
+      | inr u ↦ (let same = u.0 in omega (arith, lt, same))
+    ]
+
+read_turn : (s : Step) → is_of_reading s ≡ true → turn s < 7
+read_turn s h = grind arith
+
+-- nothing is found where nothing applies
+absent : {B : Fault → Fault → Type 0} {P : Fault → Type 0} (o : Option Fault) → Least B P o
+    → ((g : Fault) → P g → ⊥) → o ≡ None
+absent None least none = refl
+absent (Some g) (this x s l) none = absurd (none x s)
+
+-- what applies to a slot is said of one that is not empty
+two_roles : (r : Result Role Reason) (a b : Role) → r ≡ Ok a → r ≡ Ok b → a ≡ b
+two_roles r a b e u = cc
+
+filled : (order : Order) (host : List ℕ) (slot : ℕ) (why : Reason)
+    → SlotHas order host slot why → HasRole order host slot role.Empty → ⊥
+filled order host slot reason.TwoHosts h e =
+    let two = two_roles _ role.Host role.Empty h.0 e in cc
+filled order host slot reason.DoubledSegment h e = elim h.0 [
+  | inl u ↦ (let two = two_roles _ role.Unit role.Empty u e in cc)
+  | inr u ↦ (let two = two_roles _ role.Wanted role.Empty u e in cc)
+]
+filled order host slot other h e = let both = sym h ∙ e in cc
+
+pub empty_is : (r : Result Role Reason) → option_map_or is_empty (result_ok r) false ≡ true
+    → r ≡ Ok role.Empty
+empty_is r h = grind arith
+
+host_role : (r : Role) → is_host r ≡ true → r ≡ role.Host
+host_role r h = grind arith
+
+-- the parts of a fault of a library's entries, of a code, its tables and its records
+of_entries : (order : Order) (name : List ℕ) (libs : List (List ℕ)) (slot : ℕ) (f : Fault)
+    → EntryFault order name libs slot f → (f.slot ≡ Some slot) × (f.rec ≡ None)
+of_entries order name libs slot f t =
+    (ap (λ (g : Fault). g.slot) t.3.1.1, ap (λ (g : Fault). g.rec) t.3.1.1)
+
+unread_reason : (order : Order) (bytes : List ℕ) (why : Reason) → bad order bytes ≡ Some why
+    → is_unread why ≡ true
+unread_reason order bytes why = record_reason (λ why. is_unread why ≡ true) refl refl refl refl
+    refl order bytes why
+
+of_code : (order : Order) (file : List ℕ) (k : ℕ) (e : Entry) (slot : ℕ) (r : Role)
+    (f : Fault) → CodeFault order file k e slot r f
+    → (f.slot ≡ Some slot) × ((f.rec ≡ None) ⊎ IsOfUnread f)
+of_code order file k e slot r f (inl t) =
+    (ap (λ (g : Fault). g.slot) t.1, inl (ap (λ (g : Fault). g.rec) t.1))
+of_code order file k e slot r f (inr t) = elim t.2.1 [
+  | inl b ↦ (ap (λ (g : Fault). g.slot) b.1, inl (ap (λ (g : Fault). g.rec) b.1))
+  | inr u ↦ (
+    ap (λ (g : Fault). g.slot) u.2,
+    inr (subst IsOfUnread (sym u.2)
+        (unread_between u.1 (unread_reason order _ u.1 u.3.stops))),
+  )
+]
+
+-- the faults of records that are looked at once they were read
+of_private : (segs : List Segment) (s : Segment) (rec : ℕ) (r : Record) (why : Reason)
+    → PrivateHas segs s rec r why → is_unread why ≡ false
+of_private segs s rec r reason.DoubledPrivate h = refl
+of_private segs s rec r reason.NoRoom h = refl
+of_private segs s rec r other h = absurd h
+
+of_name : (segs : List Segment) (name : List ℕ) (body : Body) (why : Reason)
+    → RecordHas segs name body why → is_unread why ≡ false
+of_name segs name (PublRef refs) reason.MissingDefinition h = refl
+of_name segs name (PublRef refs) reason.IllKind h = refl
+of_name segs name body other h = absurd h
+
+of_reference : (order : Order) (segs : List Segment) (s : Segment) (rec : ℕ) (r : Record)
+    (i x : ℕ) (why : Reason) → ReferenceHas order segs s rec r i x why
+    → is_unread why ≡ false
+of_reference order segs s rec r i x reason.OutsideCode h = refl
+of_reference order segs s rec r i x reason.ReservedPlace h = refl
+of_reference order segs s rec r i x reason.Overlap h = refl
+of_reference order segs s rec r i x reason.OperandTooLarge h = refl
+of_reference order segs s rec r i x other h = absurd h
+
+module _ (law : OneStop) (host : List ℕ) (libs : List (List ℕ)) (f : Fault)
+    (first : IsFirst host libs f) where
+  -- no fault of an earlier step applies
+  no_earlier : (st : Step) → turn st < turn first.step → (g : Fault)
+      → StandsIn st (order_of host) host libs g → ⊥
+  no_earlier st lt g s = elim (first.least st g (record { stands = s })) [
+    | inl e ↦ (let same = ap turn e.0 in omega (arith, same, lt))
+    | inr b ↦ not_before first.step st f g lt b
+  ]
+
+  host_fine : 1 < turn first.step → host_fault host ≡ None
+  host_fine lt = absent (host_fault host) (step_1 host) (no_earlier OfHost (omega (arith, lt)))
+
+  libraries_fine : 4 < turn first.step → libraries_fault (order_of host) libs ≡ None
+  libraries_fine lt = absent (libraries_fault (order_of host) libs) (step_4 (order_of host) libs)
+      (no_earlier OfLibraries (omega (arith, lt)))
+
+  sources_fine : 5 < turn first.step → sources_fault (order_of host) host libs ≡ None
+  sources_fine lt = absent (sources_fault (order_of host) host libs)
+      (step_5 law (order_of host) host libs) (no_earlier OfSources (omega (arith, lt)))
+
+  reading_fine : 6 < turn first.step → reading_fault host libs ≡ None
+  reading_fine lt = unread law host libs
+      (λ st g r h. no_earlier st (let t = read_turn st r in omega (arith, t, lt)) g h.stands)
+
+  -- of a slot that is not empty
+  own_slot : (slot : ℕ) → slot < SLOTS → 1 < turn first.step
+      → (HasRole (order_of host) host slot role.Empty → ⊥) → f.slot ≡ Some slot
+      → (f.rec ≡ None) ⊎ IsOfUnread f → IsNamed host libs f
+  own_slot slot inside lt has at none =
+      of_slot host libs f slot at none (entry_at (order_of host) host slot).name (inl (has, refl))
+      (named_by_entry host libs (host_fine lt) f slot at inside (none_read f none) has)
+
+  -- of a record of a segment
+  own_record : (s : Segment) → IsSegment (order_of host) host libs s → (rec : ℕ) (r : Record)
+      → slice_get s.records rec ≡ Some r → 5 < turn first.step → f.file ≡ s.file
+      → f.slot ≡ Some s.slot → f.rec ≡ Some rec → is_unread f.reason ≡ false
+      → IsNamed host libs f
+  own_record s is rec r e lt file at u read =
+      of_record host libs f s.slot rec at u read r.name (s, is, (file, at, r, e, refl))
+      (named_by_record host libs (host_fine (omega (arith, lt))) f s.slot at is.0
+      (libraries_fine (omega (arith, lt))) (sources_fine lt) s is.1 rec (one_read f rec u read) r e)
+
+  -- the segment of the record that requests a name
+  giver : (k : ℕ) (g : UnitReference) → IsRequested (order_of host) host libs k g
+      → (s : Segment) × IsSegment (order_of host) host libs s × (g.at.segment.file ≡ s.file)
+      × (g.at.segment.slot ≡ s.slot) × (r : Record)
+      × (slice_get s.records g.at.rec ≡ Some r) × (r.name ≡ g.name)
+  giver k g t =
+      let order : Order = order_of host in
+      let by = given order host libs (take k (added_segments order host libs)) k g t.1 in
+      let s = by.1.0.0 in
+      let asks = by.1.1 in
+      let same : asks.0 ≡ s = (let a = asks.1 in let b = by.1.0.1 in cc) in
+      let there : IsSegment order host libs s =
+      elim (split_at (own_segments order host libs) _ by.0 s by.1.0.1) [
+        | inl h ↦
+            let o = own_at order host libs s (by.0, h) in
+            let at = own_in_slot order host libs o.0 s o.2 in
+            subst (λ (i : ℕ). (i < SLOTS) × (segment_at order host libs i ≡ Some s))
+            (sym at) (o.1, rw o.2 refl)
+        | inr u ↦
+            let v = of_take k (added_segments order host libs) u.0 s u.2 in
+            let at = (empty_slot order host u.0 s.slot
+            (in_empty order host libs u.0 s v.1)).1 in
+            (omega (arith, at), found_added order host libs u.0 s v.1)
+      ] in (
+        s,
+        there,
+        by.1.0.2,
+        by.1.0.3,
+        asks.2,
+        subst (λ (q : Segment). slice_get q.records g.at.rec ≡ Some asks.2) same asks.3,
+        asks.5,
+      )
+
+  -- of a record that requests a name
+  of_giver : (k : ℕ) (g : UnitReference) → IsRequested (order_of host) host libs k g
+      → 5 < turn first.step → (why : Reason) → is_unread why ≡ false
+      → f ≡ in_record g.at.segment.file g.at.segment.slot g.at.rec why → IsNamed host libs f
+  of_giver k g t lt why read is =
+      let by = giver k g t in
+      own_record by.0 by.1 g.at.rec by.4 by.5 lt (ap (λ (h : Fault). h.file) is ∙ by.2)
+      (ap (λ (h : Fault). h.slot) is ∙ ap (λ (i : ℕ). Some i) by.3)
+      (ap (λ (h : Fault). h.rec) is) (ap (λ (h : Fault). is_unread h.reason) is ∙ read)
+
+  -- of the unit that takes an empty slot
+  in_round : (k : ℕ) (g : UnitReference) → IsRequested (order_of host) host libs k g
+      → (slot : ℕ) → slice_get (empty_slots (order_of host) host) k ≡ Some slot
+      → 5 < turn first.step → f.slot ≡ Some slot → (f.rec ≡ None) ⊎ IsOfUnread f
+      → IsNamed host libs f
+  in_round k g t slot left lt at none =
+      let order : Order = order_of host in
+      let low = empty_slot order host k slot left in
+      let high = low.1 in
+      of_slot host libs f slot at none g.name (inr (k, g, t, left, refl))
+      (named_by_request host libs (host_fine (omega (arith, lt))) f slot at (omega (arith, high))
+      (libraries_fine (omega (arith, lt))) (none_read f none) (empty_is _ low.2) g
+      (requested_at order host libs k g t (sources_fine lt) slot left))
+
+  -- the host's own segment
+  host_segment : 6 < turn first.step → (s : Segment)
+      → host_of (segments (order_of host) host libs) ≡ Some s
+      → IsSegment (order_of host) host libs s × (0 ≡ s.file)
+      × HasRole (order_of host) host s.slot role.Host
+  host_segment lt s e =
+      let order : Order = order_of host in
+      let test : Segment → Bool = λ q. is_host q.role in
+      let i = find_in test (segments order host libs) s e in
+      let is = of_segments order host libs i.0 s i.1 in
+      let known = of_link host libs (reading_fine lt) s is in
+      let passes = find_passes test (segments order host libs) s e in
+      let host_has = of_host s known passes in
+      (is, host_has.0, host_has.1)
+    where
+      of_host : (s : Segment) → IsOfLink (order_of host) host libs s → is_host s.role ≡ true
+          → (0 ≡ s.file) × HasRole (order_of host) host s.slot role.Host
+      of_host s known h = elim known.requested [
+        | inl own ↦ (
+          (some_pair_parts 0 s.file s.slot s.index
+              (subst (λ (r : Role). source_of (order_of host) host libs s.slot r
+              ≡ Some (s.file, s.index)) (host_role s.role h) own.source)).0,
+          own.role ∙ ap Ok (host_role s.role h),
+        )
+        | inr t ↦ absurd (let e = sym (ap is_host t.2.role) ∙ h in cc)
+      ]
+
+  wants : (slot : ℕ) (r : Role) → HasRole (order_of host) host slot r → r ≡ role.Wanted
+      → HasRole (order_of host) host slot role.Empty → ⊥
+  wants slot r has wanted empty = let e = sym (two_roles _ r role.Empty has empty) ∙ wanted in cc
+
+  has_source : (slot : ℕ) (r : Role) → HasRole (order_of host) host slot r → (at : ℕ × ℕ)
+      → source_of (order_of host) host libs slot r ≡ Some at
+      → HasRole (order_of host) host slot role.Empty → ⊥
+  has_source slot r has at source empty =
+      let none : None ≡ Some at = subst (λ (q : Role). source_of (order_of host) host libs slot q
+      ≡ Some at) (two_roles _ r role.Empty has empty) source in cc
+
+  by_step : (step : Step) → first.step ≡ step → StandsIn step (order_of host) host libs f
+      → IsNamed host libs f
+  by_step OfHost e t = of_file host libs f 0 t.0 t.1
+  by_step OfSlots e t =
+      let lt = ap turn e in
+      own_slot t.0 t.1 (omega (arith, lt)) (filled (order_of host) host t.0 t.2.0 t.2.2)
+      (ap (λ (h : Fault). h.slot) t.2.1) (inl (ap (λ (h : Fault). h.rec) t.2.1))
+  by_step OfNoHost e t = of_file host libs f 0 reason.NoHost t.0
+  by_step OfLibraries e t = of_file host libs f (library_file t.0) t.3.0 t.3.1
+  by_step OfSources e t =
+      let lt = ap turn e in
+      elim t.2.2 [
+        | inl (wanted, inl m) ↦ own_slot t.0 t.1 (omega (arith, lt))
+            (wants t.0 t.2.0 t.2.1 wanted) (ap (λ (h : Fault). h.slot) m.0)
+            (inl (ap (λ (h : Fault). h.rec) m.0))
+        | inl (wanted, inr u) ↦
+            let name = (entry_at (order_of host) host t.0).name in
+            let at = of_entries (order_of host) name libs t.0 f u in
+            own_slot t.0 t.1 (omega (arith, lt)) (wants t.0 t.2.0 t.2.1 wanted) at.0 (inl at.1)
+        | inr c ↦
+            let at = of_code (order_of host) (file_at host libs c.0.0) c.0.0
+            (entry_at (order_of host) (file_at host libs c.0.0) c.0.1) t.0 t.2.0 f c.2 in
+            own_slot t.0 t.1 (omega (arith, lt)) (has_source t.0 t.2.0 t.2.1 c.0 c.1) at.0 at.1
+      ]
+  by_step (OfAdded k) e t =
+      let lt = ap turn e in
+      elim t.2 [
+        | inl m ↦ of_giver k t.0 t.1 (omega (arith, lt)) reason.MissingUnit refl m.0
+        | inr (inl n) ↦ of_giver k t.0 t.1 (omega (arith, lt)) reason.NoSlot refl n.0
+        | inr (inr (slot, left, inl u)) ↦
+            let at = of_entries (order_of host) t.0.name libs slot f u in
+            in_round k t.0 t.1 slot left (omega (arith, lt)) at.0 (inl at.1)
+        | inr (inr (slot, left, inr c)) ↦
+            let at = of_code (order_of host) (file_at host libs c.0.0) c.0.0
+            (entry_at (order_of host) (file_at host libs c.0.0) c.0.1) slot role.Wanted f c.2 in
+            in_round k t.0 t.1 slot left (omega (arith, lt)) at.0 at.1
+      ]
+  by_step OfDefinitions e t =
+      let lt = ap turn e in
+      let of = host_segment (omega (arith, lt)) t.0 t.1 in
+      own_record t.0 of.0 t.2.0 t.2.1 t.2.2 (omega (arith, lt))
+      (ap (λ (h : Fault). h.file) t.2.3.0 ∙ of.1) (ap (λ (h : Fault). h.slot) t.2.3.0)
+      (ap (λ (h : Fault). h.rec) t.2.3.0) (ap (λ (h : Fault). is_unread h.reason) t.2.3.0)
+  by_step OfPrivates e t =
+      let lt = ap turn e in
+      let is = t.2.3.1 in
+      let segs = segments (order_of host) host libs in
+      own_record t.0 t.1 t.2.0 t.2.1 t.2.2 (omega (arith, lt))
+      (ap (λ (h : Fault). h.file) is) (ap (λ (h : Fault). h.slot) is)
+      (ap (λ (h : Fault). h.rec) is)
+      (ap (λ (h : Fault). is_unread h.reason) is
+      ∙ of_private segs t.0 t.2.0 t.2.1 t.2.3.0 t.2.3.2)
+  by_step OfDataSize e t =
+      let lt = ap turn e in
+      let of = host_segment (omega (arith, lt)) t.0 t.1 in
+      own_slot t.0.slot of.0.0 (omega (arith, lt))
+      (λ u. let two = two_roles _ role.Host role.Empty of.2 u in cc)
+      (ap (λ (h : Fault). h.slot) t.2.2.0) (inl (ap (λ (h : Fault). h.rec) t.2.2.0))
+  by_step OfReferences e t =
+      let lt = ap turn e in
+      let segs = segments (order_of host) host libs in
+      elim t.2.3 [
+        | inl u ↦ own_record t.0 t.1 t.2.0 t.2.1 t.2.2 (omega (arith, lt))
+            (ap (λ (h : Fault). h.file) u.1) (ap (λ (h : Fault). h.slot) u.1)
+            (ap (λ (h : Fault). h.rec) u.1)
+            (ap (λ (h : Fault). is_unread h.reason) u.1
+            ∙ of_name segs t.2.1.name t.2.1.body u.0 u.2)
+        | inr (i, x, there, u) ↦ own_record t.0 t.1 t.2.0 t.2.1 t.2.2 (omega (arith, lt))
+            (ap (λ (h : Fault). h.file) u.1) (ap (λ (h : Fault). h.slot) u.1)
+            (ap (λ (h : Fault). h.rec) u.1) (ap (λ (h : Fault). is_unread h.reason) u.1
+            ∙ of_reference (order_of host) segs t.0 t.2.0 t.2.1 i x u.0 u.2)
+      ]
+
+  pub about : IsNamed host libs f
+  about = by_step first.step refl first.stands.stands

@@ -1,0 +1,4 @@
+pub mod ReadNames
+pub mod RequestedNames
+pub mod EachFault
+pub mod OneName

@@ -1,0 +1,107 @@
+-- The unit that is requested for an empty slot, where the sources of the host's own slots have no
+-- fault: the k-th name that is looked up takes the k-th empty slot.
+use Rattle.std.proofs.Common.{◌≡◌, ◌∙◌, ◌<◌, ◌≤◌, ◌+◌, ◌==◌, ◌∷◌, ◌++◌, [], ℕ, zero, suc, Bool, List, Some, None, arith, ap, sym, take, drop, filter}
+use Rattle.std.proofs.lemmas.List.{take-append-drop}
+use Rattle.std.specs.Option.{option_map}
+use Rattle.std.specs.Prelude.{option_and_then}
+use Rattle.std.specs.List.{enumerate_from, find, range_with_len, slice_get}
+use Rattle.ps_words.specs.declared.order.Order.{Order}
+use Rattle.ps_codefile.specs.declared.dictionary_layout.TheConstants.{FIRST_ADDED}
+use Rattle.ps_codefile.specs.Roles.{is_empty}
+use Rattle.ps_reading.specs.Added.{RoundsOutcome, added_segments, all_unit_references, empty_slots, request_of, requested_from, requested_units}
+use Rattle.ps_reading.specs.Faults.{is_role, sources_fault}
+use Rattle.ps_reading.specs.Readings.{queued_request, read_requests, read_rounds, slot_request}
+use Rattle.ps_reading.specs.Sources.{Segment, own_segments, units_of}
+use Rattle.ps_reading.specs.declared.reading.added.TheConstants.{MAX_ADDED, MAX_REQUESTED}
+use Rattle.ps_reading.specs.declared.reading.added.UnitReference.{UnitReference}
+use Rattle.ps_resolve.specs.Standing.Rounds.{IsRequested}
+use Rattle.ps_reading.proofs.EachRound.{own_units, requested_rest}
+use Rattle.ps_reading.proofs.KnownNames.{grown}
+use Rattle.ps_reading.proofs.ReadingSlots.{read_are, rounds_are}
+use Rattle.ps_reading.proofs.Requested.{of_empty}
+use Rattle.ps_laws.proofs.Items.{at_left, in_front}
+use Rattle.ps_laws.proofs.RequestedUnits.{empty_ascend, empty_slot}
+
+-- the j-th number of a range from a on that passes a test is at least a + j
+far : (test : ℕ → Bool) (a n i j : ℕ)
+    → slice_get (filter test (range_with_len a n)) j ≡ Some i → a + j ≤ i
+far test a zero i j e = absurd (cc)
+far test a (suc n) i zero e = grind (arith, far test (a + 1) n i zero)
+far test a (suc n) i (suc j) e = grind (arith, far test (a + 1) n i)
+
+-- a number is found at its first place
+found_first : (x : ℕ) (xs : List ℕ) (n k m : ℕ) → m ≡ n + k → slice_get xs k ≡ Some x
+    → ((j : ℕ) → j < k → slice_get xs j ≡ Some x → ⊥)
+    → find (λ p. p.1 == x) (enumerate_from n xs) ≡ Some (m, x)
+found_first x [] n k m at e first = absurd (cc)
+found_first x (y ∷ xs) n zero m at e first = grind arith
+found_first x (y ∷ xs) n (suc k) m at e first =
+    let later = found_first x xs (n + 1) k m (omega (arith, at)) e
+    (λ j h. first (suc j) (omega (arith, h))) in
+    let other = first zero (omega arith) in
+    grind (arith, later, other)
+
+module _ (order : Order) (host : List ℕ) (libs : List (List ℕ)) where
+  -- there are fewer empty slots than names that are kept
+  few : (k slot : ℕ) → slice_get (empty_slots order host) k ≡ Some slot → k < MAX_REQUESTED
+  unfolding empty_slots
+  few k slot e =
+      let low = far (is_role is_empty order host) FIRST_ADDED MAX_ADDED slot k e in
+      let high = (empty_slot order host k slot e).1 in
+      omega (arith, low, high)
+
+  -- no earlier empty slot is this one
+  first_place : (k slot : ℕ) → slice_get (empty_slots order host) k ≡ Some slot → (j : ℕ)
+      → j < k → slice_get (empty_slots order host) j ≡ Some slot → ⊥
+  first_place k slot e j h u = let lt = empty_ascend order host j k slot slot h u e in
+      omega (arith, lt)
+
+  module _ (k : ℕ) (g : UnitReference) (requested : IsRequested order host libs k g) where
+    -- the name is the k-th of all, which later ones follow
+    in_queue : slice_get (requested_units order host libs (added_segments order host libs)) k
+        ≡ Some g
+    in_queue =
+        let added = added_segments order host libs in
+        let rest = all_unit_references (drop k added) in
+        let before = requested_units order host libs (take k added) in
+        let more = grown (own_units order host libs) before rest in
+        let all : requested_units order host libs added ≡ before ++ more.0 =
+        ap (requested_units order host libs) (sym (take-append-drop k added))
+        ∙ requested_rest order host libs (take k added) (drop k added) ∙ more.1 in
+        ap (λ (gs : List UnitReference). slice_get gs k) all
+        ∙ at_left before more.0 k g requested.1
+
+    module _ (sound : sources_fault order host libs ≡ None) where
+      read_requests_are : read_requests order host libs
+          ≡ take MAX_REQUESTED (requested_units order host libs (added_segments order host libs))
+      unfolding read_requests requested_units
+      read_requests_are = ap (λ (own : List Segment). take MAX_REQUESTED
+          (requested_from (units_of own) []
+          (all_unit_references (own ++ (read_rounds order host libs).added))))
+          (read_are order host libs sound)
+          ∙ ap (λ (r : RoundsOutcome). take MAX_REQUESTED
+          (requested_from (own_units order host libs) []
+          (all_unit_references (own_segments order host libs ++ r.added))))
+          (rounds_are order host libs sound)
+
+      -- the slot at k is requested for the k-th name
+      pub requested_at : (slot : ℕ) → slice_get (empty_slots order host) k ≡ Some slot
+          → slot_request order host libs slot ≡ Some (request_of g slot)
+      requested_at slot e = of_empty order host libs slot (empty_slot order host k slot e).2
+          ∙ queued
+        where
+          place : find (λ p. p.1 == slot) (enumerate_from 0 (empty_slots order host))
+              ≡ Some (k, slot)
+          place = found_first slot (empty_slots order host) 0 k k (omega arith) e
+              (first_place k slot e)
+
+          name : slice_get (read_requests order host libs) k ≡ Some g
+          name = ap (λ (gs : List UnitReference). slice_get gs k) read_requests_are
+              ∙ in_front MAX_REQUESTED _ k g (few k slot e) in_queue
+
+          queued : queued_request (read_requests order host libs) (empty_slots order host) slot
+              ≡ Some (request_of g slot)
+          queued = ap (option_and_then (λ (p : ℕ × ℕ). option_map
+              (λ (h : UnitReference). request_of h slot)
+              (slice_get (read_requests order host libs) p.0))) place
+              ∙ ap (option_map (λ (h : UnitReference). request_of h slot)) name
