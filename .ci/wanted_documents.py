@@ -1,5 +1,5 @@
 """The documents that `pslink --json` prints, made of the files alone: by the linker of linker.py, and by docs/JSON.md and docs/OUTPUT.md. Nothing
-here is what pslink prints. For .ci/json."""
+here is what pslink prints."""
 import types
 
 import linker
