@@ -449,8 +449,6 @@ class Procedure:
 
     def size(self, part, place):
         kind, *rest = part
-        if kind == "bytes":
-            return len(rest[0])
         if kind == "segment":
             return len(rest[0]) + 1 + len(rest[2])
         if kind == "constant":
@@ -466,7 +464,8 @@ class Procedure:
             places.append(place)
             if part[0] == "label":
                 labels[part[1]] = place
-            place += self.size(part, place)
+            # (most parts are bytes)
+            place += len(part[1]) if part[0] == "bytes" else self.size(part, place)
         leave, end = places[-1], place + (0 if self.style.odd_tables else place % 2)
         table = []  # the targets of its jump table
 
@@ -479,12 +478,13 @@ class Procedure:
             return 246 - 2 * table.index(labels[target])
 
         word = lambda value: (value % 65536).to_bytes(2, self.style.order)
-        code, filled = b"", len(out)
+        code, filled = bytearray(), len(out)
         for part, place in zip(self.parts, places):
+            if part[0] == "bytes":
+                code += part[1]
+                continue
             kind, *rest = part
-            if kind == "bytes":
-                code += rest[0]
-            elif kind == "segment":
+            if kind == "segment":
                 before, name, after = rest
                 out.append((UNITREF, name, place + len(before)))
                 code += before + (self.source.randbytes(1) if self.style.operand_numbers else b"\0") + after
@@ -502,7 +502,7 @@ class Procedure:
                 code += bytes([opcode]) + bytes(at - place - 1) + word(low) + word(low + len(targets) - 1)
                 code += bytes([jump, operand(other, at + 6)])
                 code += b"".join(word(at + 6 + 2 * k - labels[target]) for k, target in enumerate(targets))
-        code = self.with_any_bytes(code, start, out[filled:]) if self.style.free_bytes else code
+        code = self.with_any_bytes(code, start, out[filled:]) if self.style.free_bytes else bytes(code)
         code += bytes([self.style.padding]) * (start + len(code) - end and 1)
         last = start + len(code) + 2 * len(table) + 8
         words = [last - 10 - 2 * k - target for k, target in reversed(list(enumerate(table)))]
