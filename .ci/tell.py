@@ -4,6 +4,7 @@ import contextlib
 import functools
 import heapq
 import inspect
+import itertools
 import multiprocessing
 import pathlib
 import re
@@ -17,6 +18,7 @@ import wrong_linkers
 SOURCE = (pathlib.Path(linker.__file__)).read_text()
 SECONDS = 30  # for one linker over one case, on a machine that has other work
 LIKELY = 40  # questions that are asked first
+OF_SHOWS = {"show", "link_lines", "record_line"}  # functions that no link calls
 READ_ONCE = functools.lru_cache(maxsize=20000)(linker.CodeFile)
 
 
@@ -33,6 +35,7 @@ class Row:
             if text.count(old) != 1:
                 raise SystemExit(f"wrong_linkers.py, '{what}': {function} has not once: {old}")
             self.changes[function] = text.replace(old, new)
+        self.is_of_shows = self.changes.keys() <= OF_SHOWS
 
     @contextlib.contextmanager
     def linker(self):
@@ -133,10 +136,12 @@ def words_of(text):
     return set(re.findall(r"\w+", text.lower()))
 
 
-def likely(row, questions):
-    """The questions about cases whose names and sentences share most words with what is wrong."""
-    words = words_of(row.what)
-    return heapq.nlargest(LIKELY, questions, key=lambda question: len(words & question.__self__.words))
+def asked(row):
+    """The questions for a wrong linker: each show if no link can tell it, or else each link and then each show. Before them come those about
+    cases whose names and sentences share most words with what is wrong."""
+    words, questions = words_of(row.what), SHOWS if row.is_of_shows else LINKS
+    first = heapq.nlargest(LIKELY, questions, key=lambda question: len(words & question.__self__.words))
+    return itertools.chain(first, questions, [] if row.is_of_shows else SHOWS)
 
 
 def is_right(answers, linker):
@@ -162,12 +167,6 @@ def differing(linker, questions):
     return next((question for question in questions if not is_right(question, linker)), None)
 
 
-def questions_of(cases):
-    """Each link and each show of the cases, those of small files first."""
-    loaded = sorted(map(Case, cases), key=lambda case: case.cost)
-    return [case.is_linked_by for case in loaded] + [case.is_shown_by for case in loaded]
-
-
 def large_rows():
     """The wrong linkers that the cases of megabytes tell."""
     return (Row(*row) for row in wrong_linkers.LARGE)
@@ -176,8 +175,9 @@ def large_rows():
 def tell(cases, wrong_ones):
     """The wrong linkers, the cases that tell them, and what is wrong: a right linker that differs, a wrong one that does not."""
     signal.signal(signal.SIGALRM, stopped)
-    QUESTIONS[:], ROWS[:], found = questions_of(cases), wrong_ones, []
-    if question := next((question for question in QUESTIONS if not question(linker)), None):
+    loaded, found = sorted(map(Case, cases), key=lambda case: case.cost), []
+    LINKS[:], SHOWS[:], ROWS[:] = [case.is_linked_by for case in loaded], [case.is_shown_by for case in loaded], wrong_ones
+    if question := next((question for question in [*LINKS, *SHOWS] if not question(linker)), None):
         found.append(f"linker.py answers {question.__self__.name} otherwise")
     with multiprocessing.get_context("fork").Pool() as pool:
         told = dict(pool.imap_unordered(told_by, range(len(ROWS)), chunksize=4))
@@ -189,15 +189,16 @@ def tell(cases, wrong_ones):
     return told, found
 
 
-QUESTIONS, ROWS = [], []  # which each process has
+LINKS, SHOWS, ROWS = [], [], []  # the links and the shows of the cases, those of small files first, and the rows, which each process has
 
 
 def told_by(index):
     """What is wrong in a row, and the case that tells it, which is asked first from then on; or None."""
     row = ROWS[index]
     with row.linker() as wrong:
-        question = differing(wrong, likely(row, QUESTIONS) + QUESTIONS)
-    if question is not None:
-        QUESTIONS.remove(question)
-        QUESTIONS.insert(0, question)
+        question = differing(wrong, asked(row))
+    for questions in (LINKS, SHOWS):
+        if question in questions:
+            questions.remove(question)
+            questions.insert(0, question)
     return row.what, question and question.__self__.name
