@@ -3,7 +3,6 @@ and all that docs/FORMAT.md allows or says is ignored may be there. The instruct
 of an earlier release, apart from the table of crates/ps_pcode."""
 import dataclasses
 import pathlib
-import random
 import sys
 import typing
 

@@ -5,7 +5,7 @@ import pathlib
 import random
 import re
 
-from good_files import LINKED, SEPRTSEG, Maker, Style
+from good_files import SEPRTSEG, Maker, Style
 
 PAGE = pathlib.Path(__file__).resolve().parent.parent / "docs/FORMAT.md"
 

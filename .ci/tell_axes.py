@@ -5,7 +5,6 @@ import itertools
 import sys
 
 import axes
-import linker
 import tell
 from descriptions import dense
 from descriptions.cases import map_of, summary

@@ -9,7 +9,7 @@ import signal
 import linker
 import tell
 import wrong_places
-from wrong_places import ADDED, FILES, HOST, ORDERS, PLAIN, PROGRAM, UNIT, WANTED
+from wrong_places import ADDED, FILES, PLAIN, PROGRAM, UNIT, WANTED
 
 SEGMENTS = {linker.HOST: PROGRAM, linker.PLAIN: PLAIN}
 KINDS = {linker.UNITREF: "UNITREF", linker.PUBLREF: "PUBLREF", linker.PRIVREF: "PRIVREF"}
