@@ -1,6 +1,8 @@
 // What the tests of this folder count and print, and the files of a line of native.py.
 
 const LONGEST = 1000;
+// How many sets of files native.py has at least: the test vectors and others.
+const FEWEST = 3800;
 
 /** Counts what is as it is to be, and prints what is not: the first twenty. */
 export class Checks {
@@ -15,6 +17,11 @@ export class Checks {
   same(what, found, wanted) {
     const [one, other] = [found, wanted].map((it) => JSON.stringify(it));
     this.is(what, one === other, `\n  is      ${one}\n  and not ${other}`);
+  }
+
+  /** So many sets of files were tried, which are enough. */
+  enough(sets) {
+    this.is("the sets of files", sets >= FEWEST, `are ${sets}, and ${FEWEST} at least are to be tried`);
   }
 
   /** Prints the counts; a test that checked nothing fails too. */

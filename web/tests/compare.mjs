@@ -54,4 +54,5 @@ for await (const line of createInterface({input: createReadStream(answers), crlf
   found += Object.keys(set.answers).length;
 }
 console.log(`${sets} sets of files, ${found} answers`);
+checks.enough(sets);
 checks.end();

@@ -95,4 +95,5 @@ let at = 0;
 for await (const line of createInterface({input: createReadStream(answers), crlfDelay: Infinity})) {
   if (at++ % Number(step) === 0) await call(pslink, filesOf(JSON.parse(line)));
 }
+checks.enough(at);
 checks.end();
