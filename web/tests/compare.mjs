@@ -1,5 +1,6 @@
 // Compares what the module answers with what native.py wrote of the same files: each field, the line of the fault and each byte of what
-// is made; and what pslink.mjs gives beside the answer. Usage: compare.mjs MODULE ANSWERS
+// is made; and what pslink.mjs gives beside the answer. Usage: compare.mjs MODULE ANSWERS [PART PARTS], of all sets of files or of one of
+// so many parts of them, counted from 0
 import {createHash} from "node:crypto";
 import {createReadStream, readFileSync} from "node:fs";
 import {createInterface} from "node:readline";
@@ -45,12 +46,12 @@ async function checkSet(pslink, set) {
   for (const name of Object.keys(set.answers)) await checkAnswer(pslink, set, name, files);
 }
 
-const [module, answers] = process.argv.slice(2), pslink = await load(readFileSync(module));
+const [module, answers, part = 0, parts = 1] = process.argv.slice(2), pslink = await load(readFileSync(module));
 let sets = 0, found = 0;
 for await (const line of createInterface({input: createReadStream(answers), crlfDelay: Infinity})) {
+  if (sets++ % parts !== Number(part)) continue;
   const set = JSON.parse(line);
   await checkSet(pslink, set);
-  sets += 1;
   found += Object.keys(set.answers).length;
 }
 console.log(`${sets} sets of files, ${found} answers`);
