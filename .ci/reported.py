@@ -96,10 +96,10 @@ def with_native(end, level=0):
 
 
 def beside_native():
-    """A library with UTIL, and in slot 5 an assembled entry with zeros in its code. Its table is at byte 410."""
+    """A library with UTIL, and in slot 5 an assembled entry with two sectors of zeros in its code. Its table is at byte 410."""
     file = m.code_file({**m.LIBRARY, 5: m.Segment("NATIVE", m.LINKED, [m.Procedure(1, ["NOP"] * 400 + ["RNP 0"])])})
     place = m.BLOCK * file[20]
-    return changed(file, (192 + 2 * 5, b"\4"), (place + 20, bytes(300)), (place + 410, b"\0"))
+    return changed(file, (192 + 2 * 5, b"\4"), (place + 128, bytes(256)), (place + 410, b"\0"))
 
 
 COUNT, STATE = m.publ_ref("COUNT", [1]), m.priv_ref("STATE", 4, [4])
@@ -280,6 +280,8 @@ def faults():
         (4, m.code_file({2: m.Segment("UTIL", m.UNITSEG, m.UNIT, m.UNIT_LINKS), 9: m.Segment("TOOLS", m.LINKED, LONG)}), [], ["  it has units, and no host program"], "  Give the compiled program as the host, and HOST after it, as a library."),
         (6, m.code_file({**m.HOST, 7: m.Segment("UTIL", m.UNITSEG, m.UNIT, m.UNIT_LINKS), 8: m.Segment("AUX", m.UNITSEG, m.WANTED), 9: m.Segment("UTIL", m.UNITSEG, m.WANTED)}), [AUX_FILE], ["  segment UTIL, of slot 09 of the host", "  the earlier one is slot 07, UTIL"]),
         (6, changed(HOST, *entry(8, "UTIL", 3, 0, 0)), [LIBRARY], ["  segment UTIL, of slot 08 of the host", "  the earlier one is slot 07, UTIL"]),
+        # an earlier unit whose name begins with the same letter
+        (6, changed(HOST, *entry(2, "UAUX", 3, 0, 0), *entry(8, "UTIL", 3, 0, 0)), [LIBRARY], ["  segment UTIL, of slot 08 of the host", "  the earlier one is slot 07, UTIL"]),
         (7, changed(HOST, (194, b"\2")), [LIBRARY], [DEMO]),
         (8, changed(HOST, (194, b"\4")), [LIBRARY], [DEMO]),
         (9, changed(HOST, (194, b"\5")), [LIBRARY], [DEMO, "  its kind is 5"]),

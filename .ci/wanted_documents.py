@@ -52,6 +52,12 @@ def fault_of(fault, name):
     return {"number": fault.number, "reason": fault.name, **fault.parts, **names}
 
 
+def refusal_document(files, out, fault):
+    """JSON.md, Refusals: the document of the files at these paths, which were to be linked to `out` if it is not None, for a fault."""
+    path = {"path": str(files[fault["file"]])}
+    return {**path, "fault": fault} if out is None else {**path, "out": str(out), "fault": fault}
+
+
 # A link -----------------------------------------------------------------------------------------------------------------
 
 

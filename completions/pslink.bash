@@ -1,4 +1,4 @@
-# Completion of pslink for bash. .ci/completions compares it with the help of the program.
+# Completion of pslink for bash. Its commands and options are written by make_completions.py.
 
 _pslink() {
     local current=${COMP_WORDS[COMP_CWORD]} command="" only_files="" value="" files=0 word options
@@ -25,8 +25,9 @@ _pslink() {
         '') options='link map show check list help --help --version' ;;
         link) options='--help --json --map --output --quiet --references' ;;
         map) options='--help --json --references' ;;
-        show | list) options='--help --json' ;;
+        show) options='--help --json' ;;
         check) options='--help --json --strict --unit' ;;
+        list) options='--help --json' ;;
         help) options='link map show check list help' ;;
         *) options='' ;;
     esac

@@ -1,4 +1,4 @@
-# Completion of pslink for fish. .ci/completions compares it with the help of the program.
+# Completion of pslink for fish. Its commands and options are written by make_completions.py.
 
 # so many words stand before the one that is completed, pslink the first of them
 function __pslink_has_words

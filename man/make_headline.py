@@ -36,6 +36,7 @@ CHAPTERS = [
             "ps_resolve/specs/Operands",
             "ps_resolve/specs/Linking",
             "ps_resolve/specs/LinkedBytes",
+            "ps_reading/specs/Standing/Phrases",
         ],
     ),
     (

@@ -180,11 +180,15 @@ function readFiles(paths) {
   return paths.map((path) => ({name: path, bytes: readFile(path)}));
 }
 
-/** What is done. Whatever else the module answers ends the command; a refusal has its document on standard output if one is asked for. */
-function done(result, files, isJson, streams) {
+/**
+ * What is done. Whatever else the module answers ends the command; a refusal has its document on standard output if one is asked for,
+ * which names OUT if there is one.
+ */
+function done(result, files, isJson, streams, out = null) {
   if (result.done) return result;
   if (result.status === "refused") {
-    if (isJson) streams.print(refusal(files[result.answer.file].name, result.answer, fault(result.answer.fault).name));
+    const {answer} = result;
+    if (isJson) streams.print(refusal(files[answer.file].name, out, answer, fault(answer.fault).name));
     throw new Failure(REFUSED, result.fault);
   }
   if (result.status === "no memory") throw new Failure(NO_MEMORY, "out of memory");
@@ -195,9 +199,9 @@ function done(result, files, isJson, streams) {
 /** Links files: OUT is written, then its map, and the summary is printed. No file is created before all is made. */
 async function link(found, streams) {
   const asked = linkAsked(found), files = readFiles(asked.inputs), {out, map, isJson} = asked;
-  const linked = done(await (await linker()).link(files), files, isJson, streams);
+  const linked = done(await (await linker()).link(files), files, isJson, streams, out);
   const kind = asked.references ? "references" : "map";
-  const mapped = map === null ? null : done(await (await linker()).text(kind, files, {json: isJson}), files, isJson, streams);
+  const mapped = map === null ? null : done(await (await linker()).text(kind, files, {json: isJson}), files, isJson, streams, out);
   const text = asked.isQuiet ? "" : summary(linked.answer, isJson), isTold = leadsToOutput(asked, streams);
   writeFile(out, linked.bytes);
   if (mapped) writeMap(map, mapped.bytes, out);

@@ -18,15 +18,17 @@ export function summary({segments, privateWords, blocks}, isJson) {
 /**
  * The document of files that are refused.
  * @param {string} path that of the file at fault
+ * @param {string|null} out the path that was taken for OUT, if they were to be linked
  * @param {import("./pslink.mjs").Answer} answer
  * @param {string} reason the name of the fault
  */
-export function refusal(path, answer, reason) {
+export function refusal(path, out, answer, reason) {
   const {fault, kind, file, slot, record, reference} = answer;
   const place = `"kind":${kind},"file":${file},"slot":${slot},"record":${record},"reference":${reference}`;
   // (a fault of a slot is about a name; where it is eight bytes 0, the answer has none)
   const name = answer.name ?? (slot === null ? null : "\0".repeat(8));
-  return `{"path":"${escaped(path)}","fault":{"number":${fault},"reason":"${reason}",${place},${nameMembers(name)}}}\n`;
+  const taken = out === null ? "" : `,"out":"${escaped(out)}"`;
+  return `{"path":"${escaped(path)}"${taken},"fault":{"number":${fault},"reason":"${reason}",${place},${nameMembers(name)}}}\n`;
 }
 
 /** The members of a name: eight characters as a line shows them, and the bytes in hexadecimal digits. */

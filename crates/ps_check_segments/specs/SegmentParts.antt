@@ -14,14 +14,11 @@ use Rattle.ps_reading.specs.declared.slot_reading.Absent.TheVariants as absent
 use Rattle.ps_check_segments.specs.declared.segments.SegmentPart.{SegmentPart}
 use Rattle.ps_check_segments.specs.declared.segments.SegmentPart.TheVariants as part
 
--- the first segment in this slot has this name; a blank one, where there is none
-abbrev pub name_in : List Segment → ℕ → List ℕ
-name_in segs slot = option_map_or (λ s. s.name) (find (λ s. s.slot == slot) segs)
-    (codes "        ")
-
--- a unit that this record requests, which is in one of these segments
+-- a unit that this record requests, where the record is in one of these segments; else one that the
+-- host wants
 abbrev pub added_by : List Segment → RecordAt → SegmentPart
-added_by segs at = part.Added (name_in segs at.segment.slot) at.rec
+added_by segs at = option_map_or (λ s. part.Added s.name at.rec)
+    (find (λ s. s.slot == at.segment.slot) segs) part.Wanted
 
 -- a unit that is added for this record, the first that requests its name
 abbrev pub part_added : List Segment → Option UnitReference → SegmentPart

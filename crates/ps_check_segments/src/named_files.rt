@@ -2,6 +2,7 @@
 ghost use Rattle.std.specs.Prelude.{◌≡◌, ◌∷◌};
 ghost use Rattle.std.specs.Result.{result_ok};
 ghost use Rattle.ps_codefile.specs.Dictionary.{opened_beside};
+ghost use Rattle.ps_filetype.specs.TypeWords.{IsTypeOf};
 ghost use Rattle.ps_resolve.specs.Sources.{contents, file_at};
 ghost use Rattle.ps_check_segments.specs.Paths.{host_order, path_of};
 
@@ -36,7 +37,10 @@ impl<'a> NamedFiles<'a> {
         }
     }
 
-    pub fn file_type(&self, file: usize) -> FileType {
+    /// What a file is.
+    pub fn file_type(&self, file: usize) -> FileType
+        ensures { IsTypeOf (file_at self.now.host.now (contents self.now.libs.now) file) result }
+    {
         FileType::of(self.bytes(file))
     }
 

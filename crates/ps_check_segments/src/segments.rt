@@ -8,7 +8,7 @@ ghost use Rattle.ps_resolve.specs.Readings.{opened_host};
 ghost use Rattle.ps_resolve.specs.Sources.{contents, file_at};
 ghost use Rattle.ps_resolve.specs.SlotReadings.{reading_in};
 ghost use Rattle.ps_check_segments.specs.Paths.{host_order};
-ghost use Rattle.ps_check_segments.specs.SegmentParts.{absence_words, added_by, is_added as is_added_spec, is_unit as is_unit_spec, name_in as name_in_spec, part_added as part_added_spec, part_as, part_words, requester_of as requester_of_spec};
+ghost use Rattle.ps_check_segments.specs.SegmentParts.{absence_words, added_by, is_added as is_added_spec, is_unit as is_unit_spec, part_added as part_added_spec, part_as, part_words, requester_of as requester_of_spec};
 ghost use Rattle.ps_check_segments.specs.Seen.{is_host_part, part_needs_linking, seen};
 ghost use Rattle.ps_check_segments.specs.SeenSegments.{is_fault, is_for_unit as is_for_unit_spec, is_of_host as is_of_host_spec, is_refused_unit as is_refused_unit_spec, name_by, origin_at, origin_in, origin_of, part_by, part_for, part_of_role, records_at as records_at_spec, role_in, seen_as, seen_by, seen_in, seen_of, seen_read, seen_segment, seen_unit, seen_with, unplaced};
 
@@ -145,26 +145,20 @@ pub fn length_of(records: &LinkInformation<'_>) -> usize
     length
 }
 
-/// The name of the segment in a slot; a blank one where there is none.
-fn name_in(segments: &[Segment<'_>], slot: u8) -> Name
-    ensures { result ≡ name_in_spec segments.now slot }
-{
-    for segment in segments {
-        if segment.slot() == slot {
-            return segment.name();
-        }
-    }
-    *b"        "
-}
-
-/// A unit that this record requests, which is in one of these segments.
+/// A unit that this record requests, where the record is in one of these segments; else one that the
+/// host wants.
 fn added_part(segments: &[Segment<'_>], at: RecordAt) -> SegmentPart
     ensures { result ≡ added_by segments.now at }
 {
-    SegmentPart::Added {
-        requester: name_in(segments, at.segment.slot),
-        rec: at.rec,
+    for segment in segments {
+        if segment.slot() == at.segment.slot {
+            return SegmentPart::Added {
+                requester: segment.name(),
+                rec: at.rec,
+            };
+        }
     }
+    SegmentPart::Wanted
 }
 
 /// The first record that requests a unit of this name.

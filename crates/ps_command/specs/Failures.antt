@@ -1,6 +1,6 @@
 -- Why a command ends with status 3 that was not done, and how much of what it prints a known standard
 -- output then has taken. A `World` says what paths gave, and which files were created.
-use Rattle.std.specs.Prelude.{◌≡◌, ◌≢◌, ◌⊎◌, ◌∷◌, [], ℕ, Any, Bool, true, false, List, Option, Some, codes}
+use Rattle.std.specs.Prelude.{◌≡◌, ◌≢◌, ◌⊎◌, ◌∷◌, [], ℕ, Any, Bool, true, false, List, Option, None, Some, codes}
 use Rattle.std.specs.List.{AllZip}
 use Rattle.std.specs.Io.KnownBytes.{Appends}
 use Rattle.ps_arguments.specs.CommandLine.{Kinds, Row, Text, faults_in, named_in}
@@ -41,11 +41,11 @@ IsUnreadable world path = (why : FileFault) × (why ≢ fault.Memory) × IsReadF
 
 -- by a prefix of the document of files that are refused, if a document is asked for; else nothing is
 -- printed of them, and nothing fails
-abbrev pub CutsFault : Bool → List Text → Option (List ℕ) → Fault → Option (List ℕ)
+abbrev pub CutsFault : Bool → List Text → Option Text → Option (List ℕ) → Fault → Option (List ℕ)
     → Option (List ℕ) → Type 0
-CutsFault true paths name f old new =
-    AppendsPrefix old new (refusal_json (path_of paths f.file) name f)
-CutsFault false paths name f old new = ⊥
+CutsFault true paths out name f old new =
+    AppendsPrefix old new (refusal_json (path_of paths f.file) out name f)
+CutsFault false paths out name f old new = ⊥
 
 -- by a prefix of a text of these files, or of the document that they are refused
 abbrev pub CutsText : TextKind → Bool → Bool → List Text → List ℕ → List (List ℕ)
@@ -54,7 +54,7 @@ CutsText k strict json paths host libs old new =
     ((status : ℕ) × (text : List ℕ) × IsTextOf k strict paths host libs status text
     × AppendsPrefix old new text)
     ⊎ ((f : Fault) × CanRefuse k host libs f
-    × CutsFault json paths (fault_name host libs f) f old new)
+    × CutsFault json paths None (fault_name host libs f) f old new)
 
 -- why a text of the files at these paths is not printed: one of them could not be read, and nothing is
 -- printed; or they were read, and standard output failed
@@ -72,7 +72,7 @@ abbrev pub FailsRead : {S : Type 0} → (S → World) → List Row → Text → 
     → List (List ℕ) → S → S → Option (List ℕ) → Option (List ℕ) → Type 0
 FailsRead world rows path out libraries host libs before after old new =
     ((f : Fault) × CanRefuse (kind.OfLink of_link.Map Lines) host libs f
-    × CutsFault (is_json rows) (path ∷ libraries) (fault_name host libs f) f old new
+    × CutsFault (is_json rows) (path ∷ libraries) (Some out) (fault_name host libs f) f old new
     × ((world after).log ≡ (world before).log))
     ⊎ ((file : List ℕ) × LinkedFile host libs file × (
     ((failed : Text) × FailsToWrite (world before) (world after) out (map_file rows) file

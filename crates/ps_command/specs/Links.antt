@@ -1,5 +1,5 @@
 -- How a link of files that were read ends, and what it writes.
-use Rattle.std.specs.Prelude.{◌≡◌, ◌⊎◌, ℕ, Bool, true, false, List, Option}
+use Rattle.std.specs.Prelude.{◌≡◌, ◌⊎◌, ℕ, Bool, true, false, List, Option, Some}
 use Rattle.ps_arguments.specs.CommandLine.{Text}
 use Rattle.ps_arguments.specs.declared.request.Link.{Link}
 use Rattle.ps_words.specs.declared.fault.Fault.{Fault}
@@ -37,7 +37,8 @@ IsLinked world link paths host libs ended.Done before after old new old_err new_
     × PrintsPlaced (world before) link.outputs (summary_of host libs) old new old_err new_err
 IsLinked world link paths host libs ended.Refused before after old new old_err new_err =
     (f : Fault) × CanRefuse (OfLink Map Lines) host libs f
-    × PrintsFault (is_document link.outputs.form) paths (fault_name host libs f) f old new
+    × PrintsFault (is_document link.outputs.form) paths (Some link.outputs.out.now)
+    (fault_name host libs f) f old new
     × ((world after).log ≡ (world before).log)
 IsLinked world link paths host libs ended.Unread before after old new old_err new_err = ⊥
 
@@ -54,7 +55,8 @@ abbrev pub FailsLink : {S A : Type 0} → (S → World) → Link A → List Text
     → S → S → Option (List ℕ) → Option (List ℕ) → Type 0
 FailsLink world link paths host libs before after old new =
     ((f : Fault) × CanRefuse (OfLink Map Lines) host libs f
-    × CutsFault (is_document link.outputs.form) paths (fault_name host libs f) f old new
+    × CutsFault (is_document link.outputs.form) paths (Some link.outputs.out.now)
+    (fault_name host libs f) f old new
     × ((world after).log ≡ (world before).log))
     ⊎ ((file : List ℕ) × LinkedFile host libs file × (
     ((path : Text) × FailsToWrite (world before) (world after) link.outputs.out.now

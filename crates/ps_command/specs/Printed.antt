@@ -1,6 +1,6 @@
 -- What is printed on standard output once a command is done, by the command and the files that are
 -- named, and what a link has written. A `World` says what paths gave, and which files were created.
-use Rattle.std.specs.Prelude.{◌≡◌, ◌⊎◌, ◌++◌, ◌∷◌, [], ℕ, Bool, true, false, List, Option, Some, codes, max}
+use Rattle.std.specs.Prelude.{◌≡◌, ◌⊎◌, ◌++◌, ◌∷◌, [], ℕ, Bool, true, false, List, Option, None, Some, codes, max}
 use Rattle.std.specs.List.{AllZip}
 use Rattle.std.specs.Io.KnownBytes.{Appends}
 use Rattle.ps_arguments.specs.CommandLine.{Kinds, Row, Text}
@@ -103,27 +103,33 @@ TellsOnError world named =
     × (named ≡ Some (codes "link", rows)) × (out_and_libraries rows ≡ Some (out, libraries))
     × IsPlace world.leads (telling (is_quiet rows)) (out_by (has_output rows)) out (map_file rows) place.Error
 
--- the document of files that are refused: the path of the file that the fault is in, and the fault
--- with the name of what it is about
-abbrev pub refusal_json : Text → Option (List ℕ) → Fault → List ℕ
-refusal_json path name f = codes "{\"path\":\"" ++ json_text path ++ codes "\",\"fault\":"
-    ++ fault_json name f ++ codes "}\n"
+-- of a link, in the document of its refusal, the path that was taken for OUT: `,"out":"OUT"`; another
+-- command has no OUT
+abbrev pub out_json : Option Text → List ℕ
+out_json None = []
+out_json (Some out) = codes ",\"out\":\"" ++ json_text out ++ codes "\""
+
+-- the document of files that are refused: the path of the file that the fault is in, that of OUT, if
+-- they were to be linked, and the fault with the name of what it is about
+abbrev pub refusal_json : Text → Option Text → Option (List ℕ) → Fault → List ℕ
+refusal_json path out name f = codes "{\"path\":\"" ++ json_text path ++ codes "\""
+    ++ out_json out ++ codes ",\"fault\":" ++ fault_json name f ++ codes "}\n"
 
 -- by that document, if a document is asked for, and else by nothing
-abbrev pub PrintsFault : Bool → List Text → Option (List ℕ) → Fault → Option (List ℕ)
+abbrev pub PrintsFault : Bool → List Text → Option Text → Option (List ℕ) → Fault → Option (List ℕ)
     → Option (List ℕ) → Type 0
-PrintsFault true paths name f old new =
-    Appends old new (refusal_json (path_of paths f.file) name f)
-PrintsFault false paths name f old new = new ≡ old
+PrintsFault true paths out name f old new =
+    Appends old new (refusal_json (path_of paths f.file) out name f)
+PrintsFault false paths out name f old new = new ≡ old
 
 -- so, of files that were read at these paths, with status 1: of their faults it is the one for which this
 -- text of them is not made
-abbrev pub PrintsRefusal : World → TextKind → Bool → Text → List Text → ℕ → Option (List ℕ)
-    → Option (List ℕ) → Type 0
-PrintsRefusal world k json path paths status old new =
+abbrev pub PrintsRefusal : World → TextKind → Bool → Text → List Text → Option Text → ℕ
+    → Option (List ℕ) → Option (List ℕ) → Type 0
+PrintsRefusal world k json path paths out status old new =
     (status ≡ 1) × (host : List ℕ) × (libs : List (List ℕ)) × (f : Fault)
     × Reads world path host × AllZip (Reads world) paths libs × CanRefuse k host libs f
-    × PrintsFault json (path ∷ paths) (fault_name host libs f) f old new
+    × PrintsFault json (path ∷ paths) out (fault_name host libs f) f old new
 
 -- a text of files is printed, or that they are refused
 abbrev pub IsPrinted : TextKind → Bool → Bool → List Text → List ℕ → List (List ℕ) → ℕ
@@ -131,14 +137,14 @@ abbrev pub IsPrinted : TextKind → Bool → Bool → List Text → List ℕ →
 IsPrinted k strict json paths host libs status old new =
     ((text : List ℕ) × IsTextOf k strict paths host libs status text × Appends old new text)
     ⊎ ((status ≡ 1) × (f : Fault) × CanRefuse k host libs f
-    × PrintsFault json paths (fault_name host libs f) f old new)
+    × PrintsFault json paths None (fault_name host libs f) f old new)
 
 -- by a text; or the files are refused
 abbrev pub PrintsOrRefuses : World → TextKind → Bool → Text → List Text → ℕ → Option (List ℕ)
     → Option (List ℕ) → Type 0
 PrintsOrRefuses world k json path paths status old new =
     PrintsTextOf world k false path paths status old new
-    ⊎ PrintsRefusal world k json path paths status old new
+    ⊎ PrintsRefusal world k json path paths None status old new
 
 -- by a summary; or the files are refused, and no file was created
 abbrev pub LinksOrRefuses : {S : Type 0} → (S → World) → List Row → Text → ℕ → S → S
@@ -148,7 +154,7 @@ LinksOrRefuses world rows path status before after old new old_err new_err =
     ⊎ ((out : Text) × (libraries : List Text)
     × (out_and_libraries rows ≡ Some (out, libraries))
     × PrintsRefusal (world before) (kind.OfLink of_link.Map Lines) (is_json rows) path libraries
-    status old new
+    (Some out) status old new
     × ((world after).log ≡ (world before).log))
 
 -- by nothing, where the file at a path cannot be read; or in a document by an item that says so

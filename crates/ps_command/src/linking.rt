@@ -89,7 +89,8 @@ fn link_read<'a, R: CodeFiles, A: Allocator + Copy, O: Write, E: Write>(
         Ok(()) => Ok(Ended::Done),
         Err(Unlinked::Refused(fault)) => {
             let refusal = Refusal::of(files.host, files.libs, fault);
-            Ok(refuse(files, refusal, is_document(asked.outputs.form), out, err)?)
+            let is_json = is_document(asked.outputs.form);
+            Ok(refuse(files, Some(asked.outputs.out), refusal, is_json, out, err)?)
         }
         Err(Unlinked::Memory) => Err(RunError::Memory),
         Err(Unlinked::Write { path }) => Err(RunError::Write { path }),

@@ -351,7 +351,7 @@ fn print_files<'a, A: Allocator + Copy, O: Write, E: Write>(
 {
     match text_of(alloc, kind, files) {
         Ok(text) => Ok(print_text(&text, strict, out)?),
-        Err(Unmade::Refused(refusal)) => Ok(refuse(files, refusal, json, out, err)?),
+        Err(Unmade::Refused(refusal)) => Ok(refuse(files, None, refusal, json, out, err)?),
         Err(Unmade::Memory) => Err(RunError::Memory),
     }
 }

@@ -2,8 +2,7 @@ ghost use Rattle.std.specs.Prelude.{◌≡◌, ℕ, List, [], ◌∷◌};
 ghost use Rattle.ps_examples.specs.Files.{blank_name, util, aux, tools, count, state};
 ghost use Rattle.ps_examples.specs.Segments.{state_reference, demo_segment, util_segment, using_segment, tools_segment, displaced_segment, displaced_pair, pair, three, with_plain, with_constant, with_unused, meeting_segment, twice_segment, numbered_segment, sized_segment};
 ghost use Rattle.ps_linkinfo.specs.declared.record.Body.TheVariants.{UnitRef, PublRef, PrivRef, PublDef, ConstDef, Eof};
-ghost use Rattle.ps_resolve.specs.Standing.Privates.{private_offset};
-ghost use Rattle.ps_resolve.specs.LinkedBytes.{Reaches, Becomes, IsSlotOf, IsPublic, IsBase, IsNumberPlace, IsSizePlace, IsLinkedByte, IsOnePlace};
+ghost use Rattle.ps_resolve.specs.LinkedBytes.{Reaches, Becomes, IsSlotOf, IsPublic, IsBase, IsNumberPlace, IsSizePlace, IsLinkedByte, IsOnePlace, private_offset};
 ghost use Rattle.ps_words.specs.declared.order.Order.TheVariants.{Little};
 
 use ps_laws::{bytes_are_linked, first_of_all};

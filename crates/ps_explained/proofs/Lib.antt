@@ -5,3 +5,5 @@ pub mod LineOfSegment
 pub mod LinesOfSegments
 pub mod ReadLines
 pub mod FileLines
+pub mod FirstOf
+pub mod OverviewTexts

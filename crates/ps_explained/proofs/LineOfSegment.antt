@@ -13,7 +13,7 @@ use Rattle.ps_check_segments.specs.declared.segments.SegmentPart.TheVariants as 
 use Rattle.ps_explained.proofs.OneLine.{above, and_both, one_append, one_digits, one_name, one_path}
 use Rattle.ps_explained.proofs.SlotLines.{adds_line, adds_no_line}
 
-one_two : (n : ℕ) → one_line (slot_digits n) ≡ true
+pub one_two : (n : ℕ) → one_line (slot_digits n) ≡ true
 one_two n = and_both (not ((48 + n / 10) == 10)) (one_line ((48 + n % 10) ∷ []))
     (above 48 (n / 10) (omega arith)) (and_both (not ((48 + n % 10) == 10)) true
     (above 48 (n % 10) (omega arith)) refl)

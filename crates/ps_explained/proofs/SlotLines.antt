@@ -3,7 +3,7 @@ use Rattle.std.proofs.Common.{◌≡◌, ◌∙◌, ◌++◌, ◌∷◌, ◌==�
 use Rattle.std.specs.Prelude.{if◌then◌else◌}
 use Rattle.std.specs.List.{filter}
 use Rattle.std.proofs.lemmas.List.{append_assoc}
-use Rattle.ps_explained.specs.SlotLines.{AddsSlotLines, indent, is_slot_line, lines_of, one_line, line_of_no_segment, slot_lines, with_first}
+use Rattle.ps_explained.specs.SlotLines.{AddsSlotLines, is_slot_line, lines_of, one_line, slot_lines, with_first}
 use Rattle.ps_explained.proofs.OneLine.{and_left, and_right}
 
 -- a line ends at the first byte 10
@@ -49,18 +49,6 @@ adds_no_line old line new one begins is = (
   λ rest. slot_lines_after line rest one
       ∙ ap (λ (t : Bool). cond t (line ∷ slot_lines rest) (slot_lines rest)) begins,
 )
-
--- one that is no segment's
-pub adds_other : (old line new : List ℕ) → one_line line ≡ true
-    → new ≡ old ++ line_of_no_segment line → AddsSlotLines old [] new
-unfolding line_of_no_segment
-adds_other old line new one is = by (is_slot_line line) refl
-  where
-    by : (t : Bool) → is_slot_line line ≡ t → AddsSlotLines old [] new
-    by true e = adds_no_line old (32 ∷ 32 ∷ line) new one refl
-        (is ∙ ap (λ (t : Bool). old ++ (indent t ++ (line ++ 10 ∷ []))) e)
-    by false e = adds_no_line old line new one e
-        (is ∙ ap (λ (t : Bool). old ++ (indent t ++ (line ++ 10 ∷ []))) e)
 
 pub adds_none : (text : List ℕ) → AddsSlotLines text [] text
 adds_none text = ([], sym (append-nil text), λ rest. refl)

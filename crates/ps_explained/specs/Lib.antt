@@ -1,5 +1,7 @@
 pub mod Sentences
 pub mod SlotLines
 pub mod SegmentLines
+pub mod OverviewText
 pub mod FileLines
 pub mod Cases
+pub mod CaseValues

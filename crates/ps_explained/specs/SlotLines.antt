@@ -35,7 +35,3 @@ one_line text = list_all (λ byte. not (byte == 10)) text
 -- what goes before a line that would begin as it must not
 abbrev pub indent : Bool → List ℕ
 indent begins = if begins then codes "  " else []
-
--- a line that is no segment's, and its end
-unfoldable pub line_of_no_segment : List ℕ → List ℕ
-line_of_no_segment line = indent (is_slot_line line) ++ (line ++ 10 ∷ [])

@@ -5,6 +5,7 @@ ghost use Rattle.std.specs.Option.{option_map};
 ghost use Rattle.ps_codefile.specs.Dictionary.{opened_alone};
 ghost use Rattle.ps_resolve.specs.Sources.{contents};
 ghost use Rattle.ps_explained.specs.Cases.{earlier_in as earlier_in_spec, earlier_of, first_host, host_entry, is_in_way as is_in_way_spec, missing_name, operand_in, record_in, records_of};
+ghost use Rattle.ps_explained.specs.CaseValues.{code_from, code_read as code_read_spec, entry_from, information_from, name_in_case, place_from, source_of};
 
 use ps_check_segments::{NamedFiles, ReadSegment, SegmentPart, Source, in_slot};
 use ps_codefile::code_layout::NUMBERS;
@@ -52,6 +53,16 @@ fn earlier_in(dict: &Dict<'_>, reason: Reason, slot: u8) -> Option<(u8, ShownNam
     }
 }
 
+/// A code, as far as it can be read.
+fn code_read(code: Result<&[u8], Reason>) -> &[u8]
+    ensures { result.now ≡ code_read_spec code.entry }
+{
+    match code {
+        Ok(code) => code,
+        Err(_) => &[],
+    }
+}
+
 /// A fault, and what of the files it is about.
 #[derive(Clone, Copy)]
 pub struct Case<'c, 'a> {
@@ -77,7 +88,11 @@ impl<'c, 'a> Case<'c, 'a> {
         list: &'c [ReadSegment<'a>],
         fault: Fault,
         is_suspect: bool,
-    ) -> Self {
+    ) -> Self
+        ensures inputs { result.inputs.now ≡ inputs.now }
+        ensures list { result.list.now ≡ list.now }
+        ensures fault { result.fault ≡ fault }
+    {
         let segment = match fault.slot {
             Some(slot) => in_slot(list, slot),
             None => None,
@@ -110,7 +125,9 @@ impl<'c, 'a> Case<'c, 'a> {
 
     /// The dictionary that has its segment, and the entry there.
     fn place(&self) -> Option<(Dict<'a>, u8)>
-        ensures { IfSome result (λ p. p.1 < SLOTS) }
+        ensures place { result ≡ place_from self.now.inputs.now.host.now
+            (contents self.now.inputs.now.libs.now) (source_of self.now.segment) }
+        ensures in_range { IfSome result (λ p. p.1 < SLOTS) }
     {
         let at = self.source()?.at;
         if at.index >= SLOTS {
@@ -121,20 +138,30 @@ impl<'c, 'a> Case<'c, 'a> {
 
     /// What the dictionary of its file says of its segment.
     /// Source: UCSD Pascal II.0 manual, code file format.
-    pub(crate) fn found(&self) -> Option<Entry> {
+    pub(crate) fn found(&self) -> Option<Entry>
+        ensures { result ≡ entry_from (place_from self.now.inputs.now.host.now
+            (contents self.now.inputs.now.libs.now) (source_of self.now.segment)) }
+    {
         let (dict, index) = self.place()?;
         Some(dict.entry(index))
     }
 
     /// The bytes of its file after the code of its segment.
     /// Source: UCSD Pascal II.0 manual, code file format.
-    pub(crate) fn after(&self) -> Option<&'a [u8]> {
+    pub(crate) fn after(&self) -> Option<&'a [u8]>
+        ensures { option_map (λ bytes. bytes.now) result ≡ information_from (place_from
+            self.now.inputs.now.host.now (contents self.now.inputs.now.libs.now)
+            (source_of self.now.segment)) }
+    {
         let (dict, index) = self.place()?;
         Some(dict.after(index))
     }
 
     /// The name of the segment of its slot.
-    pub fn name(&self) -> Option<Name> {
+    pub fn name(&self) -> Option<Name>
+        ensures { result ≡ name_in_case self.now.segment (host_entry
+            (opened_alone self.now.inputs.now.host.now) self.now.fault.slot) }
+    {
         match self.segment {
             Some(segment) => Some(segment.name),
             None => Some(self.entry()?.name),
@@ -163,7 +190,9 @@ impl<'c, 'a> Case<'c, 'a> {
     }
 
     /// Where its segment comes from.
-    pub(crate) fn source(&self) -> Option<Source<'a>> {
+    pub(crate) fn source(&self) -> Option<Source<'a>>
+        ensures { result ≡ source_of self.now.segment }
+    {
         match self.segment {
             Some(segment) => segment.source.ok(),
             None => None,
@@ -202,9 +231,11 @@ impl<'c, 'a> Case<'c, 'a> {
 
     /// The code of its segment, as far as it can be read.
     /// Source: UCSD Pascal II.0 manual, code file format.
-    pub fn code(&self) -> &'a [u8] {
+    pub fn code(&self) -> &'a [u8]
+        ensures { result.now ≡ code_from (source_of self.now.segment) }
+    {
         match self.source() {
-            Some(source) => source.code.unwrap_or(&[]),
+            Some(source) => code_read(source.code),
             None => &[],
         }
     }

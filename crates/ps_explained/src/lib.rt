@@ -8,6 +8,7 @@ mod explain;
 mod file_lines;
 mod orders;
 mod overview;
+mod passed_over;
 mod privates;
 mod records;
 mod references;

@@ -1,18 +1,22 @@
 //! The files, and the segments with where each comes from.
-ghost use Rattle.std.specs.Prelude.{◌≡◌, ◌∷◌, ◌++◌, [], IfOk, OnOk, Some, map, string_bytes};
+ghost use Rattle.std.specs.Prelude.{◌≡◌, ◌∷◌, ◌++◌, ◌<◌, [], IfOk, OnOk, Some, if◌then◌else◌, map, string_bytes};
+ghost use Rattle.std.specs.List.{list_any};
 ghost use Rattle.ps_resolve.specs.Sources.{contents};
-ghost use Rattle.ps_check_segments.specs.Seen.{seen};
+ghost use Rattle.ps_codefile.specs.Dictionary.{opened_alone};
+ghost use Rattle.ps_check_segments.specs.Paths.{paths_in};
+ghost use Rattle.ps_check_segments.specs.Seen.{has_slot, seen};
 ghost use Rattle.ps_explained.specs.FileLines.{AreFileLines};
+ghost use Rattle.ps_explained.specs.OverviewText.{is_without as is_without_spec, overview_text, rest_text, segment_texts, slot_list, slots_without, text_after, without_line};
 ghost use Rattle.ps_explained.specs.SegmentLines.{from_words, has_unread as has_unread_spec, head_words, line_in_slot, read_line, read_lines, slot_words, why_words};
 ghost use Rattle.ps_explained.specs.SlotLines.{AddsSlotLines, slot_lines};
 
 use crate::file_lines::file_lines;
-use crate::slot_lines::add_other_lines;
-use ps_check_segments::{NamedFiles, ReadSegment, SegmentPart, in_slot, words_of};
+use crate::passed_over::{add_later_of, add_unused};
+use ps_check_segments::{NamedFiles, ReadSegment, SegmentPart, words_of};
 use ps_codefile::Dict;
 use ps_codefile::dictionary_layout::SLOTS;
 use ps_filetype::{ShownName, ShownPath, ShownSlot};
-use ps_resolve::{Absent, HostReading, Reading};
+use ps_resolve::Absent;
 use ps_words::Name;
 use std::alloc::{AllocError, Allocator};
 use std::fmt::{self, Formatter, Write as _};
@@ -87,13 +91,13 @@ pub struct Overview<A: Allocator> {
 /// slot, or with `no slot`, and, where later libraries have a unit of its name too, one that names
 /// the first of them; the slots without a segment; and the first library from which nothing is taken.
 ///
-/// `reading` is what was read of the files of `inputs`, and `list` what `ps_check_segments::segments_of`
-/// gives for it. The lines that begin with `slot ` are those of the segments of the list. Returns an
-/// error where memory was refused.
+/// `list` has the segments of a link of the files of `inputs`, as `ps_check_segments::segments_of` gives
+/// them, or those of them that are to be told. The lines that begin with `slot ` are those of the segments
+/// of the list. Returns an error where memory was refused.
+#[tactic(auto, unfolding(crate::specs::OverviewText::overview_text))]
 pub fn overview_of<A: Allocator + Copy>(
     alloc: A,
     inputs: &NamedFiles<'_>,
-    reading: &Reading<'_>,
     list: &[ReadSegment<'_>],
 ) -> Result<Overview<A>, AllocError>
     ensures files { IfOk result (λ made. AreFileLines
@@ -103,37 +107,64 @@ pub fn overview_of<A: Allocator + Copy>(
     ensures read { IfOk result (λ made. slot_lines (string_bytes made.segments) ≡ read_lines
         (inputs.now.host_path.now ∷ contents inputs.now.paths.now)
         (has_unread_spec inputs.now.host.now (contents inputs.now.libs.now)) (map seen list.now)) }
+    ensures segments { IfOk result (λ made. string_bytes made.segments ≡ overview_text
+        (inputs.now.host_path.now ∷ contents inputs.now.paths.now) inputs.now.host.now
+        (contents inputs.now.libs.now) (map seen list.now)) }
 {
     let files = file_lines(alloc, inputs)?;
     let mut segments = String::new(alloc);
-    add_segments(
-        alloc,
-        &mut segments,
-        inputs,
-        reading,
-        list,
-        has_unread(inputs),
-    )?;
+    add_each(&mut segments, inputs, list, has_unread(inputs))?;
+    add_rest_of(&mut segments, inputs, list)?;
     Ok(Overview { files, segments })
 }
 
-/// Adds what each slot of the host is for, and what libraries have that is not used: each segment has
-/// its line, and no other line begins as those do.
-fn add_segments<A: Allocator + Copy>(
-    alloc: A,
+/// Adds the line of each segment as it was read, also where it is refused, and that of the later
+/// libraries that have its name too.
+fn add_each<A: Allocator>(
     text: &mut String<A>,
     inputs: &NamedFiles<'_>,
-    reading: &Reading<'_>,
     list: &[ReadSegment<'_>],
     unread: bool,
 ) -> Result<(), AllocError>
-    ensures { OnOk result (AddsSlotLines (string_bytes text.old)
+    ensures lines { OnOk result (AddsSlotLines (string_bytes text.old)
         (read_lines (inputs.now.host_path.now ∷ contents inputs.now.paths.now) unread
         (map seen list.now)) (string_bytes text.new)) }
+    ensures text { OnOk result (string_bytes text.new ≡ string_bytes text.old
+        ++ segment_texts (paths_in inputs.now) inputs.now.host.now (contents inputs.now.libs.now)
+        unread (map seen list.now)) }
 {
-    add_each(alloc, text, inputs, list, unread)?;
-    let lines = lines_after(alloc, inputs, reading, list)?;
-    add_other_lines(text, lines.as_str())
+    for segment in list {
+        add_segment(text, inputs, segment, unread)?;
+        add_later_of(text, inputs, segment)?;
+    }
+    Ok(())
+}
+
+/// Adds the line of a segment as it was read.
+fn add_segment<A: Allocator>(
+    text: &mut String<A>,
+    inputs: &NamedFiles<'_>,
+    segment: &ReadSegment<'_>,
+    unread: bool,
+) -> Result<(), AllocError>
+    ensures lines { OnOk result (AddsSlotLines (string_bytes text.old) (line_in_slot segment.now.slot
+        (read_line (inputs.now.host_path.now ∷ contents inputs.now.paths.now) unread
+        (seen segment.now))) (string_bytes text.new)) }
+    ensures text { OnOk result (string_bytes text.new ≡ string_bytes text.old
+        ++ (read_line (paths_in inputs.now) unread (seen segment.now) ++ 10 ∷ [])) }
+{
+    let head = Head {
+        slot: segment.slot,
+        name: segment.name,
+        part: segment.part,
+    };
+    match segment.source {
+        Ok(source) => {
+            let path = inputs.path(source.at.file);
+            add_line(text, head, path, source.at.index, source.length)
+        }
+        Err(absent) => add_absent(text, head, unread, absent),
+    }
 }
 
 /// Adds the line of a segment that comes from an entry of a file.
@@ -144,9 +175,12 @@ fn add_line<A: Allocator>(
     index: u8,
     size: usize,
 ) -> Result<(), AllocError>
-    ensures { OnOk result (AddsSlotLines (string_bytes text.old) (line_in_slot head.slot
+    ensures lines { OnOk result (AddsSlotLines (string_bytes text.old) (line_in_slot head.slot
         (head_words head.slot head.name head.part ++ from_words path.now index size))
         (string_bytes text.new)) }
+    ensures text { OnOk result (string_bytes text.new ≡ string_bytes text.old
+        ++ ((head_words head.slot head.name head.part ++ from_words path.now index size)
+        ++ 10 ∷ [])) }
 {
     push_line(text, head, Origin { path, index, size })
 }
@@ -165,63 +199,6 @@ fn push_line<A: Allocator>(
     writeln!(text, "{head}{origin}")
 }
 
-/// Adds the line of each segment as it was read, also where it is refused.
-fn add_each<A: Allocator + Copy>(
-    alloc: A,
-    text: &mut String<A>,
-    inputs: &NamedFiles<'_>,
-    list: &[ReadSegment<'_>],
-    unread: bool,
-) -> Result<(), AllocError>
-    ensures { OnOk result (AddsSlotLines (string_bytes text.old)
-        (read_lines (inputs.now.host_path.now ∷ contents inputs.now.paths.now) unread
-        (map seen list.now)) (string_bytes text.new)) }
-{
-    for segment in list {
-        add_segment(text, inputs, segment, unread)?;
-        let later = later_line_of(alloc, inputs, segment)?;
-        add_other_lines(text, later.as_str())?;
-    }
-    Ok(())
-}
-
-/// Adds the line of a segment as it was read.
-fn add_segment<A: Allocator>(
-    text: &mut String<A>,
-    inputs: &NamedFiles<'_>,
-    segment: &ReadSegment<'_>,
-    unread: bool,
-) -> Result<(), AllocError>
-    ensures { OnOk result (AddsSlotLines (string_bytes text.old) (line_in_slot segment.now.slot
-        (read_line (inputs.now.host_path.now ∷ contents inputs.now.paths.now) unread
-        (seen segment.now))) (string_bytes text.new)) }
-{
-    let head = Head {
-        slot: segment.slot,
-        name: segment.name,
-        part: segment.part,
-    };
-    match segment.source {
-        Ok(source) => {
-            let path = inputs.path(source.at.file);
-            add_line(text, head, path, source.at.index, source.length)
-        }
-        Err(absent) => add_absent(text, head, unread, absent),
-    }
-}
-
-/// Which libraries after that of a segment have a unit of its name too, in a line, if some have.
-fn later_line_of<A: Allocator>(
-    alloc: A,
-    inputs: &NamedFiles<'_>,
-    segment: &ReadSegment<'_>,
-) -> Result<String<A>, AllocError> {
-    match segment.source {
-        Ok(source) => later_line(alloc, inputs, segment.name, source.at.file),
-        Err(_) => Ok(String::new(alloc)),
-    }
-}
-
 /// Adds the line of a segment that comes from no file.
 fn add_absent<A: Allocator>(
     text: &mut String<A>,
@@ -229,35 +206,13 @@ fn add_absent<A: Allocator>(
     unread: bool,
     absent: Absent,
 ) -> Result<(), AllocError>
-    ensures { OnOk result (AddsSlotLines (string_bytes text.old) (line_in_slot head.slot
+    ensures lines { OnOk result (AddsSlotLines (string_bytes text.old) (line_in_slot head.slot
         (head_words head.slot head.name head.part ++ why_words unread absent))
         (string_bytes text.new)) }
+    ensures text { OnOk result (string_bytes text.new ≡ string_bytes text.old
+        ++ ((head_words head.slot head.name head.part ++ why_words unread absent) ++ 10 ∷ [])) }
 {
     push_absent(text, head, unread, absent)
-}
-
-/// Some library cannot be read beside the host.
-fn has_unread(inputs: &NamedFiles<'_>) -> bool
-    ensures { result ≡ has_unread_spec inputs.now.host.now (contents inputs.now.libs.now) }
-{
-    let order = inputs.order();
-    for lib in inputs.libs {
-        if Dict::read_beside(lib, order).is_err() {
-            return true;
-        }
-    }
-    false
-}
-
-/// Why a segment comes from nowhere, in words that follow its name: where some library is `unread`, it
-/// may have the unit.
-fn why_of(unread: bool, absent: Absent) -> &'static str
-    ensures { result.now ≡ why_words unread absent }
-{
-    match absent {
-        Absent::Missing if unread => ", which no library that can be read has",
-        _ => words_of(absent),
-    }
 }
 
 /// Adds what a segment is and why it comes from no file, in a line.
@@ -275,110 +230,160 @@ fn push_absent<A: Allocator>(
     writeln!(text, "{head}{why}")
 }
 
-/// Which libraries after that of a segment have a unit of its name too, in a line, if some have.
-fn later_line<A: Allocator>(
-    alloc: A,
-    inputs: &NamedFiles<'_>,
-    name: Name,
-    used: usize,
-) -> Result<String<A>, AllocError> {
-    let mut text = String::new(alloc);
-    if let Some((file, entry, more)) = later_entries(inputs, &name, used) {
-        let path = ShownPath(inputs.path(file));
-        writeln!(
-            text,
-            "  not used: {path} entry {entry:02} has the name too{more}"
-        )?;
+/// Why a segment comes from nowhere, in words that follow its name: where some library is `unread`, it
+/// may have the unit.
+fn why_of(unread: bool, absent: Absent) -> &'static str
+    ensures { result.now ≡ why_words unread absent }
+{
+    match absent {
+        Absent::Missing if unread => ", which no library that can be read has",
+        _ => words_of(absent),
     }
-    Ok(text)
 }
 
-/// The first library after that of a segment that has an entry of its name, with the entry, and how
-/// many more have one.
-fn later_entries(inputs: &NamedFiles<'_>, name: &Name, used: usize) -> Option<(usize, u8, More)> {
-    if used == 0 {
-        return None;
-    }
-    let mut later = (used..=inputs.libs.len())
-        .skip(1)
-        .filter_map(|file| Some((file, entry_in(inputs, name, file)?)));
-    let (file, entry) = later.next()?;
-    Some((file, entry, More(later.count())))
-}
-
-/// The first entry of a library that is filled and has this name.
-fn entry_in(inputs: &NamedFiles<'_>, name: &Name, file: usize) -> Option<u8> {
-    let dict = inputs.dict(file)?;
-    for slot in 0..SLOTS {
-        if dict.filled(slot) && dict.entry(slot).name == *name {
-            return Some(slot);
+/// Some library cannot be read beside the host.
+fn has_unread(inputs: &NamedFiles<'_>) -> bool
+    ensures { result ≡ has_unread_spec inputs.now.host.now (contents inputs.now.libs.now) }
+{
+    let order = inputs.order();
+    for lib in inputs.libs {
+        if Dict::read_beside(lib, order).is_err() {
+            return true;
         }
     }
-    None
+    false
 }
 
-/// How many libraries there are besides one that is named.
-#[derive(Clone, Copy)]
-struct More(usize);
-
-impl fmt::Display for More {
-    fn fmt<W: fmt::Write>(&self, f: &mut Formatter<W>) -> fmt::Result {
-        match self.0 {
-            0 => Ok(()),
-            1 => f.write_str(", and 1 more library"),
-            more => write!(f, ", and {more} more libraries"),
-        }
-    }
-}
-
-/// The lines after those of the segments: the slots that have none, and what libraries have that is
-/// not used.
-fn lines_after<A: Allocator>(
-    alloc: A,
+/// Adds what follows the lines of the segments, where the host can be opened.
+fn add_rest_of<A: Allocator>(
+    text: &mut String<A>,
     inputs: &NamedFiles<'_>,
-    reading: &Reading<'_>,
     list: &[ReadSegment<'_>],
-) -> Result<String<A>, AllocError> {
-    let mut text = String::new(alloc);
-    if let Ok(host) = reading.host() {
-        if !list.is_empty() {
-            add_empty(&mut text, host, list)?;
-            add_unused(&mut text, inputs, list)?;
-        }
+) -> Result<(), AllocError>
+    ensures lines { OnOk result (AddsSlotLines (string_bytes text.old) [] (string_bytes text.new)) }
+    ensures text { OnOk result (string_bytes text.new ≡ string_bytes text.old
+        ++ text_after (paths_in inputs.now) (contents inputs.now.libs.now) (map seen list.now)
+        (opened_alone inputs.now.host.now)) }
+{
+    match Dict::read(inputs.host) {
+        Ok(host) => add_rest(text, inputs, &host, list),
+        Err(_) => Ok(()),
     }
-    Ok(text)
 }
 
-/// Adds the slots that have no segment: one whose kind is refused has one, though it is not read.
+/// Adds the lines after those of the segments, where there is one: the slots that have none, and the
+/// libraries from which nothing is taken.
+fn add_rest<A: Allocator>(
+    text: &mut String<A>,
+    inputs: &NamedFiles<'_>,
+    host: &Dict<'_>,
+    list: &[ReadSegment<'_>],
+) -> Result<(), AllocError>
+    ensures lines { OnOk result (AddsSlotLines (string_bytes text.old) [] (string_bytes text.new)) }
+    ensures text { OnOk result (string_bytes text.new ≡ string_bytes text.old
+        ++ rest_text (paths_in inputs.now) (contents inputs.now.libs.now) (map seen list.now)
+        host.now) }
+{
+    if list.is_empty() {
+        return Ok(());
+    }
+    add_empty(text, host, list)?;
+    add_unused(text, inputs, list)
+}
+
+/// Adds the slots that have no segment.
 fn add_empty<A: Allocator>(
     text: &mut String<A>,
-    host: &HostReading<'_>,
+    host: &Dict<'_>,
     list: &[ReadSegment<'_>],
-) -> Result<(), AllocError> {
+) -> Result<(), AllocError>
+    ensures lines { OnOk result (AddsSlotLines (string_bytes text.old) [] (string_bytes text.new)) }
+    ensures text { OnOk result (string_bytes text.new ≡ string_bytes text.old
+        ++ without_line (slots_without host.now (map seen list.now))) }
+{
+    push_empty(text, host, list)
+}
+
+/// Adds the slots that have no segment, in a line.
+fn push_empty<A: Allocator>(
+    text: &mut String<A>,
+    host: &Dict<'_>,
+    list: &[ReadSegment<'_>],
+) -> Result<(), AllocError>
+    ensures { OnOk result (string_bytes text.new ≡ string_bytes text.old
+        ++ without_line (slots_without host.now (map seen list.now))) }
+{
     text.push_str("slots without a segment:")?;
+    add_slots(text, host, list)?;
+    text.push_str("\n")?;
+    Ok(())
+}
+
+/// Adds the number of each slot that has no segment.
+fn add_slots<A: Allocator>(
+    text: &mut String<A>,
+    host: &Dict<'_>,
+    list: &[ReadSegment<'_>],
+) -> Result<(), AllocError>
+    ensures { OnOk result (string_bytes text.new ≡ string_bytes text.old
+        ++ slot_list (slots_without host.now (map seen list.now))) }
+{
     for slot in 0..SLOTS {
-        if host.role(slot).is_ok() && in_slot(list, slot).is_none() {
-            write!(text, " {slot:02}")?;
+        add_slot(text, slot, is_without(host, list, slot))?;
+    }
+    Ok(())
+}
+
+/// Adds the number of a slot, where it has no segment.
+fn add_slot<A: Allocator>(
+    text: &mut String<A>,
+    slot: u8,
+    is_without: bool,
+) -> Result<(), AllocError>
+    ensures { OnOk result (string_bytes text.new ≡ string_bytes text.old
+        ++ slot_list (if is_without then slot ∷ [] else [])) }
+{
+    if is_without {
+        push_slot(text, ShownSlot(slot))
+    } else {
+        Ok(())
+    }
+}
+
+/// Adds the number of a slot after a blank.
+fn push_slot<A: Allocator>(text: &mut String<A>, slot: ShownSlot) -> Result<(), AllocError>
+    ensures { OnOk result (string_bytes text.new ≡ string_bytes text.old
+        ++ slot_list (slot.0 ∷ [])) }
+{
+    write!(text, " {slot}")
+}
+
+/// A slot of the host has no segment: one whose kind is refused has one, though it is not read.
+fn is_without(host: &Dict<'_>, list: &[ReadSegment<'_>], slot: u8) -> bool
+    requires { slot < SLOTS }
+    ensures { result ≡ is_without_spec host.now (map seen list.now) slot }
+{
+    host.role(slot).is_ok() && !has_segment(list, slot)
+}
+
+/// Some segment of the list has the slot.
+fn has_segment(list: &[ReadSegment<'_>], slot: u8) -> bool
+    ensures { result ≡ list_any (has_slot slot) (map seen list.now) }
+{
+    for segment in list {
+        if is_in_slot(segment, slot) {
+            return true;
         }
     }
-    text.push('\n')
+    false
 }
 
-/// Adds the first library from which nothing is taken, and how many more there are.
-fn add_unused<A: Allocator>(
-    text: &mut String<A>,
-    inputs: &NamedFiles<'_>,
-    list: &[ReadSegment<'_>],
-) -> Result<(), AllocError> {
-    let mut unused = (1..=inputs.libs.len()).filter(|file| !is_used(list, *file));
-    let Some(file) = unused.next() else {
-        return Ok(());
-    };
-    let (path, more) = (ShownPath(inputs.path(file)), More(unused.count()));
-    writeln!(text, "nothing is taken from file {file} {path}{more}")
-}
-
-/// Some segment comes from the file.
-fn is_used(list: &[ReadSegment<'_>], file: usize) -> bool {
-    list.iter().any(|segment| segment.source.is_ok_and(|source| source.at.file == file))
+/// The segment has the slot.
+fn is_in_slot(segment: &ReadSegment<'_>, slot: u8) -> bool
+    ensures { result ≡ has_slot slot (seen segment.now) }
+{
+    match segment.slot {
+        Some(own) => own == slot,
+        None => false,
+    }
 }

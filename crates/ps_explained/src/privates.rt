@@ -1,8 +1,22 @@
 //! What the files say of private variables that do not fit.
+ghost use Rattle.std.specs.Prelude.{◌≡◌};
+ghost use Rattle.ps_explained.specs.CaseValues.{private_words_in, private_words_of};
+ghost use Rattle.ps_explained.specs.Cases.{record_in, records_of};
+
 use crate::cases::Case;
 use ps_check_segments::host_of;
 use ps_linkinfo::Body;
 use ps_pcode::procedures_of;
+
+/// The words that the body of a record requests for a private variable.
+fn words_of(body: &Body<'_>) -> Option<u16>
+    ensures { result ≡ private_words_of body.now }
+{
+    match body {
+        Body::PrivRef { words, .. } => Some(*words),
+        _ => None,
+    }
+}
 
 impl Case<'_, '_> {
     /// The data size of the outer block of the host program, in bytes.
@@ -28,10 +42,12 @@ impl Case<'_, '_> {
 
     /// The words of the private variable of the record that the fault is reported with.
     /// Source: the published II.0 Linker source.
-    pub fn private_words(&self) -> Option<u16> {
-        match self.record()?.body {
-            Body::PrivRef { words, .. } => Some(words),
-            _ => None,
+    pub fn private_words(&self) -> Option<u16>
+        ensures { result ≡ private_words_in (record_in (records_of self.now.segment) self.now.fault) }
+    {
+        match self.record() {
+            Some(record) => words_of(&record.body),
+            None => None,
         }
     }
 }

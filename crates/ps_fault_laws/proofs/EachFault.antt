@@ -29,7 +29,7 @@ use Rattle.ps_reading.specs.Sources.{Segment, file_at, host_of, library_file, or
 use Rattle.ps_reading.specs.Standing.Slots.{HasRole, SlotHas}
 use Rattle.ps_reading.specs.declared.reading.added.UnitReference.{UnitReference}
 use Rattle.ps_resolve.specs.Standing.{IsFirst, StandsIn}
-use Rattle.ps_resolve.specs.Standing.Keys.{OfAdded, OfDataSize, OfDefinitions, OfHost, OfLibraries, OfNoHost, OfPrivates, OfReferences, OfSlots, OfSources, Step, is_of_reading, key, turn}
+use Rattle.ps_resolve.specs.Standing.Keys.{OfAdded, OfDataSize, OfDefinitions, OfHost, OfLibraries, OfNoHost, OfPrivates, OfReferences, OfSlots, OfSources, Step, key, turn}
 use Rattle.ps_resolve.specs.Standing.Privates.{PrivateHas}
 use Rattle.ps_resolve.specs.Standing.References.{RecordHas, ReferenceHas}
 use Rattle.ps_resolve.specs.Standing.Rounds.{IsRequested}
@@ -143,9 +143,6 @@ not_before s t f g lt b =
       | inr u ↦ (let same = u.0 in omega (arith, lt, same))
     ]
 
-read_turn : (s : Step) → is_of_reading s ≡ true → turn s < 7
-read_turn s h = grind arith
-
 -- nothing is found where nothing applies
 absent : {B : Fault → Fault → Type 0} {P : Fault → Type 0} (o : Option Fault) → Least B P o
     → ((g : Fault) → P g → ⊥) → o ≡ None
@@ -243,7 +240,7 @@ module _ (law : OneStop) (host : List ℕ) (libs : List (List ℕ)) (f : Fault)
 
   reading_fine : 6 < turn first.step → reading_fault host libs ≡ None
   reading_fine lt = unread law host libs
-      (λ st g r h. no_earlier st (let t = read_turn st r in omega (arith, t, lt)) g h.stands)
+      (λ st g early h. no_earlier st (omega (arith, early, lt)) g h.stands)
 
   -- of a slot that is not empty
   own_slot : (slot : ℕ) → slot < SLOTS → 1 < turn first.step

@@ -1,6 +1,6 @@
 -- The byte that the edits of a segment make is its linked byte, and no other byte is.
 use Rattle.ps_laws.proofs.Vocabulary.{◌⊎◌, if◌then◌else◌, slice_get, find, lookup, option_map_or, bytes_eq, table_of, private_offset, next_of, IsReference, Reaches, IsSizePlace, IsOnePlace, summed_edits, summed_segment, refs_of, Body, Record, needs_linking, is_host, is_unit, Segment, host_records, units_of, target_in, target_of, known_of, grown_data_size, Target, Order, Edit, rules, ◌≡◌, ℕ, ◌+◌, ◌-◌, ◌≤◌, List, [], ◌∷◌, length, Option, Some, None, Ok, true, false, refl, sym, ap, ◌∙◌, inl, inr, arith, slice_index, IsSlotOf, IsPublic, IsBase, all_private_words, Becomes, IsNumberPlace, IsLinkedByte, UnitRef, PublRef, PrivRef, PublDef, edit_of, unit_slot, public_base, linked_byte}
-use Rattle.ps_resolve.specs.Standing.Privates.{words_before}
+use Rattle.ps_resolve.specs.LinkedBytes.{words_before}
 use Rattle.ps_resolve.specs.Symbols.{def_in, definition_in, definitions, definition_of}
 use Rattle.ps_resolve.specs.declared.definitions.Def.{Def}
 use Rattle.ps_resolve.specs.declared.definitions.DefKind.TheVariants.{Public}

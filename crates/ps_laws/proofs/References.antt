@@ -1,8 +1,10 @@
 -- The first fault of the references is the smallest that is.
-use Rattle.ps_laws.proofs.Vocabulary.{◌≢◌, ◌⊎◌, nat_le, nat_lt, Decides, range_with_len, enumerate_from, find, slice_get, list_any, flat_map, lookup, option_map, option_or, result_err, bytes_eq, false≢true, Decides-ltb, Decides-and, Decides-or, Decides-like, flat_map-append, bytes_eq-Decides, is_reserved, is_unit_reference, next_of, added_fault, private_words, Because, SomeBelow, SomeItem, OfReferences, part, private_offset, refs_of, Body, Record, Before, first_of, fault_if, Segment, host_records, units_of, target_in, target_of, words_taken, known_of, Target, in_record, Order, Reason, Fault, ◌≡◌, ℕ, ◌+◌, ◌<◌, ◌≤◌, List, [], ◌∷◌, ◌++◌, length, take, map, Option, Some, None, Result, Ok, Err, Bool, true, refl, sym, ap, ◌∙◌, inl, inr, arith, append_assoc, append-nil, is_some, unwrap_or, segments, Defines, RecordHas, Covers, Meet, ReferenceHas, InReferences, UnitRef, PublRef, width_of, value_of, is_in, operands, refs_fault, Known, public_base, records_fault, none_mapped, some_mapped, in_reference}
+use Rattle.ps_laws.proofs.Vocabulary.{◌≢◌, ◌⊎◌, nat_le, nat_lt, Decides, range_with_len, enumerate_from, find, slice_get, list_any, flat_map, lookup, option_map, option_or, result_err, bytes_eq, false≢true, Decides-ltb, Decides-and, Decides-or, Decides-like, flat_map-append, bytes_eq-Decides, is_reserved, is_unit_reference, next_of, added_fault, private_words, Because, SomeBelow, SomeItem, OfReferences, part, private_offset, refs_of, Body, Record, Before, first_of, fault_if, Segment, host_records, units_of, target_in, target_of, words_taken, known_of, Target, in_record, Order, Reason, Fault, ◌≡◌, ℕ, ◌+◌, ◌<◌, ◌≤◌, List, [], ◌∷◌, ◌++◌, length, take, map, Option, Some, None, Result, Ok, Err, Bool, true, refl, sym, ap, subst, ◌∙◌, inl, inr, arith, append_assoc, append-nil, is_some, unwrap_or, segments, Defines, RecordHas, IsTooLarge, Covers, Meet, ReferenceHas, InReferences, UnitRef, PublRef, PrivRef, width_of, value_of, is_in, operands, refs_fault, Known, public_base, records_fault, none_mapped, some_mapped, in_reference}
 use Rattle.std.proofs.lemmas.List.{map-append}
 use Rattle.std.proofs.lemmas.List.Folds.{list_any-append}
+use Rattle.ps_words.specs.Words.{displacement_at}
 use Rattle.ps_linkinfo.specs.Operands.{operand_width}
+use Rattle.ps_resolve.specs.References.{unit_slot}
 use Rattle.ps_resolve.specs.Symbols.{definitions, definition_of}
 use Rattle.ps_resolve.specs.Faults.{in_segment, references_fault_from, references_fault}
 use Rattle.ps_resolve.specs.declared.definitions.Def.{Def}
@@ -211,15 +213,54 @@ abbrev value_by : List ℕ → ℕ → Result Target Reason → ℕ
 value_by code x (Err why) = 0
 value_by code x (Ok t) = value_of code t x
 
-too_large_by : (code : List ℕ) (x : ℕ) (o : Result Target Reason)
-    → Decides (nat_lt MAX_OPERAND (value_by code x o))
-    ((t : Target) × (o ≡ Ok t) × (MAX_OPERAND < value_of code t x))
-too_large_by code x o = grind arith
-
 -- what the operand at x of a record becomes
 abbrev operand_value : List Segment → Segment → ℕ → List ℕ → Body → ℕ → ℕ
 operand_value segs s rec name body x = value_by s.code x
     (target_in (known_of segs) (private_offset segs s.slot rec) name body)
+
+-- an operand of one byte is never too large
+one_byte : (code : List ℕ) (x : ℕ) (slot : Option ℕ)
+    → Decides (nat_lt MAX_OPERAND (value_by code x (unit_slot slot))) ⊥
+one_byte code x None = (λ u. absurd (false≢true u), λ t. absurd t)
+one_byte code x (Some slot) = (λ u. absurd (false≢true u), λ t. absurd t)
+
+-- the test of what an operand becomes says whether that is too large
+too_large : (segs : List Segment) (s : Segment) (rec : ℕ) (name : List ℕ) (body : Body)
+    (x : ℕ) → Decides (nat_lt MAX_OPERAND (operand_value segs s rec name body x))
+    (IsTooLarge segs s rec name body x)
+too_large segs s rec name (PublRef refs) x = go (definition_of name ds) refl
+  where
+    ds : List (List ℕ × Def)
+    ds = definitions (host_records segs)
+
+    Large : Type 0
+    Large = IsTooLarge segs s rec name (PublRef refs) x
+
+    go : (o : Option Def) → definition_of name ds ≡ o
+        → Decides (nat_lt MAX_OPERAND (value_by s.code x (public_base o))) Large
+    go None e = (
+      λ u. absurd (false≢true u),
+      λ t. absurd (named_none name ds e (t.1.0, t.1.1, t.1.2, t.1.3.0.0)),
+    )
+    go (Some d) e = at d.kind refl
+      where
+        found : Defines ds name d
+        found = named_some name ds d e
+
+        at : (k : DefKind) → d.kind ≡ k → Decides (nat_lt MAX_OPERAND (value_by s.code x
+            (elim k [ Public ↦ Ok (Base d.value) | Constant ↦ Err reason.IllKind ]))) Large
+        at Public is = Decides-like _ (λ h. (d, found, is, h))
+            (λ t. subst (λ (q : Def). MAX_OPERAND < displacement_at s.code x + q.value)
+            (one_definition ds name t.0 d t.1 found) t.3)
+            (Decides-ltb MAX_OPERAND _)
+        at Constant is = (
+          λ u. absurd (false≢true u),
+          λ t. absurd (let same = one_definition ds name t.0 d t.1 found in cc),
+        )
+too_large segs s rec name (UnitRef refs) x =
+    one_byte s.code x (lookup (bytes_eq name) (units_of segs))
+too_large segs s rec name (PrivRef words refs) x = Decides-ltb MAX_OPERAND _
+too_large segs s rec name other x = (λ u. absurd (false≢true u), λ t. absurd t)
 
 abbrev reason_at : Order → List Segment → Segment → ℕ → Record → ℕ × ℕ
     → Option Reason
@@ -233,8 +274,8 @@ reference_rows : (order : Order) (segs : List Segment) (s : Segment) (rec : ℕ)
     → Least Ranked (ReferenceHas order segs s rec r i x) (reason_at order segs s rec r (i, x))
 reference_rows order segs s rec r i x er ex = least_same to from (least_or (least_if _ _ (past _ _ _
     (wide r.body i x ex))) (least_or (least_if _ _ reserved) (least_or (least_if _ _ (overlapping
-    s.records rec i r x er)) (least_if _ _ (too_large_by s.code x _)) (λ y z a b. grind arith))
-    (λ y z a b. grind arith)) (λ y z a b. grind arith))
+    s.records rec i r x er)) (least_if _ _ (too_large segs s rec r.name r.body x))
+    (λ y z a b. grind arith)) (λ y z a b. grind arith)) (λ y z a b. grind arith))
   where
     Has : Reason → Type 0
     Has = ReferenceHas order segs s rec r i x

@@ -18,20 +18,20 @@ RoundHas order host libs g left f =
     × (left ≡ None))
     ⊎ ((slot : ℕ) × (left ≡ Some slot) × PlacedFault order host libs g.name slot f))
 
--- a fault of rank 13 or above that has a record has one that was read
-reads : (f : Fault) → 13 ≤ rank f.reason → record_read f.reason f.rec ≡ part f.rec
+-- a fault of rank 12 or above that has a record has one that was read
+reads : (f : Fault) → 12 ≤ rank f.reason → record_read f.reason f.rec ≡ part f.rec
 reads f h = grind arith
 
 -- the fault that a unit is missing comes before the round's others
-missing_first : (k : ℕ) (g : UnitReference) (f : Fault) → 13 ≤ rank f.reason
+missing_first : (k : ℕ) (g : UnitReference) (f : Fault) → 12 ≤ rank f.reason
     → Precedes (OfAdded k)
     (in_record g.at.segment.file g.at.segment.slot g.at.rec reason.MissingUnit) f
 missing_first k g f h = grind arith
 
 -- what comes first in a slot comes first in its round
 within_round : (k slot : ℕ) (x y : Fault)
-    → (unwrap_or x.slot x.file ≡ slot) × (13 ≤ rank x.reason)
-    → (unwrap_or y.slot y.file ≡ slot) × (13 ≤ rank y.reason)
+    → (unwrap_or x.slot x.file ≡ slot) × (12 ≤ rank x.reason)
+    → (unwrap_or y.slot y.file ≡ slot) × (12 ≤ rank y.reason)
     → Precedes OfSources x y → Precedes (OfAdded k) x y
 within_round k slot x y a b p = grind (arith, reads)
 

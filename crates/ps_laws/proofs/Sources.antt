@@ -271,39 +271,39 @@ records_least law order file e k slot = go (reading order bytes) refl
 
 -- a code
 abbrev IsMiddle : Reason → Type 0
-IsMiddle why = (15 ≤ rank why) × (rank why < 18)
+IsMiddle why = (14 ≤ rank why) × (rank why < 17)
 
--- a code is refused for a reason of rank 15 to 17
+-- a code is refused for a reason of rank 14 to 16
 code_mid : (file : List ℕ) (e : Entry) (why : Reason) → code_of file e ≡ Err why
     → IsMiddle why
 code_mid = code_reason IsMiddle (omega arith, omega arith) (omega arith, omega arith)
     (omega arith, omega arith)
 
--- the reasons that apply to tables have rank 18 or 19
+-- the reasons that apply to tables have rank 17 or 18
 tables_mid : (order : Order) (code : List ℕ) (host : Bool) (why : Reason)
-    → TablesHave order code host why → (18 ≤ rank why) × (rank why < 20)
+    → TablesHave order code host why → (17 ≤ rank why) × (rank why < 19)
 tables_mid order code host why h = grind arith
 
--- the reasons that apply to a library's entries have a rank below 15
+-- the reasons that apply to a library's entries have a rank below 14
 entries_low : (order : Order) (name lib : List ℕ) (why : Reason)
-    → EntriesHave order name lib why → rank why < 15
+    → EntriesHave order name lib why → rank why < 14
 entries_low order name lib why h = grind arith
 
 pub entry_early : (order : Order) (name : List ℕ) (libs : List (List ℕ)) (slot : ℕ)
-    (f : Fault) → EntryFault order name libs slot f → Early slot 15 f
-entry_early order name libs slot f t = early (t.0 + 1) slot 15 f (entries_low order name t.1) t.3.1
+    (f : Fault) → EntryFault order name libs slot f → Early slot 14 f
+entry_early order name libs slot f t = early (t.0 + 1) slot 14 f (entries_low order name t.1) t.3.1
 
--- a fault of a record is from rank 20 on
+-- a fault of a record is from rank 19 on
 late_record : (order : Order) (file : List ℕ) (e : Entry) (k slot : ℕ) (f : Fault)
-    → RecordStops order file e k slot f → Late slot 20 f
+    → RecordStops order file e k slot f → Late slot 19 f
 late_record order file e k slot f t =
-    let high = record_reason (λ why. 20 ≤ rank why) (omega arith) (omega arith) (omega arith)
+    let high = record_reason (λ why. 19 ≤ rank why) (omega arith) (omega arith) (omega arith)
     (omega arith) (omega arith) order _ t.1 t.3.stops in
     rw t.2 (refl, high)
 
--- a fault of a code, its tables or its records is from rank 15 on
+-- a fault of a code, its tables or its records is from rank 14 on
 pub code_late : (order : Order) (file : List ℕ) (k : ℕ) (e : Entry) (slot : ℕ) (r : Role)
-    (f : Fault) → CodeFault order file k e slot r f → Late slot 15 f
+    (f : Fault) → CodeFault order file k e slot r f → Late slot 14 f
 code_late order file k e slot r f (inl t) = rw t.1 (refl, (code_mid file e t.0 t.2).0)
 code_late order file k e slot r f (inr t) = elim t.2.1 [
   | inl b ↦ (let m = (tables_mid order t.0 (is_host r) b.0 b.2).0 in
@@ -340,7 +340,7 @@ module _ (law : OneStop) (order : Order) where
       go (Err why) q = grind (arith, this)
       go (Ok code) q = least_same to from (least_guard _ (of_test _) (least_or (because OfSources _
           (λ a b h. grind arith) (tables_rows order code _)) (records_least law order file e at.0
-          slot) (λ x y a b. early_late slot 20 x y (early at.0 slot 20 x (λ why h. (tables_mid
+          slot) (λ x y a b. early_late slot 19 x y (early at.0 slot 19 x (λ why h. (tables_mid
           order code _ why h).1) a) (late_record order file e at.0 slot y b))))
         where
           Linked : Fault → Type 0
@@ -362,18 +362,18 @@ module _ (law : OneStop) (order : Order) where
       (PlacedFault order host libs name slot) (option_or (entry_fault order name libs slot)
       (option_and_then (code_fault order host libs slot role.Wanted) (unit_source order name libs)))
   unit_least host libs name slot = least_or (entry_least order name libs slot) (least_then _ _
-      (λ at e. code_least slot role.Wanted host libs at)) (λ x y s t. early_late slot 15 x y
+      (λ at e. code_least slot role.Wanted host libs at)) (λ x y s t. early_late slot 14 x y
       (entry_early order name libs slot x s) (code_late order _ t.0.0 (entry_at order _ t.0.1) slot
       role.Wanted y t.2))
 
 module _ (order : Order) where
-  -- the faults of a unit that is looked up are from rank 13 on
+  -- the faults of a unit that is looked up are from rank 12 on
   entries_high : (name lib : List ℕ) (why : Reason)
-      → EntriesHave order name lib why → 13 ≤ rank why
+      → EntriesHave order name lib why → 12 ≤ rank why
   entries_high name lib why h = grind arith
 
   pub placed_late : (host : List ℕ) (libs : List (List ℕ)) (name : List ℕ) (slot : ℕ)
-      (f : Fault) → PlacedFault order host libs name slot f → Late slot 13 f
+      (f : Fault) → PlacedFault order host libs name slot f → Late slot 12 f
   placed_late host libs name slot f (inl t) = grind (arith, entries_high)
   placed_late host libs name slot f (inr t) =
       let file = file_at host libs t.0.0 in
@@ -400,7 +400,7 @@ of_role law order host libs slot role.Wanted has =
     least_same to from (least_else (is_missing order libs name) _ (Decides-at _ missing
     (ap (λ b. b || missing) (has_name order host libs slot has)) (none_has order name libs))
     (unit_least law order host libs name slot)
-    (λ f p. early_late slot 13 (in_slot 0 slot reason.MissingUnit) f
+    (λ f p. early_late slot 12 (in_slot 0 slot reason.MissingUnit) f
     (refl, refl, refl, omega arith) (placed_late order host libs name slot f p)))
   where
     name : List ℕ

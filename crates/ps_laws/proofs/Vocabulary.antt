@@ -22,7 +22,7 @@ pub use Rattle.ps_resolve.specs.Added.{RoundsOutcome, added_fault, added_segment
 pub use Rattle.ps_resolve.specs.AllFaults.{reading_fault}
 pub use Rattle.ps_resolve.specs.Faults.{code_fault, entry_fault, is_role, request_fault, role_fault, sources_fault}
 pub use Rattle.ps_resolve.specs.First.{Before}
-pub use Rattle.ps_resolve.specs.LinkedBytes.{Becomes, HaveApartPlaces, HaveLinkedBytes, HaveOneLinkedByte, HaveSummedOffsets, IsBase, IsHostRecord, IsLinkedByte, IsNumberPlace, IsOnePlace, IsPublic, IsReference, IsSizePlace, IsSlotOf, Reaches, all_private_words, segments_of, summed_edits, summed_segment}
+pub use Rattle.ps_resolve.specs.LinkedBytes.{Becomes, Covers, HaveApartPlaces, HaveLinkedBytes, HaveOneLinkedByte, HaveSummedOffsets, IsBase, IsHostRecord, IsLinkedByte, IsNumberPlace, IsOnePlace, IsPublic, IsReference, IsSizePlace, IsSlotOf, Reaches, all_private_words, private_offset, records_before, segments_of, summed_edits, summed_segment}
 pub use Rattle.ps_resolve.specs.Linking.{data_edits, edited_from, grown_data_size, known_of, linked_byte, segment_edits}
 pub use Rattle.ps_resolve.specs.OfLink.{IsOfFile, IsOfLink, IsOfRound, IsOfSlot}
 pub use Rattle.ps_resolve.specs.Operands.{edit_of, is_in, operands, refs_fault, value_of, width_of}
@@ -34,10 +34,10 @@ pub use Rattle.ps_resolve.specs.Requests.{is_missing, request_by_slot}
 pub use Rattle.ps_resolve.specs.Searches.{fault_if, first_of}
 pub use Rattle.ps_resolve.specs.Sources.{Segment, chosen_library, file_at, has_entry, host_of, host_records, information_block, is_named, library_file, order_of, own_segment, own_segments, source_of, unit_source, units_of}
 pub use Rattle.ps_resolve.specs.Standing.{FaultAt, IsFirst, NoneStands, NoneStandsInReading, StandsIn}
-pub use Rattle.ps_resolve.specs.Standing.Keys.{OfAdded, OfDataSize, OfDefinitions, OfHost, OfLibraries, OfNoHost, OfPrivates, OfReferences, OfSlots, OfSources, Step, is_of_reading, key, part, rank, record_read, turn}
+pub use Rattle.ps_resolve.specs.Standing.Keys.{OfAdded, OfDataSize, OfDefinitions, OfHost, OfLibraries, OfNoHost, OfPrivates, OfReferences, OfSlots, OfSources, Step, key, part, rank, record_read, turn}
 pub use Rattle.ps_resolve.specs.Standing.Phrases.{Because, SomeBelow, SomeItem}
-pub use Rattle.ps_resolve.specs.Standing.Privates.{InPrivates, PrivateHas, private_offset, records_before}
-pub use Rattle.ps_resolve.specs.Standing.References.{Covers, Defines, InReferences, Meet, RecordHas, ReferenceHas}
+pub use Rattle.ps_resolve.specs.Standing.Privates.{InPrivates, PrivateHas}
+pub use Rattle.ps_resolve.specs.Standing.References.{Defines, InReferences, IsTooLarge, Meet, RecordHas, ReferenceHas}
 pub use Rattle.ps_resolve.specs.Standing.Rounds.{InRound, IsMissing, IsRequested, PlacedFault}
 pub use Rattle.ps_resolve.specs.Standing.Segments.{IsSegment, SomeSegment}
 pub use Rattle.ps_resolve.specs.Standing.Slots.{HasRole, InNoHost, InSlots, IsUnitSlot, SlotHas}

@@ -1,5 +1,5 @@
 -- The first fault of all is the smallest that is.
-use Rattle.ps_laws.proofs.Vocabulary.{◌⊎◌, ◌≢◌, slice_get, cases_lt, option_or, option_map, order_of, added_fault, Step, OfHost, OfSlots, OfNoHost, OfLibraries, OfSources, OfAdded, OfDefinitions, OfPrivates, OfDataSize, OfReferences, key, InRound, Order, Fault, ◌≡◌, ℕ, ◌+◌, ◌<◌, ◌≤◌, List, [], ◌∷◌, Option, Some, None, true, refl, sym, ap, subst, ◌∙◌, inl, inr, arith, segments, turn, is_of_reading, StandsIn, FaultAt, NoneStandsInReading, IsFirst, both_none}
+use Rattle.ps_laws.proofs.Vocabulary.{◌⊎◌, ◌≢◌, slice_get, cases_lt, option_or, option_map, order_of, added_fault, Step, OfHost, OfSlots, OfNoHost, OfLibraries, OfSources, OfAdded, OfDefinitions, OfPrivates, OfDataSize, OfReferences, key, InRound, Order, Fault, ◌≡◌, ℕ, ◌+◌, ◌<◌, ◌≤◌, List, [], ◌∷◌, Option, Some, None, refl, sym, ap, subst, ◌∙◌, inl, inr, arith, segments, turn, StandsIn, FaultAt, NoneStandsInReading, IsFirst, both_none}
 use Rattle.ps_resolve.specs.Faults.{sources_fault, linking_fault}
 use Rattle.ps_resolve.specs.AllFaults.{first_fault, reading_fault}
 use Rattle.ps_laws.proofs.Least.{Least, nothing, this, Precedes, least_same, least_or, least_or_then, not_both}
@@ -201,21 +201,14 @@ module _ (law : OneStop) (host : List ℕ) (libs : List (List ℕ)) where
       go (Some g) e = ap (λ x. Some x) (one g f (some g e) a)
 
 -- what is computed for the steps of reading, and what applies in them
-turn_read : (s : Step) → is_of_reading s ≡ true → turn s < 7
-turn_read s h = grind arith
-
--- a step of turn 1 to 6 is one of reading
-read_turn : (s : Step) → turn s < 7 → is_of_reading s ≡ true
-read_turn s h = grind arith
-
 module _ (law : OneStop) (host : List ℕ) (libs : List (List ℕ)) where
   -- where no fault of reading is found, none applies
   pub read : reading_fault host libs ≡ None → NoneStandsInReading host libs
-  read e step f r h = let w = reading host libs law in go w.0 w.1 (w.2 ∙ e)
+  read e step f early h = let w = reading host libs law in go w.0 w.1 (w.2 ∙ e)
     where
       go : (o : Option Place) → Least Earlier (Between (order_of host) host libs 1 7) o
           → option_map (λ (x : Place). x.1) o ≡ None → ⊥
-      go None (nothing n) is = n (step, f) ((turn_bounds step).0, turn_read step r, h.stands)
+      go None (nothing n) is = n (step, f) ((turn_bounds step).0, early, h.stands)
       go (Some p) l is = absurd (cc)
 
   -- where no fault of reading applies, none is found
@@ -225,4 +218,4 @@ module _ (law : OneStop) (host : List ℕ) (libs : List (List ℕ)) where
       go : (o : Option Place) → Least Earlier (Between (order_of host) host libs 1 7) o
           → option_map (λ (x : Place). x.1) o ≡ None
       go None l = refl
-      go (Some p) (this q s l) = grind (arith, read_turn)
+      go (Some p) (this q s l) = absurd (none_in p.0 p.1 s.1 (record { stands = s.2 }))

@@ -1,6 +1,7 @@
 -- A plan of a link can be written, and its file is the linked file.
 use Rattle.ps_linkfile.proofs.Vocabulary.{length-map, flat_map, patched_byte, Order, Edit, private_words, Segment, order_of, Known, Planned, LinkSegments, IsPlan, linked_segments, padded_code, padded_segment, linked_file, padded_codes, file_in, HaveEdits, arith, ◌≡◌, ℕ, ◌+◌, ◌≤◌, ◌<◌, List, [], ◌∷◌, length, map, refl, ap, block_len, segments_of, edited_from, summary_of, summary_in, IsReady}
 use Rattle.ps_resolve.specs.Added.{slot_names}
+use Rattle.ps_laws.proofs.PrivateOffsets.{all_are}
 use Rattle.ps_linkfile.proofs.Slots.{segments_ascend, segments_small}
 
 -- the segments of those with their edits
@@ -67,4 +68,4 @@ module _ (host : List ℕ) (libs : List (List ℕ)) (plan : Planned) where
 
   -- the summary of a plan of a link is that of the link
   pub plan_summary : IsPlan host libs plan → summary_in plan ≡ summary_of host libs
-  plan_summary h = grind (arith, length-map)
+  plan_summary h = grind (arith, length-map, all_are)

@@ -2,7 +2,7 @@
 use Rattle.ps_linkfile.proofs.Vocabulary.{filter, range_with_len, in_file, in_slot, Order, Reason, reading, known_order, OpenedFile, FileOrder, Ordered, file_order, opened_as, entry_at, code_of, information_of, ◌≡◌, ℕ, suc, ◌+◌, ◌-◌, ◌<◌, ◌≤◌, List, [], ◌∷◌, ◌++◌, length, length-append, map, append_assoc, append-nil, Bool, true, if◌then◌else◌, Option, Some, None, Ok, Err, ltb, refl, sym, ◌∙◌, ap, arith, codes, Zero, opened_beside_as}
 use Rattle.ps_words.specs.declared.order.Order.TheVariants.{Little}
 use Rattle.ps_words.specs.declared.fault.Reason.TheVariants as reason
-use Rattle.ps_writing.specs.Rows.{by_form, fault_in}
+use Rattle.ps_writing.specs.Rows.{by_form, fault_as}
 use Rattle.ps_linkfile.specs.ShowJson.{show_json_of, shown_json}
 use Rattle.ps_linkfile.specs.ShowText.{unit_names, records_in, has_links, links_head, links_in, shown_file, show_of, show_fault, order_fault, order_shown, IsShown}
 use Rattle.ps_writing.specs.declared.rows.Form.{Form}
@@ -88,7 +88,7 @@ module _ (form : Form) (order : Order) (file : List ℕ) (slot : ℕ) where
   pub links_of_fault : (why : Reason) → has_links (entry_at order file slot) ≡ true
       → code_of file (entry_at order file slot) ≡ Err why → links_head form slot
       ++ (by_form form [] (codes ",\"fault\":")
-      ++ fault_in form (in_slot 0 slot why) (entry_at order file slot).name
+      ++ fault_as form (in_slot 0 slot why) (entry_at order file slot).name
       ++ by_form form (codes "\n") (codes ",\"records\":[]")) ≡ links_in form order file slot
   unfolding links_in
   links_of_fault why h k = rw (h, k) refl

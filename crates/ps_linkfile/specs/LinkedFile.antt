@@ -9,8 +9,7 @@ use Rattle.ps_words.specs.declared.order.Order.{Order}
 use Rattle.ps_words.specs.declared.edit.Edit.{Edit}
 use Rattle.ps_codefile.specs.Dictionary.{slots, block_len, names_start, kinds_start, tail_start}
 use Rattle.ps_resolve.specs.Added.{segments, slot_names}
-use Rattle.ps_resolve.specs.Privates.{total_words}
-use Rattle.ps_resolve.specs.LinkedBytes.{IsLinkedByte, segments_of}
+use Rattle.ps_resolve.specs.LinkedBytes.{IsLinkedByte, all_private_words, segments_of}
 use Rattle.ps_resolve.specs.Standing.{NoneStands}
 use Rattle.ps_resolve.specs.Sources.{Segment, order_of}
 use Rattle.ps_resolve.specs.Linking.{edited_segments}
@@ -90,6 +89,6 @@ linked_file host libs = dictionary (order_of host)
 abbrev pub summary_of : List ℕ → List (List ℕ) → Summary
 summary_of host libs = record {
   segments = length (segments_of host libs);
-  private_words = total_words (segments (order_of host) host libs);
+  private_words = all_private_words (segments_of host libs);
   blocks = 1 + all_blocks (segments_of host libs);
 }

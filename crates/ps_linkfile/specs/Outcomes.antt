@@ -50,19 +50,16 @@ NamesFirst host libs (Write fault) = NoneStands host libs
 -- a refusal has a number that is still used: 30 no longer is
 abbrev pub HasUsedNumber : LinkError → Type 0
 HasUsedNumber (Refused fault) = number_of fault.reason ≢ 30
-HasUsedNumber Memory = ⊤
-HasUsedNumber (Write fault) = ⊤
+HasUsedNumber other = ⊤
 
 -- the writer is as it was, unless a write failed
 abbrev pub LeavesUntouched : {W : Type 0} → LinkError → W → W → Type 0
-LeavesUntouched (Refused fault) old new = new ≡ old
-LeavesUntouched Memory old new = new ≡ old
 LeavesUntouched (Write fault) old new = ⊤
+LeavesUntouched other old new = new ≡ old
 
 -- where a write failed, a known writer took a prefix of the linked file
 abbrev pub LeavesPrefix : List ℕ → List (List ℕ) → LinkError → Option (List ℕ)
     → Option (List ℕ) → Type 0
-LeavesPrefix host libs (Refused fault) old new = ⊤
-LeavesPrefix host libs Memory old new = ⊤
 LeavesPrefix host libs (Write fault) old new =
     (file : List ℕ) × (LinkedFile host libs file × AppendsPrefix old new file)
+LeavesPrefix host libs other old new = ⊤

@@ -21,7 +21,7 @@ use Rattle.ps_resolve.specs.Sources.{known_order}
 use Rattle.ps_resolve.specs.Faults.{is_role}
 use Rattle.ps_writing.specs.JsonText.{separator}
 use Rattle.ps_writing.specs.Lines.{line, two_digits}
-use Rattle.ps_writing.specs.Rows.{Value, InSlot, Number, Flag, Record, Kind, Named, References, Refused as RefusedFor, by_form, fault_in, row_in, values_in}
+use Rattle.ps_writing.specs.Rows.{Value, InSlot, Number, Flag, Record, Kind, Named, References, Refused as RefusedFor, by_form, fault_as, row_in, values_in}
 use Rattle.ps_writing.specs.declared.rows.Form.{Form}
 use Rattle.ps_writing.specs.declared.rows.Form.TheVariants.{Lines, Json}
 use Rattle.ps_linkfile.specs.declared.error.LinkError.{LinkError}
@@ -104,7 +104,7 @@ links_in form order file slot =
     if has_links e
     then links_head form slot ++ (elim (code_of file e) [
       | Err why ↦ by_form form [] (codes ",\"fault\":")
-          ++ fault_in form (in_slot 0 slot why) e.name
+          ++ fault_as form (in_slot 0 slot why) e.name
           ++ by_form form (codes "\n") (codes ",\"records\":[]")
       | Ok code ↦ by_form form [] (codes ",\"fault\":null,\"records\":[")
           ++ records_in form (unit_names order file) slot e.name

@@ -153,6 +153,7 @@ pub fn prepare<'a, A: Allocator + Copy>(
 ///
 /// Refuses `Refused` with the first fault of all, and `Memory` where memory was refused, which is
 /// requested only once the files were read and have no fault.
+#[tactic(auto, using(crate::proofs::Maps::plan_json, crate::proofs::Maps::plan_text, crate::proofs::Prepared::names_first, crate::proofs::Prepared::ready, crate::proofs::Prepared::stands_for, crate::proofs::Prepared::used_number))]
 pub fn prepare_files<'a, A: Allocator + Copy>(
     alloc: A,
     host: &'a [u8],
@@ -185,6 +186,7 @@ pub fn prepare_files<'a, A: Allocator + Copy>(
 ///
 /// Refuses `Refused` with the first fault of all, and `Memory` where memory was refused, which is
 /// requested only where the files have no fault in reading.
+#[tactic(auto, using(crate::proofs::Maps::plan_json, crate::proofs::Maps::plan_text, crate::proofs::Prepared::names_first, crate::proofs::Prepared::ready, crate::proofs::Prepared::stands_for, crate::proofs::Prepared::used_number))]
 pub fn prepare_reading<'a, A: Allocator + Copy>(
     alloc: A,
     reading: &Reading<'a>,

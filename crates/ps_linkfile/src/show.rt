@@ -20,10 +20,10 @@ use ps_codefile::dictionary_layout::{SLOT_COUNT, SLOTS};
 use ps_codefile::{Dict, Entry, Role};
 use ps_linkinfo::{Body, LinkRecord, Records, walk_from_start};
 use ps_words::{Fault, Name, Order, Reason};
-use ps_writing::RowPart::{self, Flag, InSlot, Kind, Named, Number, Record, References};
+use ps_writing::RowPart::{self, Flag, Kind, Named, Number, Record, References};
 use ps_writing::{
-    Form, Text, TextWriter, add_by_form, add_each_slot, add_fault, add_part, begin_row, end_row,
-    in_memory, two_digits,
+    Form, PrependBuffer, Text, TextWriter, add_by_form, add_each_slot, add_fault, add_part,
+    begin_row, end_row, in_memory, shown_codes, two_digits,
 };
 use std::alloc::Allocator;
 use std::marker::Model;
@@ -134,17 +134,24 @@ fn add_order<S: TextWriter>(text: &mut S, order: Option<Order>)
     }
 }
 
-/// Adds the row of a slot, but for the end of an item.
-pub(crate) fn add_entry<S: TextWriter>(text: &mut S, form: Form, slot: u8, entry: Entry)
-    ensures { Adds S.added text.old (entry_in form slot entry) text.new }
+/// How many bytes the line of a slot has at most.
+const SLOT_LINE_LEN: usize = 66;
+
+/// Adds the line of an entry, as one piece.
+fn add_entry_line<S: TextWriter>(text: &mut S, slot: u8, entry: Entry)
+    ensures { Adds S.added text.old (entry_in Lines slot entry) text.new }
 {
-    begin_row(text, form, slot as usize);
-    add_part(text, form, InSlot(b"slot ", slot, entry.name));
-    add_part(text, form, Number(b"kind", entry.kind as usize));
-    add_part(text, form, Number(b"address", entry.address as usize));
-    add_part(text, form, Number(b"length", entry.length as usize));
-    add_part(text, form, Number(b"text", entry.text as usize));
-    add_by_form(text, form, b"\n", b"");
+    let mut line: PrependBuffer<SLOT_LINE_LEN> = PrependBuffer::new();
+    line.prepend(b"\n");
+    line.prepend_field(b"text", entry.text);
+    line.prepend_field(b"length", entry.length);
+    line.prepend_field(b"address", entry.address);
+    line.prepend_field(b"kind", entry.kind);
+    line.prepend(&shown_codes(entry.name));
+    line.prepend(b" ");
+    line.prepend(&two_digits(slot));
+    line.prepend(b"slot ");
+    text.add(line.as_slice());
 }
 
 #[tactic(auto, unfolding(crate::specs::ShowText::slot_line))]
@@ -153,7 +160,7 @@ fn add_slot<S: TextWriter>(text: &mut S, dict: &Dict, slot: u8)
     ensures { Adds S.added text.old
         (slot_line dict.now.order dict.now.file slot) text.new }
 {
-    add_entry(text, Form::Lines, slot, dict.entry(slot));
+    add_entry_line(text, slot, dict.entry(slot));
 }
 
 fn add_slots<S: TextWriter>(text: &mut S, dict: &Dict)

@@ -1,7 +1,7 @@
 -- Walks over link information.
 use Rattle.ps_linkinfo.proofs.Vocabulary.{◌≡◌, ℕ, zero, suc, ◌+◌, ◌/◌, ◌≤◌, List, [], ◌∷◌, ◌++◌, length, length-drop, drop, false, Option, Some, None, Result, Ok, Err, refl, sym, ◌∙◌, ap, subst, append_assoc, arith, append-nil, AllByRecursion, filter_map, Order, Reason, AreSpelled, reading, read_from, size_of, is_eof, bad, used_by, Walk, Advances, HasGiven, left_of, whole_walk, sum_by-append, Record}
 use Rattle.std.specs.Result.{result_ok}
-use Rattle.ps_linkinfo.specs.Left.{items_of, items_at, items_left, records_left, fault_in, fault_left}
+use Rattle.ps_linkinfo.specs.Left.{items_of, items_at, items_left, records_left, fault_among, fault_left}
 use Rattle.ps_linkinfo.proofs.Spelled.{spelled_fit, spelled_more, used_more, used_cons}
 use Rattle.ps_linkinfo.proofs.OneReading.{record_is}
 use Rattle.ps_linkinfo.proofs.Steps.{long_enough, read_end, size_least}
@@ -15,7 +15,8 @@ oks_of_items [] (Some why) = refl
 oks_of_items (r ∷ rs) why = ap (λ (xs : List Record). r ∷ xs) (oks_of_items rs why)
 
 -- the fault among a reading's items is its fault, or there is none
-fault_of_items : (rs : List Record) (why : Option Reason) → fault_in (items_of (rs, why)) ≡ why
+fault_of_items : (rs : List Record) (why : Option Reason)
+    → fault_among (items_of (rs, why)) ≡ why
 fault_of_items [] None = refl
 fault_of_items [] (Some why) = refl
 fault_of_items (r ∷ rs) why = fault_of_items rs why

@@ -24,11 +24,11 @@ abbrev pub records_left : Walk → List Record
 records_left w = filter_map result_ok (items_left w)
 
 -- the fault among some items
-abbrev pub fault_in : List (Result Record Reason) → Option Reason
-fault_in [] = None
-fault_in (Ok r ∷ items) = fault_in items
-fault_in (Err why ∷ items) = Some why
+abbrev pub fault_among : List (Result Record Reason) → Option Reason
+fault_among [] = None
+fault_among (Ok r ∷ items) = fault_among items
+fault_among (Err why ∷ items) = Some why
 
 -- the fault that is left, if any
 abbrev pub fault_left : Walk → Option Reason
-fault_left w = fault_in (items_left w)
+fault_left w = fault_among (items_left w)

@@ -78,9 +78,7 @@ impl LinkRecord<'_> {
     pub(crate) fn declares_name(&self) -> bool
         ensures { result ≡ declares_name_spec self.now }
     {
-        matches!(
-            self.body,
-            Body::PublDef(_) | Body::ConstDef(_) | Body::PrivRef { .. }
-        )
+        let kind = self.body.kind();
+        kind.defines_name() || kind.requests_private()
     }
 }

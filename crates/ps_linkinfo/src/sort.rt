@@ -26,11 +26,12 @@ impl Sort {
     pub fn has(self, body: &Body<'_>) -> bool
         ensures { result ≡ is_of_sort self body.now }
     {
+        let kind = body.kind();
         match self {
-            Sort::Request => matches!(body, Body::PublRef(_)),
-            Sort::Variable => matches!(body, Body::PublDef(_)),
-            Sort::Definition => matches!(body, Body::PublDef(_) | Body::ConstDef(_)),
-            Sort::Private => matches!(body, Body::PrivRef { .. }),
+            Sort::Request => kind.requests_public(),
+            Sort::Variable => kind.defines_variable(),
+            Sort::Definition => kind.defines_name(),
+            Sort::Private => kind.requests_private(),
         }
     }
 }

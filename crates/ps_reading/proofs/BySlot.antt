@@ -133,13 +133,9 @@ module _ (order : Order) (host : List ℕ) (libs : List (List ℕ)) where
   either true = refl
   either false = refl
 
-  pub none_of_empty : (i : ℕ) → is_role is_empty order host i ≡ true
+  none_of_empty : (i : ℕ) → is_role is_empty order host i ≡ true
       → read_segment order host libs i ≡ None
   none_of_empty i h = grind (arith, empty_role)
-
-  pub fine_of_empty : (i : ℕ) → is_role is_empty order host i ≡ true
-      → source_fault order host libs i ≡ None
-  fine_of_empty i h = grind (arith, empty_role)
 
   found_own : (i : ℕ) → i < SLOTS → find (is_in_slot i) (read_segments order host libs)
       ≡ read_segment order host libs i

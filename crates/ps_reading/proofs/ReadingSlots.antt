@@ -1,5 +1,5 @@
 -- What is read of the slots of a host, where reading has no fault: the segments of the link.
-use Rattle.ps_reading.proofs.Vocabulary.{arith, ◌≡◌, ◌<◌, ◌==◌, ℕ, Bool, false, if◌then◌else◌, List, [], ◌∷◌, ◌++◌, ◌≢◌, ap, take, Option, Some, None, Result, Ok, Err, refl, ◌∙◌, filter_map, option_map_or, option_or, Order, in_file, Fault, Reason, OpenedFile, opened_alone, slots, first_of, reading_fault, segments_in_slots, MAX_REQUESTED, SLOTS}
+use Rattle.ps_reading.proofs.Vocabulary.{arith, ◌≡◌, ◌<◌, ◌==◌, ℕ, Bool, false, if◌then◌else◌, List, [], ◌∷◌, ◌++◌, ap, take, Option, Some, None, Result, Ok, Err, refl, ◌∙◌, filter_map, option_map_or, option_or, Order, in_file, Fault, Reason, OpenedFile, opened_alone, slots, first_of, reading_fault, segments_in_slots, MAX_REQUESTED, SLOTS}
 use Rattle.ps_reading.specs.Sources.{Segment, own_segment, own_segments, opened_files, order_of, units_of}
 use Rattle.ps_reading.specs.Faults.{slots_fault, no_host_fault, libraries_fault, source_fault, sources_fault}
 use Rattle.ps_reading.specs.Added.{RoundsOutcome, all_unit_references, empty_slots, requested_from, rounds, rounds_in, segments}
@@ -166,21 +166,3 @@ pub host_of_files : (host : List ℕ) (libs : List (List ℕ)) (v : HostFiles)
     ≡ record { order = order_of host; file = host; libs = libs }
 host_of_files host libs v h =
     grind (arith, host_ok host libs v h, host_is host (record { order = v.order; file = v.file }))
-
--- what is read of a slot
-module _ (order : Order) (host : List ℕ) (files : List (List ℕ)) (slot : ℕ) where
-  abbrev added : RoundsOutcome
-  added = read_rounds order host files
-
-  -- the fault of the unit that would be added in a slot
-  pub next_by : (next : ℕ) → slot_after added (empty_slots order host) ≡ Some next
-      → next ≡ slot → fault_of_added added (empty_slots order host) slot ≡ added.fault
-  next_by next e same = grind arith
-
-  pub other_by : (next : ℕ) → slot_after added (empty_slots order host) ≡ Some next
-      → next ≢ slot → fault_of_added added (empty_slots order host) slot ≡ None
-  other_by next e differs = grind arith
-
-  pub none_by : slot_after added (empty_slots order host) ≡ None
-      → fault_of_added added (empty_slots order host) slot ≡ None
-  none_by e = grind arith

@@ -8,7 +8,7 @@ is_duplicate order name lib =
     list_any (λ i. is_named order name lib i
     && list_any (is_named order name lib) (range_with_len 0 i)) slots
 
-pub of_duplicate : (order : Order) (name lib : List ℕ) → is_duplicate order name lib ≡ true
+of_duplicate : (order : Order) (name lib : List ℕ) → is_duplicate order name lib ≡ true
     → entries_reason order name lib ≡ Some reason.DoubledUnit
 of_duplicate order name lib d = grind arith
 

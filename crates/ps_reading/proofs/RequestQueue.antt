@@ -1,6 +1,6 @@
 -- The queue of names that are requested, of which only the first ten are kept, and the rounds that
 -- it gives.
-use Rattle.ps_reading.proofs.Vocabulary.{◌≡◌, ℕ, ◌+◌, ◌<◌, ◌≤◌, List, [], ◌∷◌, ◌++◌, ◌-◌, length, length-append, append_assoc, append-nil, take, Bool, true, false, Option, Some, None, inl, inr, refl, sym, ◌∙◌, ap, arith, ◌⊎◌, All, if◌then◌else◌, cases_lt, take-append-le, take_all, length-take, length-take-le, All-nil, All-cons, All-append, slice_get, filter, range_with_len, Order, is_unit_reference, units_requested, is_already_known, unit_references, all_unit_references, requested_from, unplaced_fault, placed_fault, added_segment, RoundsOutcome, after, rounds_from, Fault, Body, Record, Segment, UnitReference, MAX_REQUESTED}
+use Rattle.ps_reading.proofs.Vocabulary.{◌≡◌, ℕ, ◌+◌, ◌<◌, ◌≤◌, List, [], ◌∷◌, ◌++◌, ◌-◌, length, length-append, append_assoc, append-nil, take, drop, Bool, true, false, Option, Some, None, inl, inr, refl, sym, ◌∙◌, ap, arith, ◌⊎◌, All, if◌then◌else◌, cases_lt, take-append-le, take_all, length-take, length-take-le, All-nil, All-cons, All-append, slice_get, filter, range_with_len, Order, is_unit_reference, units_requested, is_already_known, unit_references, all_unit_references, requested_from, unplaced_fault, placed_fault, added_segment, RoundsOutcome, after, rounds_from, AscendFrom, segments_in_slots, IsRead, Fault, Body, Record, Segment, UnitReference, MAX_REQUESTED}
 use Rattle.ps_linkinfo.specs.declared.record.Body.TheVariants.{UnitRef}
 use Rattle.ps_reading.proofs.RecordCounts.{one_unit}
 
@@ -153,6 +153,71 @@ joined xs r = record { added = xs ++ r.added; fault = r.fault }
 pub joined_more : (xs : List Segment) (s : Segment) (r : RoundsOutcome)
     → joined xs (after s r) ≡ joined (xs ++ s ∷ []) r
 joined_more xs s r = grind (arith, append_assoc)
+
+-- In the rounds before one, segments were added in slots below those that are left. They are in the
+-- table. They and the rounds that are left are all rounds, by the queue with the names that they
+-- request, of which the first ten are kept.
+pub record AreAdded (order : Order) (host : List ℕ) (libs : List (List ℕ))
+    (units : List (List ℕ × ℕ)) (slots : List ℕ) (first queue : List UnitReference)
+    (old table : List Segment) (round : ℕ) : Type 0 where
+  pub added : List Segment
+  pub from : ℕ
+  pub below : All (λ (s : Segment). s.slot < from) added
+  pub ascend : AscendFrom from (drop round slots)
+  pub table_is : table ≡ segments_in_slots order host old added
+  pub count : length table ≡ length old + length added
+  pub rounds : (whole : List UnitReference) → first ≡ take MAX_REQUESTED whole
+      → (all : List UnitReference)
+      × (all ≡ requested_from units whole (all_unit_references added))
+      × (queue ≡ take MAX_REQUESTED all)
+      × (rounds_from order host libs units slots 0 whole
+      ≡ joined added (rounds_from order host libs units (drop round slots) round all))
+
+-- where no segment is added in the rounds that are left, those before are all
+module _ {order : Order} {host : List ℕ} {libs : List (List ℕ)} {units : List (List ℕ × ℕ)}
+    {slots : List ℕ} {first queue : List UnitReference} {old table : List Segment} {round : ℕ}
+    (so_far : AreAdded order host libs units slots first queue old table round)
+    (fault : Option Fault) (read : All (IsRead order host libs) table)
+    (end : (whole : List UnitReference) (kept : first ≡ take MAX_REQUESTED whole)
+    → rounds_from order host libs units (drop round slots) round (so_far.rounds whole kept).0
+    ≡ record { added = []; fault = fault }) where
+  abbrev all : List UnitReference → RoundsOutcome
+  all whole = rounds_from order host libs units slots 0 whole
+
+  is : (whole : List UnitReference) (kept : first ≡ take MAX_REQUESTED whole)
+      → all whole ≡ joined so_far.added (record { added = []; fault = fault })
+  is whole kept = (so_far.rounds whole kept).3 ∙ ap (joined so_far.added) (end whole kept)
+
+  added_is : (whole : List UnitReference) (kept : first ≡ take MAX_REQUESTED whole)
+      → so_far.added ≡ (all whole).added
+  added_is whole kept = sym (ap (λ (r : RoundsOutcome). r.added) (is whole kept)
+      ∙ append-nil so_far.added)
+
+  pub rounds_end : record {
+    fault : (whole : List UnitReference) → first ≡ take MAX_REQUESTED whole
+        → fault ≡ (all whole).fault;
+    added : (whole : List UnitReference) → first ≡ take MAX_REQUESTED whole
+        → table ≡ segments_in_slots order host old (all whole).added;
+    count : (whole : List UnitReference) → first ≡ take MAX_REQUESTED whole
+        → length table ≡ length old + length (all whole).added;
+    more : length old ≤ length table;
+    requested : (whole : List UnitReference) → first ≡ take MAX_REQUESTED whole → queue
+        ≡ take MAX_REQUESTED (requested_from units whole (all_unit_references (all whole).added));
+    read : All (IsRead order host libs) table;
+  }
+  rounds_end = record {
+    fault = λ whole kept. sym (ap (λ (r : RoundsOutcome). r.fault) (is whole kept));
+    added = λ whole kept. so_far.table_is
+        ∙ ap (segments_in_slots order host old) (added_is whole kept);
+    count = λ whole kept. so_far.count
+        ∙ ap (λ (ys : List Segment). length old + length ys) (added_is whole kept);
+    more = omega (arith, so_far.count);
+    requested = λ whole kept.
+        let r = so_far.rounds whole kept in
+        r.2 ∙ ap (take MAX_REQUESTED) (r.1 ∙ ap (λ (ys : List Segment).
+        requested_from units whole (all_unit_references ys)) (added_is whole kept));
+    read = read;
+  }
 
 -- the k-th name, as the queue that is kept has it
 pub at_round : (queue items : List UnitReference) (i n : ℕ) (o : Option UnitReference)

@@ -306,7 +306,7 @@ impl<'a> HostReading<'a> {
     }
 
     /// Why a slot has no segment.
-    fn fault_in(&self, slot: u8) -> Option<Fault>
+    fn fault_of_slot(&self, slot: u8) -> Option<Fault>
         requires { slot < SLOTS }
         ensures { result ≡ slot_fault self.now.order self.now.file
             (opened_files self.now.order self.now.libs) slot }
@@ -327,7 +327,7 @@ impl<'a> HostReading<'a> {
             (opened_files self.now.order self.now.libs) slot ≡ None }
         ensures sound { IfSome result (λ r. IfOk r (λ s. IsSound self.now.order s.now)) }
     {
-        if let Some(fault) = self.fault_in(slot) {
+        if let Some(fault) = self.fault_of_slot(slot) {
             return Some(Err(fault));
         }
         match segment_in(self.segments.as_slice(), slot) {

@@ -1,5 +1,5 @@
 -- The report of a check of files at these paths, the host's first, and what is printed of it.
-use Rattle.std.specs.Prelude.{◌≡◌, ◌<◌, ℕ, Bool, true, false, if◌then◌else◌, List, [], ◌∷◌, ◌++◌, Some, None, length}
+use Rattle.std.specs.Prelude.{◌≡◌, ◌<◌, ℕ, Bool, true, false, if◌then◌else◌, List, [], ◌∷◌, ◌++◌, Option, Some, None, length}
 use Rattle.ps_words.specs.declared.fault.Fault.{Fault}
 use Rattle.ps_resolve.specs.AllFaults.{reading_fault}
 use Rattle.ps_resolve.specs.Standing.{NoneStands}
@@ -7,6 +7,7 @@ use Rattle.ps_filetype.specs.CodeTypes.{is_code_type}
 use Rattle.ps_check_segments.specs.Seen.{Seen}
 use Rattle.ps_check_segments.specs.SeenSegments.{seen_segments}
 use Rattle.ps_explained.specs.FileLines.{AreFileLines}
+use Rattle.ps_explained.specs.OverviewText.{overview_text}
 use Rattle.ps_explained.specs.SegmentLines.{has_unread, read_lines, segment_lines}
 use Rattle.ps_explained.specs.SlotLines.{slot_lines}
 use Rattle.ps_warnings.specs.AllFindings.{link_findings_of, link_warnings_of}
@@ -39,6 +40,14 @@ HasWarning paths host libs = 0 < warnings_of_files paths host libs
 abbrev pub told_of : List ℕ → List Seen → List Seen
 told_of host list = if is_code_type host then list else []
 
+-- The segments of which a report tells: all, where the files were read without a fault.
+abbrev pub told_after : Option Fault → List ℕ → List Seen → List Seen
+told_after None host list = list
+told_after (Some f) host list = told_of host list
+
+abbrev pub told_segments : List ℕ → List (List ℕ) → List Seen
+told_segments host libs = told_after (reading_fault host libs) host (seen_segments host libs)
+
 -- What the text of a report has before its findings, besides the line of its verdict.
 pub record Sections : Type 0 where
   pub files : List ℕ
@@ -58,6 +67,9 @@ pub record AreSections (paths : List (List ℕ)) (host : List ℕ) (libs : List 
   pub read : (f : Fault) → reading_fault host libs ≡ Some f
       → slot_lines s.segments ≡ read_lines paths (has_unread host libs)
       (told_of host (seen_segments host libs))
+  -- all that is said of the segments: their lines, the later libraries that have their names too,
+  -- the slots without a segment, and the libraries from which nothing is taken
+  pub told : s.segments ≡ overview_text paths host libs (told_segments host libs)
   -- where the files are linked, nothing is explained
   pub silent : fault_of verdict ≡ None → s.explanation ≡ []
   -- where no file is a host, the list of each, and else no list

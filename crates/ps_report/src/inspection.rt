@@ -7,10 +7,11 @@ ghost use Rattle.ps_warnings.specs.Found.{about_link};
 ghost use Rattle.ps_check_segments.specs.Seen.{seen};
 ghost use Rattle.ps_check_segments.specs.SeenSegments.{seen_segments};
 ghost use Rattle.ps_explained.specs.FileLines.{AreFileLines};
+ghost use Rattle.ps_explained.specs.OverviewText.{overview_text};
 ghost use Rattle.ps_explained.specs.SegmentLines.{has_unread, read_lines, segment_lines};
 ghost use Rattle.ps_explained.specs.SlotLines.{AddsSlotLines, slot_lines};
 ghost use Rattle.ps_words.specs.declared.fault.Fault.{Fault as Why};
-ghost use Rattle.ps_report.specs.Reports.{told_of};
+ghost use Rattle.ps_report.specs.Reports.{told_of, told_segments};
 ghost use Rattle.ps_report.specs.Verdicts.{fault_of, verdict_name as verdict_name_spec};
 
 use crate::last_line::asks_for;
@@ -66,6 +67,9 @@ pub(crate) fn inspect<'a, A: Allocator + Copy>(
         → slot_lines (string_bytes found.overview.segments) ≡ read_lines
         (host_path.now ∷ contents paths.now) (has_unread host.now (contents libs.now))
         (told_of host.now (seen_segments host.now (contents libs.now)))) }
+    ensures told { IfOk result (λ found. string_bytes found.overview.segments ≡ overview_text
+        (host_path.now ∷ contents paths.now) host.now (contents libs.now)
+        (told_segments host.now (contents libs.now))) }
     ensures name { IfOk result (λ found. found.name
         ≡ verdict_name_spec host.now (contents libs.now) verdict) }
     ensures explanation { IfOk result (λ found. fault_of verdict ≡ None
@@ -84,7 +88,7 @@ pub(crate) fn inspect<'a, A: Allocator + Copy>(
     let name = verdict_name(reading, verdict);
     let list = segments_of(alloc, &inputs, reading)?;
     let told = told_segments(&inputs, reading, list.as_slice());
-    let overview = overview_of(alloc, &inputs, reading, told)?;
+    let overview = overview_of(alloc, &inputs, told)?;
     let findings = findings_of(alloc, &inputs, list.as_slice(), fault)?;
     let is_suspect = is_suspect(&inputs, findings.list.as_slice(), fault);
     let explanation = explanation_of(alloc, &inputs, reading, list.as_slice(), fault, is_suspect)?;

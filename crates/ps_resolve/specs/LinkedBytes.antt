@@ -4,7 +4,7 @@
 -- Source: the link records and the data size of the outer block are those of the published II.0
 -- Linker source, and BIG operands those of the UCSD Pascal II.0 manual; the order of the privates
 -- is this project's profile.
-use Rattle.std.specs.Prelude.{◌≡◌, ℕ, ◌+◌, ◌-◌, ◌<◌, if◌then◌else◌, List, [], ◌∷◌, ◌++◌, length, map, slice_get, slice_index, true, Some, All}
+use Rattle.std.specs.Prelude.{◌≡◌, ℕ, ◌+◌, ◌-◌, ◌<◌, ◌≤◌, ◌==◌, nat_lt, if◌then◌else◌, List, [], ◌∷◌, ◌++◌, length, map, take, slice_get, slice_index, true, Some, All}
 use Rattle.std.specs.List.{flat_map, enumerate_from}
 use Rattle.ps_words.specs.Words.{word_bytes, operand_bytes, displacement_at}
 use Rattle.ps_words.specs.declared.order.Order.{Order}
@@ -14,14 +14,14 @@ use Rattle.ps_codefile.specs.Procedures.{table_of}
 use Rattle.ps_reading.specs.Added.{segments}
 use Rattle.ps_resolve.specs.Privates.{total_words}
 use Rattle.ps_reading.specs.Standing.Phrases.{SomeItem}
-use Rattle.ps_resolve.specs.Standing.References.{Covers}
-use Rattle.ps_resolve.specs.Standing.Privates.{private_offset, words_before}
+use Rattle.ps_linkinfo.specs.Operands.{operand_width}
+use Rattle.ps_linkinfo.specs.RecordCounts.{next_of}
 use Rattle.ps_linkinfo.specs.Records.{refs_of}
 use Rattle.ps_linkinfo.specs.declared.record.Body.{Body}
 use Rattle.ps_linkinfo.specs.declared.record.Body.TheVariants.{UnitRef, PublRef, PrivRef, PublDef, ConstDef, Eof}
 use Rattle.ps_linkinfo.specs.declared.record.LinkRecord.{LinkRecord as Record}
 use Rattle.ps_codefile.specs.Roles.{needs_linking, is_host, is_unit}
-use Rattle.ps_reading.specs.Sources.{Segment, order_of}
+use Rattle.ps_reading.specs.Sources.{Segment, host_records, order_of}
 use Rattle.ps_resolve.specs.References.{words_taken_by, record_edits}
 use Rattle.ps_resolve.specs.Linking.{edited_segments, known_of, data_edits, grown_data_size, linked_byte}
 
@@ -29,6 +29,10 @@ use Rattle.ps_resolve.specs.Linking.{edited_segments, known_of, data_edits, grow
 abbrev pub IsReference : Segment → ℕ → Record → ℕ → ℕ → Type 0
 IsReference s rec r i x = (slice_get s.records rec ≡ Some r)
     × (slice_get (refs_of r.body) i ≡ Some x)
+
+-- the operand at x covers the place
+abbrev pub Covers : Body → ℕ → ℕ → Type 0
+Covers body x p = (x ≤ p) × (p < x + operand_width body)
 
 -- the operand of a reference covers place p
 abbrev pub Reaches : Segment → ℕ → Record → ℕ → ℕ → ℕ → Type 0
@@ -56,6 +60,21 @@ IsBase segs base = (rec : ℕ) × (r : Record) × IsHostRecord segs rec r × (r.
 -- the words of the privates of all segments
 abbrev pub all_private_words : List Segment → ℕ
 all_private_words segs = words_taken_by (flat_map (λ s. s.records) segs)
+
+-- the records of a segment that are before record `rec` of slot `slot`: all of a smaller slot, and
+-- the first `rec` of the slot itself
+abbrev pub records_before : ℕ → ℕ → Segment → List Record
+records_before slot rec s = if nat_lt s.slot slot then s.records
+    else (if s.slot == slot then take rec s.records else [])
+
+-- the words of all privates before record `rec` of slot `slot`, by slot and then by record
+abbrev pub words_before : List Segment → ℕ → ℕ → ℕ
+words_before segs slot rec = words_taken_by (flat_map (records_before slot rec) segs)
+
+-- the offset of the private of record `rec` in slot `slot`: the base offset of the host's end mark,
+-- and the words of all privates before it
+abbrev pub private_offset : List Segment → ℕ → ℕ → ℕ
+private_offset segs slot rec = next_of (host_records segs) + words_before segs slot rec
 
 -- The bytes that the operand at x of record `rec` becomes: of a UNITREF the slot of the unit of its
 -- name; of a PUBLREF, as a BIG operand, its displacement and the value of the public definition of

@@ -1,11 +1,11 @@
 -- Which faults apply, a clause for each number, step by step; their keys, and which is the first of
 -- all.
-use Rattle.std.specs.Prelude.{◌≡◌, ◌⊎◌, ℕ, List, true}
+use Rattle.std.specs.Prelude.{◌≡◌, ◌⊎◌, ℕ, ◌<◌, List}
 use Rattle.ps_resolve.specs.First.{Before}
 use Rattle.ps_reading.specs.Sources.{order_of}
 use Rattle.ps_words.specs.declared.order.Order.{Order}
 use Rattle.ps_words.specs.declared.fault.Fault.{Fault}
-use Rattle.ps_resolve.specs.Standing.Keys.{Step, is_of_reading, key, OfHost, OfSlots, OfNoHost, OfLibraries, OfSources, OfAdded, OfDefinitions, OfPrivates, OfDataSize, OfReferences}
+use Rattle.ps_resolve.specs.Standing.Keys.{Step, turn, key, OfHost, OfSlots, OfNoHost, OfLibraries, OfSources, OfAdded, OfDefinitions, OfPrivates, OfDataSize, OfReferences}
 use Rattle.ps_resolve.specs.Standing.Hosts.{InHost}
 use Rattle.ps_reading.specs.Standing.Slots.{InSlots, InNoHost}
 use Rattle.ps_resolve.specs.Standing.Libraries.{InLibraries}
@@ -48,9 +48,10 @@ pub record FaultAt (host : List ℕ) (libs : List (List ℕ)) (step : Step) (f :
   where
     pub stands : StandsIn step (order_of host) host libs f
 
--- no fault applies in the steps of reading
+-- no fault applies in the steps of reading, which come before that of the definitions: nothing is
+-- linked in them yet, and no memory is taken
 abbrev pub NoneStandsInReading : List ℕ → List (List ℕ) → Type 0
-NoneStandsInReading host libs = (step : Step) (f : Fault) → is_of_reading step ≡ true
+NoneStandsInReading host libs = (step : Step) (f : Fault) → turn step < turn OfDefinitions
     → FaultAt host libs step f → ⊥
 
 -- no fault applies, in any step

@@ -14,7 +14,7 @@ use crate::edits::data_size::grown_data_size;
 use crate::edits::segment_edits;
 use crate::linkage::Stop;
 use crate::links::Links;
-use crate::references::names::{LinkNames, Linking, Names};
+use crate::references::names::{Linking, Names, NamesOf};
 use crate::segments::Segments;
 use ps_codefile::dictionary_layout::SLOT_COUNT;
 use ps_reading::{HOST_FILE, Segment, SegmentAt, UnitSlots};
@@ -76,10 +76,10 @@ fn edits_by<A: Allocator + Copy>(
 {
     let units = UnitSlots::of(segments);
     let known = Names {
-        link: Some(LinkNames {
+        of: NamesOf::Link {
             definitions,
             units: &units,
-        }),
+        },
     };
     let link = Linking {
         order,

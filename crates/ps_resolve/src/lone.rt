@@ -9,7 +9,7 @@ ghost use Rattle.ps_reading.specs.KnownSegments.{IsSound};
 use crate::allotment::allot;
 use crate::edits::segment_edits;
 use crate::linkage::Stop;
-use crate::references::names::{LONE_BASE, Linking, Names};
+use crate::references::names::{LONE_BASE, Linking, Names, NamesOf};
 use ps_codefile::dictionary_layout::SLOTS;
 use ps_linkinfo::LinkInformation;
 use ps_reading::{HostReading, Segment};
@@ -33,7 +33,7 @@ fn place_unit<A: Allocator + Copy>(
     allot(alloc, unit.place(), records, LONE_BASE, &mut privates)?;
     let link = Linking {
         order,
-        names: &Names { link: None },
+        names: &Names { of: NamesOf::Each },
         size: Edit::Byte { place: 0, value: 0 },
     };
     segment_edits(alloc, &link, &[], unit, LONE_BASE)?;

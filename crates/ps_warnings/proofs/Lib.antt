@@ -10,3 +10,4 @@ pub mod InFiles
 pub mod Extents
 pub mod Said
 pub mod SaidEach
+pub mod GoodFiles

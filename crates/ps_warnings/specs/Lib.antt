@@ -12,3 +12,4 @@ pub mod Warned
 pub mod WarnedFiles
 pub mod SmallRecords
 pub mod SmallEntries
+pub mod SmallFiles

@@ -1,5 +1,5 @@
 //! The search for what looks wrong.
-ghost use Rattle.std.specs.Prelude.{◌≡◌, ◌∷◌, [], IfOk, OnOk, map};
+ghost use Rattle.std.specs.Prelude.{◌≡◌, ◌∷◌, [], IfOk, None, OnOk, Some, map};
 ghost use Rattle.std.specs.List.{enumerate_from, flat_map, list_any};
 ghost use Rattle.std.specs.Option.{option_map};
 ghost use Rattle.ps_resolve.specs.Sources.{contents};
@@ -180,10 +180,23 @@ impl<'a, A: Allocator> Findings<'a, A> {
 }
 
 /// A place that is a file as a whole.
-fn in_file(path: &str) -> Place<'_> {
+fn in_file(path: &str) -> Place<'_>
+    ensures { result ≡ record { path = path.entry; segment = None; rec = None } }
+{
     Place {
         path,
         segment: None,
+        rec: None,
+    }
+}
+
+/// A place that is a segment of a file as a whole.
+fn in_segment(path: &str, name: Name) -> Place<'_>
+    ensures { result ≡ record { path = path.entry; segment = Some name; rec = None } }
+{
+    Place {
+        path,
+        segment: Some(name),
         rec: None,
     }
 }

@@ -1,11 +1,15 @@
 //! Laws of the warnings: what their definitions compute is what the pages say. Functions that do
 //! nothing, whose clauses are the laws.
 ghost use Rattle.std.specs.Prelude.{◌≡◌, ◌↔◌, ◌*◌, ◌<◌, ◌∷◌, [], ℕ, Bool, List, None, Some, false, true};
+ghost use Rattle.ps_words.specs.declared.order.Order.{Order as ByteOrder};
+ghost use Rattle.ps_check_segments.specs.Paths.{path_of};
 ghost use Rattle.ps_check_segments.specs.Seen.{Seen};
+ghost use Rattle.ps_check_segments.specs.SeenSegments.{seen_segments};
 ghost use Rattle.ps_check_segments.specs.SegmentParts.{is_added};
 ghost use Rattle.ps_check_segments.specs.declared.segments.SegmentPart.{SegmentPart as Part};
 ghost use Rattle.ps_check_segments.specs.declared.segments.SegmentPart.TheVariants as part;
 ghost use Rattle.ps_codefile.specs.declared.entry.Entry.{Entry as EntryOf};
+ghost use Rattle.ps_filetype.specs.CodeTypes.{is_code_type};
 ghost use Rattle.ps_filetype.specs.Names.{is_respelled};
 ghost use Rattle.ps_linkinfo.specs.Numbered.{numbered_records};
 ghost use Rattle.ps_linkinfo.specs.declared.record.LinkRecord.{LinkRecord as Record};
@@ -15,6 +19,7 @@ ghost use Rattle.ps_warnings.specs.FileFindings.{extent};
 ghost use Rattle.ps_warnings.specs.LinkFindings.{other_spelling, taken_slot};
 ghost use Rattle.ps_warnings.specs.RecordFindings.{end_mark, first_above, first_definition, first_past, first_public, low_mark};
 ghost use Rattle.ps_warnings.specs.SmallEntries.{blank, empty_entry, other_util, segment_of, small_util, util, zero_util};
+ghost use Rattle.ps_warnings.specs.SmallFiles.{demo, low_host, pair_until, small_host, small_library};
 ghost use Rattle.ps_warnings.specs.SmallRecords.{count, cut_after, defining, defining_none, having, no_records, owning, referring, with_operand};
 ghost use Rattle.ps_warnings.specs.Warned.{IsEndMark, IsFoundUpTo, IsHigh, IsNamed, IsOwn, IsPast, IsPastMark, IsRespelled, ShareByte};
 ghost use Rattle.ps_warnings.specs.WarnedFiles.{AreSaid};
@@ -182,4 +187,26 @@ pub fn each_warning_of_slots_is_found_once()
         (segment_of other_util part.Wanted) ≡ None }
     ensures no_unit { other_spelling (segment_of util part.Plain ∷ [])
         (segment_of small_util part.Wanted) ≡ None }
+{}
+
+/// Nothing is found about the link of a small host and a library, in either byte order and whatever
+/// their paths are. Both files are looked at, and both segments are seen. Where the end mark of the
+/// host is low, that alone is found.
+pub fn nothing_is_found_in_good_files()
+    ensures host { (order : ByteOrder) → is_code_type (small_host order) ≡ true }
+    ensures library { (order : ByteOrder) → is_code_type (small_library order) ≡ true }
+    ensures segments { (order : ByteOrder)
+        → seen_segments (small_host order) (small_library order ∷ []) ≡ pair_until 8 }
+    ensures nothing { (order : ByteOrder) (paths : List (List ℕ))
+        → link_findings_of paths (small_host order) (small_library order ∷ [])
+        (seen_segments (small_host order) (small_library order ∷ [])) ≡ [] }
+    ensures low { (order : ByteOrder) (paths : List (List ℕ))
+        → link_findings_of paths (low_host order) (small_library order ∷ [])
+        (seen_segments (low_host order) (small_library order ∷ []))
+        ≡ record {
+          path = path_of paths 0;
+          segment = Some demo;
+          rec = None;
+          finding = which.Record (finding.LowMark 4 10);
+        } ∷ [] }
 {}

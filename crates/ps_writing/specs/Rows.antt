@@ -15,8 +15,8 @@ use Rattle.ps_writing.specs.declared.rows.RowPart.TheVariants as part
 -- A value of a row: the slot and the name, or the kind, that a row begins with; the number that the
 -- last row begins with; a number; a number that a line has in two digits; whether the word holds;
 -- of a record its index, which its row begins with, its kind, its name and its references, or a
--- fault in place of these, with the name of what it is about; what is stored, with the slot and the name of its segment, which a row
--- begins with; and bytes.
+-- fault in place of these, with the name of what it is about; what is stored, with the slot and
+-- the name of its segment, which a row begins with; and bytes.
 pub data Value : Type 0 where
   InSlot : List ℕ → ℕ → List ℕ → Value
   OfKind : List ℕ → Value
@@ -100,9 +100,9 @@ by_form Lines line item = line
 by_form Json line item = item
 
 -- a fault, with the name of what it is about
-abbrev pub fault_in : Form → Fault → List ℕ → List ℕ
-fault_in Lines f name = fault_words f.reason
-fault_in Json f name = fault_json (Some name) f
+abbrev pub fault_as : Form → Fault → List ℕ → List ℕ
+fault_as Lines f name = fault_words f.reason
+fault_as Json f name = fault_json (Some name) f
 
 -- the row of this index
 abbrev pub row_in : Form → ℕ → List Value → List ℕ

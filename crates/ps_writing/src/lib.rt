@@ -9,6 +9,7 @@ mod json;
 mod lines;
 mod memory;
 mod pieces;
+mod prepend_buffer;
 mod rows;
 mod stream;
 mod text_writer;
@@ -26,6 +27,7 @@ pub use json::{
 };
 pub use lines::{add_number, add_slot_name, shown_codes, two_digits};
 pub use memory::in_memory;
+pub use prepend_buffer::PrependBuffer;
 pub use rows::{Form, RowPart, add_by_form, add_fault, add_part, begin_row, by_form, end_row};
 pub use stream::write_text;
 pub use text_writer::{Text, TextWriter};

@@ -4,7 +4,7 @@ ghost use Rattle.std.specs.List.{flat_map};
 ghost use Rattle.ps_writing.specs.Adding.{Adds};
 ghost use Rattle.ps_writing.specs.JsonText.{json_bool as json_bool_spec, json_name, member, separator as separator_spec};
 ghost use Rattle.ps_writing.specs.Lines.{hex_byte};
-ghost use Rattle.ps_writing.specs.Rows.{by_form as by_form_spec, in_item, in_line, fault_in, value_in, value_of};
+ghost use Rattle.ps_writing.specs.Rows.{by_form as by_form_spec, in_item, in_line, fault_as, value_in, value_of};
 
 use crate::hex::add_hex;
 use crate::json::{self, add_json_fault, add_json_name, json_bool, separator};
@@ -240,6 +240,7 @@ pub fn by_form<'w>(form: Form, line: &'w [u8], item: &'w [u8]) -> &'w [u8]
 }
 
 /// Adds what a line has, or what a document has in its place.
+#[inline(always)]
 pub fn add_by_form<S: TextWriter>(text: &mut S, form: Form, line: &[u8], item: &[u8])
     ensures { Adds S.added text.old (by_form_spec form line.now item.now) text.new }
 {
@@ -252,7 +253,7 @@ pub fn add_by_form<S: TextWriter>(text: &mut S, form: Form, line: &[u8], item: &
 /// Adds a fault: in a line its number and its reason, in a document all its parts and the name of
 /// what it is about.
 pub fn add_fault<S: TextWriter>(text: &mut S, form: Form, fault: Fault, name: Name)
-    ensures { Adds S.added text.old (fault_in form fault name) text.new }
+    ensures { Adds S.added text.old (fault_as form fault name) text.new }
 {
     match form {
         Form::Lines => add_fault_words(text, fault.reason),
@@ -261,6 +262,7 @@ pub fn add_fault<S: TextWriter>(text: &mut S, form: Form, fault: Fault, name: Na
 }
 
 /// Adds what is before the row of this index, from 0.
+#[inline(always)]
 pub fn begin_row<S: TextWriter>(text: &mut S, form: Form, index: usize)
     ensures { Adds S.added text.old (by_form_spec form [] (separator_spec index)) text.new }
 {
@@ -268,6 +270,7 @@ pub fn begin_row<S: TextWriter>(text: &mut S, form: Form, index: usize)
 }
 
 /// Adds what is after a row.
+#[inline(always)]
 pub fn end_row<S: TextWriter>(text: &mut S, form: Form)
     ensures { Adds S.added text.old (by_form_spec form (codes "\n") (codes "}")) text.new }
 {

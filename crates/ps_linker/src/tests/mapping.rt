@@ -14,6 +14,14 @@ const MISSING: &str = "pslink: refused 13 MissingUnit file 0 slot 7\n";
 const MISSING_JSON: &str =
     "{\"path\":\"mapped-host\",\"fault\":{\"number\":13,\"reason\":\"MissingUnit\",\"kind\":null,\"file\":0,\"slot\":7,\"record\":null,\"reference\":null,\"name\":\"UTIL    \",\"name_hex\":\"5554494C20202020\"}}\n";
 
+/// The document of a link that is refused, whose OUT this is.
+const MISSING_LINK_JSON: &str =
+    "{\"path\":\"mapped-host\",\"out\":\"mapped-none\",\"fault\":{\"number\":13,\"reason\":\"MissingUnit\",\"kind\":null,\"file\":0,\"slot\":7,\"record\":null,\"reference\":null,\"name\":\"UTIL    \",\"name_hex\":\"5554494C20202020\"}}\n";
+
+/// That of a link without `-o`, of which a library was taken for OUT.
+const LIBRARY_AS_OUT_JSON: &str =
+    "{\"path\":\"mapped-host\",\"out\":\"mapped-library\",\"fault\":{\"number\":13,\"reason\":\"MissingUnit\",\"kind\":null,\"file\":0,\"slot\":7,\"record\":null,\"reference\":null,\"name\":\"UTIL    \",\"name_hex\":\"5554494C20202020\"}}\n";
+
 const SHORT: &str = "pslink: refused 1 ShortFile file 0\n";
 
 const SHORT_JSON: &str =
@@ -23,6 +31,9 @@ const SHORT_LIBRARY: &str = "pslink: refused 1 ShortFile file 2\n";
 
 const SHORT_LIBRARY_JSON: &str =
     "{\"path\":\"mapped-short\",\"fault\":{\"number\":1,\"reason\":\"ShortFile\",\"kind\":null,\"file\":2,\"slot\":null,\"record\":null,\"reference\":null,\"name\":null,\"name_hex\":null}}\n";
+
+const SHORT_LIBRARY_LINK_JSON: &str =
+    "{\"path\":\"mapped-short\",\"out\":\"to-output-\\\"none\",\"fault\":{\"number\":1,\"reason\":\"ShortFile\",\"kind\":null,\"file\":2,\"slot\":null,\"record\":null,\"reference\":null,\"name\":null,\"name_hex\":null}}\n";
 
 static FILES: &str = "\
 mapped-host HOST
@@ -142,7 +153,7 @@ fn links_by_the_option_and_writes_its_map(rt: HostRuntime) {
 
 /// The arguments of a command that is refused, its status, and what is printed on standard output and on
 /// standard error. No file is opened to be written.
-static REFUSED: [(&str, u8, &str, &str); 12] = [
+static REFUSED: [(&str, u8, &str, &str); 13] = [
     (
         "pslink link -o mapped-none --map mapped-none-map mapped-host",
         1,
@@ -152,13 +163,19 @@ static REFUSED: [(&str, u8, &str, &str); 12] = [
     (
         "pslink link --json -o mapped-none --map mapped-none-map mapped-host",
         1,
-        MISSING_JSON,
+        MISSING_LINK_JSON,
         MISSING,
     ),
     (
         "pslink link -q --json --references --map mapped-none-map mapped-host mapped-none",
         1,
-        MISSING_JSON,
+        MISSING_LINK_JSON,
+        MISSING,
+    ),
+    (
+        "pslink link --json mapped-host mapped-library",
+        1,
+        LIBRARY_AS_OUT_JSON,
         MISSING,
     ),
     ("pslink map --json mapped-host", 1, MISSING_JSON, MISSING),
@@ -177,9 +194,9 @@ static REFUSED: [(&str, u8, &str, &str); 12] = [
         SHORT_LIBRARY,
     ),
     (
-        "pslink link mapped-host -o to-output-none mapped-library mapped-short --json",
+        "pslink link mapped-host -o to-output-\"none mapped-library mapped-short --json",
         1,
-        SHORT_LIBRARY_JSON,
+        SHORT_LIBRARY_LINK_JSON,
         SHORT_LIBRARY,
     ),
     (

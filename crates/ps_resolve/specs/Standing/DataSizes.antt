@@ -2,7 +2,7 @@
 use Rattle.std.specs.Prelude.{◌≡◌, ℕ, ◌<◌, List, Some}
 use Rattle.ps_codefile.specs.Procedures.{table_of}
 use Rattle.ps_reading.specs.Added.{segments}
-use Rattle.ps_resolve.specs.Privates.{total_words}
+use Rattle.ps_resolve.specs.LinkedBytes.{all_private_words}
 use Rattle.ps_resolve.specs.Linking.{grown_data_size}
 use Rattle.ps_words.specs.FaultPlaces.{in_slot}
 use Rattle.ps_words.specs.declared.order.Order.{Order}
@@ -18,4 +18,4 @@ InDataSize order host libs f =
     OfHostSegment order host libs (λ s. (t : ℕ) × (table_of order s.code 1 ≡ Some t)
     × ((f ≡ in_slot 0 s.slot reason.DataTooLarge)
     × (MAX_DATA_SIZE < grown_data_size order s.code
-    (total_words (segments order host libs)) t)))
+    (all_private_words (segments order host libs)) t)))

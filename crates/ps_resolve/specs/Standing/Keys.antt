@@ -1,6 +1,7 @@
 -- The steps of a link, each of which looks for the faults of one kind of place, and the key of a
 -- fault by which the first is known.
-use Rattle.std.specs.Prelude.{ℕ, ◌+◌, List, [], ◌∷◌, Bool, true, false, Option, Some, None, unwrap_or}
+use Rattle.std.specs.Prelude.{ℕ, ◌+◌, List, [], ◌∷◌, Option, Some, None, unwrap_or}
+use Rattle.ps_words.specs.FaultText.{number_of}
 use Rattle.ps_words.specs.declared.fault.Reason.{Reason}
 use Rattle.ps_words.specs.declared.fault.Fault.{Fault}
 use Rattle.ps_words.specs.declared.fault.Reason.TheVariants as reason
@@ -32,57 +33,26 @@ turn OfPrivates = 8
 turn OfDataSize = 9
 turn OfReferences = 10
 
--- a step of reading: nothing is linked yet, and no memory is taken
-abbrev pub is_of_reading : Step → Bool
-is_of_reading OfHost = true
-is_of_reading OfSlots = true
-is_of_reading OfNoHost = true
-is_of_reading OfLibraries = true
-is_of_reading OfSources = true
-is_of_reading (OfAdded k) = true
-is_of_reading OfDefinitions = false
-is_of_reading OfPrivates = false
-is_of_reading OfDataSize = false
-is_of_reading OfReferences = false
-
 -- the place of a reason among those of one place: where two are at the same place of the same step,
--- the smaller comes first
+-- the smaller comes first; from Truncated (16) on it is the reason's number
 abbrev pub rank : Reason → ℕ
-rank reason.ShortFile = 1
-rank reason.NoOrder = 2
-rank reason.OrderMismatch = 3
-rank reason.NoHost = 4
-rank reason.SegmentProcedure = 5
-rank reason.NativeSegment = 6
-rank reason.Intrinsic = 7
-rank reason.UnknownKind = 8
-rank reason.TwoHosts = 9
-rank reason.DoubledSegment = 10
-rank reason.MissingUnit = 11
-rank reason.NoSlot = 12
-rank reason.DoubledUnit = 13
-rank (reason.NotAUnit kind) = 14
-rank reason.BadLength = 15
-rank reason.BadAddress = 16
-rank reason.Truncated = 17
-rank reason.BadProcDict = 18
-rank reason.NativeProcedure = 19
-rank reason.RecordsTruncated = 20
-rank reason.UnknownRecord = 21
-rank reason.NativeRecord = 22
-rank reason.SeparateRecord = 23
-rank reason.BadFormat = 24
-rank reason.DoubledDefinition = 25
-rank reason.DoubledPrivate = 26
-rank reason.NoRoom = 27
-rank reason.DataTooLarge = 28
-rank reason.MissingDefinition = 29
-rank reason.IllKind = 30
-rank reason.MissingUnitRef = 31
-rank reason.OutsideCode = 32
-rank reason.ReservedPlace = 33
-rank reason.Overlap = 34
-rank reason.OperandTooLarge = 35
+rank reason.ShortFile = 0
+rank reason.NoOrder = 1
+rank reason.OrderMismatch = 2
+rank reason.NoHost = 3
+rank reason.SegmentProcedure = 4
+rank reason.NativeSegment = 5
+rank reason.Intrinsic = 6
+rank reason.UnknownKind = 7
+rank reason.TwoHosts = 8
+rank reason.DoubledSegment = 9
+rank reason.MissingUnit = 10
+rank reason.NoSlot = 11
+rank reason.DoubledUnit = 12
+rank (reason.NotAUnit kind) = 13
+rank reason.BadLength = 14
+rank reason.BadAddress = 15
+rank other = number_of other
 
 -- a part of a key: a fault that has no such part comes before those that have one
 abbrev pub part : Option ℕ → ℕ

@@ -1,21 +1,18 @@
 -- Faults of the references: of the record, and of each place that it names.
-use Rattle.std.specs.Prelude.{◌≡◌, ◌≢◌, ◌⊎◌, ℕ, ◌+◌, ◌<◌, ◌≤◌, List, [], ◌∷◌, length, slice_get, true, Some, Ok}
+use Rattle.std.specs.Prelude.{◌≡◌, ◌≢◌, ◌⊎◌, ℕ, ◌+◌, ◌<◌, ◌≤◌, List, [], ◌∷◌, length, slice_get, true, Some}
+use Rattle.ps_words.specs.Words.{displacement_at}
 use Rattle.ps_codefile.specs.Procedures.{is_reserved}
-use Rattle.ps_linkinfo.specs.Operands.{operand_width}
 use Rattle.ps_linkinfo.specs.Records.{refs_of}
 use Rattle.ps_linkinfo.specs.declared.record.Body.{Body}
-use Rattle.ps_linkinfo.specs.declared.record.Body.TheVariants.{PublRef}
+use Rattle.ps_linkinfo.specs.declared.record.Body.TheVariants.{PublRef, PrivRef}
 use Rattle.ps_linkinfo.specs.declared.record.LinkRecord.{LinkRecord as Record}
 use Rattle.ps_resolve.specs.First.{Before}
 use Rattle.ps_reading.specs.Sources.{Segment, host_records}
 use Rattle.ps_reading.specs.Added.{segments}
-use Rattle.ps_resolve.specs.Linking.{known_of}
-use Rattle.ps_resolve.specs.Operands.{value_of}
-use Rattle.ps_resolve.specs.References.{target_of}
+use Rattle.ps_resolve.specs.LinkedBytes.{Covers, private_offset}
 use Rattle.ps_resolve.specs.Symbols.{definitions}
 use Rattle.ps_resolve.specs.declared.definitions.Def.{Def}
-use Rattle.ps_resolve.specs.declared.definitions.DefKind.TheVariants.{Constant}
-use Rattle.ps_resolve.specs.declared.references.Target.{Target}
+use Rattle.ps_resolve.specs.declared.definitions.DefKind.TheVariants.{Public, Constant}
 use Rattle.ps_words.specs.FaultPlaces.{in_record, in_reference}
 use Rattle.ps_words.specs.declared.order.Order.{Order}
 use Rattle.ps_words.specs.declared.fault.Reason.{Reason}
@@ -23,7 +20,6 @@ use Rattle.ps_words.specs.declared.fault.Fault.{Fault}
 use Rattle.ps_words.specs.declared.fault.Reason.TheVariants as reason
 use Rattle.ps_reading.specs.Standing.Phrases.{Because, SomeItem}
 use Rattle.ps_resolve.specs.Standing.Segments.{SomeSegment}
-use Rattle.ps_resolve.specs.Standing.Privates.{private_offset}
 use Rattle.ps_words.specs.declared.words.TheConstants.{MAX_OPERAND}
 
 -- the name's definition is this one: the first that has the name
@@ -42,16 +38,16 @@ RecordHas segs name (PublRef refs) reason.IllKind =
     (d : Def) × Defines (definitions (host_records segs)) name d × (d.kind ≡ Constant)
 RecordHas segs name body other = ⊥
 
--- the BIG operand at x of record `rec` becomes more than it can hold, by what the record's name or
--- its private stands for
-abbrev pub IsTooLarge : List Segment → Segment → ℕ → Record → ℕ → Type 0
-IsTooLarge segs s rec r x = (t : Target)
-    × (target_of (known_of segs) (private_offset segs s.slot rec) r ≡ Ok t)
-    × (MAX_OPERAND < value_of s.code t x)
-
--- the operand at x covers the place
-abbrev pub Covers : Body → ℕ → ℕ → Type 0
-Covers body x p = (x ≤ p) × (p < x + operand_width body)
+-- The operand at x of record `rec` becomes more than a BIG operand can hold: of a PUBLREF its
+-- displacement and the value of the name's definition, which is a public one; of a PRIVREF its
+-- displacement and the offset of its private.
+abbrev pub IsTooLarge : List Segment → Segment → ℕ → List ℕ → Body → ℕ → Type 0
+IsTooLarge segs s rec name (PublRef refs) x =
+    (d : Def) × Defines (definitions (host_records segs)) name d × (d.kind ≡ Public)
+    × (MAX_OPERAND < displacement_at s.code x + d.value)
+IsTooLarge segs s rec name (PrivRef words refs) x =
+    MAX_OPERAND < displacement_at s.code x + private_offset segs s.slot rec
+IsTooLarge segs s rec name other x = ⊥
 
 -- operands at x and at y cover a place in common
 abbrev pub Meet : Body → ℕ → Body → ℕ → Type 0
@@ -69,7 +65,8 @@ ReferenceHas order segs s rec r i x reason.ReservedPlace =
 ReferenceHas order segs s rec r i x reason.Overlap =
     SomeItem s.records (λ lesser q. SomeItem (refs_of q.body)
     (λ j y. Before (lesser ∷ j ∷ []) (rec ∷ i ∷ []) × Meet r.body x q.body y))
-ReferenceHas order segs s rec r i x reason.OperandTooLarge = IsTooLarge segs s rec r x
+ReferenceHas order segs s rec r i x reason.OperandTooLarge =
+    IsTooLarge segs s rec r.name r.body x
 ReferenceHas order segs s rec r i x other = ⊥
 
 -- a fault of a record of a segment of the link, reported with the record; or of one of its

@@ -10,52 +10,56 @@ use std::marker::Model;
 /// The base offset from which on a host that would define each name has its variables.
 pub(crate) const LONE_BASE: u16 = 1;
 
-/// A slot of some host.
-const SOME_SLOT: u8 = 0;
+/// The slot in which such a host has each unit.
+const LONE_SLOT: u8 = 0;
 
-/// What names stand for in one link.
+/// The names that references may give.
 #[derive(Drop)]
-pub(crate) struct LinkNames<'k, A: Allocator + Copy = Global> {
-    pub(crate) definitions: &'k Definitions<A>,
-    pub(crate) units: &'k UnitSlots,
+pub(crate) enum NamesOf<'k, A: Allocator + Copy = Global> {
+    /// Those of a link: definitions of the host's segment, and units.
+    Link {
+        definitions: &'k Definitions<A>,
+        units: &'k UnitSlots,
+    },
+    /// Those of a host that would define each name: a public variable of the base offset
+    /// `LONE_BASE`, and a unit in `LONE_SLOT`.
+    Each,
 }
 
-/// What the names of references may stand for: definitions of the host's segment, and units.
+/// What the names of references stand for.
 #[derive(Drop)]
 pub(crate) struct Names<'k, A: Allocator + Copy = Global> {
-    /// The names of a link. Without one each name stands for a public variable of that base offset,
-    /// and for a unit.
-    pub(crate) link: Option<LinkNames<'k, A>>,
+    pub(crate) of: NamesOf<'k, A>,
 }
 
 impl<'k, A: Allocator + Copy> Model for Names<'k, A> {
-    ghost use Rattle.std.specs.Option.{option_map_or};
     ghost use Rattle.ps_resolve.specs.References.{Known, each_name, known_by};
+    ghost use Rattle.ps_resolve.specs.declared.references.names.NamesOf.TheVariants.{Link, Each};
 
     ghost Value = { Known };
 
-    ghost view = { λ n. option_map_or (λ k. known_by k.definitions.now k.units.now) n.link each_name };
+    ghost view = { λ n. elim n.of [ Link definitions units ↦ known_by definitions.now units.now | Each ↦ each_name ] };
 }
 
 impl<'k, A: Allocator + Copy> Names<'k, A> {
     pub(crate) fn slot_of_unit(&self, name: Name) -> Option<u8>
         ensures { result ≡ known_unit self.now name }
     {
-        match &self.link {
-            None => Some(SOME_SLOT),
-            Some(link) => link.units.slot_of(name),
+        match &self.of {
+            NamesOf::Link { units, .. } => units.slot_of(name),
+            NamesOf::Each => Some(LONE_SLOT),
         }
     }
 
     pub(crate) fn definition_of(&self, name: &Name) -> Option<Def>
         ensures { result ≡ known_definition self.now name.now }
     {
-        match &self.link {
-            None => Some(Def {
+        match &self.of {
+            NamesOf::Link { definitions, .. } => definitions.look(name),
+            NamesOf::Each => Some(Def {
                 kind: DefKind::Public,
                 value: LONE_BASE,
             }),
-            Some(link) => link.definitions.look(name),
         }
     }
 }

@@ -9,9 +9,9 @@ ghost use Rattle.ps_warnings.specs.Found.{Adds, about_link};
 ghost use Rattle.ps_check_segments.specs.Paths.{path_of, paths_in};
 ghost use Rattle.ps_check_segments.specs.Seen.{has_slot as has_slot_spec, seen};
 
-use super::{Context, Findings, codes, in_file, records};
+use super::{Context, Findings, codes, in_file, in_segment, records};
 use crate::dead::{REPEATED, SECTOR};
-use crate::finding::{DictionaryFinding, EntryFinding, Finding, NameFinding, Place};
+use crate::finding::{DictionaryFinding, EntryFinding, Finding, NameFinding};
 use ps_check_segments::ReadSegment;
 use ps_codefile::dictionary_layout::{SLOTS, TAIL};
 use ps_codefile::kinds::{
@@ -66,12 +66,7 @@ fn look_at_slot<'a, A: Allocator>(
     if file != 0 {
         return Ok(());
     }
-    let path = context.inputs.path(file);
-    let place = Place {
-        path,
-        segment: None,
-        rec: None,
-    };
+    let place = in_file(context.inputs.path(file));
     let taken = is_taken(context.list, slot);
     let found = empty_finding(dict, slot, taken);
     findings.add(place, found)
@@ -153,11 +148,7 @@ fn look_at_code<'a, A: Allocator>(
         (about_link findings.new)) }
 {
     let entry = dict.entry(slot);
-    let place = Place {
-        path,
-        segment: Some(entry.name),
-        rec: None,
-    };
+    let place = in_segment(path, entry.name);
     let run = codes::run_in(dict.order(), entry.kind, code);
     let is_told = context.is_refused(file, slot);
     codes::look_at(findings, place, dict, slot, code, run, is_told)?;

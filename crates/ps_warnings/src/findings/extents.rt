@@ -7,8 +7,8 @@ ghost use Rattle.ps_warnings.specs.EntryFindings.{overlap, shares as shares_spec
 ghost use Rattle.ps_warnings.specs.FileFindings.{extent_at as extent_at_spec, extent_of_kind as extent_of_kind_spec, information_end as information_end_spec, overlap_finding};
 ghost use Rattle.ps_warnings.specs.Found.{Adds, about_link};
 
-use super::Findings;
-use crate::finding::{EntryFinding, Finding, Place};
+use super::{Findings, in_segment};
+use crate::finding::{EntryFinding, Finding};
 use ps_check_segments::length_of;
 use ps_codefile::Dict;
 use ps_codefile::dictionary_layout::{SLOT_COUNT, SLOTS};
@@ -131,11 +131,7 @@ fn look_at_extent<'a, A: Allocator>(
 {
     if is_slot(extent.slot) {
         let entry = dict.entry(extent.slot);
-        let place = Place {
-            path,
-            segment: Some(entry.name),
-            rec: None,
-        };
+        let place = in_segment(path, entry.name);
         let found = first_shared_extent(extents, extent);
         return findings.add(place, found);
     }

@@ -8,8 +8,8 @@ ghost use Rattle.ps_warnings.specs.LinkFindings.{is_near_unit as is_near_unit_sp
 ghost use Rattle.ps_check_segments.specs.Seen.{seen};
 
 use super::entries::names_segment;
-use super::{Context, Findings};
-use crate::finding::{Finding, LinkFinding, Place};
+use super::{Context, Findings, in_segment};
+use crate::finding::{Finding, LinkFinding};
 use ps_check_segments::{ReadSegment, SegmentPart};
 use ps_codefile::Dict;
 use ps_codefile::dictionary_layout::SLOTS;
@@ -66,11 +66,7 @@ fn look_at_unit<'a, A: Allocator>(
 {
     let file = file_of(segment);
     let path = context.inputs.path(file);
-    let place = Place {
-        path,
-        segment: Some(segment.name),
-        rec: None,
-    };
+    let place = in_segment(path, segment.name);
     let taken = taken_by(host, segment.slot, segment.part);
     findings.add(place, taken)?;
     let earlier = before(context.list, index);

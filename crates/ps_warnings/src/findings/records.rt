@@ -10,8 +10,8 @@ ghost use Rattle.ps_warnings.specs.Found.{Adds, about_link};
 ghost use Rattle.ps_warnings.specs.RecordFindings.{definition_as as definition_as_spec, end_mark as end_mark_spec, first_above as first_above_spec, first_definition as first_definition_spec, first_high as first_high_spec, first_past, first_past_mark as first_past_mark_spec, first_public as first_public_spec, high_as as high_as_spec, is_defined as is_defined_spec, is_missed as is_missed_spec, is_past as is_past_spec, is_past_mark as is_past_mark_spec, is_requested as is_requested_spec, low_mark as low_mark_spec, missed_or_not as missed_or_not_spec, past_as as past_as_spec, past_mark as past_mark_spec, past_words as past_words_spec, public_as as public_as_spec, public_in, value_of as value_of_spec};
 
 use super::operands::{first_clear_mark, no_references, zero_mark};
-use super::{Context, Findings};
-use crate::finding::{Finding, NameFinding, Place, RecordFinding};
+use super::{Context, Findings, in_segment};
+use crate::finding::{Finding, NameFinding, RecordFinding};
 use ps_codefile::code_layout::NUMBERS;
 use ps_codefile::dictionary_layout::SLOTS;
 use ps_codefile::kinds::HOSTSEG;
@@ -43,11 +43,7 @@ pub(super) fn look_at<'a, A: Allocator>(
     let entry = dict.entry(slot);
     let after = dict.after(slot);
     let records = LinkInformation::up_to_fault(order, after);
-    let place = Place {
-        path,
-        segment: Some(entry.name),
-        rec: None,
-    };
+    let place = in_segment(path, entry.name);
     findings.add_unsure_of_record(place, first_odd_name(&records, context.are_small))?;
     findings.add_of_record(place, first_past_private(&records, code))?;
     findings.add_of_record(place, first_public(&records, context.host, code))?;
@@ -83,11 +79,7 @@ fn look_at_definitions<'a, A: Allocator>(
         (option_map (λ h. h.now) context.now.host) entry.now.kind size records.now)
         (about_link findings.new)) }
 {
-    let place = Place {
-        path,
-        segment: Some(entry.name),
-        rec: None,
-    };
+    let place = in_segment(path, entry.name);
     if is_host(entry) {
         findings.add(place, low_mark(end_mark(records), size))?;
         return findings.add_of_record(place, first_above(records));
@@ -371,15 +363,10 @@ fn definition_as(
     ensures { result ≡ definition_as_spec missed records.now (option_map (λ h. h.now) host.entry)
         entry.now.name entry.now.body }
 {
-    match entry.body {
-        Body::PublDef(_) => {
-            missed_or_not(missed, is_missed(records, host, &entry.name), entry.name)
-        }
-        Body::UnitRef(_)
-        | Body::PublRef(_)
-        | Body::PrivRef { .. }
-        | Body::ConstDef(_)
-        | Body::Eof(_) => None,
+    if entry.body.kind().defines_variable() {
+        missed_or_not(missed, is_missed(records, host, &entry.name), entry.name)
+    } else {
+        None
     }
 }
 

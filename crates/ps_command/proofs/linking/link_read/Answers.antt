@@ -17,7 +17,7 @@ returns-in_ok-refuse-in-Err-Refused-clause-ok g c =
     rw c.in_ok-refuse-in-Err-Refused.ensures.ended (
       refused.fault,
       rw refused.field-0-is at refused.ensures.why,
-      rw (same, c.of-refusal.ensures, c.is_document.ensures) at c.in_ok-refuse-in-Err-Refused.ensures.text,
+      rw (same, c.of-refusal.ensures, c.is_document-is_json.ensures) at c.in_ok-refuse-in-Err-Refused.ensures.text,
       rw refused.field-0-is at refused.ensures.left,
     )
 
@@ -47,7 +47,7 @@ returns-in_err-refuse-in-Err-Refused-clause-failed g c =
     rw told.1 (λ three. inl (
       refused.fault,
       rw refused.field-0-is at refused.ensures.why,
-      rw (same, c.of-refusal.ensures, c.is_document.ensures)
+      rw (same, c.of-refusal.ensures, c.is_document-is_json.ensures)
           at c.in_err-refuse-in-Err-Refused.ensures.cut,
       rw refused.field-0-is at refused.ensures.left,
     ))

@@ -3,7 +3,7 @@ use Rattle.ps_resolve.specs.Added.{empty_slots, rounds, segments}
 use Rattle.ps_resolve.specs.Sources.{own_segments}
 use Rattle.ps_resolve.specs.Faults.{slots_fault, no_host_fault, libraries_fault, sources_fault, linking_fault, definitions_fault, privates_fault, data_fault, references_fault}
 use Rattle.ps_resolve.specs.AllFaults.{first_fault, reading_fault}
-use Rattle.ps_resolve.specs.Standing.Privates.{words_before}
+use Rattle.ps_resolve.specs.LinkedBytes.{words_before}
 use Rattle.ps_words.specs.declared.edit.Edit.{Edit}
 use Rattle.ps_words.specs.Words.{operand_bytes, displacement_at}
 use Rattle.ps_examples.specs.Segments.{displaced_library}

@@ -1,34 +1,64 @@
-use Rattle.std.proofs.Common.{◌∷◌, List, ℕ, map, string_bytes, subst}
+use Rattle.std.proofs.Common.{◌≡◌, ◌∙◌, ◌++◌, ◌∷◌, [], List, ℕ, ap, append_assoc, map, string_bytes, subst}
 use Rattle.std.proofs.lemmas.List.{take_all}
 use Rattle.ps_resolve.specs.Sources.{contents}
 use Rattle.ps_check_segments.specs.Seen.{seen}
 use Rattle.ps_check_segments.specs.declared.segments.ReadSegment.{ReadSegment}
+use Rattle.ps_explained.specs.OverviewText.{first_and_more, later_line, passed_over, segment_text, segment_texts}
 use Rattle.ps_explained.specs.SegmentLines.{line_in_slot, read_line, read_lines}
 use Rattle.ps_explained.specs.SlotLines.{AddsSlotLines}
 use Rattle.ps_explained.proofs.LinesOfSegments.{adds_next_read}
+use Rattle.ps_explained.proofs.OverviewTexts.{next_text}
 use Rattle.ps_explained.proofs.SlotLines.{adds_then_none}
 use Rattle.ps_explained.proofs.overview.add_each.Goals as goal
 
 pub loop-segment-preserved : goal.loop-segment-preserved
+unfolding segment_text
 loop-segment-preserved g c =
+    let host = c.args.inputs.now.host.now in
+    let libs : List (List ℕ) = contents c.args.inputs.now.libs.now in
     let paths : List (List ℕ) = c.args.inputs.now.host_path.now
     ∷ contents c.args.inputs.now.paths.now in
+    let old = string_bytes c.args.text.now in
     let before = string_bytes c.loop-segment.text in
     let told = string_bytes c.add_segment.new.text in
-    let after = string_bytes c.add_other_lines.new.text in
+    let after = string_bytes c.add_later_of.new.text in
     let s : ReadSegment = c.segment-item.result in
-    let one = adds_then_none before told after (line_in_slot s.slot (read_line paths c.args.unread (seen s)))
-    c.in_ok-add_segment.ensures c.in_ok-add_other_lines.ensures in
-    adds_next_read paths c.args.unread (string_bytes c.args.text.now) before after c.args.list.now
-    c.loop-segment.segment-index _ c.loop-segment-test.true c.loop-segment.invariant
-    (subst (λ (x : ReadSegment). AddsSlotLines before
-    (line_in_slot x.slot (read_line paths c.args.unread (seen x))) after) c.segment-item.is one)
+    let line = read_line paths c.args.unread (seen s) in
+    let later = later_line paths
+    (first_and_more (passed_over host libs s.name (seen s).origin)) in
+    let one = adds_then_none before told after (line_in_slot s.slot line)
+    c.in_ok-add_segment.ensures.lines c.in_ok-add_later_of.ensures.lines in
+    let both : after ≡ before ++ segment_text paths host libs c.args.unread (seen s) =
+    c.in_ok-add_later_of.ensures.text
+    ∙ (ap (λ (t : List ℕ). t ++ later) c.in_ok-add_segment.ensures.text
+    ∙ append_assoc before (line ++ 10 ∷ []) later) in
+    record {
+      lines = adds_next_read paths c.args.unread old before after c.args.list.now
+          c.loop-segment.segment-index _ c.loop-segment-test.true c.loop-segment.invariant.lines
+          (subst (λ (x : ReadSegment). AddsSlotLines before
+          (line_in_slot x.slot (read_line paths c.args.unread (seen x))) after) c.segment-item.is
+          one);
+      text = next_text (segment_text paths host libs c.args.unread) old before after
+          c.args.list.now c.loop-segment.segment-index _ c.loop-segment-test.true
+          c.loop-segment.invariant.text
+          (subst (λ (x : ReadSegment). after
+          ≡ before ++ segment_text paths host libs c.args.unread (seen x)) c.segment-item.is both);
+    }
 
 pub returns : goal.returns
 returns g c =
     let list : List ReadSegment = c.args.list.now in
+    let host = c.args.inputs.now.host.now in
+    let libs : List (List ℕ) = contents c.args.inputs.now.libs.now in
     let paths : List (List ℕ) = c.args.inputs.now.host_path.now
     ∷ contents c.args.inputs.now.paths.now in
-    subst (λ (ss : List ReadSegment). AddsSlotLines (string_bytes c.args.text.now)
-    (read_lines paths c.args.unread (map seen ss)) (string_bytes c.loop-segment.text))
-    (take_all c.loop-segment.segment-index list c.loop-segment-test.false) c.loop-segment.invariant
+    let old = string_bytes c.args.text.now in
+    let new = string_bytes c.loop-segment.text in
+    let all = take_all c.loop-segment.segment-index list c.loop-segment-test.false in
+    record {
+      lines = subst (λ (ss : List ReadSegment). AddsSlotLines old
+          (read_lines paths c.args.unread (map seen ss)) new) all c.loop-segment.invariant.lines;
+      text = subst (λ (ss : List ReadSegment). new
+          ≡ old ++ segment_texts paths host libs c.args.unread (map seen ss)) all
+          c.loop-segment.invariant.text;
+    }

@@ -5,15 +5,22 @@ use Rattle.ps_explained.specs.SegmentLines.{from_words, head_words}
 use Rattle.ps_explained.proofs.LineOfSegment.{adds_in_slot, one_segment}
 use Rattle.ps_explained.proofs.overview.add_line.Goals as goal
 
-pub returns : goal.returns
-returns g c =
+pub returns-clause-text : goal.returns-clause-text
+returns-clause-text g c =
     let h = c.args.head in
     let head = head_words h.slot h.name h.part in
     let from = from_words c.args.path.now c.args.index c.args.size in
     let old = string_bytes c.args.text.now in
+    on_ok_weaker c.push_line.result
+    (λ added. added ∙ ap (λ (t : List ℕ). old ++ t) (sym (append_assoc head from (10 ∷ []))))
+    c.push_line.ensures
+
+pub returns-clause-lines : goal.returns-clause-lines
+returns-clause-lines g c =
+    let h = c.args.head in
+    let from = from_words c.args.path.now c.args.index c.args.size in
     let one = one_segment h.slot h.name h.part c.args.path.now c.args.index c.args.size c.utf8.path
     in
     on_ok_weaker c.push_line.result
-    (λ added. adds_in_slot h.slot h.name h.part from old (string_bytes c.push_line.new.text) one
-    (added ∙ ap (λ (t : List ℕ). old ++ t) (sym (append_assoc head from (10 ∷ [])))))
-    c.push_line.ensures
+    (adds_in_slot h.slot h.name h.part from (string_bytes c.args.text.now)
+    (string_bytes c.push_line.new.text) one) (returns-clause-text g c)

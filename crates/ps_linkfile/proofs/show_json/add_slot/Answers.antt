@@ -5,5 +5,6 @@ use Rattle.ps_linkfile.proofs.show_json.add_slot.Goals as goal
 
 pub returns : goal.returns
 unfolding slot_item
-returns g c = adds_is (ap (λ e. entry_in Json c.args.slot e) c.entry.ensures) c.add_entry.ensures
+returns g c =
+    adds_is (ap (λ e. entry_in Json c.args.slot e) c.entry.ensures) c.add_entry_item.ensures
     ⨾ c.add_links.ensures ⨾ c.add.ensures

@@ -1,13 +1,16 @@
-use Rattle.std.proofs.Common.{◌∙◌, ◌∷◌, List, ℕ, ap, map}
+use Rattle.std.proofs.Common.{◌≡◌, ◌∙◌, ◌∷◌, List, ℕ, None, Some, ap, map, refl}
+use Rattle.std.specs.Prelude.{Option}
+use Rattle.ps_words.specs.declared.fault.Fault.{Fault}
 use Rattle.ps_warnings.specs.AllFindings.{link_findings_of}
 use Rattle.ps_check_segments.specs.Seen.{Seen, seen}
-use Rattle.ps_check_segments.specs.SeenSegments.{seen_by}
+use Rattle.ps_check_segments.specs.SeenSegments.{seen_by, seen_segments}
 use Rattle.ps_resolve.specs.AllFaults.{reading_fault}
 use Rattle.ps_resolve.specs.Readings.{ReadFiles, opened_host}
 use Rattle.ps_resolve.specs.Sources.{contents}
+use Rattle.ps_explained.specs.OverviewText.{overview_text}
 use Rattle.ps_explained.specs.SegmentLines.{has_unread, read_lines}
 use Rattle.ps_explained.proofs.ReadLines.{read_lines_are}
-use Rattle.ps_report.specs.Reports.{told_of}
+use Rattle.ps_report.specs.Reports.{told_after, told_of}
 use Rattle.ps_report.specs.Verdicts.{verdict_name}
 use Rattle.ps_report.proofs.inspection.inspect.Goals as goal
 
@@ -39,6 +42,30 @@ returns-clause-read g c = λ why is.
     let told = c.told_segments-told.ensures.refused why read
     ∙ ap (λ (l : List Seen). told_of host l) list in
     c.in_ok-overview.ensures.read ∙ ap (λ (l : List Seen). read_lines paths (has_unread host libs) l) told
+
+-- the segments of which a report tells
+told_is : (told list : List Seen) (host : List ℕ) (fault : Option Fault)
+    → ((why : Fault) → fault ≡ Some why → told ≡ told_of host list)
+    → (fault ≡ None → told ≡ list) → told ≡ told_after fault host list
+told_is told list host None refused all = all refl
+told_is told list host (Some why) refused all = refused why refl
+
+pub returns-clause-told : goal.returns-clause-told
+returns-clause-told g c =
+    let host = c.args.host.now in
+    let libs = contents c.args.libs.now in
+    let paths : List (List ℕ) = c.args.host_path.now ∷ contents c.args.paths.now in
+    let list = ap (map seen) c.as_slice.ensures.value
+    ∙ (c.in_ok-list.ensures
+    ∙ ap (λ (f : ReadFiles). seen_by host libs (opened_host f.host f.libs))
+    c.requires) in
+    let read = ap (λ (f : ReadFiles). reading_fault f.host f.libs) c.requires in
+    let told = told_is (map seen c.told_segments-told.result.now) (seen_segments host libs) host
+    (reading_fault host libs)
+    (λ why is. c.told_segments-told.ensures.refused why (read ∙ is)
+    ∙ ap (λ (l : List Seen). told_of host l) list)
+    (λ none. c.told_segments-told.ensures.all (read ∙ none) ∙ list) in
+    c.in_ok-overview.ensures.segments ∙ ap (λ (l : List Seen). overview_text paths host libs l) told
 
 pub returns-clause-findings : goal.returns-clause-findings
 returns-clause-findings g c =

@@ -70,6 +70,7 @@ returns-clause-report g c =
             (sym c.as_str.ensures.value) found.files;
         linked = shown;
         read = λ why is. ap slot_lines c.as_str-2.ensures.value ∙ found.read why is;
+        told = c.as_str-2.ensures.value ∙ found.told;
         silent = silent;
         listed =
             λ lacks.

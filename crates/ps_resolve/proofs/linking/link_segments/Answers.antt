@@ -22,15 +22,7 @@ of_segments-requires g c = grind (arith, slots_are)
 
 pub returns-in_err-allotment-clause-stop : goal.returns-in_err-allotment-clause-stop
 returns-in_err-allotment-clause-stop g c =
-    let is = found_own c.segments.invariant in
-    let p = err_from_is_err_and c.from_residual-in_err-allotment.result
-    c.from_residual-in_err-allotment.ensures.1 in
-    let ds = c.in_ok-definitions.ensures in
-    grind (
-      arith,
-      privates_stop c.segments.inside.order c.segments.inside.items.now is ds.found ds.once
-          c.next-base.ensures c.in_err-allotment.field-0.0 c.in_err-allotment.ensures.stop,
-    )
+    grind (arith, found_own, err_from_is_err_and, privates_stop)
 
 pub grown_data_size-requires : goal.grown_data_size-requires
 grown_data_size-requires g c = c.segments.invariant.own

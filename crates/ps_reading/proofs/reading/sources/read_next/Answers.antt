@@ -1,31 +1,9 @@
-use Rattle.ps_reading.proofs.Vocabulary.{◌≡◌, ◌∙◌, append-nil, true, Option, sym, arith, option_and_then, result_ok, Segment, opened, is_empty, IsRead}
+use Rattle.ps_reading.proofs.Vocabulary.{◌≡◌, ◌∙◌, Option, option_and_then, result_ok, Segment, opened, IsRead}
 use Rattle.ps_reading.specs.Sources.{own_segment}
-use Rattle.ps_reading.specs.Faults.{is_role, source_fault}
+use Rattle.ps_reading.specs.Faults.{source_fault}
 use Rattle.ps_reading.specs.Readings.{read_segment}
-use Rattle.ps_reading.proofs.BySlot.{fine_of_empty, none_of_empty}
 use Rattle.ps_reading.proofs.ReadingSources.{all_with, by_fault, kept, kept_read}
 use Rattle.ps_reading.proofs.reading.sources.read_next.Goals as goal
-
--- an empty slot has neither
-pub returns-then-is_empty : goal.returns-then-is_empty
-returns-then-is_empty c =
-    let host = c.args.host.now in
-    let libs = opened host.order c.args.libs.now in
-    let empty : is_role is_empty host.order host.file c.args.slot ≡ true =
-    sym c.is_empty.ensures ∙ c.if-is_empty.true in
-    record {
-      fault = sym (fine_of_empty host.order host.file libs c.args.slot empty);
-      segments = grind (
-        arith,
-        append-nil,
-        fine_of_empty host.order host.file libs c.args.slot empty,
-        none_of_empty host.order host.file libs c.args.slot empty,
-      );
-      read = c.requires.read;
-    }
-
-pub read_slot-read-requires-clause-read : goal.read_slot-read-requires-clause-read
-read_slot-read-requires-clause-read c = rw c.as_slice.ensures.value c.requires.read
 
 pub returns : goal.returns
 returns c =

@@ -1,13 +1,7 @@
-use Rattle.ps_reading.proofs.Vocabulary.{◌≡◌, ◌∙◌, ℕ, Some, true, false, sym, ap, Entry}
+use Rattle.ps_reading.proofs.Vocabulary.{◌≡◌, ◌∙◌, ℕ, Some, false, sym, ap, Entry}
 use Rattle.ps_words.specs.declared.fault.Reason.TheVariants as reason
-use Rattle.ps_reading.proofs.ReadingUnits.{is_duplicate, of_duplicate, of_kind, of_unit}
+use Rattle.ps_reading.proofs.ReadingUnits.{is_duplicate, of_kind, of_unit}
 use Rattle.ps_reading.proofs.reading.units.entries_reason.Goals as goal
-
-pub returns-then-has_duplicate_below : goal.returns-then-has_duplicate_below
-returns-then-has_duplicate_below c =
-    let d : is_duplicate c.args.dict.now.order c.args.name c.args.dict.now.file ≡ true =
-    sym c.has_duplicate_below.ensures ∙ c.if-has_duplicate_below.true in
-    sym (of_duplicate c.args.dict.now.order c.args.name c.args.dict.now.file d)
 
 pub returns-then-kind-ne-UNITSEG : goal.returns-then-kind-ne-UNITSEG
 returns-then-kind-ne-UNITSEG c =

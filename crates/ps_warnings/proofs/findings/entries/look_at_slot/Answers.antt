@@ -41,6 +41,7 @@ returns g c =
     (List Record)). h.now) c.args.context.now.host)
     (map seen c.args.context.now.list.now) d.order d.file c.args.file c.args.slot
     (sym c.filled.ensures ∙ c.if-filled.false) host in
-    let found = rw (c.path-path.ensures, c.empty_finding-found.ensures, c.is_taken-taken.ensures)
+    let place = c.in_file-place.ensures in
+    let found = rw (place, c.path.ensures, c.empty_finding-found.ensures, c.is_taken-taken.ensures)
     at c.add.ensures in
     on_ok_weaker c.add.result (λ more. adds_is (sym empty) more) found

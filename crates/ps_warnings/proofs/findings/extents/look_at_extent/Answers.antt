@@ -10,7 +10,8 @@ returns-then-is_slot g c =
     let d = c.args.dict.now in
     let all = in_slot c.args.path.now d.order d.file c.args.extents.now c.args.extent
     (sym c.is_slot.ensures ∙ c.if-is_slot.true) in
-    let found = rw (c.entry-entry.ensures, c.first_shared_extent-found.ensures)
+    let place = c.in_segment-place.ensures in
+    let found = rw (place, c.entry-entry.ensures, c.first_shared_extent-found.ensures)
     at c.add.ensures in
     on_ok_weaker c.add.result (λ more. adds_is (sym all) more) found
 

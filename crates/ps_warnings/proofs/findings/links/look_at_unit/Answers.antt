@@ -16,8 +16,9 @@ returns g c =
     let spelled = c.other_spelling-other.ensures
     ∙ (ap (λ (l : List ReadSegment). other_spelling (map seen l) s) c.before-earlier.ensures
     ∙ ap (λ (l : List Seen). other_spelling l s) (sym (take-map seen c.args.index ss))) in
-    let taken = rw (c.path-path.ensures, c.file_of-file.ensures, c.taken_by-taken.ensures)
+    let place = c.in_segment-place.ensures in
+    let taken = rw (place, c.path-path.ensures, c.file_of-file.ensures, c.taken_by-taken.ensures)
     at c.in_ok-add.ensures in
-    let other = rw (c.path-path.ensures, c.file_of-file.ensures, spelled)
+    let other = rw (place, c.path-path.ensures, c.file_of-file.ensures, spelled)
     at c.add-2.ensures in
     on_ok_weaker c.add-2.result (λ more. adds_both taken more) other

@@ -8,6 +8,7 @@ unfolding findings_of_records
 returns g c =
     let past = rw (
       c.first_past_private.ensures,
+      c.in_segment-place.ensures,
       c.up_to_fault-records.ensures,
       c.entry-entry.ensures,
       c.order-order.ensures,
@@ -16,6 +17,7 @@ returns g c =
     at c.in_ok-add_of_record.ensures in
     let public = rw (
       c.first_public.ensures,
+      c.in_segment-place.ensures,
       c.up_to_fault-records.ensures,
       c.entry-entry.ensures,
       c.order-order.ensures,

@@ -12,8 +12,9 @@ returns-then-is_host g c =
     let all = of_host c.args.path.now (Some e.name) (option_map (λ (h : Bor
     (List Record)). h.now) c.args.context.now.host) e.kind
     c.args.size c.args.records.now (sym c.is_host.ensures ∙ c.if-is_host.true) in
-    let low = rw (c.low_mark.ensures, c.end_mark.ensures) at c.in_ok-add.ensures in
-    let high = rw c.first_above.ensures at c.add_of_record.ensures in
+    let place = c.in_segment-place.ensures in
+    let low = rw (place, c.low_mark.ensures, c.end_mark.ensures) at c.in_ok-add.ensures in
+    let high = rw (place, c.first_above.ensures) at c.add_of_record.ensures in
     on_ok_weaker c.add_of_record.result (λ more. adds_is (sym all) (adds_both low more)) high
 
 pub returns : goal.returns
@@ -22,6 +23,7 @@ returns g c =
     let all = of_unit c.args.path.now (Some e.name) (option_map (λ (h : Bor
     (List Record)). h.now) c.args.context.now.host) e.kind
     c.args.size c.args.records.now (sym c.is_host.ensures ∙ c.if-is_host.false) in
-    let missed = rw c.first_definition-missed.ensures at c.in_ok-add_of_record.ensures in
-    let other = rw c.first_definition-other.ensures at c.add_of_record-3.ensures in
+    let place = c.in_segment-place.ensures in
+    let missed = rw (place, c.first_definition-missed.ensures) at c.in_ok-add_of_record.ensures in
+    let other = rw (place, c.first_definition-other.ensures) at c.add_of_record-3.ensures in
     on_ok_weaker c.add_of_record-3.result (λ more. adds_is (sym all) (adds_both missed more)) other

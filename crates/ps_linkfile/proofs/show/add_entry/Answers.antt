@@ -1,8 +1,0 @@
-use Rattle.ps_writing.proofs.Written.{adds_none, ◌⨾◌}
-use Rattle.ps_linkfile.proofs.show.add_entry.Goals as goal
-
-pub returns : goal.returns
-returns g c = c.begin_row.ensures
-    ⨾ (c.add_part.ensures ⨾ (c.add_part-2.ensures ⨾ (c.add_part-3.ensures
-    ⨾ (c.add_part-4.ensures ⨾ (c.add_part-5.ensures ⨾ adds_none)))))
-    ⨾ c.add_by_form.ensures
