@@ -9,6 +9,7 @@
 #include "filled_room.h"
 #include "read_file.h"
 #include "refusing_heap.h"
+#include "texts.h"
 
 #define ROOM 8192
 /* Where the library says how many words the private variable of record 1 has. */
@@ -169,7 +170,7 @@ static void check_memory(uint32_t what, size_t count)
 /* A text that there is not, where no memory is had: the call asks for none. */
 static void check_no_text(void)
 {
-    static const uint32_t none[] = {PSLINK_HAD + 1, PSLINK_WANTED | PSLINK_JSON, PSLINK_HAD | PSLINK_JSON, PSLINK_CHECK | 2 * PSLINK_JSON};
+    static const uint32_t none[] = {TEXTS, PSLINK_WANTED | PSLINK_JSON, PSLINK_HAD | PSLINK_JSON, PSLINK_CHECK | 2 * PSLINK_JSON};
     const pslink_file files[3] = {host, library, library};
     pslink_answer answer;
     size_t k;
@@ -187,10 +188,10 @@ static void check_all_memory(void)
     uint32_t what;
     size_t count;
 
-    for (what = PSLINK_MAP; what <= PSLINK_HAD; what++)
+    for (what = 0; what < TEXTS; what++)
         for (count = 1; count <= 3; count++) {
             check_memory(what, count);
-            if (what <= PSLINK_FINDINGS)
+            if (texts[what].has_document)
                 check_memory(what | PSLINK_JSON, count);
         }
     check_no_text();
@@ -274,16 +275,15 @@ static void check_names(void)
     for (k = 0; k < sizeof cases / sizeof *cases; k++) {
         files[0].name = cases[k].host;
         files[1].name = cases[k].library;
-        for (what = PSLINK_MAP; what <= PSLINK_HAD; what++) {
-            const int has_names = PSLINK_CHECK <= what && what <= PSLINK_FINDINGS;
+        for (what = 0; what < TEXTS; what++) {
             uint32_t status;
 
             memset(room, FILLER, sizeof room);
             status = pslink_text(what, files, 2, room, sizeof room, &answer);
-            check(status == (has_names ? cases[k].status : PSLINK_DONE) && answer.status == status, "names are taken otherwise", k);
+            check(status == (texts[what].has_names ? cases[k].status : PSLINK_DONE) && answer.status == status, "names are taken otherwise", k);
             check(status == PSLINK_DONE || (is_bare(&answer, status) && is_untouched(room, 0, sizeof room)),
                   "names that are not taken leave something", k);
-            if (what <= PSLINK_FINDINGS)
+            if (texts[what].has_document)
                 check(pslink_text(what | PSLINK_JSON, files, 2, room, sizeof room, &answer) == status, "a document takes other names", k);
         }
         check(pslink_link(files, 2, room, sizeof room, &answer) == PSLINK_DONE, "names are looked at for a link", k);
@@ -418,7 +418,9 @@ static void check_texts(void)
     check(memcmp(room, list, strlen(list)) == 0, "the list is another", sizeof list);
     text_of(PSLINK_UNITS, 1, room, sizeof room);
     check(strstr((const char *)room, "LIB1: slot 02 UTIL     by itself, no fault\n") != NULL, "units by themselves are others", 0);
-    for (what = PSLINK_MAP; what <= PSLINK_FINDINGS; what++) {
+    for (what = 0; what < TEXTS; what++) {
+        if (!texts[what].has_document)
+            continue;
         size = text_of(what | PSLINK_JSON, 1, room, sizeof room);
         check(room[0] == '{' && memcmp(room + size - 2, "}\n", 2) == 0, "a document is none", what);
     }

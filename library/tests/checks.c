@@ -11,6 +11,7 @@
 #include "filled_room.h"
 #include "read_file.h"
 #include "refusing_heap.h"
+#include "texts.h"
 
 #define ROOM 70000
 
@@ -228,7 +229,7 @@ static void check_misuse(void)
     check(pslink_link(&host, 1, room, sizeof room, NULL) == PSLINK_MISUSE, "no answer is taken", 0);
     for (what = 0; what < 1200; what++) {
         const uint32_t number = what & ~PSLINK_JSON;
-        const int is_text = number <= PSLINK_FINDINGS || (number == what && number <= PSLINK_HAD);
+        const int is_text = number < TEXTS && (number == what || texts[number].has_document);
 
         check((pslink_text(what, &host, 1, NULL, 0, &answer) == PSLINK_MISUSE) == !is_text, "a text that there is not is made", what);
         check(is_text || is_bare(&answer, PSLINK_MISUSE), "a text that there is not has an answer", what);
@@ -362,7 +363,7 @@ static void check_too_long(void)
     pslink_answer answer;
     uint32_t what;
 
-    for (what = PSLINK_MAP; what <= PSLINK_HAD; what++) {
+    for (what = 0; what < TEXTS; what++) {
         check(pslink_text(what, too_long, 2, NULL, 0, &answer) == PSLINK_NO_MEMORY && is_bare(&answer, PSLINK_NO_MEMORY),
               "a library that is too long is taken", what);
         check(pslink_text(what, too_long, 3, NULL, 0, &answer) == PSLINK_NO_MEMORY, "libraries that are too long are taken", what);

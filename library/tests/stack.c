@@ -8,6 +8,7 @@
 #include <string.h>
 
 #include "read_file.h"
+#include "texts.h"
 
 #define STACK (1 << 20)
 #define FILLER 0x5A
@@ -60,7 +61,7 @@ static void *all_calls(void *room)
     uint32_t what;
 
     a_link(room);
-    for (what = PSLINK_MAP; what <= PSLINK_HAD; what++) {
+    for (what = 0; what < TEXTS; what++) {
         pslink_text(what, files, count, room, PSLINK_LINKED_MAX, &answer);
         pslink_text(what | PSLINK_JSON, files, count, room, PSLINK_LINKED_MAX, &answer);
     }
