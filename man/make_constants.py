@@ -1,8 +1,8 @@
 #!/usr/bin/env python3
 """Writes the faults into include/pslink.h and bindings/rust/src/reason.rs, between the comment that names this script and the
 next one, from the variants of `Reason`, so that they have one home; the highest number of them into the comments of reason.rs and
-into docs/json-schema.json; library/faults.h and web/pslink.mjs, which have the name of each with the sentences that `pslink check` prints; and the
-release of CHANGES.md into the header and the bindings.
+into docs/json-schema.json; library/faults.h and web/pslink.mjs, which have the name of each with the sentences that `pslink check` prints; the
+numbers of the texts into web/pslink.mjs; and the release of CHANGES.md into the header and the bindings.
 Usage: make_constants.py [FOLDER], which is the files' own if none is given."""
 import pathlib
 import re
@@ -12,6 +12,7 @@ import release
 from make_fault_table import ROOT, numbers, sentences
 
 SOURCE = ROOT / "crates/ps_words/src/fault.rt"
+KINDS = ROOT / "crates/ps_c_texts/src/kinds.rt"
 HEADER = ROOT / "include/pslink.h"
 REASONS = ROOT / "bindings/rust/src/reason.rs"
 SCHEMA = ROOT / "docs/json-schema.json"
@@ -91,6 +92,13 @@ def with_highest(file, text):
     return text
 
 
+def with_texts(text):
+    """The script with the texts by the numbers that the source has."""
+    numbers = re.findall(r"^pub const TEXT_(\w+): u32 = (\d+);", KINDS.read_text(), re.M)
+    listed = ", ".join(f"{name.lower()}: {number}" for name, number in numbers)
+    return re.sub(r"(TEXTS = Object\.freeze\(\{\n  __proto__: null,\n  ).*", rf"\g<1>{listed},", text)
+
+
 def with_release(file, text):
     """The text of this file with the release wherever it has it."""
     for pattern, value in [(pattern, value) for it, pattern, value in RELEASES if it == file]:
@@ -107,7 +115,7 @@ def made():
     yield REASONS, with_highest(REASONS, between(REASONS, "".join(variants())))
     yield SCHEMA, with_highest(SCHEMA, SCHEMA.read_text())
     yield TEXTS, "".join(texts())
-    yield SCRIPT, between(SCRIPT, "".join(said("  [", "],\n")))
+    yield SCRIPT, with_texts(between(SCRIPT, "".join(said("  [", "],\n"))))
 
 
 def main():

@@ -243,7 +243,7 @@ class Linker {
 
   /**
    * A text of files, as the program prints it.
-   * @param {"map" | "references" | "show" | "check" | "list" | "units" | "findings" | "wanted" | "had"} kind a name of TEXTS
+   * @param {keyof typeof TEXTS} kind
    * @param {CodeFile[]} files the host, and then the libraries
    * @param {{json?: boolean}} [options] whether it is a JSON document in place of lines
    * @returns {Promise<Result>} with `bytes` and `text`

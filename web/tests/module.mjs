@@ -20,8 +20,7 @@ async function checkModule() {
 }
 
 function checkNumbers() {
-  const texts = ["MAP", "REFERENCES", "SHOW", "CHECK", "LIST", "UNITS", "FINDINGS", "WANTED", "HAD"];
-  checks.same("the texts", Object.entries(TEXTS).map(([text, number]) => [asInHeader(text), number]), texts.map((text) => [text, defined[text]]));
+  for (const [text, number] of Object.entries(TEXTS)) checks.same(`the text ${text}`, number, defined[asInHeader(text)]);
   const statuses = ["DONE", "REFUSED", "MISUSE", "NO_MEMORY", "TOO_SMALL", "WRONG_NAMES"].map((status) => [status, String(defined[status])]);
   checks.same("the statuses", Object.entries(STATUSES).map(([number, status]) => [asInHeader(status), number]), [...statuses, ["TRAPPED", "trapped"]]);
   checks.same("LINKED_MAX", LINKED_MAX, defined.LINKED_MAX);

@@ -46,7 +46,9 @@ File = Union[_Contents, Tuple[str, _Contents]]
 # what a `check` finds, one by one.
 Text = Literal["map", "references", "show", "check", "list", "units", "findings"]
 _TEXTS = {"map": 0, "references": 1, "show": 2, "check": 3, "list": 4, "units": 5, "findings": 6}
-_WANTED, _HAD, _JSON = 7, 8, 256
+_WANTED = 7
+_HAD = 8
+_JSON = 256
 _NAME, _MEANING, _REMEDY = 0, 1, 2
 _NAME_LENGTH = 8
 
