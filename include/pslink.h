@@ -32,13 +32,11 @@
  * Build it with -lpslink (pkg-config: pslink).
  *
  * Any bytes may be given as a file: one that is no code file is refused. That the result is right
- * is proved: what is in `out` after PSLINK_DONE, and which fault a refusal names; of a report, its
- * verdict and the line of it, which warnings it has and where each is, the lines of the segments
- * where the files are linked, and the list of each file where none is a host, all with the names
- * that are given; and not its other lines. It is proved of functions that the library has in it, and
- * does not export, and so are the answers, which they write. Those of this header lay files one
- * after another for them and refuse misuse: they are C, and are tested. What is asked of the caller
- * is on this page:
+ * is proved: what is in `out` after PSLINK_DONE, which fault a refusal names, and the answer. Of a
+ * report all is proved but what it calls a file that cannot be opened, which notes there are, and
+ * the explanation of a fault. The proofs are of functions in the library that it does not export.
+ * The functions of this header are C, and are tested: they lay files one after another for the
+ * proved functions, and refuse misuse. What is asked of the caller is on this page:
  *
  * - A pointer with its length names memory of the caller that is there for the whole call: it may
  *   be read, and for `out` and `answer` also written. A name ends with a 0. `files` and `answer`
@@ -126,7 +124,7 @@ extern "C" {
 #define PSLINK_REMEDY 2u  /* what to do about it, as "Keep one of them in the file.", where `the file`
                              is the one at fault. A report says both of the files at hand. */
 
-/* How many bytes a linked file has at most: with so much room, no link is PSLINK_TOO_SMALL. */
+/* How many bytes a linked file has at most: with this capacity, no link is PSLINK_TOO_SMALL. */
 #define PSLINK_LINKED_MAX 524800u
 
 /* How many bytes the line of a fault has at most, the closing 0 counted. */
@@ -181,7 +179,7 @@ typedef struct pslink_file {
 
 /*
  * What a call answers. After another status than PSLINK_DONE, PSLINK_REFUSED and PSLINK_TOO_SMALL
- * there is nothing but the status. A part that there is not is -1.
+ * it has nothing but the status. A part that the fault does not have is -1.
  *
  * `fault` is 0 where the files have none. After PSLINK_REFUSED it is the first fault of all, and so
  * it is after PSLINK_DONE of a report or of what it finds: it is the verdict, which is what a link of
@@ -207,7 +205,7 @@ typedef struct pslink_answer {
     uint32_t blocks;        /* how many blocks of 512 bytes it has, at most 1025 */
     uint32_t warnings;      /* how many warnings a report has, also where what it finds was made */
     size_t size;            /* how many bytes the result has, also after PSLINK_TOO_SMALL */
-    uint32_t reserved[8];   /* 0: room for what a later release adds */
+    uint32_t reserved[8];   /* 0: kept for what a later release adds */
 } pslink_answer;
 
 /*
@@ -227,10 +225,10 @@ uint32_t pslink_link(const pslink_file *files, size_t count, void *out, size_t r
  * Puts what the program prints of these files at the front of `out`, in the same way: `what` is
  * PSLINK_MAP to PSLINK_HAD, with | PSLINK_JSON or without. pslink(1) has the lines, docs/JSON.md the
  * documents. It is text without a closing 0, UTF-8 where names of files are in it. Its length is not
- * bounded by a constant: call with `out` NULL, and then with `answer.size` bytes of room.
+ * bounded by a constant: call with `out` NULL, and then with a capacity of `answer.size`.
  *
- * `files`: as those of pslink_link. Of a list and of its units all are equal; a show and the names of
- * what is had are of files[0] alone.
+ * `files`: as those of pslink_link. A list and units treat all files alike; a show and the names of
+ * provided units are of files[0] alone.
  *
  * A map and its references are refused as a link is, a show and names of units as 1 ShortFile or
  * 2 NoOrder only. A report, what it finds, a list and its units are never PSLINK_REFUSED. What is
