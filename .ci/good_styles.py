@@ -151,7 +151,7 @@ PERMISSIONS = {
     "Words that the table leaves blank": ["any words in records", "words and a name in the end mark"],
     "The rest is ignored": ["any words in records"],
     "The host may or may not have a slot": ["plain"],
-    "word 0 of a variable of no words is none": ["variables of no words"],
+    "but for word 0 of a variable of no words": ["variables of no words"],
     "one at the end mark may be of a variable of no words": ["public variables of no words"],
     "entries of other kinds may share bytes": ["entries of other kinds that share bytes"],
     "may be the names of two units": ["names that differ in bit 7", "names that differ in a byte inside", "names that differ in capitals of national letters"],
