@@ -5,7 +5,8 @@ use Rattle.clap.proofs.OnLiterals.{clap_on_literals}
 use Rattle.clap.specs.Words.{Text}
 use Rattle.clap.specs.declared.error.ErrorKind.TheVariants.{DisplayHelp, DisplayVersion, MissingSubcommand}
 use Rattle.ps_arguments.specs.CommandLine.{AskForText, faults_in, named_in}
-use Rattle.ps_arguments.specs.Requests.{has_output, is_quiet, map_file, out_and_libraries}
+use Rattle.ps_arguments.specs.Outputs.{has_output, is_quiet}
+use Rattle.ps_arguments.specs.Requests.{map_file, out_and_libraries}
 
 version_asked : faults_in (codes "pslink" ∷ codes "--version" ∷ []) ≡ DisplayVersion ∷ []
 unfolding clap_on_literals

@@ -1,12 +1,11 @@
 -- What a request stands for, by the command and the files that clap finds named in the arguments.
-use Rattle.std.specs.Prelude.{◌≡◌, ◌≢◌, ◌⊎◌, ◌++◌, Bool, true, false, List, ℕ, [], ◌∷◌, Option, None, Some, codes, is_some, map, option_map, string_bytes, unwrap_or, ⊤}
+use Rattle.std.specs.Prelude.{◌≡◌, ◌≢◌, ◌⊎◌, ◌++◌, Bool, true, false, List, ℕ, [], ◌∷◌, Option, None, Some, codes, map, option_map, string_bytes, unwrap_or, ⊤}
 use Rattle.std.specs.List.{list_any}
-use Rattle.std.specs.Option.{option_map_or}
 use Rattle.std.specs.Str.{bytes_eq}
 use Rattle.clap.specs.Words.{IsAmong, Kinds, Row, Text, all_of, first_of}
 use Rattle.clap.specs.declared.error.ErrorKind.TheVariants.{DisplayHelp, DisplayVersion}
 use Rattle.ps_arguments.specs.CommandLine.{faults_in, named_in}
-use Rattle.ps_arguments.specs.Outputs.{form_of, map_content, out_by, telling}
+use Rattle.ps_arguments.specs.Outputs.{has_output, has_references, is_json, is_strict, is_unit, link_options, map_content, out_by}
 use Rattle.ps_arguments.specs.declared.outputs.MapContent.{MapContent}
 use Rattle.ps_arguments.specs.declared.outputs.MapContent.TheVariants as content
 use Rattle.ps_arguments.specs.declared.outputs.OutBy.{OutBy}
@@ -89,32 +88,6 @@ abbrev pub IsHost : (Text → Text → Bool → Type 0) → OutBy → Text → T
 IsHost OneFile named_by.Option out host = IsSame OneFile out (host ∷ [])
 IsHost OneFile named_by.Place out host = ⊥
 
--- the flag of this name is given
-abbrev pub has_flag : Text → List Row → Bool
-has_flag name rows = option_map_or (λ value. bytes_eq value (codes "true"))
-    (first_of name rows) false
-
--- the flags `--strict`, `--unit`, `--references` and `--json` are given
-abbrev pub is_strict : List Row → Bool
-is_strict rows = has_flag (codes "strict") rows
-
-abbrev pub is_unit : List Row → Bool
-is_unit rows = has_flag (codes "unit") rows
-
-abbrev pub has_references : List Row → Bool
-has_references rows = has_flag (codes "references") rows
-
-abbrev pub is_json : List Row → Bool
-is_json rows = has_flag (codes "json") rows
-
--- `--quiet`
-abbrev pub is_quiet : List Row → Bool
-is_quiet rows = has_flag (codes "quiet") rows
-
--- OUT is named by its option
-abbrev pub has_output : List Row → Bool
-has_output rows = is_some (first_of (codes "OUT") rows)
-
 -- the file that a link writes, and its libraries: OUT is named by its option, or else it is the
 -- first of the files that are named after HOST, and no library
 abbrev pub out_among : Option Text → List Text → Option (Text × List Text)
@@ -131,11 +104,8 @@ map_file rows = file_of rows
 
 -- what a link writes beside OUT, and what it prints, is as the arguments ask for it
 pub record NamesOutputs (outputs : Outputs) (rows : List Row) : Type 0 where
-  pub named : outputs.named ≡ out_by (has_output rows)
   pub map_file : option_map (λ path. path.now) outputs.map ≡ map_file rows
-  pub content : outputs.content ≡ map_content (has_references rows)
-  pub form : outputs.form ≡ form_of (is_json rows)
-  pub telling : outputs.telling ≡ telling (is_quiet rows)
+  pub options : outputs.options ≡ link_options rows
 
 -- a link of the files that are named for it; it writes no file that is a library of it, nor its host
 -- where the option names OUT, and its map to no file of it

@@ -40,9 +40,9 @@ the same files. FILE may be neither OUT nor a file of the link.
 The summary is printed on standard error where the OUT of -o or FILE is standard
 output, as /dev/stdout. A file is read from a pipe as /dev/stdin.
 
-Without -o the file after HOST is OUT, and may be HOST. If OUT is forgotten there, the
-first LIB is taken as OUT: a unit that it alone has is then missing, and if none is, it
-is overwritten.
+Without -o the file after HOST is OUT. If that is HOST itself, the unlinked host is lost.
+If OUT is forgotten there, the first LIB is taken as OUT: a unit that it alone has is
+then missing, and if none is, it is overwritten.
 
 If the files are refused, pslink check with the same files says why.
 
@@ -103,10 +103,10 @@ certain and no fault, one with 'note: ' is a guess, and one with 'harmless: ' ch
 no link. No file is written, so leave -o OUT out. With --json the verdict, what is
 found and the report are printed as one JSON document.
 
-With --unit, each FILE is of any kind. The files are listed as by list, and after the
-lines of each file comes a line of each unit that it has, with its first fault in a link
-with a host that would define each name: so a unit can be checked before there is a
-host. A file without a unit is refused.
+With --unit, the files are listed as by list, and after the lines of each file comes a
+line of each unit that it has, with its first fault in a link with a host that would
+define each name: so a unit can be checked before there is a host. A file without a unit
+is refused.
 
 Exit status:
   0  the files link, and there may be warnings
@@ -123,13 +123,13 @@ const LIST_ENDING: &str = "Example:
 
 Each line begins with the name of its file: first a line of the file, and then one
 for each of its segments. A segment whose code, procedure tables or link information
-are refused ends with the number of the fault. A file that can't be read is reported,
+are refused ends with the number of the fault. A file that cannot be read is reported,
 and those after it are listed. With --json the same values are printed as one JSON
 document.
 
 Exit status, the greatest that applies:
   0  all files were listed
-  1  a file or a segment is refused, or a file has no segment or is something else
+  1  a file or a segment is refused, or a file has no segment or is no code file
   2  wrong usage
   3  a file could not be read, or standard output failed
   4  out of memory

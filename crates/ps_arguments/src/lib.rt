@@ -3,6 +3,7 @@
 #![tactic(auto)]
 
 mod command_line;
+mod found;
 mod given;
 mod outputs;
 mod request;
@@ -12,7 +13,7 @@ mod usage;
 mod wrong;
 
 pub use given::given_args;
-pub use outputs::{MapContent, OutBy, Outputs, Telling, form_of};
+pub use outputs::{LinkOptions, MapContent, OutBy, Outputs, Telling, form_of};
 pub use request::{Inputs, Link, Request, Task, parse};
 pub use same_file::SameFile;
 pub use usage::{UsageError, UsageText, WrongArgument};

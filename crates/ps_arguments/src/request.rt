@@ -1,11 +1,12 @@
 //! What the arguments of a command line ask the program to do.
-ghost use Rattle.std.specs.Prelude.{◌≡◌, ◌⊎◌, IfErr, IfOk, IfSome, None, Some, [], ◌∷◌, codes, false, is_some, map, option_map, string_bytes, true, unwrap_or};
-ghost use Rattle.clap.specs.Words.{FailsBy, all_of, first_of, found_of, kind_of, rows_of, subcommand_rows_of};
+ghost use Rattle.std.specs.Prelude.{◌≡◌, ◌⊎◌, IfErr, IfOk, IfSome, None, Some, [], ◌∷◌, codes, false, map, option_map, string_bytes, true};
+ghost use Rattle.clap.specs.Words.{FailsBy, first_of, found_of, kind_of, rows_of, subcommand_rows_of};
 ghost use Rattle.ps_arguments.specs.CommandLine.{AreAccepted, AskForText, faults_in, named_in, texts};
-ghost use Rattle.ps_arguments.specs.Requests.{Answers, EndsWithLine, IsAsked, IsApartFrom, IsHost, IsNamedCommand, IsNoHost, IsOther, IsOtherCommand, IsSame, IsTask, IsWrongCheck, IsWrongLink, IsWrongMap, IsWrongNamed, IsWrongUsage, NamesInputs, NamesOutputs, file_of as file_spec, has_flag as has_flag_spec, host_of, out_among};
+ghost use Rattle.ps_arguments.specs.Requests.{Answers, EndsWithLine, IsAsked, IsApartFrom, IsHost, IsNamedCommand, IsNoHost, IsOther, IsOtherCommand, IsSame, IsTask, IsWrongCheck, IsWrongLink, IsWrongMap, IsWrongNamed, IsWrongUsage, NamesInputs, file_of as file_spec, host_of, out_among};
 
 use crate::command_line::command;
-use crate::outputs::{MapContent, OutBy, Outputs, form_of, map_content, out_by, telling_of};
+use crate::found::{has_flag, paths_of};
+use crate::outputs::{MapContent, OutBy, Outputs, outputs_of};
 use crate::same_file::{SameFile, first_to};
 use crate::tips::{tip_of, word_in};
 use crate::usage::UsageError;
@@ -223,21 +224,6 @@ fn link_of<'a, F: SameFile, A: Allocator + Copy>(
     Ok(Task::Link(link))
 }
 
-/// What a link with this OUT writes and prints.
-fn outputs_of<'a>(found: &ArgMatches<'a>, out: &'a str) -> Outputs<'a>
-    ensures out { result.out ≡ out.entry }
-    ensures named { NamesOutputs result (rows_of (found_of found.now)) }
-{
-    Outputs {
-        out,
-        named: out_by(is_given(found, "OUT")),
-        map: value_of(found, "FILE"),
-        content: map_content(has_flag(found, "references")),
-        form: form_of(has_flag(found, "json")),
-        telling: telling_of(has_flag(found, "quiet")),
-    }
-}
-
 /// Refuses a link that would write a library of it.
 fn check_out<F: SameFile, A: Allocator>(
     files: &F,
@@ -261,12 +247,12 @@ fn check_host<F: SameFile, A: Allocator>(
     heap: Global,
     link: &Link<'_, A>,
 ) -> Result<(), UsageError>
-    ensures apart { IfOk result (λ _. IsNoHost (F.one_file files.now) link.now.outputs.named
+    ensures apart { IfOk result (λ _. IsNoHost (F.one_file files.now) link.now.outputs.options.named
         link.now.outputs.out.now link.now.inputs.host.now) }
-    ensures same { IfErr result (λ _. IsHost (F.one_file files.now) link.now.outputs.named
+    ensures same { IfErr result (λ _. IsHost (F.one_file files.now) link.now.outputs.options.named
         link.now.outputs.out.now link.now.inputs.host.now) }
 {
-    match link.outputs.named {
+    match link.outputs.options.named {
         OutBy::Place => Ok(()),
         OutBy::Option => check_host_apart(files, heap, link.outputs.out, link.inputs.host),
     }
@@ -297,15 +283,15 @@ fn check_map<F: SameFile, A: Allocator>(
     link: &Link<'_, A>,
 ) -> Result<(), UsageError>
     ensures apart { IfOk result (λ _. IsApartFrom (F.one_file files.now)
-        (option_map (λ path. path.now) link.now.outputs.map) link.now.outputs.content
+        (option_map (λ path. path.now) link.now.outputs.map) link.now.outputs.options.content
         link.now.outputs.out.now link.now.inputs.host.now (map (λ path. path.now) link.now.inputs.libraries.items)) }
     ensures wrong { IfErr result (λ _. IsWrongMap (F.one_file files.now)
-        (option_map (λ path. path.now) link.now.outputs.map) link.now.outputs.content
+        (option_map (λ path. path.now) link.now.outputs.map) link.now.outputs.options.content
         link.now.outputs.out.now link.now.inputs.host.now (map (λ path. path.now) link.now.inputs.libraries.items)) }
 {
     match link.outputs.map {
         Some(file) => check_map_file(files, heap, link, file),
-        None => check_content(heap, link.outputs.content),
+        None => check_content(heap, link.outputs.options.content),
     }
 }
 
@@ -470,31 +456,6 @@ fn list_of<'a, A: Allocator + Copy>(
     Ok(Task::List { files, json })
 }
 
-/// The flag of this name is given.
-fn has_flag(found: &ArgMatches<'_>, name: &str) -> bool
-    ensures { result ≡ has_flag_spec name.now (rows_of (found_of found.now)) }
-{
-    match found.get_str(name) {
-        Some(value) => value == "true",
-        None => false,
-    }
-}
-
-/// An argument of this name is given.
-fn is_given(found: &ArgMatches<'_>, name: &str) -> bool
-    ensures { result ≡ is_some (first_of name.now (rows_of (found_of found.now))) }
-{
-    found.get_str(name).is_some()
-}
-
-/// The value that is given for an argument, if there is one.
-fn value_of<'a>(found: &ArgMatches<'a>, name: &str) -> Option<&'a str>
-    ensures { option_map (λ value. value.now) result
-        ≡ first_of name.now (rows_of (found_of found.now)) }
-{
-    found.get_str(name)
-}
-
 fn inputs_of<'a, A: Allocator + Copy>(
     heap: Global,
     alloc: A,
@@ -519,20 +480,5 @@ fn file_of<'a>(heap: Global, found: &ArgMatches<'a>, argument: &str) -> Result<&
     match found.get_str(argument) {
         Some(path) => Ok(path),
         None => Err(missing_argument(heap)),
-    }
-}
-
-/// The paths that are given for an argument, in their order.
-fn paths_of<'a, A: Allocator + Copy>(
-    alloc: A,
-    found: &ArgMatches<'a>,
-    argument: &str,
-) -> Result<Vec<&'a str, A>, AllocError>
-    ensures { IfOk result (λ paths. map (λ path. path.now) paths.items
-        ≡ unwrap_or (all_of argument.now (rows_of (found_of found.now))) []) }
-{
-    match found.get_strs(argument) {
-        Some(paths) => Vec::from_slice(alloc, paths),
-        None => Ok(Vec::new(alloc)),
     }
 }

@@ -5,7 +5,7 @@ ghost use Rattle.clap.specs.declared.error.ErrorKind.TheVariants.{OutOfMemory};
 ghost use Rattle.ps_arguments.specs.declared.usage.UsageError.TheVariants as usage;
 
 use clap::error::ErrorKind;
-use std::alloc::{AllocError, AllocFailed};
+use std::alloc::AllocError;
 use std::fmt::{self, Formatter};
 use std::marker::Model;
 
@@ -61,14 +61,6 @@ impl From<AllocError> for UsageError {
     ghost from_gives = { λ _ e. e ≡ usage.Memory };
 
     fn from(_error: AllocError) -> Self {
-        UsageError::Memory
-    }
-}
-
-impl<T: Drop> From<AllocFailed<T>> for UsageError {
-    ghost from_gives = { λ _ e. e ≡ usage.Memory };
-
-    fn from(_error: AllocFailed<T>) -> Self {
         UsageError::Memory
     }
 }

@@ -293,10 +293,10 @@ module _ (host : List ℕ) (libs : List (List ℕ)) (h : HostFiles) where
   not_missing : absent.NotLookedFor ≡ absent.Missing → ⊥
   not_missing e = absurd (cc)
 
-  no_slot_other : absent.NoSlot ≡ absent.Missing → ⊥
+  no_slot_other : absent.Unplaced ≡ absent.Missing → ⊥
   no_slot_other e = absurd (cc)
 
-  left_other : absent.NotLookedFor ≡ absent.NoSlot → ⊥
+  left_other : absent.NotLookedFor ≡ absent.Unplaced → ⊥
   left_other e = absurd (cc)
 
   origin_of_item : (s t : Seen) (r x : Result Origin Absent) → t ≡ s → t.origin ≡ r
@@ -375,18 +375,18 @@ module _ (host : List ℕ) (libs : List (List ℕ)) (h : HostFiles) where
 
   -- 5. the unit for which no slot is left
   unit_case : (u : UnitReference) (s : Seen) → seen_unit h u ≡ Some s
-      → seen_with None u.name (added_by (segments_in h) u.at) (Err absent.NoSlot) ≡ s
+      → seen_with None u.name (added_by (segments_in h) u.at) (Err absent.Unplaced) ≡ s
   unit_case u s e = by (is_of_host h u.name) e
     where
       by : (b : Bool) → (if b then None
-          else Some (seen_with None u.name (added_by (segments_in h) u.at) (Err absent.NoSlot)))
-          ≡ Some s → seen_with None u.name (added_by (segments_in h) u.at) (Err absent.NoSlot) ≡ s
+          else Some (seen_with None u.name (added_by (segments_in h) u.at) (Err absent.Unplaced)))
+          ≡ Some s → seen_with None u.name (added_by (segments_in h) u.at) (Err absent.Unplaced) ≡ s
       by true e = absurd (none_not s e)
       by false e = same_some _ s e
 
   next_case : (s : Seen) → unplaced h ≡ Some s → (u : UnitReference)
       × (slice_get (requests_in h) (length (empty_slots h.order h.file)) ≡ Some u)
-      × (seen_with None u.name (added_by (segments_in h) u.at) (Err absent.NoSlot) ≡ s)
+      × (seen_with None u.name (added_by (segments_in h) u.at) (Err absent.Unplaced) ≡ s)
   unfolding unplaced
   next_case s e = by (slice_get (requests_in h) (length (empty_slots h.order h.file))) refl e
     where
@@ -394,15 +394,15 @@ module _ (host : List ℕ) (libs : List (List ℕ)) (h : HostFiles) where
           → slice_get (requests_in h) (length (empty_slots h.order h.file)) ≡ o
           → option_and_then (seen_unit h) o ≡ Some s → (u : UnitReference)
           × (slice_get (requests_in h) (length (empty_slots h.order h.file)) ≡ Some u)
-          × (seen_with None u.name (added_by (segments_in h) u.at) (Err absent.NoSlot) ≡ s)
+          × (seen_with None u.name (added_by (segments_in h) u.at) (Err absent.Unplaced) ≡ s)
       by None is e = absurd (none_not s e)
       by (Some u) is e = (u, is, unit_case u s e)
 
   next_facts : (s : Seen) → unplaced h ≡ Some s
-      → IsUnplaced h s × (s.origin ≡ Err absent.NoSlot)
+      → IsUnplaced h s × (s.origin ≡ Err absent.Unplaced)
   next_facts s e =
       let t = next_case s e in
-      let w = with_slot None t.0.name (added_by (segments_in h) t.0.at) (Err absent.NoSlot) in (
+      let w = with_slot None t.0.name (added_by (segments_in h) t.0.at) (Err absent.Unplaced) in (
         (
           ap (λ (x : Seen). x.slot) (sym t.2) ∙ w.0,
           (
@@ -457,20 +457,20 @@ module _ (host : List ℕ) (libs : List (List ℕ)) (h : HostFiles) where
       → SomeItem (segments_in h) (λ k q. IsOfSegment s q) ⊎ IsOfEntry host libs o
   come_from i s o (inl (k, low, is, here)) e = from_slot k s o is e
   come_from i s o (inr (is, here)) e =
-      absurd (not_ok absent.NoSlot o (sym (next_facts s is).1 ∙ e))
+      absurd (not_ok absent.Unplaced o (sym (next_facts s is).1 ∙ e))
 
   are_left : (i : ℕ) (s : Seen) → Place i s → s.origin ≡ Err absent.NotLookedFor → IsLeft h s
   are_left i s (inl (k, low, is, here)) e = left_slot k s is e
   are_left i s (inr (is, here)) e =
-      absurd (left_other (sym (same_why absent.NoSlot absent.NotLookedFor
+      absurd (left_other (sym (same_why absent.Unplaced absent.NotLookedFor
       (sym (next_facts s is).1 ∙ e))))
 
-  are_unplaced : (i : ℕ) (s : Seen) → Place i s → s.origin ≡ Err absent.NoSlot → IsUnplaced h s
+  are_unplaced : (i : ℕ) (s : Seen) → Place i s → s.origin ≡ Err absent.Unplaced → IsUnplaced h s
   are_unplaced i s (inl (k, low, is, here)) e =
-      absurd (left_other (why_slot k s absent.NoSlot no_slot_other is e).1)
+      absurd (left_other (why_slot k s absent.Unplaced no_slot_other is e).1)
   are_unplaced i s (inr (is, here)) e = (next_facts s is).0
 
-  are_without : (i : ℕ) (s : Seen) → Place i s → s.slot ≡ None → s.origin ≡ Err absent.NoSlot
+  are_without : (i : ℕ) (s : Seen) → Place i s → s.slot ≡ None → s.origin ≡ Err absent.Unplaced
   are_without i s (inl (k, low, is, here)) e = absurd (no_slot s k e (slot_is k s is))
   are_without i s (inr (is, here)) e = (next_facts s is).1
 

@@ -56,6 +56,6 @@ pub record AreSeen (host : List ℕ) (libs : List (List ℕ)) (h : HostFiles) (l
       → s.origin ≡ Err absent.NotLookedFor → IsLeft h s
   -- one for which no slot is left is that of the first name too many, and one without a slot is so
   pub unplaced : (i : ℕ) (s : Seen) → slice_get list i ≡ Some s
-      → s.origin ≡ Err absent.NoSlot → IsUnplaced h s
+      → s.origin ≡ Err absent.Unplaced → IsUnplaced h s
   pub without_slot : (i : ℕ) (s : Seen) → slice_get list i ≡ Some s → s.slot ≡ None
-      → s.origin ≡ Err absent.NoSlot
+      → s.origin ≡ Err absent.Unplaced

@@ -184,7 +184,7 @@ seen_in host libs h slot = seen_by_outcome host libs h slot (outcome_in h slot)
 -- what is seen of a unit that is requested and for which no slot is left
 abbrev pub seen_unit : HostFiles → UnitReference → Option Seen
 seen_unit h u = if is_of_host h u.name then None
-    else Some (seen_with None u.name (added_by (segments_in h) u.at) (Err absent.NoSlot))
+    else Some (seen_with None u.name (added_by (segments_in h) u.at) (Err absent.Unplaced))
 
 -- what is seen of the unit of the first requested name for which no slot is left
 unfoldable pub unplaced : HostFiles → Option Seen

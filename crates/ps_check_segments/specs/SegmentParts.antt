@@ -52,7 +52,7 @@ part_words (part.Added requester rec) = codes "a unit that record "
 abbrev pub absence_words : Absent → List ℕ
 absence_words (absent.Refused f) = codes ", refused"
 absence_words absent.Missing = codes ", which no library has"
-absence_words absent.NoSlot = codes ", for which no slot is left"
+absence_words absent.Unplaced = codes ", for which no slot is left"
 absence_words absent.NotLookedFor = codes ", not looked for after the fault"
 
 -- a record requests the unit

@@ -113,7 +113,7 @@ pub fn words_of(absent: Absent) -> &'static str
     match absent {
         Absent::Refused(_) => ", refused",
         Absent::Missing => ", which no library has",
-        Absent::NoSlot => ", for which no slot is left",
+        Absent::Unplaced => ", for which no slot is left",
         Absent::NotLookedFor => ", not looked for after the fault",
     }
 }
@@ -504,7 +504,7 @@ fn segment_of<'a>(host: &HostReading<'a>, unit: &UnitReference) -> Option<ReadSe
         return None;
     }
     let part = added_part(host.segments(), unit.at);
-    Some(without_entry(None, unit.name, part, Absent::NoSlot))
+    Some(without_entry(None, unit.name, part, Absent::Unplaced))
 }
 
 /// The first unit that is requested and for which no slot is left.

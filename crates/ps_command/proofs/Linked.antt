@@ -3,8 +3,8 @@ use Rattle.std.proofs.Common.{◌≡◌, ◌⊎◌, ◌∷◌, Bool, List, None,
 use Rattle.std.specs.Prelude.{IsSomeAnd, option_map}
 use Rattle.std.specs.List.{AllZip}
 use Rattle.ps_arguments.specs.CommandLine.{Row, Text}
-use Rattle.ps_arguments.specs.Outputs.{form_of, map_content, out_by, telling}
-use Rattle.ps_arguments.specs.Requests.{NamesLink, has_output, has_references, is_json, is_quiet, map_file}
+use Rattle.ps_arguments.specs.Outputs.{form_of, has_references, is_json, link_options, map_content}
+use Rattle.ps_arguments.specs.Requests.{NamesLink, map_file}
 use Rattle.ps_arguments.specs.declared.request.Link.{Link}
 use Rattle.ps_linkfile.specs.LinkedFile.{summary_of}
 use Rattle.ps_output_files.proofs.Logs.{all_weaker, part_weaker}
@@ -44,6 +44,10 @@ as_text true true paths host libs text none is = (none, refl, is)
 as_document : (json : Bool) → is_document (form_of json) ≡ json
 as_document false = refl
 as_document true = refl
+
+-- so where `--json` is among the options
+by_json : (rows : List Row) → is_document (link_options rows).form ≡ is_json rows
+by_json rows = as_document (is_json rows)
 
 -- what is refused is no fault of standard output
 pub not_output : (f : Fault) (e : Unlinked) → e ≡ unlinked.Refused f
@@ -120,20 +124,21 @@ module _ {S A : Type 0} (world : S → World) (before : S) (link : Link A) (rows
     (names : NamesLink (world before).one_file link rows) where
   -- where the summary of the link that is asked for is printed
   pub placed : (where_to : Place) → IsPlaceOf (world before) link.outputs where_to
-      → IsPlace (world before).leads (telling (is_quiet rows)) (out_by (has_output rows))
-      link.outputs.out.now (map_file rows) where_to
+      → IsPlace (world before).leads (link_options rows) link.outputs.out.now
+      (map_file rows) where_to
   placed where_to is =
-      let found : IsPlace (world before).leads link.outputs.telling link.outputs.named
-      link.outputs.out.now (option_map (λ path. path.now) link.outputs.map) where_to = is in
-      rw (names.outputs.telling, names.outputs.named, names.outputs.map_file) at found
+      let found : IsPlace (world before).leads link.outputs.options link.outputs.out.now
+      (option_map (λ path. path.now) link.outputs.map) where_to = is in
+      rw (names.outputs.options, names.outputs.map_file) at found
 
   -- the text of its map is that which `map` prints
   mapped : (paths : List Text) (host : List ℕ) (libs : List (List ℕ)) → NoneStands host libs
-      → (text : List ℕ) → IsMapText link.outputs.content link.outputs.form host libs text
+      → (text : List ℕ)
+      → IsMapText link.outputs.options.content link.outputs.options.form host libs text
       → IsMapNamed rows paths host libs text
   mapped paths host libs none text is =
       let named : IsMapText (map_content (has_references rows)) (form_of (is_json rows)) host libs
-      text = rw (names.outputs.content, names.outputs.form) at is in
+      text = rw names.outputs.options at is in
       as_text (has_references rows) (is_json rows) paths host libs text none named
 
   -- a link of files that were read ends as the link that is asked for
@@ -154,8 +159,8 @@ module _ {S A : Type 0} (world : S → World) (before : S) (link : Link A) (rows
       (world after).log = all_weaker link.outputs.out.now file wrote.0 (world before).log (world after).log
       (mapped (link.inputs.host.now ∷ paths) host libs wrote.1.accepted) wrote.2 in
       let apart : MapIsApart world file link.outputs.out.now wrote.0 before = wrote.3 in
-      let told : PrintsAt linked.1.0 (summary_text link.outputs.form (summary_of host libs)) old new
-      old_err new_err = linked.1.2 in
+      let told : PrintsAt linked.1.0 (summary_text link.outputs.options.form (summary_of host libs))
+      old new old_err new_err = linked.1.2 in
       inl (
         refl,
         (
@@ -177,12 +182,12 @@ module _ {S A : Type 0} (world : S → World) (before : S) (link : Link A) (rows
             rw names.outputs.map_file at apart,
           ),
           placed linked.1.0 linked.1.1,
-          rw names.outputs.form at told,
+          rw names.outputs.options at told,
         ),
       )
   links_or_refuses after host libs ended.Refused old new old_err new_err read all refused =
       let paths = map (λ path. path.now) link.inputs.libraries.items in
-      let told = rw (names.outputs.form, as_document (is_json rows)) at refused.2 in
+      let told = rw (names.outputs.options, by_json rows) at refused.2 in
       inr (
         link.outputs.out.now,
         paths,
@@ -226,7 +231,12 @@ module _ {S A : Type 0} (world : S → World) (before : S) (link : Link A) (rows
       → FailsRead world rows link.inputs.host.now link.outputs.out.now
       (map (λ path. path.now) link.inputs.libraries.items) host libs before after old new
   fails_read after host libs old new (inl refused) =
-      inl (refused.0, refused.1, rw (names.outputs.form, as_document (is_json rows)) at refused.2, refused.3)
+      inl (
+        refused.0,
+        refused.1,
+        rw (names.outputs.options, by_json rows) at refused.2,
+        refused.3,
+      )
   fails_read after host libs old new (inr wrote) =
       let paths = map (λ path. path.now) link.inputs.libraries.items in
       let file = option_map (λ path. path.now) link.outputs.map in
@@ -247,8 +257,12 @@ module _ {S A : Type 0} (world : S → World) (before : S) (link : Link A) (rows
               (world after).log = all_weaker link.outputs.out.now file wrote.0 (world before).log
               (world after).log (mapped (link.inputs.host.now ∷ paths) host libs none) all.0 in
               let some : AppendsPrefix old new
-              (summary_text link.outputs.form (summary_of host libs)) = all.2 in
-              inr (rw names.outputs.map_file at adds, placed place.Output all.1, rw names.outputs.form at some)
+              (summary_text link.outputs.options.form (summary_of host libs)) = all.2 in
+              inr (
+                rw names.outputs.map_file at adds,
+                placed place.Output all.1,
+                rw names.outputs.options at some,
+              )
         ],
       )
 

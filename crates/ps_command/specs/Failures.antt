@@ -4,8 +4,8 @@ use Rattle.std.specs.Prelude.{◌≡◌, ◌≢◌, ◌⊎◌, ◌∷◌, [], �
 use Rattle.std.specs.List.{AllZip}
 use Rattle.std.specs.Io.KnownBytes.{Appends}
 use Rattle.ps_arguments.specs.CommandLine.{Kinds, Row, Text, faults_in, named_in}
-use Rattle.ps_arguments.specs.Outputs.{form_of, out_by, telling}
-use Rattle.ps_arguments.specs.Requests.{EndsWithLine, MayAskForHelp, MayAskForVersion, file_of, files_of, has_output, has_references, host_of, is_json, is_quiet, is_strict, is_unit, libraries_of, map_file, out_and_libraries}
+use Rattle.ps_arguments.specs.Outputs.{form_of, has_references, is_json, is_strict, is_unit, link_options}
+use Rattle.ps_arguments.specs.Requests.{EndsWithLine, MayAskForHelp, MayAskForVersion, file_of, files_of, host_of, libraries_of, map_file, out_and_libraries}
 use Rattle.ps_words.specs.declared.fault.Fault.{Fault}
 use Rattle.ps_writing.specs.Prefixes.{AppendsPrefix}
 use Rattle.ps_writing.specs.declared.rows.Form.TheVariants.{Lines}
@@ -79,8 +79,7 @@ FailsRead world rows path out libraries host libs before after old new =
     (IsMapNamed rows (path ∷ libraries) host libs) failed × (new ≡ old))
     ⊎ (AddsAll out (map_file rows) file (IsMapNamed rows (path ∷ libraries) host libs)
     (world before).log (world after).log
-    × IsPlace (world before).leads (telling (is_quiet rows)) (out_by (has_output rows)) out
-    (map_file rows) place.Output
+    × IsPlace (world before).leads (link_options rows) out (map_file rows) place.Output
     × AppendsPrefix old new (summary_text (form_of (is_json rows)) (summary_of host libs)))))
 
 -- why a link is not done: a file that is named could not be read, and nothing is printed or created; or

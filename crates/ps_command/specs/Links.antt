@@ -37,7 +37,7 @@ IsLinked world link paths host libs ended.Done before after old new old_err new_
     × PrintsPlaced (world before) link.outputs (summary_of host libs) old new old_err new_err
 IsLinked world link paths host libs ended.Refused before after old new old_err new_err =
     (f : Fault) × CanRefuse (OfLink Map Lines) host libs f
-    × PrintsFault (is_document link.outputs.form) paths (Some link.outputs.out.now)
+    × PrintsFault (is_document link.outputs.options.form) paths (Some link.outputs.out.now)
     (fault_name host libs f) f old new
     × ((world after).log ≡ (world before).log)
 IsLinked world link paths host libs ended.Unread before after old new old_err new_err = ⊥
@@ -55,7 +55,7 @@ abbrev pub FailsLink : {S A : Type 0} → (S → World) → Link A → List Text
     → S → S → Option (List ℕ) → Option (List ℕ) → Type 0
 FailsLink world link paths host libs before after old new =
     ((f : Fault) × CanRefuse (OfLink Map Lines) host libs f
-    × CutsFault (is_document link.outputs.form) paths (Some link.outputs.out.now)
+    × CutsFault (is_document link.outputs.options.form) paths (Some link.outputs.out.now)
     (fault_name host libs f) f old new
     × ((world after).log ≡ (world before).log))
     ⊎ ((file : List ℕ) × LinkedFile host libs file × (
@@ -64,4 +64,4 @@ FailsLink world link paths host libs before after old new =
     ⊎ (AddsAll link.outputs.out.now (map_path link.outputs) file (IsMapOf link.outputs host libs)
     (world before).log (world after).log
     × IsPlaceOf (world before) link.outputs place.Output
-    × AppendsPrefix old new (summary_text link.outputs.form (summary_of host libs)))))
+    × AppendsPrefix old new (summary_text link.outputs.options.form (summary_of host libs)))))

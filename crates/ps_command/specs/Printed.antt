@@ -27,8 +27,8 @@ use Rattle.ps_output_files.specs.Log.{AddsAll, AddsPart}
 use Rattle.ps_output_files.specs.Places.{IsPlace, PrintsAt}
 use Rattle.ps_output_files.specs.SummaryLine.{summary_text}
 use Rattle.ps_output_files.specs.World.{Reads, World}
-use Rattle.ps_arguments.specs.Outputs.{form_of, map_content, out_by, telling}
-use Rattle.ps_arguments.specs.Requests.{EndsWithLine, IsApartFrom, IsNoHost, IsOther, MayAskForHelp, MayAskForVersion, file_of, files_of, has_output, has_references, host_of, is_json, is_quiet, is_strict, is_unit, libraries_of, map_file, out_and_libraries}
+use Rattle.ps_arguments.specs.Outputs.{form_of, has_output, has_references, is_json, is_strict, is_unit, link_options, map_content, out_by}
+use Rattle.ps_arguments.specs.Requests.{EndsWithLine, IsApartFrom, IsNoHost, IsOther, MayAskForHelp, MayAskForVersion, file_of, files_of, host_of, libraries_of, map_file, out_and_libraries}
 use Rattle.ps_command.specs.Lists.{IsListText, list_status}
 use Rattle.ps_command.specs.ReadFaults.{IsNotRead}
 use Rattle.ps_output_files.specs.declared.linking.Place.{Place}
@@ -76,7 +76,7 @@ PrintsLink world rows path before after old new old_err new_err =
     (out : Text) × (libraries : List Text) × (host : List ℕ) × (libs : List (List ℕ))
     × (where_to : Place) × (out_and_libraries rows ≡ Some (out, libraries))
     × WritesNamed world rows path out libraries host libs before after
-    × IsPlace (world before).leads (telling (is_quiet rows)) (out_by (has_output rows)) out (map_file rows) where_to
+    × IsPlace (world before).leads (link_options rows) out (map_file rows) where_to
     × PrintsAt where_to (summary_text (form_of (is_json rows)) (summary_of host libs)) old new
     old_err new_err
 
@@ -101,7 +101,7 @@ abbrev pub TellsOnError : World → Option (Text × List Row) → Type 0
 TellsOnError world named =
     (rows : List Row) × (out : Text) × (libraries : List Text)
     × (named ≡ Some (codes "link", rows)) × (out_and_libraries rows ≡ Some (out, libraries))
-    × IsPlace world.leads (telling (is_quiet rows)) (out_by (has_output rows)) out (map_file rows) place.Error
+    × IsPlace world.leads (link_options rows) out (map_file rows) place.Error
 
 -- of a link, in the document of its refusal, the path that was taken for OUT: `,"out":"OUT"`; another
 -- command has no OUT

@@ -66,14 +66,6 @@ pub(crate) enum FileError<'a> {
     Memory,
 }
 
-impl From<AllocError> for FileError<'_> {
-    ghost from_gives = { λ _ e. e ≡ file.Memory };
-
-    fn from(_error: AllocError) -> Self {
-        FileError::Memory
-    }
-}
-
 impl<T: Drop> From<AllocFailed<T>> for FileError<'_> {
     ghost from_gives = { λ _ e. e ≡ file.Memory };
 

@@ -10,7 +10,7 @@ ghost use Rattle.ps_command.specs.declared.files.FileFault.TheVariants.{Memory};
 use crate::error::{Cause, FileError};
 use ps_arguments::{Inputs, SameFile};
 use ps_output_files::CodeFiles;
-use std::alloc::{AllocError, AllocFailed, Allocator};
+use std::alloc::{AllocError, Allocator};
 use std::io::Read;
 
 /// The longest file that is read, in bytes.
@@ -30,14 +30,6 @@ pub(crate) enum FileFault {
     /// It gave bytes in every read that it may take: no file is read so.
     Endless,
     Memory,
-}
-
-impl<T: Drop> From<AllocFailed<T>> for FileFault {
-    ghost from_gives = { λ _ fault. fault ≡ Memory };
-
-    fn from(_error: AllocFailed<T>) -> FileFault {
-        FileFault::Memory
-    }
 }
 
 impl From<AllocError> for FileFault {

@@ -89,7 +89,7 @@ fn link_read<'a, R: CodeFiles, A: Allocator + Copy, O: Write, E: Write>(
         Ok(()) => Ok(Ended::Done),
         Err(Unlinked::Refused(fault)) => {
             let refusal = Refusal::of(files.host, files.libs, fault);
-            let is_json = is_document(asked.outputs.form);
+            let is_json = is_document(asked.outputs.options.form);
             Ok(refuse(files, Some(asked.outputs.out), refusal, is_json, out, err)?)
         }
         Err(Unlinked::Memory) => Err(RunError::Memory),

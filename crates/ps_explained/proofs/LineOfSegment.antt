@@ -66,11 +66,11 @@ one_segment slot name what path index size text =
 one_why : (unread : Bool) (why : Absent) → one_line (why_words unread why) ≡ true
 one_why false (absent.Refused f) = refl
 one_why false absent.Missing = refl
-one_why false absent.NoSlot = refl
+one_why false absent.Unplaced = refl
 one_why false absent.NotLookedFor = refl
 one_why true (absent.Refused f) = refl
 one_why true absent.Missing = refl
-one_why true absent.NoSlot = refl
+one_why true absent.Unplaced = refl
 one_why true absent.NotLookedFor = refl
 
 pub one_absent : (slot : Option ℕ) (name : List ℕ) (what : SegmentPart) (unread : Bool)

@@ -136,7 +136,7 @@ module _ (paths : List (List ℕ)) (unread : Bool) (host : List ℕ) (libs : Lis
 
   -- a unit for which no slot is left has none
   no_line : (b : Bool) (u : UnitReference) → read_lines paths unread (cons_option (if b then None
-      else Some (seen_with None u.name (added_by all u.at) (Err absent.NoSlot))) []) ≡ []
+      else Some (seen_with None u.name (added_by all u.at) (Err absent.Unplaced))) []) ≡ []
   unfolding seen_with
   no_line true u = refl
   no_line false u = refl

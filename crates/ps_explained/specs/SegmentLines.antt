@@ -59,7 +59,7 @@ abbrev pub why_words : Bool → Absent → List ℕ
 why_words false why = absence_words why
 why_words true absent.Missing = codes ", which no library that can be read has"
 why_words true (absent.Refused f) = absence_words (absent.Refused f)
-why_words true absent.NoSlot = absence_words absent.NoSlot
+why_words true absent.Unplaced = absence_words absent.Unplaced
 why_words true absent.NotLookedFor = absence_words absent.NotLookedFor
 
 -- where a segment comes from, or why from nowhere, where some library cannot be read or none

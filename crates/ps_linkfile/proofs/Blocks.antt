@@ -1,5 +1,5 @@
 -- The blocks of codes whose slots ascend.
-use Rattle.ps_linkfile.proofs.Vocabulary.{nat_lt, filter, find, blocks, Order, pair_of, Ascend, All, All-nil, All-head, All-tail, MAX_WORD, block_of, nat_tests, word_bytes, all_blocks, starts_of, ◌≡◌, ◌≤◌, ◌==◌, ◌∷◌, length-append, ◌∙◌, ℕ, List, map, take, drop, None, refl, ◌+◌, ◌*◌, ◌<◌, [], ◌++◌, length, arith, eq-eqb, take-add, map-append, take_all, MAX_CODE_LEN, MAX_CODE_BLOCKS, SLOT_COUNT, SLOTS, Segment}
+use Rattle.ps_linkfile.proofs.Vocabulary.{nat_lt, filter, find, blocks, Order, pair_of, Ascend, All, All-nil, All-head, All-tail, block_of, nat_tests, word_bytes, all_blocks, ◌≡◌, ◌≤◌, ◌==◌, ◌∷◌, length-append, ◌∙◌, ℕ, List, map, take, drop, None, refl, ◌+◌, ◌*◌, ◌<◌, [], ◌++◌, length, arith, eq-eqb, take-add, map-append, MAX_CODE_LEN, MAX_CODE_BLOCKS, SLOT_COUNT, SLOTS, Segment}
 use Rattle.std.proofs.lemmas.List.Sums.{sum_by-cons, sum_by_push}
 
 pub all_blocks-cons : (o : Segment) (os : List Segment)
@@ -90,19 +90,10 @@ pub record LaidSoFar (all : List Segment) (count : ℕ) (starts : List ℕ)
   pub begins : starts ≡ map (λ o. block_of all o.slot) (take count all)
   pub blocks : block ≡ 1 + all_blocks (take count all)
 
--- at first no code is laid out, and the next begins in block 1
-pub laid_none : (all : List Segment) → Ascend 0 all → LaidSoFar all 0 [] 1 0
-laid_none all h = grind arith
-
 module _ (all : List Segment) (count : ℕ) (starts : List ℕ) (block from : ℕ) where
   laid_here : (o : Segment) → drop count all ≡ o ∷ drop (count + 1) all
       → LaidSoFar all count starts block from → Left all from block (o ∷ drop (count + 1) all)
   laid_here o is h = rw is at h.left
-
-  -- where a code is left, fewer than sixteen are laid out, and its first block is a word
-  pub laid_next : (o : Segment) → drop count all ≡ o ∷ drop (count + 1) all
-      → LaidSoFar all count starts block from → (count < SLOTS) × (block ≤ MAX_WORD)
-  laid_next o is h = grind arith
 
   -- with one code more laid out, its start is the block that was reached, and the next begins after
   -- its blocks
@@ -128,9 +119,3 @@ module _ (all : List Segment) (count : ℕ) (starts : List ℕ) (block from : �
         begins = rw (h.begins, more, map-append, begins);
         blocks = omega arith;
       }
-
-  -- once all codes are laid out, the starts are the first blocks of all of them, and the block that
-  -- was reached is the number of all blocks, the dictionary's counted
-  pub laid_done : length all ≤ count → LaidSoFar all count starts block from
-      → (starts ≡ starts_of all) × (block ≡ 1 + all_blocks all)
-  laid_done le h = grind (arith, take_all)

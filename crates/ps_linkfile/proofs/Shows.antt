@@ -1,5 +1,5 @@
 -- The order of a file that is shown, and its lines.
-use Rattle.ps_linkfile.proofs.Vocabulary.{filter, range_with_len, in_file, in_slot, Order, Reason, reading, known_order, OpenedFile, FileOrder, Ordered, file_order, opened_as, entry_at, code_of, information_of, ◌≡◌, ℕ, suc, ◌+◌, ◌-◌, ◌<◌, ◌≤◌, List, [], ◌∷◌, ◌++◌, length, length-append, map, append_assoc, append-nil, Bool, true, if◌then◌else◌, Option, Some, None, Ok, Err, ltb, refl, sym, ◌∙◌, ap, arith, codes, Zero, opened_beside_as}
+use Rattle.ps_linkfile.proofs.Vocabulary.{filter, range_with_len, in_file, in_slot, Order, Reason, reading, known_order, OpenedFile, FileOrder, Ordered, file_order, opened_as, entry_at, code_of, information_of, ◌≡◌, ℕ, suc, ◌+◌, ◌-◌, ◌<◌, ◌≤◌, List, [], ◌∷◌, ◌++◌, length, length-append, map, append_assoc, Bool, true, if◌then◌else◌, Option, Some, None, Ok, Err, ltb, refl, sym, ◌∙◌, ap, arith, codes, Zero, opened_beside_as}
 use Rattle.ps_words.specs.declared.order.Order.TheVariants.{Little}
 use Rattle.ps_words.specs.declared.fault.Reason.TheVariants as reason
 use Rattle.ps_writing.specs.Rows.{by_form, fault_as}
@@ -73,11 +73,6 @@ names_more {X} test name xs new all i n lt h e =
     by : (b : Bool) → test i ≡ b → (if test i then name i ∷ [] else [])
         ++ map name (filter test rest) ≡ map name (filter test (i ∷ rest))
     by b h = grind arith
-
--- where no number is left, the names so far are all of them
-pub names_over : {X : Type 0} (test : ℕ → Bool) (name : ℕ → X) (xs all : List X) (i n : ℕ)
-    → n ≤ i → xs ++ map name (filter test (range_with_len i (n - i))) ≡ all → xs ≡ all
-names_over {X} test name xs all i n le h = grind (arith, append-nil)
 
 pub few_more : {X : Type 0} (b : Bool) (x : X) (xs new : List X) (i : ℕ) → length xs ≤ i
     → new ≡ xs ++ (if b then x ∷ [] else []) → length new ≤ i + 1

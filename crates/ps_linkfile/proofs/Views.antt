@@ -1,5 +1,5 @@
 -- The segment of a plan at a place, the first block of its code, and its edits.
-use Rattle.ps_linkfile.proofs.Vocabulary.{All, slice_get, Edit, MAX_CODE_LEN, Segment, block_of, starts_of, Ascend, arith, ℕ, List, map, get_or, drop, Some, ap, subst, sym, ◌≡◌, ◌+◌, ◌≤◌, ◌<◌, ◌∷◌, length, ◌∙◌, drop-map, drop_more, length-map, get_or-drop, SLOTS}
+use Rattle.ps_linkfile.proofs.Vocabulary.{All, slice_get, Edit, MAX_CODE_LEN, Segment, block_of, starts_of, Ascend, arith, ℕ, List, map, get_or, drop, Some, ap, subst, sym, ◌≡◌, ◌+◌, ◌≤◌, ◌<◌, ◌∷◌, length, ◌∙◌, drop-map, drop_more, get_or-drop, SLOTS}
 use Rattle.std.proofs.lemmas.Option.{get_or_from_slice_get, slice_get_within}
 use Rattle.ps_linkfile.proofs.Blocks.{slots_below}
 use Rattle.ps_linkfile.proofs.Codes.{IsAt}
@@ -10,11 +10,6 @@ pub mapped : {X : Type 0} (g : X → ℕ) (xs : List X) (k : ℕ) (x : X) (rest 
 mapped {X} g xs k x rest h =
     let at : k + 0 ≡ k = omega arith in
     rw at at (sym (get_or-drop k (map g xs) 0 0)) ∙ rw (drop-map, h)
-
--- there are as many starts as segments
-pub many_starts : (ss : List Segment) (starts : List ℕ) → starts ≡ starts_of ss
-    → length starts ≡ length ss
-many_starts ss starts h = grind (arith, length-map)
 
 module _ (ss : List Segment) (i : ℕ) (v : Segment) (lt : i < length ss) (is : v ≡ get_or ss i v)
   where

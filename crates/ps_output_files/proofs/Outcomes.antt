@@ -1,5 +1,5 @@
 -- What follows of a link, by the steps that it takes.
-use Rattle.std.proofs.Common.{◌≡◌, ◌≢◌, ◌⊎◌, [], Bool, Err, IfErr, List, Ok, Option, Result, append-nil, arith, false, inl, inr, refl, ℕ}
+use Rattle.std.proofs.Common.{◌≡◌, ◌≢◌, ◌⊎◌, [], Bool, Err, IfErr, List, Ok, Option, Result, append-nil, arith, false, inl, inr, ℕ}
 use Rattle.std.specs.Prelude.{OnErr, OnOk}
 use Rattle.std.specs.Io.KnownBytes.{Appends}
 use Rattle.ps_resolve.specs.Standing.{NoneStands}
@@ -12,7 +12,7 @@ use Rattle.ps_output_files.specs.Links.{AddsBeforePrepared, IsWhyUnlinked, unlin
 use Rattle.ps_output_files.specs.Places.{IsBeside, IsPlace}
 use Rattle.ps_output_files.specs.World.{World}
 use Rattle.ps_arguments.specs.declared.outputs.Outputs.{Outputs}
-use Rattle.ps_arguments.specs.declared.outputs.OutBy.{OutBy}
+use Rattle.ps_arguments.specs.declared.outputs.LinkOptions.{LinkOptions}
 use Rattle.ps_arguments.specs.declared.outputs.OutBy.TheVariants as named_by
 use Rattle.ps_output_files.specs.declared.linking.Place.{Place}
 use Rattle.ps_output_files.specs.declared.linking.Place.TheVariants as place
@@ -29,12 +29,13 @@ written (Ok x) old new text all prefix = prefix_from old new text [] text (appen
 written (Err e) old new text all prefix = prefix
 
 -- where a summary is printed by the file of its map, if its OUT is not standard output
-pub beside : (Leads : List ℕ → Bool → Type 0) (named : OutBy) (out : List ℕ)
-    (map : Option (List ℕ)) (where_to : Place) → (named ≡ named_by.Option → Leads out false)
-    → IsBeside Leads map where_to → IsPlace Leads telling.Summary named out map where_to
-beside Leads named out map place.Nowhere apart none = absurd none
-beside Leads named out map place.Output apart is = (refl, apart, is)
-beside Leads named out map place.Error apart is = (refl, inr is)
+pub beside : (Leads : List ℕ → Bool → Type 0) (options : LinkOptions) (out : List ℕ)
+    (map : Option (List ℕ)) (where_to : Place) → options.telling ≡ telling.Summary
+    → (options.named ≡ named_by.Option → Leads out false) → IsBeside Leads map where_to
+    → IsPlace Leads options out map where_to
+beside Leads options out map place.Nowhere told apart none = absurd none
+beside Leads options out map place.Output told apart is = (told, apart, is)
+beside Leads options out map place.Error told apart is = (told, inr is)
 
 -- standard error is as it was, or a summary is printed there
 pub same_or_told : {Same : Type 0} (At : Place → Type 0) (where_to : Place) → At where_to

@@ -32,9 +32,9 @@ before_prepared asked host libs world stop.Memory = refl
 
 module _ {A : Type 0} (asked : Outputs) (p : Prepared A) (host : List ℕ) (libs : List (List ℕ))
     (linked : LinkedFile host libs (file_in (plan_of p)))
-    (maps : (form : Form) → IsMapText asked.content form host libs (map_bytes form p)) where
-  map_of_files : (text : List ℕ) → IsMapIn asked.form p text → IsMapOf asked host libs text
-  map_of_files text is = rw is (maps asked.form)
+    (maps : (form : Form) → IsMapText asked.options.content form host libs (map_bytes form p)) where
+  map_of_files : (text : List ℕ) → IsMapIn asked.options.form p text → IsMapOf asked host libs text
+  map_of_files text is = rw is (maps asked.options.form)
 
   -- what was prepared is what the files link to, and its map theirs
   pub writes_link : {S T E : Type 0} (world : S → World) (before after : S) (r : Result T E)

@@ -41,7 +41,7 @@ map_path asked = option_map (λ path. path.now) asked.map
 
 -- a text is the map that a link of these files is to have
 abbrev pub IsMapOf : Outputs → List ℕ → List (List ℕ) → List ℕ → Type 0
-IsMapOf asked host libs text = IsMapText asked.content asked.form host libs text
+IsMapOf asked host libs text = IsMapText asked.options.content asked.options.form host libs text
 
 -- the file of the map was found not to lead to OUT, once OUT had taken the linked file and before any
 -- other was created; `world` says what is known at a time
@@ -77,27 +77,27 @@ IsMapIn form p text = text ≡ map_bytes form p
 
 abbrev pub AddsPrepared : {A : Type 0} → Outputs → Prepared A → World → World → Type 0
 AddsPrepared asked p old new = AddsAll asked.out.now (map_path asked) (file_in (plan_of p))
-    (IsMapIn asked.form p) old.log new.log
+    (IsMapIn asked.options.form p) old.log new.log
 
 abbrev pub AddsBeforePrepared : {A : Type 0} → Outputs → Prepared A → World → World → Unlinked
     → Type 0
 AddsBeforePrepared asked p old new (unlinked.Refused fault) = ⊥
 AddsBeforePrepared asked p old new unlinked.Memory = new.log ≡ old.log
 AddsBeforePrepared asked p old new (unlinked.Write path) = FailsToWrite old new asked.out.now
-    (map_path asked) (file_in (plan_of p)) (IsMapIn asked.form p) path.now
+    (map_path asked) (file_in (plan_of p)) (IsMapIn asked.options.form p) path.now
 AddsBeforePrepared asked p old new unlinked.StandardOutput = AddsPrepared asked p old new
 
 -- where its summary is printed
 abbrev pub IsPlaceOf : World → Outputs → Place → Type 0
 IsPlaceOf world asked where_to =
-    IsPlace world.leads asked.telling asked.named asked.out.now (map_path asked) where_to
+    IsPlace world.leads asked.options asked.out.now (map_path asked) where_to
 
 -- by this summary, at its place
 abbrev pub PrintsPlaced : World → Outputs → Summary → Option (List ℕ) → Option (List ℕ)
     → Option (List ℕ) → Option (List ℕ) → Type 0
 PrintsPlaced world asked summary old new old_err new_err =
     (where_to : Place) × IsPlaceOf world asked where_to
-    × PrintsAt where_to (summary_text asked.form summary) old new old_err new_err
+    × PrintsAt where_to (summary_text asked.options.form summary) old new old_err new_err
 
 -- why nothing is linked that has no plan
 abbrev pub unlinked_of : Stop → Unlinked

@@ -2,23 +2,23 @@
 use Rattle.std.specs.Prelude.{◌≡◌, ◌⊎◌, ℕ, Bool, true, false, List, Option, IfSome, IsSomeAnd}
 use Rattle.std.specs.Io.KnownBytes.{Appends}
 use Rattle.ps_writing.specs.Prefixes.{AppendsPrefix}
-use Rattle.ps_arguments.specs.declared.outputs.OutBy.{OutBy}
+use Rattle.ps_arguments.specs.declared.outputs.LinkOptions.{LinkOptions}
 use Rattle.ps_arguments.specs.declared.outputs.OutBy.TheVariants as named_by
 use Rattle.ps_output_files.specs.declared.linking.Place.{Place}
 use Rattle.ps_output_files.specs.declared.linking.Place.TheVariants as place
-use Rattle.ps_arguments.specs.declared.outputs.Telling.{Telling}
 use Rattle.ps_arguments.specs.declared.outputs.Telling.TheVariants as telling
 
 -- Where the summary of a link is printed: nowhere if it prints none; on standard error if its option
 -- names OUT, and OUT leads to standard output, or if the file of the map does; and else on standard
 -- output. `Leads` says of a path whether it was found to lead there.
-abbrev pub IsPlace : (List ℕ → Bool → Type 0) → Telling → OutBy → List ℕ → Option (List ℕ) → Place
+abbrev pub IsPlace : (List ℕ → Bool → Type 0) → LinkOptions → List ℕ → Option (List ℕ) → Place
     → Type 0
-IsPlace Leads what named out map place.Nowhere = what ≡ telling.Nothing
-IsPlace Leads what named out map place.Output = (what ≡ telling.Summary)
-    × (named ≡ named_by.Option → Leads out false) × IfSome map (λ file. Leads file false)
-IsPlace Leads what named out map place.Error = (what ≡ telling.Summary)
-    × (((named ≡ named_by.Option) × Leads out true) ⊎ IsSomeAnd map (λ file. Leads file true))
+IsPlace Leads options out map place.Nowhere = options.telling ≡ telling.Nothing
+IsPlace Leads options out map place.Output = (options.telling ≡ telling.Summary)
+    × (options.named ≡ named_by.Option → Leads out false) × IfSome map (λ file. Leads file false)
+IsPlace Leads options out map place.Error = (options.telling ≡ telling.Summary)
+    × (((options.named ≡ named_by.Option) × Leads out true)
+    ⊎ IsSomeAnd map (λ file. Leads file true))
 
 -- where a line beside the file of a map goes: on standard error if that file leads to standard
 -- output, and else on standard output

@@ -16,7 +16,7 @@ use crate::code_files::CodeFiles;
 use crate::prepared::{Prepared, prepare_link};
 use crate::summary::add_summary;
 use crate::unlinked::Unlinked;
-use ps_arguments::{OutBy, Outputs, Telling};
+use ps_arguments::{LinkOptions, OutBy, Outputs, Telling};
 use ps_linkfile::Linked;
 use ps_writing::{Counting, Form, WriteFault, write_all_of};
 use std::alloc::Allocator;
@@ -72,9 +72,9 @@ pub fn link_files<'a, 'f, R: CodeFiles, A: Allocator + Copy, O: Write, E: Write>
         → IsPlaceOf (R.world rt.old) asked.now Place.Output) }
     ensures prefix { IfErr result (λ e. e ≡ Unlinked.StandardOutput
         → AppendsPrefix (O.contents out.old) (O.contents out.new)
-        (summary_text asked.now.form (summary_of host.now (contents libs.now)))) }
+        (summary_text asked.now.options.form (summary_of host.now (contents libs.now)))) }
 {
-    match prepare_link(alloc, asked.content, host, libs) {
+    match prepare_link(alloc, asked.options.content, host, libs) {
         Ok(prepared) => link_prepared(rt, alloc, &prepared, asked, out, err),
         Err(stop) => Err(Unlinked::from(stop)),
     }
@@ -106,40 +106,39 @@ fn link_prepared<'a, R: CodeFiles, A: Allocator + Copy, O: Write, E: Write>(
         → IsPlaceOf (R.world rt.old) asked.now Place.Output) }
     ensures prefix { IfErr result (λ e. e ≡ Unlinked.StandardOutput
         → AppendsPrefix (O.contents out.old) (O.contents out.new)
-        (summary_text asked.now.form (summary_in (plan_of prepared.now)))) }
+        (summary_text asked.now.options.form (summary_in (plan_of prepared.now)))) }
 {
     let mut text = String::with_capacity(alloc, SUMMARY_LENGTH)?;
-    add_summary(&mut text, asked.form, prepared.linked().summary())?;
-    let place = place_of(&*rt, asked.telling, asked.named, asked.out, asked.map);
+    add_summary(&mut text, asked.options.form, prepared.linked().summary())?;
+    let place = place_of(&*rt, asked.options, asked.out, asked.map);
     write_linked(rt, prepared.linked(), asked.out)?;
-    write_map(rt, prepared, asked.form, asked.map, asked.out)?;
+    write_map(rt, prepared, asked.options.form, asked.map, asked.out)?;
     Ok(print_at(place, text.as_bytes(), out, err)?)
 }
 
-/// Where the summary of a link is printed, if it is, whose OUT is named so, and whose map goes to this
-/// file, if there is one.
-fn place_of<R: CodeFiles>(
-    rt: &R,
-    telling: Telling,
-    named: OutBy,
-    out: &str,
-    map: Option<&str>,
-) -> Place
-    ensures { IsPlace (R.world rt.now).leads telling named out.now
+/// Where the summary of a link with these options is printed, if it is, whose map goes to this file,
+/// if there is one.
+fn place_of<R: CodeFiles>(rt: &R, options: LinkOptions, out: &str, map: Option<&str>) -> Place
+    ensures { IsPlace (R.world rt.now).leads options out.now
         (option_map (λ path. path.now) map.entry) result }
 {
-    match telling {
+    match options.telling {
         Telling::Nothing => Place::Nowhere,
-        Telling::Summary => place_of_summary(rt, named, out, map),
+        Telling::Summary => place_of_summary(rt, options, out, map),
     }
 }
 
-/// Where a summary is printed whose OUT is named so, and whose map goes to this file, if there is one.
-fn place_of_summary<R: CodeFiles>(rt: &R, named: OutBy, out: &str, map: Option<&str>) -> Place
-    ensures { IsPlace (R.world rt.now).leads Telling.Summary named out.now
+/// Where a summary is printed that is not left out.
+fn place_of_summary<R: CodeFiles>(
+    rt: &R,
+    options: LinkOptions,
+    out: &str,
+    map: Option<&str>,
+) -> Place
+    ensures { options.telling ≡ Telling.Summary → IsPlace (R.world rt.now).leads options out.now
         (option_map (λ path. path.now) map.entry) result }
 {
-    if leads_by_option(rt, named, out) {
+    if leads_by_option(rt, options.named, out) {
         return Place::Error;
     }
     place_beside(rt, map)

@@ -6,7 +6,7 @@ ghost use Rattle.ps_output_files.specs.declared.unlinked.Unlinked.TheVariants.{M
 use ps_resolve::Stop;
 use ps_words::Fault;
 use ps_writing::WriteFault;
-use std::alloc::{AllocError, AllocFailed};
+use std::alloc::AllocError;
 
 /// Why files were not linked, or not all of it was written.
 #[derive(Clone, Copy)]
@@ -25,14 +25,6 @@ impl From<AllocError> for Unlinked<'_> {
     ghost from_gives = { λ _ e. e ≡ Memory };
 
     fn from(_error: AllocError) -> Self {
-        Unlinked::Memory
-    }
-}
-
-impl<T: Drop> From<AllocFailed<T>> for Unlinked<'_> {
-    ghost from_gives = { λ _ e. e ≡ Memory };
-
-    fn from(_error: AllocFailed<T>) -> Self {
         Unlinked::Memory
     }
 }

@@ -17,7 +17,7 @@ pub enum Absent {
     /// No library has the unit.
     Missing,
     /// No empty slot of the host is left for the unit.
-    NoSlot,
+    Unplaced,
     /// The unit is requested after the first fault, so no library was searched for it.
     NotLookedFor,
 }
@@ -39,7 +39,7 @@ pub struct SlotReading<'r, 'a> {
     /// no library has the unit.
     pub source: Option<EntryAt>,
     /// Its segment, or why it has none; `None` where it has none to have: it is empty and takes no
-    /// unit, or its kind is refused. Never `NoSlot`, which is said of a unit without a slot.
+    /// unit, or its kind is refused. Never `Unplaced`, which is said of a unit without a slot.
     pub segment: Option<Result<&'r Segment<'a>, Absent>>,
 }
 

@@ -1,20 +1,29 @@
--- The items of findings, each with its index, by the values of the findings.
-use Rattle.std.proofs.Common.{◌≡◌, ◌+◌, ◌++◌, ◌∷◌, [], ℕ, List, ap, map, refl}
+-- Lines and items of findings, by the values of the findings.
+use Rattle.std.proofs.Common.{◌≡◌, ◌+◌, ◌∷◌, [], ℕ, List, ap, map, refl}
+use Rattle.std.proofs.lemmas.List.Folds.{flat_map-map}
 use Rattle.std.specs.List.{enumerate_from, flat_map}
-use Rattle.ps_report.specs.ReportJson.{item_json, list_json}
-use Rattle.ps_report.specs.Reported.{said}
+use Rattle.ps_writing.specs.Adding.{Adds}
+use Rattle.ps_report.specs.ReportJson.{list_json}
+use Rattle.ps_report.specs.Reported.{Said, said}
 use Rattle.ps_report.specs.declared.finding.SaidFinding.{SaidFinding}
 
--- the item of a finding of this index
-abbrev pub item_of : {A : Type 0} → ℕ × SaidFinding A → List ℕ
-item_of p = item_json (p.0, said p.1)
+enumerated : {A : Type 0} (i : ℕ) (fs : List (SaidFinding A))
+    → enumerate_from i (map said fs) ≡ map (λ p. (p.0, said p.1)) (enumerate_from i fs)
+enumerated i [] = refl
+enumerated i (f ∷ fs) = ap (λ (ps : List (ℕ × Said)). (i, said f) ∷ ps) (enumerated (i + 1) fs)
 
-pub items_said : {A : Type 0} (i : ℕ) (fs : List (SaidFinding A))
-    → flat_map item_of (enumerate_from i fs)
-    ≡ flat_map item_json (enumerate_from i (map said fs))
-items_said i [] = refl
-items_said i (f ∷ fs) =
-    ap (λ (text : List ℕ). item_json (i, said f) ++ text) (items_said (i + 1) fs)
+module _ {S : Type 0} {added : S → List ℕ → S → Type 0} {A : Type 0} {a b : S} where
+  -- what is added of each finding is that of its value
+  pub lines_said : (line : Said → List ℕ) (fs : List (SaidFinding A))
+      → Adds added a (flat_map (λ f. line (said f)) fs) b
+      → Adds added a (flat_map line (map said fs)) b
+  lines_said line fs h = rw flat_map-map h
+
+  -- and of each finding with its index
+  pub rows_said : (item : ℕ × Said → List ℕ) (fs : List (SaidFinding A))
+      → Adds added a (flat_map (λ p. item (p.0, said p.1)) (enumerate_from 0 fs)) b
+      → Adds added a (flat_map item (enumerate_from 0 (map said fs))) b
+  rows_said item fs h = rw (enumerated 0 fs, flat_map-map) h
 
 pub same_list : {A : Type 0} {xs ys : List (SaidFinding A)} → xs ≡ ys
     → list_json (map said xs) ≡ list_json (map said ys)

@@ -5,7 +5,7 @@ ghost use Rattle.ps_report.specs.Reported.{said};
 ghost use Rattle.ps_report.specs.FindingLines.{finding_line, finding_lines, finding_words, first_line as first_line_spec};
 
 use crate::finding::SaidFinding;
-use ps_writing::TextWriter;
+use ps_writing::{TextWriter, add_each};
 use std::alloc::Allocator;
 
 /// A text up to its first line end.
@@ -40,14 +40,14 @@ fn add_finding_line<S: TextWriter, A: Allocator>(text: &mut S, finding: &SaidFin
 }
 
 /// Adds the line of each finding.
-#[tactic(auto, unfolding(crate::specs::FindingLines::finding_lines), using(std::proofs::lemmas::List::drop_more, ps_writing::proofs::Written::all_written, ps_writing::proofs::Written::items_left, ps_writing::proofs::Written::items_over, ps_writing::proofs::Written::some_more))]
+#[tactic(auto, unfolding(crate::specs::FindingLines::finding_lines), using(crate::proofs::Items::lines_said))]
 pub(crate) fn add_finding_lines<S: TextWriter, A: Allocator>(
     text: &mut S,
     findings: &[SaidFinding<'_, A>],
 )
     ensures { Adds S.added text.old (finding_lines (map said findings.now)) text.new }
 {
-    for finding in findings {
-        add_finding_line(text, finding);
-    }
+    add_each(text, findings, |text, finding| {
+        add_finding_line(text, finding)
+    });
 }

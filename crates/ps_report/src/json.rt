@@ -11,8 +11,8 @@ use crate::verdict::Verdict;
 use ps_linkfile::Summary;
 use ps_words::Name;
 use ps_writing::{
-    TextWriter, add_json_fault, add_json_text, add_name_or_null, add_number, add_number_or_null,
-    comma,
+    TextWriter, add_each_row, add_json_fault, add_json_text, add_name_or_null, add_number,
+    add_number_or_null, comma,
 };
 use std::alloc::Allocator;
 
@@ -71,13 +71,13 @@ fn add_item<S: TextWriter, A: Allocator>(text: &mut S, index: usize, finding: &S
 }
 
 /// Adds the items of findings.
-#[tactic(auto, using(std::proofs::lemmas::List::drop_more, ps_writing::proofs::Numbered::numbered_left, ps_writing::proofs::Numbered::numbered_over, ps_writing::proofs::Written::all_written, ps_writing::proofs::Written::some_more))]
+#[tactic(auto, using(crate::proofs::Items::rows_said))]
 fn add_items<S: TextWriter, A: Allocator>(text: &mut S, findings: &[SaidFinding<'_, A>])
     ensures { Adds S.added text.old (items_json (map said findings.now)) text.new }
 {
-    for (index, finding) in findings.iter().enumerate() {
-        add_item(text, index, finding);
-    }
+    add_each_row(text, findings, |text, index, finding| {
+        add_item(text, index, finding)
+    });
 }
 
 /// Adds the list of findings.

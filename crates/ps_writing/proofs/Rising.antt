@@ -1,7 +1,6 @@
 -- How the counts of a writer rise while bytes are written in pieces.
-use Rattle.ps_writing.proofs.Vocabulary.{min, Counts, WriteFault, NoneFailed, OneFailed, Rises, ◌≡◌, ◌≢◌, ℕ, ◌+◌, ◌-◌, ◌≤◌, ◌<◌, Bool, true, false, Result, Ok, Err, arith, ◌^◌, AreAtMost, AreBelow, HasRoom, IfDevice, IfStalled, OneError, OneStall, RisesByPieces, counts_after, one_more, saturated_after}
+use Rattle.ps_writing.proofs.Vocabulary.{min, Counts, NoneFailed, Rises, ◌≡◌, ◌≢◌, ℕ, ◌+◌, ◌-◌, ◌≤◌, ◌<◌, Bool, true, false, Result, Ok, Err, arith, ◌^◌, AreAtMost, AreBelow, HasRoom, RisesByPieces, counts_after, one_more, saturated_after}
 use Rattle.std.specs.declared.io.Error.{Error}
-use Rattle.ps_writing.specs.declared.write_fault.WriteFault.TheVariants.{Device, Stalled}
 
 -- a count that 64 bits can hold one more of rises by one
 one_more_is : (n : ℕ) → n < 18446744073709551615 → one_more n ≡ n + 1
@@ -38,19 +37,11 @@ room_left : (needed : Bool) (old new : Counts) (n made left : ℕ) → HasRoom n
 room_left true old new n made left room writes shorts none le = grind arith
 room_left false old new n made left room writes shorts none le = tt
 
--- while some of the bytes are left, there is room for one write more
-pub room_here : (needed : Bool) (old mid : Counts) (size i : ℕ) → HasRoom needed old size
-    → Progress old mid size i → i < size → HasRoom needed mid 1
-room_here needed old mid size i room h lt = grind (arith, room_left)
-
 -- after some pieces there is room for those that are left
 pub room_then : (needed : Bool) (old new : Counts) (n size pieces left : ℕ)
     → HasRoom needed old n → Rises old new size pieces → NoneFailed old new
     → size + left ≤ n → HasRoom needed new left
 room_then needed old new n size pieces left room h none le = grind (arith, room_left)
-
-pub rises_none : (c : Counts) → Rises c c 0 0
-rises_none c = grind arith
 
 -- some pieces, and then more, of a file that has still more
 pub rises_then : (a b c : Counts) (m x n y size pieces : ℕ) → Rises a b m x
@@ -58,17 +49,6 @@ pub rises_then : (a b c : Counts) (m x n y size pieces : ℕ) → Rises a b m x
 rises_then a b c m x n y size pieces h k le few = grind arith
 
 -- a writer with small counts can count what is written of a file
-module _ (old new : Counts) (small : AreAtMost old 4294967296) where
-  pub by_pieces : (size pieces : ℕ) → size ≤ 4294967296 → Rises old new size pieces
-      → RisesByPieces old new pieces
-  by_pieces size pieces le h = h.by_pieces (omega (arith, small.shorts))
-
-  pub if_device : (fault : WriteFault) → OneFailed fault old new
-      → IfDevice fault (OneError old new)
-  if_device (Device error) h = grind arith
-  if_device Stalled h = tt
-
-  pub if_stalled : (fault : WriteFault) → OneFailed fault old new
-      → IfStalled fault (OneStall old new)
-  if_stalled (Device error) h = tt
-  if_stalled Stalled h = grind arith
+pub by_pieces : (old new : Counts) → AreAtMost old 4294967296 → (size pieces : ℕ)
+    → size ≤ 4294967296 → Rises old new size pieces → RisesByPieces old new pieces
+by_pieces old new small size pieces le h = h.by_pieces (omega (arith, small.shorts))

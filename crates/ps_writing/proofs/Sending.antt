@@ -2,8 +2,8 @@
 use Rattle.std.proofs.Common.{arith, ◌≡◌, ℕ, List, [], ◌++◌, true, false, Option, Some, None, append_assoc, append-nil, sym}
 use Rattle.ps_writing.proofs.Vocabulary.{is_some, Appends, AppendsPrefix, WriteFault}
 use Rattle.std.proofs.lemmas.Bool.{false≢true}
-use Rattle.ps_writing.specs.Adding.{IsSent, IsKept}
-use Rattle.ps_writing.proofs.Prefixes.{appends_none, appends_twice, prefix_last, prefix_then}
+use Rattle.ps_writing.specs.Adding.{IsSent}
+use Rattle.ps_writing.proofs.Prefixes.{appends_twice, prefix_last, prefix_then}
 
 -- some of what was gathered and of these bytes was sent, and the rest is gathered
 abbrev pub Sends : Option (List ℕ) → Option (List ℕ) → List ℕ → List ℕ → List ℕ
@@ -55,26 +55,3 @@ pub sent_no_more : (first now : Option (List ℕ)) (text gathered bytes : List �
     → IsSent first (text ++ bytes) now gathered fault
 sent_no_more first now text gathered bytes None e h = absurd (false≢true e)
 sent_no_more first now text gathered bytes (Some fault) e h = prefix_then first now text bytes h
-
--- where no write has failed, what is gathered and sent is all
-module _ (old new : Option (List ℕ)) (gathered bytes rest : List ℕ) where
-  pub sent_now : (fault : Option WriteFault) → is_some fault ≡ false
-      → Sends old new gathered bytes rest → IsSent old (gathered ++ bytes) new rest fault
-  sent_now None e h = h
-  sent_now (Some fault) e h = absurd (false≢true (sym e))
-
-  -- where nothing is sent, all is gathered
-  pub sends_none : new ≡ old → rest ≡ gathered ++ bytes → Sends old new gathered bytes rest
-  sends_none same e = rw same ([], appends_none old, e)
-
--- where memory was refused, what is added is not kept
-pub kept_no_more : {E : Type 0} (first text now bytes : List ℕ) (error : Option E) → is_some
-    error ≡ true → IsKept first text now error → IsKept first (text ++ bytes) now error
-kept_no_more {E} first text now bytes None e h = absurd (false≢true e)
-kept_no_more {E} first text now bytes (Some error) e h = tt
-
--- where none was, it is
-pub kept_more : {E : Type 0} (first text now bytes new : List ℕ) (error : Option E)
-    → is_some error ≡ false → new ≡ now ++ bytes → IsKept first text now error
-    → IsKept first (text ++ bytes) new error
-kept_more first text now bytes new error h1 h2 h3 = grind (arith, append_assoc, false≢true)

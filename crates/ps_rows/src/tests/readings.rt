@@ -99,7 +99,7 @@ fn add_segment(line: &mut Line, slot: u8, read: &SlotReading) {
                 line.word(" from")
             }
             Err(Absent::Missing) => line.word(" has no library"),
-            Err(Absent::NoSlot) => line.word(" has no slot"),
+            Err(Absent::Unplaced) => line.word(" has no slot"),
             Err(Absent::NotLookedFor) => line.word(" is not looked for"),
         }
         add_source(line, read.source);

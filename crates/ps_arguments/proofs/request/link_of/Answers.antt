@@ -11,8 +11,8 @@ returns-clause-named g c = (
         at c.in_ok-out.ensures.named;
     outputs = c.outputs_of.ensures.named;
     no_library = c.in_ok-check_out.ensures.other;
-    no_host = rw c.outputs_of.ensures.named.named at c.in_ok-check_host.ensures.apart;
-    apart = rw (c.outputs_of.ensures.named.map_file, c.outputs_of.ensures.named.content)
+    no_host = rw c.outputs_of.ensures.named.options at c.in_ok-check_host.ensures.apart;
+    apart = rw (c.outputs_of.ensures.named.map_file, c.outputs_of.ensures.named.options)
         at c.in_ok-check_map.ensures.apart;
   },
 )

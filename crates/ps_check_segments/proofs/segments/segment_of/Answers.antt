@@ -4,7 +4,7 @@ use Rattle.ps_resolve.specs.Sources.{Segment}
 use Rattle.ps_check_segments.specs.Seen.{Seen}
 use Rattle.ps_check_segments.specs.SegmentParts.{added_by}
 use Rattle.ps_check_segments.specs.SeenSegments.{seen_with, segments_in}
-use Rattle.ps_reading.specs.declared.slot_reading.Absent.TheVariants.{NoSlot}
+use Rattle.ps_reading.specs.declared.slot_reading.Absent.TheVariants.{Unplaced}
 use Rattle.ps_check_segments.specs.declared.segments.SegmentPart.{SegmentPart}
 use Rattle.ps_check_segments.proofs.segments.segment_of.Goals as goal
 
@@ -13,7 +13,7 @@ returns-then-is_of_host c =
     let h = c.args.host.now in
     let u = c.args.unit.now in
     let found : Option Seen =
-    Some (seen_with None u.name (added_by (segments_in h) u.at) (Err NoSlot)) in
+    Some (seen_with None u.name (added_by (segments_in h) u.at) (Err Unplaced)) in
     sym (ap (λ (b : Bool). if b then None else found)
     (sym c.is_of_host.ensures ∙ c.if-is_of_host.true))
 
@@ -22,9 +22,9 @@ returns c =
     let h = c.args.host.now in
     let u = c.args.unit.now in
     let found : Option Seen =
-    Some (seen_with None u.name (added_by (segments_in h) u.at) (Err NoSlot)) in
+    Some (seen_with None u.name (added_by (segments_in h) u.at) (Err Unplaced)) in
     ap Some (c.without_entry.ensures
-    ∙ ap (λ (what : SegmentPart). seen_with None u.name what (Err NoSlot))
+    ∙ ap (λ (what : SegmentPart). seen_with None u.name what (Err Unplaced))
     (c.added_part-part.ensures
     ∙ ap (λ (segs : List Segment). added_by segs u.at) c.segments.ensures.all))
     ∙ sym (ap (λ (b : Bool). if b then None else found)

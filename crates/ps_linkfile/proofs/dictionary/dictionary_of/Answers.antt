@@ -2,9 +2,6 @@ use Rattle.ps_linkfile.proofs.Vocabulary.{length-replicate, ◌≡◌, ◌∙◌
 use Rattle.ps_linkfile.proofs.Whole.{part_len, all_pairs_len, stored_parts, dictionary_is}
 use Rattle.ps_linkfile.proofs.dictionary.dictionary_of.Goals as goal
 
-pub store-requires-2 : goal.store-requires-2
-store-requires-2 g c = grind arith
-
 pub store-requires-3 : goal.store-requires-3
 store-requires-3 g c =
     let tail_256 : length c.tail.result.now ≡ 256 =

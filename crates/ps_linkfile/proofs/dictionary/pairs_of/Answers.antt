@@ -1,16 +1,10 @@
 use Rattle.ps_linkfile.proofs.Vocabulary.{Segment, blocks, ◌≡◌, ◌+◌, ◌*◌, ◌<◌, ℕ, List, length, get_or, arith, rules}
 use Rattle.ps_linkfile.proofs.Pairs.{IsPut, pairs_none, pairs_more, pairs_done}
-use Rattle.ps_linkfile.proofs.Views.{here, size_at, many_starts, start_at}
+use Rattle.ps_linkfile.proofs.Views.{here, start_at}
 use Rattle.ps_linkfile.proofs.dictionary.pairs_of.Goals as goal
 
 pub loop-k-init : goal.loop-k-init
 loop-k-init c = (1, 0, pairs_none c.args.order c.args.sources.now c.requires.slots)
-
-pub bounds-starts-k : goal.bounds-starts-k
-bounds-starts-k c = grind (arith, many_starts)
-
-pub overflow_cast-code : goal.overflow_cast-code
-overflow_cast-code c = grind (arith, size_at)
 
 pub loop-k-preserved : goal.loop-k-preserved
 loop-k-preserved c =

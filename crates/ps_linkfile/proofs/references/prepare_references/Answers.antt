@@ -1,6 +1,6 @@
-use Rattle.ps_linkfile.proofs.Vocabulary.{arith, IsPlan, StoredIn, Planned, all_stored_in, all_stored_of, references_in, edited_segments, ◌≡◌, ◌∙◌, ◌++◌, ℕ, List, ap, contents, Json}
+use Rattle.ps_linkfile.proofs.Vocabulary.{IsPlan, StoredIn, Planned, all_stored_in, all_stored_of, references_in, edited_segments, ◌≡◌, ◌∙◌, ◌++◌, ℕ, List, ap, contents, Json}
 use Rattle.ps_linkfile.specs.MapText.{members_of}
-use Rattle.ps_linkfile.proofs.StoredPlaces.{as_plan, joined, all_stored_are}
+use Rattle.ps_linkfile.proofs.StoredPlaces.{joined, all_stored_are}
 use Rattle.ps_linkfile.proofs.Maps.{members_are}
 use Rattle.ps_linkfile.proofs.references.prepare_references.Goals as goal
 
@@ -10,9 +10,6 @@ stored : (host : List ℕ) (libs : List (List ℕ)) (p q : Planned) (ls : List S
     → ls ≡ all_stored_in q.order q.sources (edited_segments q.order q.sources)
     → ls ≡ all_stored_of host libs
 stored host libs p q ls plan same listed = listed ∙ all_stored_are host libs p q plan same
-
-pub stored_in_segments-requires-clause-plan : goal.stored_in_segments-requires-clause-plan
-stored_in_segments-requires-clause-plan g c = grind (arith, as_plan)
 
 pub returns-clause-text : goal.returns-clause-text
 returns-clause-text g c = joined _ _ _ _ _ c.in_ok-linked.ensures.map

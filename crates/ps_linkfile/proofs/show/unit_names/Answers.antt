@@ -1,6 +1,6 @@
 use Rattle.std.proofs.Common.{rules, refl, arith}
 use Rattle.ps_linkfile.specs.ShowText.{unit_names}
-use Rattle.ps_linkfile.proofs.Shows.{names_more, names_over, few_more}
+use Rattle.ps_linkfile.proofs.Shows.{names_more, few_more}
 use Rattle.ps_linkfile.proofs.show.unit_names.Goals as goal
 
 pub loop-slot-init : goal.loop-slot-init
@@ -9,6 +9,3 @@ loop-slot-init c = rw c.new-names.ensures (record { all = refl; few = omega arit
 
 pub loop-slot-preserved : goal.loop-slot-preserved
 loop-slot-preserved c = search (rules, names_more, few_more)
-
-pub returns : goal.returns
-returns c = grind (arith, names_over)

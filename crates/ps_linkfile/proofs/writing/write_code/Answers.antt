@@ -1,11 +1,8 @@
 use Rattle.ps_linkfile.proofs.Vocabulary.{min, range_with_len, blocks, patched_or_zero, ◌≡◌, ◌∙◌, ◌*◌, ◌+◌, ◌++◌, ◌-◌, ◌<◌, length, map, ap, refl, sym, arith}
 use Rattle.ps_writing.proofs.Prefixes.{appends_twice, prefix_more, on_err_always}
 use Rattle.ps_linkfile.proofs.Images.{image_is, image_split}
-use Rattle.ps_writing.proofs.Rising.{rises_then, room_then}
+use Rattle.ps_writing.proofs.Rising.{rises_then}
 use Rattle.ps_linkfile.proofs.writing.write_code.Goals as goal
-
-pub write_all-requires : goal.write_all-requires
-write_all-requires g c = grind (arith, room_then)
 
 pub loop-patcher-preserved : goal.loop-patcher-preserved
 loop-patcher-preserved g c =

@@ -1,24 +1,12 @@
-use Rattle.ps_linkfile.proofs.Vocabulary.{drop_all, length-map, arith}
-use Rattle.ps_writing.proofs.Prefixes.{appends_none, on_err_always}
+use Rattle.ps_linkfile.proofs.Vocabulary.{arith}
+use Rattle.ps_writing.proofs.Prefixes.{on_err_always}
 use Rattle.ps_linkfile.proofs.Codes.{edits_here, codes_more, codes_prefix}
 use Rattle.ps_linkfile.proofs.Views.{is_at}
-use Rattle.ps_linkfile.proofs.Rising.{blocks_done, blocks_more, blocks_none, blocks_room, blocks_stop}
+use Rattle.ps_linkfile.proofs.Rising.{blocks_more}
 use Rattle.ps_linkfile.proofs.writing.write_codes.Goals as goal
-
-pub loop-k-init : goal.loop-k-init
-loop-k-init g c = grind (arith, appends_none, blocks_none)
 
 pub write_code-requires-clause-edits : goal.write_code-requires-clause-edits
 write_code-requires-clause-edits g c = grind (arith, is_at, edits_here)
-
-pub write_code-requires-clause-room : goal.write_code-requires-clause-room
-write_code-requires-clause-room g c =
-    let at =
-    is_at _ _ _ _ _ _ c.sources-source-items.ensures.sources c.loop-k-test.true
-    c.source-item.is c.edits.ensures in
-    let (n, counts) = c.loop-k.invariant.counts in
-    rw c.code.ensures
-    (blocks_room _ _ n _ _ _ g.T.WriteCounter.needs_room at.here counts c.requires.room)
 
 pub returns-in_err-write_code-clause-prefix : goal.returns-in_err-write_code-clause-prefix
 returns-in_err-write_code-clause-prefix g c =
@@ -27,17 +15,6 @@ returns-in_err-write_code-clause-prefix g c =
     c.source-item.is c.edits.ensures in on_err_always c.from_residual.result
     (codes_prefix _ _ _ _ _ _ _ _ _ _ at c.loop-k.invariant.codes.1
     (rw (c.order.ensures, c.code.ensures) at c.in_err-write_code.ensures.prefix))
-
-pub returns-in_err-write_code-clause-writes : goal.returns-in_err-write_code-clause-writes
-returns-in_err-write_code-clause-writes g c =
-    let at =
-    is_at _ _ _ _ _ _ c.sources-source-items.ensures.sources c.loop-k-test.true
-    c.source-item.is c.edits.ensures in
-    blocks_stop _ _ _ _ _ _ _ at.here c.loop-k.invariant.counts.1
-    (rw c.code.ensures at c.write_code.ensures.writes)
-
-pub returns-clause-writes : goal.returns-clause-writes
-returns-clause-writes g c = grind (arith, length-map, blocks_done, drop_all)
 
 pub loop-k-preserved : goal.loop-k-preserved
 loop-k-preserved g c =

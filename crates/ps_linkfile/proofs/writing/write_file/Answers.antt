@@ -1,24 +1,15 @@
-use Rattle.ps_linkfile.proofs.Vocabulary.{on_err_weaker, on_ok_weaker, padded_codes, arith, length-append, dictionary}
-use Rattle.ps_writing.proofs.Prefixes.{appends_twice, prefix_last, prefix_then, on_err_always}
+use Rattle.ps_linkfile.proofs.Vocabulary.{on_err_weaker, padded_codes, arith, length-append, dictionary}
+use Rattle.ps_writing.proofs.Prefixes.{prefix_last, prefix_then, on_err_always}
 use Rattle.ps_linkfile.proofs.Codes.{codes_len}
-use Rattle.ps_writing.proofs.Rising.{rises_none, rises_then, room_then}
+use Rattle.ps_writing.proofs.Rising.{rises_then, room_then}
 use Rattle.ps_linkfile.proofs.Rising.{few_of_all}
 use Rattle.ps_linkfile.proofs.writing.write_file.Goals as goal
-
-pub write_all-requires : goal.write_all-requires
-write_all-requires g c = grind (arith, room_then, rises_none)
 
 pub write_codes-requires-clause-room : goal.write_codes-requires-clause-room
 write_codes-requires-clause-room g c = grind (arith, few_of_all, room_then)
 
 pub returns-in_err-write_all-clause-prefix : goal.returns-in_err-write_all-clause-prefix
 returns-in_err-write_all-clause-prefix g c = grind (arith, on_err_always, prefix_then)
-
-pub returns-in_err-write_all-clause-writes : goal.returns-in_err-write_all-clause-writes
-returns-in_err-write_all-clause-writes g c = grind (arith, length-append)
-
-pub returns-clause-all : goal.returns-clause-all
-returns-clause-all g c = grind (arith, on_ok_weaker, appends_twice)
 
 pub returns-clause-prefix : goal.returns-clause-prefix
 returns-clause-prefix g c =

@@ -4,9 +4,6 @@ use Rattle.ps_linkinfo.proofs.Stands.{IsReadingOf, reading_is}
 use Rattle.ps_linkinfo.proofs.Walks.{walked_first, walked_more, walked_all, walked_to_fault, walked_good}
 use Rattle.ps_linkinfo.proofs.reader.read_records.Goals as goal
 
-pub returns-in-Err-clause-memory : goal.returns-in-Err-clause-memory
-returns-in-Err-clause-memory g c = search arith
-
 pub loop-item-init : goal.loop-item-init
 loop-item-init g c = grind (arith, walked_first)
 

@@ -20,12 +20,13 @@ returns-clause-apart g c = found_apart g.R.CodeFiles.world _ _ _ _ c.write_linke
 
 pub returns-clause-printed : goal.returns-clause-printed
 returns-clause-printed g c =
-    let text : c.as_bytes.result.now ≡ summary_text c.args.asked.now.form c.summary.result
+    let text : c.as_bytes.result.now ≡ summary_text c.args.asked.now.options.form c.summary.result
     = search rules in
     let same = c.summary.ensures.value ∙ ap summary_in c.linked.ensures in (
       c.place_of-place.result,
       c.place_of-place.ensures,
-      rw (text ∙ ap (summary_text c.args.asked.now.form) same) at c.in_ok-print_at.ensures.printed,
+      rw (text ∙ ap (summary_text c.args.asked.now.options.form) same)
+          at c.in_ok-print_at.ensures.printed,
     )
 
 pub returns-clause-silent : goal.returns-clause-silent
@@ -63,10 +64,10 @@ pub returns-in_err-print_at-clause-prefix : goal.returns-in_err-print_at-clause-
 returns-in_err-print_at-clause-prefix g c =
     let told = err_from_is_err_and c.from_residual-in_err-print_at.result
     c.from_residual-in_err-print_at.ensures.1 in
-    let text : c.as_bytes.result.now ≡ summary_text c.args.asked.now.form c.summary.result
+    let text : c.as_bytes.result.now ≡ summary_text c.args.asked.now.options.form c.summary.result
     = search rules in
     let same = c.summary.ensures.value ∙ ap summary_in c.linked.ensures in
-    rw told.1 (λ _. rw (text ∙ ap (summary_text c.args.asked.now.form) same)
+    rw told.1 (λ _. rw (text ∙ ap (summary_text c.args.asked.now.options.form) same)
     at c.in_err-print_at.ensures.prefix)
 
 pub returns-in_err-print_at-clause-placed : goal.returns-in_err-print_at-clause-placed

@@ -4,4 +4,4 @@ pub returns-in-Nothing : goal.returns-in-Nothing
 returns-in-Nothing g c = c.in-Nothing.is
 
 pub returns-in-Summary : goal.returns-in-Summary
-returns-in-Summary g c = rw c.in-Summary.is c.place_of_summary.ensures
+returns-in-Summary g c = c.place_of_summary.ensures c.in-Summary.is

@@ -12,6 +12,3 @@ returns-clause-entries g c =
 
 pub returns-clause-once : goal.returns-clause-once
 returns-clause-once g c = search rules
-
-pub returns-then-is_doubled-clause-stop : goal.returns-then-is_doubled-clause-stop
-returns-then-is_doubled-clause-stop g c = search rules

@@ -1,6 +1,5 @@
-use Rattle.ps_resolve.proofs.Vocabulary.{◌≡◌, ◌+◌, [], ◌∷◌, List, map, Some, refl, sym, ◌∙◌, ap, arith, err_from_is_err_and, Edit, Order, Segment, host_of, definitions, Allotted, owner_of, all_words, AreSegments}
+use Rattle.ps_resolve.proofs.Vocabulary.{◌≡◌, [], ◌∷◌, List, map, Some, refl, sym, ◌∙◌, ap, arith, err_from_is_err_and, Edit, Order, Segment, host_of, definitions, Allotted, AreSegments}
 use Rattle.ps_resolve.specs.declared.host_segment.HostSegment.{HostSegment}
-use Rattle.ps_resolve.proofs.HostSegments.{of_hosts}
 use Rattle.ps_resolve.proofs.AllSegments.{slots_are}
 use Rattle.ps_resolve.proofs.LinkingFaults.{records_are, definitions_stop, privates_stop, words_are, allotment_is, size_stop, references_stop, none_stands, all_linked}
 use Rattle.ps_resolve.proofs.linking.link_segments.Goals as goal
@@ -24,9 +23,6 @@ pub returns-in_err-allotment-clause-stop : goal.returns-in_err-allotment-clause-
 returns-in_err-allotment-clause-stop g c =
     grind (arith, found_own, err_from_is_err_and, privates_stop)
 
-pub grown_data_size-requires : goal.grown_data_size-requires
-grown_data_size-requires g c = c.segments.invariant.own
-
 pub returns-in_err-size-clause-stop : goal.returns-in_err-size-clause-stop
 returns-in_err-size-clause-stop g c =
     let is = found_own c.segments.invariant in
@@ -40,24 +36,6 @@ returns-in_err-size-clause-stop g c =
           c.next-base.ensures a.found a.once c.words.ensures c.in_err-size.field-0.0
           c.in_err-size.ensures.stop,
     )
-
-pub edits_by-requires : goal.edits_by-requires
-edits_by-requires g c =
-    let known = c.segments.invariant in
-    let is = found_own known in
-    let ss : List Segment = c.segments.inside.items.now in
-    let end : c.in_ok-allotment.allotment.next_free
-    ≡ c.next-base.result + all_words (map owner_of ss) = grind arith in
-    let free = ap (λ (a : Allotted). a.next_free) c.allotment.view_is in
-    record {
-      linkable = record {
-        sound = known.sound;
-        room = omega (arith, end, free, c.allotment.ranges.1.0.1);
-        table = grind (arith, of_hosts);
-        alike = known.alike;
-      };
-      most = known.most;
-    }
 
 pub returns-in_err-edits-clause-stop : goal.returns-in_err-edits-clause-stop
 returns-in_err-edits-clause-stop g c =

@@ -3,9 +3,6 @@ use Rattle.ps_resolve.proofs.EarlierNames.{more_numbers, passed}
 use Rattle.ps_reading.proofs.NumberedRecords.{one, none}
 use Rattle.ps_resolve.proofs.namesakes.numbers_of.Goals as goal
 
-pub loop-record-init : goal.loop-record-init
-loop-record-init g c = grind arith
-
 pub loop-record-preserved-in-Continue-branch-2 : goal.loop-record-preserved-in-Continue-branch-2
 loop-record-preserved-in-Continue-branch-2 g c =
     let step = one c.loop-record.invariant c.in-Some.ensures.steps in

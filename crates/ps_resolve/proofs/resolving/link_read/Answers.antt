@@ -8,9 +8,6 @@ returns-in-Some-clause-stop g c =
     first_read c.args.host.now (contents c.args.libs.now) c.in-Some.fault
     (sym c.requires.first ∙ c.in-Some.is)
 
-pub link_whole-requires : goal.link_whole-requires
-link_whole-requires g c = c.requires.whole c.in-None.is
-
 pub returns-in-None : goal.returns-in-None
 returns-in-None g c =
     let host : List ℕ = c.args.host.now in

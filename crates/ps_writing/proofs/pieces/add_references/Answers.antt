@@ -1,10 +1,7 @@
 use Rattle.ps_writing.proofs.Vocabulary.{reference, PIECE_REFERENCES, ◌≡◌, ◌+◌, ◌*◌, ℕ, List, arith, sym}
 use Rattle.ps_writing.proofs.InPieces.{one_piece}
-use Rattle.ps_writing.proofs.Written.{none_yet, some_more}
+use Rattle.ps_writing.proofs.Written.{some_more}
 use Rattle.ps_writing.proofs.pieces.add_references.Goals as goal
-
-pub loop-index-init : goal.loop-index-init
-loop-index-init g c = grind (arith, some_more, none_yet)
 
 pub loop-index-preserved : goal.loop-index-preserved
 loop-index-preserved g c =

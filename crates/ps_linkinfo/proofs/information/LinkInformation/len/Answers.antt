@@ -1,5 +1,5 @@
 use Rattle.std.specs.Prelude.{◌+◌}
-use Rattle.ps_linkinfo.proofs.Vocabulary.{arith, ap, ℕ, List, [], ◌∷◌, ◌≡◌, length, numbered_records, refl, Record}
+use Rattle.ps_linkinfo.proofs.Vocabulary.{arith, ℕ, List, [], ◌∷◌, ◌≡◌, length, numbered_records, refl, Record}
 use Rattle.ps_linkinfo.proofs.Walks.{few}
 use Rattle.ps_linkinfo.proofs.information.LinkInformation.len.Goals as goal
 
@@ -12,6 +12,3 @@ loop-init c = grind (arith, numbered_len)
 
 pub overflow_add-len : goal.overflow_add-len
 overflow_add-len c = grind (arith, few)
-
-pub returns : goal.returns
-returns c = omega (arith, ap length c.in-None.ensures.steps.0, c.loop.invariant)

@@ -2,9 +2,6 @@ use Rattle.std.proofs.Common.{sym, arith}
 use Rattle.ps_linkinfo.proofs.AtIndex.{found, missing, passed}
 use Rattle.ps_linkinfo.proofs.information.LinkInformation.record.Goals as goal
 
-pub loop-other-init : goal.loop-other-init
-loop-other-init c = grind arith
-
 pub loop-other-preserved : goal.loop-other-preserved
 loop-other-preserved c = grind (arith, passed)
 

@@ -14,8 +14,5 @@ returns-clause-block c = λ k lt.
     (get_or c.store_all-self-inside.new.block k 0) c.self.invariant
     (c.copy_block-count.ensures.block k lt) (c.store_all-self-inside.ensures.block k lt))
 
-pub returns-clause-count : goal.returns-clause-count
-returns-clause-count c = search rules
-
 pub returns-clause-moves : goal.returns-clause-moves
 returns-clause-moves c = search rules

@@ -6,9 +6,6 @@ use Rattle.ps_resolve.proofs.NextRecords.{references_refused, record_stands, lis
 use Rattle.ps_resolve.proofs.references.records.add_each.Goals as goal
 use Rattle.ps_resolve.proofs.LookingBack.{words_before}
 
-pub loop-rec-init : goal.loop-rec-init
-loop-rec-init g c = grind arith
-
 pub overflow_add-next : goal.overflow_add-next
 overflow_add-next g c =
     let r = c.in-Some.record in

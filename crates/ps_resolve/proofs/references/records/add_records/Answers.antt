@@ -1,4 +1,4 @@
-use Rattle.ps_resolve.proofs.Vocabulary.{◌∙◌, [], sym, arith, append-nil, List, ap, err_from_is_err_and, units_in, publics_in, privates_in, references_in, is_reserved, Record, Segment, Known, HaveTargets}
+use Rattle.ps_resolve.proofs.Vocabulary.{◌∙◌, [], sym, arith, append-nil, List, ap, units_in, publics_in, privates_in, references_in, is_reserved, Record, Segment, Known, HaveTargets}
 use Rattle.ps_resolve.proofs.NextRecords.{no_links}
 use Rattle.ps_reading.proofs.SharedRecords.{of_shared}
 use Rattle.ps_resolve.proofs.KnownTargets.{no_references}
@@ -30,6 +30,3 @@ returns-then-shares_with g c =
     (ap privates_in is ∙ (sym c.privates-then-references-eq0.ensures
     ∙ c.if-privates-eq0-2.true)) in
     grind (arith, append-nil)
-
-pub returns-in_err-next-clause-stop : goal.returns-in_err-next-clause-stop
-returns-in_err-next-clause-stop g c = grind (arith, err_from_is_err_and)

@@ -1,7 +1,0 @@
-use Rattle.ps_writing.proofs.Written.{adds_none, ◌⨾◌}
-use Rattle.ps_linkfile.proofs.map.add_private.Goals as goal
-
-pub returns : goal.returns
-returns g c = c.begin_row.ensures
-    ⨾ (c.add_part.ensures ⨾ (c.add_part-2.ensures ⨾ (c.add_part-3.ensures ⨾ adds_none)))
-    ⨾ c.end_row.ensures

@@ -1,5 +1,0 @@
-use Rattle.std.proofs.Common.{rules}
-use Rattle.ps_resolve.proofs.plan.Plan.tail.Goals as goal
-
-pub returns : goal.returns
-returns g c = search rules
