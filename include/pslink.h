@@ -90,6 +90,7 @@ extern "C" {
 #define PSLINK_WRONG_NAMES 6u /* a name of a file is no UTF-8, and the text has names */
 
 /* What pslink_text makes: lines of text, each ended by a byte 10. */
+/* made by man/make_constants.py from crates/ps_c_texts/src/kinds.rt: the texts */
 #define PSLINK_MAP 0u        /* the map of the link: what it puts where */
 #define PSLINK_REFERENCES 1u /* that map, and then each place at which the link stores bytes */
 #define PSLINK_SHOW 2u       /* what files[0] has: its slots, and its link information */
@@ -99,23 +100,26 @@ extern "C" {
 #define PSLINK_LIST 4u       /* what each file has */
 #define PSLINK_UNITS 5u      /* that list, and after each file what is wrong with its units by
                                 themselves */
-#define PSLINK_FINDINGS 6u   /* what the report finds, one by one: lines of it, each of which
-                                begins with `warning: `, `note: ` or `harmless: `; nothing where it
-                                finds nothing */
+#define PSLINK_FINDINGS 6u   /* what the report finds, one by one: lines of it, each of which begins
+                                with `warning: `, `note: ` or `harmless: `; nothing where it finds
+                                nothing */
+/* end */
 
 /* Names of units, eight bytes each as the files have them, one after another: `size / 8` of them.
    There is none where files[0] is linked already, or where its list says that it is something else
    than a code file. */
-#define PSLINK_WANTED 7u /* those that the slots of the host want, by slot, and then those that a
+/* made by man/make_constants.py from crates/ps_c_texts/src/kinds.rt: the names of units */
+#define PSLINK_WANTED 7u /* the units that the slots of the host want, by slot, and then those that a
                             record requests, of the host or of a unit that was found, and no slot of
                             the host has, in the order of their requests, ten of these at most. They
                             are told as far as a link reads: a segment that cannot be read requests
                             none, and no unit is looked for after one that is missing. Each name is
                             there once, whether the libraries have the unit or not */
-#define PSLINK_HAD 8u    /* those of the units whose code files[0] has, by slot */
+#define PSLINK_HAD 8u    /* the units whose code files[0] has, by slot */
+/* end */
 
 /* PSLINK_MAP | PSLINK_JSON and so on: one JSON document in place of lines, as the program prints it
-   with --json. The names of units, PSLINK_WANTED and PSLINK_HAD, have none: that is PSLINK_MISUSE. */
+   with --json. Names of units have none: that is PSLINK_MISUSE. */
 #define PSLINK_JSON 256u
 
 /* What pslink_fault has of a fault. */
@@ -222,9 +226,9 @@ uint32_t pslink_link(const pslink_file *files, size_t count, void *out, size_t r
                      pslink_answer *answer);
 
 /*
- * Puts what the program prints of these files at the front of `out`, in the same way: `what` is
- * PSLINK_MAP to PSLINK_HAD, with | PSLINK_JSON or without. pslink(1) has the lines, docs/JSON.md the
- * documents. It is text without a closing 0, UTF-8 where names of files are in it. Its length is not
+ * Puts what the program prints of these files at the front of `out`, in the same way: `what` is the
+ * number of a text, as PSLINK_MAP, with | PSLINK_JSON or without. pslink(1) has the lines, docs/JSON.md
+ * the documents. It is text without a closing 0, UTF-8 where names of files are in it. Its length is not
  * bounded by a constant: call with `out` NULL, and then with a capacity of `answer.size`.
  *
  * `files`: as those of pslink_link. A list and units treat all files alike; a show and the names of

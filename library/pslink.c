@@ -1,6 +1,7 @@
 /* The functions of pslink.h over those that are proved, which write what is answered: lays files one after another, and refuses
  * misuse. */
 #include "faults.h"
+#include "kinds.h"
 #include "proved.h"
 
 #include <stdlib.h>
@@ -130,9 +131,9 @@ uint32_t pslink_text(uint32_t what, const pslink_file *files, size_t count, void
     uint32_t status;
 
     /* (a text that there is not is no want of memory) */
-    if (lines > PSLINK_FINDINGS && what > PSLINK_HAD)
+    if (lines >= sizeof kinds / sizeof *kinds || !(lines == what ? kinds[lines].is_there : kinds[lines].has_document))
         return bare(PSLINK_MISUSE, answer);
-    status = lay(files, count, PSLINK_CHECK <= lines && lines <= PSLINK_FINDINGS, &laid, answer);
+    status = lay(files, count, kinds[lines].has_names, &laid, answer);
     if (status != PSLINK_DONE)
         return status;
     status = pslink_text_nonnull(what, FILES_OF(&laid), NAMES_OF(&laid), ROOM_OF(out, room), answer);

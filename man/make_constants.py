@@ -2,21 +2,26 @@
 """Writes the faults into include/pslink.h and bindings/rust/src/reason.rs, between the comment that names this script and the
 next one, from the variants of `Reason`, so that they have one home; the highest number of them into the comments of reason.rs and
 into docs/json-schema.json; library/faults.h and web/pslink.mjs, which have the name of each with the sentences that `pslink check` prints; the
-numbers of the texts into web/pslink.mjs; and the release of CHANGES.md into the header and the bindings.
+texts of `kinds.rt` into include/pslink.h, each with what is said of it there, library/kinds.h, web/pslink.mjs and the Python package; and the
+release of CHANGES.md into the header and the bindings.
 Usage: make_constants.py [FOLDER], which is the files' own if none is given."""
 import pathlib
 import re
 import sys
+import textwrap
+from typing import NamedTuple
 
 import release
 from make_fault_table import ROOT, numbers, sentences
 
-SOURCE = ROOT / "crates/ps_words/src/fault.rt"
-KINDS = ROOT / "crates/ps_c_texts/src/kinds.rt"
+FAULTS_FROM = "crates/ps_words/src/fault.rt"
+KINDS_FROM = "crates/ps_c_texts/src/kinds.rt"
+SOURCE, KINDS = ROOT / FAULTS_FROM, ROOT / KINDS_FROM
 HEADER = ROOT / "include/pslink.h"
 REASONS = ROOT / "bindings/rust/src/reason.rs"
 SCHEMA = ROOT / "docs/json-schema.json"
-TEXTS = ROOT / "library/faults.h"
+SAID = ROOT / "library/faults.h"
+TABLE = ROOT / "library/kinds.h"
 SCRIPT = ROOT / "web/pslink.mjs"
 RUST, PYTHON = ROOT / "bindings/rust/src/lib.rs", ROOT / "bindings/python/pslink/__init__.py"
 PACKAGE = ROOT / "bindings/rust/Cargo.toml"
@@ -65,6 +70,62 @@ def said(begin, end):
     return [begin + f",\n{' ' * len(begin)}".join(f'"{text}"' for text in row) + end for row in rows]
 
 
+class Kind(NamedTuple):
+    """A text of pslink_text: its name, its number, what is said of it, the command that prints it, and what the source makes of it."""
+
+    name: str
+    number: str
+    words: str
+    command: str
+    made: str
+
+    @property
+    def constant(self):
+        return f"PSLINK_{self.name}"
+
+
+def kinds(function):
+    """The texts that a function of the source gives by their numbers, in their order: `kind_in` those that have a document, `text_kind`
+    names of units."""
+    source = KINDS.read_text()
+    body = re.search(rf"(?s)fn {function}\(.*?\n\}}", source)[0]
+    made = dict(re.findall(r"^ +TEXT_(\w+) => Some\((.*)\),$", body, re.M))
+    found = []
+    for comment, name, number in re.findall(r"((?:^///.*\n)+)^pub const TEXT_(\w+): u32 = (\d+);", source, re.M):
+        if name in made:
+            said = re.sub(r"(?m)^///(?: |$)", "", comment)
+            words, _, command = said.partition("\n\n")
+            words = " ".join(words.split()).removesuffix(".")
+            printed = re.fullmatch(r"The command `(.*)` prints it\.\n", command)
+            found.append(Kind(name, number, words[0].lower() + words[1:], printed[1] if printed else "", made[name]))
+    return found
+
+
+TEXTS, NAMES = kinds("kind_in"), kinds("text_kind")
+
+
+def defined(kinds):
+    """Texts as C has them, in one column, each with what is said of it in lines of at most 102 characters."""
+    lines = [f"#define {kind.constant} {kind.number}u" for kind in kinds]
+    width = max(map(len, lines))
+    for line, kind in zip(lines, kinds):
+        # (what is between marks stays whole)
+        words = re.sub(r"`[^`]*`", lambda quoted: quoted[0].replace(" ", "\0"), kind.words)
+        said = textwrap.wrap(words + "\0*/", 102 - width - 4, break_long_words=False, break_on_hyphens=False)
+        yield f"{line:{width}} /* " + f"\n{' ' * (width + 4)}".join(said).replace("\0", " ") + "\n"
+
+
+def table():
+    """What pslink_text knows of the texts, as C has it."""
+    yield f"/* made by man/make_constants.py from {KINDS_FROM}: of each text by its number, whether it has a document, and whether files\n"
+    yield " * have names in it */\n#include <pslink.h>\n\n"
+    yield "static const struct {\n    unsigned char is_there, has_document, has_names;\n} kinds[] = {\n"
+    for kind in TEXTS + NAMES:
+        has_names = kind.made.startswith("TextKind::Named(")
+        yield f"    [{kind.constant}] = {{1, {int(kind in TEXTS)}, {int(has_names)}}},\n"
+    yield "};\n"
+
+
 def texts():
     """What the library says of faults and of statuses, as C has it."""
     rows = said("    {", "},\n")
@@ -77,10 +138,13 @@ def texts():
     yield "};\n"
 
 
-def between(file, lines):
-    """The file with these lines between the comment that names this script and the next one."""
-    pattern = r"(make_constants\.py from crates/ps_words/src/fault\.rt(?: \*/)?\n).*?(^ *(?:/\*|//) end)"
-    return re.sub(pattern, lambda match: match[1] + lines + match[2], file.read_text(), flags=re.M | re.S)
+def between(text, source, lines):
+    """The text of a file with these lines between the comment that names this script, with what it makes them from, and the next one."""
+    pattern = rf"(make_constants\.py from {re.escape(source)}(?: \*/)?\n).*?(^ *(?:/\*|//) end)"
+    text, count = re.subn(pattern, lambda match: match[1] + "".join(lines) + match[2], text, flags=re.M | re.S)
+    if count != 1:
+        raise ValueError(f"{count} places are made from {source}")
+    return text
 
 
 def with_highest(file, text):
@@ -92,11 +156,35 @@ def with_highest(file, text):
     return text
 
 
-def with_texts(text):
-    """The script with the texts by the numbers that the source has."""
-    numbers = re.findall(r"^pub const TEXT_(\w+): u32 = (\d+);", KINDS.read_text(), re.M)
-    listed = ", ".join(f"{name.lower()}: {number}" for name, number in numbers)
-    return re.sub(r"(TEXTS = Object\.freeze\(\{\n  __proto__: null,\n  ).*", rf"\g<1>{listed},", text)
+def header():
+    """The header, with the faults and the texts."""
+    text = between(HEADER.read_text(), FAULTS_FROM, constants())
+    text = between(text, f"{KINDS_FROM}: the texts", defined(TEXTS))
+    return between(text, f"{KINDS_FROM}: the names of units", defined(NAMES))
+
+
+def replaced(text, *places):
+    """The text with what each place has, by what stands around it."""
+    for pattern, value in places:
+        text, count = re.subn(pattern, lambda match: match[1] + value + match[2], text, flags=re.M)
+        if count != 1:
+            raise ValueError(f"there are {count} places of: {pattern}")
+    return text
+
+
+def script():
+    """The module in JavaScript, with the faults, and with the texts by their numbers."""
+    listed = ", ".join(f"{kind.name.lower()}: {kind.number}" for kind in TEXTS + NAMES)
+    of_names = ", ".join(f'"{kind.name.lower()}"' for kind in NAMES)
+    text = between(SCRIPT.read_text(), FAULTS_FROM, said("  [", "],\n"))
+    return replaced(text, (r"(TEXTS = Object\.freeze\(\{\n  __proto__: null,\n  ).*(,$)", listed), (r"^(const OF_NAMES = .*\[).*(\])", of_names))
+
+
+def package():
+    """The module in Python, with the texts by their numbers."""
+    words = ", ".join(f'"{kind.name.lower()}"' for kind in TEXTS)
+    listed = ", ".join(f'"{kind.name.lower()}": {kind.number}' for kind in TEXTS)
+    return replaced(PYTHON.read_text(), (r"^(Text = Literal\[).*(\])", words), (r"^(_TEXTS = \{).*(\})", listed))
 
 
 def with_release(file, text):
@@ -110,12 +198,14 @@ def with_release(file, text):
 
 def made():
     """Each file, as this script writes it."""
-    yield HEADER, with_release(HEADER, between(HEADER, constants()))
-    yield from ((file, with_release(file, file.read_text())) for file in (PYTHON, PACKAGE, RUST))
-    yield REASONS, with_highest(REASONS, between(REASONS, "".join(variants())))
+    yield HEADER, with_release(HEADER, header())
+    yield PYTHON, with_release(PYTHON, package())
+    yield from ((file, with_release(file, file.read_text())) for file in (PACKAGE, RUST))
+    yield REASONS, with_highest(REASONS, between(REASONS.read_text(), FAULTS_FROM, variants()))
     yield SCHEMA, with_highest(SCHEMA, SCHEMA.read_text())
-    yield TEXTS, "".join(texts())
-    yield SCRIPT, with_texts(between(SCRIPT, "".join(said("  [", "],\n"))))
+    yield SAID, "".join(texts())
+    yield TABLE, "".join(table())
+    yield SCRIPT, script()
 
 
 def main():

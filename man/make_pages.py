@@ -1,13 +1,14 @@
 #!/usr/bin/env python3
-"""Writes man/pslink.5 from docs/FORMAT.md, and the parts of man/pslink.1 that lie between a line '.\\" made from ..' and a
-line '.\\" end' from docs/OUTPUT.md, docs/LINKING.md, docs/USING.md and the sentences of check, so that each fact has one home; and
-into the head of each page the release of CHANGES.md and its day.
+"""Writes man/pslink.5 from docs/FORMAT.md, and the parts of man/pslink.1 and man/pslink.3 that lie between a line '.\\" made from ..'
+and a line '.\\" end' from docs/OUTPUT.md, docs/LINKING.md, docs/USING.md, the sentences of check, and the texts of the library, so that
+each fact has one home; and into the head of each page the release of CHANGES.md and its day.
 Usage: make_pages.py [FOLDER], which is man/ if none is given."""
 import pathlib
 import re
 import sys
 import textwrap
 
+import make_constants
 import make_fault_table
 import release
 
@@ -194,6 +195,14 @@ def warnings():
         yield from lines_of(meaning)
 
 
+def constants(kinds):
+    """What pslink_text makes, by its constants: what is said of each, and the command that prints it."""
+    for kind in kinds:
+        yield ".TP"
+        yield f".B {kind.constant}"
+        yield from lines_of(f"{kind.words}; the command `{kind.command}`" if kind.command else kind.words)
+
+
 PARTS = {
     "the warnings": warnings,
     "the texts": texts,
@@ -202,6 +211,8 @@ PARTS = {
     "the order of faults": order,
     "damaged files": damage,
     "the limits": lambda: table(LINKING.tables("Limits")[0]),
+    "the texts of the library": lambda: constants(make_constants.TEXTS),
+    "the names of units": lambda: constants(make_constants.NAMES),
 }
 
 
@@ -223,7 +234,7 @@ def main():
     folder = pathlib.Path(sys.argv[1]) if len(sys.argv) > 1 else HERE
     pages = {
         "pslink.1": with_parts((HERE / "pslink.1").read_text()),
-        "pslink.3": (HERE / "pslink.3").read_text(),
+        "pslink.3": with_parts((HERE / "pslink.3").read_text()),
         "pslink.5": HEAD + "\n".join(page((DOCS / "FORMAT.md").read_text().splitlines()[1:])) + "\n" + FOOT,
     }
     for name, manual in pages.items():

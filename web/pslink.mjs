@@ -62,6 +62,9 @@ export const TEXTS = Object.freeze({
   map: 0, references: 1, show: 2, check: 3, list: 4, units: 5, findings: 6, wanted: 7, had: 8,
 });
 
+// those that are names of units
+const OF_NAMES = /** @type {const} */ (["wanted", "had"]);
+
 /** The statuses by their numbers in pslink.h, and "trapped", which has none there. */
 export const STATUSES = Object.freeze({
   0: "done", 1: "refused", 2: "misuse", 4: "no memory", 5: "too small", 6: "wrong names", trapped: "trapped",
@@ -257,7 +260,7 @@ class Linker {
 
   /**
    * The names of the units that a host wants, or that the first file has.
-   * @param {"wanted" | "had"} kind
+   * @param {typeof OF_NAMES[number]} kind
    * @param {CodeFile[]} files the host, and then the libraries
    * @returns {Promise<Result>} with `bytes` and `names`
    */
@@ -454,7 +457,7 @@ function nameOf(name, k) {
 
 const partOf = (number) => number < 0 ? null : number;
 
-const isOfNames = (kind) => kind === "wanted" || kind === "had";
+const isOfNames = (kind) => OF_NAMES.includes(kind);
 
 /** Bytes as characters, one for each. */
 const characters = (bytes) => String.fromCharCode(...bytes);

@@ -7,6 +7,7 @@ use clap::ArgMatches;
 use std::alloc::{AllocError, Allocator};
 
 /// The flag of this name is given.
+#[tactic(auto, using(crate::proofs::ByRows::by_rows))]
 pub(crate) fn has_flag(found: &ArgMatches<'_>, name: &str) -> bool
     ensures { result ≡ has_flag_spec name.now (rows_of (found_of found.now)) }
 {
@@ -17,6 +18,7 @@ pub(crate) fn has_flag(found: &ArgMatches<'_>, name: &str) -> bool
 }
 
 /// An argument of this name is given.
+#[tactic(auto, using(crate::proofs::ByRows::by_rows))]
 pub(crate) fn is_given(found: &ArgMatches<'_>, name: &str) -> bool
     ensures { result ≡ is_some (first_of name.now (rows_of (found_of found.now))) }
 {
@@ -24,6 +26,7 @@ pub(crate) fn is_given(found: &ArgMatches<'_>, name: &str) -> bool
 }
 
 /// The value that is given for an argument, if there is one.
+#[tactic(auto, using(crate::proofs::ByRows::by_rows))]
 pub(crate) fn value_of<'a>(found: &ArgMatches<'a>, name: &str) -> Option<&'a str>
     ensures { option_map (λ value. value.now) result
         ≡ first_of name.now (rows_of (found_of found.now)) }
@@ -32,6 +35,7 @@ pub(crate) fn value_of<'a>(found: &ArgMatches<'a>, name: &str) -> Option<&'a str
 }
 
 /// The paths that are given for an argument, in their order.
+#[tactic(auto, using(crate::proofs::ByRows::by_rows))]
 pub(crate) fn paths_of<'a, A: Allocator + Copy>(
     alloc: A,
     found: &ArgMatches<'a>,

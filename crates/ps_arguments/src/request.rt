@@ -337,6 +337,7 @@ fn check_map_file<F: SameFile, A: Allocator>(
 /// which is then none of them.
 // clap's `required_unless_present` would say when OUT has to be named. What its contracts say of
 // arguments that are accepted holds of commands without such a rule.
+#[tactic(auto, using(crate::proofs::ByRows::by_rows))]
 fn out_of<'a, A: Allocator>(
     heap: Global,
     found: &ArgMatches<'a>,
@@ -471,6 +472,7 @@ fn inputs_of<'a, A: Allocator + Copy>(
 }
 
 /// The path that is given for an argument.
+#[tactic(auto, using(crate::proofs::ByRows::by_rows))]
 fn file_of<'a>(heap: Global, found: &ArgMatches<'a>, argument: &str) -> Result<&'a str, UsageError>
     ensures named { IfOk result (λ path. first_of argument.now (rows_of (found_of found.now))
         ≡ Some path.now) }

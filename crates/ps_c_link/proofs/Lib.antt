@@ -1,4 +1,3 @@
-pub mod FirstName
 pub mod Indexes
 pub mod Refusals
 pub mod Summaries

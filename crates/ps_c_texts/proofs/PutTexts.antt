@@ -9,16 +9,17 @@ use Rattle.ps_linkfile.specs.declared.unmade.Unmade.{Unmade}
 use Rattle.ps_linkfile.specs.declared.unmade.Unmade.TheVariants.{Refused, Memory}
 use Rattle.ps_report.specs.Reported.{Reported}
 use Rattle.ps_report.specs.Reports.{IsReport, warnings_of_files}
-use Rattle.ps_report.specs.Verdicts.{check_status}
+use Rattle.ps_writing.specs.declared.rows.Form.{Form}
 use Rattle.ps_texts.specs.Kinds.{needs_names}
 use Rattle.ps_words.specs.FaultPlaces.{in_file}
 use Rattle.ps_words.specs.declared.fault.Fault.{Fault}
 use Rattle.ps_words.specs.declared.fault.Reason.TheVariants as reason
-use Rattle.ps_texts.specs.Texts.{IsMadeOf, bytes_in, status_in}
+use Rattle.ps_texts.specs.Texts.{IsMadeOf, bytes_in, report_bytes, report_status, status_in}
 use Rattle.ps_texts.specs.Unmade.{CanLackMemory, CanRefuseHost, IsRefusedFor, WhyUnmade}
 use Rattle.ps_texts.specs.declared.kinds.HostText.{HostText}
 use Rattle.ps_texts.specs.declared.kinds.HostText.TheVariants as of_host
 use Rattle.ps_texts.specs.declared.kinds.NamedText.TheVariants as of_named
+use Rattle.ps_texts.specs.declared.kinds.ReportText.{ReportText}
 use Rattle.ps_texts.specs.declared.kinds.TextKind.{TextKind}
 use Rattle.ps_texts.specs.declared.kinds.TextKind.TheVariants as kind
 use Rattle.ps_texts.specs.declared.texts.FilesText.{FilesText}
@@ -36,84 +37,80 @@ use Rattle.ps_c_link.specs.declared.libraries.TheConstants.{LIBRARIES_IN_PLACE}
 use Rattle.ps_c_link.specs.declared.outcome.Unput.{Unput}
 use Rattle.ps_c_link.specs.declared.outcome.Unput.TheVariants as unput
 use Rattle.ps_c_link.specs.declared.outcome.WrongInputs.TheVariants as wrong
-use Rattle.ps_c_texts.specs.Checks.{HasItsLengths, WhyUnnamed, report_bytes, told_report}
-use Rattle.ps_c_texts.specs.Kinds.{kind_of_report, report_text}
+use Rattle.ps_c_texts.specs.Checks.{HasItsLengths, WhyUnnamed, told_report}
+use Rattle.ps_c_texts.specs.Kinds.{report_text}
 use Rattle.ps_c_texts.specs.Printed.{HasInputs, HavePlaces, IsMade, IsPrinted, IsPut, IsTold, MayLackMemory, WhyBytesUnput, WhyUnprinted, WhyUnprintedBy, WhyUnput, is_of_host, no_paths}
-use Rattle.ps_c_texts.specs.declared.kinds.ReportText.{ReportText}
-use Rattle.ps_c_texts.specs.declared.kinds.ReportText.TheVariants as of_report
 
-no_report : (what : ReportText) → None ≡ Some what → ⊥
-no_report what e = true≢false (sym (ap (λ (o : Option ReportText). is_some o) e))
+no_report : (what : ReportText × Form) → None ≡ Some what → ⊥
+no_report what e =
+    true≢false (sym (ap (λ (o : Option (ReportText × Form)). is_some o) e))
 
 -- there may be no memory for a report
-pub report_lacks : (what : ReportText) (room : List ℕ) (names : List (List ℕ)) (host : List ℕ)
-    (libs : List (List ℕ))
-    → WhyUnput (kind_of_report what) room names host libs (unput.Unmade Memory)
+pub report_lacks : (what : ReportText) (form : Form) (room : List ℕ) (names : List (List ℕ))
+    (host : List ℕ) (libs : List (List ℕ))
+    → WhyUnput (kind.Named (of_named.OfReport what form)) room names host libs
+    (unput.Unmade Memory)
 unfolding WhyUnput
-report_lacks (of_report.Whole form) room names host libs = inl tt
-report_lacks (of_report.Findings form) room names host libs = inl tt
+report_lacks what form room names host libs = inl tt
 
 -- what is printed of a report that was put, and of one that was not
-module _ (what : ReportText) (names : List (List ℕ)) (host : List ℕ) (libs : List (List ℕ))
-    (r : Reported) (is : IsReport names host libs r) where
-  is_made : (text : ReportText) → IsMade (kind_of_report text) names host libs (report_bytes text r)
-  is_made (of_report.Whole form) = (
-    check_status false (warnings_of_files names host libs) r.verdict,
+module _ (what : ReportText) (form : Form) (names : List (List ℕ)) (host : List ℕ)
+    (libs : List (List ℕ)) (r : Reported) (is : IsReport names host libs r) where
+  is_made : IsMade (kind.Named (of_named.OfReport what form)) names host libs
+      (report_bytes what form r)
+  is_made = (
+    report_status what false (warnings_of_files names host libs) r.verdict,
     (r, is, refl, refl),
   )
-  is_made (of_report.Findings form) = (0, (refl, (r, is, refl)))
-
-  is_told : (text : ReportText) (d : Done)
-      → d ≡ told_report r (length (report_bytes text r))
-      → IsTold (report_text (kind_of_report text)) names host libs (report_bytes text r) d
-  is_told (of_report.Whole form) d told = (r, is, refl, told)
-  is_told (of_report.Findings form) d told = (r, is, refl, told)
 
   pub report_put : (old new : List ℕ) (size : ℕ) (d : Done)
-      → RoomBeginsWith (report_bytes what r) old new
-      → size ≡ length (report_bytes what r) → d ≡ told_report r size
-      → IsPut (kind_of_report what) names host libs old new d
+      → RoomBeginsWith (report_bytes what form r) old new
+      → size ≡ length (report_bytes what form r) → d ≡ told_report r size
+      → IsPut (kind.Named (of_named.OfReport what form)) names host libs old new d
   unfolding IsPut
   report_put old new size d begins e told = (
-    report_bytes what r,
-    is_made what,
+    report_bytes what form r,
+    is_made,
     begins,
-    is_told what d (told ∙ ap (λ (n : ℕ). told_report r n) e),
+    (r, is, refl, told ∙ ap (λ (n : ℕ). told_report r n) e),
   )
 
   pub report_unput : (room : List ℕ) (why : Unput)
-      → WhyBytesUnput (report_bytes what r) room why
-      → WhyUnput (kind_of_report what) room names host libs why
+      → WhyBytesUnput (report_bytes what form r) room why
+      → WhyUnput (kind.Named (of_named.OfReport what form)) room names host libs why
   unfolding WhyUnput
   report_unput room (unput.Unmade (Refused refusal)) h = absurd h
-  report_unput room (unput.Unmade Memory) h = report_lacks what room names host libs
-  report_unput room (unput.TooSmall t) h = (report_bytes what r, is_made what, h)
+  report_unput room (unput.Unmade Memory) h = report_lacks what form room names host libs
+  report_unput room (unput.TooSmall t) h = (report_bytes what form r, is_made, h)
 
 -- a text that is made of a report
-is_report : (k : TextKind) (what : ReportText) → report_text k ≡ Some what
-    → k ≡ kind_of_report what
-is_report (kind.Named (of_named.Check found)) what e =
-    ap (λ (o : Option ReportText). kind_of_report (unwrap_or o what)) e
-is_report (kind.Named (of_named.Findings found)) what e =
-    ap (λ (o : Option ReportText). kind_of_report (unwrap_or o what)) e
+is_report : (k : TextKind) (what : ReportText × Form) → report_text k ≡ Some what
+    → k ≡ kind.Named (of_named.OfReport what.0 what.1)
+is_report (kind.Named (of_named.OfReport found form)) what e =
+    ap (λ (o : Option (ReportText × Form)). kind.Named (of_named.OfReport
+    (unwrap_or o what).0 (unwrap_or o what).1)) e
 is_report (kind.Named (of_named.List how)) what e = absurd (no_report what e)
-is_report (kind.OfLink text found) what e = absurd (no_report what e)
+is_report (kind.OfLink text form) what e = absurd (no_report what e)
 is_report (kind.OfHost text) what e = absurd (no_report what e)
 is_report kind.Wanted what e = absurd (no_report what e)
 
-pub is_report_put : (k : TextKind) (what : ReportText) (names : List (List ℕ)) (host : List ℕ)
-    (libs : List (List ℕ)) (old new : List ℕ) (d : Done) → report_text k ≡ Some what
-    → IsPut (kind_of_report what) names host libs old new d
+pub is_report_put : (k : TextKind) (what : ReportText) (form : Form) (names : List (List ℕ))
+    (host : List ℕ) (libs : List (List ℕ)) (old new : List ℕ) (d : Done)
+    → report_text k ≡ Some (what, form)
+    → IsPut (kind.Named (of_named.OfReport what form)) names host libs old new d
     → IsPut k names host libs old new d
-is_report_put k what names host libs old new d e h =
-    subst (λ (t : TextKind). IsPut t names host libs old new d) (sym (is_report k what e)) h
+is_report_put k what form names host libs old new d e h =
+    subst (λ (t : TextKind). IsPut t names host libs old new d)
+    (sym (is_report k (what, form) e)) h
 
-pub is_report_unput : (k : TextKind) (what : ReportText) (room : List ℕ)
+pub is_report_unput : (k : TextKind) (what : ReportText) (form : Form) (room : List ℕ)
     (names : List (List ℕ)) (host : List ℕ) (libs : List (List ℕ)) (why : Unput)
-    → report_text k ≡ Some what → WhyUnput (kind_of_report what) room names host libs why
+    → report_text k ≡ Some (what, form)
+    → WhyUnput (kind.Named (of_named.OfReport what form)) room names host libs why
     → WhyUnput k room names host libs why
-is_report_unput k what room names host libs why e h =
-    subst (λ (t : TextKind). WhyUnput t room names host libs why) (sym (is_report k what e)) h
+is_report_unput k what form room names host libs why e h =
+    subst (λ (t : TextKind). WhyUnput t room names host libs why)
+    (sym (is_report k (what, form) e)) h
 
 -- a text that is not made of a report and was put, or was not
 module _ (k : TextKind) (names : List (List ℕ)) (host : List ℕ) (libs : List (List ℕ)) where
@@ -126,8 +123,8 @@ module _ (k : TextKind) (names : List (List ℕ)) (host : List ℕ) (libs : List
     bytes_in t,
     (status_in false t, made false),
     begins,
-    subst (λ (r : Option ReportText). IsTold r names host libs (bytes_in t) (done.Text size))
-        (sym none) (ap (λ (n : ℕ). done.Text n) e),
+    subst (λ (r : Option (ReportText × Form)). IsTold r names host libs (bytes_in t)
+        (done.Text size)) (sym none) (ap (λ (n : ℕ). done.Text n) e),
   )
 
   pub other_unput : {A : Type 0} (t : FilesText A) (room : List ℕ) (why : Unput)

@@ -1,6 +1,6 @@
 -- What a report tells of its files, and whether the names of files are right.
 use Rattle.std.specs.Prelude.{◌≡◌, ℕ, ◌+◌, ⊤, List, Option, length, sum}
-use Rattle.ps_report.specs.Reports.{IsReport, printed_findings, printed_report}
+use Rattle.ps_report.specs.Reports.{IsReport}
 use Rattle.ps_report.specs.Reported.{Reported, warning_count}
 use Rattle.ps_report.specs.declared.verdict.Verdict.{Verdict as ReportVerdict}
 use Rattle.ps_report.specs.declared.verdict.Verdict.TheVariants as report
@@ -13,8 +13,9 @@ use Rattle.ps_c_link.specs.declared.outcome.Unput.TheVariants as unput
 use Rattle.ps_c_link.specs.declared.outcome.Verdict.{Verdict}
 use Rattle.ps_c_link.specs.declared.outcome.Verdict.TheVariants as verdict
 use Rattle.ps_c_link.specs.declared.outcome.WrongInputs.TheVariants as wrong
-use Rattle.ps_c_texts.specs.declared.kinds.ReportText.{ReportText}
-use Rattle.ps_c_texts.specs.declared.kinds.ReportText.TheVariants as of_report
+use Rattle.ps_texts.specs.Texts.{report_bytes}
+use Rattle.ps_texts.specs.declared.kinds.ReportText.{ReportText}
+use Rattle.ps_writing.specs.declared.rows.Form.{Form}
 
 -- what a link of files with this verdict comes to; a fault is about what has this name
 abbrev pub told_verdict : ReportVerdict → Option (List ℕ) → Verdict
@@ -26,16 +27,11 @@ abbrev pub told_report : Reported → ℕ → Done
 told_report r size =
     done.Report (told_verdict r.verdict r.name) (warning_count r.findings) size
 
--- what is put of a report
-abbrev pub report_bytes : ReportText → Reported → List ℕ
-report_bytes (of_report.Whole form) r = printed_report form r
-report_bytes (of_report.Findings form) r = printed_findings form r
-
 -- The text is this of a report of these files, and what is told of it is what this report says.
-abbrev pub IsToldReport : ReportText → List (List ℕ) → List ℕ → List (List ℕ) → List ℕ
+abbrev pub IsToldReport : ReportText → Form → List (List ℕ) → List ℕ → List (List ℕ) → List ℕ
     → Done → Type 0
-IsToldReport what names host libs text d =
-    (r : Reported) × IsReport names host libs r × (text ≡ report_bytes what r)
+IsToldReport what form names host libs text d =
+    (r : Reported) × IsReport names host libs r × (text ≡ report_bytes what form r)
     × (d ≡ told_report r (length text))
 
 -- libraries and names add up to what is given, and there is one name for the host and one for each

@@ -7,10 +7,10 @@ use Rattle.ps_listing.specs.declared.lists.ListForm.TheVariants as list
 use Rattle.ps_texts.specs.declared.kinds.HostText.TheVariants as of_host
 use Rattle.ps_texts.specs.declared.kinds.LinkText.TheVariants as of_link
 use Rattle.ps_texts.specs.declared.kinds.NamedText.TheVariants as of_named
+use Rattle.ps_texts.specs.declared.kinds.ReportText.{ReportText}
+use Rattle.ps_texts.specs.declared.kinds.ReportText.TheVariants as of_report
 use Rattle.ps_texts.specs.declared.kinds.TextKind.{TextKind}
 use Rattle.ps_texts.specs.declared.kinds.TextKind.TheVariants as kind
-use Rattle.ps_c_texts.specs.declared.kinds.ReportText.{ReportText}
-use Rattle.ps_c_texts.specs.declared.kinds.ReportText.TheVariants as of_report
 use Rattle.ps_c_texts.specs.declared.kinds.TheConstants.{JSON, TEXT_CHECK, TEXT_FINDINGS, TEXT_HAD, TEXT_LIST, TEXT_MAP, TEXT_REFERENCES, TEXT_SHOW, TEXT_UNITS, TEXT_WANTED}
 
 -- how files are listed in this form
@@ -29,10 +29,10 @@ kind_in what how =
     if what == TEXT_MAP then Some (kind.OfLink of_link.Map how)
     else if what == TEXT_REFERENCES then Some (kind.OfLink of_link.References how)
     else if what == TEXT_SHOW then Some (kind.OfHost (of_host.Show how))
-    else if what == TEXT_CHECK then Some (kind.Named (of_named.Check how))
+    else if what == TEXT_CHECK then Some (kind.Named (of_named.OfReport of_report.Whole how))
     else if what == TEXT_LIST then Some (kind.Named (of_named.List (list_in how)))
     else if what == TEXT_UNITS then Some (kind.Named (of_named.List (units_in how)))
-    else if what == TEXT_FINDINGS then Some (kind.Named (of_named.Findings how))
+    else if what == TEXT_FINDINGS then Some (kind.Named (of_named.OfReport of_report.Findings how))
     else None
 
 -- the text of this number, to which `JSON` is added for a document
@@ -43,13 +43,7 @@ text_kind what =
     else if nat_lt what JSON then kind_in what form.Lines
     else kind_in (what - JSON) form.Json
 
--- what of a report a text is, where it is made of one
-abbrev pub report_text : TextKind → Option ReportText
-report_text (kind.Named (of_named.Check form)) = Some (of_report.Whole form)
-report_text (kind.Named (of_named.Findings form)) = Some (of_report.Findings form)
+-- what of a report a text is, and its form, where it is made of one
+abbrev pub report_text : TextKind → Option (ReportText × Form)
+report_text (kind.Named (of_named.OfReport what form)) = Some (what, form)
 report_text k = None
-
--- the text that is this of a report
-abbrev pub kind_of_report : ReportText → TextKind
-kind_of_report (of_report.Whole form) = kind.Named (of_named.Check form)
-kind_of_report (of_report.Findings form) = kind.Named (of_named.Findings form)

@@ -1,9 +1,11 @@
 -- What is put of files, as text, and why it is not.
 use Rattle.std.specs.Prelude.{◌≡◌, ℕ, ◌+◌, ◌≤◌, ◌⊎◌, ⊤, All, Bool, true, false, IsUtf8, List, [], ◌∷◌, Option, Some, None, length, sum}
 use Rattle.ps_linkfile.specs.declared.unmade.Unmade.TheVariants.{Refused, Memory}
+use Rattle.ps_writing.specs.declared.rows.Form.{Form}
 use Rattle.ps_texts.specs.Kinds.{needs_names}
 use Rattle.ps_texts.specs.Texts.{IsTextOf}
 use Rattle.ps_texts.specs.Unmade.{CanLackMemory, IsRefusedFor}
+use Rattle.ps_texts.specs.declared.kinds.ReportText.{ReportText}
 use Rattle.ps_texts.specs.declared.kinds.TextKind.{TextKind}
 use Rattle.ps_texts.specs.declared.kinds.TextKind.TheVariants as kind
 use Rattle.ps_c_link.specs.Libraries.{split}
@@ -19,7 +21,6 @@ use Rattle.ps_c_link.specs.declared.outcome.Unput.{Unput}
 use Rattle.ps_c_link.specs.declared.outcome.Unput.TheVariants as unput
 use Rattle.ps_c_texts.specs.Checks.{IsToldReport}
 use Rattle.ps_c_texts.specs.Kinds.{report_text}
-use Rattle.ps_c_texts.specs.declared.kinds.ReportText.{ReportText}
 
 -- the text is of the host's file alone, and no library is looked at
 abbrev pub is_of_host : TextKind → Bool
@@ -43,10 +44,10 @@ abbrev pub IsMade : TextKind → List (List ℕ) → List ℕ → List (List ℕ
 IsMade k names host libs text = (status : ℕ) × IsTextOf k false names host libs status text
 
 -- what is told of a text that was put: its length, and of one that is made of a report what that says
-abbrev pub IsTold : Option ReportText → List (List ℕ) → List ℕ → List (List ℕ) → List ℕ
-    → Done → Type 0
+abbrev pub IsTold : Option (ReportText × Form) → List (List ℕ) → List ℕ → List (List ℕ)
+    → List ℕ → Done → Type 0
 IsTold None names host libs text d = d ≡ done.Text (length text)
-IsTold (Some what) names host libs text d = IsToldReport what names host libs text d
+IsTold (Some (what, form)) names host libs text d = IsToldReport what form names host libs text d
 
 -- memory may be refused while the text is made, and once it is made, for its bytes
 abbrev pub MayLackMemory : TextKind → List (List ℕ) → List ℕ → List (List ℕ) → Type 0

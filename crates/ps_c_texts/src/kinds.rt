@@ -1,47 +1,57 @@
-//! The texts that there are, by their numbers.
+//! The texts that there are, by their numbers. The comments on the numbers are those of
+//! `include/pslink.h` and of pslink(3) too, which `man/make_constants.py` and `man/make_pages.py` write.
 ghost use Rattle.std.specs.Prelude.{◌≡◌};
 ghost use Rattle.ps_c_texts.specs.Kinds.{kind_in as kind_in_spec, list_in as list_in_spec, report_text as report_text_spec, text_kind as text_kind_spec, units_in as units_in_spec};
 
-use ps_texts::{Form, HostText, LinkText, ListForm, NamedText, TextKind};
+use ps_texts::{Form, HostText, LinkText, ListForm, NamedText, ReportText, TextKind};
 
-/// The number of the map of a link.
+/// The map of the link: what it puts where.
+///
+/// The command `map` prints it.
 pub const TEXT_MAP: u32 = 0;
 
-/// The number of the map with its references.
+/// That map, and then each place at which the link stores bytes.
+///
+/// The command `map --references` prints it.
 pub const TEXT_REFERENCES: u32 = 1;
 
-/// The number of the text of what a code file has.
+/// What files[0] has: its slots, and its link information.
+///
+/// The command `show` prints it.
 pub const TEXT_SHOW: u32 = 2;
 
-/// The number of the report of a check.
+/// The report on the files, for a person: where each segment comes from, whether they are linked, what a
+/// fault means in these files and what to do about it, and what else is found.
+///
+/// The command `check` prints it.
 pub const TEXT_CHECK: u32 = 3;
 
-/// The number of the list of each file.
+/// What each file has.
+///
+/// The command `list` prints it.
 pub const TEXT_LIST: u32 = 4;
 
-/// The number of the list of each file with its units by themselves.
+/// That list, and after each file what is wrong with its units by themselves.
+///
+/// The command `check --unit` prints it.
 pub const TEXT_UNITS: u32 = 5;
 
-/// The number of what a report finds, one by one.
+/// What the report finds, one by one: lines of it, each of which begins with `warning: `, `note: ` or
+/// `harmless: `; nothing where it finds nothing.
 pub const TEXT_FINDINGS: u32 = 6;
 
-/// The number of the names of the units that a link wants from libraries.
+/// The units that the slots of the host want, by slot, and then those that a record requests, of the
+/// host or of a unit that was found, and no slot of the host has, in the order of their requests, ten of
+/// these at most. They are told as far as a link reads: a segment that cannot be read requests none, and
+/// no unit is looked for after one that is missing. Each name is there once, whether the libraries have
+/// the unit or not.
 pub const TEXT_WANTED: u32 = 7;
 
-/// The number of the names of the units whose code a file has.
+/// The units whose code files[0] has, by slot.
 pub const TEXT_HAD: u32 = 8;
 
 /// What is added to the number of a text whose form is a JSON document.
 pub const JSON: u32 = 256;
-
-/// A text that is made of a report on files, so that its answer has what the report says of them.
-#[derive(Clone, Copy)]
-pub enum ReportText {
-    /// The report.
-    Whole(Form),
-    /// What it finds, one by one.
-    Findings(Form),
-}
 
 /// How files are listed in this form.
 fn list_in(form: Form) -> ListForm
@@ -71,10 +81,10 @@ fn kind_in(what: u32, form: Form) -> Option<TextKind>
         TEXT_MAP => Some(TextKind::OfLink(LinkText::Map, form)),
         TEXT_REFERENCES => Some(TextKind::OfLink(LinkText::References, form)),
         TEXT_SHOW => Some(TextKind::OfHost(HostText::Show(form))),
-        TEXT_CHECK => Some(TextKind::Named(NamedText::Check(form))),
+        TEXT_CHECK => Some(TextKind::Named(NamedText::OfReport(ReportText::Whole, form))),
         TEXT_LIST => Some(TextKind::Named(NamedText::List(list_in(form)))),
         TEXT_UNITS => Some(TextKind::Named(NamedText::List(units_in(form)))),
-        TEXT_FINDINGS => Some(TextKind::Named(NamedText::Findings(form))),
+        TEXT_FINDINGS => Some(TextKind::Named(NamedText::OfReport(ReportText::Findings, form))),
         _ => None,
     }
 }
@@ -97,13 +107,13 @@ pub fn text_kind(what: u32) -> Option<TextKind>
     }
 }
 
-/// What of a report a text is, where it is made of one.
-pub(crate) fn report_text(kind: TextKind) -> Option<ReportText>
+/// What of a report a text is, and its form, where it is made of one, so that its answer has what the
+/// report says of the files.
+pub(crate) fn report_text(kind: TextKind) -> Option<(ReportText, Form)>
     ensures { result ≡ report_text_spec kind }
 {
     match kind {
-        TextKind::Named(NamedText::Check(form)) => Some(ReportText::Whole(form)),
-        TextKind::Named(NamedText::Findings(form)) => Some(ReportText::Findings(form)),
+        TextKind::Named(NamedText::OfReport(what, form)) => Some((what, form)),
         _ => None,
     }
 }

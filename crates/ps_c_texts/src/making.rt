@@ -5,15 +5,18 @@ ghost use Rattle.ps_report.specs.Reported.{reported};
 ghost use Rattle.ps_report.specs.Reports.{IsReport};
 ghost use Rattle.ps_texts.specs.Paths.{paths_in};
 ghost use Rattle.ps_c_link.specs.Rooms.{RoomBeginsWith};
-ghost use Rattle.ps_c_texts.specs.Checks.{report_bytes, told_report, told_verdict as told_verdict_spec};
-ghost use Rattle.ps_c_texts.specs.Kinds.{kind_of_report, report_text as report_text_spec};
+ghost use Rattle.ps_texts.specs.Texts.{report_bytes};
+ghost use Rattle.ps_texts.specs.declared.kinds.NamedText.TheVariants.{OfReport};
+ghost use Rattle.ps_texts.specs.declared.kinds.TextKind.TheVariants.{Named};
+ghost use Rattle.ps_c_texts.specs.Checks.{told_report, told_verdict as told_verdict_spec};
+ghost use Rattle.ps_c_texts.specs.Kinds.{report_text as report_text_spec};
 ghost use Rattle.ps_c_texts.specs.Printed.{IsPut, WhyBytesUnput, WhyUnput};
 
-use crate::kinds::{ReportText, report_text};
+use crate::kinds::report_text;
 use crate::room::put;
 use ps_c_link::{Done, Unput, Verdict};
-use ps_report::{PrintedFindings, PrintedReport, Report, Verdict as ReportVerdict, check};
-use ps_texts::{Form, NamedFiles, Refusal, TextKind, Unmade, text_of};
+use ps_report::{Report, Verdict as ReportVerdict, check};
+use ps_texts::{Form, NamedFiles, PrintedOfReport, Refusal, ReportText, TextKind, Unmade, text_of};
 use ps_words::Name;
 use ps_writing::{Text, in_memory};
 use std::alloc::{AllocError, Allocator};
@@ -52,21 +55,22 @@ fn put_text<T: Text, A: Allocator + Copy>(
 fn put_printed<A: Allocator + Copy>(
     alloc: A,
     what: ReportText,
+    form: Form,
     report: &Report<'_, A>,
     room: &mut [u8],
 ) -> Result<usize, Unput>
-    ensures text { OnOk result (RoomBeginsWith (report_bytes what (reported report.now))
+    ensures text { OnOk result (RoomBeginsWith (report_bytes what form (reported report.now))
         room.old room.new) }
-    ensures size { IfOk result (λ size. size ≡ length (report_bytes what (reported report.now))) }
-    ensures unput { IfErr result (WhyBytesUnput (report_bytes what (reported report.now))
+    ensures size { IfOk result (λ size. size
+        ≡ length (report_bytes what form (reported report.now))) }
+    ensures unput { IfErr result (WhyBytesUnput (report_bytes what form (reported report.now))
         room.old) }
     ensures untouched { OnErr result (room.new ≡ room.old) }
 {
-    match what {
+    match (what, form) {
         // The lines are in memory.
-        ReportText::Whole(Form::Lines) => put_bytes(report.text.as_bytes(), room),
-        ReportText::Whole(form) => put_text(alloc, &PrintedReport { form, report }, room),
-        ReportText::Findings(form) => put_text(alloc, &PrintedFindings { form, report }, room),
+        (ReportText::Whole, Form::Lines) => put_bytes(report.text.as_bytes(), room),
+        _ => put_text(alloc, &PrintedOfReport { what, form, report }, room),
     }
 }
 
@@ -109,19 +113,20 @@ fn report_on<'a, A: Allocator + Copy>(
 fn put_told<A: Allocator + Copy>(
     alloc: A,
     what: ReportText,
+    form: Form,
     files: &NamedFiles<'_>,
     report: &Report<'_, A>,
     room: &mut [u8],
 ) -> Result<Done, Unput>
     requires { IsReport (paths_in files.now) files.now.host.now (contents files.now.libs.now)
         (reported report.now) }
-    ensures put { IfOk result (IsPut (kind_of_report what) (paths_in files.now) files.now.host.now
-        (contents files.now.libs.now) room.old room.new) }
-    ensures unput { IfErr result (WhyUnput (kind_of_report what) room.old (paths_in files.now)
-        files.now.host.now (contents files.now.libs.now)) }
+    ensures put { IfOk result (IsPut (Named (OfReport what form)) (paths_in files.now)
+        files.now.host.now (contents files.now.libs.now) room.old room.new) }
+    ensures unput { IfErr result (WhyUnput (Named (OfReport what form)) room.old
+        (paths_in files.now) files.now.host.now (contents files.now.libs.now)) }
     ensures untouched { OnErr result (room.new ≡ room.old) }
 {
-    match put_printed(alloc, what, report, room) {
+    match put_printed(alloc, what, form, report, room) {
         Ok(size) => Ok(told(report, size)),
         Err(why) => Err(why),
     }
@@ -133,17 +138,18 @@ fn put_told<A: Allocator + Copy>(
 fn put_report<A: Allocator + Copy>(
     alloc: A,
     what: ReportText,
+    form: Form,
     files: &NamedFiles<'_>,
     room: &mut [u8],
 ) -> Result<Done, Unput>
-    ensures put { IfOk result (IsPut (kind_of_report what) (paths_in files.now) files.now.host.now
-        (contents files.now.libs.now) room.old room.new) }
-    ensures unput { IfErr result (WhyUnput (kind_of_report what) room.old (paths_in files.now)
-        files.now.host.now (contents files.now.libs.now)) }
+    ensures put { IfOk result (IsPut (Named (OfReport what form)) (paths_in files.now)
+        files.now.host.now (contents files.now.libs.now) room.old room.new) }
+    ensures unput { IfErr result (WhyUnput (Named (OfReport what form)) room.old
+        (paths_in files.now) files.now.host.now (contents files.now.libs.now)) }
     ensures untouched { OnErr result (room.new ≡ room.old) }
 {
     match report_on(alloc, files) {
-        Ok(report) => put_told(alloc, what, files, &report, room),
+        Ok(report) => put_told(alloc, what, form, files, &report, room),
         Err(_) => Err(Unput::Unmade(Unmade::Memory)),
     }
 }
@@ -189,7 +195,7 @@ pub(crate) fn put_made<A: Allocator + Copy>(
     ensures untouched { OnErr result (room.new ≡ room.old) }
 {
     match report_text(kind) {
-        Some(what) => put_report(alloc, what, files, room),
+        Some((what, form)) => put_report(alloc, what, form, files, room),
         None => put_other(alloc, kind, files, room),
     }
 }

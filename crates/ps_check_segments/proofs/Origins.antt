@@ -4,10 +4,10 @@ use Rattle.std.specs.Prelude.{Bool, Option, Some, None, Result, Ok, Err, filter_
 use Rattle.std.specs.List.{cons_option, range_with_len}
 use Rattle.std.specs.Result.{is_ok}
 use Rattle.ps_words.specs.declared.fault.Reason.{Reason}
-use Rattle.ps_codefile.specs.Dictionary.{IsViewOf, OpenedFile, entry_at}
+use Rattle.ps_codefile.specs.Dictionary.{IsViewOf}
 use Rattle.ps_linkinfo.specs.declared.record.LinkRecord.{LinkRecord as Record}
 use Rattle.ps_check_segments.specs.Seen.{Seen, part_needs_linking}
-use Rattle.ps_check_segments.specs.SeenSegments.{origin_in, records_at, seen_with}
+use Rattle.ps_check_segments.specs.SeenSegments.{seen_with}
 use Rattle.ps_reading.specs.declared.slot_reading.Absent.{Absent}
 use Rattle.ps_check_segments.specs.declared.segments.SegmentPart.{SegmentPart}
 
@@ -40,39 +40,6 @@ pub ok_is : (r : Result (Bor (List ℕ)) Reason) (answer : Result (List ℕ) Rea
     → IsViewOf (λ code. code.now) r answer → is_ok r ≡ is_ok answer
 ok_is (Ok code) answer is = sym (ap is_ok is)
 ok_is (Err why) answer is = sym (ap is_ok is)
-
--- what is seen of a segment that comes from an entry of a file
-pub seen_there : (slot : ℕ) (name : List ℕ) (part : SegmentPart) (file index : ℕ)
-    (f : OpenedFile) (size : ℕ) (records : List Record)
-    → size ≡ (entry_at f.order f.file index).length
-    → records ≡ (if part_needs_linking part then records_at index f else [])
-    → ◌≡◌ {A = Seen} (record {
-      slot = Some slot;
-      name = name;
-      part = part;
-      origin = Ok (record { file = file; index = index; size = size });
-      file = Some file;
-      records = records;
-    }) (seen_with (Some slot) name part (origin_in file index (Ok f)))
-unfolding seen_with
-seen_there slot name part file index f size records long all =
-    ap (λ (n : ℕ). record {
-      slot = Some slot;
-      name = name;
-      part = part;
-      origin = Ok (record { file = file; index = index; size = n });
-      file = Some file;
-      records = records;
-    }) long
-    ∙ ap (λ (rs : List Record). record {
-      slot = Some slot;
-      name = name;
-      part = part;
-      origin = Ok (record
-          { file = file; index = index; size = (entry_at f.order f.file index).length });
-      file = Some file;
-      records = rs;
-    }) all
 
 -- what is seen in the slots from one on
 module _ (f : ℕ → Option Seen) (i n : ℕ) where

@@ -24,6 +24,7 @@ pub struct NamedFiles<'a> {
 
 impl<'a> NamedFiles<'a> {
     /// The path of a file; none where there is no such file.
+    #[tactic(auto, using(crate::proofs::Paths::path_past, crate::proofs::Paths::path_rest))]
     pub fn path(&self, file: usize) -> &'a str
         ensures { result.now
             ≡ path_of (self.now.host_path.now ∷ contents self.now.paths.now) file }
@@ -45,6 +46,7 @@ impl<'a> NamedFiles<'a> {
     }
 
     /// The bytes of a file; none where there is no such file.
+    #[tactic(auto, using(crate::proofs::Paths::path_past, crate::proofs::Paths::path_rest))]
     pub fn bytes(&self, file: usize) -> &'a [u8]
         ensures { result.now ≡ file_at self.now.host.now (contents self.now.libs.now) file }
     {

@@ -135,6 +135,7 @@ pub struct ReadSegment<'a> {
 /// How many bytes the records that can be read take.
 ///
 /// Source: the published II.0 Linker source.
+#[tactic(auto, using(crate::proofs::Lengths::numbered_use))]
 pub fn length_of(records: &LinkInformation<'_>) -> usize
     ensures { used_by records.now < 2 ^ 64 → result ≡ used_by records.now }
 {
@@ -258,7 +259,7 @@ fn segment_read<'a>(host: &HostReading<'a>, segment: &Segment<'a>) -> Option<Rea
 }
 
 /// A segment that comes from no entry.
-#[tactic(auto, unfolding(crate::specs::SeenSegments::seen_with))]
+#[tactic(auto, using(crate::proofs::Origins::seen_none))]
 fn without_entry<'a>(
     slot: Option<u8>,
     name: Name,
@@ -290,6 +291,7 @@ fn records_at<'a>(dict: &Dict<'a>, index: u8, part: SegmentPart) -> LinkInformat
 }
 
 /// A segment that comes from an entry of a file.
+#[tactic(auto, unfolding(crate::specs::SeenSegments::seen_with))]
 fn of_entry<'a>(
     slot: u8,
     name: Name,
@@ -478,7 +480,7 @@ fn absent_segment<'a>(
 }
 
 /// The segment of a slot; none where there is none.
-#[tactic(auto, unfolding(crate::specs::SeenSegments::seen_in))]
+#[tactic(auto, unfolding(crate::specs::SeenSegments::seen_in, crate::specs::SeenSegments::seen_absent))]
 fn segment_in<'a>(
     inputs: &NamedFiles<'a>,
     host: &HostReading<'a>,
@@ -560,6 +562,7 @@ pub fn segments_of<'a, A: Allocator + Copy>(
 }
 
 /// The segments of a link whose host was read.
+#[tactic(auto, unfolding(crate::specs::SeenSegments::seen_of))]
 fn segments_in<'a, A: Allocator + Copy>(
     alloc: A,
     inputs: &NamedFiles<'a>,

@@ -44,11 +44,6 @@ file_fails (file.Read path cause) three = grind arith
 file_fails (file.TooLong path) three = grind arith
 file_fails file.Memory three = absurd (omega (arith, three))
 
-pub cause_fails : (why : FileError) → status_of (told_with_cause why) ≡ 3 → why ≢ file.Memory
-cause_fails (file.Read path cause) three = grind arith
-cause_fails (file.TooLong path) three = grind arith
-cause_fails file.Memory three = absurd (omega (arith, three))
-
 pub named_fails : (why : FileError) (e : RunError) → e ≡ run.File why → status_of (told_of e) ≡ 3
     → why ≢ file.Memory
 named_fails why e is three = file_fails why (rw is at three)

@@ -21,6 +21,7 @@ use Rattle.ps_texts.specs.Unmade.{CanRefuse}
 use Rattle.ps_texts.specs.declared.kinds.HostText.TheVariants as of_host
 use Rattle.ps_texts.specs.declared.kinds.LinkText.TheVariants as of_link
 use Rattle.ps_texts.specs.declared.kinds.NamedText.TheVariants as of_named
+use Rattle.ps_texts.specs.declared.kinds.ReportText.TheVariants as of_report
 use Rattle.ps_texts.specs.declared.kinds.TextKind.{TextKind}
 use Rattle.ps_texts.specs.declared.kinds.TextKind.TheVariants as kind
 use Rattle.ps_output_files.specs.Log.{AddsAll}
@@ -139,7 +140,8 @@ CutsLists world how paths old new = CutsFiles world how true paths old new
 abbrev pub FailsToCheck : World → Bool → Text → List Text → Bool → Bool → Option (List ℕ)
     → Option (List ℕ) → Type 0
 FailsToCheck world false path paths strict json old new =
-    FailsToPrint world (kind.Named (of_named.Check (form_of json))) strict false path paths old new
+    FailsToPrint world (kind.Named (of_named.OfReport of_report.Whole (form_of json))) strict false
+    path paths old new
 FailsToCheck world true path paths strict json old new =
     CutsLists world (units_form json) (path ∷ paths) old new
 

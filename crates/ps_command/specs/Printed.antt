@@ -20,6 +20,7 @@ use Rattle.ps_texts.specs.Unmade.{CanRefuse}
 use Rattle.ps_texts.specs.declared.kinds.HostText.TheVariants as of_host
 use Rattle.ps_texts.specs.declared.kinds.LinkText.TheVariants as of_link
 use Rattle.ps_texts.specs.declared.kinds.NamedText.TheVariants as of_named
+use Rattle.ps_texts.specs.declared.kinds.ReportText.TheVariants as of_report
 use Rattle.ps_texts.specs.declared.kinds.TextKind.{TextKind}
 use Rattle.ps_texts.specs.declared.kinds.TextKind.TheVariants as kind
 use Rattle.ps_output_files.specs.Links.{MapIsApart}
@@ -224,7 +225,8 @@ units_form true = form.JsonUnits
 abbrev pub PrintsCheck : World → Bool → Text → List Text
     → Bool → Bool → ℕ → Option (List ℕ) → Option (List ℕ) → Type 0
 PrintsCheck world false path paths strict json status old new =
-    PrintsTextOf world (kind.Named (of_named.Check (form_of json))) strict path paths status old new
+    PrintsTextOf world (kind.Named (of_named.OfReport of_report.Whole (form_of json))) strict path
+    paths status old new
 PrintsCheck world true path paths strict json status old new =
     PrintsLists world (units_form json) (path ∷ paths) status old new
 

@@ -22,7 +22,8 @@ use crate::refusal::refuse;
 use ps_arguments::{Inputs, Request, Task, form_of, parse};
 use ps_output_files::CodeFiles;
 use ps_texts::{
-    FilesText, Form, HostText, LinkText, ListForm, NamedFiles, NamedText, TextKind, Unmade, text_of,
+    FilesText, Form, HostText, LinkText, ListForm, NamedFiles, NamedText, ReportText, TextKind,
+    Unmade, text_of,
 };
 use ps_writing::{WriteFault, write_all_of, write_text};
 use std::alloc::{Allocator, Global};
@@ -408,17 +409,18 @@ fn check<'a, R: CodeFiles, A: Allocator + Copy, O: Write, E: Write>(
     err: &mut E,
 ) -> Result<Ended, RunError<'a>>
     ensures ok { IfOk result (λ ended. PrintsTextOf (R.world rt.now)
-        (TextKind.Named (NamedText.Check form)) strict inputs.entry.host.now
+        (TextKind.Named (NamedText.OfReport ReportText.Whole form)) strict inputs.entry.host.now
         (contents inputs.entry.libraries.items) (ended_status ended) (O.contents out.old)
         (O.contents out.new)) }
     ensures silent { IfOk result (λ ended. ended_status ended ≡ 0 → err.new ≡ err.old) }
     ensures err { IfErr result (λ e. e ≢ RunError.StandardOutput → out.new ≡ out.old) }
     ensures failed { IfErr result (λ e. status_of (told_of e) ≡ 3
-        → FailsToPrint (R.world rt.now) (TextKind.Named (NamedText.Check form)) strict false
+        → FailsToPrint (R.world rt.now)
+        (TextKind.Named (NamedText.OfReport ReportText.Whole form)) strict false
         inputs.entry.host.now (contents inputs.entry.libraries.items) (O.contents out.old)
         (O.contents out.new)) }
 {
-    let kind = TextKind::Named(NamedText::Check(form));
+    let kind = TextKind::Named(NamedText::OfReport(ReportText::Whole, form));
     match files::read_inputs(rt, alloc, &inputs) {
         Ok(bytes) => print_read(alloc, kind, strict, false, &inputs, &bytes, out, err),
         Err(error) => Err(RunError::Unchecked(error)),

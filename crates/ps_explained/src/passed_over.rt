@@ -72,6 +72,7 @@ impl fmt::Display for Unused<'_> {
 }
 
 /// Adds which libraries after that of a segment have its name too, in a line, if some have.
+#[tactic(auto, using(crate::proofs::SlotLines::adds_none))]
 pub(crate) fn add_later_of<A: Allocator>(
     text: &mut String<A>,
     inputs: &NamedFiles<'_>,

@@ -3,3 +3,4 @@ pub mod ShellWords
 pub mod CodeFileFacts
 pub mod MoreBytes
 pub mod Exchanged
+pub mod Swapped

@@ -386,14 +386,6 @@ fn has_linkable(dict: &Dict<'_>) -> bool
     (0..SLOTS).any(|slot| is_linkable(dict, slot))
 }
 
-/// The bytes of each code that is to be linked are exchanged in pairs, and there is one.
-#[tactic(auto, unfolding(crate::specs::CodeTypes::is_swapped_in))]
-fn is_swapped_in(dict: &Dict<'_>) -> bool
-    ensures { result ≡ is_swapped_in_spec dict.now.order dict.now.file }
-{
-    are_swapped(dict) && has_linkable(dict)
-}
-
 /// A slot is filled with a linked code.
 fn is_linked(dict: &Dict<'_>, slot: u8) -> bool
     requires { slot < SLOTS }
@@ -461,12 +453,14 @@ fn is_swapped_link(dict: &Dict<'_>) -> bool
     !has_linkable(dict) && are_swapped_linked(dict) && has_shown_linked(dict)
 }
 
-/// The bytes of a file are exchanged in pairs, of one that is to be linked or of one that is linked.
+/// The bytes of a file are exchanged in pairs, of one that is to be linked or of one that is linked. Most
+/// files are neither, as the first code that is to be linked says.
+#[tactic(auto, unfolding(crate::specs::CodeTypes::is_swapped_in), using(crate::proofs::Swapped::none_swapped))]
 fn is_swapped_dict(dict: &Dict<'_>) -> bool
     ensures { result ≡ (is_swapped_in_spec dict.now.order dict.now.file
         || is_swapped_link_spec dict.now.order dict.now.file) }
 {
-    is_swapped_in(dict) || is_swapped_link(dict)
+    are_swapped(dict) && (has_linkable(dict) || is_swapped_link(dict))
 }
 
 /// The bytes of a code file are exchanged in pairs: so are those of each code that is to be linked,

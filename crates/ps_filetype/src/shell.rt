@@ -77,6 +77,7 @@ impl fmt::Display for ShellWord<'_> {
 }
 
 /// A shell reads the word for a path as the path itself.
+#[tactic(auto, using(crate::proofs::ShellWords::reads_word))]
 pub(crate) fn word_is_read(path: &str)
     ensures { shell_reads Bare (shell_word path.now) ≡ Some (here_spec path.now ++ path.now) }
 {

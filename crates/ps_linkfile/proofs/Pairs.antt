@@ -124,10 +124,11 @@ module _ (order : Order) (all : List Segment) where
       }
 
   -- all pairs
-  pub pairs_done : (pairs : List ℕ) (block from : ℕ)
-      → PairsSoFar order all (length all) pairs block from → pairs ≡ all_pairs order all
+  pub pairs_done : (count : ℕ) (pairs : List ℕ) (block from : ℕ)
+      → PairsSoFar order all count pairs block from → length all ≤ count
+      → pairs ≡ all_pairs order all
   unfolding all_pairs
-  pairs_done pairs block from h =
+  pairs_done count pairs block from h last =
       pairs_are order all pairs h.size (λ slot j k l.
       elim (cases_lt slot from) [
         | inl below ↦ h.stored slot j below l
@@ -135,10 +136,10 @@ module _ (order : Order) (all : List Segment) where
             ∙ sym (ap (λ bs. get_or bs j 0) (ends slot behind) ∙ zeros_at j)
       ])
     where
-      none_left : drop (length all) all ≡ []
-      none_left = drop_all (length all) all (omega arith)
+      none_left : drop count all ≡ []
+      none_left = drop_all count all last
 
       ends : (slot : ℕ)
           → from ≤ slot → pair_of order all slot ≡ 0 ∷ 0 ∷ 0 ∷ 0 ∷ []
-      ends slot behind = no_pair order all from block (drop (length all) all) (slot + 1) slot h.left
+      ends slot behind = no_pair order all from block (drop count all) (slot + 1) slot h.left
           (subst (λ os. Ascend (slot + 1) os) (sym none_left) tt) behind (omega arith)

@@ -1,7 +1,7 @@
 //! What a code file has, as text.
 ghost use Rattle.std.specs.Prelude.{◌≡◌, ◌<◌, ◌++◌, ◌∷◌, [], if◌then◌else◌, None, IfOk, IfErr, flat_map};
 ghost use Rattle.ps_words.specs.FaultPlaces.{in_file};
-ghost use Rattle.ps_codefile.specs.Dictionary.{slots, file_order, entry_at};
+ghost use Rattle.ps_codefile.specs.Dictionary.{slots, entry_at};
 ghost use Rattle.ps_linkinfo.specs.Records.{reading};
 ghost use Rattle.arrayvec.specs.ArrayVec.{array_vec_len};
 ghost use Rattle.ps_resolve.specs.Faults.{is_role};

@@ -1,5 +1,5 @@
 -- What is found in a file, slot by slot.
-use Rattle.ps_listing.proofs.Vocabulary.{◌≡◌, ℕ, suc, ◌+◌, ◌-◌, ◌<◌, List, [], ◌∷◌, ◌++◌, true, false, Option, Some, None, append_assoc, append-nil, length, length-append, sym, ◌∙◌, ap, arith, is_some, true≢false, Result, Ok, Err, IfErr, option_to_list, cons_option, filter_map, range_with_len, SLOTS}
+use Rattle.ps_listing.proofs.Vocabulary.{◌≡◌, ℕ, suc, ◌+◌, ◌-◌, ◌<◌, List, [], ◌∷◌, ◌++◌, true, Option, Some, None, append_assoc, append-nil, length, length-append, sym, ◌∙◌, ap, arith, is_some, true≢false, Result, Ok, Err, IfErr, option_to_list, cons_option, filter_map, range_with_len, SLOTS}
 
 -- what holds by itself holds of an error
 pub of_error : {T E : Type 0} (r : Result T E) {P : Type 0} → P → IfErr r (λ _. P)

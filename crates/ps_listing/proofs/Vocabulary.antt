@@ -1,9 +1,9 @@
 -- The words that several proofs use, each with its home.
 pub use Rattle.ps_codefile.specs.Dictionary.{OpenedFile, entry_at, is_nameless, kind_needs_linking, role_of, slots}
-pub use Rattle.ps_codefile.specs.Roles.{is_host, needs_linking}
+pub use Rattle.ps_codefile.specs.Roles.{needs_linking}
 pub use Rattle.ps_codefile.specs.declared.dictionary_layout.TheConstants.{SLOTS}
 pub use Rattle.ps_codefile.specs.declared.entry.Role.{Role}
-pub use Rattle.ps_writing.proofs.Written.{Written, adds_is, all_written, items_left, items_over, none_yet, slots_left, slots_over, some_more, ◌⨾◌}
+pub use Rattle.ps_writing.proofs.Written.{Written, adds_is, none_yet, some_more, ◌⨾◌}
 pub use Rattle.ps_linkinfo.specs.declared.record.LinkRecord.{LinkRecord as Record}
 pub use Rattle.ps_listing.specs.ListText.{shown_char}
 pub use Rattle.ps_listing.specs.LoneText.{lone_line, lone_text, lone_unit, units_as, units_of}

@@ -25,6 +25,7 @@ fn has_host_as(opened: Result<Dict, Reason>) -> bool
 }
 
 /// A file has a host program, as its list says.
+#[tactic(auto, unfolding(crate::specs::FileLists::has_host))]
 fn has_host(file: &[u8]) -> bool
     ensures { result ≡ has_host_spec file.now }
 {

@@ -1,5 +1,5 @@
 -- The first of several slots, from one of them on.
-use Rattle.ps_reading.proofs.Vocabulary.{◌≡◌, ℕ, ◌+◌, ◌-◌, ◌<◌, ◌≤◌, List, [], ◌∷◌, Bool, true, false, Option, Some, None, Result, Ok, is_some, refl, arith, range_with_len, find, list_any, option_or, option_map, result_ok, first_of}
+use Rattle.ps_reading.proofs.Vocabulary.{◌≡◌, ℕ, ◌+◌, ◌-◌, ◌<◌, List, [], ◌∷◌, Bool, Option, Some, None, Result, Ok, is_some, refl, arith, range_with_len, find, list_any, option_or, option_map, result_ok, first_of}
 
 -- the numbers from i up to n are i and those after it
 pub range_more : (i n : ℕ) → i < n → range_with_len i (n - i)

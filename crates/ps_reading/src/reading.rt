@@ -1,11 +1,10 @@
-ghost use Rattle.std.specs.Prelude.{◌≡◌, ◌<◌, ◌≤◌, [], length, slice_get, None, Some, Ok, Err, IfOk, IfErr, IfSome, All, option_and_then, find};
+ghost use Rattle.std.specs.Prelude.{◌≡◌, ◌<◌, ◌≤◌, [], length, slice_get, None, Some, Ok, Err, IfOk, IfErr, IfSome, All, find};
 ghost use Rattle.std.specs.Option.{option_map, option_or};
-ghost use Rattle.std.specs.Result.{result_ok};
 ghost use Rattle.ps_codefile.specs.Dictionary.{entry_at, role_of, opened_beside};
 ghost use Rattle.ps_reading.specs.Sources.{order_of, contents, opened, opened_files};
-ghost use Rattle.ps_reading.specs.Added.{request_of, empty_slots as empty_slots_spec, segments as all_segments, slot_name as slot_name_spec, slot_names as slot_names_spec};
+ghost use Rattle.ps_reading.specs.Added.{empty_slots as empty_slots_spec, segments as all_segments, slot_name as slot_name_spec, slot_names as slot_names_spec};
 ghost use Rattle.ps_reading.specs.Faults.{source_fault, slots_fault as slots_fault_spec, no_host_fault as no_host_fault_spec, libraries_fault as libraries_fault_spec};
-ghost use Rattle.ps_reading.specs.Readings.{reading_fault, all_read, fault_of_added, host_reading_fault, opened_host, own_reading_fault, queued_request as queued_request_spec, read_requests, read_rounds, read_segments, segments_read, named_entry, slot_after, slot_entry, slot_fault, slot_reading, slot_request, wanted_request, with_libraries};
+ghost use Rattle.ps_reading.specs.Readings.{reading_fault, all_read, fault_of_added, host_reading_fault, opened_host, own_reading_fault, read_requests, read_rounds, read_segments, segments_read, named_entry, slot_after, slot_fault, slot_reading, with_libraries};
 ghost use Rattle.ps_reading.specs.SlotReadings.{entry_in, is_left as is_left_spec, outcome_in, request_in, source_in};
 ghost use Rattle.ps_reading.specs.OfLink.{AreOfLink};
 ghost use Rattle.ps_reading.specs.KnownSegments.{IsRead, IsSound, is_in_slot};

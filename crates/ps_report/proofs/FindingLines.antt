@@ -3,7 +3,7 @@ use Rattle.std.proofs.Common.{◌≡◌, ◌∙◌, ◌+◌, ◌++◌, ◌∷◌
 use Rattle.std.specs.Prelude.{if◌then◌else◌, Option, Some, None, IfSome}
 use Rattle.std.specs.List.{after_first, before_first, filter, flat_map, list_all, position_or_len}
 use Rattle.std.proofs.lemmas.Bool.Decides.{nat_tests}
-use Rattle.std.proofs.lemmas.List.{append_assoc, take_all}
+use Rattle.std.proofs.lemmas.List.{append_assoc}
 use Rattle.std.proofs.lemmas.List.Sums.{passes_at_first, split_at_first}
 use Rattle.ps_explained.specs.SlotLines.{AddsSlotLines, indent, is_slot_line, lines_of, one_line, slot_lines, with_first}
 use Rattle.ps_explained.proofs.OneLine.{Splits, and_both, and_left, and_right, one_append, one_before}
@@ -310,10 +310,6 @@ pub adds_finding_lines : (old : List ℕ) (fs : List Said)
 unfolding finding_lines
 adds_finding_lines old fs = adds_lines old fs
 
--- the end of a line alone
-pub adds_end_of_line : (old new : List ℕ) → new ≡ old ++ 10 ∷ [] → AddsWarnings old 0 new
-adds_end_of_line old new is = adds_no_warning old [] new refl refl is
-
 -- lines of a text that is cut at its first byte 10, and of one that has none
 pub part_lines_cut : (part : Part) (line rest : List ℕ) → one_line line ≡ true
     → part_lines part (line ++ 10 ∷ rest) ≡ part_line part line ++ part_lines part rest
@@ -358,18 +354,3 @@ cut_at bs (Some y) x m e =
     ∙ ap (λ (t : List ℕ). y.0.now ++ 10 ∷ t) (sym m.2)) in
     subst (λ (o : Option (Bor (List ℕ) × Bor (List ℕ))). IfSome o
     (λ z. bs ≡ z.0.now ++ 10 ∷ z.1.now)) e cut
-
--- a text up to its first byte 10, and one that has none
-pub line_of : (bs : List ℕ) (r : Option (Bor (List ℕ) × Bor (List ℕ)))
-    (x : Bor (List ℕ) × Bor (List ℕ)) → Splits bs r → r ≡ Some x
-    → x.0.now ≡ first_line bs
-line_of bs None x m e = cc
-line_of bs (Some y) x m e =
-    subst (λ (o : Option (Bor (List ℕ) × Bor (List ℕ))). IfSome o
-    (λ z. z.0.now ≡ first_line bs)) e m.1
-
-pub whole_line : (bs : List ℕ) (r : Option (Bor (List ℕ) × Bor (List ℕ))) → Splits bs r
-    → ((x : Bor (List ℕ) × Bor (List ℕ)) → r ≡ Some x → ⊥) → bs ≡ first_line bs
-whole_line bs None m never =
-    sym (take_all (position_or_len (λ b. b == 10) bs) bs (omega (arith, m)))
-whole_line bs (Some y) m never = absurd (never y refl)

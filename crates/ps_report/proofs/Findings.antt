@@ -1,67 +1,17 @@
 -- Findings with their words, one after another, and how many of them are warnings.
-use Rattle.std.proofs.Common.{◌≡◌, ◌∙◌, ◌+◌, ◌<◌, ◌++◌, ◌∷◌, [], ℕ, Bool, List, ap, arith, cond, ◌≤◌, false, get_or, length, map, refl, string_bytes, sym, take, true}
+use Rattle.std.proofs.Common.{◌≡◌, ◌∙◌, ◌+◌, ◌<◌, ◌++◌, ◌∷◌, [], ℕ, Bool, List, ap, arith, cond, ◌≤◌, false, get_or, length, map, refl, sym, take, true}
 use mir.Val.{bool_byte}
 use Rattle.std.proofs.lemmas.List.{length-append, map-append, take_more}
 use Rattle.std.proofs.lemmas.List.Elements.{filter-append}
-use Rattle.ps_warnings.specs.FindingTexts.{finding_text}
-use Rattle.ps_warnings.specs.Places.{place_text}
 use Rattle.std.specs.List.{filter}
 use Rattle.ps_warnings.specs.Weights.{is_certain}
 use Rattle.ps_warnings.specs.declared.finding.DictionaryFinding.TheVariants as dictionary
 use Rattle.ps_warnings.specs.declared.finding.FileFinding.TheVariants as file
 use Rattle.ps_warnings.specs.declared.finding.Finding.{Finding}
 use Rattle.ps_warnings.specs.declared.finding.Finding.TheVariants as which
-use Rattle.ps_warnings.specs.declared.finding.FindingAt.{FindingAt}
 use Rattle.ps_warnings.specs.Found.{Stated, about_link_in, is_about_link, is_warning, stated, warnings_among}
-use Rattle.ps_report.specs.Reported.{ArePlaced, AreWorded, Said, findings_in, is_warned, said, warning_count}
+use Rattle.ps_report.specs.Reported.{Said, findings_in, is_warned, said, warning_count}
 use Rattle.ps_report.specs.declared.finding.SaidFinding.{SaidFinding}
-
-findings_more : (xs : List Said) (x : Said)
-    → findings_in (xs ++ x ∷ []) ≡ findings_in xs ++ x.at ∷ []
-findings_more xs x = map-append (λ (f : Said). f.at) xs (x ∷ [])
-
-places_more : (xs : List Said) (x : Said)
-    → ArePlaced xs → x.place ≡ place_text x.at.place → ArePlaced (xs ++ x ∷ [])
-places_more xs x so_far here =
-    let place : FindingAt → List ℕ = λ w. place_text w.place in
-    let right = ap (map place) (findings_more xs x)
-    ∙ map-append place (findings_in xs) (x.at ∷ []) in
-    map-append (λ (f : Said). f.place) xs (x ∷ [])
-    ∙ (ap (λ (l : List (List ℕ)). l ++ x.place ∷ []) so_far
-    ∙ (ap (λ (p : List ℕ). map place (findings_in xs) ++ p ∷ []) here ∙ sym right))
-
-words_more : (xs : List Said) (x : Said)
-    → AreWorded xs → x.words ≡ finding_text x.at.finding → AreWorded (xs ++ x ∷ [])
-words_more xs x so_far here =
-    let text : FindingAt → List ℕ = λ w. finding_text w.finding in
-    let right = ap (map text) (findings_more xs x)
-    ∙ map-append text (findings_in xs) (x.at ∷ []) in
-    map-append (λ (f : Said). f.words) xs (x ∷ [])
-    ∙ (ap (λ (l : List (List ℕ)). l ++ x.words ∷ []) so_far
-    ∙ (ap (λ (p : List ℕ). map text (findings_in xs) ++ p ∷ []) here ∙ sym right))
-
-module _ {A : Type 0} (before after : List (SaidFinding A)) (f : SaidFinding A)
-    (is : after ≡ before ++ f ∷ []) where
-  said_more : map said after ≡ map said before ++ said f ∷ []
-  said_more = ap (map said) is ∙ map-append said before (f ∷ [])
-
-  pub next_finding : (ws : List FindingAt) (i : ℕ) (d : FindingAt) → i < length ws
-      → findings_in (map said before) ≡ take i ws → f.at ≡ get_or ws i d
-      → findings_in (map said after) ≡ take (i + 1) ws
-  next_finding ws i d within so_far here =
-      ap findings_in said_more ∙ (findings_more (map said before) (said f)
-      ∙ (ap (λ (l : List FindingAt). l ++ f.at ∷ []) so_far
-      ∙ (ap (λ (w : FindingAt). take i ws ++ w ∷ []) here ∙ sym (take_more ws i d within))))
-
-  pub next_place : ArePlaced (map said before)
-      → string_bytes f.place ≡ place_text f.at.place → ArePlaced (map said after)
-  next_place so_far here =
-      rw said_more (places_more (map said before) (said f) so_far here)
-
-  pub next_words : AreWorded (map said before)
-      → string_bytes f.words ≡ finding_text f.at.finding → AreWorded (map said after)
-  next_words so_far here =
-      rw said_more (words_more (map said before) (said f) so_far here)
 
 -- a warning is about the link
 certain_about : (f : Finding) → is_certain f ≡ true → is_about_link f ≡ true

@@ -6,7 +6,6 @@ use Rattle.std.proofs.lemmas.List.{append_assoc}
 use Rattle.ps_explained.specs.FileLines.{AreFileLines}
 use Rattle.ps_explained.specs.SlotLines.{indent, lines_of, with_first}
 use Rattle.ps_report.specs.FindingLines.{is_mistaken, part_line, part_lines}
-use Rattle.ps_report.specs.declared.lines.Part.{Part}
 use Rattle.ps_report.specs.declared.lines.Part.TheVariants.{Account, Segments}
 use Rattle.ps_report.specs.Reports.{Sections, front_of}
 use Rattle.ps_report.specs.Verdicts.{Tells, verdict_line}

@@ -1,5 +1,5 @@
 -- The report of a check of files at these paths, the host's first, and what is printed of it.
-use Rattle.std.specs.Prelude.{◌≡◌, ◌<◌, ℕ, Bool, true, false, if◌then◌else◌, List, [], ◌∷◌, ◌++◌, Option, Some, None, length}
+use Rattle.std.specs.Prelude.{◌≡◌, ◌<◌, ℕ, true, false, if◌then◌else◌, List, [], ◌∷◌, ◌++◌, Option, Some, None, length}
 use Rattle.ps_words.specs.declared.fault.Fault.{Fault}
 use Rattle.ps_resolve.specs.AllFaults.{reading_fault}
 use Rattle.ps_resolve.specs.Standing.{NoneStands}
@@ -22,7 +22,7 @@ use Rattle.ps_report.specs.declared.lines.Part.TheVariants as part
 use Rattle.ps_report.specs.LastLine.{last_line}
 use Rattle.ps_report.specs.ReportJson.{findings_json, report_json}
 use Rattle.ps_report.specs.Reported.{ArePlaced, AreWorded, Reported, findings_in, warning_count}
-use Rattle.ps_report.specs.Verdicts.{IsVerdict, Tells, check_status, fault_of, verdict_line, verdict_name}
+use Rattle.ps_report.specs.Verdicts.{IsVerdict, Tells, fault_of, verdict_line, verdict_name}
 use Rattle.ps_report.specs.declared.verdict.Verdict.{Verdict}
 
 -- How many warnings a check of these files has: those that the definitions give, for the segments of
@@ -121,19 +121,3 @@ printed_report Json r = report_json r
 abbrev pub printed_findings : Form → Reported → List ℕ
 printed_findings Lines r = finding_lines r.findings
 printed_findings Json r = findings_json r.findings
-
--- What a check of the files at these paths prints, the host's first, and its status, which is a
--- function of the files: 1 where they are refused, and, if the check is strict, where they have a
--- warning.
-abbrev pub IsPrintedReport : List (List ℕ) → List ℕ → List (List ℕ) → Bool → Form
-    → ℕ → List ℕ → Type 0
-IsPrintedReport paths host libs strict form status text =
-    (r : Reported) × IsReport paths host libs r
-    × (status ≡ check_status strict (warnings_of_files paths host libs) r.verdict)
-    × (text ≡ printed_report form r)
-
--- What is printed of the findings in these files.
-abbrev pub ArePrintedFindings : List (List ℕ) → List ℕ → List (List ℕ) → Form
-    → List ℕ → Type 0
-ArePrintedFindings paths host libs form text =
-    (r : Reported) × IsReport paths host libs r × (text ≡ printed_findings form r)

@@ -45,7 +45,6 @@ fn add_verdict<S: TextWriter>(text: &mut S, verdict: Verdict, name: Option<Name>
 }
 
 /// Adds the item of a finding: how much it weighs, where something was found, and what.
-#[tactic(auto, unfolding(crate::specs::ReportJson::finding_json))]
 fn add_finding<S: TextWriter, A: Allocator>(text: &mut S, finding: &SaidFinding<'_, A>)
     ensures { Adds S.added text.old (finding_json (said finding.now)) text.new }
 {
@@ -81,7 +80,6 @@ fn add_items<S: TextWriter, A: Allocator>(text: &mut S, findings: &[SaidFinding<
 }
 
 /// Adds the list of findings.
-#[tactic(auto, unfolding(crate::specs::ReportJson::list_json))]
 fn add_list<S: TextWriter, A: Allocator>(text: &mut S, findings: &[SaidFinding<'_, A>])
     ensures { Adds S.added text.old (list_json (map said findings.now)) text.new }
 {
@@ -91,7 +89,6 @@ fn add_list<S: TextWriter, A: Allocator>(text: &mut S, findings: &[SaidFinding<'
 }
 
 /// Adds the document of a report.
-#[tactic(auto, unfolding(crate::specs::ReportJson::report_json))]
 pub(crate) fn add_report<S: TextWriter, A: Allocator>(text: &mut S, report: &Report<'_, A>)
     ensures { Adds S.added text.old (report_json (reported report.now)) text.new }
 {

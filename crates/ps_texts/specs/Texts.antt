@@ -9,9 +9,10 @@ use Rattle.ps_linkfile.specs.ReferencesText.{all_stored_of, references_in, refer
 use Rattle.ps_linkfile.specs.ShowJson.{show_as}
 use Rattle.ps_linkfile.specs.ShowText.{show_fault}
 use Rattle.ps_listing.specs.FileLists.{IsList, lists_in}
-use Rattle.ps_report.specs.Reported.{reported, said, warning_count}
-use Rattle.ps_report.specs.Reports.{ArePrintedFindings, IsPrintedReport, printed_findings, printed_report}
+use Rattle.ps_report.specs.Reported.{Reported, reported, said, warning_count}
+use Rattle.ps_report.specs.Reports.{IsReport, printed_findings, printed_report, warnings_of_files}
 use Rattle.ps_report.specs.Verdicts.{check_status}
+use Rattle.ps_report.specs.declared.verdict.Verdict.{Verdict}
 use Rattle.ps_texts.specs.UnitNames.{bytes_of, names_had, names_wanted}
 use Rattle.ps_texts.specs.declared.kinds.HostText.{HostText}
 use Rattle.ps_texts.specs.declared.kinds.HostText.TheVariants as of_host
@@ -19,6 +20,8 @@ use Rattle.ps_texts.specs.declared.kinds.LinkText.{LinkText}
 use Rattle.ps_texts.specs.declared.kinds.LinkText.TheVariants as of_link
 use Rattle.ps_texts.specs.declared.kinds.NamedText.{NamedText}
 use Rattle.ps_texts.specs.declared.kinds.NamedText.TheVariants as of_named
+use Rattle.ps_texts.specs.declared.kinds.ReportText.{ReportText}
+use Rattle.ps_texts.specs.declared.kinds.ReportText.TheVariants as of_report
 use Rattle.ps_texts.specs.declared.kinds.TextKind.{TextKind}
 use Rattle.ps_texts.specs.declared.kinds.TextKind.TheVariants as kind
 use Rattle.ps_texts.specs.declared.texts.FilesText.{FilesText}
@@ -47,14 +50,31 @@ IsHostText (of_host.Show form) host text =
 IsHostText of_host.Had host text =
     (names : List (List ℕ)) × (names_had host ≡ Ok names) × (text ≡ bytes_of names)
 
+-- what is printed of a report
+abbrev pub report_bytes : ReportText → Form → Reported → List ℕ
+report_bytes of_report.Whole form r = printed_report form r
+report_bytes of_report.Findings form r = printed_findings form r
+
+-- What a process that prints it ends with, of a report with so many warnings and this verdict: only
+-- the whole report can end with another status than 0. With `strict`, a warning counts.
+abbrev pub report_status : ReportText → Bool → ℕ → Verdict → ℕ
+report_status of_report.Whole strict warnings verdict = check_status strict warnings verdict
+report_status of_report.Findings strict warnings verdict = 0
+
+-- what is printed of the report on a host and these libraries
+abbrev pub IsReportText : ReportText → Form → Bool → List (List ℕ) → List ℕ → List (List ℕ) → ℕ
+    → List ℕ → Type 0
+IsReportText what form strict paths host libs status text =
+    (r : Reported) × IsReport paths host libs r
+    × (status ≡ report_status what strict (warnings_of_files paths host libs) r.verdict)
+    × (text ≡ report_bytes what form r)
+
 -- The text of a host and these libraries that has their paths. With `strict`, a warning counts for
 -- the status: 1 where the files of a check are refused, else 0.
 abbrev pub IsNamedText : NamedText → Bool → List (List ℕ) → List ℕ → List (List ℕ) → ℕ
     → List ℕ → Type 0
-IsNamedText (of_named.Check form) strict paths host libs status text =
-    IsPrintedReport paths host libs strict form status text
-IsNamedText (of_named.Findings form) strict paths host libs status text =
-    (status ≡ 0) × ArePrintedFindings paths host libs form text
+IsNamedText (of_named.OfReport what form) strict paths host libs status text =
+    IsReportText what form strict paths host libs status text
 IsNamedText (of_named.List how) strict paths host libs status text =
     (status ≡ 0) × IsList how paths (host ∷ libs) text
 
@@ -76,15 +96,14 @@ abbrev pub bytes_in : {A : Type 0} → FilesText A → List ℕ
 bytes_in (text.Map form linked) = map_as form linked.value
 bytes_in (text.References form map) = referenced_in form map.value
 bytes_in (text.Show form file) = show_as form file
-bytes_in (text.Report form report) = printed_report form (reported report)
-bytes_in (text.Findings form report) = printed_findings form (reported report)
+bytes_in (text.Report what form report) = report_bytes what form (reported report)
 bytes_in (text.Lists lists) = lists_in lists.how lists.files.items
 bytes_in (text.Names names) = bytes_of names.items
 
 -- what a process that prints it ends with
 abbrev pub status_in : {A : Type 0} → Bool → FilesText A → ℕ
-status_in strict (text.Report form report) =
-    check_status strict (warning_count (map said report.findings.items)) report.verdict
+status_in strict (text.Report what form report) =
+    report_status what strict (warning_count (map said report.findings.items)) report.verdict
 status_in strict t = 0
 
 -- a value has the text of these files, and its status is that of the text

@@ -39,12 +39,19 @@ pub enum HostText {
 /// A text in which files have names.
 #[derive(Clone, Copy)]
 pub enum NamedText {
-    /// The report of a check.
-    Check(Form),
-    /// The findings of that report, one by one: warnings, what is harmless, and notes.
-    Findings(Form),
+    /// What is printed of the report of a check.
+    OfReport(ReportText, Form),
     /// The list of each file.
     List(ListForm),
+}
+
+/// What is printed of a report.
+#[derive(Clone, Copy)]
+pub enum ReportText {
+    /// The report.
+    Whole,
+    /// Its findings, one by one: warnings, what is harmless, and notes.
+    Findings,
 }
 
 impl TextKind {

@@ -8,11 +8,11 @@ mod texts;
 mod units;
 mod wanted_law;
 
-pub use kinds::{HostText, LinkText, NamedText, TextKind};
+pub use kinds::{HostText, LinkText, NamedText, ReportText, TextKind};
 pub use ps_check_segments::NamedFiles;
 pub use ps_linkfile::{Refusal, Unmade};
 pub use ps_listing::ListForm;
 pub use ps_writing::Form;
-pub use texts::{FilesText, text_of};
+pub use texts::{FilesText, PrintedOfReport, text_of};
 pub use units::{units_had, units_wanted};
 pub use wanted_law::wanted_units;

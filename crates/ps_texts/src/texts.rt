@@ -6,16 +6,17 @@ ghost use Rattle.ps_resolve.specs.Sources.{contents};
 ghost use Rattle.ps_linkfile.specs.Refusals.{refusal_of};
 ghost use Rattle.ps_linkfile.specs.declared.unmade.Unmade.TheVariants.{Refused};
 ghost use Rattle.ps_check_segments.specs.Paths.{paths_in};
+ghost use Rattle.ps_report.specs.Reported.{reported};
 ghost use Rattle.ps_writing.specs.Adding.{Adds};
-ghost use Rattle.ps_texts.specs.Texts.{IsMadeOf, bytes_in};
+ghost use Rattle.ps_texts.specs.Texts.{IsMadeOf, bytes_in, report_bytes};
 ghost use Rattle.ps_texts.specs.UnitNames.{HasNames, bytes_of, had_in, wanted_in as wanted_in_spec};
 ghost use Rattle.ps_texts.specs.Unmade.{WhyUnmade};
 ghost use Rattle.ps_texts.specs.declared.kinds.HostText.TheVariants.{Had, Show as ShowOf};
 ghost use Rattle.ps_texts.specs.declared.kinds.LinkText.TheVariants.{Map as MapOf, References as ReferencesOf};
-ghost use Rattle.ps_texts.specs.declared.kinds.NamedText.TheVariants.{Check, Findings as FindingsOf, List as Listed};
+ghost use Rattle.ps_texts.specs.declared.kinds.NamedText.TheVariants.{List as Listed, OfReport};
 ghost use Rattle.ps_texts.specs.declared.kinds.TextKind.TheVariants.{Named, OfHost, OfLink, Wanted};
 
-use crate::kinds::{HostText, LinkText, NamedText, TextKind};
+use crate::kinds::{HostText, LinkText, NamedText, ReportText, TextKind};
 use crate::units::{units_had, units_wanted};
 use ps_check_segments::NamedFiles;
 use ps_codefile::{Dict, open};
@@ -41,10 +42,8 @@ pub enum FilesText<'a, A: Allocator + Copy = Global> {
     References(Form, Box<ReferenceMap<'a, A>, A>),
     /// What a file has.
     Show(Form, ShownFile<'a>),
-    /// The report of a check.
-    Report(Form, Report<'a, A>),
-    /// The findings of a report, one by one.
-    Findings(Form, Report<'a, A>),
+    /// What is printed of a report.
+    Report(ReportText, Form, Report<'a, A>),
     /// The list of each file.
     Lists(Lists<'a, A>),
     /// Names of units.
@@ -67,18 +66,34 @@ impl<A: Allocator + Copy> Text for FilesText<'_, A> {
             }
             .add_to(text),
             FilesText::Show(form, file) => Show { form: *form, file }.add_to(text),
-            FilesText::Report(form, report) => PrintedReport {
-                form: *form,
-                report,
-            }
-            .add_to(text),
-            FilesText::Findings(form, report) => PrintedFindings {
+            FilesText::Report(what, form, report) => PrintedOfReport {
+                what: *what,
                 form: *form,
                 report,
             }
             .add_to(text),
             FilesText::Lists(lists) => lists.add_to(text),
             FilesText::Names(names) => add_names(text, names.as_slice()),
+        }
+    }
+}
+
+/// What is printed of a report, in one of its forms.
+#[derive(Drop)]
+pub struct PrintedOfReport<'r, 'a, A: Allocator> {
+    pub what: ReportText,
+    pub form: Form,
+    pub report: &'r Report<'a, A>,
+}
+
+impl<A: Allocator> Text for PrintedOfReport<'_, '_, A> {
+    ghost bytes = { λ p. report_bytes p.what p.form (reported p.report.now) };
+
+    fn add_to<S: TextWriter>(&self, text: &mut S) {
+        let (form, report) = (self.form, self.report);
+        match self.what {
+            ReportText::Whole => PrintedReport { form, report }.add_to(text),
+            ReportText::Findings => PrintedFindings { form, report }.add_to(text),
         }
     }
 }
@@ -101,7 +116,7 @@ impl<A: Allocator + Copy> FilesText<'_, A> {
         ensures few { result ≤ 1 }
     {
         match self {
-            FilesText::Report(_, report) => report.status(strict),
+            FilesText::Report(ReportText::Whole, _, report) => report.status(strict),
             _ => 0,
         }
     }
@@ -168,31 +183,19 @@ fn show_of<'a, A: Allocator + Copy>(
     }
 }
 
+/// What is printed of the report of a check.
 #[inline(never)]
 fn report_of<'a, A: Allocator + Copy>(
     alloc: A,
+    what: ReportText,
     form: Form,
     files: &NamedFiles<'a>,
 ) -> Result<FilesText<'a, A>, AllocError>
-    ensures { IfOk result (IsMadeOf (Named (Check form)) (paths_in files.now) files.now.host.now
-        (contents files.now.libs.now)) }
+    ensures { IfOk result (IsMadeOf (Named (OfReport what form)) (paths_in files.now)
+        files.now.host.now (contents files.now.libs.now)) }
 {
     let report = check(alloc, files.host_path, files.paths, files.host, files.libs)?;
-    Ok(FilesText::Report(form, report))
-}
-
-/// The findings of a report, one by one.
-#[inline(never)]
-fn findings_of<'a, A: Allocator + Copy>(
-    alloc: A,
-    form: Form,
-    files: &NamedFiles<'a>,
-) -> Result<FilesText<'a, A>, AllocError>
-    ensures { IfOk result (IsMadeOf (Named (FindingsOf form)) (paths_in files.now) files.now.host.now
-        (contents files.now.libs.now)) }
-{
-    let report = check(alloc, files.host_path, files.paths, files.host, files.libs)?;
-    Ok(FilesText::Findings(form, report))
+    Ok(FilesText::Report(what, form, report))
 }
 
 #[inline(never)]
@@ -233,7 +236,8 @@ fn names_wanted<A: Allocator + Copy>(
 }
 
 /// The names of the units that files that were read want: none where the host has no kind but 0, as
-/// a linked file.
+/// a linked file. A function by itself, so that its caller has one reading and no copy of it.
+#[inline(never)]
 fn wanted_in<'a, A: Allocator + Copy>(
     alloc: A,
     is_code: bool,
@@ -353,8 +357,7 @@ fn named_text<'a, A: Allocator + Copy>(
         (contents files.now.libs.now)) }
 {
     match what {
-        NamedText::Check(form) => report_of(alloc, form, files),
-        NamedText::Findings(form) => findings_of(alloc, form, files),
+        NamedText::OfReport(what, form) => report_of(alloc, what, form, files),
         NamedText::List(how) => lists_of(alloc, how, files),
     }
 }

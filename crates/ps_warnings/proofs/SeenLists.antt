@@ -1,9 +1,6 @@
 -- Segments as they were read, in lists.
 use Rattle.std.proofs.Common.{◌≡◌, ◌∙◌, ◌∷◌, ◌+◌, ◌≤◌, ℕ, Bor, List, length, drop, map, ap, sym, arith}
 use Rattle.std.proofs.lemmas.List.{drop-map, length-map}
-use Rattle.std.specs.Prelude.{Result, Ok, Err}
-use Rattle.ps_words.specs.declared.fault.Reason.{Reason}
-use Rattle.ps_codefile.specs.Dictionary.{IsViewOf}
 use Rattle.ps_resolve.specs.Sources.{contents}
 use Rattle.ps_check_segments.specs.Seen.{Seen, seen}
 use Rattle.ps_check_segments.specs.declared.segments.ReadSegment.{ReadSegment}
@@ -30,13 +27,3 @@ contents_left fs i f h = drop-map (λ (b : Bor (List ℕ)). b.now) i fs
 pub contents_over : (fs : List (Bor (List ℕ))) (i : ℕ) → length fs ≤ i
     → length (contents fs) ≤ i
 contents_over fs i h = omega (arith, length-map fs (λ (b : Bor (List ℕ)). b.now))
-
--- the code of an entry, or why it cannot be read
-abbrev pub code_as : Result (Bor (List ℕ)) Reason → Result (List ℕ) Reason
-code_as (Ok code) = Ok code.now
-code_as (Err why) = Err why
-
-pub code_is : (r : Result (Bor (List ℕ)) Reason) (answer : Result (List ℕ) Reason)
-    → IsViewOf (λ code. code.now) r answer → answer ≡ code_as r
-code_is (Ok code) answer is = is
-code_is (Err why) answer is = is

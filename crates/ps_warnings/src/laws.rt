@@ -160,6 +160,7 @@ pub fn each_warning_is_found_once()
 {}
 
 /// Each warning of entries and of units is found on small ones, and not found on those beside them.
+#[tactic(auto, unfolding(ps_filetype::specs::Names::is_respelled))]
 pub fn each_warning_of_slots_is_found_once()
     ensures named { empty_slot 8 false (empty_entry util 0)
         ≡ Some (which.Entry (entry.EmptySlot 8 util 0)) }

@@ -2,7 +2,8 @@
 use super::calls::Link;
 use crate::notation::{holds, holds_of};
 use ps_texts::{
-    FilesText, Form, HostText, LinkText, ListForm, NamedFiles, NamedText, TextKind, text_of,
+    FilesText, Form, HostText, LinkText, ListForm, NamedFiles, NamedText, ReportText, TextKind,
+    text_of,
 };
 use ps_writing::{WriteFault, in_memory, write_text};
 use std::io;
@@ -17,10 +18,10 @@ static KINDS: [TextKind; 15] = [
     TextKind::OfLink(LinkText::References, Form::Json),
     TextKind::OfHost(HostText::Show(Form::Lines)),
     TextKind::OfHost(HostText::Show(Form::Json)),
-    TextKind::Named(NamedText::Check(Form::Lines)),
-    TextKind::Named(NamedText::Check(Form::Json)),
-    TextKind::Named(NamedText::Findings(Form::Lines)),
-    TextKind::Named(NamedText::Findings(Form::Json)),
+    TextKind::Named(NamedText::OfReport(ReportText::Whole, Form::Lines)),
+    TextKind::Named(NamedText::OfReport(ReportText::Whole, Form::Json)),
+    TextKind::Named(NamedText::OfReport(ReportText::Findings, Form::Lines)),
+    TextKind::Named(NamedText::OfReport(ReportText::Findings, Form::Json)),
     TextKind::Named(NamedText::List(ListForm::Lines)),
     TextKind::Named(NamedText::List(ListForm::Json)),
     TextKind::Named(NamedText::List(ListForm::Units)),

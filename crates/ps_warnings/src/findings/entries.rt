@@ -44,6 +44,7 @@ pub(super) fn look_at<'a, A: Allocator>(
 }
 
 /// Looks at a slot: at its segment, or, in the host, at an entry that is not filled.
+#[tactic(auto, unfolding(crate::specs::FileFindings::findings_of_slot))]
 fn look_at_slot<'a, A: Allocator>(
     findings: &mut Findings<'a, A>,
     context: &Context<'_, 'a>,
@@ -73,6 +74,7 @@ fn look_at_slot<'a, A: Allocator>(
 }
 
 /// Looks at an entry that is filled, and at its segment.
+#[tactic(auto, unfolding(crate::specs::FileFindings::findings_of_segment))]
 fn look_at_entry<'a, A: Allocator>(
     findings: &mut Findings<'a, A>,
     context: &Context<'_, 'a>,
@@ -109,6 +111,7 @@ fn odd_name(context: &Context<'_, '_>, dict: &Dict<'_>, slot: u8) -> Option<Name
 }
 
 /// Looks at the code and at the link information of an entry.
+#[tactic(auto, unfolding(crate::specs::FileFindings::findings_of_segment))]
 fn look_at_segment<'a, A: Allocator>(
     findings: &mut Findings<'a, A>,
     context: &Context<'_, 'a>,
@@ -131,6 +134,7 @@ fn look_at_segment<'a, A: Allocator>(
 }
 
 /// Looks at the code of an entry, and at its link information.
+#[tactic(auto, unfolding(crate::specs::FileFindings::findings_of_segment))]
 fn look_at_code<'a, A: Allocator>(
     findings: &mut Findings<'a, A>,
     context: &Context<'_, 'a>,

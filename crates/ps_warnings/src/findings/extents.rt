@@ -118,6 +118,7 @@ pub(super) fn look_at<'a, A: Allocator>(
 }
 
 /// Looks whether an entry has bytes in common with an earlier one.
+#[tactic(auto, unfolding(crate::specs::FileFindings::overlap_finding))]
 fn look_at_extent<'a, A: Allocator>(
     findings: &mut Findings<'a, A>,
     path: &'a str,

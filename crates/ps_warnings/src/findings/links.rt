@@ -18,6 +18,7 @@ use ps_words::Name;
 use std::alloc::{AllocError, Allocator};
 
 /// Looks at the units of the link. Where the host cannot be read there are none.
+#[tactic(auto, unfolding(crate::specs::AllFindings::findings_of_link))]
 pub(super) fn look_at<'a, A: Allocator>(
     findings: &mut Findings<'a, A>,
     context: &Context<'_, 'a>,

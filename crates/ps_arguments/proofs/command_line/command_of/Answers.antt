@@ -4,11 +4,6 @@ use Rattle.clap.specs.Words.{App, app_of, with_rule}
 use Rattle.ps_arguments.specs.CommandLine.{with_argument}
 use Rattle.ps_arguments.proofs.command_line.command_of.Goals as goal
 
-pub loop-argument-init : goal.loop-argument-init
-loop-argument-init c =
-    let bare = c.bare_command_of-command.ensures in
-    (ap (λ (app : App). fold with_argument app c.args.form.now.arguments.now) bare.0, bare.1)
-
 pub loop-argument-preserved : goal.loop-argument-preserved
 loop-argument-preserved c =
     let i = c.loop-argument.argument-index in

@@ -1,15 +1,9 @@
-use Rattle.std.proofs.Common.{◌≡◌, ◌∙◌, List, [], ◌∷◌, ◌||◌, Bor, IfSome, None, Option, Some, ap, inl, inr, map, refl, sym}
+use Rattle.std.proofs.Common.{◌≡◌, ◌∙◌, List, [], ◌∷◌, ◌||◌, Bor, ap, inl, map, refl, sym}
 use Rattle.std.specs.List.{list_any}
 use Rattle.std.specs.Str.{bytes_eq}
 use Rattle.clap.specs.Words.{Text}
 use Rattle.ps_arguments.specs.Requests.{is_library}
 use Rattle.ps_arguments.proofs.request.overwritten.Goals as goal
-
--- of what there is, what follows
-if_some : {T : Type 0} {P Q : T → Type 0} (o : Option T) → ((x : T) → P x → Q x) → IfSome o P
-    → IfSome o Q
-if_some None more is = tt
-if_some (Some x) more is = more x is
 
 -- a path is among the paths that were read from the arguments just where it is among those
 -- arguments
@@ -25,10 +19,6 @@ returns-clause-none g c none = (
       ∙ c.if-contains.false,
   c.first_to.ensures.none none,
 )
-
-pub returns-clause-some : goal.returns-clause-some
-returns-clause-some g c =
-    if_some c.first_to.result (λ _ leads. inr leads) c.first_to.ensures.some
 
 pub returns-then-contains-clause-some : goal.returns-then-contains-clause-some
 returns-then-contains-clause-some g c = inl

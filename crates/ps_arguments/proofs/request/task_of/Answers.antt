@@ -1,38 +1,7 @@
 use Rattle.std.proofs.Common.{◌≡◌, Some, codes, inl, inr, refl, rules}
 use Rattle.std.proofs.lemmas.Result.{IfErr-weaker}
 use Rattle.clap.specs.Words.{found_of, rows_of, subcommand_rows_of}
-use Rattle.ps_arguments.proofs.Commands.{other_named}
 use Rattle.ps_arguments.proofs.request.task_of.Goals as goal
-
-pub returns-in-link-clause-named : goal.returns-in-link-clause-named
-returns-in-link-clause-named g c =
-    let named : subcommand_rows_of c.args.matches.now
-    ≡ Some (codes "link", rows_of (found_of c.in-Some.found.now)) = search rules in
-    rw named c.link_of.ensures.named
-
-pub returns-in-map-clause-named : goal.returns-in-map-clause-named
-returns-in-map-clause-named g c =
-    let named : subcommand_rows_of c.args.matches.now
-    ≡ Some (codes "map", rows_of (found_of c.in-Some.found.now)) = search rules in
-    rw named (other_named _ c.map_of.result _ c.map_of.ensures.named)
-
-pub returns-in-show-clause-named : goal.returns-in-show-clause-named
-returns-in-show-clause-named g c =
-    let named : subcommand_rows_of c.args.matches.now
-    ≡ Some (codes "show", rows_of (found_of c.in-Some.found.now)) = search rules in
-    rw named (other_named _ c.show_of.result _ c.show_of.ensures.named)
-
-pub returns-in-check-clause-named : goal.returns-in-check-clause-named
-returns-in-check-clause-named g c =
-    let named : subcommand_rows_of c.args.matches.now
-    ≡ Some (codes "check", rows_of (found_of c.in-Some.found.now)) = search rules in
-    rw named (other_named _ c.check_of.result _ c.check_of.ensures.named)
-
-pub returns-in-list-clause-named : goal.returns-in-list-clause-named
-returns-in-list-clause-named g c =
-    let named : subcommand_rows_of c.args.matches.now
-    ≡ Some (codes "list", rows_of (found_of c.in-Some.found.now)) = search rules in
-    rw named (other_named _ c.list_of.result _ c.list_of.ensures.named)
 
 pub returns-in-link-clause-wrong : goal.returns-in-link-clause-wrong
 returns-in-link-clause-wrong g c =

@@ -3,9 +3,6 @@ use Rattle.std.proofs.lemmas.List.{drop_all, drop_more}
 use Rattle.ps_arguments.specs.CommandLine.{Text}
 use Rattle.ps_arguments.proofs.same_file.first_to.Goals as goal
 
-pub loop-path-init : goal.loop-path-init
-loop-path-init g c = record { none = λ all. all; some = λ all. all }
-
 pub loop-path-preserved : goal.loop-path-preserved
 loop-path-preserved g c =
     let left = ap (map (λ (path : Bor Text). path.now))

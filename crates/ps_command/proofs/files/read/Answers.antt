@@ -2,9 +2,6 @@ use Rattle.std.proofs.Common.{inl}
 use Rattle.ps_command.proofs.Unread.{opened_unread}
 use Rattle.ps_command.proofs.files.read.Goals as goal
 
-pub returns-in-Err-clause-why : goal.returns-in-Err-clause-why
-returns-in-Err-clause-why g c = inl c.in-Err.ensures.unopened
-
 pub returns-clause-why : goal.returns-clause-why
 returns-clause-why g c = opened_unread (g.R.CodeFiles.world c.args.rt.now) c.args.path.now
     (g.R.Opened.Read.remaining c.in-Ok.file) c.read_to_end.result c.in-Ok.ensures.opened

@@ -30,18 +30,6 @@ loop-path-preserved g c =
     rw (more, pushed) (AllZip-push _ _ _ _ _ c.loop-path.invariant
     (rw whole at c.in_ok-read_at.ensures.whole))
 
-pub returns-in_err-host-clause-unread : goal.returns-in_err-host-clause-unread
-returns-in_err-host-clause-unread g c =
-    let told = err_from_is_err_and c.from_residual.result
-    c.from_residual.ensures.1 in
-    rw told.1 (λ other. (
-      0,
-      c.args.inputs.now.host.now,
-      omega arith,
-      refl,
-      c.in_err-host.ensures.unread (rw told.2 at other),
-    ))
-
 pub returns-in_err-read_at-clause-unread : goal.returns-in_err-read_at-clause-unread
 unfolding no_path
 returns-in_err-read_at-clause-unread g c =

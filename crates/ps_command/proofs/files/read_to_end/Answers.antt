@@ -4,14 +4,6 @@ use Rattle.std.specs.Io.KnownBytes.{Consumes}
 use Rattle.std.proofs.KnownBytes.{Consumes-nil, Consumes-trans, Consumes-whole}
 use Rattle.ps_command.proofs.files.read_to_end.Goals as goal
 
-pub read-init : goal.read-init
-read-init g c = (
-  search rules,
-  subst (Consumes _ _) (sym c.in_ok-all.ensures.items)
-      (Consumes-nil _),
-  omega arith,
-)
-
 pub returns-then-n-eq0-clause-whole : goal.returns-then-n-eq0-clause-whole
 returns-then-n-eq0-clause-whole g c =
     let all = c.read.all.items in
@@ -32,9 +24,3 @@ read-preserved g c =
           (Consumes-trans _ _ _ all taken c.read.invariant.1 c.in-Ok.ensures.bytes.0),
       grind (arith, common_steps, grown),
     )
-
-pub returns-then-len-n-clause-long : goal.returns-then-len-n-clause-long
-returns-then-len-n-clause-long g c = grind (arith, common_steps)
-
-pub returns-clause-ended : goal.returns-clause-ended
-returns-clause-ended g c endless = absurd (omega (arith, c.read.invariant.0, c.read.invariant.2))

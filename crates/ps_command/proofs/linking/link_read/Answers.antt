@@ -6,9 +6,6 @@ use Rattle.ps_command.proofs.Failed.{not_output_written}
 use Rattle.ps_command.proofs.Linked.{not_output}
 use Rattle.ps_command.proofs.linking.link_read.Goals as goal
 
-pub returns-in-Ok-clause-ok : goal.returns-in-Ok-clause-ok
-returns-in-Ok-clause-ok g c = (c.in-Ok.ensures.written, c.in-Ok.ensures.printed)
-
 pub returns-in_ok-refuse-in-Err-Refused-clause-ok :
     goal.returns-in_ok-refuse-in-Err-Refused-clause-ok
 returns-in_ok-refuse-in-Err-Refused-clause-ok g c =

@@ -2,9 +2,6 @@ use Rattle.std.proofs.Common.{◌∙◌, ◌++◌, ◌∷◌, [], ℕ, Bor, List
 use Rattle.std.proofs.lemmas.List.{map-append, map_more, take_all}
 use Rattle.ps_command.proofs.linking.views.Goals as goal
 
-pub loop-content-init : goal.loop-content-init
-loop-content-init g c = ap (map (λ (view : Bor (List ℕ)). view.now)) c.new-views.ensures.items
-
 pub loop-content-preserved : goal.loop-content-preserved
 loop-content-preserved g c =
     let content = c.content-item.result in
@@ -15,8 +12,3 @@ loop-content-preserved g c =
     (c.as_slice.ensures.value ∙ ap (λ (v : Vec ℕ g.row.A.Denot). v.items) c.content-item.is)
     ∙ sym (map_more (λ content. content.items) c.args.contents.now c.loop-content.content-index
     content c.loop-content-test.true)
-
-pub returns : goal.returns
-returns g c = c.loop-content.invariant
-    ∙ ap (map (λ (content : Vec ℕ g.row.A.Denot). content.items))
-    (take_all c.loop-content.content-index c.args.contents.now c.loop-content-test.false)

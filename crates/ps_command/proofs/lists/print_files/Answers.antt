@@ -7,17 +7,6 @@ use Rattle.ps_command.specs.Statuses.{ended_status}
 use Rattle.ps_command.proofs.ListsPrinted.{listed_more}
 use Rattle.ps_command.proofs.lists.print_files.Goals as goal
 
-pub loop-path-init : goal.loop-path-init
-loop-path-init g c = record {
-  lists = record {
-    rest = λ more new printed.
-        let same : max 0 more ≡ more = omega arith in
-        rw same printed;
-    cut = λ new some. some;
-  };
-  silent = λ zero. refl;
-}
-
 pub loop-path-preserved : goal.loop-path-preserved
 loop-path-preserved g c =
     let inv = c.loop-path.invariant in

@@ -1,5 +1,5 @@
 use Rattle.std.proofs.Common.{inl, inr, map}
-use Rattle.std.proofs.lemmas.Result.{IfErr-weaker, IfOk-weaker}
+use Rattle.std.proofs.lemmas.Result.{IfOk-weaker}
 use Rattle.ps_command.proofs.running.check.Goals as goal
 
 pub returns-in-Ok-clause-ok : goal.returns-in-Ok-clause-ok
@@ -17,14 +17,3 @@ returns-in-Ok-clause-ok g c =
       | inr refused ↦ absurd refused.2
     ])
     c.print_read.ensures.ok
-
-pub returns-in-Ok-clause-failed : goal.returns-in-Ok-clause-failed
-returns-in-Ok-clause-failed g c =
-    IfErr-weaker c.print_read.result _ _ (λ e cut three. inr (
-      c.in-Ok.bytes.host.items,
-      map (λ library. library.items) c.in-Ok.bytes.libraries.items,
-      c.in-Ok.ensures.host,
-      c.in-Ok.ensures.libraries,
-      cut three,
-    ))
-    c.print_read.ensures.cut

@@ -1,6 +1,5 @@
 use Rattle.std.proofs.Common.{◌∙◌, [], ap, map, sym, inl, inr}
 use Rattle.std.proofs.lemmas.Result.{IfErr-weaker, IfOk-weaker, err_from_is_err_and}
-use Rattle.ps_command.proofs.Linked.{tells}
 use Rattle.ps_command.proofs.running.perform.Goals as goal
 
 pub returns-in-Link-clause-ok : goal.returns-in-Link-clause-ok
@@ -12,33 +11,6 @@ returns-in-Link-clause-ok g c named is =
       inl (task.1, task.2.host, printed),
     ))
     (c.link.ensures.ok task.0 task.2)
-
-pub returns-in-Link-clause-silent : goal.returns-in-Link-clause-silent
-returns-in-Link-clause-silent g c named is =
-    let task = rw c.in-Link.is at is in
-    IfOk-weaker c.link.result _ _ (λ ended quiet zero. elim (quiet zero) [
-      | inl same ↦ inl same
-      | inr where_to ↦ inr (tells g.F.CodeFiles.world c.args.files.now c.in-Link.asked task.0 task.2 named task.1 where_to)
-    ])
-    c.link.ensures.silent
-
-pub returns-in-Map-clause-silent : goal.returns-in-Map-clause-silent
-returns-in-Map-clause-silent g c named is =
-    IfOk-weaker c.print.result _ _ (λ ended quiet zero. inl (quiet zero)) c.print.ensures.silent
-
-pub returns-in-Show-clause-silent : goal.returns-in-Show-clause-silent
-returns-in-Show-clause-silent g c named is =
-    IfOk-weaker c.print-in-Show.result _ _ (λ ended quiet zero. inl (quiet zero))
-    c.print-in-Show.ensures.silent
-
-pub returns-then-unit-clause-silent : goal.returns-then-unit-clause-silent
-returns-then-unit-clause-silent g c named is =
-    IfOk-weaker c.check_units.result _ _ (λ ended quiet zero. inl (quiet zero))
-    c.check_units.ensures.silent
-
-pub returns-else-unit-clause-silent : goal.returns-else-unit-clause-silent
-returns-else-unit-clause-silent g c named is =
-    IfOk-weaker c.check.result _ _ (λ ended quiet zero. inl (quiet zero)) c.check.ensures.silent
 
 pub returns-in-Map-clause-ok : goal.returns-in-Map-clause-ok
 returns-in-Map-clause-ok g c named is =
@@ -104,11 +76,6 @@ returns-in_ok-print_lists-in-List-clause-ok g c named is =
       inr (inr (inr (inr
           (task.1, rw (c.list_form.ensures, task.3, paths) at printed)))),
     )
-
-pub returns-in-Link-clause-alone : goal.returns-in-Link-clause-alone
-returns-in-Link-clause-alone g c named is none =
-    let task = rw c.in-Link.is at is in
-    absurd (none task.0 task.1)
 
 pub returns-in-Link-clause-part : goal.returns-in-Link-clause-part
 returns-in-Link-clause-part g c named is =

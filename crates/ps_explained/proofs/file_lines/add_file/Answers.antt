@@ -3,10 +3,6 @@ use Rattle.std.proofs.lemmas.Result.{on_ok_weaker}
 use Rattle.ps_explained.proofs.FileLines.{adds_file}
 use Rattle.ps_explained.proofs.file_lines.add_file.Goals as goal
 
-pub returns-clause-line : goal.returns-clause-line
-returns-clause-line g c = on_ok_weaker c.push_line.result
-    (λ is. (c.of-order.result, c.of-order.ensures, is)) c.push_line.ensures
-
 pub returns-clause-silent : goal.returns-clause-silent
 returns-clause-silent g c = on_ok_weaker c.push_line.result
     (λ is. adds_file c.args.number c.args.path.now (length c.args.file.now) c.of-order.result

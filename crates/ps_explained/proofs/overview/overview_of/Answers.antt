@@ -1,8 +1,6 @@
-use Rattle.std.proofs.Common.{◌∙◌, ◌∷◌, ◌++◌, Bool, List, ℕ, ap, map, string_bytes, subst}
-use Rattle.ps_codefile.specs.Dictionary.{opened_alone}
+use Rattle.std.proofs.Common.{◌∙◌, ◌∷◌, Bool, List, ℕ, ap, map, string_bytes, subst}
 use Rattle.ps_resolve.specs.Sources.{contents}
 use Rattle.ps_check_segments.specs.Seen.{seen}
-use Rattle.ps_explained.specs.OverviewText.{text_after, overview_text, segment_texts}
 use Rattle.ps_explained.specs.SegmentLines.{read_lines}
 use Rattle.ps_explained.specs.SlotLines.{AddsSlotLines}
 use Rattle.ps_explained.proofs.SlotLines.{adds_then_none, lines_in}
@@ -21,18 +19,3 @@ returns-clause-read g c =
     (adds_then_none empty (string_bytes c.add_each.new.text) whole lines
     c.in_ok-add_each.ensures.lines c.in_ok-add_rest_of.ensures.lines))
     ∙ ap (λ (unread : Bool). read_lines paths unread list) c.has_unread.ensures
-
-pub returns-clause-segments : goal.returns-clause-segments
-unfolding overview_text
-returns-clause-segments g c =
-    let i = c.args.inputs.now in
-    let libs : List (List ℕ) = contents i.libs.now in
-    let paths : List (List ℕ) = i.host_path.now ∷ contents i.paths.now in
-    let list = map seen c.args.list.now in
-    let rest = text_after paths libs list (opened_alone i.host.now) in
-    let each = segment_texts paths i.host.now libs c.has_unread.result list in
-    c.in_ok-add_rest_of.ensures.text
-    ∙ (ap (λ (t : List ℕ). t ++ rest) (c.in_ok-add_each.ensures.text
-    ∙ ap (λ (t : List ℕ). t ++ each) c.new-segments.ensures.bytes)
-    ∙ ap (λ (unread : Bool). segment_texts paths i.host.now libs unread list ++ rest)
-    c.has_unread.ensures)

@@ -1,4 +1,4 @@
-use Rattle.ps_listing.proofs.Vocabulary.{◌∙◌, List, ℕ, true, ap, Record, all_written, none_yet, some_more}
+use Rattle.ps_listing.proofs.Vocabulary.{◌∙◌, List, ℕ, true, ap, Record, none_yet, some_more}
 use Rattle.ps_listing.specs.ListText.{use_of}
 use Rattle.ps_listing.proofs.Rows.{numbered_are, numbered_uses}
 use Rattle.ps_listing.proofs.parts.add_each_use.Goals as goal
@@ -17,7 +17,3 @@ loop-record-preserved g c =
     ap (λ (xs : List (ℕ × Record)). numbered_uses c.args.form first xs) c.in-Some.ensures.steps in
     rw c.add_use-first.ensures.first (some_more {here = use_of c.args.form first r.name r.body}
     left c.loop-record.invariant c.add_use-first.ensures.used)
-
-pub returns : goal.returns
-returns g c = all_written (ap (λ (xs : List (ℕ × Record)). numbered_uses c.args.form
-    c.loop-record.first xs) c.in-None.ensures.steps.0) c.loop-record.invariant

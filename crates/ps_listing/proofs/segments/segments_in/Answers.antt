@@ -1,11 +1,8 @@
-use Rattle.ps_listing.proofs.Vocabulary.{◌∙◌, Some, filter_map, refl, slots, sym, arith}
+use Rattle.ps_listing.proofs.Vocabulary.{◌∙◌, Some, filter_map, slots, sym}
 use Rattle.ps_listing.specs.Listed.{segment_at}
-use Rattle.ps_listing.proofs.FoundUnits.{no_more, none_more, one_more}
+use Rattle.ps_listing.proofs.FoundUnits.{none_more, one_more}
 use Rattle.ps_listing.proofs.segments.segments_in.Goals.{in-Some+in_ok-push, in_default}
 use Rattle.ps_listing.proofs.segments.segments_in.Goals as goal
-
-pub loop-slot-init : goal.loop-slot-init
-loop-slot-init g c = rw c.new-list.ensures.items refl
 
 pub loop-slot-preserved : goal.loop-slot-preserved
 loop-slot-preserved g c =
@@ -21,9 +18,3 @@ loop-slot-preserved g c =
       | in_default w ↦ rw w.list-is (none_more f all l.list.items l.slot lt
           (found ∙ w.in_default.is) l.invariant)
     ]
-
-pub returns : goal.returns
-returns g c =
-    let f = segment_at c.args.dict.now.order c.args.dict.now.file in
-    sym (no_more f (filter_map f slots) c.loop-slot.list.items c.loop-slot.slot
-    (omega (arith, c.loop-slot-test.false)) c.loop-slot.invariant)

@@ -1,4 +1,3 @@
-use Rattle.ps_output_files.proofs.Outcomes.{why_unlinked, why_unprepared}
 use Rattle.ps_output_files.proofs.Written.{adds_before, before_prepared, writes_link}
 use Rattle.ps_output_files.proofs.linking.link_files.Goals as goal
 
@@ -13,19 +12,6 @@ returns-in-Ok-clause-left g c = adds_before c.args.asked.now c.in-Ok.prepared _ 
     c.in-Ok.ensures.stands.file c.in-Ok.ensures.map (g.R.CodeFiles.world c.args.rt.now)
     (g.R.CodeFiles.world c.link_prepared.new.rt) c.link_prepared.result
     c.link_prepared.ensures.left
-
-pub returns-in-Ok-clause-printed : goal.returns-in-Ok-clause-printed
-returns-in-Ok-clause-printed g c =
-    rw c.in-Ok.ensures.stands.summary at c.link_prepared.ensures.printed
-
-pub returns-in-Ok-clause-why : goal.returns-in-Ok-clause-why
-returns-in-Ok-clause-why g c = why_unlinked c.args.asked.now c.in-Ok.prepared
-    (g.R.CodeFiles.world c.args.rt.now) (g.R.CodeFiles.world c.link_prepared.new.rt) _ _
-    c.link_prepared.result c.in-Ok.ensures.stands.file.accepted c.link_prepared.ensures.left
-
-pub returns-in-Err-clause-why : goal.returns-in-Err-clause-why
-returns-in-Err-clause-why g c = rw c.from.ensures (why_unprepared _ _ c.in-Err.stop
-    c.in-Err.ensures.first)
 
 pub returns-in-Err-clause-left : goal.returns-in-Err-clause-left
 returns-in-Err-clause-left g c = rw c.from.ensures

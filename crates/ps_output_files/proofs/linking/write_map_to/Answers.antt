@@ -1,10 +1,5 @@
-use Rattle.ps_output_files.proofs.Logs.{taken_part, taken_whole}
+use Rattle.ps_output_files.proofs.Logs.{taken_part}
 use Rattle.ps_output_files.proofs.linking.write_map_to.Goals as goal
-
-pub returns-clause-file : goal.returns-clause-file
-returns-clause-file g c = taken_whole c.write_map-written.result c.close_written.result _ _ _ _ _ _ _
-    c.in-Ok.ensures.created c.write_map-written.ensures.all c.close_written.ensures.closed
-    (rw c.is_ok.ensures.value at c.close_written.ensures.whole)
 
 pub returns-clause-part : goal.returns-clause-part
 returns-clause-part g c = taken_part _ c.write_map-written.result c.close_written.result _ _ _ _ _ _ _

@@ -83,7 +83,3 @@ pub returns-clause-name : goal.returns-clause-name
 returns-clause-name g c = c.verdict_name-name.ensures
     ∙ ap (λ (f : ReadFiles). verdict_name f.host f.libs c.args.verdict)
     c.requires
-
-pub returns-clause-explanation : goal.returns-clause-explanation
-returns-clause-explanation g c = λ none.
-    c.in_ok-explanation.ensures (c.fault-fault.ensures ∙ none)

@@ -1,7 +1,6 @@
-use Rattle.std.proofs.Common.{◌≡◌, ◌∙◌, ◌++◌, ◌==◌, [], ℕ, List, append-nil, ap, arith, false, length, string_bytes, sym, true}
+use Rattle.std.proofs.Common.{◌≡◌, ◌∙◌, ◌++◌, ◌==◌, ℕ, List, append-nil, ap, arith, false, length, string_bytes, sym, true}
 use Rattle.std.proofs.lemmas.Bool.Decides.{nat_tests}
 use Rattle.std.proofs.lemmas.Result.{on_ok_weaker}
-use Rattle.ps_report.specs.LastLine.{line_of_paths}
 use Rattle.ps_report.proofs.LastLine.{no_line, some_line}
 use Rattle.ps_report.proofs.last_line.add_line_of.Goals as goal
 

@@ -1,9 +1,9 @@
-use Rattle.std.proofs.Common.{◌∙◌, ◌-◌, ◌<◌, ◌≤◌, length, refl, sym, arith}
+use Rattle.std.proofs.Common.{◌∙◌, ◌-◌, ◌<◌, length, refl, sym, arith}
 use Rattle.std.proofs.lemmas.Option.{slice_get_read}
 use Rattle.std.proofs.lemmas.Bool.{ltb-true}
 use Rattle.std.proofs.lemmas.Bool.Decides.{nat_tests}
 use Rattle.ps_resolve.specs.Sources.{contents}
-use Rattle.ps_check_segments.proofs.Paths.{path_past, path_read, path_rest}
+use Rattle.ps_check_segments.proofs.Paths.{path_read, path_rest}
 use Rattle.ps_check_segments.proofs.named_files.NamedFiles.path.Goals as goal
 
 pub returns-in-Some : goal.returns-in-Some
@@ -14,12 +14,4 @@ returns-in-Some c =
     path_read files i c.in-Some.path.now (slice_get_read files (length files) i
     c.in-Some.path.now refl (ltb-true i (length files) (sym c.in-Some.ensures.lookup.0))
     c.in-Some.ensures.lookup.1)
-    ∙ path_rest c.args.self.now.host_path.now (contents files) c.args.file some
-
-pub returns-in-None : goal.returns-in-None
-returns-in-None c =
-    let files = c.args.self.now.paths.now in
-    let some : 0 < c.args.file = grind (arith, nat_tests) in
-    let past : length files ≤ c.args.file - 1 = grind (arith, nat_tests) in
-    sym (path_past files (c.args.file - 1) past)
     ∙ path_rest c.args.self.now.host_path.now (contents files) c.args.file some

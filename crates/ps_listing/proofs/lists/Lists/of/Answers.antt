@@ -2,24 +2,8 @@ use Rattle.std.proofs.Common.{◌≡◌, ◌≤◌, ◌<◌, ◌⊎◌, ◌∷�
 use Rattle.std.specs.Prelude.{min}
 use Rattle.ps_resolve.specs.Sources.{contents}
 use Rattle.ps_listing.specs.FileLists.{AreListed, Listed}
-use Rattle.ps_listing.proofs.FilesListed.{FilesLeft, listed_more, listed_more_at, none_listed, one_ends}
+use Rattle.ps_listing.proofs.FilesListed.{FilesLeft, listed_more_at, none_listed, one_ends}
 use Rattle.ps_listing.proofs.lists.Lists.of.Goals as goal
-
-pub loop-index-init : goal.loop-index-init
-loop-index-init g c =
-    let paths = contents c.args.paths.now in
-    let libs = contents c.args.libs.now in
-    let all_paths = c.args.host_path.now ∷ paths in
-    let all_files = c.args.host.now ∷ libs in
-    let one : Listed = c.in_ok-of.field-0 in
-    let start : FilesLeft c.args.how all_paths all_files all_paths all_files [] =
-    record { rest = λ more are. are } in
-    let more = listed_more c.args.how all_paths all_files c.args.host_path.now c.args.host.now
-    paths libs one [] c.in_ok-of.ensures.how c.in_ok-of.ensures.path c.in_ok-of.ensures.file
-    c.in_ok-of.ensures.phrase start in
-    let items : c.push.new.self.items ≡ one ∷ [] = search rules in
-    subst (λ (ls : List Listed). FilesLeft c.args.how all_paths all_files paths libs ls)
-    (sym items) more
 
 pub loop-index-preserved : goal.loop-index-preserved
 loop-index-preserved g c =

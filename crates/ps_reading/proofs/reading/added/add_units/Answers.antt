@@ -1,4 +1,4 @@
-use Rattle.ps_reading.proofs.Vocabulary.{◌≡◌, ◌∙◌, ◌+◌, ◌++◌, ◌<◌, ◌∷◌, [], ℕ, List, length, length-append, take, drop, get_or, Some, None, refl, sym, ap, subst, arith, get_or_default, drop_all, All-nil, err_from_is_err_and, Fault, Segment, opened, requested_from, unit_references, rounds_from, unplaced_fault, AscendFrom, IsRead, put_by_slot, UnitReference, MAX_REQUESTED}
+use Rattle.ps_reading.proofs.Vocabulary.{◌≡◌, ◌∙◌, ◌+◌, ◌++◌, ◌<◌, ◌∷◌, [], ℕ, List, length, length-append, take, drop, get_or, Some, None, refl, sym, ap, subst, arith, get_or_default, drop_all, All-nil, err_from_is_err_and, Segment, opened, requested_from, unit_references, rounds_from, unplaced_fault, AscendFrom, IsRead, put_by_slot, UnitReference, MAX_REQUESTED}
 use Rattle.ps_reading.proofs.RequestQueue.{at_round, kept, no_name_left, no_slot_left, round_refused, round_adds, rounds_end, joined, joined_more, references_more, few_kept}
 use Rattle.ps_reading.proofs.BySlot.{All-put, empty_ascend, new_in, own_table, put_table, room_in_table}
 use Rattle.ps_reading.proofs.NextItems.{drop_at}

@@ -1,10 +1,8 @@
-use Rattle.std.proofs.Common.{◌≡◌, ◌<◌, ◌≤◌, ◌∙◌, length, take, map, ℕ, sym, subst, arith}
-use Rattle.std.specs.List.{range_with_len}
-use Rattle.std.proofs.lemmas.List.{take_more_set, take_all}
+use Rattle.std.proofs.Common.{◌<◌, length, arith}
+use Rattle.std.proofs.lemmas.List.{take_more_set}
 use Rattle.std.proofs.lemmas.List.FromFn.{map-range_with_len_more}
 use Rattle.std.proofs.lemmas.Grind.{common_steps}
 use Rattle.ps_warnings.specs.FileFindings.{extent_at}
-use Rattle.ps_codefile.specs.declared.dictionary_layout.TheConstants.{SLOT_COUNT, SLOTS}
 use Rattle.ps_warnings.proofs.findings.extents.extents_of.Goals as goal
 
 pub loop-slot-preserved : goal.loop-slot-preserved
@@ -15,13 +13,3 @@ loop-slot-preserved c =
     let more = map-range_with_len_more (extent_at c.args.dict.now.order c.args.dict.now.file)
     0 i i (omega arith) in
     grind (arith, common_steps, wrote, more)
-
-pub returns : goal.returns
-returns c =
-    let extents = c.loop-slot.extents in
-    let done : c.loop-slot.slot ≡ SLOTS = omega arith in
-    let whole : length extents ≤ SLOT_COUNT = omega arith in
-    sym (take_all SLOTS extents whole) ∙ subst
-    (λ (n : ℕ). take n extents
-    ≡ map (extent_at c.args.dict.now.order c.args.dict.now.file) (range_with_len 0 n))
-    done c.loop-slot.invariant.1
