@@ -6,6 +6,7 @@ slot 7 on. `exchange: 1 2` exchanges two blocks, `cut: 511` leaves so many bytes
 import pathlib
 import re
 
+import linker
 from descriptions.model import (
     HOSTSEG, LINKED, PRIVREF, PUBLREF, UNITREF, File, Operand, Procedure, Segment, const_def, eof_mark, priv_ref, publ_def, publ_ref, unit_ref,
 )
@@ -50,7 +51,7 @@ def edited(content, edits):
             content[one : one + BLOCK], content[other : other + BLOCK] = content[other : other + BLOCK], content[one : one + BLOCK]
         else:
             slot, place = re.fullmatch(r"(?:(\d+)\+)?(\d+)", where).groups()
-            at = int(place) + (BLOCK * int.from_bytes(content[4 * int(slot) : 4 * int(slot) + 2], "little") if slot else 0)
+            at = int(place) + (BLOCK * linker.CodeFile(content, 0, "little").slots[int(slot)].address if slot else 0)
             content[at : at + len(bytes.fromhex(what))] = bytes.fromhex(what)
     return bytes(content)
 

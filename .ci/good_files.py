@@ -7,7 +7,7 @@ import sys
 import typing
 
 sys.path.append(str(pathlib.Path(__file__).resolve().parents[1] / "vectors"))
-from descriptions.model import BLOCK, CONSTDEF, HOSTSEG, LINKED, PRIVREF, PUBLDEF, PUBLREF, UNITREF, UNITSEG, dictionary_bytes, name_bytes
+from descriptions.model import BLOCK, CONSTDEF, HOSTSEG, LINKED, PRIVREF, PUBLDEF, PUBLREF, UNITREF, UNITSEG, Record, dictionary_bytes, eof_mark
 
 SEGPROC, SEPRTSEG = 2, 4
 NOT_SUPPORTED = 5, 9, 10, 11, 12  # CONSTREF, EXTPROC, EXTFUNC, SEPPROC and SEPFUNC
@@ -574,15 +574,14 @@ class Maker:
                 self.names_used.add(name)
                 return name
 
-    def record(self, name, *words):
-        rest = [self.source.randrange(65536) for _ in range(4)] if self.style.free_records else [0] * 4
-        return name_bytes(name) + b"".join(map(self.word, [*words, *rest][:4]))
+    def record(self, name, kind, *words, places=(), rest=b"\0"):
+        others = [self.source.randrange(65536) for _ in range(4)] if self.style.free_records else []
+        return Record(name, kind, [*words, *others], places, rest=rest).encoded(self.style.order)
 
     def reference_record(self, kind, name, places, words=0):
-        form = 1 if kind == UNITREF else 2
-        listed = b"".join(map(self.word, places))
-        rest = self.source.randbytes(-len(listed) % 16) if self.style.free_records else bytes(-len(listed) % 16)
-        return self.record(name, kind, form, len(places), *([words] if kind == PRIVREF or not self.style.free_records else [])) + listed + rest
+        rest = self.source.randbytes(-2 * len(places) % 16) if self.style.free_records else b"\0"
+        said = [1 if kind == UNITREF else 2, len(places), *([words] if kind == PRIVREF or not self.style.free_records else [])]
+        return self.record(name, kind, *said, places=places, rest=rest)
 
     def mark_of_unit(self, records):
         """The end mark of a unit, whose value is not used; none where zeros of the last block follow."""
@@ -591,9 +590,9 @@ class Maker:
         return self.mark(self.source.randrange(65536) if self.style.free_records else 0)
 
     def mark(self, following):
-        if self.style.old_mark:
-            return name_bytes(self.name()) + self.word(0) + self.word(following) + self.source.randbytes(4)
-        return self.source.choice([b" " * 8, bytes(8)]) + self.word(0) + self.word(following) + bytes(4)
+        name = self.name() if self.style.old_mark else self.source.choice([b" " * 8, bytes(8)])
+        made = eof_mark(following, name).encoded(self.style.order)
+        return made[:12] + self.source.randbytes(4) if self.style.old_mark else made
 
     def segment_code(self, number, procedures, program=None):
         """The code of a segment, and what a link fills in."""

@@ -11,6 +11,7 @@ import zipfile
 
 ROOT = pathlib.Path(__file__).resolve().parent.parent
 sys.path[:0] = [str(ROOT / "samples")]
+import linker
 import make_samples as m
 from damaged_files import changed, hex_dump, macbinary, of_later_release, swapped, uuencoded, volume
 
@@ -34,6 +35,11 @@ def entry(slot, name, kind, address, length):
     ]
 
 
+def slot_of(file, slot):
+    """This slot of a little-endian file, as it is read."""
+    return linker.CodeFile(file, 0, "little").slots[slot]
+
+
 def host_with(links, procedures=None):
     return m.code_file({**m.HOST, 1: m.Segment("DEMO", m.HOSTSEG, procedures or m.PROGRAM, links)})
 
@@ -51,8 +57,7 @@ def text_library():
 def short_text():
     """A library with a text, whose unit has many bytes 0D in its code and ends the file inside a block."""
     file = m.code_file({2: m.Segment("OTHER", m.UNITSEG, [m.Procedure(1, ["SLDC 13"] * 40 + ["RNP 0"])], [])})
-    length = int.from_bytes(file[10:12], "little")
-    return changed(file[: m.BLOCK + length], (224 + 2 * 2, word(1)))
+    return changed(file[: m.BLOCK + slot_of(file, 2).length], (224 + 2 * 2, word(1)))
 
 
 def native_host():
@@ -85,7 +90,7 @@ def exchanged(file, one, other):
 def linked_segment(procedures, *changes):
     """A host with a linked segment in slot 9, with other bytes from some places of its code on."""
     file = m.code_file({**m.HOST, 9: m.Segment("TOOLS", m.LINKED, procedures)})
-    return changed(file, *((m.BLOCK * file[36] + place, new) for place, new in changes))
+    return changed(file, *((m.BLOCK * slot_of(file, 9).address + place, new) for place, new in changes))
 
 
 def with_native(end, level=0):
@@ -98,7 +103,7 @@ def with_native(end, level=0):
 def beside_native():
     """A library with UTIL, and in slot 5 an assembled entry with two sectors of zeros in its code. Its table is at byte 410."""
     file = m.code_file({**m.LIBRARY, 5: m.Segment("NATIVE", m.LINKED, [m.Procedure(1, ["NOP"] * 400 + ["RNP 0"])])})
-    place = m.BLOCK * file[20]
+    place = m.BLOCK * slot_of(file, 5).address
     return changed(file, (192 + 2 * 5, b"\4"), (place + 128, bytes(256)), (place + 410, b"\0"))
 
 
@@ -208,7 +213,7 @@ def lost_quiet():
 def stripped(count):
     """A host with a linked segment of so many bytes and 16, none of them above 127."""
     file = m.code_file({**m.HOST, 9: m.Segment("TOOLS", m.LINKED, [m.Procedure(1, ["NOP"] * count + ["RNP 0"])])})
-    start = m.BLOCK * file[36]
+    start = m.BLOCK * slot_of(file, 9).address
     return changed(file, (start, bytes(byte & 127 for byte in file[start:])))
 
 
@@ -628,7 +633,7 @@ def quiet():
     nothing, big_host = [m.Procedure(1, ["NOP", "RNP 0"])], SAMPLES["big_host.code"]
     once = m.Segment("ONCE", m.LINKED, [m.Procedure(1, [*MIXED[:400], "RNP 0"])])
     same = m.code_file({**m.HOST, 9: once, 10: once})
-    same = changed(same, (m.BLOCK * same[40] + 400 + 14, b"\x09"))
+    same = changed(same, (m.BLOCK * slot_of(same, 10).address + 400 + 14, b"\x09"))
     plain = m.code_file({**m.HOST, 9: m.Segment("TOOLS", m.LINKED, LONG)})
     crossed = m.code_file({**m.LIBRARY, 5: OTHER_UNIT})
     unit = lambda *changes: [changed(LIBRARY, *changes)]
@@ -710,7 +715,7 @@ def quiet():
         # a word of slot 0 that is none of II.1
         (HOST, [numbered("little", (0, 0, 1), (2, 2, 3))]),
         # zeros of a separate segment without a native procedure
-        (HOST, [changed(beside_native(), (m.BLOCK * beside_native()[20] + 410, b"\1"))]),
+        (HOST, [changed(beside_native(), (m.BLOCK * slot_of(beside_native(), 5).address + 410, b"\1"))]),
         # more than 16 bytes before two equal sectors repeat, and less than 64
         (HOST, [unit_with([END], [m.Procedure(1, [*["NOP"] * 96, *MIXED[96:128], *MIXED[:128], *MIXED[:128], *MIXED[200:700], "RNP 0"])])]),
         # units without a procedure that have more bytes, and the number of their slot or none
