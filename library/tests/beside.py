@@ -1,7 +1,8 @@
 #!/usr/bin/env python3
-"""Answers of the library beside those of the program, through C and through Python: the samples, in each text and form; the sets of
-files of .ci/report, of those that it generates some, with their reports, and some of them in each text; and the longest linked file, 500 libraries, a fault in library 300, and a map and a show of more than 64 KiB, whose
-answers are worked out here too. Leaves these files in FOLDER, for .ci/library to measure. Prints what is otherwise.
+"""Answers of the library beside those of the program, through C and through Python: the samples, in each text and form; the single
+files of .ci/damage; the sets of files of .ci/report, of those that it generates some, with their reports, and some of them in each text;
+and the longest linked file, 500 libraries, a fault in library 300, and a map and a show of more than 64 KiB, whose answers are worked out
+here too. Leaves these files in FOLDER, for .ci/library to measure. Prints what is otherwise.
 Usage: beside.py PSLINK PROGRAM LINKED FOLDER: the program, program.c as it was built, and to what the sample pair is linked"""
 import json
 import pathlib
@@ -22,7 +23,7 @@ LONGEST_CODE = 64 * large.BLOCK - 2
 SOME = 100  # generated sets
 # what a text has beside map, show and check, with the program's words for it
 TEXTS = ["map --json", "map --references", "map --references --json", "show --json", "check --json", "list", "list --json", "check --unit", "check --unit --json"]
-SAMPLE_SETS = ["host library", "big_host big_library", "host using used", "two_units", "procedures library", "host", "library host"]
+SAMPLE_SETS = ["host library", "big_host big_library", "host using used", "two_units", "nine", "procedures library", "host", "library host"]
 
 
 def longest(is_linked):
@@ -86,6 +87,20 @@ def of_samples(*linkers):
         yield from differences(*linkers, path.name, "show", [path.read_bytes()])
 
 
+def of_damage(*linkers):
+    """The files that came to harm or are given in place of others, whose reports .ci/damage has."""
+    damage = runpy.run_path(str(ROOT / ".ci/damage"))
+    tables = damage["rows"](), damage["wrong_files"](LINKED.read_bytes())
+    sets = [[host, *libraries] for table in tables for _, _, host, libraries in damage["cases_of"](table)]
+    if len(sets) < damage["SINGLE"]:
+        yield f".ci/damage has {len(sets)} sets of files"
+    for number, files in enumerate(sets):
+        for command in ("link", "check"):
+            yield from differences(*linkers, f"files {number} of .ci/damage", command, files)
+    for file in {file for files in sets for file in files}:
+        yield from differences(*linkers, "a file of .ci/damage", "show", [file])
+
+
 def of_report(*linkers):
     """The sets of files that .ci/report runs the program on, without most of those that it generates: what is between the library's
     functions and a caller does not depend on them."""
@@ -116,7 +131,8 @@ def of_long_files(*linkers):
 def main():
     by_paths = ROOT / "library/tests/program.py"
     with Commands(PSLINK) as pslink, Commands(PROGRAM, serves=True) as in_c, Commands(by_paths, serves=True) as python:
-        found = [*of_samples(pslink, {"C": in_c, "Python, given paths,": python})]
+        by_each = {"C": in_c, "Python, given paths,": python}
+        found = [*of_samples(pslink, by_each), *of_damage(pslink, by_each)]
         found += [*of_report(pslink, {"C": in_c}), *of_long_files(pslink, {"C": in_c})]
     for line in found:
         print(line)
