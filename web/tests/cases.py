@@ -8,6 +8,7 @@ import sys
 ROOT = pathlib.Path(__file__).resolve().parents[2]
 sys.dont_write_bytecode = True
 sys.path[:0] = [str(ROOT / "vectors"), str(ROOT / ".ci")]
+from damaged_files import swapped
 from generated_links import generated
 
 BLOCK = 512
@@ -38,14 +39,14 @@ def of_vectors(folder):
 
 def harmed(numbers, content):
     """A file that lacks its end, has other bytes in its dictionary or anywhere, or has each pair of bytes swapped."""
-    content, harm = bytearray(content), numbers.randrange(4)
+    harm = numbers.randrange(4)
     if harm == 0:
-        return bytes(content[: numbers.randrange(len(content))])
+        return content[: numbers.randrange(len(content))]
     if harm == 1:
-        content[0::2], content[1::2] = content[1::2], content[0::2]
-    else:
-        for _ in range(numbers.randrange(1, 6)):
-            content[numbers.randrange(BLOCK if harm == 2 else len(content))] = numbers.randrange(256)
+        return swapped(content)
+    content = bytearray(content)
+    for _ in range(numbers.randrange(1, 6)):
+        content[numbers.randrange(BLOCK if harm == 2 else len(content))] = numbers.randrange(256)
     return bytes(content)
 
 
